@@ -1,0 +1,4 @@
+pub mod Faults
+pub mod Fits
+pub mod Kind
+pub mod Order
