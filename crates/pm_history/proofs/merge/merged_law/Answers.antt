@@ -1,0 +1,5 @@
+use Rattle.pm_history.proofs.MergeLemmas.{get-merged}
+use Rattle.pm_history.proofs.merge.merged_law.Goals as goal
+
+pub returns : goal.returns
+returns c = get-merged
