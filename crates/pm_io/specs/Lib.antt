@@ -1,0 +1,7 @@
+pub mod Counts
+pub mod Told
+pub mod Source
+pub mod Sink
+pub mod Lines
+pub mod LineLaws
+pub mod Memory

@@ -1,0 +1,18 @@
+//! Where bytes come from and where they go: sources and sinks that may fail, and the lines of a source.
+#![tactic(auto)]
+
+mod chunk;
+mod lines;
+mod memory;
+mod sink;
+mod source;
+mod standard;
+
+pub use lines::{Line, LineFault, Lines, all_lines_law};
+pub use memory::{MemSink, MemSource};
+pub use sink::{Sink, SinkFail, write_all};
+pub use source::{Failed, Source};
+pub use standard::{StdSink, StdSource};
+
+#[cfg(test)]
+mod tests;

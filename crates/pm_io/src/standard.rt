@@ -1,0 +1,104 @@
+//! A source and a sink over std's readers and writers. They tell nothing of content, and count faults.
+ghost use Rattle.std.specs.Prelude.{◌≡◌, ℕ, ◌<◌, ◌≤◌, length, None, Ok, IfOk, OnErr, is_err, if◌then◌else◌};
+ghost use Rattle.pm_values.specs.Faults.{Rose};
+ghost use Rattle.pm_io.specs.Counts.{one_more};
+
+use crate::{Failed, Sink, Source};
+use std::io::{ErrorKind, Read, Write};
+use std::marker::Model;
+
+/// How often a call that a signal interrupted is made again before it counts as a fault.
+const TRIES: u32 = 1000;
+
+/// A source over a reader.
+#[derive(Drop)]
+pub struct StdSource<R: Read> {
+    reader: R,
+    faults: u64,
+}
+
+impl<R: Read> Model for StdSource<R> {
+    ghost use Rattle.std.specs.Prelude.{ℕ};
+
+    ghost Value = { ℕ };
+
+    ghost view = { λ s. s.faults };
+}
+
+impl<R: Read> StdSource<R> {
+    pub fn new(reader: R) -> StdSource<R>
+        ensures { result ≡ 0 }
+    {
+        StdSource { reader, faults: 0 }
+    }
+}
+
+impl<R: Read> Source for StdSource<R> {
+    ghost left = { λ _. None };
+
+    ghost faults = { λ s. s };
+
+    fn read(&mut self, into: &mut [u8]) -> Result<usize, Failed>
+        ensures count { IfOk result (λ n. n ≤ length into.old) }
+        ensures failed { OnErr result (Rose self.old self.new) }
+        ensures later { self.old ≤ self.new }
+        ensures faults { self.new ≡ (if is_err result then one_more self.old else self.old) }
+    {
+        for _ in 0..TRIES {
+            match self.reader.read(into) {
+                Ok(count) => return Ok(count),
+                Err(error) if error.kind() == ErrorKind::Interrupted => {}
+                Err(_) => break,
+            }
+        }
+        self.faults = self.faults.saturating_add(1);
+        Err(Failed)
+    }
+}
+
+/// A sink over a writer that holds nothing back: what a buffer keeps counts as taken.
+#[derive(Drop)]
+pub struct StdSink<W: Write> {
+    writer: W,
+    faults: u64,
+}
+
+impl<W: Write> Model for StdSink<W> {
+    ghost use Rattle.std.specs.Prelude.{ℕ};
+
+    ghost Value = { ℕ };
+
+    ghost view = { λ s. s.faults };
+}
+
+impl<W: Write> StdSink<W> {
+    pub fn new(writer: W) -> StdSink<W>
+        ensures { result ≡ 0 }
+    {
+        StdSink { writer, faults: 0 }
+    }
+}
+
+impl<W: Write> Sink for StdSink<W> {
+    ghost taken = { λ _. None };
+
+    ghost faults = { λ s. s };
+
+    fn write(&mut self, bytes: &[u8]) -> Result<usize, Failed>
+        ensures count { IfOk result (λ n. n ≤ length bytes.now) }
+        ensures stuck { result ≡ Ok 0 → 0 < length bytes.now → Rose self.old self.new }
+        ensures failed { OnErr result (Rose self.old self.new) }
+        ensures later { self.old ≤ self.new }
+        ensures faults { self.new ≡ (if is_err result then one_more self.old else self.old) }
+    {
+        for _ in 0..TRIES {
+            match self.writer.write(bytes) {
+                Ok(count) if count > 0 || bytes.is_empty() => return Ok(count),
+                Err(error) if error.kind() == ErrorKind::Interrupted => {}
+                _ => break,
+            }
+        }
+        self.faults = self.faults.saturating_add(1);
+        Err(Failed)
+    }
+}
