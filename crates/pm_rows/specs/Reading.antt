@@ -1,0 +1,110 @@
+-- What a row line reads as: a kind and one value for each column, or the first fault.
+use Rattle.std.specs.Prelude.{◌≡◌, ℕ, suc, ◌^◌, ◌==◌, nat_lt, pos, List, [], ◌∷◌, length, if◌then◌else◌, Option, None, Result, Ok, Err, ok_or}
+use Rattle.std.specs.List.{find}
+use Rattle.std.specs.Str.{is_utf8, bytes_eq}
+use Rattle.serde_json.specs.Data.{Num, unsigned, negative, float, Data, null, number, string, array, Items, no_items, item}
+use Rattle.serde_json.specs.Read.{read}
+use Rattle.pm_values.specs.Order.{Values}
+use Rattle.pm_values.specs.declared.column.ColType.{ColType}
+use Rattle.pm_values.specs.declared.column.ColType.TheVariants as types
+use Rattle.pm_values.specs.declared.column.Column.{Column}
+use Rattle.pm_values.specs.declared.kind.Kind.{Kind}
+use Rattle.pm_values.specs.declared.kind.Kind.TheVariants.{Insert, UpdateBefore, UpdateAfter, Delete}
+use Rattle.pm_values.specs.declared.refusal.Why.{Why}
+use Rattle.pm_values.specs.declared.refusal.Why.TheVariants as why
+use Rattle.pm_values.specs.declared.value.Value.{Value}
+use Rattle.pm_values.specs.declared.value.Value.TheVariants as values
+use Rattle.pm_rows.specs.RowText.{kind_text}
+use Rattle.pm_rows.specs.declared.fault.RowFault.{RowFault}
+use Rattle.pm_rows.specs.declared.fault.RowFault.TheVariants as faults
+
+-- what is wrong, and the place of the column from 0; a fault of the whole line has place 0
+abbrev pub Fault : Type 0
+Fault = Why × ℕ
+
+-- one reading, and then another of what it gave
+infixl 10 ◌>>=◌
+abbrev pub ◌>>=◌ : {A B : Type 0} → Result A Fault → (A → Result B Fault) → Result B Fault
+(Ok x) >>= f = f x
+(Err e) >>= f = Err e
+
+-- A call gave what the reading gives, its value seen by the function. Want of memory alone is free.
+abbrev pub Gives : {X Y : Type 0} → (X → Y) → Result X RowFault → Result Y Fault → Type 0
+Gives view (Ok x) reading = reading ≡ Ok (view x)
+Gives view (Err faults.Memory) reading = Unit {0}
+Gives view (Err (faults.Bad fault place)) reading = reading ≡ Err (fault, place)
+
+-- the JSON of a line, which is UTF-8 and nests at most 127 deep
+abbrev pub json_of : List ℕ → Result Data Fault
+json_of line = ok_or (if is_utf8 line then read line else None) (why.Json, 0)
+
+-- the items one after another
+abbrev pub list_of : Items → List Data
+list_of no_items = []
+list_of (item d ds) = d ∷ list_of ds
+
+-- the items of an array
+abbrev pub array_of : Data → Result (List Data) Fault
+array_of (array ds) = Ok (list_of ds)
+array_of d = Err (why.Array, 0)
+
+-- the kind that a text names
+abbrev pub named_kind : List ℕ → Option Kind
+named_kind text = find (λ kind. bytes_eq (kind_text kind) text) (Insert ∷ UpdateBefore ∷ UpdateAfter ∷ Delete ∷ [])
+
+-- the kind that an item names
+abbrev pub kind_of : Data → Result Kind Fault
+kind_of (string text) = ok_or (named_kind text) (why.Kind, 0)
+kind_of d = Err (why.Kind, 0)
+
+-- A number as an integer of 64 bits. From 2 ^ 63 on it is past the range. A float is no integer, and
+-- so is what JSON reads as one: a point, an exponent, `-0`, and an integer that no 64 bits hold.
+abbrev pub whole_at : ℕ → Num → Result Value Fault
+whole_at place (unsigned n) = if nat_lt n (2 ^ 63) then Ok (values.Int (pos n)) else Err (why.Range, place)
+whole_at place (negative z) = Ok (values.Int z)
+whole_at place (float x) = Err (why.Type, place)
+
+-- an item in a BIGINT column
+abbrev pub big_int_at : ℕ → Data → Result Value Fault
+big_int_at place (number n) = whole_at place n
+big_int_at place d = Err (why.Type, place)
+
+-- an item in a STRING column
+abbrev pub text_at : ℕ → Data → Result Value Fault
+text_at place (string text) = Ok (values.Text text)
+text_at place d = Err (why.Type, place)
+
+-- an item that isn't null, in a column of the type; a type that row lines don't have yet takes none
+abbrev pub value_at : ℕ → ColType → Data → Result Value Fault
+value_at place types.BigInt d = big_int_at place d
+value_at place types.Text d = text_at place d
+value_at place other d = Err (why.Type, place)
+
+-- an item in a column at the place
+abbrev pub item_at : ℕ → Column → Data → Result Value Fault
+item_at place column null = if column.nullable then Ok values.Null else Err (why.Null, place)
+item_at place column d = value_at place column.kind d
+
+-- the items in the columns from the place on, each in its own, and the first fault of them
+abbrev pub values_at : ℕ → List Column → List Data → Result Values Fault
+values_at place [] [] = Ok []
+values_at place (column ∷ columns) (d ∷ ds) = do
+  value ← item_at place column d
+  more ← values_at (suc place) columns ds
+  Ok (value ∷ more)
+values_at place columns ds = Err (why.Count, 0)
+
+-- the kind and the row of an array's items
+abbrev pub row_of_items : List Column → List Data → Result (Kind × Values) Fault
+row_of_items columns [] = Err (why.Kind, 0)
+row_of_items columns (first ∷ ds) = do
+  kind ← kind_of first
+  row ← if length ds == length columns then values_at 0 columns ds else Err (why.Count, 0)
+  Ok (kind, row)
+
+-- the kind and the row of a line
+unfoldable pub row_of : List Column → List ℕ → Result (Kind × Values) Fault
+row_of columns line = do
+  json ← json_of line
+  ds ← array_of json
+  row_of_items columns ds

@@ -1,0 +1,28 @@
+//! What holds of the lines of all rows.
+
+ghost use Rattle.std.specs.Prelude.{◌≡◌, ◌≢◌, ℕ, List, ◌∷◌, Ok};
+ghost use Rattle.std.specs.List.{AllByRecursion};
+ghost use Rattle.pm_values.specs.Fits.{Fits};
+ghost use Rattle.pm_values.specs.Order.{Values};
+ghost use Rattle.pm_values.specs.declared.column.Column.{Column};
+ghost use Rattle.pm_values.specs.declared.kind.Kind.{Kind};
+ghost use Rattle.pm_rows.specs.Built.{IsBuilt};
+ghost use Rattle.pm_rows.specs.Reading.{row_of};
+ghost use Rattle.pm_rows.specs.RowText.{row_text};
+
+/// A row that fits its columns is read again from its line, so no two of them have one line.
+pub fn round_trip_law()
+    ensures again { (columns : List Column) (kind : Kind) (row : Values)
+        → IsBuilt columns → Fits columns row → row_of columns (row_text kind row) ≡ Ok (kind, row) }
+    ensures one_row { (columns : List Column) (k l : Kind) (row other : Values)
+        → IsBuilt columns → Fits columns row → Fits columns other
+        → row_text k row ≡ row_text l other → (k ≡ l) × (row ≡ other) }
+{}
+
+/// The line of a row is one line, and isn't blank: it has no newline, and begins with `[`.
+pub fn line_law()
+    ensures newline { (kind : Kind) (row : Values)
+        → AllByRecursion (λ b. b ≢ 10) (row_text kind row) }
+    ensures begins { (kind : Kind) (row : Values)
+        → (more : List ℕ) × (row_text kind row ≡ 91 ∷ more) }
+{}

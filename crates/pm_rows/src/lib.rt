@@ -1,0 +1,18 @@
+//! Row lines: a row of a table as one line of JSON, both ways.
+//!
+//! A line is an array of the kind and one item for each column. Its definitions stand in
+//! `specs/Reading.antt` (what a line reads as) and `specs/RowText.antt` (what a row prints as).
+#![tactic(auto)]
+
+mod fault;
+mod law;
+mod print;
+mod read;
+
+pub use fault::RowFault;
+pub use law::{line_law, round_trip_law};
+pub use print::print_row;
+pub use read::read_row;
+
+#[cfg(test)]
+mod tests;

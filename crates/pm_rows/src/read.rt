@@ -1,0 +1,142 @@
+//! From a line to a row.
+
+ghost use Rattle.std.specs.Prelude.{◌≡◌, length, map, IfOk};
+ghost use Rattle.serde_json.specs.View.{view};
+ghost use Rattle.pm_values.specs.Fits.{Fits, FitsColumn, IsInType};
+ghost use Rattle.pm_rows.specs.Built.{IsBuilt, IsBuiltType};
+ghost use Rattle.pm_rows.specs.Reading.{Gives, json_of, array_of, kind_of, big_int_at, text_at, value_at, item_at, values_at, row_of_items, row_of};
+
+use crate::fault::RowFault;
+use pm_values::{ColType, Column, Kind, Row, Txt, Value, Why};
+use serde_json::Value as Json;
+use std::alloc::Global;
+
+/// The kind and the row of a line, which may have white space of JSON around its array. The
+/// faults are tried in the order of `Why`, those of an item column by column.
+#[tactic(auto, unfolding(crate::specs::Reading::row_of))]
+pub fn read_row(alloc: Global, columns: &[Column], line: &[u8]) -> Result<(Kind, Row), RowFault>
+    // Row lines have BIGINT and STRING columns so far.
+    requires built { IsBuilt columns.now }
+    ensures exact { Gives (λ x. x) result (row_of columns.now line.now) }
+    ensures fits { IfOk result (λ x. Fits columns.now x.1) }
+{
+    let json = json_of(alloc, line)?;
+    let items = array_of(&json)?;
+    row_of_items(alloc, columns, items)
+}
+
+/// The JSON of a line.
+fn json_of(alloc: Global, line: &[u8]) -> Result<Json, RowFault>
+    ensures { Gives view result (json_of line.now) }
+{
+    match Json::from_slice(alloc, line) {
+        Ok(json) => Ok(json),
+        Err(e) if e.is_memory() => Err(RowFault::Memory),
+        Err(_) => Err(RowFault::Bad(Why::Json, 0)),
+    }
+}
+
+/// The items of an array.
+fn array_of(json: &Json) -> Result<&[Json], RowFault>
+    ensures { Gives (λ items. map view items.now) result (array_of (view json.now)) }
+{
+    match json.as_array() {
+        Some(items) => Ok(items.as_slice()),
+        None => Err(RowFault::Bad(Why::Array, 0)),
+    }
+}
+
+/// The kind and the row of an array's items.
+fn row_of_items(alloc: Global, columns: &[Column], items: &[Json]) -> Result<(Kind, Row), RowFault>
+    requires built { IsBuilt columns.now }
+    ensures exact { Gives (λ x. x) result (row_of_items columns.now (map view items.now)) }
+    ensures fits { IfOk result (λ x. Fits columns.now x.1) }
+{
+    let Some((first, items)) = items.split_first() else {
+        return Err(RowFault::Bad(Why::Kind, 0));
+    };
+    let kind = kind_of(first)?;
+    if items.len() != columns.len() {
+        return Err(RowFault::Bad(Why::Count, 0));
+    }
+    let values = values_of(alloc, columns, items)?;
+    Ok((kind, Row::new(values)))
+}
+
+/// The kind that an item names.
+fn kind_of(item: &Json) -> Result<Kind, RowFault>
+    ensures { Gives (λ kind. kind) result (kind_of (view item.now)) }
+{
+    match item.as_str() {
+        Some("+I") => Ok(Kind::Insert),
+        Some("-U") => Ok(Kind::UpdateBefore),
+        Some("+U") => Ok(Kind::UpdateAfter),
+        Some("-D") => Ok(Kind::Delete),
+        _ => Err(RowFault::Bad(Why::Kind, 0)),
+    }
+}
+
+/// The values of the items, one for each column.
+fn values_of(alloc: Global, columns: &[Column], items: &[Json]) -> Result<Vec<Value>, RowFault>
+    requires built { IsBuilt columns.now }
+    requires count { length items.now ≡ length columns.now }
+    ensures exact { Gives (λ v. v.items) result (values_at 0 columns.now (map view items.now)) }
+    ensures fits { IfOk result (λ v. Fits columns.now v.items) }
+{
+    let mut values = Vec::with_capacity(alloc, columns.len())?;
+    for (place, column) in columns.iter().enumerate() {
+        values.push(item_of(alloc, place, column, &items[place])?)?;
+    }
+    Ok(values)
+}
+
+/// The value of an item in the column at the place.
+fn item_of(alloc: Global, place: usize, column: &Column, item: &Json) -> Result<Value, RowFault>
+    requires built { IsBuiltType column.now.kind }
+    ensures exact { Gives (λ v. v) result (item_at place column.now (view item.now)) }
+    ensures fits { IfOk result (FitsColumn column.now) }
+{
+    if !item.is_null() {
+        value_of(alloc, place, column.kind, item)
+    } else if column.nullable {
+        Ok(Value::Null)
+    } else {
+        Err(RowFault::Bad(Why::Null, place))
+    }
+}
+
+/// The value of an item that isn't null, in a column of that type at the place.
+fn value_of(alloc: Global, place: usize, kind: ColType, item: &Json) -> Result<Value, RowFault>
+    requires built { IsBuiltType kind }
+    ensures exact { Gives (λ v. v) result (value_at place kind (view item.now)) }
+    ensures fits { IfOk result (IsInType kind) }
+{
+    match kind {
+        ColType::BigInt => big_int_of(place, item),
+        ColType::Text => text_of(alloc, place, item),
+        _ => Err(RowFault::Bad(Why::Type, place)),
+    }
+}
+
+/// The value of an item in a BIGINT column at the place.
+fn big_int_of(place: usize, item: &Json) -> Result<Value, RowFault>
+    ensures exact { Gives (λ v. v) result (big_int_at place (view item.now)) }
+    ensures fits { IfOk result (IsInType ColType.BigInt) }
+{
+    match item.as_i64() {
+        Some(n) => Ok(Value::Int(n)),
+        None if item.is_u64() => Err(RowFault::Bad(Why::Range, place)),
+        None => Err(RowFault::Bad(Why::Type, place)),
+    }
+}
+
+/// The value of an item in a STRING column at the place.
+fn text_of(alloc: Global, place: usize, item: &Json) -> Result<Value, RowFault>
+    ensures exact { Gives (λ v. v) result (text_at place (view item.now)) }
+    ensures fits { IfOk result (IsInType ColType.Text) }
+{
+    match item.as_str() {
+        Some(text) => Ok(Value::Text(Txt::from_str(alloc, text)?)),
+        None => Err(RowFault::Bad(Why::Type, place)),
+    }
+}
