@@ -6,3 +6,6 @@
 mod merge;
 
 pub use merge::{key_of, merged_law, merged_rows};
+
+#[cfg(test)]
+mod tests;

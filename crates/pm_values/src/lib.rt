@@ -23,3 +23,6 @@ pub use refusal::{Refusal, Why};
 pub use row::Row;
 pub use txt::Txt;
 pub use value::Value;
+
+#[cfg(test)]
+mod tests;

@@ -1,0 +1,61 @@
+//! Each public call once, with ample memory.
+
+use super::*;
+use std::alloc::{AllocError, Global};
+use std::cmp::Ordering;
+use std::test::Fail;
+
+// One value of each variant, in the order of the variants.
+fn values(alloc: Global) -> Result<Vec<Value>, AllocError> {
+    let mut values = Vec::new(alloc);
+    values.push(Value::Null)?;
+    values.push(Value::Bool(true))?;
+    values.push(Value::Int(-7))?;
+    values.push(Value::Text(Txt::from_str(alloc, "a")?))?;
+    values.push(Value::Bytes(Blob::from_slice(alloc, &[200])?))?;
+    values.push(Value::Day(-1))?;
+    values.push(Value::Millis(5))?;
+    Ok(values)
+}
+
+#[test]
+fn copies_and_orders(rt: HostRuntime) -> Result<(), Fail> {
+    let alloc = rt.alloc();
+    let key = Key::new(values(alloc)?);
+    let copy = key.copy(alloc)?;
+    assert!(rt; key == copy);
+    assert_eq!(rt; Key::new(Vec::new(alloc)).cmp(&key), Ordering::Less);
+    let row = Row::new(values(alloc)?).copy(alloc)?;
+    assert!(rt; row.values() == key.values());
+    for pair in row.values().windows(2) {
+        assert_eq!(rt; pair.len(), 2);
+        assert!(rt; pair[0] < pair[1]);
+    }
+    let high = Blob::new([200].to_vec(alloc)?);
+    assert_eq!(rt; high.copy(alloc)?.into_vec().as_slice(), [200].as_slice());
+    assert!(rt; Blob::from_slice(alloc, &[100])? < high);
+    let column = Column {
+        id: 3,
+        name: Txt::from_str(alloc, "v")?,
+        kind: ColType::Text,
+        nullable: true,
+    };
+    assert_eq!(rt; column.copy(alloc)?.name.copy(alloc)?.as_str(), "v");
+    Ok(())
+}
+
+#[test]
+fn kinds(rt: HostRuntime) {
+    for (kind, code, retracts) in [
+        (Kind::Insert, 0, false),
+        (Kind::UpdateBefore, 1, true),
+        (Kind::UpdateAfter, 2, false),
+        (Kind::Delete, 3, true),
+    ] {
+        assert_eq!(rt; kind.code(), code);
+        assert_eq!(rt; Kind::of_code(i64::from(code)), Some(kind));
+        assert_eq!(rt; kind.retracts(), retracts);
+    }
+    assert_eq!(rt; Kind::of_code(4), None);
+    assert_eq!(rt; Kind::of_code(-1), None);
+}
