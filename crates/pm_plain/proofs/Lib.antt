@@ -1,0 +1,5 @@
+pub mod TextLemmas
+pub mod ReadingLemmas
+pub mod CodecLaws
+pub mod CommitLemmas
+pub mod CommitLaws

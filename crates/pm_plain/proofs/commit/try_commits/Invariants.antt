@@ -1,0 +1,16 @@
+use Rattle.std.proofs.Common.{◌≡◌, ◌≤◌, List, ◌++◌, ◌∷◌, [], Some}
+use Rattle.pm_store.specs.declared.call.Op.{Op}
+use Rattle.pm_store.specs.Files.{file_at}
+use Rattle.pm_plain.specs.Text.{plain_path}
+use Rattle.pm_plain.specs.Commit.{read_op}
+use Rattle.pm_plain.proofs.commit.try_commits.Given as goal
+
+-- Where the store tells its operations, this is the first try: what is told can't differ from what was read.
+abbrev pub invariant-loop-i : goal.invariant-loop-i
+invariant-loop-i g l =
+    let ops = g.F.FileStore.ops in
+    let faults = g.F.FileStore.faults in
+    record {
+      told : (old : List Op) → ops l.fn.store ≡ Some old → (l.i ≡ 0) × (ops l.store ≡ Some (old ++ read_op ∷ [])) × (file_at old plain_path ≡ l.found);
+      later : faults l.fn.store ≤ faults l.store;
+    }

@@ -1,0 +1,6 @@
+pub mod Columns
+pub mod Text
+pub mod Reading
+pub mod Table
+pub mod Plan
+pub mod Commit
