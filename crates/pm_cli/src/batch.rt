@@ -1,0 +1,46 @@
+//! The batch of a `write`: the rows of its input.
+
+ghost use Rattle.std.specs.Prelude.{◌≡◌, ◌≤◌, IfOk, IfErr, IfSome};
+ghost use Rattle.pm_values.specs.Faults.{Rose};
+ghost use Rattle.pm_history.specs.Merge.{AllFit};
+ghost use Rattle.pm_plain.specs.Columns.{plain_columns};
+ghost use Rattle.pm_cli.specs.Batch.{ReadsBatch, MayRefuseInput, refusal_of};
+
+use pm_input::{InputFault, LIMITS, read_lines, read_rows};
+use pm_io::Source;
+use pm_values::{Column, Kind, Refusal, Row, Txt};
+use std::alloc::{AllocError, Global};
+
+/// All rows of an input, which is read to its end first.
+pub(crate) fn read_batch<S: Source>(
+    alloc: Global,
+    columns: &[Column],
+    input: &mut S,
+) -> Result<Vec<(Kind, Row)>, Refusal>
+    requires { columns.now ≡ plain_columns }
+    ensures answer { IfSome (S.left input.old) (λ bytes. ReadsBatch (λ rows. rows.items) bytes (S.left input.new)
+        (Rose (S.faults input.old) (S.faults input.new)) result) }
+    ensures refusal { IfErr result (MayRefuseInput (Rose (S.faults input.old) (S.faults input.new))) }
+    ensures fit { IfOk result (λ rows. AllFit plain_columns rows.items) }
+    ensures later { S.faults input.old ≤ S.faults input.new }
+{
+    let lines = match read_lines(alloc, input, &LIMITS) {
+        Ok(lines) => lines,
+        Err(fault) => return Err(refusal_of(alloc, fault)?),
+    };
+    read_rows(alloc, columns, &lines)
+}
+
+/// The refusal of an input that wasn't read.
+fn refusal_of(alloc: Global, fault: InputFault) -> Result<Refusal, AllocError>
+    ensures { IfOk result (λ e. e ≡ refusal_of fault) }
+{
+    match fault {
+        InputFault::Memory => Err(AllocError),
+        InputFault::Read => Ok(Refusal::SourceFault),
+        InputFault::Limit(which) => Ok(Refusal::Limit {
+            which: Txt::from_str(alloc, which.text())?,
+            number: which.number(&LIMITS) as u64,
+        }),
+    }
+}

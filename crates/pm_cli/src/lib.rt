@@ -1,0 +1,14 @@
+//! The commands: `run` takes a command's words, its input and a store, and prints what it did.
+//!
+//! What a run answers stands in `specs/Run.antt`, what the batch of an input is in `specs/Batch.antt`.
+#![tactic(auto)]
+
+mod batch;
+mod execute;
+mod top;
+mod write;
+
+pub use top::{Status, run};
+
+#[cfg(test)]
+mod tests;

@@ -1,0 +1,5 @@
+pub mod InputLemmas
+pub mod JudgeLemmas
+pub mod LawLemmas
+pub mod LimitLemmas
+pub mod RowLemmas

@@ -1,0 +1,5 @@
+pub mod Blank
+pub mod Judge
+pub mod Limits
+pub mod Lines
+pub mod Rows

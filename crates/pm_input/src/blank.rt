@@ -1,0 +1,18 @@
+//! Blank lines.
+
+ghost use Rattle.std.specs.Prelude.{◌≡◌};
+ghost use Rattle.pm_input.specs.Blank.{is_blank_byte, is_blank};
+
+/// Whether a byte is a space, a tab or a carriage return.
+pub(crate) fn is_blank_byte(byte: u8) -> bool
+    ensures { result ≡ is_blank_byte byte }
+{
+    byte == b' ' || byte == b'\t' || byte == b'\r'
+}
+
+/// Whether a line has such bytes alone.
+pub(crate) fn is_blank(line: &[u8]) -> bool
+    ensures { result ≡ is_blank line.now }
+{
+    line.iter().all(|byte| is_blank_byte(*byte))
+}

@@ -1,0 +1,8 @@
+//! The line of a refusal, written without taking memory, and the exit status.
+//!
+//! The lines stand in `specs/Report.antt`.
+#![tactic(auto)]
+
+mod line;
+
+pub use line::{report, status};
