@@ -1,9 +1,9 @@
 -- Laws of batches.
-use Rattle.std.proofs.Common.{◌≡◌, ◌≢◌, ◌⊎◌, ◌<◌, ℕ, length, get_or, List, [], ◌∷◌, ◌++◌, Option, Some, IfSome, None, Result, Ok, Err, refl, ap, subst, sym, ◌∙◌, inl, inr, arith}
+use Rattle.std.proofs.Common.{◌≡◌, ◌≢◌, ◌⊎◌, ◌≤◌, ◌<◌, ℕ, length, get_or, List, [], ◌∷◌, ◌++◌, Option, Some, IfSome, None, Result, Ok, Err, refl, ap, subst, sym, ◌∙◌, inl, inr, arith}
 use Rattle.pm_history.specs.Merge.{HistoryRow}
 use Rattle.pm_store.specs.declared.call.Op.{Op}
 use Rattle.pm_store.specs.Files.{Files, files_after}
-use Rattle.pm_store.specs.Images.{Extends}
+use Rattle.pm_store.specs.Images.{CrashImage, Extends}
 use Rattle.pm_store.proofs.ImageLaws.{Extends-refl, Extends-weaker}
 use Rattle.pm_plain.specs.Text.{History}
 use Rattle.pm_plain.specs.Commit.{Stands, IsBeforeOrAfter}
@@ -16,7 +16,7 @@ use Rattle.pm_plain.specs.Commit.{reading_at}
 use Rattle.pm_plain.specs.Text.{StandsFor, last_id}
 use Rattle.pm_plain.proofs.CommitLaws.{reading_at-stands}
 use Rattle.pm_cli.specs.Batch.{limits}
-use Rattle.pm_cli.specs.Run.{IsEither, IsEitherOf, with_batch, printed, HasRoom, RefusesBatch, Writes, IsWritten, LeavesOf, IsDone, IsServed}
+use Rattle.pm_cli.specs.Run.{IsEither, IsEitherOf, with_batch, printed, HasRoom, RefusesBatch, Writes, IsWritten, LeavesOf, IsDone, IsServed, StandsWith}
 
 -- a batch with rows is one commit more
 either : (h : History) (batch : List HistoryRow) → batch ≢ [] → (files : Files) → IsBeforeOrAfter h batch files → IsEither h batch files
@@ -138,3 +138,14 @@ pub complete : (h : History) (bytes : List ℕ) (batch : List HistoryRow) (left 
 complete h bytes batch left None new before after source sink store answer stands is room no_source no_sink no_store writes = absurd stands
 complete h bytes batch left (Some ops) new before after source sink store answer stands is room no_source no_sink no_store writes =
     served h bytes batch left ops new before after source sink store answer stands is room no_source no_sink no_store (writes ops refl)
+
+left_so : (bytes : List ℕ) (h : History) (image : Files) (ops : List Op) → files_after ops ≡ image → IsEitherOf bytes h image → Stands (Some ops) h ⊎ StandsWith bytes h (Some ops)
+left_so bytes h image ops is (inl stands) = inl (subst (λ files. StandsFor files h) (sym is) stands)
+left_so bytes h image ops is (inr (batch, is_batch, stands)) = inr (batch, is_batch, subst (λ files. StandsFor files (with_batch h batch)) (sym is) stands)
+
+-- a store that has an image of a command
+pub next_command : (bytes : List ℕ) (h : History) (old new : List Op) (i : ℕ) (image : Files) → Extends (IsEitherOf bytes h) (Some old) (Some new) → length old ≤ i → CrashImage new i image
+    → (ops : List Op) → files_after ops ≡ image → Stands (Some ops) h ⊎ StandsWith bytes h (Some ops)
+next_command bytes h old new i image (more, is, images) below from ops same =
+    let all : new ≡ old ++ more = cc in
+    left_so bytes h image ops same (images i image below (subst (λ ops. CrashImage ops i image) all from))

@@ -5,9 +5,11 @@
 
 mod batch;
 mod execute;
+mod law;
 mod top;
 mod write;
 
+pub use law::next_command_law;
 pub use top::{Status, run};
 
 #[cfg(test)]

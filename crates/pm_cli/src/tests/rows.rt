@@ -76,43 +76,50 @@ fn long_line(rt: HostRuntime) -> Result<(), Fail> {
 }
 
 #[test]
-fn source_and_sink_faults(rt: HostRuntime) -> Result<(), Fail> {
-    let mut store = MemStore::new(rt.alloc());
+fn each_read_fails(rt: HostRuntime) -> Result<(), Fail> {
     let row = b"[\"+I\",1,\"a\"]\n";
-    for call in [1, 2] {
+    for (call, code, line, ops) in [
+        (1, 3, "E3 source\n", 0),
+        (2, 3, "E3 source\n", 0),
+        (3, 0, "", 2),
+    ] {
+        let mut store = MemStore::new(rt.alloc());
         let faults = Faults {
             source: call,
             ..NO_FAULTS
         };
         let got = run_one(rt.alloc(), &mut store, "write", row, faults)?;
-        assert_eq!(rt; got.err.as_slice(), b"E3 source\n".as_slice());
-        assert_eq!(rt; store.ops().len(), 0);
+        assert_eq!(rt; got.code, code, "read {call}");
+        assert_eq!(rt; got.err.as_slice(), line.as_bytes(), "read {call}");
+        assert_eq!(rt; store.ops().len(), ops, "read {call}");
     }
-    let full = Faults {
-        room: 0,
-        ..NO_FAULTS
-    };
-    let got = run_one(rt.alloc(), &mut store, "write", row, full)?;
-    assert_eq!(rt; got.code, 4);
-    assert_eq!(rt; got.err.as_slice(), b"E4 sink snapshot 1\n".as_slice());
-    let got = run_one(
-        rt.alloc(),
-        &mut store,
-        "write",
-        b"",
-        Faults {
-            sink: 1,
-            ..NO_FAULTS
-        },
-    )?;
-    assert_eq!(rt; got.err.as_slice(), b"E4 sink\n".as_slice());
-    expect(
-        &rt,
-        rt.alloc(),
-        &mut store,
-        ("write", ""),
-        (0, "nothing to commit\n[\"+I\",1,\"a\"]\n", ""),
-    )?;
+    Ok(())
+}
+
+#[test]
+fn each_write_fails(rt: HostRuntime) -> Result<(), Fail> {
+    let row = b"[\"+I\",1,\"a\"]\n";
+    let snapshot = "E4 sink snapshot 1\n";
+    for (sink, room, input, code, line) in [
+        (1, ROOM, row.as_slice(), 4, snapshot),
+        (2, ROOM, row.as_slice(), 0, ""),
+        (0, 0, row.as_slice(), 4, snapshot),
+        (2, 3, row.as_slice(), 4, snapshot),
+        (1, ROOM, b"".as_slice(), 4, "E4 sink\n"),
+    ] {
+        let mut store = MemStore::new(rt.alloc());
+        let faults = Faults {
+            source: 0,
+            sink,
+            room,
+        };
+        let got = run_one(rt.alloc(), &mut store, "write", input, faults)?;
+        assert_eq!(rt; got.code, code, "write {sink}");
+        assert_eq!(rt; got.err.as_slice(), line.as_bytes(), "write {sink}");
+        let next = run_one(rt.alloc(), &mut store, "write", b"", NO_FAULTS)?;
+        let is_there = next.out.as_slice() == b"nothing to commit\n[\"+I\",1,\"a\"]\n".as_slice();
+        assert_eq!(rt; is_there, !input.is_empty(), "write {sink}");
+    }
     Ok(())
 }
 

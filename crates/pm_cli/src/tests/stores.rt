@@ -1,7 +1,11 @@
-//! A store on which another command commits before each swap.
+//! A store on which another command commits before each swap, and one whose calls fail in turn.
+
+ghost use Rattle.std.specs.Prelude.{◌≡◌, ◌≤◌, None};
+ghost use Rattle.std.specs.Bool.{MatchBool};
+ghost use Rattle.pm_values.specs.Faults.{Rose};
 
 use super::*;
-use pm_store::{StoreFail, Swapped};
+use pm_store::{MemStore, StoreFail, Swapped};
 use pm_values::Blob;
 use std::test::Fail;
 
@@ -69,5 +73,99 @@ fn eleven_rivals(rt: HostRuntime) -> Result<(), Fail> {
         b"E14 contended 1 2 3 4 5 6 7 8 9 10 11\n".as_slice()
     );
     assert_eq!(rt; store.swaps, 11);
+    Ok(())
+}
+
+// A store in memory one of whose calls fails, after it was carried out or before.
+#[derive(Drop)]
+struct Failing {
+    store: MemStore,
+    calls_before: u64,
+    is_carried_out: bool,
+    faults: u64,
+}
+
+impl Failing {
+    // Whether this call is the one that fails.
+    fn fails(&mut self) -> bool
+        ensures fault { MatchBool result (Rose self.old.faults self.new.faults) (self.new.faults ≡ self.old.faults) }
+        ensures later { self.old.faults ≤ self.new.faults }
+    {
+        let is_this = self.calls_before == 1;
+        self.calls_before = self.calls_before.saturating_sub(1);
+        if is_this {
+            self.faults = self.faults.saturating_add(1);
+        }
+        is_this
+    }
+}
+
+impl FileStore for Failing {
+    ghost ops = { λ _. None };
+
+    ghost faults = { λ s. s.faults };
+
+    fn read(&mut self, alloc: Global, path: &str) -> Result<Option<Blob>, StoreFail> {
+        if self.fails() {
+            return Err(StoreFail::Failed);
+        }
+        self.store.read(alloc, path)
+    }
+
+    fn swap(
+        &mut self,
+        alloc: Global,
+        path: &str,
+        expected: Option<&[u8]>,
+        bytes: &[u8],
+    ) -> Result<Swapped, StoreFail> {
+        if self.fails() {
+            if self.is_carried_out {
+                let _ = self.store.swap(alloc, path, expected, bytes);
+            }
+            return Err(StoreFail::Failed);
+        }
+        self.store.swap(alloc, path, expected, bytes)
+    }
+}
+
+#[test]
+fn each_call_fails(rt: HostRuntime) -> Result<(), Fail> {
+    let before = "nothing to commit\n[\"+I\",1,\"a\"]\n";
+    let after = "nothing to commit\n[\"+I\",1,\"a\"]\n[\"+I\",2,\"b\"]\n";
+    for (call, is_carried_out, code, table) in [
+        (1, false, 5, before),
+        (1, true, 5, before),
+        (2, false, 5, before),
+        (2, true, 5, after),
+        (3, true, 0, after),
+    ] {
+        let mut store = Failing {
+            store: MemStore::new(rt.alloc()),
+            calls_before: 0,
+            is_carried_out,
+            faults: 0,
+        };
+        let first = run_one(
+            rt.alloc(),
+            &mut store,
+            "write",
+            b"[\"+I\",1,\"a\"]\n",
+            NO_FAULTS,
+        )?;
+        assert_eq!(rt; first.code, 0);
+        store.calls_before = call;
+        let got = run_one(
+            rt.alloc(),
+            &mut store,
+            "write",
+            b"[\"+I\",2,\"b\"]\n",
+            NO_FAULTS,
+        )?;
+        assert_eq!(rt; got.code, code, "call {call}");
+        store.calls_before = 0;
+        let next = run_one(rt.alloc(), &mut store, "write", b"", NO_FAULTS)?;
+        assert_eq!(rt; next.out.as_slice(), table.as_bytes(), "call {call}");
+    }
     Ok(())
 }
