@@ -26,3 +26,9 @@ pub fn line_law()
     ensures begins { (kind : Kind) (row : Values)
         → (more : List ℕ) × (row_text kind row ≡ 91 ∷ more) }
 {}
+
+/// A line that reads as a row, and is the very line that the row prints as, is that of a row that fits.
+pub fn fit_law()
+    ensures { (columns : List Column) (line : List ℕ) (kind : Kind) (row : Values)
+        → IsBuilt columns → row_of columns line ≡ Ok (kind, row) → line ≡ row_text kind row → Fits columns row }
+{}

@@ -10,7 +10,7 @@ mod print;
 mod read;
 
 pub use fault::RowFault;
-pub use law::{line_law, round_trip_law};
+pub use law::{fit_law, line_law, round_trip_law};
 pub use print::print_row;
 pub use read::read_row;
 
