@@ -44,7 +44,8 @@ after_line-row h rows r fits =
     ∙ ap (λ b. option_and_then (λ (r : HistoryRow). with_row r now) (cond b (Some r) None)) (same_bytes text)
     ∙ with_row-snoc h rows r
 
-after_bytes-line : (text rest : List ℕ) (h next : History) → IsUnbroken text → after_line text h ≡ Some next → after_bytes (line text ++ rest) [] h ≡ after_bytes rest [] next
+-- a line that fits, and its newline
+pub after_bytes-line : (text rest : List ℕ) (h next : History) → IsUnbroken text → after_line text h ≡ Some next → after_bytes (line text ++ rest) [] h ≡ after_bytes rest [] next
 after_bytes-line text rest h next unbroken after =
     ap (λ bytes. after_bytes bytes [] h) (append_assoc text (10 ∷ []) rest)
     ∙ after_bytes-ended text rest [] h unbroken

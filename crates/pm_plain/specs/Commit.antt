@@ -15,7 +15,7 @@ use Rattle.pm_plain.specs.declared.plan.Plan.{Plan}
 use Rattle.pm_plain.specs.declared.commit.Committed.{Committed}
 use Rattle.pm_plain.specs.declared.commit.Attempt.{Attempt}
 use Rattle.pm_plain.specs.declared.commit.Attempt.TheVariants as attempts
-use Rattle.pm_plain.specs.Text.{History, history_text, committed_text, nothing_text, plain_path, last_id, StandsFor}
+use Rattle.pm_plain.specs.Text.{History, IsHistory, history_text, committed_text, nothing_text, plain_path, last_id, StandsFor}
 use Rattle.pm_plain.specs.Reading.{history_in}
 use Rattle.pm_plain.specs.Plan.{RefusesText, RefusesCommit}
 
@@ -52,6 +52,10 @@ pub record IsCommitted (batch : List HistoryRow) (h : History) (committed : Comm
   pub below : length h < last_id
   pub number : committed.id ≡ length h + 1
   pub prints : committed.text.items ≡ committed_text (length h + 1) (h ++ batch ∷ [])
+
+-- a commit follows some history
+abbrev pub Follows : List HistoryRow → Committed → Type 0
+Follows batch committed = (h : History) × IsHistory h × IsCommitted batch h committed
 
 -- what a read of the plain file answers
 abbrev pub ReadsPlain : Option (List Op) → Option (List Op) → Type 0 → Result (Option (List ℕ)) Refusal → Type 0
@@ -95,14 +99,25 @@ ShowsPlain ops new rose (Err refusals.Memory) = (new ≡ Some ops) ⊎ (new ≡ 
 ShowsPlain ops new rose (Err (refusals.StoreFault path)) = (path ≡ plain_path) × rose × (new ≡ Some (ops ++ undone (calls.Read plain_path) ∷ []))
 ShowsPlain ops new rose (Err other) = RefusesText (reading_at ops) other × (new ≡ Some (ops ++ read_op ∷ []))
 
--- the refusals of both where the store tells nothing; a fault of the store only where its count rose
+-- ids that were tried from the first content to the last: each is the next one after the history that a content
+-- reads as, and other content was met in its place
+abbrev pub Tried : Option (List ℕ) → List ℕ → Option (List ℕ) → Type 0
+Tried first [] last = first ≡ last
+Tried first (id ∷ ids) last =
+    (h : History) × (reading_of first ≡ Ok h) × (id ≡ length h + 1) × (met : Option (List ℕ)) × (met ≢ first) × Tried met ids last
+
+-- The refusals of a batch without rows, whatever the store tells. A fault of the store comes only where its count rose.
+abbrev pub MayRefuseText : Type 0 → Refusal → Type 0
+MayRefuseText rose refusals.Memory = Unit {0}
+MayRefuseText rose (refusals.StoreFault path) = (path ≡ plain_path) × rose
+MayRefuseText rose (refusals.Damaged path place) = path ≡ plain_path
+MayRefuseText rose other = ⊥
+
+-- the refusals of a commit, whatever the store tells: those, and two more
 abbrev pub MayRefuse : Type 0 → Refusal → Type 0
-MayRefuse rose refusals.Memory = Unit {0}
-MayRefuse rose (refusals.StoreFault path) = (path ≡ plain_path) × rose
-MayRefuse rose (refusals.Damaged path place) = path ≡ plain_path
-MayRefuse rose (refusals.Contended ids) = Unit {0}
+MayRefuse rose (refusals.Contended ids) = (first : Option (List ℕ)) × (last : Option (List ℕ)) × Tried first ids last
 MayRefuse rose (refusals.Limit which number) = (which ≡ codes "snapshot-id") × (number ≡ last_id)
-MayRefuse rose other = ⊥
+MayRefuse rose other = MayRefuseText rose other
 
 -- what a refusal leaves: the history, or after a fault of the store the history with the batch
 abbrev pub Leaves : Refusal → History → List HistoryRow → Option (List Op) → Type 0

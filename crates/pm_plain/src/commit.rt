@@ -6,8 +6,8 @@ ghost use Rattle.pm_values.specs.Faults.{Rose};
 ghost use Rattle.pm_history.specs.Merge.{AllFit};
 ghost use Rattle.pm_plain.specs.Columns.{plain_columns};
 ghost use Rattle.pm_store.specs.Images.{Extends};
-ghost use Rattle.pm_plain.specs.Text.{History, StandsFor, nothing_text};
-ghost use Rattle.pm_plain.specs.Commit.{Stands, IsBeforeOrAfter, IsCommitted, ReadsPlain, Attempts, attempt_of, Commits, ShowsPlain, MayRefuse, Leaves};
+ghost use Rattle.pm_plain.specs.Text.{History, IsHistory, StandsFor, nothing_text};
+ghost use Rattle.pm_plain.specs.Commit.{Stands, IsBeforeOrAfter, IsCommitted, ReadsPlain, Attempts, attempt_of, Commits, ShowsPlain, Follows, MayRefuseText, MayRefuse, Leaves};
 
 use crate::plan::{Plan, nothing, plan_of};
 use crate::table::PATH;
@@ -47,6 +47,7 @@ pub fn commit_batch<F: FileStore>(
     ensures answer { IfSome (F.ops store.old) (λ ops. Commits batch.now ops (F.ops store.new)
         (Rose (F.faults store.old) (F.faults store.new)) result) }
     ensures refusal { IfErr result (MayRefuse (Rose (F.faults store.old) (F.faults store.new))) }
+    ensures follows { IfOk result (Follows batch.now) }
     ensures done { IfOk result (λ committed. (h : History) → Stands (F.ops store.old) h
         → IsCommitted batch.now h committed × Stands (F.ops store.new) (h ++ batch.now ∷ [])) }
     ensures leaves { IfErr result (λ e. (h : History) → Stands (F.ops store.old) h → Leaves e h batch.now (F.ops store.new)) }
@@ -66,7 +67,8 @@ pub fn nothing_to_commit<F: FileStore>(
     requires { columns.now ≡ plain_columns }
     ensures answer { IfSome (F.ops store.old) (λ ops. ShowsPlain ops (F.ops store.new)
         (Rose (F.faults store.old) (F.faults store.new)) result) }
-    ensures refusal { IfErr result (MayRefuse (Rose (F.faults store.old) (F.faults store.new))) }
+    ensures refusal { IfErr result (MayRefuseText (Rose (F.faults store.old) (F.faults store.new))) }
+    ensures follows { IfOk result (λ text. (h : History) × IsHistory h × (text.items ≡ nothing_text h)) }
     ensures done { IfOk result (λ text. (h : History) → Stands (F.ops store.old) h → text.items ≡ nothing_text h) }
     ensures stays { (h : History) → Stands (F.ops store.old) h → Stands (F.ops store.new) h }
     ensures images { (h : History) → Stands (F.ops store.old) h
@@ -88,6 +90,7 @@ fn try_commits<F: FileStore>(
     ensures answer { IfSome (F.ops store.old) (λ ops. Commits batch.now ops (F.ops store.new)
         (Rose (F.faults store.old) (F.faults store.new)) result) }
     ensures refusal { IfErr result (MayRefuse (Rose (F.faults store.old) (F.faults store.new))) }
+    ensures follows { IfOk result (Follows batch.now) }
     ensures later { F.faults store.old ≤ F.faults store.new }
 {
     let mut found = read_plain(alloc, store)?;
@@ -113,7 +116,8 @@ fn read_and_show<F: FileStore>(
     requires { columns.now ≡ plain_columns }
     ensures answer { IfSome (F.ops store.old) (λ ops. ShowsPlain ops (F.ops store.new)
         (Rose (F.faults store.old) (F.faults store.new)) result) }
-    ensures refusal { IfErr result (MayRefuse (Rose (F.faults store.old) (F.faults store.new))) }
+    ensures refusal { IfErr result (MayRefuseText (Rose (F.faults store.old) (F.faults store.new))) }
+    ensures follows { IfOk result (λ text. (h : History) × IsHistory h × (text.items ≡ nothing_text h)) }
     ensures later { F.faults store.old ≤ F.faults store.new }
 {
     let found = read_plain(alloc, store)?;

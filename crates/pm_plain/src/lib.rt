@@ -6,6 +6,7 @@
 
 mod columns;
 mod commit;
+mod laws;
 mod plan;
 mod reading;
 mod table;
@@ -13,6 +14,10 @@ mod text;
 
 pub use columns::plain_columns;
 pub use commit::{Committed, commit_batch, nothing_to_commit};
+pub use laws::reading_law;
 pub use reading::parse;
 pub use table::{LAST_ID, PlainFault, Table};
 pub use text::{push_commit, push_scan};
+
+#[cfg(test)]
+mod tests;
