@@ -8,7 +8,7 @@ use Rattle.pm_io.specs.Sink.{TookFront}
 use Rattle.pm_store.specs.declared.call.Op.{Op}
 use Rattle.pm_store.specs.Files.{Files, file_at}
 use Rattle.pm_plain.specs.Text.{History, committed_text, nothing_text, plain_path, last_id, StandsFor}
-use Rattle.pm_plain.specs.Commit.{Stands, reading_at, read_op, swap_op}
+use Rattle.pm_plain.specs.Commit.{Stands, reading_at, read_op, swap_op, Tried}
 use Rattle.pm_plain.specs.Plan.{RefusesText, RefusesCommit}
 use Rattle.pm_report.specs.Report.{code_of, report_text}
 use Rattle.pm_cli.specs.Batch.{IsBatch, RefusesInput}
@@ -69,13 +69,17 @@ Leaves (Some (refusals.SinkFault snapshot)) h batch ops = Stands ops (with_batch
 Leaves (Some (refusals.StoreFault path)) h batch ops = Stands ops h ⊎ Stands ops (with_batch h batch)
 Leaves (Some other) h batch ops = Stands ops h
 
+-- other content than the expected was met at each of the ids
+abbrev pub WasContended : List ℕ → Type 0
+WasContended ids = (first : Option (List ℕ)) × (last : Option (List ℕ)) × Tried first ids last
+
 -- the refusals of writing a batch where nothing is told, each with the fault that it needs
 abbrev pub MayRefuseBatch : Type 0 → Type 0 → Refusal → Type 0
 MayRefuseBatch sink store refusals.Memory = Unit {0}
 MayRefuseBatch sink store (refusals.SinkFault snapshot) = sink
 MayRefuseBatch sink store (refusals.StoreFault path) = (path ≡ plain_path) × store
 MayRefuseBatch sink store (refusals.Damaged path place) = path ≡ plain_path
-MayRefuseBatch sink store (refusals.Contended ids) = Unit {0}
+MayRefuseBatch sink store (refusals.Contended ids) = WasContended ids
 MayRefuseBatch sink store (refusals.Limit which number) = (which ≡ codes "snapshot-id") × (number ≡ last_id)
 MayRefuseBatch sink store other = ⊥
 
@@ -115,6 +119,7 @@ HasCause words source sink store refusals.SourceFault = source
 HasCause words source sink store (refusals.SinkFault snapshot) = sink
 HasCause words source sink store (refusals.StoreFault path) = (path ≡ plain_path) × store
 HasCause words source sink store (refusals.Damaged path place) = path ≡ plain_path
+HasCause words source sink store (refusals.Contended ids) = (words ≡ write_words) × WasContended ids
 HasCause words source sink store other = words ≡ write_words
 
 -- the operations stand for a history with the batch of an input
