@@ -1,0 +1,9 @@
+pub mod Avro
+pub mod View
+pub mod Outcome
+pub mod Readable
+pub mod Reading
+pub mod Text
+pub mod Attribute
+pub mod Meaning
+pub mod Named

@@ -1,0 +1,34 @@
+//! Why a text isn't read as a type, or bytes as a datum.
+
+ghost use Rattle.std.specs.Prelude.{◌≡◌};
+ghost use Rattle.pm_avro_schema.specs.declared.fault.AvroFault.TheVariants.{Memory};
+
+use crate::txt2::Txt2;
+use std::alloc::{AllocError, AllocFailed};
+
+/// A fault of a text or of bytes.
+#[derive(Debug, Drop)]
+pub enum AvroFault {
+    /// Memory ran out.
+    Memory,
+    /// What Avro has and this crate hasn't: which part, and the text that stands there.
+    Unsupported { what: Txt2, text: Txt2 },
+    /// What isn't Avro, with its place, an offset in bytes.
+    Bad(usize),
+}
+
+impl From<AllocError> for AvroFault {
+    ghost from_gives = { λ _ e. e ≡ Memory };
+
+    fn from(_: AllocError) -> AvroFault {
+        AvroFault::Memory
+    }
+}
+
+impl<T: Drop> From<AllocFailed<T>> for AvroFault {
+    ghost from_gives = { λ _ e. e ≡ Memory };
+
+    fn from(_: AllocFailed<T>) -> AvroFault {
+        AvroFault::Memory
+    }
+}
