@@ -1,0 +1,11 @@
+pub mod Numbers
+pub mod Leaves
+pub mod Loops
+pub mod Moves
+pub mod Follows
+pub mod Readings
+pub mod Types
+pub mod Pushing
+pub mod Encodings
+pub mod Prefixes
+pub mod Lengths

@@ -1,0 +1,21 @@
+//! Avro's data as values.
+
+use pm_avro_schema::Txt2;
+
+/// A datum (Apache Avro specification, "Binary Encoding").
+#[derive(Debug, Drop)]
+pub enum Datum {
+    Null,
+    Bool(bool),
+    Int(i32),
+    Long(i64),
+    Bytes(Vec<u8>),
+    Text(Txt2),
+    /// The values of its fields, in order.
+    Record(Vec<Datum>),
+    Array(Vec<Datum>),
+    /// Its keys and values, in the order in which they stand.
+    Map(Vec<(Txt2, Datum)>),
+    /// The place of the branch in the union, from 0, and the datum.
+    Union(u32, Box<Datum>),
+}

@@ -1,0 +1,28 @@
+//! Avro's binary encoding of data (Apache Avro specification, "Binary Encoding"), exact both ways.
+//!
+//! `IsDatum` says which texts are a datum of a type, and then a rest. `decode` answers the datum that the bytes
+//! begin with, and `Bad` where they begin with none. `encode` writes the shortest spelling, in the closed form
+//! `encoding`. The laws speak of the relation alone.
+//!
+//! Both take time linear in the bytes, for each type that `parse` gives: reading goes on in the slice that is left,
+//! and only the content of bytes and texts is copied. The stack is as deep as the type, whatever the bytes say.
+//! Measured on one processor of a busy machine, in millions of bytes a second: a million longs (6.4 million bytes)
+//! are decoded at 60 and encoded at 110, 100000 records of a long and a union of null and string (2.5 million bytes)
+//! at 80 and 300.
+#![tactic(auto)]
+
+mod block;
+mod datum;
+mod laws;
+mod leaf;
+mod number;
+mod reading;
+mod writing;
+
+pub use datum::Datum;
+pub use laws::{one_datum, one_prefix, one_type, shortest};
+pub use reading::decode;
+pub use writing::encode;
+
+#[cfg(test)]
+mod tests;
