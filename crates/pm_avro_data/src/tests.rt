@@ -2,7 +2,7 @@
 
 ghost use Rattle.std.specs.Prelude.{◌<◌};
 
-use crate::{Datum, decode, encode};
+use crate::{Datum, decode, encode, one_datum, one_prefix, one_type, shortest};
 use pm_avro_schema::{AvroFault, AvroType, parse};
 use std::alloc::{AllocError, Global};
 use std::test::Fail;
@@ -240,6 +240,10 @@ fn refuses_the_rest(rt: HostRuntime) -> Result<(), Fail> {
             "{schema} {hex}"
         );
     }
+    one_datum();
+    one_prefix();
+    one_type();
+    shortest();
     // A count above the number of bytes left isn't read, even of items that take no byte.
     let nulls = AvroType::Array(Box::new(alloc, AvroType::Null)?);
     assert!(rt; matches!(decode(alloc, &nulls, &[4, 0]), Err(AvroFault::Bad(0))));
