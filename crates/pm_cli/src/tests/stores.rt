@@ -129,40 +129,50 @@ impl FileStore for Failing {
     }
 }
 
+// Runs the commands of the worked rows up to the first that is refused: how many came before it,
+// and its status.
+fn first_refusal(alloc: Global, store: &mut Failing) -> Result<(u64, u8), AllocError> {
+    let mut before: u64 = 0;
+    for input in [
+        b"[\"+I\",2,\"b\"]\n[\"+I\",1,\"a\"]\n[\"+I\",1,\"c\"]\n".as_slice(),
+        b"[\"-D\",2,null]\n".as_slice(),
+        b"".as_slice(),
+    ] {
+        let got = run_one(alloc, store, "write", input, NO_FAULTS)?;
+        if got.code != 0 {
+            return Ok((before, got.code));
+        }
+        before = before.saturating_add(1);
+    }
+    Ok((before, 0))
+}
+
 #[test]
 fn each_call_fails(rt: HostRuntime) -> Result<(), Fail> {
-    let before = "nothing to commit\n[\"+I\",1,\"a\"]\n";
-    let after = "nothing to commit\n[\"+I\",1,\"a\"]\n[\"+I\",2,\"b\"]\n";
-    for (call, is_carried_out, code, table) in [
-        (1, false, 5, before),
-        (1, true, 5, before),
-        (2, false, 5, before),
-        (2, true, 5, after),
-        (3, true, 0, after),
+    let nothing = "nothing to commit\n";
+    let first = "nothing to commit\n[\"+I\",1,\"c\"]\n[\"+I\",2,\"b\"]\n";
+    let second = "nothing to commit\n[\"+I\",1,\"c\"]\n";
+    for (call, is_carried_out, refusal, table) in [
+        (1, false, (0, 5), nothing),
+        (1, true, (0, 5), nothing),
+        (2, false, (0, 5), nothing),
+        (2, true, (0, 5), first),
+        (3, false, (1, 5), first),
+        (3, true, (1, 5), first),
+        (4, false, (1, 5), first),
+        (4, true, (1, 5), second),
+        (5, false, (2, 5), second),
+        (5, true, (2, 5), second),
+        (6, true, (3, 0), second),
     ] {
         let mut store = Failing {
             store: MemStore::new(rt.alloc()),
-            calls_before: 0,
+            calls_before: call,
             is_carried_out,
             faults: 0,
         };
-        let first = run_one(
-            rt.alloc(),
-            &mut store,
-            "write",
-            b"[\"+I\",1,\"a\"]\n",
-            NO_FAULTS,
-        )?;
-        assert_eq!(rt; first.code, 0);
-        store.calls_before = call;
-        let got = run_one(
-            rt.alloc(),
-            &mut store,
-            "write",
-            b"[\"+I\",2,\"b\"]\n",
-            NO_FAULTS,
-        )?;
-        assert_eq!(rt; got.code, code, "call {call}");
+        let got = first_refusal(rt.alloc(), &mut store)?;
+        assert_eq!(rt; got, refusal, "call {call}");
         store.calls_before = 0;
         let next = run_one(rt.alloc(), &mut store, "write", b"", NO_FAULTS)?;
         assert_eq!(rt; next.out.as_slice(), table.as_bytes(), "call {call}");
