@@ -11,12 +11,10 @@ use Rattle.pm_cli.specs.Batch.{IsBatch}
 use Rattle.pm_values.specs.declared.refusal.Refusal.{Refusal}
 use Rattle.pm_values.specs.declared.refusal.Refusal.TheVariants as refusals
 use Rattle.pm_io.specs.Told.{and_then}
-use Rattle.pm_input.specs.Limits.{IsWithin, IsFirstLimit}
 use Rattle.pm_plain.specs.Commit.{reading_at}
 use Rattle.pm_plain.specs.Text.{StandsFor, last_id}
 use Rattle.pm_plain.proofs.CommitLaws.{reading_at-stands}
-use Rattle.pm_cli.specs.Batch.{limits}
-use Rattle.pm_cli.specs.Run.{IsEither, IsEitherOf, with_batch, printed, HasRoom, RefusesBatch, Writes, IsWritten, LeavesOf, IsDone, IsServed, StandsWith}
+use Rattle.pm_cli.specs.Run.{IsEither, IsEitherOf, with_batch, printed, HasRoom, RefusesBatch, Writes, LeavesOf, IsDone, IsServed, StandsWith}
 
 -- a batch with rows is one commit more
 either : (h : History) (batch : List HistoryRow) → batch ≢ [] → (files : Files) → IsBeforeOrAfter h batch files → IsEither h batch files

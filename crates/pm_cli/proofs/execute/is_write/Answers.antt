@@ -1,4 +1,4 @@
-use Rattle.std.proofs.Common.{◌≡◌, ◌∷◌, [], codes, ap, sym, ◌∙◌}
+use Rattle.std.proofs.Common.{◌∷◌, [], codes, ap, sym, ◌∙◌}
 use Rattle.std.proofs.lemmas.Slice.Eq.{bytes_eq-Decides}
 use Rattle.pm_cli.proofs.RunLaws.{one_text, first_of_one}
 use Rattle.pm_cli.proofs.execute.is_write.Goals as goal
