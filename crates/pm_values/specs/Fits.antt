@@ -1,5 +1,5 @@
 -- What fits a column, and the columns of a table.
-use Rattle.std.specs.Prelude.{◌≡◌, ℕ, ◌<◌, ℤ, pos, negsuc, ◌≤ℤ◌, List, [], ◌∷◌, Bool, IsTrue, IsUtf8, FitsSigned}
+use Rattle.std.specs.Prelude.{◌<◌, ℤ, pos, negsuc, ◌≤ℤ◌, List, [], ◌∷◌, IsTrue, IsUtf8, FitsSigned}
 use Rattle.std.specs.Int.{w8, w16, w32, w64}
 use Rattle.std.specs.List.{AllByRecursion}
 use Rattle.pm_values.specs.declared.value.Value.{Value}

@@ -1,4 +1,6 @@
 pub mod Faults
 pub mod Fits
+pub mod GroupOrder
 pub mod Kind
+pub mod Names
 pub mod Order

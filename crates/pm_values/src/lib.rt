@@ -1,13 +1,19 @@
-//! The values of a table: texts, column types, rows, keys, kinds of change, and the refusals.
+//! The values of a table: texts, column types, rows, keys, kinds of change, groups, what is known of
+//! a file, the names of new files, and the refusals.
 //!
-//! Contracts see `Txt` and `Blob` as lists of bytes, and `Row` and `Key` as lists of values. The
-//! order of keys stands in `specs/Order.antt`, what fits a column in `specs/Fits.antt`.
+//! Contracts see `Txt` and `Blob` as lists of bytes, `Row` and `Key` as lists of values, and `Names`
+//! as what its next name is made of. The order of keys stands in `specs/Order.antt`, that of groups in
+//! `specs/GroupOrder.antt`, what fits a column in `specs/Fits.antt`, a name in `specs/Names.antt`.
 #![tactic(auto)]
 
 mod blob;
 mod column;
+mod file_meta;
+mod group;
 mod key;
 mod kind;
+mod law;
+mod names;
 mod record;
 mod refusal;
 mod row;
@@ -16,8 +22,12 @@ mod value;
 
 pub use blob::Blob;
 pub use column::{ColType, Column};
+pub use file_meta::FileMeta;
+pub use group::Group;
 pub use key::Key;
 pub use kind::Kind;
+pub use law::names_law;
+pub use names::Names;
 pub use record::{Change, Stamped};
 pub use refusal::{Refusal, Why};
 pub use row::Row;

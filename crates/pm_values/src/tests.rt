@@ -59,3 +59,81 @@ fn kinds(rt: HostRuntime) {
     assert_eq!(rt; Kind::of_code(4), None);
     assert_eq!(rt; Kind::of_code(-1), None);
 }
+
+#[test]
+fn groups(rt: HostRuntime) -> Result<(), Fail> {
+    let alloc = rt.alloc();
+    let group = Group {
+        partition: Row::new(values(alloc)?),
+        bucket: 3,
+    };
+    let copy = group.copy(alloc)?;
+    assert!(rt; copy == group);
+    assert_eq!(rt; copy.bucket, 3);
+    let lower = Group {
+        partition: Row::new(Vec::new(alloc)),
+        bucket: 9,
+    };
+    assert!(rt; lower < group);
+    let next = Group {
+        partition: Row::new(values(alloc)?),
+        bucket: 4,
+    };
+    assert_eq!(rt; next.cmp(&group), Ordering::Greater);
+    Ok(())
+}
+
+#[test]
+fn files(rt: HostRuntime) -> Result<(), Fail> {
+    let alloc = rt.alloc();
+    let file = FileMeta {
+        name: Txt::from_str(alloc, "data-0.avro")?,
+        size: 1,
+        rows: 2,
+        min_key: Key::new(Vec::new(alloc)),
+        max_key: Key::new(values(alloc)?),
+        min_seq: 3,
+        max_seq: 4,
+        schema_id: 5,
+        level: 6,
+        created: Some(7),
+    };
+    let copy = file.copy(alloc)?;
+    assert_eq!(rt; copy.name.as_str(), "data-0.avro");
+    assert!(rt; copy.min_key < copy.max_key);
+    assert_eq!(rt; copy.created, Some(7));
+    Ok(())
+}
+
+#[test]
+fn names(rt: HostRuntime) -> Result<(), Fail> {
+    let alloc = rt.alloc();
+    let session = [0, 0, 0, 0, 0, 0, 0, 0, 0, 0, 0, 0, 0, 0, 0, 2];
+    let mut names = Names::new(session, 0, 0);
+    let data = names.take(alloc, "data-", ".avro")?;
+    assert_eq!(rt;
+        data.as_str(),
+        "data-00000000-0000-0000-0000-000000000002-0-0-0.avro"
+    );
+    let delta = names.take(alloc, "manifest-", "")?;
+    assert_eq!(rt;
+        delta.as_str(),
+        "manifest-00000000-0000-0000-0000-000000000002-0-0-1"
+    );
+    names.take(alloc, "manifest-list-", "")?;
+    let base = names.take(alloc, "manifest-list-", "")?;
+    assert_eq!(rt;
+        base.as_str(),
+        "manifest-list-00000000-0000-0000-0000-000000000002-0-0-3"
+    );
+    names.set_base(12);
+    let later = names.take(alloc, "data-", ".avro")?;
+    assert_eq!(rt;
+        later.as_str(),
+        "data-00000000-0000-0000-0000-000000000002-0-12-4.avro"
+    );
+    assert_eq!(rt; names.session(), session);
+    assert_eq!(rt; names.actor(), 0);
+    names_law();
+    Ok(())
+}
