@@ -1,0 +1,3 @@
+pub mod HexLemmas
+pub mod CivilLemmas
+pub mod DateLemmas

@@ -1,0 +1,3 @@
+pub mod DateText
+pub mod HexText
+pub mod Steps
