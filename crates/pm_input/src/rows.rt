@@ -2,7 +2,6 @@
 
 ghost use Rattle.std.specs.Prelude.{◌≡◌, ◌+◌, ◌^◌, ◌<◌, IfOk, map};
 ghost use Rattle.pm_history.specs.Merge.{AllFit};
-ghost use Rattle.pm_rows.specs.Built.{IsBuilt};
 ghost use Rattle.pm_rows.specs.Reading.{row_of};
 ghost use Rattle.pm_values.specs.Fits.{Fits};
 ghost use Rattle.pm_input.specs.Rows.{faulty_column, rows_in, GivesRow, GivesRows};
@@ -19,8 +18,6 @@ pub fn read_rows(
     columns: &[Column],
     lines: &[Vec<u8>],
 ) -> Result<Vec<(Kind, Row)>, Refusal>
-    // Row lines have BIGINT and STRING columns so far.
-    requires built { IsBuilt columns.now }
     ensures exact { GivesRows (λ rows. rows.items) result (rows_in columns.now (map (λ line. line.items) lines.now)) }
     ensures fits { IfOk result (λ rows. AllFit columns.now rows.items) }
 {
@@ -40,7 +37,6 @@ fn row_at(
     place: usize,
     line: &[u8],
 ) -> Result<(Kind, Row), Refusal>
-    requires built { IsBuilt columns.now }
     requires place { place < 2 ^ 63 }
     ensures exact { GivesRow result (place + 1) columns.now (row_of columns.now line.now) }
     ensures fits { IfOk result (λ row. Fits columns.now row.1) }

@@ -1,6 +1,3 @@
-ghost use Rattle.std.specs.Prelude.{IfOk};
-ghost use Rattle.pm_rows.specs.Built.{IsBuilt};
-
 use super::*;
 use pm_io::MemSource;
 use pm_rows::print_row;
@@ -94,9 +91,7 @@ fn names_and_numbers(rt: HostRuntime) {
 }
 
 /// The columns `id BIGINT NOT NULL` and `v STRING`.
-fn columns(alloc: Global) -> Result<Vec<Column>, AllocError>
-    ensures { IfOk result (λ v. IsBuilt v.items) }
-{
+fn columns(alloc: Global) -> Result<Vec<Column>, AllocError> {
     let id = Column {
         id: 0,
         name: Txt::from_str(alloc, "id")?,

@@ -40,7 +40,7 @@ after_line-row h rows r fits =
     let text = row_text r.0 r.1 in
     ap (λ b. cond b (cond (is_whole now && nat_lt (length now) last_id) (Some (now ++ [] ∷ [])) None) (option_and_then (λ (r : HistoryRow). with_row r now) (exact_row text (row_of plain_columns text))))
     (snapshot_line-row (length now + 1) r)
-    ∙ ap (λ read. option_and_then (λ (r : HistoryRow). with_row r now) (exact_row text read)) (row_of-row_text plain_columns r.0 r.1 (tt, (tt, tt)) fits)
+    ∙ ap (λ read. option_and_then (λ (r : HistoryRow). with_row r now) (exact_row text read)) (row_of-row_text plain_columns r.0 r.1 fits)
     ∙ ap (λ b. option_and_then (λ (r : HistoryRow). with_row r now) (cond b (Some r) None)) (same_bytes text)
     ∙ with_row-snoc h rows r
 

@@ -83,7 +83,7 @@ begun-after_line text h next begun e =
         fit = tt;
         within = omega (arith, ap length b.after, length-append h ([] ∷ []), b.below);
       })
-      | inr (r, a) ↦ begun-takes h next r begun (Fits-row_of plain_columns text r (tt, (tt, tt)) a.reads a.is) a.takes
+      | inr (r, a) ↦ begun-takes h next r begun (Fits-row_of plain_columns text r a.reads a.is) a.takes
     ]
 
 -- ---- what was read of a text

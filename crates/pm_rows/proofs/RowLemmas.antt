@@ -1,12 +1,16 @@
 -- What holds of the lines of all rows.
-use Rattle.std.proofs.Common.{◌≡◌, ◌≢◌, ℕ, suc, ◌^◌, ◌<◌, ℤ, pos, negsuc, List, [], ◌∷◌, length, map, false, Ok, FitsSigned, w64, IsUtf8, refl, sym, ap, ◌∙◌, arith, lt-ltb, eq-eqb}
+use Rattle.std.proofs.Common.{◌≡◌, ◌≢◌, ℕ, suc, ℤ, pos, negsuc, ◌≤ℤ◌, int_le, Bool, ◌&&◌, T, true, cond, List, [], ◌∷◌, length, map, false, Ok, IsUtf8, refl, sym, ap, ◌∙◌, arith, eq-eqb}
 use Rattle.std.specs.List.{AllByRecursion}
+use Rattle.std.specs.Int.Signed.{le_z_yes}
+use Rattle.std.proofs.lemmas.Bool.{and_parts}
+use Rattle.std.proofs.lemmas.Float.{T_from_true}
+use Rattle.std.proofs.lemmas.Int.{ints}
 use Rattle.json.proofs.Printed.Utf8.{IsUtf8-are_ascii}
-use Rattle.serde_json.specs.Data.{Data, string}
+use Rattle.serde_json.specs.Data.{Data, null, number, string}
 use Rattle.serde_json.specs.Find.{of_integer, is_float}
 use Rattle.serde_json.specs.View.{items_of}
 use Rattle.serde_json.specs.Written.{has_float, items_have_float, compact_text}
-use Rattle.pm_values.specs.Fits.{IsInType, FitsColumn, Fits}
+use Rattle.pm_values.specs.Fits.{first_day, last_day, IsInType, FitsColumn, Fits}
 use Rattle.pm_values.specs.Order.{Values}
 use Rattle.pm_values.specs.declared.column.ColType.{ColType}
 use Rattle.pm_values.specs.declared.column.ColType.TheVariants as types
@@ -14,10 +18,13 @@ use Rattle.pm_values.specs.declared.column.Column.{Column}
 use Rattle.pm_values.specs.declared.kind.Kind.{Kind}
 use Rattle.pm_values.specs.declared.kind.Kind.TheVariants.{Insert, UpdateBefore, UpdateAfter, Delete}
 use Rattle.pm_values.specs.declared.value.Value.{Value}
-use Rattle.pm_values.specs.declared.value.Value.TheVariants.{Null, Bool, Int, Text, Bytes, Day, Millis}
-use Rattle.pm_rows.specs.Built.{IsBuiltType, IsBuilt}
-use Rattle.pm_rows.specs.Reading.{kind_of, value_at, item_at, values_at, row_of_items, row_of}
+use Rattle.pm_values.specs.declared.value.Value.TheVariants.{Null, Bool as Truth, Int, Text, Bytes, Day, Millis}
+use Rattle.pm_rows.specs.Reading.{kind_of, number_at, least, greatest, integer_at, whole_at, value_at, item_at, values_at, row_of_items, row_of}
 use Rattle.pm_rows.specs.RowText.{kind_text, item_data, row_data, row_text}
+use Rattle.pm_value_text.specs.DateText.{IsDay, date_text}
+use Rattle.pm_value_text.specs.HexText.{hex_text}
+use Rattle.pm_value_text.proofs.HexLemmas.{bytes_in-hex_text, IsUtf8-hex_text}
+use Rattle.pm_value_text.proofs.DateLemmas.{day_in-date_text, IsUtf8-date_text}
 use Rattle.pm_rows.proofs.ReadLemmas.{json_of-ok, list_of-items_of}
 use Rattle.pm_rows.proofs.TextLemmas.{IsAtom, AreAtoms, IsInteger, read-compact_text, IsUtf8-array_text, HasNoNewline, HasNoNewline-null, HasNoNewline-boolean, HasNoNewline-integer, HasNoNewline-string, NoNewline-array_text}
 
@@ -43,13 +50,27 @@ IsUtf8-in_type : (kind : ColType) (text : List ℕ) → IsInType kind (Text text
 IsUtf8-in_type types.Text text h = h
 IsUtf8-in_type other text h = absurd h
 
-IsAtom-item_data : (column : Column) (v : Value) → FitsColumn column v → IsAtom (item_data v)
+either : (P : Data → Type 0) (b : Bool) (x y : Data) → (b ≡ true → P x) → P y → P (cond b x y)
+either P true x y h k = h refl
+either P false x y h k = k
+
+-- what holds of the text of a day from the year 1 to 9999, and of null, holds of the item of a day
+each_day : (P : Data → Type 0) (day : ℤ) → (IsDay day → P (string (date_text day))) → P null → P (item_data (Day day))
+each_day P day text h =
+    either P (int_le first_day day && int_le day last_day) _ _
+    (λ is. let sides = and_parts _ _ is in text (le_z_yes (T_from_true _ sides.0), le_z_yes (T_from_true _ sides.1)))
+    h
+
+IsAtom-day : (day : ℤ) → IsAtom (item_data (Day day))
+IsAtom-day day = each_day IsAtom day (IsUtf8-date_text day) tt
+
+pub IsAtom-item_data : (column : Column) (v : Value) → FitsColumn column v → IsAtom (item_data v)
 IsAtom-item_data column Null h = tt
-IsAtom-item_data column (Bool b) h = tt
+IsAtom-item_data column (Truth b) h = tt
 IsAtom-item_data column (Int z) h = IsInteger-in_type column.kind z h
 IsAtom-item_data column (Text text) h = IsUtf8-in_type column.kind text h
-IsAtom-item_data column (Bytes bytes) h = tt
-IsAtom-item_data column (Day day) h = tt
+IsAtom-item_data column (Bytes bytes) h = IsUtf8-hex_text bytes
+IsAtom-item_data column (Day day) h = IsAtom-day day
 IsAtom-item_data column (Millis z) h = IsInteger-millis column.kind z h
 
 AreAtoms-item_data : (columns : List Column) (row : Values) → Fits columns row → AreAtoms (map item_data row)
@@ -72,40 +93,60 @@ kind_of-kind_text UpdateBefore = refl
 kind_of-kind_text UpdateAfter = refl
 kind_of-kind_text Delete = refl
 
-value_at-whole : (place : ℕ) (z : ℤ) → FitsSigned w64 z → value_at place types.BigInt (item_data (Int z)) ≡ Ok (Int z)
-value_at-whole place (pos n) h = let small : n < 2 ^ 63 = omega arith in rw (lt-ltb n (2 ^ 63) small) refl
-value_at-whole place (negsuc n) h = refl
+number_at-integer : (place : ℕ) (z : ℤ) → number_at place (number (of_integer z)) ≡ Ok z
+number_at-integer place (pos n) = refl
+number_at-integer place (negsuc n) = refl
 
-value_at-item_data : (place : ℕ) (kind : ColType) (v : Value) → IsBuiltType kind → IsInType kind v → value_at place kind (item_data v) ≡ Ok v
-value_at-item_data place types.BigInt (Int z) built h = value_at-whole place z h
-value_at-item_data place types.Text (Text text) built h = refl
-value_at-item_data place types.BigInt v built h = absurd h
-value_at-item_data place types.Text v built h = absurd h
-value_at-item_data place other v built h = absurd built
+is_true : (b : Bool) → T b → b ≡ true
+is_true true h = refl
+is_true false h = absurd h
 
-no_bytes : (kind : ColType) (bytes : List ℕ) → IsBuiltType kind → IsInType kind (Bytes bytes) → ⊥
-no_bytes types.Bytes bytes built h = built
-no_bytes other bytes built h = h
+integer_at-integer : (place : ℕ) (low high z : ℤ) → low ≤ℤ z → z ≤ℤ high → integer_at place low high (number (of_integer z)) ≡ Ok z
+integer_at-integer place low high z above below =
+    rw (number_at-integer place z, is_true (int_le low z) above.le, is_true (int_le z high) below.le) refl
 
-no_day : (kind : ColType) (day : ℤ) → IsBuiltType kind → IsInType kind (Day day) → ⊥
-no_day types.Date day built h = built
-no_day other day built h = h
+whole_at-integer : (place : ℕ) (low high z : ℤ) → low ≤ℤ z → z ≤ℤ high → whole_at place low high (number (of_integer z)) ≡ Ok (Int z)
+whole_at-integer place low high z above below = rw (integer_at-integer place low high z above below) refl
 
-item_at-item_data : (place : ℕ) (column : Column) (v : Value) → IsBuiltType column.kind → FitsColumn column v → item_at place column (item_data v) ≡ Ok v
-item_at-item_data place column Null built h = rw h refl
-item_at-item_data place column (Bool b) built h = value_at-item_data place column.kind (Bool b) built h
-item_at-item_data place column (Int z) built h = value_at-item_data place column.kind (Int z) built h
-item_at-item_data place column (Text text) built h = value_at-item_data place column.kind (Text text) built h
-item_at-item_data place column (Bytes bytes) built h = absurd (no_bytes column.kind bytes built h)
-item_at-item_data place column (Day day) built h = absurd (no_day column.kind day built h)
-item_at-item_data place column (Millis z) built h = value_at-item_data place column.kind (Millis z) built h
+value_at-item_data : (place : ℕ) (kind : ColType) (v : Value) → IsInType kind v → value_at place kind (item_data v) ≡ Ok v
+value_at-item_data place types.Boolean (Truth b) h = refl
+value_at-item_data place types.TinyInt (Int z) h = whole_at-integer place (least 8) (greatest 8) z (omega (arith, ints)) (omega (arith, ints))
+value_at-item_data place types.SmallInt (Int z) h = whole_at-integer place (least 16) (greatest 16) z (omega (arith, ints)) (omega (arith, ints))
+value_at-item_data place types.Int (Int z) h = whole_at-integer place (least 32) (greatest 32) z (omega (arith, ints)) (omega (arith, ints))
+value_at-item_data place types.BigInt (Int z) h = whole_at-integer place (least 64) (greatest 64) z (omega (arith, ints)) (omega (arith, ints))
+value_at-item_data place types.Text (Text text) h = refl
+value_at-item_data place types.Bytes (Bytes bytes) h = rw (bytes_in-hex_text bytes h) refl
+value_at-item_data place types.Date (Day day) h = rw (is_true (int_le first_day day) h.0.le, is_true (int_le day last_day) h.1.le, day_in-date_text day h) refl
+value_at-item_data place types.Timestamp (Millis z) h = rw (integer_at-integer place (least 64) (greatest 64) z (omega (arith, ints)) (omega (arith, ints))) refl
+value_at-item_data place kind v h = absurd h
 
-values_at-item_data : (place : ℕ) (columns : List Column) (row : Values) → IsBuilt columns → Fits columns row → values_at place columns (map item_data row) ≡ Ok row
-values_at-item_data place [] [] built h = refl
-values_at-item_data place [] (v ∷ row) built h = absurd h
-values_at-item_data place (c ∷ columns) [] built h = absurd h
-values_at-item_data place (c ∷ columns) (v ∷ row) built h =
-    rw (item_at-item_data place c v built.0 h.0, values_at-item_data (suc place) columns row built.1 h.1) refl
+IsDay-in_type : (kind : ColType) (day : ℤ) → IsInType kind (Day day) → IsDay day
+IsDay-in_type types.Date day h = h
+IsDay-in_type other day h = absurd h
+
+item_data-day : (day : ℤ) → IsDay day → item_data (Day day) ≡ string (date_text day)
+item_data-day day h = rw (is_true (int_le first_day day) h.0.le, is_true (int_le day last_day) h.1.le) refl
+
+item_at-day : (place : ℕ) (column : Column) (day : ℤ) → IsInType column.kind (Day day) → item_at place column (item_data (Day day)) ≡ Ok (Day day)
+item_at-day place column day h =
+    let is = item_data-day day (IsDay-in_type column.kind day h) in
+    ap (item_at place column) is ∙ sym (ap (value_at place column.kind) is) ∙ value_at-item_data place column.kind (Day day) h
+
+item_at-item_data : (place : ℕ) (column : Column) (v : Value) → FitsColumn column v → item_at place column (item_data v) ≡ Ok v
+item_at-item_data place column Null h = rw h refl
+item_at-item_data place column (Truth b) h = value_at-item_data place column.kind (Truth b) h
+item_at-item_data place column (Int z) h = value_at-item_data place column.kind (Int z) h
+item_at-item_data place column (Text text) h = value_at-item_data place column.kind (Text text) h
+item_at-item_data place column (Bytes bytes) h = value_at-item_data place column.kind (Bytes bytes) h
+item_at-item_data place column (Day day) h = item_at-day place column day h
+item_at-item_data place column (Millis z) h = value_at-item_data place column.kind (Millis z) h
+
+values_at-item_data : (place : ℕ) (columns : List Column) (row : Values) → Fits columns row → values_at place columns (map item_data row) ≡ Ok row
+values_at-item_data place [] [] h = refl
+values_at-item_data place [] (v ∷ row) h = absurd h
+values_at-item_data place (c ∷ columns) [] h = absurd h
+values_at-item_data place (c ∷ columns) (v ∷ row) h =
+    rw (item_at-item_data place c v h.0, values_at-item_data (suc place) columns row h.1) refl
 
 length-row : (columns : List Column) (row : Values) → Fits columns row → length (map item_data row) ≡ length columns
 length-row [] [] h = refl
@@ -113,37 +154,37 @@ length-row [] (v ∷ row) h = absurd h
 length-row (c ∷ columns) [] h = absurd h
 length-row (c ∷ columns) (v ∷ row) h = ap suc (length-row columns row h.1)
 
-row_of_items-row : (columns : List Column) (kind : Kind) (row : Values) → IsBuilt columns → Fits columns row → row_of_items columns (string (kind_text kind) ∷ map item_data row) ≡ Ok (kind, row)
-row_of_items-row columns kind row built fits =
-    rw (kind_of-kind_text kind, eq-eqb _ _ (length-row columns row fits), values_at-item_data 0 columns row built fits) refl
+row_of_items-row : (columns : List Column) (kind : Kind) (row : Values) → Fits columns row → row_of_items columns (string (kind_text kind) ∷ map item_data row) ≡ Ok (kind, row)
+row_of_items-row columns kind row fits =
+    rw (kind_of-kind_text kind, eq-eqb _ _ (length-row columns row fits), values_at-item_data 0 columns row fits) refl
 
 -- a row that fits is read again from its line
-pub row_of-row_text : (columns : List Column) (kind : Kind) (row : Values) → IsBuilt columns → Fits columns row → row_of columns (row_text kind row) ≡ Ok (kind, row)
+pub row_of-row_text : (columns : List Column) (kind : Kind) (row : Values) → Fits columns row → row_of columns (row_text kind row) ≡ Ok (kind, row)
 unfolding row_of row_text
-row_of-row_text columns kind row built fits =
+row_of-row_text columns kind row fits =
     let ds = string (kind_text kind) ∷ map item_data row in
     let atoms : AreAtoms ds = (IsUtf8-kind_text kind, AreAtoms-item_data columns row fits) in
     let reads = json_of-ok (compact_text (row_data kind row)) (row_data kind row) (IsUtf8-array_text ds atoms) (read-compact_text ds atoms) in
-    rw reads (ap (row_of_items columns) (list_of-items_of ds) ∙ row_of_items-row columns kind row built fits)
+    rw reads (ap (row_of_items columns) (list_of-items_of ds) ∙ row_of_items-row columns kind row fits)
 
 same_parts : {A B : Type 0} (p q : A × B) → p ≡ q → (p.0 ≡ q.0) × (p.1 ≡ q.1)
 same_parts p q e = (ap (λ x. x.0) e, ap (λ x. x.1) e)
 
 -- no two kinds and rows that fit have one line
-pub row_text-injective : (columns : List Column) (k l : Kind) (row other : Values) → IsBuilt columns → Fits columns row → Fits columns other → row_text k row ≡ row_text l other → (k ≡ l) × (row ≡ other)
-row_text-injective columns k l row other built fits also same =
-    let again = sym (row_of-row_text columns k row built fits) ∙ ap (row_of columns) same ∙ row_of-row_text columns l other built also in
+pub row_text-injective : (columns : List Column) (k l : Kind) (row other : Values) → Fits columns row → Fits columns other → row_text k row ≡ row_text l other → (k ≡ l) × (row ≡ other)
+row_text-injective columns k l row other fits also same =
+    let again = sym (row_of-row_text columns k row fits) ∙ ap (row_of columns) same ∙ row_of-row_text columns l other also in
     same_parts {A = Kind} {B = Values} (k, row) (l, other) cc
 
 -- ---- the line itself
 
 HasNoNewline-item_data : (v : Value) → HasNoNewline (item_data v)
 HasNoNewline-item_data Null = HasNoNewline-null
-HasNoNewline-item_data (Bool b) = HasNoNewline-boolean b
+HasNoNewline-item_data (Truth b) = HasNoNewline-boolean b
 HasNoNewline-item_data (Int n) = HasNoNewline-integer n
 HasNoNewline-item_data (Text text) = HasNoNewline-string text
-HasNoNewline-item_data (Bytes bytes) = HasNoNewline-null
-HasNoNewline-item_data (Day day) = HasNoNewline-null
+HasNoNewline-item_data (Bytes bytes) = HasNoNewline-string (hex_text bytes)
+HasNoNewline-item_data (Day day) = each_day HasNoNewline day (λ _. HasNoNewline-string (date_text day)) HasNoNewline-null
 HasNoNewline-item_data (Millis millis) = HasNoNewline-integer millis
 
 each_item : (row : Values) → AllByRecursion HasNoNewline (map item_data row)
@@ -168,11 +209,11 @@ is_float-of_integer (negsuc n) = refl
 
 has_float-item_data : (v : Value) → has_float (item_data v) ≡ false
 has_float-item_data Null = refl
-has_float-item_data (Bool b) = refl
+has_float-item_data (Truth b) = refl
 has_float-item_data (Int n) = is_float-of_integer n
 has_float-item_data (Text text) = refl
 has_float-item_data (Bytes bytes) = refl
-has_float-item_data (Day day) = refl
+has_float-item_data (Day day) = each_day (λ d. has_float d ≡ false) day (λ _. refl) refl
 has_float-item_data (Millis millis) = is_float-of_integer millis
 
 items_have_float-row : (row : Values) → items_have_float (items_of (map item_data row)) ≡ false

@@ -98,7 +98,7 @@ read-compact_text ds h =
 
 -- ---- it is UTF-8
 
-IsUtf8-compact_text : (d : Data) → IsAtom d → IsUtf8 (compact_text d)
+pub IsUtf8-compact_text : (d : Data) → IsAtom d → IsUtf8 (compact_text d)
 IsUtf8-compact_text null h = IsUtf8-are_ascii _ refl
 IsUtf8-compact_text (boolean b) h = IsUtf8-boolean b
 IsUtf8-compact_text (number (unsigned n)) h = IsUtf8-from_ascii _ (IsAscii-decimal n h)

@@ -1,8 +1,9 @@
 -- What a row line reads as: a kind and one value for each column, or the first fault.
-use Rattle.std.specs.Prelude.{◌≡◌, ℕ, suc, ◌^◌, ◌==◌, nat_lt, pos, List, [], ◌∷◌, length, if◌then◌else◌, Option, None, Result, Ok, Err, ok_or}
+use Rattle.std.specs.Prelude.{◌≡◌, ℕ, suc, ◌-◌, ◌^◌, ◌==◌, ◌&&◌, ℤ, pos, neg_ℤ, int_le, List, [], ◌∷◌, length, if◌then◌else◌, Option, None, Result, Ok, Err, ok_or}
 use Rattle.std.specs.List.{find}
 use Rattle.std.specs.Str.{is_utf8, bytes_eq}
-use Rattle.serde_json.specs.Data.{Num, unsigned, negative, float, Data, null, number, string, array, Items, no_items, item}
+use Rattle.serde_json.specs.Data.{Data, null, boolean, number, string, array, Items, no_items, item}
+use Rattle.serde_json.specs.Find.{as_integer}
 use Rattle.serde_json.specs.Read.{read}
 use Rattle.pm_values.specs.Order.{Values}
 use Rattle.pm_values.specs.declared.column.ColType.{ColType}
@@ -14,6 +15,8 @@ use Rattle.pm_values.specs.declared.refusal.Why.{Why}
 use Rattle.pm_values.specs.declared.refusal.Why.TheVariants as why
 use Rattle.pm_values.specs.declared.value.Value.{Value}
 use Rattle.pm_values.specs.declared.value.Value.TheVariants as values
+use Rattle.pm_value_text.specs.DateText.{day_in}
+use Rattle.pm_value_text.specs.HexText.{bytes_in}
 use Rattle.pm_rows.specs.RowText.{kind_text}
 use Rattle.pm_rows.specs.declared.fault.RowFault.{RowFault}
 use Rattle.pm_rows.specs.declared.fault.RowFault.TheVariants as faults
@@ -57,28 +60,77 @@ abbrev pub kind_of : Data → Result Kind Fault
 kind_of (string text) = ok_or (named_kind text) (why.Kind, 0)
 kind_of d = Err (why.Kind, 0)
 
--- A number as an integer of 64 bits. From 2 ^ 63 on it is past the range. A float is no integer, and
--- so is what JSON reads as one: a point, an exponent, `-0`, and an integer that no 64 bits hold.
-abbrev pub whole_at : ℕ → Num → Result Value Fault
-whole_at place (unsigned n) = if nat_lt n (2 ^ 63) then Ok (values.Int (pos n)) else Err (why.Range, place)
-whole_at place (negative z) = Ok (values.Int z)
-whole_at place (float x) = Err (why.Type, place)
+-- an item in a BOOLEAN column
+abbrev pub truth_at : ℕ → Data → Result Value Fault
+truth_at place (boolean b) = Ok (values.Bool b)
+truth_at place d = Err (why.Type, place)
 
--- an item in a BIGINT column
-abbrev pub big_int_at : ℕ → Data → Result Value Fault
-big_int_at place (number n) = whole_at place n
-big_int_at place d = Err (why.Type, place)
+-- An item that is an integer. What JSON reads as a float is none: a number with a point or an
+-- exponent, `-0`, and an integer that 64 bits don't hold, with a sign or without.
+abbrev pub number_at : ℕ → Data → Result ℤ Fault
+number_at place (number n) = ok_or (as_integer n) (why.Type, place)
+number_at place d = Err (why.Type, place)
+
+-- the least integer of that many bits, with a sign
+abbrev pub least : ℕ → ℤ
+least bits = neg_ℤ (pos (2 ^ (bits - 1)))
+
+-- the greatest integer of that many bits, with a sign
+abbrev pub greatest : ℕ → ℤ
+greatest bits = pos (2 ^ (bits - 1) - 1)
+
+-- an integer from the low one to the high one
+abbrev pub within : ℕ → ℤ → ℤ → ℤ → Result ℤ Fault
+within place low high z = if int_le low z && int_le z high then Ok z else Err (why.Range, place)
+
+-- an item that is an integer from the low one to the high one
+abbrev pub integer_at : ℕ → ℤ → ℤ → Data → Result ℤ Fault
+integer_at place low high d = do
+  z ← number_at place d
+  within place low high z
+
+-- an item in a TINYINT, SMALLINT, INT or BIGINT column, from the low integer to the high one
+abbrev pub whole_at : ℕ → ℤ → ℤ → Data → Result Value Fault
+whole_at place low high d = do
+  n ← integer_at place low high d
+  Ok (values.Int n)
+
+-- an item in a TIMESTAMP(3) column: milliseconds
+abbrev pub millis_at : ℕ → Data → Result Value Fault
+millis_at place d = do
+  n ← integer_at place (least 64) (greatest 64) d
+  Ok (values.Millis n)
 
 -- an item in a STRING column
 abbrev pub text_at : ℕ → Data → Result Value Fault
 text_at place (string text) = Ok (values.Text text)
 text_at place d = Err (why.Type, place)
 
--- an item that isn't null, in a column of the type; a type that row lines don't have yet takes none
+-- an item in a BYTES column: an even number of hexadecimal digits
+abbrev pub bytes_at : ℕ → Data → Result Value Fault
+bytes_at place (string text) = do
+  bytes ← ok_or (bytes_in text) (why.Range, place)
+  Ok (values.Bytes bytes)
+bytes_at place d = Err (why.Type, place)
+
+-- an item in a DATE column: a civil date of ten characters
+abbrev pub day_at : ℕ → Data → Result Value Fault
+day_at place (string text) = do
+  day ← ok_or (day_in text) (why.Range, place)
+  Ok (values.Day day)
+day_at place d = Err (why.Type, place)
+
+-- an item that isn't null, in a column of the type
 abbrev pub value_at : ℕ → ColType → Data → Result Value Fault
-value_at place types.BigInt d = big_int_at place d
+value_at place types.Boolean d = truth_at place d
+value_at place types.TinyInt d = whole_at place (least 8) (greatest 8) d
+value_at place types.SmallInt d = whole_at place (least 16) (greatest 16) d
+value_at place types.Int d = whole_at place (least 32) (greatest 32) d
+value_at place types.BigInt d = whole_at place (least 64) (greatest 64) d
 value_at place types.Text d = text_at place d
-value_at place other d = Err (why.Type, place)
+value_at place types.Bytes d = bytes_at place d
+value_at place types.Date d = day_at place d
+value_at place types.Timestamp d = millis_at place d
 
 -- an item in a column at the place
 abbrev pub item_at : ℕ → Column → Data → Result Value Fault

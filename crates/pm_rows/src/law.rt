@@ -6,16 +6,15 @@ ghost use Rattle.pm_values.specs.Fits.{Fits};
 ghost use Rattle.pm_values.specs.Order.{Values};
 ghost use Rattle.pm_values.specs.declared.column.Column.{Column};
 ghost use Rattle.pm_values.specs.declared.kind.Kind.{Kind};
-ghost use Rattle.pm_rows.specs.Built.{IsBuilt};
 ghost use Rattle.pm_rows.specs.Reading.{row_of};
 ghost use Rattle.pm_rows.specs.RowText.{row_text};
 
 /// A row that fits its columns is read again from its line, so no two of them have one line.
 pub fn round_trip_law()
     ensures again { (columns : List Column) (kind : Kind) (row : Values)
-        → IsBuilt columns → Fits columns row → row_of columns (row_text kind row) ≡ Ok (kind, row) }
+        → Fits columns row → row_of columns (row_text kind row) ≡ Ok (kind, row) }
     ensures one_row { (columns : List Column) (k l : Kind) (row other : Values)
-        → IsBuilt columns → Fits columns row → Fits columns other
+        → Fits columns row → Fits columns other
         → row_text k row ≡ row_text l other → (k ≡ l) × (row ≡ other) }
 {}
 
@@ -30,5 +29,5 @@ pub fn line_law()
 /// A line that reads as a row, and is the very line that the row prints as, is that of a row that fits.
 pub fn fit_law()
     ensures { (columns : List Column) (line : List ℕ) (kind : Kind) (row : Values)
-        → IsBuilt columns → row_of columns line ≡ Ok (kind, row) → line ≡ row_text kind row → Fits columns row }
+        → row_of columns line ≡ Ok (kind, row) → line ≡ row_text kind row → Fits columns row }
 {}

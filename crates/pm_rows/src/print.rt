@@ -4,15 +4,23 @@ ghost use Rattle.std.specs.Prelude.{◌≡◌, [], ◌∷◌, ◌++◌, IfOk, Ok
 ghost use Rattle.serde_json.specs.Data.{string};
 ghost use Rattle.serde_json.specs.View.{view};
 ghost use Rattle.pm_values.specs.Fits.{Fits};
-ghost use Rattle.pm_rows.specs.Built.{IsBuilt};
+ghost use Rattle.pm_values.specs.declared.value.Value.TheVariants.{Day};
 ghost use Rattle.pm_rows.specs.RowText.{kind_text, item_data, row_data, row_text};
 ghost use Rattle.pm_rows.specs.Reading.{row_of};
 
+use pm_value_text::{date_of, digits_of};
 use pm_values::{Column, Kind, Row, Value};
 use serde_json::Value as Json;
 use std::alloc::{AllocError, Global};
 
-/// The line of a row, without its newline: compact JSON.
+/// The day 0001-01-01, counted from 1970-01-01.
+const FIRST_DAY: i32 = -719162;
+
+/// The day 9999-12-31.
+const LAST_DAY: i32 = 2932896;
+
+/// The line of a row, without its newline: compact JSON, with hexadecimal digits in lower case. A day
+/// before the year 1 or after 9999, which fits no column, is null.
 #[tactic(auto, unfolding(crate::specs::RowText::row_text))]
 pub fn print_row(
     alloc: Global,
@@ -20,8 +28,6 @@ pub fn print_row(
     kind: Kind,
     row: &Row,
 ) -> Result<Vec<u8>, AllocError>
-    // Row lines have BIGINT and STRING columns so far.
-    requires built { IsBuilt columns.now }
     ensures text { IfOk result (λ line. line.items ≡ row_text kind row.now) }
     ensures again { IfOk result (λ line. Fits columns.now row.now
         → row_of columns.now line.items ≡ Ok (kind, row.now)) }
@@ -58,9 +64,22 @@ fn json_of(alloc: Global, value: &Value) -> Result<Json, AllocError>
     ensures { IfOk result (λ json. view json ≡ item_data value.now) }
 {
     match value {
-        Value::Null | Value::Bytes(_) | Value::Day(_) => Ok(Json::Null),
+        Value::Null => Ok(Json::Null),
         Value::Bool(b) => Ok(Json::Bool(*b)),
         Value::Int(n) | Value::Millis(n) => Ok(Json::from(*n)),
         Value::Text(text) => Json::try_from_str(alloc, text.as_str()),
+        Value::Bytes(bytes) => Ok(Json::String(digits_of(alloc, bytes.as_bytes())?)),
+        Value::Day(day) => json_of_day(alloc, *day),
+    }
+}
+
+/// The item of a day.
+fn json_of_day(alloc: Global, day: i32) -> Result<Json, AllocError>
+    ensures { IfOk result (λ json. view json ≡ item_data (Day day)) }
+{
+    if FIRST_DAY <= day && day <= LAST_DAY {
+        Ok(Json::String(date_of(alloc, day)?))
+    } else {
+        Ok(Json::Null)
     }
 }

@@ -1,13 +1,13 @@
 //! From a line to a row.
 
-ghost use Rattle.std.specs.Prelude.{◌≡◌, length, map, IfOk};
+ghost use Rattle.std.specs.Prelude.{◌≡◌, ℤ, ◌≤ℤ◌, length, map, IfOk};
 ghost use Rattle.serde_json.specs.View.{view};
 ghost use Rattle.pm_values.specs.Fits.{Fits, FitsColumn, IsInType};
-ghost use Rattle.pm_rows.specs.Built.{IsBuilt, IsBuiltType};
-ghost use Rattle.pm_rows.specs.Reading.{Gives, json_of, array_of, kind_of, big_int_at, text_at, value_at, item_at, values_at, row_of_items, row_of};
+ghost use Rattle.pm_values.specs.declared.value.Value.TheVariants.{Int};
+ghost use Rattle.pm_rows.specs.Reading.{Gives, json_of, array_of, kind_of, truth_at, integer_at, whole_at, text_at, bytes_at, day_at, value_at, item_at, values_at, row_of_items, row_of};
 
 use crate::fault::RowFault;
-use pm_values::{ColType, Column, Kind, Row, Txt, Value, Why};
+use pm_values::{Blob, ColType, Column, Kind, Row, Txt, Value, Why};
 use serde_json::Value as Json;
 use std::alloc::Global;
 
@@ -15,8 +15,6 @@ use std::alloc::Global;
 /// faults are tried in the order of `Why`, those of an item column by column.
 #[tactic(auto, unfolding(crate::specs::Reading::row_of))]
 pub fn read_row(alloc: Global, columns: &[Column], line: &[u8]) -> Result<(Kind, Row), RowFault>
-    // Row lines have BIGINT and STRING columns so far.
-    requires built { IsBuilt columns.now }
     ensures exact { Gives (λ x. x) result (row_of columns.now line.now) }
     ensures fits { IfOk result (λ x. Fits columns.now x.1) }
 {
@@ -48,7 +46,6 @@ fn array_of(json: &Json) -> Result<&[Json], RowFault>
 
 /// The kind and the row of an array's items.
 fn row_of_items(alloc: Global, columns: &[Column], items: &[Json]) -> Result<(Kind, Row), RowFault>
-    requires built { IsBuilt columns.now }
     ensures exact { Gives (λ x. x) result (row_of_items columns.now (map view items.now)) }
     ensures fits { IfOk result (λ x. Fits columns.now x.1) }
 {
@@ -78,7 +75,6 @@ fn kind_of(item: &Json) -> Result<Kind, RowFault>
 
 /// The values of the items, one for each column.
 fn values_of(alloc: Global, columns: &[Column], items: &[Json]) -> Result<Vec<Value>, RowFault>
-    requires built { IsBuilt columns.now }
     requires count { length items.now ≡ length columns.now }
     ensures exact { Gives (λ v. v.items) result (values_at 0 columns.now (map view items.now)) }
     ensures fits { IfOk result (λ v. Fits columns.now v.items) }
@@ -92,7 +88,6 @@ fn values_of(alloc: Global, columns: &[Column], items: &[Json]) -> Result<Vec<Va
 
 /// The value of an item in the column at the place.
 fn item_of(alloc: Global, place: usize, column: &Column, item: &Json) -> Result<Value, RowFault>
-    requires built { IsBuiltType column.now.kind }
     ensures exact { Gives (λ v. v) result (item_at place column.now (view item.now)) }
     ensures fits { IfOk result (FitsColumn column.now) }
 {
@@ -107,24 +102,49 @@ fn item_of(alloc: Global, place: usize, column: &Column, item: &Json) -> Result<
 
 /// The value of an item that isn't null, in a column of that type at the place.
 fn value_of(alloc: Global, place: usize, kind: ColType, item: &Json) -> Result<Value, RowFault>
-    requires built { IsBuiltType kind }
     ensures exact { Gives (λ v. v) result (value_at place kind (view item.now)) }
     ensures fits { IfOk result (IsInType kind) }
 {
     match kind {
-        ColType::BigInt => big_int_of(place, item),
+        ColType::Boolean => truth_of(place, item),
+        ColType::TinyInt => whole_of(place, i64::from(i8::MIN), i64::from(i8::MAX), item),
+        ColType::SmallInt => whole_of(place, i64::from(i16::MIN), i64::from(i16::MAX), item),
+        ColType::Int => whole_of(place, i64::from(i32::MIN), i64::from(i32::MAX), item),
+        ColType::BigInt => whole_of(place, i64::MIN, i64::MAX, item),
         ColType::Text => text_of(alloc, place, item),
-        _ => Err(RowFault::Bad(Why::Type, place)),
+        ColType::Bytes => bytes_of(alloc, place, item),
+        ColType::Date => day_of(place, item),
+        ColType::Timestamp => Ok(Value::Millis(integer_of(place, i64::MIN, i64::MAX, item)?)),
     }
 }
 
-/// The value of an item in a BIGINT column at the place.
-fn big_int_of(place: usize, item: &Json) -> Result<Value, RowFault>
-    ensures exact { Gives (λ v. v) result (big_int_at place (view item.now)) }
-    ensures fits { IfOk result (IsInType ColType.BigInt) }
+/// The value of an item in a BOOLEAN column at the place.
+fn truth_of(place: usize, item: &Json) -> Result<Value, RowFault>
+    ensures exact { Gives (λ v. v) result (truth_at place (view item.now)) }
+    ensures fits { IfOk result (IsInType ColType.Boolean) }
+{
+    match item.as_bool() {
+        Some(b) => Ok(Value::Bool(b)),
+        None => Err(RowFault::Bad(Why::Type, place)),
+    }
+}
+
+/// The value of an item in a column of integers from the low one to the high one.
+fn whole_of(place: usize, low: i64, high: i64, item: &Json) -> Result<Value, RowFault>
+    ensures exact { Gives (λ v. v) result (whole_at place low high (view item.now)) }
+    ensures within { IfOk result (λ v. (n : ℤ) × (v ≡ Int n) × (low ≤ℤ n) × (n ≤ℤ high)) }
+{
+    Ok(Value::Int(integer_of(place, low, high, item)?))
+}
+
+/// The integer of an item, from the low one to the high one.
+fn integer_of(place: usize, low: i64, high: i64, item: &Json) -> Result<i64, RowFault>
+    ensures exact { Gives (λ n. n) result (integer_at place low high (view item.now)) }
+    ensures within { IfOk result (λ n. (low ≤ℤ n) × (n ≤ℤ high)) }
 {
     match item.as_i64() {
-        Some(n) => Ok(Value::Int(n)),
+        Some(n) if low <= n && n <= high => Ok(n),
+        Some(_) => Err(RowFault::Bad(Why::Range, place)),
         None if item.is_u64() => Err(RowFault::Bad(Why::Range, place)),
         None => Err(RowFault::Bad(Why::Type, place)),
     }
@@ -138,5 +158,33 @@ fn text_of(alloc: Global, place: usize, item: &Json) -> Result<Value, RowFault>
     match item.as_str() {
         Some(text) => Ok(Value::Text(Txt::from_str(alloc, text)?)),
         None => Err(RowFault::Bad(Why::Type, place)),
+    }
+}
+
+/// The value of an item in a BYTES column at the place.
+fn bytes_of(alloc: Global, place: usize, item: &Json) -> Result<Value, RowFault>
+    ensures exact { Gives (λ v. v) result (bytes_at place (view item.now)) }
+    ensures fits { IfOk result (IsInType ColType.Bytes) }
+{
+    let Some(text) = item.as_str() else {
+        return Err(RowFault::Bad(Why::Type, place));
+    };
+    match pm_value_text::bytes_of(alloc, text)? {
+        Some(bytes) => Ok(Value::Bytes(Blob::new(bytes))),
+        None => Err(RowFault::Bad(Why::Range, place)),
+    }
+}
+
+/// The value of an item in a DATE column at the place.
+fn day_of(place: usize, item: &Json) -> Result<Value, RowFault>
+    ensures exact { Gives (λ v. v) result (day_at place (view item.now)) }
+    ensures fits { IfOk result (IsInType ColType.Date) }
+{
+    let Some(text) = item.as_str() else {
+        return Err(RowFault::Bad(Why::Type, place));
+    };
+    match pm_value_text::day_of(text) {
+        Some(day) => Ok(Value::Day(day)),
+        None => Err(RowFault::Bad(Why::Range, place)),
     }
 }

@@ -15,4 +15,4 @@ returns-clause-again c =
     let is = c.in_ok-json_of_row.ensures ∙ ap (row_data c.args.kind) c.values.ensures in
     IfOk-weaker c.to_vec.result _ _ (λ line prints fits.
     ap (row_of c.args.columns.now) (row_text-printed c.args.kind c.args.row.now _ line.items is prints)
-    ∙ row_of-row_text c.args.columns.now c.args.kind c.args.row.now c.requires.built fits) c.to_vec.ensures.text
+    ∙ row_of-row_text c.args.columns.now c.args.kind c.args.row.now fits) c.to_vec.ensures.text
