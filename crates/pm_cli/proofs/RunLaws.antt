@@ -1,5 +1,6 @@
 -- Laws of batches.
-use Rattle.std.proofs.Common.{◌≡◌, ◌≢◌, ◌⊎◌, ◌≤◌, ◌<◌, ℕ, length, get_or, List, [], ◌∷◌, ◌++◌, Option, Some, IfSome, None, Result, Ok, Err, refl, ap, subst, sym, ◌∙◌, inl, inr, arith}
+use Rattle.std.specs.Result.{result_err}
+use Rattle.std.proofs.Common.{false, true≢false, ◌==◌, OnOk, OnErr, IfErr, Vec, Global, ◌≡◌, ◌≢◌, ◌⊎◌, ◌≤◌, ℕ, length, get_or, List, [], ◌∷◌, ◌++◌, Option, Some, IfSome, None, Result, Ok, Err, refl, ap, subst, sym, ◌∙◌, inl, inr, arith}
 use Rattle.pm_history.specs.Merge.{HistoryRow}
 use Rattle.pm_store.specs.declared.call.Op.{Op}
 use Rattle.pm_store.specs.Files.{Files, files_after}
@@ -7,14 +8,15 @@ use Rattle.pm_store.specs.Images.{CrashImage, Extends}
 use Rattle.pm_store.proofs.ImageLaws.{Extends-refl, Extends-weaker}
 use Rattle.pm_plain.specs.Text.{History}
 use Rattle.pm_plain.specs.Commit.{Stands, IsBeforeOrAfter}
-use Rattle.pm_cli.specs.Batch.{IsBatch}
+use Rattle.pm_cli.specs.Batch.{IsBatch, RefusesInput}
 use Rattle.pm_values.specs.declared.refusal.Refusal.{Refusal}
 use Rattle.pm_values.specs.declared.refusal.Refusal.TheVariants as refusals
+use Rattle.pm_plain.specs.Text.{StandsFor}
+use Rattle.pm_plain.specs.declared.commit.Committed.{Committed}
+use Rattle.pm_plain.specs.Commit.{Commits, ShowsPlain}
 use Rattle.pm_io.specs.Told.{and_then}
-use Rattle.pm_plain.specs.Commit.{reading_at}
-use Rattle.pm_plain.specs.Text.{StandsFor, last_id}
-use Rattle.pm_plain.proofs.CommitLaws.{reading_at-stands}
-use Rattle.pm_cli.specs.Run.{IsEither, IsEitherOf, with_batch, printed, HasRoom, RefusesBatch, Writes, LeavesOf, IsDone, IsServed, StandsWith}
+use Rattle.pm_io.specs.Sink.{TookFront}
+use Rattle.pm_cli.specs.Run.{IsEither, IsEitherOf, with_batch, WritesNothing, WritesRows, WritesBatch, IsServed, StandsWith}
 
 -- a batch with rows is one commit more
 either : (h : History) (batch : List HistoryRow) → batch ≢ [] → (files : Files) → IsBeforeOrAfter h batch files → IsEither h batch files
@@ -23,6 +25,32 @@ either h (r ∷ rows) some files is = is
 
 pub images-rows : (h : History) (batch : List HistoryRow) (old new : Option (List Op)) → batch ≢ [] → Extends (IsBeforeOrAfter h batch) old new → Extends (IsEither h batch) old new
 images-rows h batch old new some images = Extends-weaker (IsBeforeOrAfter h batch) (IsEither h batch) old new (either h batch some) images
+
+-- a batch without rows is none
+pub images-nothing : (h : History) (old new : Option (List Op)) → Extends (λ files. StandsFor files h) old new → Extends (IsEither h []) old new
+images-nothing h old new images = Extends-weaker (λ files. StandsFor files h) (IsEither h []) old new (λ files stands. inl stands) images
+
+-- a text that was shown was printed, or the sink failed
+pub shown_printed : (old : Option (List Op)) (m : ℕ) (new : Option (List Op)) (n : ℕ) (before after : Option (List ℕ)) (sink store : Type 0) (text : Vec ℕ Global) (bytes : List ℕ) (r : Result (Unit {0}) Refusal)
+    → ShowsPlain old m new n store (Ok text) → bytes ≡ text.items → OnOk r (after ≡ and_then before bytes) → IfErr r (λ e. e ≡ refusals.SinkFault None) → OnErr r (TookFront before after bytes) → OnErr r sink
+    → WritesNothing old m new n before after sink store (result_err r)
+shown_printed old m new n before after sink store text bytes (Ok done) shown is ok fault front failed = (text, shown, ok ∙ ap (and_then before) is)
+shown_printed old m new n before after sink store text bytes (Err e) shown is ok fault front failed =
+    subst (λ e. WritesNothing old m new n before after sink store (Some e)) (sym fault) (text, shown, refl, failed, subst (TookFront before after) is front)
+
+-- and so of a commit that was made
+pub commit_printed : (rows : List HistoryRow) (old : Option (List Op)) (m : ℕ) (new : Option (List Op)) (n : ℕ) (before after : Option (List ℕ)) (sink store : Type 0) (committed : Committed) (bytes : List ℕ) (r : Result (Unit {0}) Refusal)
+    → Commits rows old m new n store (Ok committed) → bytes ≡ committed.text.items → OnOk r (after ≡ and_then before bytes) → IfErr r (λ e. e ≡ refusals.SinkFault (Some committed.id)) → OnErr r (TookFront before after bytes) → OnErr r sink
+    → WritesRows rows old m new n before after sink store (result_err r)
+commit_printed rows old m new n before after sink store committed bytes (Ok done) made is ok fault front failed = (committed, made, ok ∙ ap (and_then before) is)
+commit_printed rows old m new n before after sink store committed bytes (Err e) made is ok fault front failed =
+    subst (λ e. WritesRows rows old m new n before after sink store (Some e)) (sym fault) (committed, made, refl, failed, subst (TookFront before after) is front)
+
+-- a batch with rows is written as its rows are
+pub batch_written : (batch : List HistoryRow) (old : Option (List Op)) (m : ℕ) (new : Option (List Op)) (n : ℕ) (before after : Option (List ℕ)) (sink store : Type 0) (answer : Option Refusal)
+    → false ≡ (length batch == 0) → WritesRows batch old m new n before after sink store answer → WritesBatch batch old m new n before after sink store answer
+batch_written [] old m new n before after sink store answer some written = absurd (true≢false (sym some))
+batch_written (r ∷ rows) old m new n before after sink store answer some written = written
 
 -- the batch of told bytes
 pub batch_told : (left new : Option (List ℕ)) (batch : List HistoryRow) (bytes : List ℕ) → left ≡ Some bytes → IfSome left (λ bytes. (new ≡ Some []) × IsBatch batch bytes) → IsBatch batch bytes
@@ -55,87 +83,23 @@ same_ok : {A E : Type 0} (x y : A) → ◌≡◌ {A = Result A E} (Ok x) (Ok y) 
 same_ok x y e = cc
 
 -- an input has one batch
-same_batch : (first other : List HistoryRow) (bytes : List ℕ) → IsBatch first bytes → IsBatch other bytes → first ≡ other
+pub same_batch : (first other : List HistoryRow) (bytes : List ℕ) → IsBatch first bytes → IsBatch other bytes → first ≡ other
 same_batch first other bytes is also = same_ok first other (sym is.read ∙ also.read)
-
--- the history that was read is the one that stood
-same_history : (h k : History) (ops : List Op) → StandsFor (files_after ops) h → reading_at ops ≡ Ok k → k ≡ h
-same_history h k ops stands reads = same_ok k h (sym reads ∙ reading_at-stands ops h stands)
-
--- an answer without a refusal, for the history that stood
-done_told : (h : History) (bytes : List ℕ) (left : Option (List ℕ)) (ops : List Op) (new : Option (List Op)) (before after : Option (List ℕ)) (source sink store : Type 0) → StandsFor (files_after ops) h
-    → Writes bytes left ops new before after source sink store None → LeavesOf bytes None h new → IsDone h bytes left new before after
-done_told h bytes left ops new before after source sink store stands written (batch, is, left_so) =
-    let wrote = written.writes in
-    let history : wrote.0 ≡ h = same_history h wrote.0 ops stands wrote.1 in
-    let rows : written.batch ≡ batch = same_batch written.batch batch bytes written.is_batch is in
-    record {
-      batch = batch;
-      is_batch = is;
-      to_end = written.to_end;
-      stands = left_so;
-      prints = wrote.4 ∙ ap (λ k. and_then before (printed k written.batch)) history ∙ ap (λ rows. and_then before (printed h rows)) rows;
-    }
-
-pub done : (h : History) (bytes : List ℕ) (left : Option (List ℕ)) (old new : Option (List Op)) (before after : Option (List ℕ)) (source sink store : Type 0) → Stands old h
-    → ((ops : List Op) → old ≡ Some ops → Writes bytes left ops new before after source sink store None) → LeavesOf bytes None h new → IsDone h bytes left new before after
-done h bytes left None new before after source sink store stands writes leaves = absurd stands
-done h bytes left (Some ops) new before after source sink store stands writes leaves = done_told h bytes left ops new before after source sink store stands (writes ops refl) leaves
-
-full_room : (h k : History) → length h < last_id → k ≡ h → length k ≡ last_id → ⊥
-full_room h k room same full = absurd (omega (arith, room, ap length same, full))
 
 ok_err : {A E : Type 0} (x : A) (y : E) → ◌≡◌ {A = Result A E} (Ok x) (Err y) → ⊥
 ok_err x y e = cc
 
--- where the plain file reads as a history with room, only want of memory refuses
-refused_served : (batch : List HistoryRow) (h : History) (reading : Result History ℕ) (e : Refusal) → reading ≡ Ok h → HasRoom h batch → RefusesBatch batch reading e → IsServed (Some e)
-refused_served [] h reading refusals.Memory reads room answer = tt
-refused_served [] h reading (refusals.Words command) reads room answer = answer
-refused_served [] h reading refusals.SourceFault reads room answer = answer
-refused_served [] h reading (refusals.SinkFault snapshot) reads room answer = answer
-refused_served [] h reading (refusals.StoreFault path) reads room answer = answer
-refused_served [] h reading (refusals.BadLine line why column) reads room answer = answer
-refused_served [] h reading (refusals.Damaged path place) reads room answer = ok_err h place (sym reads ∙ answer.1)
-refused_served [] h reading (refusals.Contended ids) reads room answer = answer
-refused_served [] h reading (refusals.Limit which number) reads room answer = answer
-refused_served (r ∷ rows) h reading refusals.Memory reads room answer = tt
-refused_served (r ∷ rows) h reading (refusals.Words command) reads room answer = answer
-refused_served (r ∷ rows) h reading refusals.SourceFault reads room answer = answer
-refused_served (r ∷ rows) h reading (refusals.SinkFault snapshot) reads room answer = answer
-refused_served (r ∷ rows) h reading (refusals.StoreFault path) reads room answer = answer
-refused_served (r ∷ rows) h reading (refusals.BadLine line why column) reads room answer = answer
-refused_served (r ∷ rows) h reading (refusals.Damaged path place) reads room answer = ok_err h place (sym reads ∙ answer.1)
-refused_served (r ∷ rows) h reading (refusals.Contended ids) reads room answer = answer
-refused_served (r ∷ rows) h reading (refusals.Limit which number) reads room answer = full_room h answer.2.0 room (same_ok answer.2.0 h (sym answer.2.1 ∙ reads)) answer.2.2
-
--- a good input, on a store that stands for a history with room, and without a fault
-served : (h : History) (bytes : List ℕ) (batch : List HistoryRow) (left : Option (List ℕ)) (ops : List Op) (new : Option (List Op)) (before after : Option (List ℕ)) (source sink store : Type 0) (answer : Option Refusal)
-    → StandsFor (files_after ops) h → IsBatch batch bytes → HasRoom h batch → (source → ⊥) → (sink → ⊥) → (store → ⊥) → Writes bytes left ops new before after source sink store answer → IsServed answer
-served h bytes batch left ops new before after source sink store None stands is room no_source no_sink no_store answer = tt
-served h bytes batch left ops new before after source sink store (Some refusals.Memory) stands is room no_source no_sink no_store answer = tt
-served h bytes batch left ops new before after source sink store (Some (refusals.Words command)) stands is room no_source no_sink no_store (inl e) = e.0
-served h bytes batch left ops new before after source sink store (Some (refusals.Words command)) stands is room no_source no_sink no_store (inr w) = refused_served w.batch h (reading_at ops) (refusals.Words command) (reading_at-stands ops h stands) (subst (HasRoom h) (same_batch batch w.batch bytes is w.is_batch) room) w.writes.0
-served h bytes batch left ops new before after source sink store (Some refusals.SourceFault) stands is room no_source no_sink no_store (inl e) = absurd (no_source e.0.0)
-served h bytes batch left ops new before after source sink store (Some refusals.SourceFault) stands is room no_source no_sink no_store (inr w) = refused_served w.batch h (reading_at ops) refusals.SourceFault (reading_at-stands ops h stands) (subst (HasRoom h) (same_batch batch w.batch bytes is w.is_batch) room) w.writes.0
-served h bytes batch left ops new before after source sink store (Some (refusals.SinkFault snapshot)) stands is room no_source no_sink no_store (inl e) = e.0
-served h bytes batch left ops new before after source sink store (Some (refusals.SinkFault snapshot)) stands is room no_source no_sink no_store (inr w) = no_sink w.writes.5
-served h bytes batch left ops new before after source sink store (Some (refusals.StoreFault path)) stands is room no_source no_sink no_store (inl e) = e.0
-served h bytes batch left ops new before after source sink store (Some (refusals.StoreFault path)) stands is room no_source no_sink no_store (inr w) = no_store w.writes.1
-served h bytes batch left ops new before after source sink store (Some (refusals.BadLine line why column)) stands is room no_source no_sink no_store (inl e) = ok_err batch _ (sym is.read ∙ e.0.2)
-served h bytes batch left ops new before after source sink store (Some (refusals.BadLine line why column)) stands is room no_source no_sink no_store (inr w) = refused_served w.batch h (reading_at ops) (refusals.BadLine line why column) (reading_at-stands ops h stands) (subst (HasRoom h) (same_batch batch w.batch bytes is w.is_batch) room) w.writes.0
-served h bytes batch left ops new before after source sink store (Some (refusals.Damaged path place)) stands is room no_source no_sink no_store (inl e) = e.0
-served h bytes batch left ops new before after source sink store (Some (refusals.Damaged path place)) stands is room no_source no_sink no_store (inr w) = refused_served w.batch h (reading_at ops) (refusals.Damaged path place) (reading_at-stands ops h stands) (subst (HasRoom h) (same_batch batch w.batch bytes is w.is_batch) room) w.writes.0
-served h bytes batch left ops new before after source sink store (Some (refusals.Contended ids)) stands is room no_source no_sink no_store (inl e) = e.0
-served h bytes batch left ops new before after source sink store (Some (refusals.Contended ids)) stands is room no_source no_sink no_store (inr w) = refused_served w.batch h (reading_at ops) (refusals.Contended ids) (reading_at-stands ops h stands) (subst (HasRoom h) (same_batch batch w.batch bytes is w.is_batch) room) w.writes.0
-served h bytes batch left ops new before after source sink store (Some (refusals.Limit which number)) stands is room no_source no_sink no_store (inl e) = let first = e.0.3 in is.within first.0 e.0.0 first.1 first.2
-served h bytes batch left ops new before after source sink store (Some (refusals.Limit which number)) stands is room no_source no_sink no_store (inr w) = refused_served w.batch h (reading_at ops) (refusals.Limit which number) (reading_at-stands ops h stands) (subst (HasRoom h) (same_batch batch w.batch bytes is w.is_batch) room) w.writes.0
-
-pub complete : (h : History) (bytes : List ℕ) (batch : List HistoryRow) (left : Option (List ℕ)) (old new : Option (List Op)) (before after : Option (List ℕ)) (source sink store : Type 0) (answer : Option Refusal)
-    → Stands old h → IsBatch batch bytes → HasRoom h batch → (source → ⊥) → (sink → ⊥) → (store → ⊥) → ((ops : List Op) → old ≡ Some ops → Writes bytes left ops new before after source sink store answer) → IsServed answer
-complete h bytes batch left None new before after source sink store answer stands is room no_source no_sink no_store writes = absurd stands
-complete h bytes batch left (Some ops) new before after source sink store answer stands is room no_source no_sink no_store writes =
-    served h bytes batch left ops new before after source sink store answer stands is room no_source no_sink no_store (writes ops refl)
+-- an input that is a batch is refused by its source alone, or for want of memory
+pub input_served : (e : Refusal) (batch : List HistoryRow) (bytes : List ℕ) (left : Option (List ℕ)) (rose : Type 0) → IsBatch batch bytes → (rose → ⊥) → RefusesInput bytes left rose e → IsServed (Some e)
+input_served refusals.Memory batch bytes left rose is no_source answer = tt
+input_served (refusals.Words command) batch bytes left rose is no_source answer = answer
+input_served refusals.SourceFault batch bytes left rose is no_source answer = no_source answer.0
+input_served (refusals.SinkFault snapshot) batch bytes left rose is no_source answer = answer
+input_served (refusals.StoreFault path) batch bytes left rose is no_source answer = answer
+input_served (refusals.BadLine line why column) batch bytes left rose is no_source answer = ok_err batch _ (sym is.read ∙ answer.2)
+input_served (refusals.Damaged path place) batch bytes left rose is no_source answer = answer
+input_served (refusals.Contended ids) batch bytes left rose is no_source answer = answer
+input_served (refusals.Limit which number) batch bytes left rose is no_source answer = is.within answer.3.0 answer.0 answer.3.1 answer.3.2
 
 left_so : (bytes : List ℕ) (h : History) (image : Files) (ops : List Op) → files_after ops ≡ image → IsEitherOf bytes h image → Stands (Some ops) h ⊎ StandsWith bytes h (Some ops)
 left_so bytes h image ops is (inl stands) = inl (subst (λ files. StandsFor files h) (sym is) stands)

@@ -4,12 +4,12 @@ ghost use Rattle.std.specs.Prelude.{◌≡◌, ◌≢◌, ◌≤◌, ◌↔◌, 
 ghost use Rattle.std.specs.Result.{result_err};
 ghost use Rattle.pm_values.specs.Faults.{Rose};
 ghost use Rattle.pm_values.specs.declared.refusal.Refusal.TheVariants as refusals;
-ghost use Rattle.pm_store.specs.declared.call.Op.{Op};
+ghost use Rattle.pm_history.specs.Merge.{HistoryRow};
 ghost use Rattle.pm_store.specs.Images.{Extends};
 ghost use Rattle.pm_plain.specs.Text.{History};
 ghost use Rattle.pm_plain.specs.Commit.{Stands};
 ghost use Rattle.pm_cli.specs.Batch.{IsBatch};
-ghost use Rattle.pm_cli.specs.Run.{write_words, first_word, Writes, IsNoCommand, HasCause, LeavesOf, IsEitherOf};
+ghost use Rattle.pm_cli.specs.Run.{write_words, first_word, HasRoom, Writes, IsNoCommand, IsUntouched, MetOthers, HasCause, LeavesOf, IsEitherOf, IsDone, IsServed};
 
 use crate::batch::read_batch;
 use crate::write::write_batch;
@@ -29,14 +29,23 @@ pub(crate) fn execute<S: Source, W: Sink, F: FileStore>(
 ) -> Result<(), Refusal>
     ensures ok { OnOk result (words.now ≡ write_words) }
     ensures no_command { words.now ≢ write_words → IsNoCommand words.now (result_err result) }
-    ensures command { words.now ≡ write_words → (ops : List Op) (bytes : List ℕ) → F.ops store.old ≡ Some ops → S.left input.old ≡ Some bytes
-        → Writes bytes (S.left input.new) ops (F.ops store.new) (W.taken out.old) (W.taken out.new)
+    ensures untouched { words.now ≢ write_words → (S.left input.new ≡ S.left input.old)
+        × IsUntouched (F.ops store.old) (F.others store.old) (F.ops store.new) (F.others store.new) (W.taken out.old) (W.taken out.new) }
+    ensures done { F.others store.new ≡ F.others store.old → OnOk result ((h : History) (bytes : List ℕ) → Stands (F.ops store.old) h → S.left input.old ≡ Some bytes
+        → IsDone h bytes (S.left input.new) (F.ops store.new) (W.taken out.old) (W.taken out.new)) }
+    ensures command { words.now ≡ write_words → (bytes : List ℕ) → S.left input.old ≡ Some bytes
+        → Writes bytes (S.left input.new) (F.ops store.old) (F.others store.old) (F.ops store.new) (F.others store.new) (W.taken out.old) (W.taken out.new)
         (Rose (S.faults input.old) (S.faults input.new)) (Rose (W.faults out.old) (W.faults out.new)) (Rose (F.faults store.old) (F.faults store.new)) (result_err result) }
     ensures cause { IfErr result (HasCause words.now (Rose (S.faults input.old) (S.faults input.new))
-        (Rose (W.faults out.old) (W.faults out.new)) (Rose (F.faults store.old) (F.faults store.new))) }
-    ensures leaves { (h : History) (bytes : List ℕ) → Stands (F.ops store.old) h → S.left input.old ≡ Some bytes
+        (Rose (W.faults out.old) (W.faults out.new)) (Rose (F.faults store.old) (F.faults store.new))
+        (MetOthers (F.ops store.old) (F.others store.old) (F.ops store.new) (F.others store.new))) }
+    ensures complete { words.now ≡ write_words → F.others store.new ≡ F.others store.old → (h : History) (bytes : List ℕ) (batch : List HistoryRow)
+        → Stands (F.ops store.old) h → S.left input.old ≡ Some bytes → IsBatch batch bytes → HasRoom h batch
+        → (Rose (S.faults input.old) (S.faults input.new) → ⊥) → (Rose (W.faults out.old) (W.faults out.new) → ⊥)
+        → (Rose (F.faults store.old) (F.faults store.new) → ⊥) → IsServed (result_err result) }
+    ensures leaves { F.others store.new ≡ F.others store.old → (h : History) (bytes : List ℕ) → Stands (F.ops store.old) h → S.left input.old ≡ Some bytes
         → LeavesOf bytes (result_err result) h (F.ops store.new) }
-    ensures images { (h : History) (bytes : List ℕ) → Stands (F.ops store.old) h → S.left input.old ≡ Some bytes
+    ensures images { F.others store.new ≡ F.others store.old → (h : History) (bytes : List ℕ) → Stands (F.ops store.old) h → S.left input.old ≡ Some bytes
         → Extends (IsEitherOf bytes h) (F.ops store.old) (F.ops store.new) }
 {
     if !is_write(words) {
@@ -52,14 +61,21 @@ fn write<S: Source, W: Sink, F: FileStore>(
     out: &mut W,
     store: &mut F,
 ) -> Result<(), Refusal>
-    ensures command { (ops : List Op) (bytes : List ℕ) → F.ops store.old ≡ Some ops → S.left input.old ≡ Some bytes
-        → Writes bytes (S.left input.new) ops (F.ops store.new) (W.taken out.old) (W.taken out.new)
+    ensures done { F.others store.new ≡ F.others store.old → OnOk result ((h : History) (bytes : List ℕ) → Stands (F.ops store.old) h → S.left input.old ≡ Some bytes
+        → IsDone h bytes (S.left input.new) (F.ops store.new) (W.taken out.old) (W.taken out.new)) }
+    ensures command { (bytes : List ℕ) → S.left input.old ≡ Some bytes
+        → Writes bytes (S.left input.new) (F.ops store.old) (F.others store.old) (F.ops store.new) (F.others store.new) (W.taken out.old) (W.taken out.new)
         (Rose (S.faults input.old) (S.faults input.new)) (Rose (W.faults out.old) (W.faults out.new)) (Rose (F.faults store.old) (F.faults store.new)) (result_err result) }
     ensures cause { IfErr result (HasCause write_words (Rose (S.faults input.old) (S.faults input.new))
-        (Rose (W.faults out.old) (W.faults out.new)) (Rose (F.faults store.old) (F.faults store.new))) }
-    ensures leaves { (h : History) (bytes : List ℕ) → Stands (F.ops store.old) h → S.left input.old ≡ Some bytes
+        (Rose (W.faults out.old) (W.faults out.new)) (Rose (F.faults store.old) (F.faults store.new))
+        (MetOthers (F.ops store.old) (F.others store.old) (F.ops store.new) (F.others store.new))) }
+    ensures complete { F.others store.new ≡ F.others store.old → (h : History) (bytes : List ℕ) (batch : List HistoryRow)
+        → Stands (F.ops store.old) h → S.left input.old ≡ Some bytes → IsBatch batch bytes → HasRoom h batch
+        → (Rose (S.faults input.old) (S.faults input.new) → ⊥) → (Rose (W.faults out.old) (W.faults out.new) → ⊥)
+        → (Rose (F.faults store.old) (F.faults store.new) → ⊥) → IsServed (result_err result) }
+    ensures leaves { F.others store.new ≡ F.others store.old → (h : History) (bytes : List ℕ) → Stands (F.ops store.old) h → S.left input.old ≡ Some bytes
         → LeavesOf bytes (result_err result) h (F.ops store.new) }
-    ensures images { (h : History) (bytes : List ℕ) → Stands (F.ops store.old) h → S.left input.old ≡ Some bytes
+    ensures images { F.others store.new ≡ F.others store.old → (h : History) (bytes : List ℕ) → Stands (F.ops store.old) h → S.left input.old ≡ Some bytes
         → Extends (IsEitherOf bytes h) (F.ops store.old) (F.ops store.new) }
 {
     let columns = plain_columns(alloc)?;

@@ -1,6 +1,6 @@
 //! The command `write`: add the rows of the input as one commit, and print the merged table.
 
-ghost use Rattle.std.specs.Prelude.{◌≡◌, ◌≢◌, ◌≤◌, [], IfSome, IfErr, OnOk, OnErr};
+ghost use Rattle.std.specs.Prelude.{◌≡◌, ◌≢◌, ◌≤◌, [], IfErr, OnOk, OnErr};
 ghost use Rattle.std.specs.Result.{result_err};
 ghost use Rattle.pm_values.specs.Faults.{Rose};
 ghost use Rattle.pm_values.specs.declared.refusal.Refusal.TheVariants as refusals;
@@ -11,7 +11,7 @@ ghost use Rattle.pm_store.specs.Images.{Extends};
 ghost use Rattle.pm_plain.specs.Columns.{plain_columns};
 ghost use Rattle.pm_plain.specs.Text.{History};
 ghost use Rattle.pm_plain.specs.Commit.{Stands};
-ghost use Rattle.pm_cli.specs.Run.{WritesBatch, Leaves, MayRefuseBatch, IsEither};
+ghost use Rattle.pm_cli.specs.Run.{printed, HasRoom, WritesNothing, WritesRows, WritesBatch, IsServed, Leaves, MetOthers, MayRefuseBatch, IsEither};
 
 use pm_io::{Sink, write_all};
 use pm_plain::{commit_batch, nothing_to_commit};
@@ -29,11 +29,16 @@ pub(crate) fn write_batch<W: Sink, F: FileStore>(
 ) -> Result<(), Refusal>
     requires columns { columns.now ≡ plain_columns }
     requires fit { AllFit plain_columns batch.now }
-    ensures answer { IfSome (F.ops store.old) (λ ops. WritesBatch batch.now ops (F.ops store.new) (W.taken out.old) (W.taken out.new)
-        (Rose (W.faults out.old) (W.faults out.new)) (Rose (F.faults store.old) (F.faults store.new)) (result_err result)) }
-    ensures refusal { IfErr result (MayRefuseBatch (Rose (W.faults out.old) (W.faults out.new)) (Rose (F.faults store.old) (F.faults store.new))) }
-    ensures leaves { (h : History) → Stands (F.ops store.old) h → Leaves (result_err result) h batch.now (F.ops store.new) }
-    ensures images { (h : History) → Stands (F.ops store.old) h → Extends (IsEither h batch.now) (F.ops store.old) (F.ops store.new) }
+    ensures answer { WritesBatch batch.now (F.ops store.old) (F.others store.old) (F.ops store.new) (F.others store.new) (W.taken out.old) (W.taken out.new)
+        (Rose (W.faults out.old) (W.faults out.new)) (Rose (F.faults store.old) (F.faults store.new)) (result_err result) }
+    ensures refusal { IfErr result (MayRefuseBatch (Rose (W.faults out.old) (W.faults out.new)) (Rose (F.faults store.old) (F.faults store.new))
+        (MetOthers (F.ops store.old) (F.others store.old) (F.ops store.new) (F.others store.new))) }
+    ensures prints { F.others store.new ≡ F.others store.old → OnOk result ((h : History) → Stands (F.ops store.old) h
+        → W.taken out.new ≡ and_then (W.taken out.old) (printed h batch.now)) }
+    ensures complete { F.others store.new ≡ F.others store.old → (h : History) → Stands (F.ops store.old) h → HasRoom h batch.now
+        → (Rose (W.faults out.old) (W.faults out.new) → ⊥) → (Rose (F.faults store.old) (F.faults store.new) → ⊥) → IsServed (result_err result) }
+    ensures leaves { F.others store.new ≡ F.others store.old → (h : History) → Stands (F.ops store.old) h → Leaves (result_err result) h batch.now (F.ops store.new) }
+    ensures images { F.others store.new ≡ F.others store.old → (h : History) → Stands (F.ops store.old) h → Extends (IsEither h batch.now) (F.ops store.old) (F.ops store.new) }
     ensures sink_later { W.faults out.old ≤ W.faults out.new }
     ensures store_later { F.faults store.old ≤ F.faults store.new }
 {
@@ -54,11 +59,16 @@ fn write_rows<W: Sink, F: FileStore>(
     requires columns { columns.now ≡ plain_columns }
     requires some { batch.now ≢ [] }
     requires fit { AllFit plain_columns batch.now }
-    ensures answer { IfSome (F.ops store.old) (λ ops. WritesBatch batch.now ops (F.ops store.new) (W.taken out.old) (W.taken out.new)
-        (Rose (W.faults out.old) (W.faults out.new)) (Rose (F.faults store.old) (F.faults store.new)) (result_err result)) }
-    ensures refusal { IfErr result (MayRefuseBatch (Rose (W.faults out.old) (W.faults out.new)) (Rose (F.faults store.old) (F.faults store.new))) }
-    ensures leaves { (h : History) → Stands (F.ops store.old) h → Leaves (result_err result) h batch.now (F.ops store.new) }
-    ensures images { (h : History) → Stands (F.ops store.old) h → Extends (IsEither h batch.now) (F.ops store.old) (F.ops store.new) }
+    ensures answer { WritesRows batch.now (F.ops store.old) (F.others store.old) (F.ops store.new) (F.others store.new) (W.taken out.old) (W.taken out.new)
+        (Rose (W.faults out.old) (W.faults out.new)) (Rose (F.faults store.old) (F.faults store.new)) (result_err result) }
+    ensures refusal { IfErr result (MayRefuseBatch (Rose (W.faults out.old) (W.faults out.new)) (Rose (F.faults store.old) (F.faults store.new))
+        (MetOthers (F.ops store.old) (F.others store.old) (F.ops store.new) (F.others store.new))) }
+    ensures prints { F.others store.new ≡ F.others store.old → OnOk result ((h : History) → Stands (F.ops store.old) h
+        → W.taken out.new ≡ and_then (W.taken out.old) (printed h batch.now)) }
+    ensures complete { F.others store.new ≡ F.others store.old → (h : History) → Stands (F.ops store.old) h → HasRoom h batch.now
+        → (Rose (W.faults out.old) (W.faults out.new) → ⊥) → (Rose (F.faults store.old) (F.faults store.new) → ⊥) → IsServed (result_err result) }
+    ensures leaves { F.others store.new ≡ F.others store.old → (h : History) → Stands (F.ops store.old) h → Leaves (result_err result) h batch.now (F.ops store.new) }
+    ensures images { F.others store.new ≡ F.others store.old → (h : History) → Stands (F.ops store.old) h → Extends (IsEither h batch.now) (F.ops store.old) (F.ops store.new) }
     ensures sink_later { W.faults out.old ≤ W.faults out.new }
     ensures store_later { F.faults store.old ≤ F.faults store.new }
 {
@@ -74,11 +84,16 @@ fn write_nothing<W: Sink, F: FileStore>(
     store: &mut F,
 ) -> Result<(), Refusal>
     requires { columns.now ≡ plain_columns }
-    ensures answer { IfSome (F.ops store.old) (λ ops. WritesBatch [] ops (F.ops store.new) (W.taken out.old) (W.taken out.new)
-        (Rose (W.faults out.old) (W.faults out.new)) (Rose (F.faults store.old) (F.faults store.new)) (result_err result)) }
-    ensures refusal { IfErr result (MayRefuseBatch (Rose (W.faults out.old) (W.faults out.new)) (Rose (F.faults store.old) (F.faults store.new))) }
-    ensures leaves { (h : History) → Stands (F.ops store.old) h → Leaves (result_err result) h [] (F.ops store.new) }
-    ensures images { (h : History) → Stands (F.ops store.old) h → Extends (IsEither h []) (F.ops store.old) (F.ops store.new) }
+    ensures answer { WritesNothing (F.ops store.old) (F.others store.old) (F.ops store.new) (F.others store.new) (W.taken out.old) (W.taken out.new)
+        (Rose (W.faults out.old) (W.faults out.new)) (Rose (F.faults store.old) (F.faults store.new)) (result_err result) }
+    ensures refusal { IfErr result (MayRefuseBatch (Rose (W.faults out.old) (W.faults out.new)) (Rose (F.faults store.old) (F.faults store.new))
+        (MetOthers (F.ops store.old) (F.others store.old) (F.ops store.new) (F.others store.new))) }
+    ensures prints { F.others store.new ≡ F.others store.old → OnOk result ((h : History) → Stands (F.ops store.old) h
+        → W.taken out.new ≡ and_then (W.taken out.old) (printed h [])) }
+    ensures complete { F.others store.new ≡ F.others store.old → (h : History) → Stands (F.ops store.old) h → HasRoom h []
+        → (Rose (W.faults out.old) (W.faults out.new) → ⊥) → (Rose (F.faults store.old) (F.faults store.new) → ⊥) → IsServed (result_err result) }
+    ensures leaves { F.others store.new ≡ F.others store.old → (h : History) → Stands (F.ops store.old) h → Leaves (result_err result) h [] (F.ops store.new) }
+    ensures images { F.others store.new ≡ F.others store.old → (h : History) → Stands (F.ops store.old) h → Extends (IsEither h []) (F.ops store.old) (F.ops store.new) }
     ensures sink_later { W.faults out.old ≤ W.faults out.new }
     ensures store_later { F.faults store.old ≤ F.faults store.new }
 {

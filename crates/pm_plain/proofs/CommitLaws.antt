@@ -1,5 +1,5 @@
 -- What a commit's answer says of each history that the store stands for.
-use Rattle.std.proofs.Common.{◌≡◌, ◌≢◌, ◌⊎◌, ℕ, ◌<◌, List, [], ◌∷◌, ◌++◌, length, cond, Option, Some, None, Result, Ok, Err, Vec, Global, IfOk, IfErr, IfSome, MatchResult, refl, sym, ap, subst, ◌∙◌, inl, inr, arith, length-append}
+use Rattle.std.proofs.Common.{◌≡◌, ◌≢◌, ◌⊎◌, ℕ, ◌<◌, List, [], ◌∷◌, ◌++◌, length, cond, Option, Some, None, Result, Ok, Err, Vec, Global, IfOk, IfErr, MatchResult, refl, sym, ap, subst, ◌∙◌, inl, inr, arith, length-append}
 use Rattle.std.specs.List.{AllByRecursion}
 use Rattle.std.specs.FinMap as map
 use Rattle.std.specs.Cmp.Lexicographic.{nat_list_cmp_total}
@@ -20,7 +20,8 @@ use Rattle.pm_plain.specs.declared.commit.Committed.{Committed}
 use Rattle.pm_plain.specs.Columns.{plain_columns}
 use Rattle.pm_plain.specs.Text.{History, history_text, nothing_text, plain_path, last_id, StandsFor, IsHistory, IsCommit, IsFileOf}
 use Rattle.pm_plain.specs.Reading.{history_in}
-use Rattle.pm_plain.specs.Commit.{Stands, IsBeforeOrAfter, reading_of, reading_at, read_op, swap_op, failed_swap_op, IsCommitted, Commits, ShowsPlain, Leaves}
+use Rattle.pm_plain.specs.Commit.{Stands, IsBeforeOrAfter, reading_of, reading_at, read_op, swap_op, failed_swap_op, IsCommitted, Commits, ShowsPlain, IsWantOrFault, Leaves}
+use Rattle.pm_plain.proofs.AloneLaws.{CommitsAlone, ShowsAlone, Commits-alone, ShowsPlain-alone}
 use Rattle.pm_plain.proofs.CodecLaws.{history_in-history_text}
 
 reading_of-file : (found : Option (List ℕ)) (h : History) → IsHistory h → IsFileOf found h → reading_of found ≡ Ok h
@@ -134,7 +135,7 @@ Outcome r h batch new = MatchResult r (λ committed. IsCommitted batch h committ
 
 -- an answer's outcome and its images, for the history that stood
 pub outcome : (r : Result Committed Refusal) (h : History) (batch : List HistoryRow) (ops : List Op) (new : Option (List Op)) (rose : Type 0) → batch ≢ [] → AllFit plain_columns batch
-    → Commits batch ops new rose r → StandsFor (files_after ops) h → Outcome r h batch new × Extends (IsBeforeOrAfter h batch) (Some ops) new
+    → CommitsAlone batch ops new rose r → StandsFor (files_after ops) h → Outcome r h batch new × Extends (IsBeforeOrAfter h batch) (Some ops) new
 outcome (Ok committed) h batch ops new rose some fit (k, reads, is, e) stands =
     let same : k ≡ h = read_same ops h k stands reads in
     let made : IsCommitted batch h committed = subst (λ k. IsCommitted batch k committed) same is in
@@ -161,23 +162,63 @@ outcome (Err (refusals.BadLine line why column)) h batch ops new rose some fit a
 outcome (Err (refusals.Contended ids)) h batch ops new rose some fit answer stands = absurd answer.0
 
 -- the same, where the operations may not be told
-pub told_outcome : (r : Result Committed Refusal) (batch : List HistoryRow) (old new : Option (List Op)) (rose : Type 0) → batch ≢ [] → AllFit plain_columns batch
-    → IfSome old (λ ops. Commits batch ops new rose r) → (h : History) → Stands old h → Outcome r h batch new × Extends (IsBeforeOrAfter h batch) old new
-told_outcome r batch None new rose some fit answer h stands = absurd stands
-told_outcome r batch (Some ops) new rose some fit answer h stands = outcome r h batch ops new rose some fit answer stands
+pub told_outcome : (r : Result Committed Refusal) (batch : List HistoryRow) (old : Option (List Op)) (m : ℕ) (new : Option (List Op)) (n : ℕ) (rose : Type 0) → batch ≢ [] → AllFit plain_columns batch
+    → Commits batch old m new n rose r → n ≡ m → (h : History) → Stands old h → Outcome r h batch new × Extends (IsBeforeOrAfter h batch) old new
+told_outcome r batch None m new n rose some fit answer alone h stands = absurd stands
+told_outcome r batch (Some ops) m new n rose some fit answer alone h stands = outcome r h batch ops new rose some fit (Commits-alone batch ops m new n rose r answer (omega (arith, alone))) stands
 
-pub told_done : (r : Result Committed Refusal) (batch : List HistoryRow) (old new : Option (List Op)) (rose : Type 0) → batch ≢ [] → AllFit plain_columns batch
-    → IfSome old (λ ops. Commits batch ops new rose r) → IfOk r (λ committed. (h : History) → Stands old h → IsCommitted batch h committed × Stands new (h ++ batch ∷ []))
-told_done (Ok committed) batch old new rose some fit answer = λ h stands. (told_outcome (Ok committed) batch old new rose some fit answer h stands).0
-told_done (Err e) batch old new rose some fit answer = tt
+pub told_done : (r : Result Committed Refusal) (batch : List HistoryRow) (old : Option (List Op)) (m : ℕ) (new : Option (List Op)) (n : ℕ) (rose : Type 0) → batch ≢ [] → AllFit plain_columns batch
+    → Commits batch old m new n rose r → n ≡ m → IfOk r (λ committed. (h : History) → Stands old h → IsCommitted batch h committed × Stands new (h ++ batch ∷ []))
+told_done (Ok committed) batch old m new n rose some fit answer alone = λ h stands. (told_outcome (Ok committed) batch old m new n rose some fit answer alone h stands).0
+told_done (Err e) batch old m new n rose some fit answer alone = tt
 
-pub told_leaves : (r : Result Committed Refusal) (batch : List HistoryRow) (old new : Option (List Op)) (rose : Type 0) → batch ≢ [] → AllFit plain_columns batch
-    → IfSome old (λ ops. Commits batch ops new rose r) → IfErr r (λ e. (h : History) → Stands old h → Leaves e h batch new)
-told_leaves (Ok committed) batch old new rose some fit answer = tt
-told_leaves (Err e) batch old new rose some fit answer = λ h stands. (told_outcome (Err e) batch old new rose some fit answer h stands).0
+pub told_leaves : (r : Result Committed Refusal) (batch : List HistoryRow) (old : Option (List Op)) (m : ℕ) (new : Option (List Op)) (n : ℕ) (rose : Type 0) → batch ≢ [] → AllFit plain_columns batch
+    → Commits batch old m new n rose r → n ≡ m → IfErr r (λ e. (h : History) → Stands old h → Leaves e h batch new)
+told_leaves (Ok committed) batch old m new n rose some fit answer alone = tt
+told_leaves (Err e) batch old m new n rose some fit answer alone = λ h stands. (told_outcome (Err e) batch old m new n rose some fit answer alone h stands).0
+
+ok_err : (h : History) (place : ℕ) → ◌≡◌ {A = Result History ℕ} (Ok h) (Err place) → ⊥
+ok_err h place e = cc
+
+-- on a history with an id left a commit is made, or memory was wanted, or the store failed
+complete_alone : (e : Refusal) (h : History) (batch : List HistoryRow) (ops : List Op) (new : Option (List Op)) (rose : Type 0) → CommitsAlone batch ops new rose (Err e) → StandsFor (files_after ops) h → length h < last_id → IsWantOrFault rose e
+complete_alone refusals.Memory h batch ops new rose answer stands below = tt
+complete_alone (refusals.StoreFault path) h batch ops new rose answer stands below = answer.1
+complete_alone (refusals.Damaged path place) h batch ops new rose answer stands below = ok_err h place (sym (reading_at-stands ops h stands) ∙ answer.0.1)
+complete_alone (refusals.Limit which number) h batch ops new rose answer stands below =
+    let same = read_same ops h answer.0.2.0 stands answer.0.2.1 in
+    absurd (omega (arith, below, ap length same, answer.0.2.2))
+complete_alone (refusals.Words command) h batch ops new rose answer stands below = answer.0
+complete_alone refusals.SourceFault h batch ops new rose answer stands below = answer.0
+complete_alone (refusals.SinkFault snapshot) h batch ops new rose answer stands below = answer.0
+complete_alone (refusals.BadLine line why column) h batch ops new rose answer stands below = answer.0
+complete_alone (refusals.Contended ids) h batch ops new rose answer stands below = answer.0
+
+pub told_complete : (r : Result Committed Refusal) (batch : List HistoryRow) (old : Option (List Op)) (m : ℕ) (new : Option (List Op)) (n : ℕ) (rose : Type 0)
+    → Commits batch old m new n rose r → n ≡ m → IfErr r (λ e. (h : History) → Stands old h → length h < last_id → IsWantOrFault rose e)
+told_complete (Ok committed) batch old m new n rose answer alone = tt
+told_complete (Err e) batch None m new n rose answer alone = λ h stands below. absurd stands
+told_complete (Err e) batch (Some ops) m new n rose answer alone = λ h stands below. complete_alone e h batch ops new rose (Commits-alone batch ops m new n rose (Err e) answer (omega (arith, alone))) stands below
+
+shows_complete_alone : (e : Refusal) (h : History) (ops : List Op) (new : Option (List Op)) (rose : Type 0) → ShowsAlone ops new rose (Err e) → StandsFor (files_after ops) h → IsWantOrFault rose e
+shows_complete_alone refusals.Memory h ops new rose answer stands = tt
+shows_complete_alone (refusals.StoreFault path) h ops new rose answer stands = answer.1
+shows_complete_alone (refusals.Damaged path place) h ops new rose answer stands = ok_err h place (sym (reading_at-stands ops h stands) ∙ answer.0.1)
+shows_complete_alone (refusals.Limit which number) h ops new rose answer stands = answer.0
+shows_complete_alone (refusals.Words command) h ops new rose answer stands = answer.0
+shows_complete_alone refusals.SourceFault h ops new rose answer stands = answer.0
+shows_complete_alone (refusals.SinkFault snapshot) h ops new rose answer stands = answer.0
+shows_complete_alone (refusals.BadLine line why column) h ops new rose answer stands = answer.0
+shows_complete_alone (refusals.Contended ids) h ops new rose answer stands = answer.0
+
+pub shows_complete : (r : Result (Vec ℕ Global) Refusal) (old : Option (List Op)) (m : ℕ) (new : Option (List Op)) (n : ℕ) (rose : Type 0)
+    → ShowsPlain old m new n rose r → n ≡ m → IfErr r (λ e. (h : History) → Stands old h → IsWantOrFault rose e)
+shows_complete (Ok text) old m new n rose answer alone = tt
+shows_complete (Err e) None m new n rose answer alone = λ h stands. absurd stands
+shows_complete (Err e) (Some ops) m new n rose answer alone = λ h stands. shows_complete_alone e h ops new rose (ShowsPlain-alone ops m new n rose (Err e) answer (omega (arith, alone))) stands
 
 -- what a command without a batch leaves
-stays : (P : Files → Type 0) (r : Result (Vec ℕ Global) Refusal) (ops : List Op) (new : Option (List Op)) (rose : Type 0) → P (files_after ops) → ShowsPlain ops new rose r
+stays : (P : Files → Type 0) (r : Result (Vec ℕ Global) Refusal) (ops : List Op) (new : Option (List Op)) (rose : Type 0) → P (files_after ops) → ShowsAlone ops new rose r
     → Extends P (Some ops) new
 stays P (Ok text) ops new rose here (k, reads, is, e) = subst (Extends P (Some ops)) (sym e) (images_read P ops read_op here (read_leaves plain_path))
 stays P (Err refusals.Memory) ops new rose here (inl e) = subst (Extends P (Some ops)) (sym e) (Extends-refl P (Some ops) (λ told e. let same : ops ≡ told = cc in subst (λ ops. P (files_after ops)) same here))
@@ -191,9 +232,9 @@ stays P (Err (refusals.SinkFault snapshot)) ops new rose here answer = absurd an
 stays P (Err (refusals.BadLine line why column)) ops new rose here answer = absurd answer.0
 stays P (Err (refusals.Contended ids)) ops new rose here answer = absurd answer.0
 
-pub told_images : (r : Result (Vec ℕ Global) Refusal) (old new : Option (List Op)) (rose : Type 0) → IfSome old (λ ops. ShowsPlain ops new rose r) → (h : History) → Stands old h → Extends (λ files. StandsFor files h) old new
-told_images r None new rose answer h stands = absurd stands
-told_images r (Some ops) new rose answer h stands = stays (λ files. StandsFor files h) r ops new rose stands answer
+pub told_images : (r : Result (Vec ℕ Global) Refusal) (old : Option (List Op)) (m : ℕ) (new : Option (List Op)) (n : ℕ) (rose : Type 0) → ShowsPlain old m new n rose r → n ≡ m → (h : History) → Stands old h → Extends (λ files. StandsFor files h) old new
+told_images r None m new n rose answer alone h stands = absurd stands
+told_images r (Some ops) m new n rose answer alone h stands = stays (λ files. StandsFor files h) r ops new rose stands (ShowsPlain-alone ops m new n rose r answer (omega (arith, alone)))
 
 -- what all images meet, the files meet in the end
 pub Stands-images : (old new : Option (List Op)) (h : History) → Stands old h → Extends (λ files. StandsFor files h) old new → Stands new h
@@ -201,7 +242,9 @@ Stands-images None new h stands images = absurd stands
 Stands-images (Some ops) new h stands (more, is, images) =
     subst (λ new. Stands new h) (sym is) (images (length (ops ++ more)) (files_after (ops ++ more)) (omega (arith, length-append ops more)) (inl (ap files_after (sym (take-length (ops ++ more))))))
 
-pub told_shows : (r : Result (Vec ℕ Global) Refusal) (old new : Option (List Op)) (rose : Type 0) → IfSome old (λ ops. ShowsPlain ops new rose r) → IfOk r (λ text. (h : History) → Stands old h → text.items ≡ nothing_text h)
-told_shows (Ok text) None new rose answer = λ h stands. absurd stands
-told_shows (Ok text) (Some ops) new rose (k, reads, is, e) = λ h stands. is ∙ ap nothing_text (read_same ops h k stands reads)
-told_shows (Err e) old new rose answer = tt
+pub told_shows : (r : Result (Vec ℕ Global) Refusal) (old : Option (List Op)) (m : ℕ) (new : Option (List Op)) (n : ℕ) (rose : Type 0) → ShowsPlain old m new n rose r → n ≡ m → IfOk r (λ text. (h : History) → Stands old h → text.items ≡ nothing_text h)
+told_shows (Ok text) None m new n rose answer alone = λ h stands. absurd stands
+told_shows (Ok text) (Some ops) m new n rose answer alone =
+    let told = ShowsPlain-alone ops m new n rose (Ok text) answer (omega (arith, alone)) in
+    λ h stands. told.2 ∙ ap nothing_text (read_same ops h told.0 stands told.1)
+told_shows (Err e) old m new n rose answer alone = tt

@@ -1,7 +1,9 @@
 pub mod TextLemmas
 pub mod ReadingLemmas
+pub mod AloneLaws
 pub mod CodecLaws
 pub mod DamageLaws
 pub mod CommitLemmas
 pub mod TryLemmas
 pub mod CommitLaws
+pub mod ContendedLaws

@@ -1,13 +1,13 @@
 //! A commit to the plain file: read it, and swap in the old text with the batch behind it.
 
-ghost use Rattle.std.specs.Prelude.{◌≡◌, ◌≢◌, ◌≤◌, [], ◌∷◌, ◌++◌, IfOk, IfErr, IfSome};
+ghost use Rattle.std.specs.Prelude.{◌≡◌, ◌≢◌, ◌≤◌, ◌<◌, [], ◌∷◌, ◌++◌, length, IfOk, IfErr};
 ghost use Rattle.std.specs.Option.{option_copied, unwrap_or};
 ghost use Rattle.pm_values.specs.Faults.{Rose};
 ghost use Rattle.pm_history.specs.Merge.{AllFit};
 ghost use Rattle.pm_plain.specs.Columns.{plain_columns};
 ghost use Rattle.pm_store.specs.Images.{Extends};
-ghost use Rattle.pm_plain.specs.Text.{History, IsHistory, StandsFor, nothing_text};
-ghost use Rattle.pm_plain.specs.Commit.{Stands, IsBeforeOrAfter, IsCommitted, ReadsPlain, Attempts, attempt_of, Commits, ShowsPlain, Follows, MayRefuseText, MayRefuse, Leaves};
+ghost use Rattle.pm_plain.specs.Text.{History, StandsFor, nothing_text, last_id};
+ghost use Rattle.pm_plain.specs.Commit.{Stands, IsBeforeOrAfter, IsCommitted, ReadsPlain, Attempts, attempt_of, WasContended, Commits, ShowsPlain, MayRefuseText, MayRefuse, IsWantOrFault, Leaves};
 
 use crate::plan::{Plan, nothing, plan_of};
 use crate::table::PATH;
@@ -34,7 +34,8 @@ pub enum Attempt {
 
 /// Adds a batch to the plain file as one commit. It reads the file, and swaps in the old text with
 /// the batch behind it; where other content is met it tries again from that, eleven times in all.
-/// The memory for what is printed is taken before the swap.
+/// The memory for what is printed is taken before the swap. What is promised of a history holds where
+/// nobody else has an operation meanwhile, and `answer` always.
 pub fn commit_batch<F: FileStore>(
     alloc: Global,
     store: &mut F,
@@ -44,14 +45,16 @@ pub fn commit_batch<F: FileStore>(
     requires columns { columns.now ≡ plain_columns }
     requires some { batch.now ≢ [] }
     requires fit { AllFit plain_columns batch.now }
-    ensures answer { IfSome (F.ops store.old) (λ ops. Commits batch.now ops (F.ops store.new)
-        (Rose (F.faults store.old) (F.faults store.new)) result) }
-    ensures refusal { IfErr result (MayRefuse (Rose (F.faults store.old) (F.faults store.new))) }
-    ensures follows { IfOk result (Follows batch.now) }
-    ensures done { IfOk result (λ committed. (h : History) → Stands (F.ops store.old) h
+    ensures answer { Commits batch.now (F.ops store.old) (F.others store.old) (F.ops store.new) (F.others store.new)
+        (Rose (F.faults store.old) (F.faults store.new)) result }
+    ensures refusal { IfErr result (MayRefuse (Rose (F.faults store.old) (F.faults store.new))
+        (WasContended batch.now (F.ops store.old) (F.others store.old) (F.ops store.new) (F.others store.new))) }
+    ensures done { F.others store.new ≡ F.others store.old → IfOk result (λ committed. (h : History) → Stands (F.ops store.old) h
         → IsCommitted batch.now h committed × Stands (F.ops store.new) (h ++ batch.now ∷ [])) }
-    ensures leaves { IfErr result (λ e. (h : History) → Stands (F.ops store.old) h → Leaves e h batch.now (F.ops store.new)) }
-    ensures images { (h : History) → Stands (F.ops store.old) h
+    ensures leaves { F.others store.new ≡ F.others store.old → IfErr result (λ e. (h : History) → Stands (F.ops store.old) h → Leaves e h batch.now (F.ops store.new)) }
+    ensures complete { F.others store.new ≡ F.others store.old → IfErr result (λ e. (h : History) → Stands (F.ops store.old) h → length h < last_id
+        → IsWantOrFault (Rose (F.faults store.old) (F.faults store.new)) e) }
+    ensures images { F.others store.new ≡ F.others store.old → (h : History) → Stands (F.ops store.old) h
         → Extends (IsBeforeOrAfter h batch.now) (F.ops store.old) (F.ops store.new) }
     ensures later { F.faults store.old ≤ F.faults store.new }
 {
@@ -65,13 +68,14 @@ pub fn nothing_to_commit<F: FileStore>(
     columns: &[Column],
 ) -> Result<Vec<u8>, Refusal>
     requires { columns.now ≡ plain_columns }
-    ensures answer { IfSome (F.ops store.old) (λ ops. ShowsPlain ops (F.ops store.new)
-        (Rose (F.faults store.old) (F.faults store.new)) result) }
+    ensures answer { ShowsPlain (F.ops store.old) (F.others store.old) (F.ops store.new) (F.others store.new)
+        (Rose (F.faults store.old) (F.faults store.new)) result }
     ensures refusal { IfErr result (MayRefuseText (Rose (F.faults store.old) (F.faults store.new))) }
-    ensures follows { IfOk result (λ text. (h : History) × IsHistory h × (text.items ≡ nothing_text h)) }
-    ensures done { IfOk result (λ text. (h : History) → Stands (F.ops store.old) h → text.items ≡ nothing_text h) }
-    ensures stays { (h : History) → Stands (F.ops store.old) h → Stands (F.ops store.new) h }
-    ensures images { (h : History) → Stands (F.ops store.old) h
+    ensures done { F.others store.new ≡ F.others store.old → IfOk result (λ text. (h : History) → Stands (F.ops store.old) h → text.items ≡ nothing_text h) }
+    ensures stays { F.others store.new ≡ F.others store.old → (h : History) → Stands (F.ops store.old) h → Stands (F.ops store.new) h }
+    ensures complete { F.others store.new ≡ F.others store.old → IfErr result (λ e. (h : History) → Stands (F.ops store.old) h
+        → IsWantOrFault (Rose (F.faults store.old) (F.faults store.new)) e) }
+    ensures images { F.others store.new ≡ F.others store.old → (h : History) → Stands (F.ops store.old) h
         → Extends (λ files. StandsFor files h) (F.ops store.old) (F.ops store.new) }
     ensures later { F.faults store.old ≤ F.faults store.new }
 {
@@ -87,10 +91,8 @@ fn try_commits<F: FileStore>(
 ) -> Result<Committed, Refusal>
     requires columns { columns.now ≡ plain_columns }
     requires fit { AllFit plain_columns batch.now }
-    ensures answer { IfSome (F.ops store.old) (λ ops. Commits batch.now ops (F.ops store.new)
-        (Rose (F.faults store.old) (F.faults store.new)) result) }
-    ensures refusal { IfErr result (MayRefuse (Rose (F.faults store.old) (F.faults store.new))) }
-    ensures follows { IfOk result (Follows batch.now) }
+    ensures answer { Commits batch.now (F.ops store.old) (F.others store.old) (F.ops store.new) (F.others store.new)
+        (Rose (F.faults store.old) (F.faults store.new)) result }
     ensures later { F.faults store.old ≤ F.faults store.new }
 {
     let mut found = read_plain(alloc, store)?;
@@ -114,10 +116,8 @@ fn read_and_show<F: FileStore>(
     columns: &[Column],
 ) -> Result<Vec<u8>, Refusal>
     requires { columns.now ≡ plain_columns }
-    ensures answer { IfSome (F.ops store.old) (λ ops. ShowsPlain ops (F.ops store.new)
-        (Rose (F.faults store.old) (F.faults store.new)) result) }
-    ensures refusal { IfErr result (MayRefuseText (Rose (F.faults store.old) (F.faults store.new))) }
-    ensures follows { IfOk result (λ text. (h : History) × IsHistory h × (text.items ≡ nothing_text h)) }
+    ensures answer { ShowsPlain (F.ops store.old) (F.others store.old) (F.ops store.new) (F.others store.new)
+        (Rose (F.faults store.old) (F.faults store.new)) result }
     ensures later { F.faults store.old ≤ F.faults store.new }
 {
     let found = read_plain(alloc, store)?;
@@ -126,7 +126,8 @@ fn read_and_show<F: FileStore>(
 
 /// What stands at the path of the plain file.
 fn read_plain<F: FileStore>(alloc: Global, store: &mut F) -> Result<Option<Blob>, Refusal>
-    ensures answer { ReadsPlain (F.ops store.old) (F.ops store.new) (Rose (F.faults store.old) (F.faults store.new)) result }
+    ensures answer { ReadsPlain (F.ops store.old) (F.others store.old) (F.ops store.new) (F.others store.new)
+        (Rose (F.faults store.old) (F.faults store.new)) result }
     ensures later { F.faults store.old ≤ F.faults store.new }
 {
     let path = Txt::from_str(alloc, PATH)?;
@@ -147,7 +148,8 @@ fn try_commit<F: FileStore>(
 ) -> Result<Attempt, Refusal>
     requires columns { columns.now ≡ plain_columns }
     requires fit { AllFit plain_columns batch.now }
-    ensures answer { Attempts batch.now found.now (F.ops store.old) (F.ops store.new) (Rose (F.faults store.old) (F.faults store.new)) result }
+    ensures answer { Attempts batch.now found.now (F.ops store.old) (F.others store.old) (F.ops store.new) (F.others store.new)
+        (Rose (F.faults store.old) (F.faults store.new)) result }
     ensures later { F.faults store.old ≤ F.faults store.new }
 {
     let plan = plan_of(alloc, columns, text_of(found), batch)?;

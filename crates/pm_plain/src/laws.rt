@@ -1,6 +1,13 @@
-//! What holds of all texts of the plain file.
+//! What holds of all texts of the plain file, and of all commits.
 
-ghost use Rattle.std.specs.Prelude.{◌≡◌, ◌↔◌, ℕ, List, Ok, Err};
+ghost use Rattle.std.specs.Prelude.{◌≡◌, ◌↔◌, ℕ, List, length, Option, Some, Result, Ok, Err};
+ghost use Rattle.pm_values.specs.Faults.{Rose};
+ghost use Rattle.pm_values.specs.declared.refusal.Refusal.{Refusal};
+ghost use Rattle.pm_values.specs.declared.refusal.Refusal.TheVariants.{Contended};
+ghost use Rattle.pm_history.specs.Merge.{HistoryRow};
+ghost use Rattle.pm_store.specs.declared.call.Op.{Op};
+ghost use Rattle.pm_plain.specs.Commit.{Reaches, Commits, tries};
+ghost use Rattle.pm_plain.specs.declared.commit.Committed.{Committed};
 ghost use Rattle.pm_plain.specs.Text.{History, history_text, IsHistory};
 ghost use Rattle.pm_plain.specs.Reading.{history_in};
 ghost use Rattle.pm_plain.specs.Damage.{IsDamagedAt};
@@ -11,4 +18,13 @@ pub fn reading_law()
     ensures history { (bytes : List ℕ) (h : History)
         → (history_in bytes ≡ Ok h) ↔ (IsHistory h × (bytes ≡ history_text h)) }
     ensures damage { (bytes : List ℕ) (place : ℕ) → (history_in bytes ≡ Err place) ↔ IsDamagedAt bytes place }
+{}
+
+/// Where the operations since a commit began are a read and as many tries as there may be, and each
+/// of them met other content, the commit is answered as contended, unless a fault was counted.
+pub fn contended_law()
+    ensures { (batch : List HistoryRow) (ids : List ℕ) (found : Option (List ℕ)) (ops new : List Op) (m n before now : ℕ)
+        (answer : Result Committed Refusal) → length ids ≡ tries → Reaches batch ids found (Some ops) m (Some new) n
+        → Commits batch (Some ops) m (Some new) n (Rose before now) answer → (Rose before now → ⊥)
+        → (tried : List ℕ) × (answer ≡ Err (Contended tried)) }
 {}

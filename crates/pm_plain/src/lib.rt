@@ -14,7 +14,7 @@ mod text;
 
 pub use columns::plain_columns;
 pub use commit::{Committed, commit_batch, nothing_to_commit};
-pub use laws::reading_law;
+pub use laws::{contended_law, reading_law};
 pub use reading::parse;
 pub use table::{LAST_ID, PlainFault, Table};
 pub use text::{push_commit, push_scan};

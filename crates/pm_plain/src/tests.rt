@@ -154,6 +154,8 @@ struct Rival {
 impl FileStore for Rival {
     ghost ops = { λ _. None };
 
+    ghost others = { λ _. 0 };
+
     ghost faults = { λ _. 0 };
 
     fn read(&mut self, alloc: Global, _path: &str) -> Result<Option<Blob>, StoreFail> {

@@ -1,3 +1,4 @@
 pub mod FileLaws
 pub mod ImageLaws
 pub mod MemoryLaws
+pub mod StepLaws

@@ -44,6 +44,8 @@ impl<R: Files<File = File> + Drop> FolderStore<R> {
 impl<R: Files<File = File> + Drop> FileStore for FolderStore<R> {
     ghost ops = { λ s. None };
 
+    ghost others = { λ s. 0 };
+
     ghost faults = { λ s. s };
 
     fn read(&mut self, alloc: Global, path: &str) -> Result<Option<Blob>, StoreFail> {

@@ -55,6 +55,8 @@ impl MemStore {
 impl FileStore for MemStore {
     ghost ops = { λ m. Some m };
 
+    ghost others = { λ m. 0 };
+
     ghost faults = { λ m. 0 };
 
     fn read(&mut self, alloc: Global, path: &str) -> Result<Option<Blob>, StoreFail> {

@@ -66,15 +66,20 @@ pub enum Removed {
 pub trait FileStore {
     ghost use Rattle.pm_store.specs.Answers.{ReadAnswers, SwapAnswers};
 
-    /// All operations from the empty store on, each with its effect, where they are told.
+    /// All operations from the empty store on up to the last call, each with its effect, where they are told. Others
+    /// than the caller may have operations among them: each call tells those that came before its own.
     ghost ops: { Self → Option (List Op) };
+
+    /// How many of the told operations came between the calls, by others.
+    ghost others: { Self → ℕ };
 
     /// How often a call failed.
     ghost faults: { Self → ℕ };
 
     /// The bytes at a path, or nothing where it is absent.
     fn read(&mut self, alloc: Global, path: &str) -> Result<Option<Blob>, StoreFail>
-        ensures answer { ReadAnswers path.now (ops self.old) (ops self.new) (faults self.old) (faults self.new) result }
+        ensures answer { ReadAnswers path.now (ops self.old) (others self.old) (ops self.new) (others self.new)
+            (faults self.old) (faults self.new) result }
         ensures later { faults self.old ≤ faults self.new };
 
     /// Writes the path where its content, or its absence, is the expected one.
@@ -86,7 +91,7 @@ pub trait FileStore {
         bytes: &[u8],
     ) -> Result<Swapped, StoreFail>
         ensures answer { SwapAnswers path.now (option_copied expected.entry) bytes.now
-            (ops self.old) (ops self.new) (faults self.old) (faults self.new) result }
+            (ops self.old) (others self.old) (ops self.new) (others self.new) (faults self.old) (faults self.new) result }
         ensures later { faults self.old ≤ faults self.new };
 }
 

@@ -1,62 +1,71 @@
 //! A store on which another command commits before each swap, and one whose calls fail in turn.
 
-ghost use Rattle.std.specs.Prelude.{◌≡◌, ◌≤◌, None};
+ghost use Rattle.std.specs.Prelude.{◌≡◌, ◌+◌, ◌≤◌, [], ◌∷◌, ◌++◌, None, Some, IfErr, OnOk};
 ghost use Rattle.std.specs.Bool.{MatchBool};
 ghost use Rattle.pm_values.specs.Faults.{Rose};
+ghost use Rattle.pm_store.specs.declared.call.Op.{Op};
 
 use super::*;
 use pm_store::{MemStore, StoreFail, Swapped};
 use pm_values::Blob;
 use std::test::Fail;
 
-// A plain file, to which a rival adds a commit before each swap. It tells nothing of its content.
+// A store in memory on which a rival adds a commit to the plain file before each swap, as an operation of others.
 #[derive(Drop)]
 struct Rivals {
-    text: Vec<u8>,
+    store: MemStore,
+    text: Option<Vec<u8>>,
     commits: u64,
     swaps: u64,
 }
 
 impl Rivals {
     // One commit more.
-    fn commit(&mut self, alloc: Global) -> Result<(), AllocError> {
-        self.commits = self.commits.saturating_add(1);
-        let id = self.commits;
-        let text = format!(in alloc; "{{\"snapshot\":{id}}}\n[\"+I\",{id},null]\n")?;
-        self.text.extend_from_slice(text.as_bytes())
+    fn commit(&mut self, alloc: Global) -> Result<(), StoreFail>
+        ensures done { OnOk result ((op : Op) × (self.new.store ≡ self.old.store ++ op ∷ []) × (self.new.commits ≡ self.old.commits + 1)) }
+        ensures kept { IfErr result (λ e. (e ≡ StoreFail.Memory) × (self.new.store ≡ self.old.store) × (self.new.commits ≡ self.old.commits)) }
+    {
+        let id = self.commits.checked_add(1).ok_or(StoreFail::Memory)?;
+        let before = self.text.as_ref().map(|text| text.as_slice());
+        let mut text = Vec::from_slice(alloc, before.unwrap_or(&[]))?;
+        let commit = format!(in alloc; "{{\"snapshot\":{id}}}\n[\"+I\",{id},null]\n")?;
+        text.extend_from_slice(commit.as_bytes())?;
+        self.store.swap(alloc, "plain/table", before, &text)?;
+        self.text = Some(text);
+        self.commits = id;
+        Ok(())
     }
 }
 
 impl FileStore for Rivals {
-    ghost ops = { λ _. None };
+    ghost ops = { λ r. Some r.store };
+
+    ghost others = { λ r. r.commits };
 
     ghost faults = { λ _. 0 };
 
-    fn read(&mut self, alloc: Global, _path: &str) -> Result<Option<Blob>, StoreFail> {
-        Ok(Some(Blob::from_slice(alloc, &self.text)?))
+    fn read(&mut self, alloc: Global, path: &str) -> Result<Option<Blob>, StoreFail> {
+        self.store.read(alloc, path)
     }
 
     fn swap(
         &mut self,
         alloc: Global,
-        _path: &str,
+        path: &str,
         expected: Option<&[u8]>,
-        _bytes: &[u8],
+        bytes: &[u8],
     ) -> Result<Swapped, StoreFail> {
-        self.swaps = self.swaps.saturating_add(1);
         self.commit(alloc)?;
-        let found = Blob::from_slice(alloc, &self.text)?;
-        match expected {
-            Some(bytes) if bytes == found.as_bytes() => Err(StoreFail::Memory),
-            _ => Ok(Swapped::Differs(Some(found))),
-        }
+        self.swaps = self.swaps.saturating_add(1);
+        self.store.swap(alloc, path, expected, bytes)
     }
 }
 
 #[test]
 fn eleven_rivals(rt: HostRuntime) -> Result<(), Fail> {
     let mut store = Rivals {
-        text: Vec::new(rt.alloc()),
+        store: MemStore::new(rt.alloc()),
+        text: None,
         commits: 0,
         swaps: 0,
     };
@@ -72,7 +81,8 @@ fn eleven_rivals(rt: HostRuntime) -> Result<(), Fail> {
         got.err.as_slice(),
         b"E14 contended 1 2 3 4 5 6 7 8 9 10 11\n".as_slice()
     );
-    assert_eq!(rt; store.swaps, 11);
+    assert_eq!(rt; got.out.as_slice(), b"".as_slice());
+    assert_eq!(rt; (store.swaps, store.commits), (11, 11));
     Ok(())
 }
 
@@ -102,6 +112,8 @@ impl Failing {
 
 impl FileStore for Failing {
     ghost ops = { λ _. None };
+
+    ghost others = { λ _. 0 };
 
     ghost faults = { λ s. s.faults };
 
