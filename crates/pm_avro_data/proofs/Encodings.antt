@@ -157,7 +157,7 @@ blocked_some (suc n) content = omega (arith, length-append (integer (pos (suc n)
 -- ---- data that take a byte
 
 mutual
-  datum_some : (t : Avro) (d : Data) → takes_no_byte t ≡ false → HasType t d → 0 < length (encoding d)
+  pub datum_some : (t : Avro) (d : Data) → takes_no_byte t ≡ false → HasType t d → 0 < length (encoding d)
   datum_some types.null null free h = absurd cc
   datum_some types.boolean (boolean b) free h = omega arith
   datum_some types.int (int z) free h = integer_some z

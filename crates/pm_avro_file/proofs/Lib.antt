@@ -1,0 +1,9 @@
+pub mod Fronts
+pub mod Items
+pub mod Meanings
+pub mod LawLemmas
+pub mod Parts
+pub mod Pairs
+pub mod Blocks
+pub mod Seen
+pub mod Writes

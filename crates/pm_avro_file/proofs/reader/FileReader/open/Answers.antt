@@ -1,0 +1,20 @@
+use Rattle.std.proofs.Common.{drop, refl, inl}
+use Rattle.pm_avro_schema.specs.View as types
+use Rattle.pm_avro_file.specs.Views.{pairs_view}
+use Rattle.pm_avro_file.proofs.Meanings.{kind_header}
+use Rattle.pm_avro_file.proofs.reader.FileReader.open.Goals as goal
+
+pub returns-in_default : goal.returns-in_default
+returns-in_default c = (refl, inl (rw (c.in_default.is, c.as_bytes.ensures) at c.in_ok-front.ensures))
+
+pub returns : goal.returns
+returns c =
+    let front = rw (c.in-Some.is, c.as_bytes.ensures) at c.in_ok-front.ensures in
+    let kind = rw c.deref.ensures.value at c.in_ok-kind.ensures in
+    record {
+      same = refl;
+      within = front.0;
+      header = kind_header (types.view c.in_ok-kind.kind) (pairs_view c.in-Some.front.entries.items) c.in-Some.front.marker c.args.bytes (drop c.in-Some.front.size c.args.bytes) front.1 kind;
+      before = refl;
+      reads = refl;
+    }

@@ -1,0 +1,27 @@
+//! Avro's object container files, written and read a block at a time (Apache Avro specification, "Object Container
+//! Files").
+//!
+//! `IsContainer` says which bytes are a file of a type, with which blocks of data and which marker. Contracts see a
+//! `FileReader` as the record of `specs/Reader.antt`. What the metadata of a header say stands in
+//! `specs/Header.antt`, and the bytes that are written in `specs/Written.antt`. The laws speak of the relations alone,
+//! and of what the calls answer.
+//!
+//! Reading goes on in the slice that is left, takes time linear in the bytes, and holds one decoded block.
+#![tactic(auto)]
+
+mod block;
+mod header;
+mod laws;
+mod part;
+mod reader;
+mod stop;
+mod writing;
+
+pub use laws::{
+    damaged_file, one_answer, one_block, one_file, one_opening, unread_file, whole_file,
+};
+pub use reader::FileReader;
+pub use writing::write_file;
+
+#[cfg(test)]
+mod tests;

@@ -1,0 +1,57 @@
+//! What stands at the front of a slice.
+
+ghost use Rattle.std.specs.Prelude.{◌≡◌, ◌≢◌, ◌++◌, List, ℕ, MatchOption};
+ghost use Rattle.pm_avro_schema.specs.View as types;
+ghost use Rattle.pm_avro_data.specs.Datum.{view};
+ghost use Rattle.pm_avro_data.specs.IsDatum.{IsDatum};
+ghost use Rattle.pm_avro_file.specs.Finds.{Finds, IsSize};
+ghost use Rattle.pm_avro_file.specs.Views.{size_in};
+
+use pm_avro_data::{Datum, decode};
+use pm_avro_schema::{AvroFault, AvroType};
+use std::alloc::{AllocError, Global};
+
+/// What follows a prefix.
+pub(crate) fn behind<'a>(prefix: &[u8], bytes: &'a [u8]) -> Option<&'a [u8]>
+    ensures { MatchOption result ((rest : List ℕ) → bytes.now ≢ prefix.now ++ rest) (λ x. bytes.now ≡ prefix.now ++ x.now) }
+{
+    bytes.strip_prefix(prefix)
+}
+
+/// The datum of the type at the front, and the rest.
+pub(crate) fn datum_of<'a>(
+    alloc: Global,
+    kind: &AvroType,
+    bytes: &'a [u8],
+) -> Result<Option<(Datum, &'a [u8])>, AllocError>
+    ensures { Finds (λ x. (view x.0, x.1.now)) (IsDatum (types.view kind.now)) bytes.now result }
+{
+    match decode(alloc, kind, bytes) {
+        Ok((datum, size)) => Ok(Some((datum, bytes.split_at(size).1))),
+        Err(AvroFault::Bad(_)) => Ok(None),
+        Err(_) => Err(AllocError),
+    }
+}
+
+/// The size that a datum is: a long that isn't negative.
+fn size_in(datum: &Datum) -> Option<usize>
+    ensures { result ≡ size_in (view datum.now) }
+{
+    match datum {
+        Datum::Long(number) if *number >= 0 => Some(*number as usize),
+        _ => None,
+    }
+}
+
+/// The size at the front, and the rest.
+pub(crate) fn size_of(alloc: Global, bytes: &[u8]) -> Result<Option<(usize, &[u8])>, AllocError>
+    ensures { Finds (λ x. (x.0, x.1.now)) IsSize bytes.now result }
+{
+    let Some((datum, rest)) = datum_of(alloc, &AvroType::Long, bytes)? else {
+        return Ok(None);
+    };
+    match size_in(&datum) {
+        Some(size) => Ok(Some((size, rest))),
+        None => Ok(None),
+    }
+}

@@ -1,0 +1,35 @@
+//! Why a reader has stopped.
+
+ghost use Rattle.std.specs.Prelude.{◌≡◌};
+ghost use Rattle.pm_avro_file.specs.Reader.{fault_of};
+ghost use Rattle.pm_avro_file.specs.declared.stop.Stop.TheVariants.{Memory};
+
+use pm_avro_schema::AvroFault;
+use std::alloc::AllocError;
+
+/// A fault that ends the reading: memory ran out, or no block begins at the place.
+#[derive(Clone, Copy, Debug)]
+pub(crate) enum Stop {
+    Memory,
+    Bad(usize),
+}
+
+impl Stop {
+    /// The fault that is answered, each time anew.
+    pub(crate) fn fault(self) -> AvroFault
+        ensures { result ≡ fault_of self }
+    {
+        match self {
+            Stop::Memory => AvroFault::Memory,
+            Stop::Bad(place) => AvroFault::Bad(place),
+        }
+    }
+}
+
+impl From<AllocError> for Stop {
+    ghost from_gives = { λ _ e. e ≡ Memory };
+
+    fn from(_: AllocError) -> Stop {
+        Stop::Memory
+    }
+}
