@@ -3,7 +3,7 @@
 ghost use Rattle.std.specs.Prelude.{◌≡◌};
 ghost use Rattle.pm_avro_schema.specs.declared.fault.AvroFault.TheVariants.{Memory};
 
-use crate::txt2::Txt2;
+use pm_base::Txt as Txt2;
 use std::alloc::{AllocError, AllocFailed};
 
 /// A fault of a text or of bytes.

@@ -6,7 +6,7 @@ ghost use Rattle.std.specs.Str.{bytes_eq};
 ghost use Rattle.pm_avro_schema.specs.Named.{names};
 
 use crate::kind::AvroType;
-use crate::txt2::Txt2;
+use pm_base::Txt as Txt2;
 use std::alloc::{AllocError, Global};
 use std::collections::BTreeSet;
 use std::marker::Model;

@@ -4,7 +4,7 @@ ghost use Rattle.std.specs.Prelude.{◌≡◌, IfOk};
 ghost use Rattle.pm_avro_schema.specs.Avro.{takes_no_byte, take_no_byte};
 ghost use Rattle.pm_avro_schema.specs.View.{view, fields_view, branches_view};
 
-use crate::txt2::Txt2;
+use pm_base::Txt as Txt2;
 use std::alloc::{AllocError, Global};
 
 /// A type (Apache Avro specification, "Primitive Types" and "Complex Types").

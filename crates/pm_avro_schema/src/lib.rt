@@ -13,11 +13,10 @@ mod kind;
 mod read;
 #[cfg(test)]
 mod tests;
-mod txt2;
 mod write;
 
 pub use fault::AvroFault;
 pub use kind::AvroType;
+pub use pm_base::Txt as Txt2;
 pub use read::{parse, reading_law};
-pub use txt2::Txt2;
 pub use write::print;

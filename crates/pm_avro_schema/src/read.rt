@@ -17,7 +17,7 @@ ghost use Rattle.pm_avro_schema.specs.View.{view, field_view, fields_view, branc
 use crate::fault::AvroFault;
 use crate::field_list::FieldList;
 use crate::kind::AvroType;
-use crate::txt2::Txt2;
+use pm_base::Txt as Txt2;
 use serde_json::Value;
 use std::alloc::Global;
 

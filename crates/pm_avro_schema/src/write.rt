@@ -10,7 +10,7 @@ ghost use Rattle.pm_avro_schema.specs.View.{view, fields_view, branches_view};
 
 use crate::fault::AvroFault;
 use crate::kind::AvroType;
-use crate::txt2::Txt2;
+use pm_base::Txt as Txt2;
 use serde_json::{Value, json};
 use std::alloc::{AllocError, Global};
 

@@ -14,8 +14,8 @@ use Rattle.pm_values.specs.declared.refusal.Refusal.TheVariants as refusals
 use Rattle.pm_plain.specs.Text.{StandsFor}
 use Rattle.pm_plain.specs.declared.commit.Committed.{Committed}
 use Rattle.pm_plain.specs.Commit.{Commits, ShowsPlain}
-use Rattle.pm_io.specs.Told.{and_then}
-use Rattle.pm_io.specs.Sink.{TookFront}
+use Rattle.pm_base.specs.Known.{and_then}
+use Rattle.pm_io.specs.Sink.{TookPrefix}
 use Rattle.pm_cli.specs.Run.{IsEither, IsEitherOf, with_batch, WritesNothing, WritesRows, WritesBatch, IsServed, StandsWith}
 
 -- a batch with rows is one commit more
@@ -32,19 +32,19 @@ images-nothing h old new images = Extends-weaker (λ files. StandsFor files h) (
 
 -- a text that was shown was printed, or the sink failed
 pub shown_printed : (old : Option (List Op)) (m : ℕ) (new : Option (List Op)) (n : ℕ) (before after : Option (List ℕ)) (sink store : Type 0) (text : Vec ℕ Global) (bytes : List ℕ) (r : Result (Unit {0}) Refusal)
-    → ShowsPlain old m new n store (Ok text) → bytes ≡ text.items → OnOk r (after ≡ and_then before bytes) → IfErr r (λ e. e ≡ refusals.SinkFault None) → OnErr r (TookFront before after bytes) → OnErr r sink
+    → ShowsPlain old m new n store (Ok text) → bytes ≡ text.items → OnOk r (after ≡ and_then before bytes) → IfErr r (λ e. e ≡ refusals.SinkFault None) → OnErr r (TookPrefix before after bytes) → OnErr r sink
     → WritesNothing old m new n before after sink store (result_err r)
 shown_printed old m new n before after sink store text bytes (Ok done) shown is ok fault front failed = (text, shown, ok ∙ ap (and_then before) is)
 shown_printed old m new n before after sink store text bytes (Err e) shown is ok fault front failed =
-    subst (λ e. WritesNothing old m new n before after sink store (Some e)) (sym fault) (text, shown, refl, failed, subst (TookFront before after) is front)
+    subst (λ e. WritesNothing old m new n before after sink store (Some e)) (sym fault) (text, shown, refl, failed, subst (TookPrefix before after) is front)
 
 -- and so of a commit that was made
 pub commit_printed : (rows : List HistoryRow) (old : Option (List Op)) (m : ℕ) (new : Option (List Op)) (n : ℕ) (before after : Option (List ℕ)) (sink store : Type 0) (committed : Committed) (bytes : List ℕ) (r : Result (Unit {0}) Refusal)
-    → Commits rows old m new n store (Ok committed) → bytes ≡ committed.text.items → OnOk r (after ≡ and_then before bytes) → IfErr r (λ e. e ≡ refusals.SinkFault (Some committed.id)) → OnErr r (TookFront before after bytes) → OnErr r sink
+    → Commits rows old m new n store (Ok committed) → bytes ≡ committed.text.items → OnOk r (after ≡ and_then before bytes) → IfErr r (λ e. e ≡ refusals.SinkFault (Some committed.id)) → OnErr r (TookPrefix before after bytes) → OnErr r sink
     → WritesRows rows old m new n before after sink store (result_err r)
 commit_printed rows old m new n before after sink store committed bytes (Ok done) made is ok fault front failed = (committed, made, ok ∙ ap (and_then before) is)
 commit_printed rows old m new n before after sink store committed bytes (Err e) made is ok fault front failed =
-    subst (λ e. WritesRows rows old m new n before after sink store (Some e)) (sym fault) (committed, made, refl, failed, subst (TookFront before after) is front)
+    subst (λ e. WritesRows rows old m new n before after sink store (Some e)) (sym fault) (committed, made, refl, failed, subst (TookPrefix before after) is front)
 
 -- a batch with rows is written as its rows are
 pub batch_written : (batch : List HistoryRow) (old : Option (List Op)) (m : ℕ) (new : Option (List Op)) (n : ℕ) (before after : Option (List ℕ)) (sink store : Type 0) (answer : Option Refusal)

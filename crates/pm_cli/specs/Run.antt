@@ -4,8 +4,8 @@ use Rattle.std.specs.Global.{Global}
 use Rattle.pm_values.specs.declared.refusal.Refusal.{Refusal}
 use Rattle.pm_values.specs.declared.refusal.Refusal.TheVariants as refusals
 use Rattle.pm_history.specs.Merge.{HistoryRow}
-use Rattle.pm_io.specs.Told.{and_then}
-use Rattle.pm_io.specs.Sink.{TookFront}
+use Rattle.pm_base.specs.Known.{and_then}
+use Rattle.pm_io.specs.Sink.{TookPrefix}
 use Rattle.pm_store.specs.declared.call.Op.{Op}
 use Rattle.pm_store.specs.Files.{Files}
 use Rattle.pm_plain.specs.Text.{History, committed_text, nothing_text, plain_path, last_id, StandsFor}
@@ -43,7 +43,7 @@ abbrev pub WritesNothing : Option (List Op) → ℕ → Option (List Op) → ℕ
 WritesNothing old m new n before after sink store None =
     (text : Vec ℕ Global) × ShowsPlain old m new n store (Ok text) × (after ≡ and_then before text.items)
 WritesNothing old m new n before after sink store (Some (refusals.SinkFault snapshot)) =
-    (text : Vec ℕ Global) × ShowsPlain old m new n store (Ok text) × (snapshot ≡ None) × sink × TookFront before after text.items
+    (text : Vec ℕ Global) × ShowsPlain old m new n store (Ok text) × (snapshot ≡ None) × sink × TookPrefix before after text.items
 WritesNothing old m new n before after sink store (Some e) = ShowsPlain old m new n store (Err e) × (after ≡ before)
 
 -- and what writing rows answers, likewise
@@ -51,7 +51,7 @@ abbrev pub WritesRows : List HistoryRow → Option (List Op) → ℕ → Option 
 WritesRows rows old m new n before after sink store None =
     (committed : Committed) × Commits rows old m new n store (Ok committed) × (after ≡ and_then before committed.text.items)
 WritesRows rows old m new n before after sink store (Some (refusals.SinkFault snapshot)) =
-    (committed : Committed) × Commits rows old m new n store (Ok committed) × (snapshot ≡ Some committed.id) × sink × TookFront before after committed.text.items
+    (committed : Committed) × Commits rows old m new n store (Ok committed) × (snapshot ≡ Some committed.id) × sink × TookPrefix before after committed.text.items
 WritesRows rows old m new n before after sink store (Some e) = Commits rows old m new n store (Err e) × (after ≡ before)
 
 -- what writing a batch answers
@@ -152,7 +152,7 @@ exit_code (Some refusal) = code_of refusal
 -- what was said of an answer: nothing, or the line of the refusal, or a front of it where a fault came
 abbrev pub Said : Option Refusal → Option (List ℕ) → Option (List ℕ) → Type 0 → Type 0
 Said None before after fault = after ≡ before
-Said (Some refusal) before after fault = (after ≡ and_then before (report_text refusal)) ⊎ (fault × TookFront before after (report_text refusal))
+Said (Some refusal) before after fault = (after ≡ and_then before (report_text refusal)) ⊎ (fault × TookPrefix before after (report_text refusal))
 
 -- the work was done, or there was no memory
 abbrev pub IsServed : Option Refusal → Type 0

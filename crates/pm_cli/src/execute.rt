@@ -2,7 +2,7 @@
 
 ghost use Rattle.std.specs.Prelude.{◌≡◌, ◌≢◌, ◌≤◌, ◌↔◌, ℕ, List, Some, IfOk, IfErr, IfSome, IsTrue, OnOk};
 ghost use Rattle.std.specs.Result.{result_err};
-ghost use Rattle.pm_values.specs.Faults.{Rose};
+ghost use Rattle.pm_base.specs.Faults.{Rose};
 ghost use Rattle.pm_values.specs.declared.refusal.Refusal.TheVariants as refusals;
 ghost use Rattle.pm_history.specs.Merge.{HistoryRow};
 ghost use Rattle.pm_store.specs.Images.{Extends};

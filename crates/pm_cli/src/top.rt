@@ -1,7 +1,7 @@
 //! The top call.
 
 ghost use Rattle.std.specs.Prelude.{◌≡◌, ◌≢◌, ℕ, List, Some, IfSome, IfNone};
-ghost use Rattle.pm_values.specs.Faults.{Rose};
+ghost use Rattle.pm_base.specs.Faults.{Rose};
 ghost use Rattle.pm_history.specs.Merge.{HistoryRow};
 ghost use Rattle.pm_store.specs.Images.{Extends};
 ghost use Rattle.pm_plain.specs.Text.{History};

@@ -2,11 +2,11 @@
 
 ghost use Rattle.std.specs.Prelude.{◌≡◌, ◌≢◌, ◌≤◌, [], IfErr, OnOk, OnErr};
 ghost use Rattle.std.specs.Result.{result_err};
-ghost use Rattle.pm_values.specs.Faults.{Rose};
+ghost use Rattle.pm_base.specs.Faults.{Rose};
 ghost use Rattle.pm_values.specs.declared.refusal.Refusal.TheVariants as refusals;
 ghost use Rattle.pm_history.specs.Merge.{AllFit};
-ghost use Rattle.pm_io.specs.Told.{and_then};
-ghost use Rattle.pm_io.specs.Sink.{TookFront};
+ghost use Rattle.pm_base.specs.Known.{and_then};
+ghost use Rattle.pm_io.specs.Sink.{TookPrefix};
 ghost use Rattle.pm_store.specs.Images.{Extends};
 ghost use Rattle.pm_plain.specs.Columns.{plain_columns};
 ghost use Rattle.pm_plain.specs.Text.{History};
@@ -105,7 +105,7 @@ fn write_nothing<W: Sink, F: FileStore>(
 fn print<W: Sink>(out: &mut W, text: &[u8], snapshot: Option<u64>) -> Result<(), Refusal>
     ensures ok { OnOk result (W.taken out.new ≡ and_then (W.taken out.old) text.now) }
     ensures fault { IfErr result (λ e. e ≡ refusals.SinkFault snapshot) }
-    ensures front { OnErr result (TookFront (W.taken out.old) (W.taken out.new) text.now) }
+    ensures front { OnErr result (TookPrefix (W.taken out.old) (W.taken out.new) text.now) }
     ensures failed { OnErr result (Rose (W.faults out.old) (W.faults out.new)) }
     ensures later { W.faults out.old ≤ W.faults out.new }
 {

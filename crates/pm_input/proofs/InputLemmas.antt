@@ -3,8 +3,9 @@ use Rattle.std.proofs.Common.{◌≡◌, ◌≢◌, ℕ, suc, ◌+◌, ◌<◌, 
 use Rattle.std.specs.List.{AllByRecursion}
 use Rattle.std.proofs.lemmas.List.{map-append}
 use Rattle.std.proofs.lemmas.Bool.{cases_lt}
-use Rattle.pm_io.specs.Told.{with_front}
-use Rattle.pm_io.specs.Lines.{first_line, later_lines, all_lines, IsUnbroken, Held, to_come, IsLineOf, IsOverLimit}
+use Rattle.pm_base.specs.Known.{with_prefix}
+use Rattle.pm_io.specs.Lines.{first_line, later_lines, all_lines, Held, to_come, IsLineOf, IsOverLimit}
+use Rattle.pm_base.specs.Newline.{IsUnbroken}
 use Rattle.pm_io.specs.LineLaws.{first_line-parts, later_lines-append, all_lines-last}
 use Rattle.pm_io.specs.declared.lines.LineFault.{LineFault}
 use Rattle.pm_io.specs.declared.lines.LineFault.TheVariants as line_faults
@@ -68,9 +69,9 @@ line_refused limits left before held start told fault limit kept whole is read l
 
 -- the lines so far and what is to come are the whole input, where that is told
 abbrev pub Tells : Option (List ℕ) → List (List ℕ) → Option (List ℕ) → Type 0
-Tells start lines coming = IfSome start (λ all. with_front (joined lines) coming ≡ Some all)
+Tells start lines coming = IfSome start (λ all. with_prefix (joined lines) coming ≡ Some all)
 
-pub Tells-start : (start : Option (List ℕ)) → Tells start [] (with_front [] start)
+pub Tells-start : (start : Option (List ℕ)) → Tells start [] (with_prefix [] start)
 Tells-start None = tt
 Tells-start (Some all) = refl
 
@@ -84,7 +85,7 @@ nothing_before : (xs ys : List ℕ) → xs ++ ys ≡ [] → ys ≡ []
 nothing_before [] ys e = e
 nothing_before (x ∷ xs) ys e = cc
 
-nothing_left : (front : List ℕ) (told : Option (List ℕ)) → with_front front told ≡ Some [] → told ≡ Some []
+nothing_left : (front : List ℕ) (told : Option (List ℕ)) → with_prefix front told ≡ Some [] → told ≡ Some []
 nothing_left front None e = cc
 nothing_left front (Some told) e = let none : front ++ told ≡ [] = cc in ap Some (nothing_before front told none)
 
@@ -119,11 +120,11 @@ pub limit_in_line : (limits : Limits) (start : Option (List ℕ)) (lines : List 
 limit_in_line limits start lines coming later line ended which tells is first =
     of_whole (IsFirstLimit limits which) start lines coming tells (limit_of limits lines line ended which coming later first is)
 
-next_at : (lines : List (List ℕ)) (line : List ℕ) (ended : Bool) (later : Option (List ℕ)) (bytes all : List ℕ) → ended ≡ true → IsLineOf line ended later bytes → joined lines ++ bytes ≡ all → with_front (joined (lines ++ line ∷ [])) later ≡ Some all
+next_at : (lines : List (List ℕ)) (line : List ℕ) (ended : Bool) (later : Option (List ℕ)) (bytes all : List ℕ) → ended ≡ true → IsLineOf line ended later bytes → joined lines ++ bytes ≡ all → with_prefix (joined (lines ++ line ∷ [])) later ≡ Some all
 next_at lines line ended later bytes all yes_ended is same =
     let text = ap (λ (l : List ℕ). l ++ later_lines bytes) (joined-push lines line) ∙ append_assoc (joined lines ++ line) (10 ∷ []) (later_lines bytes) in
     let there = ap (λ (t : Bool). (joined lines ++ line) ++ (if t then 10 ∷ later_lines bytes else [])) (sym yes_ended) ∙ line_bytes lines line ended later bytes is in
-    ap (with_front (joined (lines ++ line ∷ []))) is.rest ∙ ap Some (text ∙ there ∙ same)
+    ap (with_prefix (joined (lines ++ line ∷ []))) is.rest ∙ ap Some (text ∙ there ∙ same)
 
 pub Tells-next : (start : Option (List ℕ)) (lines : List (List ℕ)) (coming later : Option (List ℕ)) (line : List ℕ) (ended : Bool) → ended ≡ true → Tells start lines coming → IfSome coming (IsLineOf line ended later) → Tells start (lines ++ line ∷ []) later
 Tells-next None lines coming later line ended yes_ended tells is = tt

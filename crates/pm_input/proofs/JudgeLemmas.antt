@@ -4,7 +4,8 @@ use Rattle.std.specs.List.{AllByRecursion}
 use Rattle.std.proofs.lemmas.Bool.{and_parts, false≢true, leb-true, leb-false}
 use Rattle.std.proofs.lemmas.List.Elements.{filter-append, recursion_from_All, All-from_recursion}
 use Rattle.std.proofs.lemmas.List.Folds.{list_all-append}
-use Rattle.pm_io.specs.Lines.{has_newline, all_lines, IsUnbroken}
+use Rattle.pm_io.specs.Lines.{has_newline, all_lines}
+use Rattle.pm_base.specs.Newline.{IsUnbroken}
 use Rattle.pm_io.specs.LineLaws.{has_newline-append, all_lines-ended, all_lines-last}
 use Rattle.pm_input.specs.Blank.{is_blank_byte, is_blank, row_count}
 use Rattle.pm_input.specs.Judge.{joined, Leaves, passed, or_then, passed_from, passed_by}

@@ -1,7 +1,7 @@
 -- How the limits are judged line by line. Only the crate's private clauses cite it.
 use Rattle.std.specs.Prelude.{◌≡◌, ℕ, suc, ◌+◌, ◌==◌, ◌&&◌, nat_le, List, [], ◌∷◌, ◌++◌, length, Bool, true, not, if◌then◌else◌, Option, Some, None}
 use Rattle.std.specs.List.{AllByRecursion, flat_map}
-use Rattle.pm_io.specs.Lines.{IsUnbroken}
+use Rattle.pm_base.specs.Newline.{IsUnbroken}
 use Rattle.pm_input.specs.Blank.{is_blank_byte, row_count}
 use Rattle.pm_input.specs.declared.judge.Left.{Left}
 use Rattle.pm_input.specs.declared.limits.Limits.{Limits}

@@ -1,7 +1,7 @@
 //! Which limit a line passes first.
 
 ghost use Rattle.std.specs.Prelude.{◌≡◌, ℕ, ◌+◌, ◌-◌, List, [], ◌∷◌, ◌++◌, length, true, IfOk, IfErr, if◌then◌else◌};
-ghost use Rattle.pm_io.specs.Lines.{IsUnbroken};
+ghost use Rattle.pm_base.specs.Newline.{IsUnbroken};
 ghost use Rattle.pm_input.specs.Blank.{is_blank};
 ghost use Rattle.pm_input.specs.Judge.{Leaves, joined, passed, passed_from, passed_by};
 ghost use Rattle.pm_input.specs.Limits.{IsWithin, IsFirstLimit};

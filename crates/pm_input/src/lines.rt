@@ -1,8 +1,9 @@
 //! The lines of a command's input.
 
 ghost use Rattle.std.specs.Prelude.{◌≡◌, ◌≤◌, ℕ, List, [], ◌++◌, Ok, None, IfOk, IfErr, IfSome, IsErrOf, map};
-ghost use Rattle.pm_values.specs.Faults.{Rose};
-ghost use Rattle.pm_io.specs.Lines.{IsLineOf, IsUnbroken, to_come};
+ghost use Rattle.pm_base.specs.Faults.{Rose};
+ghost use Rattle.pm_io.specs.Lines.{IsLineOf, to_come};
+ghost use Rattle.pm_base.specs.Newline.{IsUnbroken};
 ghost use Rattle.pm_input.specs.Judge.{Leaves, joined};
 ghost use Rattle.pm_input.specs.Limits.{IsWithin};
 ghost use Rattle.pm_input.specs.Lines.{IsRead, IsRefused, fault_of};

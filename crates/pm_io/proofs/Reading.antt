@@ -1,8 +1,9 @@
 -- What reading a line in pieces keeps.
 use Rattle.std.proofs.Common.{◌≡◌, ◌≢◌, List, [], ◌∷◌, ◌++◌, ℕ, ◌+◌, ◌≤◌, ◌<◌, length, Bool, true, false, Option, Some, None, IfSome, refl, ap, sym, ◌∙◌, arith, append_assoc, append-nil, length-append}
-use Rattle.pm_io.specs.Told.{with_front}
+use Rattle.pm_base.specs.Known.{with_prefix}
 use Rattle.pm_io.specs.Source.{IsAtEnd}
-use Rattle.pm_io.specs.Lines.{first_line, later_lines, has_newline, IsUnbroken, IsLineOf}
+use Rattle.pm_io.specs.Lines.{first_line, later_lines, has_newline, IsLineOf}
+use Rattle.pm_base.specs.Newline.{IsUnbroken}
 use Rattle.pm_io.specs.LineLaws.{first_line-append, later_lines-append, has_newline-append}
 
 -- nothing is lost, the line that was begun has no newline and is within the limit, or is as it was, and no fault is forgotten
@@ -14,21 +15,21 @@ pub record IsReading (max : ℕ) (before : List ℕ) (to_come : Option (List ℕ
   pub later : faults_before ≤ faults
 
 -- bytes in front of the same are the same
-with_front-same : (begun a b : List ℕ) (left right : Option (List ℕ)) → with_front a left ≡ with_front b right → with_front (begun ++ a) left ≡ with_front (begun ++ b) right
-with_front-same begun a b None None h = refl
-with_front-same begun a b None (Some y) h = cc
-with_front-same begun a b (Some x) None h = cc
-with_front-same begun a b (Some x) (Some y) h =
+with_prefix-same : (begun a b : List ℕ) (left right : Option (List ℕ)) → with_prefix a left ≡ with_prefix b right → with_prefix (begun ++ a) left ≡ with_prefix (begun ++ b) right
+with_prefix-same begun a b None None h = refl
+with_prefix-same begun a b None (Some y) h = cc
+with_prefix-same begun a b (Some x) None h = cc
+with_prefix-same begun a b (Some x) (Some y) h =
     let e : a ++ x ≡ b ++ y = cc in
     ap Some (append_assoc begun a x ∙ ap (λ l. begun ++ l) e ∙ sym (append_assoc begun b y))
 
 -- what is to come is the same after bytes were read ahead
-pub with_front-read : (begun a b : List ℕ) (left right come : Option (List ℕ)) → with_front (begun ++ a) left ≡ come → with_front b right ≡ with_front a left → come ≡ with_front (begun ++ b) right
-with_front-read begun a b left right come kept h = sym kept ∙ sym (with_front-same begun b a right left h)
+pub with_prefix-read : (begun a b : List ℕ) (left right come : Option (List ℕ)) → with_prefix (begun ++ a) left ≡ come → with_prefix b right ≡ with_prefix a left → come ≡ with_prefix (begun ++ b) right
+with_prefix-read begun a b left right come kept h = sym kept ∙ sym (with_prefix-same begun b a right left h)
 
 -- a line that a newline ends
-pub line_ended : (all line ahead bytes after : List ℕ) (left come : Option (List ℕ)) → come ≡ with_front all left → line ++ (10 ∷ ahead) ≡ all → IsUnbroken line → bytes ≡ line → after ≡ []
-    → IfSome come (IsLineOf bytes true (with_front (after ++ ahead) left))
+pub line_ended : (all line ahead bytes after : List ℕ) (left come : Option (List ℕ)) → come ≡ with_prefix all left → line ++ (10 ∷ ahead) ≡ all → IsUnbroken line → bytes ≡ line → after ≡ []
+    → IfSome come (IsLineOf bytes true (with_prefix (after ++ ahead) left))
 line_ended all line ahead bytes after None come is parts h same none = rw is tt
 line_ended all line ahead bytes after (Some left) come is parts h same none =
     let whole : come ≡ Some (line ++ (10 ∷ (ahead ++ left))) = is ∙ ap (λ l. Some (l ++ left)) (sym parts) ∙ ap Some (append_assoc line (10 ∷ ahead) left) in
@@ -41,8 +42,8 @@ line_ended all line ahead bytes after (Some left) come is parts h same none =
     }
 
 -- the last line, without a newline
-pub line_last : (line ahead bytes after : List ℕ) (ended : Bool) (left come : Option (List ℕ)) → come ≡ with_front (line ++ ahead) left → ahead ≡ [] → IsAtEnd left → IsUnbroken line
-    → bytes ≡ line → ended ≡ false → line ≢ [] → after ≡ [] → IfSome come (IsLineOf bytes ended (with_front (after ++ ahead) left))
+pub line_last : (line ahead bytes after : List ℕ) (ended : Bool) (left come : Option (List ℕ)) → come ≡ with_prefix (line ++ ahead) left → ahead ≡ [] → IsAtEnd left → IsUnbroken line
+    → bytes ≡ line → ended ≡ false → line ≢ [] → after ≡ [] → IfSome come (IsLineOf bytes ended (with_prefix (after ++ ahead) left))
 line_last line ahead bytes after ended None come is empty end h same unended some none = rw is tt
 line_last line ahead bytes after ended (Some left) come is empty end h same unended some none =
     let whole : come ≡ Some line = is ∙ ap Some (ap (λ l. (line ++ l) ++ left) empty ∙ ap (λ l. (line ++ []) ++ l) end ∙ append-nil (line ++ []) ∙ append-nil line) in
@@ -55,7 +56,7 @@ line_last line ahead bytes after ended (Some left) come is empty end h same unen
     }
 
 -- a line that is above the limit
-pub line_long : (max : ℕ) (begun ahead : List ℕ) (left come : Option (List ℕ)) → with_front (begun ++ ahead) left ≡ come → IsUnbroken begun → max < length begun
+pub line_long : (max : ℕ) (begun ahead : List ℕ) (left come : Option (List ℕ)) → with_prefix (begun ++ ahead) left ≡ come → IsUnbroken begun → max < length begun
     → IfSome come (λ bytes. max < length (first_line bytes))
 line_long max begun ahead None come is h long = rw (← is) tt
 line_long max begun ahead (Some left) come is h long =

@@ -1,5 +1,3 @@
-pub mod Counts
-pub mod Told
 pub mod Source
 pub mod Sink
 pub mod Lines

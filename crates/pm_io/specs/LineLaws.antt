@@ -4,8 +4,9 @@ use Rattle.std.specs.List.{AllByRecursion}
 use Rattle.std.proofs.Common.{ap, ◌∙◌, sym, ne_eqb, eqb-true, append-nil}
 use Rattle.std.proofs.lemmas.Bool.{eqb-false}
 use Rattle.std.proofs.lemmas.List.Elements.{recursion_from_All, All-from_recursion}
-use Rattle.pm_io.specs.Told.{with_front}
-use Rattle.pm_io.specs.Lines.{first_line, later_lines, has_newline, line_end, IsUnbroken, onto_first, all_lines}
+use Rattle.pm_base.specs.Known.{with_prefix}
+use Rattle.pm_io.specs.Lines.{first_line, later_lines, has_newline, line_end, onto_first, all_lines}
+use Rattle.pm_base.specs.Newline.{IsUnbroken}
 
 -- no newline, byte by byte
 abbrev IsFree : List ℕ → Type 0
@@ -84,6 +85,6 @@ all_lines-last line h some =
     all_lines-first line some ∙ ap (λ l. l ∷ all_lines (later_lines line)) (sym (ap first_line (append-nil line)) ∙ first_line-append line [] h ∙ append-nil line) ∙ ap (λ r. line ∷ all_lines r) (sym (ap later_lines (append-nil line)) ∙ later_lines-append line [] h)
 
 -- no bytes in front
-pub with_front-nil : (told : Option (List ℕ)) → with_front [] told ≡ told
-with_front-nil None = refl
-with_front-nil (Some told) = refl
+pub with_prefix-nil : (told : Option (List ℕ)) → with_prefix [] told ≡ told
+with_prefix-nil None = refl
+with_prefix-nil (Some told) = refl

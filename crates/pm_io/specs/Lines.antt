@@ -1,6 +1,6 @@
 -- The lines of a text. A newline is the byte 10; it ends a line and is no part of it. The last line may lack it.
 use Rattle.std.specs.Prelude.{◌≡◌, ◌≢◌, List, [], ◌∷◌, ◌++◌, ℕ, ◌+◌, ◌≤◌, ◌<◌, length, Bool, false, ◌==◌, ◌||◌, if◌then◌else◌, Option, Some, All}
-use Rattle.pm_io.specs.Told.{with_front}
+use Rattle.pm_base.specs.Known.{with_prefix}
 
 -- the bytes before the first newline, all of them where there is none
 abbrev pub first_line : List ℕ → List ℕ
@@ -21,10 +21,6 @@ has_newline (b ∷ bytes) = b == 10 || has_newline bytes
 abbrev pub line_end : Bool → List ℕ → List ℕ
 line_end ended rest = if ended then 10 ∷ rest else []
 
--- there is no newline
-abbrev pub IsUnbroken : List ℕ → Type 0
-IsUnbroken bytes = All (λ b. b ≢ 10) bytes
-
 -- a byte in front of the first line
 abbrev pub onto_first : ℕ → List (List ℕ) → List (List ℕ)
 onto_first b [] = (b ∷ []) ∷ []
@@ -42,7 +38,7 @@ pub record Held : Type 0 where
 
 -- the bytes that are still to come as lines, where the source tells what it has left
 abbrev pub coming : List ℕ → List ℕ → Option (List ℕ) → Option (List ℕ)
-coming begun ahead left = with_front (begun ++ ahead) left
+coming begun ahead left = with_prefix (begun ++ ahead) left
 
 -- the same, of what is held
 abbrev pub to_come : Held → Option (List ℕ) → Option (List ℕ)

@@ -1,7 +1,7 @@
 //! Bytes that were read ahead of a line.
 ghost use Rattle.std.specs.Prelude.{◌≡◌, ◌≢◌, ℕ, ◌≤◌, [], length, drop, true, false, Ok, OnErr};
-ghost use Rattle.pm_values.specs.Faults.{Rose};
-ghost use Rattle.pm_io.specs.Told.{with_front};
+ghost use Rattle.pm_base.specs.Faults.{Rose};
+ghost use Rattle.pm_base.specs.Known.{with_prefix};
 ghost use Rattle.pm_io.specs.Source.{IsAtEnd};
 
 use crate::{Failed, Source};
@@ -58,7 +58,7 @@ impl Chunk {
 
     /// Whether there are bytes here, after one read where there were none.
     pub(crate) fn refill<S: Source>(&mut self, source: &mut S) -> Result<bool, Failed>
-        ensures kept { with_front self.new (S.left source.new) ≡ with_front self.old (S.left source.old) }
+        ensures kept { with_prefix self.new (S.left source.new) ≡ with_prefix self.old (S.left source.old) }
         ensures none_at_fault { OnErr result (self.new ≡ []) }
         ensures some { result ≡ Ok true → self.new ≢ [] }
         ensures none { result ≡ Ok false → self.new ≡ [] }

@@ -1,7 +1,8 @@
 //! The lines of a source, read in chunks. No byte is looked at twice.
 ghost use Rattle.std.specs.Prelude.{◌≡◌, ◌≢◌, ℕ, ◌+◌, ◌<◌, ◌≤◌, List, [], ◌∷◌, ◌++◌, length, take, drop, true, false, Ok, None, IfOk, IfSome, IfNone, OnOk, OnErr, IsErrOf, vec_len};
-ghost use Rattle.pm_values.specs.Faults.{Rose};
-ghost use Rattle.pm_io.specs.Lines.{first_line, later_lines, has_newline, line_end, all_lines, IsUnbroken, coming, to_come, IsLineOf, IsOverLimit};
+ghost use Rattle.pm_base.specs.Faults.{Rose};
+ghost use Rattle.pm_io.specs.Lines.{first_line, later_lines, has_newline, line_end, all_lines, coming, to_come, IsLineOf, IsOverLimit};
+ghost use Rattle.pm_base.specs.Newline.{IsUnbroken};
 ghost use Rattle.pm_io.specs.declared.lines.LineFault.TheVariants.{Memory, Read};
 
 use crate::chunk::Chunk;
@@ -52,7 +53,8 @@ pub struct Lines {
 }
 
 impl Model for Lines {
-    ghost use Rattle.pm_io.specs.Lines.{Held, IsUnbroken};
+    ghost use Rattle.pm_io.specs.Lines.{Held};
+    ghost use Rattle.pm_base.specs.Newline.{IsUnbroken};
 
     ghost Value = { Held };
 

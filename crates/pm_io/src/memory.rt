@@ -1,9 +1,9 @@
 //! A source and a sink in memory, which fail at listed calls.
 ghost use Rattle.std.specs.Prelude.{◌≡◌, ◌⊎◌, ◌↔◌, ◌-◌, ◌<◌, ◌≤◌, [], length, take, min, Some, Ok, IfOk, OnErr, IsErr, is_err, Contains, if◌then◌else◌};
-ghost use Rattle.pm_values.specs.Faults.{Rose};
-ghost use Rattle.pm_io.specs.Told.{and_then};
+ghost use Rattle.pm_base.specs.Faults.{Rose};
+ghost use Rattle.pm_base.specs.Known.{and_then};
 ghost use Rattle.pm_io.specs.Source.{Reads, without, IsAtEnd};
-ghost use Rattle.pm_io.specs.Counts.{one_more};
+ghost use Rattle.pm_base.specs.Faults.{one_more};
 
 use crate::{Failed, Sink, Source};
 use std::alloc::{AllocError, Global};

@@ -1,8 +1,8 @@
 //! Where bytes go.
 ghost use Rattle.std.specs.Prelude.{◌≡◌, ℕ, ◌<◌, ◌≤◌, List, length, take, Option, Ok, IfOk, OnOk, OnErr};
-ghost use Rattle.pm_values.specs.Faults.{Rose};
-ghost use Rattle.pm_io.specs.Told.{and_then};
-ghost use Rattle.pm_io.specs.Sink.{TookFront};
+ghost use Rattle.pm_base.specs.Faults.{Rose};
+ghost use Rattle.pm_base.specs.Known.{and_then};
+ghost use Rattle.pm_io.specs.Sink.{TookPrefix};
 
 use crate::Failed;
 
@@ -31,7 +31,7 @@ pub trait Sink {
 /// Writes all bytes, or a front of them.
 pub fn write_all<W: Sink>(sink: &mut W, bytes: &[u8]) -> Result<(), SinkFail>
     ensures ok { OnOk result (W.taken sink.new ≡ and_then (W.taken sink.old) bytes.now) }
-    ensures front { OnErr result (TookFront (W.taken sink.old) (W.taken sink.new) bytes.now) }
+    ensures front { OnErr result (TookPrefix (W.taken sink.old) (W.taken sink.new) bytes.now) }
     ensures failed { OnErr result (Rose (W.faults sink.old) (W.faults sink.new)) }
     ensures later { W.faults sink.old ≤ W.faults sink.new }
 {

@@ -1,6 +1,6 @@
 //! Where bytes come from.
 ghost use Rattle.std.specs.Prelude.{◌≡◌, ℕ, ◌<◌, ◌≤◌, List, length, Option, Ok, IfOk, OnErr};
-ghost use Rattle.pm_values.specs.Faults.{Rose};
+ghost use Rattle.pm_base.specs.Faults.{Rose};
 ghost use Rattle.pm_io.specs.Source.{Reads, without, IsAtEnd};
 
 /// A read or a write failed.

@@ -1,7 +1,7 @@
 //! A source and a sink over std's readers and writers. They tell nothing of content, and count faults.
 ghost use Rattle.std.specs.Prelude.{◌≡◌, ℕ, ◌<◌, ◌≤◌, length, None, Ok, IfOk, OnErr, is_err, if◌then◌else◌};
-ghost use Rattle.pm_values.specs.Faults.{Rose};
-ghost use Rattle.pm_io.specs.Counts.{one_more};
+ghost use Rattle.pm_base.specs.Faults.{Rose};
+ghost use Rattle.pm_base.specs.Faults.{one_more};
 
 use crate::{Failed, Sink, Source};
 use std::io::{ErrorKind, Read, Write};

@@ -7,7 +7,7 @@ use Rattle.pm_store.specs.declared.store.StoreFail.TheVariants as fails
 use Rattle.pm_store.specs.declared.store.Swapped.{Swapped}
 use Rattle.pm_store.specs.declared.store.Swapped.TheVariants as swaps
 use Rattle.pm_store.specs.Answers.{whole, undone, Steps, Holds, Any, SwapAnswers}
-use Rattle.pm_values.specs.Faults.{Rose}
+use Rattle.pm_base.specs.Faults.{Rose}
 use Rattle.pm_values.specs.declared.refusal.Refusal.TheVariants as refusals
 use Rattle.pm_plain.specs.declared.plan.Plan.{Plan}
 use Rattle.pm_plain.specs.declared.commit.Attempt.{Attempt}

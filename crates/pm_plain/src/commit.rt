@@ -2,7 +2,7 @@
 
 ghost use Rattle.std.specs.Prelude.{◌≡◌, ◌≢◌, ◌≤◌, ◌<◌, [], ◌∷◌, ◌++◌, length, IfOk, IfErr};
 ghost use Rattle.std.specs.Option.{option_copied, unwrap_or};
-ghost use Rattle.pm_values.specs.Faults.{Rose};
+ghost use Rattle.pm_base.specs.Faults.{Rose};
 ghost use Rattle.pm_history.specs.Merge.{AllFit};
 ghost use Rattle.pm_plain.specs.Columns.{plain_columns};
 ghost use Rattle.pm_store.specs.Images.{Extends};

@@ -1,7 +1,7 @@
 //! What holds of all texts of the plain file, and of all commits.
 
 ghost use Rattle.std.specs.Prelude.{◌≡◌, ◌↔◌, ℕ, List, length, Option, Some, Result, Ok, Err};
-ghost use Rattle.pm_values.specs.Faults.{Rose};
+ghost use Rattle.pm_base.specs.Faults.{Rose};
 ghost use Rattle.pm_values.specs.declared.refusal.Refusal.{Refusal};
 ghost use Rattle.pm_values.specs.declared.refusal.Refusal.TheVariants.{Contended};
 ghost use Rattle.pm_history.specs.Merge.{HistoryRow};

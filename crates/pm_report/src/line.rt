@@ -1,9 +1,9 @@
 //! The line of a refusal and the exit status. A line is written in pieces and takes no memory.
 
 ghost use Rattle.std.specs.Prelude.{◌≡◌, ◌≤◌, ◌++◌, OnOk, OnErr};
-ghost use Rattle.pm_values.specs.Faults.{Rose};
-ghost use Rattle.pm_io.specs.Told.{and_then};
-ghost use Rattle.pm_io.specs.Sink.{TookFront};
+ghost use Rattle.pm_base.specs.Faults.{Rose};
+ghost use Rattle.pm_base.specs.Known.{and_then};
+ghost use Rattle.pm_io.specs.Sink.{TookPrefix};
 ghost use Rattle.pm_report.specs.Report.{code_of, why_text, named, spaced, message_of, report_text};
 ghost use Rattle.pm_report.specs.Pieces.{piece_text, pieces_text};
 
@@ -45,7 +45,7 @@ pub fn status(refusal: &Refusal) -> u8
 /// Writes the line of a refusal with its newline, or a front of it.
 pub fn report<V: Sink>(err: &mut V, refusal: &Refusal) -> Result<(), SinkFail>
     ensures ok { OnOk result (V.taken err.new ≡ and_then (V.taken err.old) (report_text refusal.now)) }
-    ensures front { OnErr result (TookFront (V.taken err.old) (V.taken err.new) (report_text refusal.now)) }
+    ensures front { OnErr result (TookPrefix (V.taken err.old) (V.taken err.new) (report_text refusal.now)) }
     ensures failed { OnErr result (Rose (V.faults err.old) (V.faults err.new)) }
     ensures later { V.faults err.old ≤ V.faults err.new }
 {
@@ -61,7 +61,7 @@ pub fn report<V: Sink>(err: &mut V, refusal: &Refusal) -> Result<(), SinkFail>
 /// Writes what the refusal says after its number.
 fn write_message<V: Sink>(err: &mut V, refusal: &Refusal) -> Result<(), SinkFail>
     ensures ok { OnOk result (V.taken err.new ≡ and_then (V.taken err.old) (message_of refusal.now)) }
-    ensures front { OnErr result (TookFront (V.taken err.old) (V.taken err.new) (message_of refusal.now)) }
+    ensures front { OnErr result (TookPrefix (V.taken err.old) (V.taken err.new) (message_of refusal.now)) }
     ensures failed { OnErr result (Rose (V.faults err.old) (V.faults err.new)) }
     ensures later { V.faults err.old ≤ V.faults err.new }
 {
@@ -138,7 +138,7 @@ fn blank_before(name: &str) -> &'static str
 /// Writes the pieces one after the other, or a front of them.
 fn write_pieces<V: Sink>(err: &mut V, pieces: &[Piece]) -> Result<(), SinkFail>
     ensures ok { OnOk result (V.taken err.new ≡ and_then (V.taken err.old) (pieces_text pieces.now)) }
-    ensures front { OnErr result (TookFront (V.taken err.old) (V.taken err.new) (pieces_text pieces.now)) }
+    ensures front { OnErr result (TookPrefix (V.taken err.old) (V.taken err.new) (pieces_text pieces.now)) }
     ensures failed { OnErr result (Rose (V.faults err.old) (V.faults err.new)) }
     ensures later { V.faults err.old ≤ V.faults err.new }
 {
@@ -151,7 +151,7 @@ fn write_pieces<V: Sink>(err: &mut V, pieces: &[Piece]) -> Result<(), SinkFail>
 /// Writes a piece, or a front of it.
 fn write_piece<V: Sink>(err: &mut V, piece: Piece) -> Result<(), SinkFail>
     ensures ok { OnOk result (V.taken err.new ≡ and_then (V.taken err.old) (piece_text piece.entry)) }
-    ensures front { OnErr result (TookFront (V.taken err.old) (V.taken err.new) (piece_text piece.entry)) }
+    ensures front { OnErr result (TookPrefix (V.taken err.old) (V.taken err.new) (piece_text piece.entry)) }
     ensures failed { OnErr result (Rose (V.faults err.old) (V.faults err.new)) }
     ensures later { V.faults err.old ≤ V.faults err.new }
 {
@@ -165,7 +165,7 @@ fn write_piece<V: Sink>(err: &mut V, piece: Piece) -> Result<(), SinkFail>
 /// Writes each of the numbers after a blank, or a front of that.
 fn write_numbers<V: Sink>(err: &mut V, numbers: &[u64]) -> Result<(), SinkFail>
     ensures ok { OnOk result (V.taken err.new ≡ and_then (V.taken err.old) (spaced numbers.now)) }
-    ensures front { OnErr result (TookFront (V.taken err.old) (V.taken err.new) (spaced numbers.now)) }
+    ensures front { OnErr result (TookPrefix (V.taken err.old) (V.taken err.new) (spaced numbers.now)) }
     ensures failed { OnErr result (Rose (V.faults err.old) (V.faults err.new)) }
     ensures later { V.faults err.old ≤ V.faults err.new }
 {

@@ -2,7 +2,7 @@
 
 ghost use Rattle.std.specs.Prelude.{◌≡◌};
 
-use pm_values::{Blob, Txt};
+use pm_base::{Blob, Txt};
 
 /// A call with copies of its arguments.
 #[derive(Debug, Drop, PartialEq, Eq)]

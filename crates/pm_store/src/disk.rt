@@ -9,7 +9,7 @@ ghost use Rattle.pm_store.specs.Answers.{DiffersFrom};
 
 use crate::store::is_expected;
 use crate::{StoreFail, Swapped};
-use pm_values::Blob;
+use pm_base::Blob;
 use std::alloc::Global;
 use std::fs::{File, TryLockError};
 use std::io::{ErrorKind, Read, Write};

@@ -1,10 +1,10 @@
 //! A store on a real folder. What it does to the folder is trusted, and no clause tells of it.
 
 ghost use Rattle.std.specs.Prelude.{◌≡◌, ℕ, ◌≤◌, None, IfOk, IsErrOf};
-ghost use Rattle.pm_values.specs.Faults.{Rose};
+ghost use Rattle.pm_base.specs.Faults.{Rose};
 
 use crate::{FileStore, StoreFail, Swapped, disk};
-use pm_values::Blob;
+use pm_base::Blob;
 use std::alloc::Global;
 use std::fs::File;
 use std::marker::Model;

@@ -9,7 +9,7 @@ ghost use Rattle.pm_store.specs.declared.call.Call.TheVariants as calls;
 
 use crate::store::is_expected;
 use crate::{Call, FileStore, Op, StoreFail, Swapped};
-use pm_values::{Blob, Txt};
+use pm_base::{Blob, Txt};
 use std::alloc::{AllocError, Global};
 use std::collections::BTreeMap;
 use std::marker::Model;

@@ -5,7 +5,7 @@ ghost use Rattle.std.specs.Option.{option_copied};
 ghost use Rattle.pm_store.specs.declared.call.Op.{Op};
 ghost use Rattle.pm_store.specs.declared.store.StoreFail.TheVariants.{Memory};
 
-use pm_values::Blob;
+use pm_base::Blob;
 use std::alloc::{AllocError, AllocFailed, Global};
 
 /// Why a call of a store gave no answer: want of memory, which changes nothing, or a fault.

@@ -2,7 +2,7 @@
 
 use super::*;
 use crate::store::is_expected;
-use pm_values::{Blob, Txt};
+use pm_base::{Blob, Txt};
 use std::alloc::{AllocError, Global};
 use std::process::Abort;
 use std::rt::Runtime;

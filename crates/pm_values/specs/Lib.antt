@@ -1,4 +1,3 @@
-pub mod Faults
 pub mod Fits
 pub mod GroupOrder
 pub mod Kind

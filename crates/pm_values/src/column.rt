@@ -2,7 +2,7 @@
 
 ghost use Rattle.std.specs.Prelude.{◌≡◌, IfOk};
 
-use crate::txt::Txt;
+use pm_base::Txt;
 use std::alloc::{AllocError, Global};
 
 /// The type of a column: BOOLEAN, TINYINT, SMALLINT, INT, BIGINT, STRING, BYTES, DATE, TIMESTAMP(3).

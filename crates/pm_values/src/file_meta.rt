@@ -3,7 +3,7 @@
 ghost use Rattle.std.specs.Prelude.{◌≡◌, IfOk};
 
 use crate::key::Key;
-use crate::txt::Txt;
+use pm_base::Txt;
 use std::alloc::{AllocError, Global};
 
 /// A data file or a changelog file, as manifests list it.

@@ -6,7 +6,6 @@
 //! `specs/GroupOrder.antt`, what fits a column in `specs/Fits.antt`, a name in `specs/Names.antt`.
 #![tactic(auto)]
 
-mod blob;
 mod column;
 mod file_meta;
 mod group;
@@ -17,10 +16,8 @@ mod names;
 mod record;
 mod refusal;
 mod row;
-mod txt;
 mod value;
 
-pub use blob::Blob;
 pub use column::{ColType, Column};
 pub use file_meta::FileMeta;
 pub use group::Group;
@@ -28,10 +25,10 @@ pub use key::Key;
 pub use kind::Kind;
 pub use law::names_law;
 pub use names::Names;
+pub use pm_base::{Blob, Txt};
 pub use record::{Change, Stamped};
 pub use refusal::{Refusal, Why};
 pub use row::Row;
-pub use txt::Txt;
 pub use value::Value;
 
 #[cfg(test)]

@@ -3,7 +3,7 @@
 ghost use Rattle.std.specs.Prelude.{◌≡◌, ◌<◌, All, IfOk, OnOk, OnErr, length};
 ghost use Rattle.pm_values.specs.Names.{IsNaming, naming, counted, based, name_of};
 
-use crate::txt::Txt;
+use pm_base::Txt;
 use std::alloc::{AllocError, Global};
 use std::marker::Model;
 use uuid::Uuid;

@@ -3,7 +3,7 @@
 ghost use Rattle.std.specs.Prelude.{◌≡◌};
 ghost use Rattle.pm_values.specs.declared.refusal.Refusal.TheVariants.{Memory};
 
-use crate::txt::Txt;
+use pm_base::Txt;
 use std::alloc::{AllocError, AllocFailed};
 
 /// What is wrong with a line: the first fault in this order. `Draft` and `Script` are faults of

@@ -2,8 +2,7 @@
 
 ghost use Rattle.std.specs.Prelude.{◌≡◌, IfOk};
 
-use crate::blob::Blob;
-use crate::txt::Txt;
+use pm_base::{Blob, Txt};
 use std::alloc::{AllocError, Global};
 
 /// A value. Values of one variant compare as false before true, by size, or by bytes unsigned;

@@ -2,7 +2,7 @@
 
 ghost use Rattle.std.specs.Prelude.{◌≡◌, ◌+◌, ◌≤◌, [], ◌∷◌, ◌++◌, None, Some, IfErr, OnOk};
 ghost use Rattle.std.specs.Bool.{MatchBool};
-ghost use Rattle.pm_values.specs.Faults.{Rose};
+ghost use Rattle.pm_base.specs.Faults.{Rose};
 ghost use Rattle.pm_store.specs.declared.call.Op.{Op};
 
 use super::*;

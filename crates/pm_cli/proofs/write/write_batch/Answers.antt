@@ -1,5 +1,5 @@
 use Rattle.std.specs.Result.{result_err}
-use Rattle.pm_values.specs.Faults.{Rose}
+use Rattle.pm_base.specs.Faults.{Rose}
 use Rattle.pm_cli.proofs.RunLaws.{batch_written}
 use Rattle.pm_cli.proofs.write.write_batch.Goals as goal
 

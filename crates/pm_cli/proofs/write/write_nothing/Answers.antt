@@ -1,4 +1,4 @@
-use Rattle.pm_values.specs.Faults.{Rose}
+use Rattle.pm_base.specs.Faults.{Rose}
 use Rattle.pm_cli.proofs.RunLaws.{images-nothing, shown_printed}
 use Rattle.pm_cli.proofs.write.write_nothing.Goals as goal
 

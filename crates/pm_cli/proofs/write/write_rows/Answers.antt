@@ -1,4 +1,4 @@
-use Rattle.pm_values.specs.Faults.{Rose}
+use Rattle.pm_base.specs.Faults.{Rose}
 use Rattle.pm_cli.proofs.RunLaws.{images-rows, commit_printed}
 use Rattle.pm_cli.proofs.write.write_rows.Goals as goal
 

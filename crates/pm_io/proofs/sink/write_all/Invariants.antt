@@ -1,5 +1,5 @@
 use Rattle.std.proofs.Common.{◌≡◌, ◌≤◌, length}
-use Rattle.pm_io.specs.Told.{and_then}
+use Rattle.pm_base.specs.Known.{and_then}
 use Rattle.pm_io.proofs.sink.write_all.Given as goal
 
 abbrev pub invariant-loop-rest : goal.invariant-loop-rest

@@ -1,4 +1,4 @@
-use Rattle.pm_values.specs.Faults.{Rose}
+use Rattle.pm_base.specs.Faults.{Rose}
 use Rattle.pm_plain.proofs.CommitLaws.{told_outcome, told_done, told_leaves, told_complete}
 use Rattle.pm_plain.proofs.TryLemmas.{Commits-refusal}
 use Rattle.pm_plain.proofs.commit.commit_batch.Goals as goal

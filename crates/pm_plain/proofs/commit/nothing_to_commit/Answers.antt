@@ -1,4 +1,4 @@
-use Rattle.pm_values.specs.Faults.{Rose}
+use Rattle.pm_base.specs.Faults.{Rose}
 use Rattle.pm_plain.proofs.CommitLaws.{told_images, told_shows, shows_complete, Stands-images}
 use Rattle.pm_plain.proofs.TryLemmas.{ShowsPlain-refusal}
 use Rattle.pm_plain.proofs.commit.nothing_to_commit.Goals as goal

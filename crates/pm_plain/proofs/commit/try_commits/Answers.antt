@@ -1,7 +1,7 @@
 use Rattle.std.proofs.Common.{◌≤◌, ◌<◌, take, length, arith, subst, sym, ◌∙◌}
 use Rattle.std.proofs.lemmas.List.{take_more_set, length-set, length-take-le}
 use Rattle.std.proofs.lemmas.Result.{err_from_is_err_and}
-use Rattle.pm_values.specs.Faults.{Rose}
+use Rattle.pm_base.specs.Faults.{Rose}
 use Rattle.pm_plain.specs.Commit.{Reaches}
 use Rattle.pm_plain.proofs.TryLemmas.{Reaches-met, Commits-refused}
 use Rattle.pm_plain.proofs.commit.try_commits.Goals as goal

@@ -1,4 +1,4 @@
-use Rattle.pm_values.specs.Faults.{Rose}
+use Rattle.pm_base.specs.Faults.{Rose}
 use Rattle.pm_plain.proofs.ContendedLaws.{contended}
 use Rattle.pm_plain.proofs.laws.contended_law.Goals as goal
 

@@ -1,5 +1,5 @@
 use Rattle.std.proofs.Common.{◌≡◌, ◌≤◌, drop}
-use Rattle.pm_io.specs.Told.{and_then}
+use Rattle.pm_base.specs.Known.{and_then}
 use Rattle.pm_report.specs.Report.{spaced}
 use Rattle.pm_report.proofs.line.write_numbers.Given as goal
 

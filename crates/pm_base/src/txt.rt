@@ -10,23 +10,21 @@ ghost use lib.Pointwise.{pointwise};
 
 use std::alloc::{AllocError, Global};
 use std::cmp::Ordering;
+use std::fmt;
 use std::marker::Model;
-use std::{fmt, str};
 
 /// A text in UTF-8, seen as the list of its bytes. Texts compare by their bytes, unsigned.
 #[derive(Debug, Drop)]
 pub struct Txt {
-    bytes: Vec<u8>,
+    text: String,
 }
 
 impl Model for Txt {
-    ghost use Rattle.std.specs.Prelude.{List, ℕ, IsUtf8};
+    ghost use Rattle.std.specs.Prelude.{List, ℕ, string_bytes};
 
     ghost Value = { List ℕ };
 
-    ghost view = { λ t. t.bytes.items };
-
-    ghost invariant = { λ t. IsUtf8 t.bytes.items };
+    ghost view = { λ t. string_bytes t.text };
 }
 
 impl Txt {
@@ -35,8 +33,15 @@ impl Txt {
         ensures { IfOk result (λ t. t ≡ text.now) }
     {
         Ok(Txt {
-            bytes: Vec::from_slice(alloc, text.as_bytes())?,
+            text: String::from_str(alloc, text)?,
         })
+    }
+
+    /// The text itself.
+    pub fn as_str(&self) -> &str
+        ensures { result.now ≡ self.now }
+    {
+        self.text.as_str()
     }
 
     /// The bytes of the text.
@@ -44,17 +49,7 @@ impl Txt {
         ensures value { result.now ≡ self.now }
         ensures utf8 { IsUtf8 self.now }
     {
-        self.bytes.as_slice()
-    }
-
-    /// The text itself.
-    pub fn as_str(&self) -> &str
-        ensures { result.now ≡ self.now }
-    {
-        match str::from_utf8(self.as_bytes()) {
-            Ok(text) => text,
-            Err(_) => unreachable!(),
-        }
+        self.text.as_str().as_bytes()
     }
 
     /// An equal text.
@@ -71,7 +66,7 @@ impl PartialEq for Txt {
     ghost laws = { partial_equiv_from_equiv nat_list_eq_equiv };
 
     fn eq(&self, other: &Txt) -> bool {
-        self.bytes.as_slice() == other.bytes.as_slice()
+        self.as_bytes() == other.as_bytes()
     }
 }
 
@@ -89,7 +84,7 @@ impl Ord for Txt {
     ghost matches_eq = { Prim.search (comparing, rules) };
 
     fn cmp(&self, other: &Txt) -> Ordering {
-        self.bytes.as_slice().cmp(other.bytes.as_slice())
+        self.as_bytes().cmp(other.as_bytes())
     }
 }
 

@@ -1,0 +1,4 @@
+pub mod Faults
+pub mod Newline
+pub mod Outcome
+pub mod Known
