@@ -1,12 +1,8 @@
 -- The order of groups, and its laws.
-use Rattle.std.specs.Prelude.{◌≡◌}
 use Rattle.std.specs.Ordering.{nat_cmp, eq_by_cmp, ordering_then}
 use Rattle.std.specs.declared.cmp.Ordering.{Ordering}
-use Rattle.std.specs.declared.cmp.Ordering.TheVariants.{Less, Equal, Greater}
 use Rattle.std.specs.Cmp.{IsTotalOrder, IsEquivalence, eq_by_cmp_equiv, nat_cmp_total, on_total, then_total}
-use Rattle.std.specs.FinMap.{IsAntisymmetric, nat_cmp-IsAntisymmetric}
-use Rattle.std.proofs.Common.{refl}
-use Rattle.pm_values.specs.Order.{key_cmp, key_total, key_cmp-IsAntisymmetric}
+use Rattle.pm_values.specs.Order.{key_cmp, key_total}
 use Rattle.pm_values.specs.declared.group.Group.{Group}
 
 -- by the values of the partition in the order of keys, then by the bucket
@@ -14,21 +10,8 @@ abbrev pub group_cmp : Group → Group → Ordering
 group_cmp a b = ordering_then (key_cmp a.partition b.partition) (nat_cmp a.bucket b.bucket)
 
 pub group_total : IsTotalOrder group_cmp
-group_total = then_total (on_total (λ (g : Group). g.partition) key_total) (on_total (λ (g : Group). g.bucket) nat_cmp_total)
+group_total =
+    then_total (on_total (λ (g : Group). g.partition) key_total) (on_total (λ (g : Group). g.bucket) nat_cmp_total)
 
 pub group_equiv : IsEquivalence (eq_by_cmp group_cmp)
 group_equiv = eq_by_cmp_equiv group_total
-
-both_equal : (o p : Ordering) → ordering_then o p ≡ Equal → (o ≡ Equal) × (p ≡ Equal)
-both_equal Equal p e = (refl, e)
-both_equal Less p e = (e, cc)
-both_equal Greater p e = (e, cc)
-
--- only equal groups tie
-pub group_cmp-IsAntisymmetric : IsAntisymmetric group_cmp
-group_cmp-IsAntisymmetric a b e =
-    let both = both_equal (key_cmp a.partition b.partition) (nat_cmp a.bucket b.bucket) e in
-    λ i. record {
-      partition = key_cmp-IsAntisymmetric a.partition b.partition both.0 i;
-      bucket = nat_cmp-IsAntisymmetric a.bucket b.bucket both.1 i;
-    }

@@ -12,8 +12,13 @@ code_of UpdateAfter = 2
 code_of Delete = 3
 
 -- the kind with a number
-abbrev pub kind_of : ℤ → Option Kind
-kind_of n = if int_eq n (pos 0) then Some Insert else if int_eq n (pos 1) then Some UpdateBefore else if int_eq n (pos 2) then Some UpdateAfter else if int_eq n (pos 3) then Some Delete else None
+abbrev pub kind_from : ℤ → Option Kind
+kind_from n =
+    if int_eq n (pos 0) then Some Insert
+    else if int_eq n (pos 1) then Some UpdateBefore
+    else if int_eq n (pos 2) then Some UpdateAfter
+    else if int_eq n (pos 3) then Some Delete
+    else None
 
 -- whether a row of the kind takes a row away
 abbrev pub retracts : Kind → Bool

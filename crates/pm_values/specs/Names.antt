@@ -21,10 +21,14 @@ counted names = record names { count = names.count + 1 }
 abbrev pub based : ℕ → Naming → Naming
 based base names = record names { base = base }
 
--- the next name: the prefix, the session as an identifier, the actor, the base and the count in decimal, and the suffix
+-- The next name: the prefix, the session as an identifier, the actor, the base and the count in decimal,
+-- and the suffix.
 abbrev pub name_of : List ℕ → List ℕ → Naming → List ℕ
 name_of prefix suffix names =
-    prefix ++ (hyphenated_text lower names.session ++ hyphen ∷ (decimal names.actor ++ hyphen ∷ (decimal names.base ++ hyphen ∷ (decimal names.count ++ suffix))))
+    prefix ++ (hyphenated_text lower names.session
+    ++ hyphen ∷ (decimal names.actor
+    ++ hyphen ∷ (decimal names.base
+    ++ hyphen ∷ (decimal names.count ++ suffix))))
 
 -- a session is sixteen bytes, and the numbers have 64 bits
 pub record IsNaming (names : Naming) : Type 0 where

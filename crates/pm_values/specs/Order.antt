@@ -3,10 +3,10 @@ use Rattle.std.specs.Prelude.{◌≡◌, ℕ, ℤ, pos, List, [], true, false}
 use Rattle.std.specs.Ordering.{nat_cmp, int_cmp, bool_cmp, eq_by_cmp, ordering_then, on, then_cmp}
 use Rattle.std.specs.declared.cmp.Ordering.{Ordering}
 use Rattle.std.specs.declared.cmp.Ordering.TheVariants.{Less, Equal, Greater}
-use Rattle.std.specs.Cmp.{IsTotalOrder, IsEquivalence, eq_by_cmp_equiv, nat_cmp_total, int_cmp_total, on_total, then_total}
+use Rattle.std.specs.Cmp.{IsTotalOrder, IsEquivalence, eq_by_cmp_equiv}
+use Rattle.std.specs.Cmp.{nat_cmp_total, int_cmp_total, on_total, then_total}
 use Rattle.std.specs.Cmp.Lexicographic.{slice_cmp, nat_list_cmp_total, lists_total}
-use Rattle.std.specs.FinMap.{IsAntisymmetric, nat_cmp-IsAntisymmetric, int_cmp-IsAntisymmetric, slice_cmp-IsAntisymmetric}
-use Rattle.std.proofs.Common.{refl, ap, subst}
+use Rattle.std.proofs.Common.{refl, subst}
 use Rattle.pm_values.specs.declared.value.Value.{Value}
 use Rattle.pm_values.specs.declared.value.Value.TheVariants.{Null, Bool as Truth, Int, Text, Bytes, Day, Millis}
 
@@ -14,7 +14,7 @@ use Rattle.pm_values.specs.declared.value.Value.TheVariants.{Null, Bool as Truth
 abbrev pub Values : Type 0
 Values = List Value
 
--- the place of a value's variant among the variants
+-- the index of a value's variant among the variants
 abbrev pub rank : Value → ℕ
 rank Null = 0
 rank (Truth b) = 1
@@ -24,7 +24,8 @@ rank (Bytes b) = 4
 rank (Day d) = 5
 rank (Millis m) = 6
 
--- false before true, numbers by size, texts and bytes by unsigned bytes; different variants in their order, so null is least
+-- False is before true, numbers are by size, texts and bytes by unsigned bytes; different variants are in
+-- their order, so null is least.
 abbrev pub value_cmp : Value → Value → Ordering
 value_cmp (Truth a) (Truth b) = bool_cmp a b
 value_cmp (Int a) (Int b) = int_cmp a b
@@ -58,7 +59,8 @@ then_equal Equal = refl
 then_equal Greater = refl
 
 -- the order is that of the variant, then the number, then the bytes
-same : (a b : Value) → then_cmp (on rank nat_cmp) (then_cmp (on whole int_cmp) (on octets (slice_cmp nat_cmp))) a b ≡ value_cmp a b
+same : (a b : Value) → then_cmp (on rank nat_cmp) (then_cmp (on whole int_cmp) (on octets (slice_cmp nat_cmp))) a b
+    ≡ value_cmp a b
 same (Truth false) (Truth false) = refl
 same (Truth false) (Truth true) = refl
 same (Truth true) (Truth false) = refl
@@ -81,19 +83,3 @@ key_total = lists_total value_total
 
 pub key_equiv : IsEquivalence (eq_by_cmp key_cmp)
 key_equiv = eq_by_cmp_equiv key_total
-
--- only equal values tie
-pub value_cmp-IsAntisymmetric : IsAntisymmetric value_cmp
-value_cmp-IsAntisymmetric Null Null e = refl
-value_cmp-IsAntisymmetric (Truth false) (Truth false) e = refl
-value_cmp-IsAntisymmetric (Truth true) (Truth true) e = refl
-value_cmp-IsAntisymmetric (Int a) (Int b) e = ap Int (int_cmp-IsAntisymmetric a b e)
-value_cmp-IsAntisymmetric (Text a) (Text b) e = ap Text (slice_cmp-IsAntisymmetric nat_cmp-IsAntisymmetric a b e)
-value_cmp-IsAntisymmetric (Bytes a) (Bytes b) e = ap Bytes (slice_cmp-IsAntisymmetric nat_cmp-IsAntisymmetric a b e)
-value_cmp-IsAntisymmetric (Day a) (Day b) e = ap Day (int_cmp-IsAntisymmetric a b e)
-value_cmp-IsAntisymmetric (Millis a) (Millis b) e = ap Millis (int_cmp-IsAntisymmetric a b e)
-value_cmp-IsAntisymmetric a b e = cc
-
--- only equal keys tie
-pub key_cmp-IsAntisymmetric : IsAntisymmetric key_cmp
-key_cmp-IsAntisymmetric = slice_cmp-IsAntisymmetric value_cmp-IsAntisymmetric

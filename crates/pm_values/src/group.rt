@@ -71,7 +71,7 @@ impl PartialOrd for Group {
     }
 }
 
-// Partitions compare as keys do.
+/// Partitions compare as keys do.
 fn partitions(a: &Row, b: &Row) -> Ordering
     ensures { result ≡ key_cmp a.now b.now }
 {

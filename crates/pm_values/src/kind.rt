@@ -1,7 +1,7 @@
 //! The kind of a row: what it does to its key.
 
 ghost use Rattle.std.specs.Prelude.{◌≡◌};
-ghost use Rattle.pm_values.specs.Kind.{code_of, retracts, kind_of};
+ghost use Rattle.pm_values.specs.Kind.{code_of, retracts, kind_from};
 
 /// What a row does to its key: `+I`, `-U`, `+U` or `-D`.
 #[derive(Clone, Copy, Debug, PartialEq, Eq)]
@@ -30,8 +30,8 @@ impl Kind {
     }
 
     /// The kind with that number, or none for a number that no kind has.
-    pub fn of_code(n: i64) -> Option<Kind>
-        ensures { result ≡ kind_of n }
+    pub fn from_code(n: i64) -> Option<Kind>
+        ensures { result ≡ kind_from n }
     {
         match n {
             0 => Some(Kind::Insert),

@@ -82,7 +82,7 @@ impl Names {
     }
 }
 
-// Each byte has eight bits, which no clause says of an array: this walk reads them, and has no effect.
+/// Each byte has eight bits, which no clause says of an array: this walk reads them, and has no effect.
 fn bytes_fit(session: &[u8; 16])
     ensures { (length session.now ≡ 16) × All (λ b. b < 256) session.now }
 {

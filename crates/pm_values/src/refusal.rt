@@ -3,7 +3,7 @@
 ghost use Rattle.std.specs.Prelude.{◌≡◌};
 ghost use Rattle.pm_values.specs.declared.refusal.Refusal.TheVariants.{Memory};
 
-use pm_base::Txt;
+use pm_base::{Blob, Txt};
 use std::alloc::{AllocError, AllocFailed};
 
 /// What is wrong with a line: the first fault in this order. `Draft` and `Script` are faults of
@@ -36,12 +36,38 @@ pub enum Refusal {
     StoreFault { path: Txt },
     /// `E6`: the first bad line, counted from 1, what is wrong with it, and the column's name or nothing.
     BadLine { line: u64, why: Why, column: Txt },
+    /// `E7`: the engine refuses a row: the first such line, counted from 1, and the column's name.
+    Retraction { line: u64, column: Txt },
+    /// `E8`: the table was created by another command.
+    TableExists,
+    /// `E9`: the folder has no table.
+    NoTable,
+    /// `E10`: a file, a type or an option has a text that isn't supported; what it is of, and the text.
+    Unsupported { what: Txt, text: Txt },
     /// `E11`: the file at that path isn't what it has to be, at that offset in bytes.
     Damaged { path: Txt, place: u64 },
+    /// `E12`: the asked snapshot is after the latest; both ids.
+    NoSnapshot { id: u64, latest: u64 },
+    /// `E13`: the snapshot is expired; its id, or 0 where no greater one was listed.
+    Expired { id: u64 },
     /// `E14`: eleven tries each met another commit; the ids that they tried.
     Contended { ids: [u64; 11] },
-    /// `E21`: a counted quantity would pass its limit; which one, and the limit.
+    /// `E15`: a file that the compaction chose isn't live at the newest snapshot; the first such file.
+    CompactTaken { file: Txt },
+    /// `E16`: the base is at most the fence of the newest snapshot.
+    Fenced { base: u64, fence: i64 },
+    /// `E17`: the floor of an expiry is above the next snapshot of a consumer; the greatest such floor.
+    BelowFloor { next: u64, floor: u64 },
+    /// `E18`: the file of a consumer has other bytes than this command left there, or is absent; what was found.
+    ConsumerMoved { found: Option<Blob> },
+    /// `E19`: the table keeps no changelog that could be followed.
+    NoChangelog,
+    /// `E20`: the session and the actor have named a file before; the first such path.
+    SessionUsed { path: Txt },
+    /// `E21`: a counted quantity would exceed its limit; which one, and the limit.
     Limit { which: Txt, number: u64 },
+    /// `E22`: a schema breaks a rule; the number of the first one.
+    SchemaRule { rule: u32 },
 }
 
 impl From<AllocError> for Refusal {

@@ -1,5 +1,5 @@
 use Rattle.pm_values.proofs.NameLemmas.{name_of-injective, name_of-longer}
-use Rattle.pm_values.proofs.law.names_law.Goals as goal
+use Rattle.pm_values.proofs.laws.names_law.Goals as goal
 
 pub returns-clause-one : goal.returns-clause-one
 returns-clause-one c = name_of-injective
