@@ -11,7 +11,7 @@ use Rattle.jiff_core.proofs.CalendarLemmas.{day_count_bounds, days_from_civil-da
 use Rattle.jiff_core.proofs.DateLemmas.{epoch_day_injective}
 use Rattle.jiff_core.proofs.MarchLemmas.{day_count-early, day_count-late, day_in_early_month, day_in_month, march_days-suc, month_and_day}
 use Rattle.jiff_core.proofs.SignedLemmas.{signed_arith}
-use Rattle.pm_value_text.specs.DateText.{IsDay, day_of_century, day_of_month, day_of_year, march_days, march_month, march_year, month_of, year_of}
+use Rattle.pm_value_text.specs.Date.{IsDay, day_of_century, day_of_month, day_of_year, march_days, march_month, march_year, month_of, year_of}
 
 -- the year that begins in March, and the days of it that have passed, of a number of days since 0000-03-01
 march_facts : (z century rest years passed : ℕ) → century ≡ (4 * z + 3) / 146097 → rest ≡ (4 * z + 3) % 146097 / 4

@@ -14,7 +14,7 @@ use Rattle.jiff_core.specs.Date.{IsYmd, epoch_day}
 use Rattle.jiff_core.specs.declared.civil.date.Date.{Date}
 use Rattle.jiff_core.proofs.CalendarLemmas.{days_in_month_bounds}
 use Rattle.jiff_core.proofs.SignedLemmas.{signed_arith}
-use Rattle.pm_value_text.specs.DateText.{IsDateCharacter, IsDateText, IsDay, date_text, day_in, day_of_month, digits_in, is_date, month_of, number_of, pair_in, parts_in, parts_text, year_of}
+use Rattle.pm_value_text.specs.Date.{IsDateCharacter, IsDateText, IsDay, date_text, day_in, day_of_month, digits_in, is_date, month_of, date_number, pair_in, parts_in, parts_text, year_of}
 use Rattle.pm_value_text.specs.Steps.{◌>>=◌}
 use Rattle.pm_value_text.proofs.CivilLemmas.{IsTableDate, number-parts, number-range, parts-is, parts-number}
 
@@ -49,7 +49,7 @@ ten : (text : List ℕ) → length text ≡ 10
 ten (a ∷ b ∷ c ∷ d ∷ e ∷ f ∷ g ∷ h ∷ i ∷ j ∷ []) long = refl
 ten text long = absurd (omega arith)
 
--- what a reading behind a test shows
+-- what a reading after a test shows
 tested : {A : Type 0} (test : Bool) (o : Option A) (x : A) → (if test then o else None) ≡ Some x → (test ≡ true) × (o ≡ Some x)
 tested true o x e = (refl, e)
 tested false o x e = cc
@@ -114,13 +114,13 @@ is_date-from : (y m d : ℕ) → IsTableDate y m d → is_date y m d ≡ true
 is_date-from y m d is =
     both3 _ _ _ (in_range-from 1 9999 y is.year_in) (in_range-from 1 12 m is.month_in) (in_range-from 1 _ d is.day_in)
 
-number_of-some : (y m d : ℕ) (number : ℤ) → number_of y m d ≡ Some number → IsTableDate y m d × (number ≡ days_from_civil (pos y) m d)
-number_of-some y m d number e =
+date_number-some : (y m d : ℕ) (number : ℤ) → date_number y m d ≡ Some number → IsTableDate y m d × (number ≡ days_from_civil (pos y) m d)
+date_number-some y m d number e =
     let facts = tested (is_date y m d) (Some (days_from_civil (pos y) m d)) number e in
     (is_date-true y m d facts.0, sym (ap (λ (o : Option ℤ). unwrap_or o (pos 0)) facts.1))
 
-pub number_of-date : (y m d : ℕ) → IsTableDate y m d → number_of y m d ≡ Some (days_from_civil (pos y) m d)
-number_of-date y m d is = rw (is_date-from y m d is) refl
+pub date_number-date : (y m d : ℕ) → IsTableDate y m d → date_number y m d ≡ Some (days_from_civil (pos y) m d)
+date_number-date y m d is = rw (is_date-from y m d is) refl
 
 -- ---- texts
 
@@ -129,11 +129,11 @@ read_date : (y m d : ℕ) → IsTableDate y m d → day_in (parts_text y m d) �
 unfolding day_in
 read_date y m d is =
     let long = days_in_month_bounds (pos y) m in
-    rw (parts_in-parts_text y m d (omega (arith, is.year_in)) (omega (arith, is.month_in)) (omega (arith, is.day_in))) (number_of-date y m d is)
+    rw (parts_in-parts_text y m d (omega (arith, is.year_in)) (omega (arith, is.month_in)) (omega (arith, is.day_in))) (date_number-date y m d is)
 
 -- a reading and then another
-both_read : (parts : Option (ℕ × ℕ × ℕ)) (number : ℤ) → (parts >>= (λ p. number_of p.0 p.1 p.2)) ≡ Some number
-    → (p : ℕ × ℕ × ℕ) × (parts ≡ Some p) × (number_of p.0 p.1 p.2 ≡ Some number)
+both_read : (parts : Option (ℕ × ℕ × ℕ)) (number : ℤ) → (parts >>= (λ p. date_number p.0 p.1 p.2)) ≡ Some number
+    → (p : ℕ × ℕ × ℕ) × (parts ≡ Some p) × (date_number p.0 p.1 p.2 ≡ Some number)
 both_read None number e = cc
 both_read (Some p) number e = (p, refl, e)
 
@@ -143,7 +143,7 @@ day_in-date : (text : List ℕ) (number : ℤ) → day_in text ≡ Some number
 unfolding day_in
 day_in-date text number e =
     let read = both_read (parts_in text) number e in
-    let date = number_of-some read.0.0 read.0.1 read.0.2 number read.2 in
+    let date = date_number-some read.0.0 read.0.1 read.0.2 number read.2 in
     (read.0.0, read.0.1, read.0.2, date.0, parts_in-some text read.0 read.1, date.1)
 
 pub day_in-date_text : (day : ℤ) → IsDay day → day_in (date_text day) ≡ Some day
@@ -232,13 +232,25 @@ IsUtf8-date_text day range = IsUtf8-from_ascii (date_text day) (IsAscii-characte
 -- ---- what the code knows of a date of jiff
 
 -- a date that jiff made of a year, a month and a day has the number of them
-pub number_of-jiff : (y m d : ℕ) (date : Date) (number : ℤ) → 1 ≤ y → IsDate (pos y) (pos m) (pos d) → IsYmd (pos y) (pos m) (pos d) date
-    → number ≡ epoch_day date → Some number ≡ number_of y m d
-number_of-jiff y m d date number first valid ymd e =
+pub date_number-jiff : (y m d : ℕ) (date : Date) (number : ℤ) → 1 ≤ y → IsDate (pos y) (pos m) (pos d) → IsYmd (pos y) (pos m) (pos d) date
+    → number ≡ epoch_day date → Some number ≡ date_number y m d
+date_number-jiff y m d date number first valid ymd e =
     let is : IsTableDate y m d = record {
       year_in = (first, omega (arith, signed_arith, valid.0));
       month_in = (omega (arith, signed_arith, valid.1), omega (arith, signed_arith, valid.1));
       day_in = (omega (arith, signed_arith, valid.2), omega (arith, signed_arith, valid.2));
     } in
     let same : epoch_day date ≡ days_from_civil (pos y) m d = rw (ymd.0, ap unsigned_abs ymd.1, ap unsigned_abs ymd.2) refl in
-    ap Some (e ∙ same) ∙ sym (number_of-date y m d is)
+    ap Some (e ∙ same) ∙ sym (date_number-date y m d is)
+
+-- the text of a day is that of the civil date with its number
+pub IsDateText-date_text : (day : ℤ) → IsDay day → IsDateText (date_text day) day
+IsDateText-date_text day range = (day_in-named (date_text day) day).0 (day_in-date_text day range)
+
+-- what is read of a text is its day exactly where the text is that of the day
+pub named_as : (text : List ℕ) (found : Option ℤ) → found ≡ day_in text → (day : ℤ) → (found ≡ Some day) ↔ IsDateText text day
+named_as text found is day = subst (λ (o : Option ℤ). (o ≡ Some day) ↔ IsDateText text day) (sym is) (day_in-named text day)
+
+-- what is printed of a day is the text of the civil date with its number
+pub printed_as : (text : List ℕ) (day : ℤ) → IsDay day → text ≡ date_text day → IsDateText text day
+printed_as text day range is = subst (λ (t : List ℕ). IsDateText t day) (sym is) (IsDateText-date_text day range)

@@ -12,7 +12,7 @@ use Rattle.hex.specs.Hex.{IsBytes, decode_of, decode_pairs, digit_or_error, enco
 use Rattle.hex.specs.Hex as words
 use Rattle.hex.specs.declared.error.FromHexError.{FromHexError}
 use Rattle.hex.proofs.HexLemmas.{IsAscii-encode_with, decode_of-encode_lower, decode_of-even, decode_pairs-ok, length-encode_with}
-use Rattle.pm_value_text.specs.HexText.{IsLowerDigit, bytes_in, digit_in, digit_of, hex_text}
+use Rattle.pm_value_text.specs.Hexadecimal.{IsLowerDigit, bytes_in, digit_in, digit_of, hex_text}
 use Rattle.pm_value_text.specs.Steps.{◌>>=◌}
 
 -- ---- reading
@@ -21,7 +21,7 @@ use Rattle.pm_value_text.specs.Steps.{◌>>=◌}
 digit_in-hex : (c : ℕ) → digit_in c ≡ hex_digit_value c
 digit_in-hex c = grind (arith, nat_tests)
 
--- two digits and the bytes behind them, in our words and in the crate's
+-- two digits and the bytes after them, in our words and in the crate's
 pair_same : (high low : Option ℕ) (bytes : Option (List ℕ)) (r : Result (List ℕ) FromHexError) (a b i : ℕ)
     → bytes ≡ result_ok r
     → (high >>= (λ h. low >>= (λ l. bytes >>= (λ rest. Some ((h * 16 + l) ∷ rest)))))
@@ -40,20 +40,20 @@ bytes_in-pairs i (a ∷ b ∷ text) =
     rw (digit_in-hex a, digit_in-hex b)
     (pair_same (hex_digit_value a) (hex_digit_value b) (bytes_in text) (decode_pairs (i + 2) text) a b i (bytes_in-pairs (i + 2) text))
 
--- nothing before nothing
-none_behind : (high low : Option ℕ)
+-- digits with nothing read after them
+none_after : (high low : Option ℕ)
     → (nothing : Option (List ℕ)) → nothing ≡ None
     → (high >>= (λ h. low >>= (λ l. nothing >>= (λ rest. Some ((h * 16 + l) ∷ rest))))) ≡ None
-none_behind None low nothing e = refl
-none_behind (Some h) None nothing e = refl
-none_behind (Some h) (Some l) nothing e = rw e refl
+none_after None low nothing e = refl
+none_after (Some h) None nothing e = refl
+none_after (Some h) (Some l) nothing e = rw e refl
 
 -- an odd number of characters reads as no bytes
 bytes_in-odd : (text : List ℕ) → length text % 2 ≡ 1 → bytes_in text ≡ None
 unfolding bytes_in
 bytes_in-odd [] odd = absurd (omega arith)
 bytes_in-odd (c ∷ []) odd = refl
-bytes_in-odd (a ∷ b ∷ text) odd = none_behind (digit_in a) (digit_in b) (bytes_in text) (bytes_in-odd text (omega arith))
+bytes_in-odd (a ∷ b ∷ text) odd = none_after (digit_in a) (digit_in b) (bytes_in text) (bytes_in-odd text (omega arith))
 
 -- a text reads as the crate decodes it
 pub bytes_in-decode_of : (text : List ℕ) → bytes_in text ≡ result_ok (decode_of text)

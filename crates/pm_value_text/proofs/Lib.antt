@@ -1,3 +1,4 @@
-pub mod HexLemmas
-pub mod CivilLemmas
-pub mod DateLemmas
+mod CivilLemmas
+mod DateLemmas
+mod HexLemmas
+pub mod Lemmas

@@ -1,3 +1,3 @@
-pub mod DateText
-pub mod HexText
+pub mod Date
+pub mod Hexadecimal
 pub mod Steps

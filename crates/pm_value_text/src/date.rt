@@ -1,27 +1,42 @@
 //! Days as `YYYY-MM-DD`.
 
-ghost use Rattle.std.specs.Prelude.{◌≡◌, ◌≤◌, IfOk, IfSome};
+ghost use Rattle.std.specs.Prelude.{◌≡◌, ◌↔◌, ◌≤◌, ℤ, Some, IfOk, IfSome, IsTrue};
 ghost use Rattle.std.specs.String.{string_bytes};
-ghost use Rattle.pm_value_text.specs.DateText.{IsDay, date_text, day_in, day_of_month, month_of, number_of, pair_in, parts_in, parts_text, year_of};
-ghost use Rattle.pm_value_text.specs.DateText as digits;
+ghost use Rattle.pm_value_text.specs.Date.{IsDateText, IsDay, date_number, date_text, day_in, day_of_month, month_of};
+ghost use Rattle.pm_value_text.specs.Date.{pair_in, parts_in, parts_text, year_of};
+ghost use Rattle.pm_value_text.specs.Date as digits;
 
 use jiff::civil::Date;
 use jiff_core::civil::Date as Day;
 use std::alloc::{AllocError, Global};
 use std::str;
 
-/// The number of the day that a text of ten characters names, counted from 1970-01-01. None for a
-/// text that names no day from 0001-01-01 to 9999-12-31.
-#[tactic(auto, unfolding(crate::specs::DateText::day_in))]
-pub fn day_of(text: &str) -> Option<i32>
-    ensures { result ≡ day_in text.now }
+/// Days from 1970-01-01 to 0001-01-01.
+const FIRST_DAY: i32 = -719162;
+
+/// Days from 1970-01-01 to 9999-12-31.
+const LAST_DAY: i32 = 2932896;
+
+/// Whether a number of days from 1970-01-01 is that of a day from 0001-01-01 to 9999-12-31.
+pub fn is_day(day: i32) -> bool
+    ensures { IsTrue result ↔ IsDay day }
 {
-    let (year, month, day) = parts_of(text.as_bytes())?;
+    FIRST_DAY <= day && day <= LAST_DAY
+}
+
+/// The number of the day whose text `YYYY-MM-DD` this is, counted from 1970-01-01. None for a text
+/// that is of no day from 0001-01-01 to 9999-12-31.
+#[tactic(auto, unfolding(crate::specs::Date::day_in))]
+pub fn parse_date(text: &str) -> Option<i32>
+    ensures named { (day : ℤ) → (result ≡ Some day) ↔ IsDateText text.now day }
+    ensures value { result ≡ day_in text.now }
+{
+    let (year, month, day) = parse_parts(text.as_bytes())?;
     number(year, month, day)
 }
 
 /// The year, the month and the day of ten characters.
-fn parts_of(text: &[u8]) -> Option<(u16, u8, u8)>
+fn parse_parts(text: &[u8]) -> Option<(u16, u8, u8)>
     ensures value { result ≡ parts_in text.now }
     ensures bound { IfSome result (λ parts. (parts.0 ≤ 9999) × (parts.1 ≤ 99) × (parts.2 ≤ 99)) }
 {
@@ -52,7 +67,7 @@ fn number(year: u16, month: u8, day: u8) -> Option<i32>
     requires year { year ≤ 9999 }
     requires month { month ≤ 99 }
     requires day { day ≤ 99 }
-    ensures { result ≡ number_of year month day }
+    ensures { result ≡ date_number year month day }
 {
     // jiff has the years before 1 too.
     if year == 0 {
@@ -64,11 +79,12 @@ fn number(year: u16, month: u8, day: u8) -> Option<i32>
     }
 }
 
-/// The ten characters of the day with that number, counted from 1970-01-01.
-#[tactic(auto, unfolding(crate::specs::DateText::date_text))]
-pub fn date_of(alloc: Global, day: i32) -> Result<String, AllocError>
+/// The text `YYYY-MM-DD` of the civil date that has this day number, counted from 1970-01-01.
+#[tactic(auto, unfolding(crate::specs::Date::date_text))]
+pub fn print_date(alloc: Global, day: i32) -> Result<String, AllocError>
     requires { IsDay day }
-    ensures { IfOk result (λ text. string_bytes text ≡ date_text day) }
+    ensures named { IfOk result (λ text. IsDateText (string_bytes text) day) }
+    ensures value { IfOk result (λ text. string_bytes text ≡ date_text day) }
 {
     let (year, month, day) = parts(day);
     let characters = characters(year, month, day);

@@ -3,7 +3,7 @@ use Rattle.std.proofs.lemmas.Int.{to_z-of_z}
 use Rattle.jiff_core.proofs.SignedLemmas.{signed_arith}
 use Rattle.jiff_core.specs.Date.{epoch_day}
 use Rattle.jiff_core.specs.declared.civil.date.Date.{Date}
-use Rattle.pm_value_text.specs.DateText.{IsDay, day_of_month, month_of, year_of}
+use Rattle.pm_value_text.specs.Date.{IsDay, day_of_month, month_of, year_of}
 use Rattle.pm_value_text.proofs.CivilLemmas.{date-parts}
 use Rattle.pm_value_text.proofs.DateLemmas.{IsShort, parts-short}
 use Rattle.pm_value_text.proofs.date.parts.Goals as goal

@@ -1,5 +1,7 @@
--- Days as text: `YYYY-MM-DD`. The calendar and the number of a day are jiff's.
-use Rattle.std.specs.Prelude.{◌≡◌, ℕ, ◌+◌, ◌-◌, ◌*◌, ◌/◌, ◌%◌, ◌≤◌, ◌==◌, ◌&&◌, nat_lt, Bool, ℤ, pos, ◌+ℤ◌, unsigned_abs, List, [], ◌∷◌, ◌++◌, length, Option, Some, None, if◌then◌else◌, slice_index, ◌⊎◌}
+-- Days as text: `YYYY-MM-DD` of the civil date. The calendar and the number of a date are jiff's.
+use Rattle.std.specs.Prelude.{◌≡◌, ℕ, ◌+◌, ◌-◌, ◌*◌, ◌/◌, ◌%◌, ◌≤◌, ◌==◌, ◌&&◌, nat_lt, Bool, ℤ, pos, ◌+ℤ◌}
+use Rattle.std.specs.Prelude.{unsigned_abs, List, [], ◌∷◌, ◌++◌, length, Option, Some, None, if◌then◌else◌}
+use Rattle.std.specs.Prelude.{slice_index, ◌⊎◌}
 use Rattle.std.specs.Char.{is_ascii_digit}
 use Rattle.std.specs.Int.{IsInRange, is_in_range}
 use Rattle.jiff_core.specs.Calendar.{IsBetween, IsCivilDate, days_from_civil, days_in_month}
@@ -14,12 +16,12 @@ IsDay = IsBetween first_day last_day
 abbrev pub two_digits : ℕ → List ℕ
 two_digits n = (48 + n / 10) ∷ (48 + n % 10) ∷ []
 
--- the text of a year below 10000, a month and a day
+-- `YYYY-MM-DD`: the text of a year below 10000, a month and a day
 abbrev pub parts_text : ℕ → ℕ → ℕ → List ℕ
 parts_text year month day =
     two_digits (year / 100) ++ two_digits (year % 100) ++ 45 ∷ two_digits month ++ 45 ∷ two_digits day
 
--- the text names the day: it is that of a civil date from 0001-01-01 to 9999-12-31 with this number
+-- the text is `YYYY-MM-DD` of the civil date, from 0001-01-01 to 9999-12-31, that has this day number
 abbrev pub IsDateText : List ℕ → ℤ → Type 0
 IsDateText text number =
     (year month day : ℕ) × (1 ≤ year) × IsCivilDate (pos year) month day
@@ -54,15 +56,15 @@ is_date year month day =
     && is_in_range 1 (days_in_month (pos year) month) day
 
 -- the number of a date, if there is such a date
-abbrev pub number_of : ℕ → ℕ → ℕ → Option ℤ
-number_of year month day =
+abbrev pub date_number : ℕ → ℕ → ℕ → Option ℤ
+date_number year month day =
     if is_date year month day then Some (days_from_civil (pos year) month day) else None
 
 -- the number of the day that a text names; none for a text that names no day
 unfoldable pub day_in : List ℕ → Option ℤ
 day_in text = do
   parts ← parts_in text
-  number_of parts.0 parts.1 parts.2
+  date_number parts.0 parts.1 parts.2
 
 -- ---- from a day to its text, by years that begin on 1 March, so that a leap day comes last
 
@@ -97,7 +99,7 @@ month_of day = if nat_lt 12 (march_month day) then march_month day - 12 else mar
 abbrev pub day_of_month : ℤ → ℕ
 day_of_month day = (5 * day_of_year day + 461) % 153 / 5 + 1
 
--- the text of a day from 0001-01-01 to 9999-12-31
+-- the text of a day from 0001-01-01 to 9999-12-31: the one with IsDateText, as the laws say
 unfoldable pub date_text : ℤ → List ℕ
 date_text day = parts_text (year_of day) (month_of day) (day_of_month day)
 

@@ -1,5 +1,5 @@
 use Rattle.pm_value_text.proofs.DateLemmas.{day_in-date_text, day_in-named, text-day_in}
-use Rattle.pm_value_text.proofs.law.dates_law.Goals as goal
+use Rattle.pm_value_text.proofs.laws.dates_law.Goals as goal
 
 pub returns-clause-named : goal.returns-clause-named
 returns-clause-named c = day_in-named

@@ -1,6 +1,6 @@
 use Rattle.std.proofs.Common.{refl}
-use Rattle.pm_value_text.specs.DateText.{date_text}
-use Rattle.pm_value_text.proofs.law.known_days_law.Goals as goal
+use Rattle.pm_value_text.specs.Date.{date_text}
+use Rattle.pm_value_text.proofs.laws.known_days_law.Goals as goal
 
 pub returns-clause-first : goal.returns-clause-first
 unfolding date_text

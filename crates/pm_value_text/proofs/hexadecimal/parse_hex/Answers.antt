@@ -1,7 +1,7 @@
 use Rattle.std.proofs.Common.{◌∙◌, ap, sym, inl, inr}
 use Rattle.std.specs.Result.{result_ok}
 use Rattle.pm_value_text.proofs.HexLemmas.{bytes_in-decode_of}
-use Rattle.pm_value_text.proofs.hexadecimal.bytes_of.Goals as goal
+use Rattle.pm_value_text.proofs.hexadecimal.parse_hex.Goals as goal
 
 pub returns-in-Ok : goal.returns-in-Ok
 returns-in-Ok c = sym (bytes_in-decode_of c.args.text.now ∙ ap result_ok c.in-Ok.ensures.ok)

@@ -4,8 +4,8 @@ ghost use Rattle.std.specs.Prelude.{◌≡◌, ◌↔◌, ◌<◌, ◌*◌, ℕ,
 ghost use Rattle.std.specs.Char.{is_ascii_uppercase};
 ghost use Rattle.std.specs.List.{AllByRecursion};
 ghost use Rattle.pm_values.specs.Fits.{first_day, last_day};
-ghost use Rattle.pm_value_text.specs.DateText.{IsDateCharacter, IsDateText, IsDay, date_text, day_in};
-ghost use Rattle.pm_value_text.specs.HexText.{IsLowerDigit, bytes_in, hex_text};
+ghost use Rattle.pm_value_text.specs.Date.{IsDateCharacter, IsDateText, IsDay, date_text, day_in};
+ghost use Rattle.pm_value_text.specs.Hexadecimal.{IsLowerDigit, bytes_in, hex_text};
 
 /// Bytes are read again from their digits, and no other text without an upper-case letter reads as
 /// them. The digits are two for each byte, ASCII and in lower case.

@@ -1,5 +1,6 @@
 -- Bytes as text: two hexadecimal digits for each, the high four bits first.
-use Rattle.std.specs.Prelude.{ℕ, ◌+◌, ◌-◌, ◌*◌, ◌/◌, ◌%◌, ◌⊎◌, List, [], ◌∷◌, Option, Some, None, codes, flat_map, if◌then◌else◌, slice_index}
+use Rattle.std.specs.Prelude.{ℕ, ◌+◌, ◌-◌, ◌*◌, ◌/◌, ◌%◌, ◌⊎◌, List, [], ◌∷◌, Option, Some, None, codes, flat_map}
+use Rattle.std.specs.Prelude.{if◌then◌else◌, slice_index}
 use Rattle.std.specs.Int.{IsInRange, is_in_range}
 use Rattle.pm_value_text.specs.Steps.{◌>>=◌}
 

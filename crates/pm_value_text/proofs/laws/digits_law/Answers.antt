@@ -1,5 +1,5 @@
 use Rattle.pm_value_text.proofs.HexLemmas.{IsUtf8-hex_text, bytes_in-hex_text, bytes_in-some, hex_text-digits, length-hex_text, text-bytes_in}
-use Rattle.pm_value_text.proofs.law.digits_law.Goals as goal
+use Rattle.pm_value_text.proofs.laws.digits_law.Goals as goal
 
 pub returns-clause-again : goal.returns-clause-again
 returns-clause-again c = bytes_in-hex_text

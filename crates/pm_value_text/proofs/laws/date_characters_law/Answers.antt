@@ -1,5 +1,5 @@
 use Rattle.pm_value_text.proofs.DateLemmas.{IsUtf8-date_text, date_text-characters, length-date_text}
-use Rattle.pm_value_text.proofs.law.date_characters_law.Goals as goal
+use Rattle.pm_value_text.proofs.laws.date_characters_law.Goals as goal
 
 pub returns-clause-length : goal.returns-clause-length
 returns-clause-length c = length-date_text
