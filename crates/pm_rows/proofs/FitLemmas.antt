@@ -20,13 +20,14 @@ use Rattle.pm_values.specs.declared.kind.Kind.{Kind}
 use Rattle.pm_values.specs.declared.refusal.Why.TheVariants as why
 use Rattle.pm_values.specs.declared.value.Value.{Value}
 use Rattle.pm_values.specs.declared.value.Value.TheVariants.{Null, Bool as Truth, Int, Text, Bytes, Day, Millis}
-use Rattle.pm_value_text.specs.DateText.{day_in}
-use Rattle.pm_value_text.specs.HexText.{bytes_in}
-use Rattle.pm_rows.specs.Reading.{Fault, ◌>>=◌, json_of, array_of, kind_of, truth_at, number_at, least, greatest, within, integer_at, whole_at, millis_at, text_at, bytes_at, day_at, value_at, item_at, values_at, row_of_items, row_of}
+use Rattle.pm_value_text.specs.Date.{day_in}
+use Rattle.pm_value_text.specs.Hexadecimal.{bytes_in}
+use Rattle.pm_base.specs.Outcome.{◌>>=◌}
+use Rattle.pm_rows.specs.Reading.{Fault, json_in, items_in, kind_in, truth_at, number_at, least, greatest, within, integer_at, whole_at, millis_at, text_at, bytes_at, day_at, value_at, item_at, values_at, row_of_items, row_of}
 use Rattle.pm_rows.specs.RowText.{kind_text, item_data, row_text}
 use Rattle.pm_rows.proofs.EscapeLemmas.{IsAscii-are_ascii, past_ascii, past_text, past_quoted, IsUtf8-from_quoted}
-use Rattle.pm_value_text.proofs.HexLemmas.{bytes_in-some}
-use Rattle.pm_value_text.proofs.DateLemmas.{text-day_in}
+use Rattle.pm_value_text.proofs.Lemmas.{bytes_in-some}
+use Rattle.pm_value_text.proofs.Lemmas.{text-day_in}
 use Rattle.pm_rows.proofs.RowLemmas.{IsAtom-item_data}
 use Rattle.pm_rows.proofs.TextLemmas.{IsUtf8-compact_text}
 
@@ -43,10 +44,10 @@ found_at (Some b) a e is = cc
 found_at None a e is = cc
 
 -- an integer within the range is in it
-within-range : (place : ℕ) (low high z n : ℤ) → within place low high z ≡ Ok n → (low ≤ℤ n) × (n ≤ℤ high)
-within-range place low high z n e =
+within-range : (index : ℕ) (low high z n : ℤ) → within index low high z ≡ Ok n → (low ≤ℤ n) × (n ≤ℤ high)
+within-range index low high z n e =
     let test = int_le low z && int_le z high in
-    elim test as (λ b. test ≡ b → cond {A = Result ℤ Fault} b (Ok z) (Err (why.Range, place)) ≡ Ok n → (low ≤ℤ n) × (n ≤ℤ high)) [
+    elim test as (λ b. test ≡ b → cond {A = Result ℤ Fault} b (Ok z) (Err (why.Range, index)) ≡ Ok n → (low ≤ℤ n) × (n ≤ℤ high)) [
       | true ↦ λ is e.
           let same : z ≡ n = cc in
           let sides = and_parts _ _ is in
@@ -66,77 +67,77 @@ abbrev AlmostFits : Column → Value → Type 0
 AlmostFits column Null = IsTrue column.nullable
 AlmostFits column v = AlmostInType column.kind v
 
-truth : (place : ℕ) (d : Data) (v : Value) → truth_at place d ≡ Ok v → AlmostInType types.Boolean v
-truth place (boolean b) v e = let same : Truth b ≡ v = cc in subst (AlmostInType types.Boolean) same tt
-truth place null v e = cc
-truth place (number n) v e = cc
-truth place (string s) v e = cc
-truth place (array ds) v e = cc
-truth place (object ms) v e = cc
+truth : (index : ℕ) (d : Data) (v : Value) → truth_at index d ≡ Ok v → AlmostInType types.Boolean v
+truth index (boolean b) v e = let same : Truth b ≡ v = cc in subst (AlmostInType types.Boolean) same tt
+truth index null v e = cc
+truth index (number n) v e = cc
+truth index (string s) v e = cc
+truth index (array ds) v e = cc
+truth index (object ms) v e = cc
 
-text : (place : ℕ) (d : Data) (v : Value) → text_at place d ≡ Ok v → AlmostInType types.Text v
-text place (string s) v e = let same : Text s ≡ v = cc in subst (AlmostInType types.Text) same refl
-text place null v e = cc
-text place (boolean b) v e = cc
-text place (number n) v e = cc
-text place (array ds) v e = cc
-text place (object ms) v e = cc
+text : (index : ℕ) (d : Data) (v : Value) → text_at index d ≡ Ok v → AlmostInType types.Text v
+text index (string s) v e = let same : Text s ≡ v = cc in subst (AlmostInType types.Text) same refl
+text index null v e = cc
+text index (boolean b) v e = cc
+text index (number n) v e = cc
+text index (array ds) v e = cc
+text index (object ms) v e = cc
 
 -- an integer that is read is in its range
-integer : (place : ℕ) (low high : ℤ) (d : Data) (n : ℤ) → integer_at place low high d ≡ Ok n → (low ≤ℤ n) × (n ≤ℤ high)
-integer place low high d n e =
-    let parts = bound (number_at place d) (within place low high) n e in
-    within-range place low high parts.0 n parts.2
+integer : (index : ℕ) (low high : ℤ) (d : Data) (n : ℤ) → integer_at index low high d ≡ Ok n → (low ≤ℤ n) × (n ≤ℤ high)
+integer index low high d n e =
+    let parts = bound (number_at index d) (within index low high) n e in
+    within-range index low high parts.0 n parts.2
 
-whole : (place : ℕ) (low high : ℤ) (d : Data) (v : Value) → whole_at place low high d ≡ Ok v → (n : ℤ) × (Int n ≡ v) × (low ≤ℤ n) × (n ≤ℤ high)
-whole place low high d v e =
-    let parts = bound (integer_at place low high d) (λ n. Ok (Int n)) v e in
-    let range = integer place low high d parts.0 parts.1 in
+whole : (index : ℕ) (low high : ℤ) (d : Data) (v : Value) → whole_at index low high d ≡ Ok v → (n : ℤ) × (Int n ≡ v) × (low ≤ℤ n) × (n ≤ℤ high)
+whole index low high d v e =
+    let parts = bound (integer_at index low high d) (λ n. Ok (Int n)) v e in
+    let range = integer index low high d parts.0 parts.1 in
     (parts.0, cc, range.0, range.1)
 
-millis : (place : ℕ) (d : Data) (v : Value) → millis_at place d ≡ Ok v → AlmostInType types.Timestamp v
-millis place d v e =
-    let parts = bound (integer_at place (least 64) (greatest 64) d) (λ n. Ok (Millis n)) v e in
-    let range = integer place (least 64) (greatest 64) d parts.0 parts.1 in
+millis : (index : ℕ) (d : Data) (v : Value) → millis_at index d ≡ Ok v → AlmostInType types.Timestamp v
+millis index d v e =
+    let parts = bound (integer_at index (least 64) (greatest 64) d) (λ n. Ok (Millis n)) v e in
+    let range = integer index (least 64) (greatest 64) d parts.0 parts.1 in
     let same : Millis parts.0 ≡ v = cc in
     subst (AlmostInType types.Timestamp) same (omega (arith, ints))
 
-bytes : (place : ℕ) (d : Data) (v : Value) → bytes_at place d ≡ Ok v → AlmostInType types.Bytes v
-bytes place (string s) v e =
-    let parts = bound {B = Value} (ok_or (bytes_in s) (why.Range, place)) (λ bytes. Ok (Bytes bytes)) v e in
+bytes : (index : ℕ) (d : Data) (v : Value) → bytes_at index d ≡ Ok v → AlmostInType types.Bytes v
+bytes index (string s) v e =
+    let parts = bound {B = Value} (ok_or (bytes_in s) (why.Range, index)) (λ bytes. Ok (Bytes bytes)) v e in
     let same : Bytes parts.0 ≡ v = cc in
-    subst (AlmostInType types.Bytes) same (bytes_in-some s parts.0 (found_at (bytes_in s) parts.0 (why.Range, place) parts.1)).1
-bytes place null v e = cc
-bytes place (boolean b) v e = cc
-bytes place (number n) v e = cc
-bytes place (array ds) v e = cc
-bytes place (object ms) v e = cc
+    subst (AlmostInType types.Bytes) same (bytes_in-some s parts.0 (found_at (bytes_in s) parts.0 (why.Range, index) parts.1)).1
+bytes index null v e = cc
+bytes index (boolean b) v e = cc
+bytes index (number n) v e = cc
+bytes index (array ds) v e = cc
+bytes index (object ms) v e = cc
 
-day : (place : ℕ) (d : Data) (v : Value) → day_at place d ≡ Ok v → AlmostInType types.Date v
-day place (string s) v e =
-    let parts = bound {B = Value} (ok_or (day_in s) (why.Range, place)) (λ day. Ok (Day day)) v e in
+day : (index : ℕ) (d : Data) (v : Value) → day_at index d ≡ Ok v → AlmostInType types.Date v
+day index (string s) v e =
+    let parts = bound {B = Value} (ok_or (day_in s) (why.Range, index)) (λ day. Ok (Day day)) v e in
     let same : Day parts.0 ≡ v = cc in
-    subst (AlmostInType types.Date) same (text-day_in s parts.0 (found_at (day_in s) parts.0 (why.Range, place) parts.1)).0
-day place null v e = cc
-day place (boolean b) v e = cc
-day place (number n) v e = cc
-day place (array ds) v e = cc
-day place (object ms) v e = cc
+    subst (AlmostInType types.Date) same (text-day_in s parts.0 (found_at (day_in s) parts.0 (why.Range, index) parts.1)).0
+day index null v e = cc
+day index (boolean b) v e = cc
+day index (number n) v e = cc
+day index (array ds) v e = cc
+day index (object ms) v e = cc
 
-AlmostInType-value_at : (place : ℕ) (kind : ColType) (d : Data) (v : Value) → value_at place kind d ≡ Ok v → AlmostInType kind v
-AlmostInType-value_at place types.Boolean d v e = truth place d v e
-AlmostInType-value_at place types.TinyInt d v e = let is = whole place (least 8) (greatest 8) d v e in subst (AlmostInType types.TinyInt) is.1 (omega (arith, ints))
-AlmostInType-value_at place types.SmallInt d v e = let is = whole place (least 16) (greatest 16) d v e in subst (AlmostInType types.SmallInt) is.1 (omega (arith, ints))
-AlmostInType-value_at place types.Int d v e = let is = whole place (least 32) (greatest 32) d v e in subst (AlmostInType types.Int) is.1 (omega (arith, ints))
-AlmostInType-value_at place types.BigInt d v e = let is = whole place (least 64) (greatest 64) d v e in subst (AlmostInType types.BigInt) is.1 (omega (arith, ints))
-AlmostInType-value_at place types.Text d v e = text place d v e
-AlmostInType-value_at place types.Bytes d v e = bytes place d v e
-AlmostInType-value_at place types.Date d v e = day place d v e
-AlmostInType-value_at place types.Timestamp d v e = millis place d v e
+AlmostInType-value_at : (index : ℕ) (kind : ColType) (d : Data) (v : Value) → value_at index kind d ≡ Ok v → AlmostInType kind v
+AlmostInType-value_at index types.Boolean d v e = truth index d v e
+AlmostInType-value_at index types.TinyInt d v e = let is = whole index (least 8) (greatest 8) d v e in subst (AlmostInType types.TinyInt) is.1 (omega (arith, ints))
+AlmostInType-value_at index types.SmallInt d v e = let is = whole index (least 16) (greatest 16) d v e in subst (AlmostInType types.SmallInt) is.1 (omega (arith, ints))
+AlmostInType-value_at index types.Int d v e = let is = whole index (least 32) (greatest 32) d v e in subst (AlmostInType types.Int) is.1 (omega (arith, ints))
+AlmostInType-value_at index types.BigInt d v e = let is = whole index (least 64) (greatest 64) d v e in subst (AlmostInType types.BigInt) is.1 (omega (arith, ints))
+AlmostInType-value_at index types.Text d v e = text index d v e
+AlmostInType-value_at index types.Bytes d v e = bytes index d v e
+AlmostInType-value_at index types.Date d v e = day index d v e
+AlmostInType-value_at index types.Timestamp d v e = millis index d v e
 
-null_value : (place : ℕ) (column : Column) (v : Value) (b : Bool) → column.nullable ≡ b → cond {A = Result Value Fault} b (Ok Null) (Err (why.Null, place)) ≡ Ok v → AlmostFits column v
-null_value place column v true is e = let same : Null ≡ v = cc in subst (AlmostFits column) same is
-null_value place column v false is e = cc
+null_value : (index : ℕ) (column : Column) (v : Value) (b : Bool) → column.nullable ≡ b → cond {A = Result Value Fault} b (Ok Null) (Err (why.Null, index)) ≡ Ok v → AlmostFits column v
+null_value index column v true is e = let same : Null ≡ v = cc in subst (AlmostFits column) same is
+null_value index column v false is e = cc
 
 -- a value that isn't null fits where it is of the column's type
 not_null : (column : Column) (v : Value) → AlmostInType column.kind v → AlmostFits column v
@@ -152,13 +153,13 @@ not_null column (Bytes bytes) h = h
 not_null column (Day day) h = h
 not_null column (Millis n) h = h
 
-AlmostFits-item_at : (place : ℕ) (column : Column) (d : Data) (v : Value) → item_at place column d ≡ Ok v → AlmostFits column v
-AlmostFits-item_at place column null v e = null_value place column v column.nullable refl e
-AlmostFits-item_at place column (boolean b) v e = not_null column v (AlmostInType-value_at place column.kind (boolean b) v e)
-AlmostFits-item_at place column (number n) v e = not_null column v (AlmostInType-value_at place column.kind (number n) v e)
-AlmostFits-item_at place column (string s) v e = not_null column v (AlmostInType-value_at place column.kind (string s) v e)
-AlmostFits-item_at place column (array ds) v e = not_null column v (AlmostInType-value_at place column.kind (array ds) v e)
-AlmostFits-item_at place column (object ms) v e = not_null column v (AlmostInType-value_at place column.kind (object ms) v e)
+AlmostFits-item_at : (index : ℕ) (column : Column) (d : Data) (v : Value) → item_at index column d ≡ Ok v → AlmostFits column v
+AlmostFits-item_at index column null v e = null_value index column v column.nullable refl e
+AlmostFits-item_at index column (boolean b) v e = not_null column v (AlmostInType-value_at index column.kind (boolean b) v e)
+AlmostFits-item_at index column (number n) v e = not_null column v (AlmostInType-value_at index column.kind (number n) v e)
+AlmostFits-item_at index column (string s) v e = not_null column v (AlmostInType-value_at index column.kind (string s) v e)
+AlmostFits-item_at index column (array ds) v e = not_null column v (AlmostInType-value_at index column.kind (array ds) v e)
+AlmostFits-item_at index column (object ms) v e = not_null column v (AlmostInType-value_at index column.kind (object ms) v e)
 
 abbrev AllAlmostFit : List Column → Values → Type 0
 AllAlmostFit [] [] = Unit {0}
@@ -174,13 +175,13 @@ AllAlmostFit-step column columns (Ok v) (Ok rest) row first later e =
     let same : v ∷ rest ≡ row = cc in
     subst (AllAlmostFit (column ∷ columns)) same (first v refl, later rest refl)
 
-AllAlmostFit-values_at : (place : ℕ) (columns : List Column) (ds : List Data) (row : Values) → values_at place columns ds ≡ Ok row → AllAlmostFit columns row
-AllAlmostFit-values_at place [] [] row e = let same : [] ≡ row = cc in subst (AllAlmostFit []) same tt
-AllAlmostFit-values_at place [] (d ∷ ds) row e = cc
-AllAlmostFit-values_at place (column ∷ columns) [] row e = cc
-AllAlmostFit-values_at place (column ∷ columns) (d ∷ ds) row e =
-    AllAlmostFit-step column columns (item_at place column d) (values_at (suc place) columns ds) row
-    (λ v. AlmostFits-item_at place column d v) (λ row. AllAlmostFit-values_at (suc place) columns ds row) e
+AllAlmostFit-values_at : (index : ℕ) (columns : List Column) (ds : List Data) (row : Values) → values_at index columns ds ≡ Ok row → AllAlmostFit columns row
+AllAlmostFit-values_at index [] [] row e = let same : [] ≡ row = cc in subst (AllAlmostFit []) same tt
+AllAlmostFit-values_at index [] (d ∷ ds) row e = cc
+AllAlmostFit-values_at index (column ∷ columns) [] row e = cc
+AllAlmostFit-values_at index (column ∷ columns) (d ∷ ds) row e =
+    AllAlmostFit-step column columns (item_at index column d) (values_at (suc index) columns ds) row
+    (λ v. AlmostFits-item_at index column d v) (λ row. AllAlmostFit-values_at (suc index) columns ds row) e
 
 -- ---- what is printed so is UTF-8
 
@@ -227,7 +228,7 @@ counted columns ds false row e = cc
 row_items : (columns : List Column) (ds : List Data) (r : Kind × Values) → row_of_items columns ds ≡ Ok r → AllAlmostFit columns r.1
 row_items columns [] r e = cc
 row_items columns (first ∷ ds) r e =
-    let kind = bound {B = Kind × Values} (kind_of first) _ r e in
+    let kind = bound {B = Kind × Values} (kind_in first) _ r e in
     let row = bound {B = Kind × Values} _ (λ (row : Values). Ok (kind.0, row)) r kind.2 in
     let same : (kind.0, row.0) ≡ r = cc in
     subst (λ (r : Kind × Values). AllAlmostFit columns r.1) same (counted columns ds (length ds == length columns) row.0 row.1)
@@ -236,7 +237,7 @@ row_items columns (first ∷ ds) r e =
 pub Fits-row_of : (columns : List Column) (line : List ℕ) (r : Kind × Values) → row_of columns line ≡ Ok r → line ≡ row_text r.0 r.1 → Fits columns r.1
 unfolding row_of
 Fits-row_of columns line r e same =
-    let json = bound {B = Kind × Values} (json_of line) _ r e in
-    let items = bound {B = Kind × Values} (array_of json.0) (row_of_items columns) r json.2 in
+    let json = bound {B = Kind × Values} (json_in line) _ r e in
+    let items = bound {B = Kind × Values} (items_in json.0) (row_of_items columns) r json.2 in
     let utf8 = utf8_line line json.0 (is_utf8 line) refl json.1 in
     Fits-row_text columns r.0 r.1 (row_items columns items.0 r items.2) (subst IsUtf8 same utf8)

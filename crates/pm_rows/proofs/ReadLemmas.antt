@@ -12,19 +12,20 @@ use Rattle.pm_values.specs.Order.{Values}
 use Rattle.pm_values.specs.declared.column.Column.{Column}
 use Rattle.pm_values.specs.declared.refusal.Why.TheVariants as why
 use Rattle.pm_values.specs.declared.value.Value.{Value}
-use Rattle.pm_rows.specs.Reading.{Fault, ◌>>=◌, json_of, list_of, array_of, item_at, values_at}
+use Rattle.pm_base.specs.Outcome.{◌>>=◌}
+use Rattle.pm_rows.specs.Reading.{Fault, json_in, list_of, items_in, item_at, values_at}
 
 -- ---- the JSON of a line
 
-pub json_of-ok : (line : List ℕ) (d : Data) → IsUtf8 line → read line ≡ Some d → json_of line ≡ Ok d
-json_of-ok line d utf8 is = rw (is_utf8-from_IsUtf8 line utf8, is)
+pub json_in-ok : (line : List ℕ) (d : Data) → IsUtf8 line → read line ≡ Some d → json_in line ≡ Ok d
+json_in-ok line d utf8 is = rw (is_utf8-from_IsUtf8 line utf8, is)
 
-refused_at : (line : List ℕ) (b : Bool) → is_utf8 line ≡ b → (IsUtf8 line → read line ≡ None) → json_of line ≡ Err (why.Json, 0)
+refused_at : (line : List ℕ) (b : Bool) → is_utf8 line ≡ b → (IsUtf8 line → read line ≡ None) → json_in line ≡ Err (why.Json, 0)
 refused_at line true is none = rw (is, none (IsUtf8-from_is_utf8 line is))
 refused_at line false is none = rw is
 
-pub json_of-err : (line : List ℕ) → (IsUtf8 line → read line ≡ None) → json_of line ≡ Err (why.Json, 0)
-json_of-err line none = refused_at line (is_utf8 line) refl none
+pub json_in-err : (line : List ℕ) → (IsUtf8 line → read line ≡ None) → json_in line ≡ Err (why.Json, 0)
+json_in-err line none = refused_at line (is_utf8 line) refl none
 
 -- ---- the items of an array
 
@@ -32,42 +33,42 @@ pub list_of-items_of : (ds : List Data) → list_of (items_of ds) ≡ ds
 list_of-items_of [] = refl
 list_of-items_of (d ∷ ds) = ap (λ l. d ∷ l) (list_of-items_of ds)
 
-pub array_of-as_array : (d : Data) (ds : List Data) → Some (items_of ds) ≡ as_array d → array_of d ≡ Ok ds
-array_of-as_array null ds is = cc
-array_of-as_array (boolean b) ds is = cc
-array_of-as_array (number n) ds is = cc
-array_of-as_array (string s) ds is = cc
-array_of-as_array (array items) ds is = let same : items_of ds ≡ items = cc in ap Ok (ap list_of (sym same) ∙ list_of-items_of ds)
-array_of-as_array (object ms) ds is = cc
+pub items_in-as_array : (d : Data) (ds : List Data) → Some (items_of ds) ≡ as_array d → items_in d ≡ Ok ds
+items_in-as_array null ds is = cc
+items_in-as_array (boolean b) ds is = cc
+items_in-as_array (number n) ds is = cc
+items_in-as_array (string s) ds is = cc
+items_in-as_array (array items) ds is = let same : items_of ds ≡ items = cc in ap Ok (ap list_of (sym same) ∙ list_of-items_of ds)
+items_in-as_array (object ms) ds is = cc
 
 -- ---- the values of the items, one column after another
 
--- what is read, behind the values so far
-abbrev pub with_front : Values → Result Values Fault → Result Values Fault
-with_front front reading = reading >>= λ more. Ok (front ++ more)
+-- what is read, after the values so far
+abbrev pub prefixed : Values → Result Values Fault → Result Values Fault
+prefixed before reading = reading >>= λ more. Ok (before ++ more)
 
-with_front-with_front : (front : Values) (v : Value) (reading : Result Values Fault) → with_front front (reading >>= λ more. Ok (v ∷ more)) ≡ with_front (front ++ v ∷ []) reading
-with_front-with_front front v (Ok more) = ap Ok (sym (append_assoc front (v ∷ []) more))
-with_front-with_front front v (Err e) = refl
+prefixed-prefixed : (before : Values) (v : Value) (reading : Result Values Fault) → prefixed before (reading >>= λ more. Ok (v ∷ more)) ≡ prefixed (before ++ v ∷ []) reading
+prefixed-prefixed before v (Ok more) = ap Ok (sym (append_assoc before (v ∷ []) more))
+prefixed-prefixed before v (Err e) = refl
 
--- the readings from the place on begin with that at the place
-at_place : (place : ℕ) (columns : List Column) (items : List Json) (column : Column) (json : Json) → place < length columns → place < length items → column ≡ get_or columns place column → json ≡ get_or items place json
-    → values_at place (drop place columns) (map view (drop place items)) ≡ values_at place (column ∷ drop (suc place) columns) (view json ∷ map view (drop (suc place) items))
-at_place place columns items column json here there is was =
-    rw (drop-cons columns place column, drop-cons items place json, ← is, ← was) refl
+-- the readings from the index on begin with that at the index
+at_index : (index : ℕ) (columns : List Column) (items : List Json) (column : Column) (json : Json) → index < length columns → index < length items → column ≡ get_or columns index column → json ≡ get_or items index json
+    → values_at index (drop index columns) (map view (drop index items)) ≡ values_at index (column ∷ drop (suc index) columns) (view json ∷ map view (drop (suc index) items))
+at_index index columns items column json here there is was =
+    rw (drop-cons columns index column, drop-cons items index json, ← is, ← was) refl
 
-pub values_at-ok : (place : ℕ) (columns : List Column) (items : List Json) (column : Column) (json : Json) (front : Values) (v : Value)
-    → place < length columns → place < length items → column ≡ get_or columns place column → json ≡ get_or items place json → item_at place column (view json) ≡ Ok v
-    → with_front (front ++ v ∷ []) (values_at (place + 1) (drop (place + 1) columns) (map view (drop (place + 1) items))) ≡ with_front front (values_at place (drop place columns) (map view (drop place items)))
-values_at-ok place columns items column json front v here there is was reads =
-    rw (add-one, at_place place columns items column json here there is was, reads)
-    (sym (with_front-with_front front v (values_at (suc place) (drop (suc place) columns) (map view (drop (suc place) items)))))
+pub values_at-ok : (index : ℕ) (columns : List Column) (items : List Json) (column : Column) (json : Json) (before : Values) (v : Value)
+    → index < length columns → index < length items → column ≡ get_or columns index column → json ≡ get_or items index json → item_at index column (view json) ≡ Ok v
+    → prefixed (before ++ v ∷ []) (values_at (index + 1) (drop (index + 1) columns) (map view (drop (index + 1) items))) ≡ prefixed before (values_at index (drop index columns) (map view (drop index items)))
+values_at-ok index columns items column json before v here there is was reads =
+    rw (add-one, at_index index columns items column json here there is was, reads)
+    (sym (prefixed-prefixed before v (values_at (suc index) (drop (suc index) columns) (map view (drop (suc index) items)))))
 
-pub values_at-err : (place : ℕ) (columns : List Column) (items : List Json) (column : Column) (json : Json) (front : Values) (e : Fault)
-    → place < length columns → place < length items → column ≡ get_or columns place column → json ≡ get_or items place json → item_at place column (view json) ≡ Err e
-    → with_front front (values_at place (drop place columns) (map view (drop place items))) ≡ Err e
-values_at-err place columns items column json front e here there is was reads =
-    rw (at_place place columns items column json here there is was, reads) refl
+pub values_at-err : (index : ℕ) (columns : List Column) (items : List Json) (column : Column) (json : Json) (before : Values) (e : Fault)
+    → index < length columns → index < length items → column ≡ get_or columns index column → json ≡ get_or items index json → item_at index column (view json) ≡ Err e
+    → prefixed before (values_at index (drop index columns) (map view (drop index items))) ≡ Err e
+values_at-err index columns items column json before e here there is was reads =
+    rw (at_index index columns items column json here there is was, reads) refl
 
 pub Fits-push : (columns : List Column) (values : Values) (column : Column) (v : Value) → Fits columns values → FitsColumn column v → Fits (columns ++ column ∷ []) (values ++ v ∷ [])
 Fits-push [] [] column v fits this = (this, tt)

@@ -1,5 +1,5 @@
 -- What holds of the lines of all rows.
-use Rattle.std.proofs.Common.{◌≡◌, ◌≢◌, ℕ, suc, ℤ, pos, negsuc, ◌≤ℤ◌, int_le, Bool, ◌&&◌, T, true, cond, List, [], ◌∷◌, length, map, false, Ok, IsUtf8, refl, sym, ap, ◌∙◌, arith, eq-eqb}
+use Rattle.std.proofs.Common.{◌≡◌, ℕ, suc, ℤ, pos, negsuc, ◌≤ℤ◌, int_le, Bool, ◌&&◌, T, true, cond, List, [], ◌∷◌, length, map, false, Ok, IsUtf8, refl, sym, ap, ◌∙◌, arith, eq-eqb}
 use Rattle.std.specs.List.{AllByRecursion}
 use Rattle.std.specs.Int.Signed.{le_z_yes}
 use Rattle.std.proofs.lemmas.Bool.{and_parts}
@@ -10,6 +10,7 @@ use Rattle.serde_json.specs.Data.{Data, null, number, string}
 use Rattle.serde_json.specs.Find.{of_integer, is_float}
 use Rattle.serde_json.specs.View.{items_of}
 use Rattle.serde_json.specs.Written.{has_float, items_have_float, compact_text}
+use Rattle.pm_base.specs.Newline.{IsUnbroken}
 use Rattle.pm_values.specs.Fits.{first_day, last_day, IsInType, FitsColumn, Fits}
 use Rattle.pm_values.specs.Order.{Values}
 use Rattle.pm_values.specs.declared.column.ColType.{ColType}
@@ -19,14 +20,14 @@ use Rattle.pm_values.specs.declared.kind.Kind.{Kind}
 use Rattle.pm_values.specs.declared.kind.Kind.TheVariants.{Insert, UpdateBefore, UpdateAfter, Delete}
 use Rattle.pm_values.specs.declared.value.Value.{Value}
 use Rattle.pm_values.specs.declared.value.Value.TheVariants.{Null, Bool as Truth, Int, Text, Bytes, Day, Millis}
-use Rattle.pm_rows.specs.Reading.{kind_of, number_at, least, greatest, integer_at, whole_at, value_at, item_at, values_at, row_of_items, row_of}
+use Rattle.pm_rows.specs.Reading.{kind_in, number_at, least, greatest, integer_at, whole_at, value_at, item_at, values_at, row_of_items, row_of}
 use Rattle.pm_rows.specs.RowText.{kind_text, item_data, row_data, row_text}
-use Rattle.pm_value_text.specs.DateText.{IsDay, date_text}
-use Rattle.pm_value_text.specs.HexText.{hex_text}
-use Rattle.pm_value_text.proofs.HexLemmas.{bytes_in-hex_text, IsUtf8-hex_text}
-use Rattle.pm_value_text.proofs.DateLemmas.{day_in-date_text, IsUtf8-date_text}
-use Rattle.pm_rows.proofs.ReadLemmas.{json_of-ok, list_of-items_of}
-use Rattle.pm_rows.proofs.TextLemmas.{IsAtom, AreAtoms, IsInteger, read-compact_text, IsUtf8-array_text, HasNoNewline, HasNoNewline-null, HasNoNewline-boolean, HasNoNewline-integer, HasNoNewline-string, NoNewline-array_text}
+use Rattle.pm_value_text.specs.Date.{IsDay, date_text}
+use Rattle.pm_value_text.specs.Hexadecimal.{hex_text}
+use Rattle.pm_value_text.proofs.Lemmas.{bytes_in-hex_text, IsUtf8-hex_text}
+use Rattle.pm_value_text.proofs.Lemmas.{day_in-date_text, IsUtf8-date_text}
+use Rattle.pm_rows.proofs.ReadLemmas.{json_in-ok, list_of-items_of}
+use Rattle.pm_rows.proofs.TextLemmas.{IsAtom, AreAtoms, IsInteger, read-compact_text, IsUtf8-array_text, IsOneLine, IsOneLine-null, IsOneLine-boolean, IsOneLine-integer, IsOneLine-string, IsUnbroken-array_text}
 
 -- ---- the items of a row that fits can be read
 
@@ -87,66 +88,74 @@ IsUtf8-kind_text Delete = IsUtf8-are_ascii _ refl
 
 -- ---- they read as the row
 
-kind_of-kind_text : (kind : Kind) → kind_of (string (kind_text kind)) ≡ Ok kind
-kind_of-kind_text Insert = refl
-kind_of-kind_text UpdateBefore = refl
-kind_of-kind_text UpdateAfter = refl
-kind_of-kind_text Delete = refl
+kind_in-kind_text : (kind : Kind) → kind_in (string (kind_text kind)) ≡ Ok kind
+kind_in-kind_text Insert = refl
+kind_in-kind_text UpdateBefore = refl
+kind_in-kind_text UpdateAfter = refl
+kind_in-kind_text Delete = refl
 
-number_at-integer : (place : ℕ) (z : ℤ) → number_at place (number (of_integer z)) ≡ Ok z
-number_at-integer place (pos n) = refl
-number_at-integer place (negsuc n) = refl
+number_at-integer : (index : ℕ) (z : ℤ) → number_at index (number (of_integer z)) ≡ Ok z
+number_at-integer index (pos n) = refl
+number_at-integer index (negsuc n) = refl
 
 is_true : (b : Bool) → T b → b ≡ true
 is_true true h = refl
 is_true false h = absurd h
 
-integer_at-integer : (place : ℕ) (low high z : ℤ) → low ≤ℤ z → z ≤ℤ high → integer_at place low high (number (of_integer z)) ≡ Ok z
-integer_at-integer place low high z above below =
-    rw (number_at-integer place z, is_true (int_le low z) above.le, is_true (int_le z high) below.le) refl
+integer_at-integer : (index : ℕ) (low high z : ℤ) → low ≤ℤ z → z ≤ℤ high → integer_at index low high (number (of_integer z)) ≡ Ok z
+integer_at-integer index low high z above below =
+    rw (number_at-integer index z, is_true (int_le low z) above.le, is_true (int_le z high) below.le) refl
 
-whole_at-integer : (place : ℕ) (low high z : ℤ) → low ≤ℤ z → z ≤ℤ high → whole_at place low high (number (of_integer z)) ≡ Ok (Int z)
-whole_at-integer place low high z above below = rw (integer_at-integer place low high z above below) refl
+whole_at-integer : (index : ℕ) (low high z : ℤ) → low ≤ℤ z → z ≤ℤ high → whole_at index low high (number (of_integer z)) ≡ Ok (Int z)
+whole_at-integer index low high z above below = rw (integer_at-integer index low high z above below) refl
 
-value_at-item_data : (place : ℕ) (kind : ColType) (v : Value) → IsInType kind v → value_at place kind (item_data v) ≡ Ok v
-value_at-item_data place types.Boolean (Truth b) h = refl
-value_at-item_data place types.TinyInt (Int z) h = whole_at-integer place (least 8) (greatest 8) z (omega (arith, ints)) (omega (arith, ints))
-value_at-item_data place types.SmallInt (Int z) h = whole_at-integer place (least 16) (greatest 16) z (omega (arith, ints)) (omega (arith, ints))
-value_at-item_data place types.Int (Int z) h = whole_at-integer place (least 32) (greatest 32) z (omega (arith, ints)) (omega (arith, ints))
-value_at-item_data place types.BigInt (Int z) h = whole_at-integer place (least 64) (greatest 64) z (omega (arith, ints)) (omega (arith, ints))
-value_at-item_data place types.Text (Text text) h = refl
-value_at-item_data place types.Bytes (Bytes bytes) h = rw (bytes_in-hex_text bytes h) refl
-value_at-item_data place types.Date (Day day) h = rw (is_true (int_le first_day day) h.0.le, is_true (int_le day last_day) h.1.le, day_in-date_text day h) refl
-value_at-item_data place types.Timestamp (Millis z) h = rw (integer_at-integer place (least 64) (greatest 64) z (omega (arith, ints)) (omega (arith, ints))) refl
-value_at-item_data place kind v h = absurd h
+value_at-item_data : (index : ℕ) (kind : ColType) (v : Value) → IsInType kind v → value_at index kind (item_data v) ≡ Ok v
+value_at-item_data index types.Boolean (Truth b) h = refl
+value_at-item_data index types.TinyInt (Int z) h = whole_at-integer index (least 8) (greatest 8) z (omega (arith, ints)) (omega (arith, ints))
+value_at-item_data index types.SmallInt (Int z) h = whole_at-integer index (least 16) (greatest 16) z (omega (arith, ints)) (omega (arith, ints))
+value_at-item_data index types.Int (Int z) h = whole_at-integer index (least 32) (greatest 32) z (omega (arith, ints)) (omega (arith, ints))
+value_at-item_data index types.BigInt (Int z) h = whole_at-integer index (least 64) (greatest 64) z (omega (arith, ints)) (omega (arith, ints))
+value_at-item_data index types.Text (Text text) h = refl
+value_at-item_data index types.Bytes (Bytes bytes) h = rw (bytes_in-hex_text bytes h) refl
+value_at-item_data index types.Date (Day day) h = rw (is_true (int_le first_day day) h.0.le, is_true (int_le day last_day) h.1.le, day_in-date_text day h) refl
+value_at-item_data index types.Timestamp (Millis z) h = rw (integer_at-integer index (least 64) (greatest 64) z (omega (arith, ints)) (omega (arith, ints))) refl
+value_at-item_data index kind v h = absurd h
 
 IsDay-in_type : (kind : ColType) (day : ℤ) → IsInType kind (Day day) → IsDay day
 IsDay-in_type types.Date day h = h
 IsDay-in_type other day h = absurd h
 
-item_data-day : (day : ℤ) → IsDay day → item_data (Day day) ≡ string (date_text day)
+pub item_data-day : (day : ℤ) → IsDay day → item_data (Day day) ≡ string (date_text day)
 item_data-day day h = rw (is_true (int_le first_day day) h.0.le, is_true (int_le day last_day) h.1.le) refl
 
-item_at-day : (place : ℕ) (column : Column) (day : ℤ) → IsInType column.kind (Day day) → item_at place column (item_data (Day day)) ≡ Ok (Day day)
-item_at-day place column day h =
+-- null stands for a day that fits no column
+pub item_data-other_day : (day : ℤ) → (IsDay day → ⊥) → item_data (Day day) ≡ null
+item_data-other_day day none =
+    elim (int_le first_day day && int_le day last_day) as (λ b. (int_le first_day day && int_le day last_day) ≡ b → cond b (string (date_text day)) null ≡ null) [
+      | true ↦ λ is. let sides = and_parts _ _ is in absurd (none (le_z_yes (T_from_true _ sides.0), le_z_yes (T_from_true _ sides.1)))
+      | false ↦ λ is. refl
+    ] refl
+
+item_at-day : (index : ℕ) (column : Column) (day : ℤ) → IsInType column.kind (Day day) → item_at index column (item_data (Day day)) ≡ Ok (Day day)
+item_at-day index column day h =
     let is = item_data-day day (IsDay-in_type column.kind day h) in
-    ap (item_at place column) is ∙ sym (ap (value_at place column.kind) is) ∙ value_at-item_data place column.kind (Day day) h
+    ap (item_at index column) is ∙ sym (ap (value_at index column.kind) is) ∙ value_at-item_data index column.kind (Day day) h
 
-item_at-item_data : (place : ℕ) (column : Column) (v : Value) → FitsColumn column v → item_at place column (item_data v) ≡ Ok v
-item_at-item_data place column Null h = rw h refl
-item_at-item_data place column (Truth b) h = value_at-item_data place column.kind (Truth b) h
-item_at-item_data place column (Int z) h = value_at-item_data place column.kind (Int z) h
-item_at-item_data place column (Text text) h = value_at-item_data place column.kind (Text text) h
-item_at-item_data place column (Bytes bytes) h = value_at-item_data place column.kind (Bytes bytes) h
-item_at-item_data place column (Day day) h = item_at-day place column day h
-item_at-item_data place column (Millis z) h = value_at-item_data place column.kind (Millis z) h
+item_at-item_data : (index : ℕ) (column : Column) (v : Value) → FitsColumn column v → item_at index column (item_data v) ≡ Ok v
+item_at-item_data index column Null h = rw h refl
+item_at-item_data index column (Truth b) h = value_at-item_data index column.kind (Truth b) h
+item_at-item_data index column (Int z) h = value_at-item_data index column.kind (Int z) h
+item_at-item_data index column (Text text) h = value_at-item_data index column.kind (Text text) h
+item_at-item_data index column (Bytes bytes) h = value_at-item_data index column.kind (Bytes bytes) h
+item_at-item_data index column (Day day) h = item_at-day index column day h
+item_at-item_data index column (Millis z) h = value_at-item_data index column.kind (Millis z) h
 
-values_at-item_data : (place : ℕ) (columns : List Column) (row : Values) → Fits columns row → values_at place columns (map item_data row) ≡ Ok row
-values_at-item_data place [] [] h = refl
-values_at-item_data place [] (v ∷ row) h = absurd h
-values_at-item_data place (c ∷ columns) [] h = absurd h
-values_at-item_data place (c ∷ columns) (v ∷ row) h =
-    rw (item_at-item_data place c v h.0, values_at-item_data (suc place) columns row h.1) refl
+values_at-item_data : (index : ℕ) (columns : List Column) (row : Values) → Fits columns row → values_at index columns (map item_data row) ≡ Ok row
+values_at-item_data index [] [] h = refl
+values_at-item_data index [] (v ∷ row) h = absurd h
+values_at-item_data index (c ∷ columns) [] h = absurd h
+values_at-item_data index (c ∷ columns) (v ∷ row) h =
+    rw (item_at-item_data index c v h.0, values_at-item_data (suc index) columns row h.1) refl
 
 length-row : (columns : List Column) (row : Values) → Fits columns row → length (map item_data row) ≡ length columns
 length-row [] [] h = refl
@@ -156,7 +165,7 @@ length-row (c ∷ columns) (v ∷ row) h = ap suc (length-row columns row h.1)
 
 row_of_items-row : (columns : List Column) (kind : Kind) (row : Values) → Fits columns row → row_of_items columns (string (kind_text kind) ∷ map item_data row) ≡ Ok (kind, row)
 row_of_items-row columns kind row fits =
-    rw (kind_of-kind_text kind, eq-eqb _ _ (length-row columns row fits), values_at-item_data 0 columns row fits) refl
+    rw (kind_in-kind_text kind, eq-eqb _ _ (length-row columns row fits), values_at-item_data 0 columns row fits) refl
 
 -- a row that fits is read again from its line
 pub row_of-row_text : (columns : List Column) (kind : Kind) (row : Values) → Fits columns row → row_of columns (row_text kind row) ≡ Ok (kind, row)
@@ -164,7 +173,7 @@ unfolding row_of row_text
 row_of-row_text columns kind row fits =
     let ds = string (kind_text kind) ∷ map item_data row in
     let atoms : AreAtoms ds = (IsUtf8-kind_text kind, AreAtoms-item_data columns row fits) in
-    let reads = json_of-ok (compact_text (row_data kind row)) (row_data kind row) (IsUtf8-array_text ds atoms) (read-compact_text ds atoms) in
+    let reads = json_in-ok (compact_text (row_data kind row)) (row_data kind row) (IsUtf8-array_text ds atoms) (read-compact_text ds atoms) in
     rw reads (ap (row_of_items columns) (list_of-items_of ds) ∙ row_of_items-row columns kind row fits)
 
 same_parts : {A B : Type 0} (p q : A × B) → p ≡ q → (p.0 ≡ q.0) × (p.1 ≡ q.1)
@@ -178,23 +187,23 @@ row_text-injective columns k l row other fits also same =
 
 -- ---- the line itself
 
-HasNoNewline-item_data : (v : Value) → HasNoNewline (item_data v)
-HasNoNewline-item_data Null = HasNoNewline-null
-HasNoNewline-item_data (Truth b) = HasNoNewline-boolean b
-HasNoNewline-item_data (Int n) = HasNoNewline-integer n
-HasNoNewline-item_data (Text text) = HasNoNewline-string text
-HasNoNewline-item_data (Bytes bytes) = HasNoNewline-string (hex_text bytes)
-HasNoNewline-item_data (Day day) = each_day HasNoNewline day (λ _. HasNoNewline-string (date_text day)) HasNoNewline-null
-HasNoNewline-item_data (Millis millis) = HasNoNewline-integer millis
+IsOneLine-item_data : (v : Value) → IsOneLine (item_data v)
+IsOneLine-item_data Null = IsOneLine-null
+IsOneLine-item_data (Truth b) = IsOneLine-boolean b
+IsOneLine-item_data (Int n) = IsOneLine-integer n
+IsOneLine-item_data (Text text) = IsOneLine-string text
+IsOneLine-item_data (Bytes bytes) = IsOneLine-string (hex_text bytes)
+IsOneLine-item_data (Day day) = each_day IsOneLine day (λ _. IsOneLine-string (date_text day)) IsOneLine-null
+IsOneLine-item_data (Millis millis) = IsOneLine-integer millis
 
-each_item : (row : Values) → AllByRecursion HasNoNewline (map item_data row)
+each_item : (row : Values) → AllByRecursion IsOneLine (map item_data row)
 each_item [] = tt
-each_item (v ∷ row) = (HasNoNewline-item_data v, each_item row)
+each_item (v ∷ row) = (IsOneLine-item_data v, each_item row)
 
 -- a row is one line
-pub row_text-no_newline : (kind : Kind) (row : Values) → AllByRecursion (λ b. b ≢ 10) (row_text kind row)
+pub IsUnbroken-row_text : (kind : Kind) (row : Values) → IsUnbroken (row_text kind row)
 unfolding row_text
-row_text-no_newline kind row = NoNewline-array_text (string (kind_text kind) ∷ map item_data row) (HasNoNewline-string (kind_text kind), each_item row)
+IsUnbroken-row_text kind row = IsUnbroken-array_text (string (kind_text kind) ∷ map item_data row) (IsOneLine-string (kind_text kind), each_item row)
 
 -- a row's line isn't blank
 pub row_text-begins : (kind : Kind) (row : Values) → (more : List ℕ) × (row_text kind row ≡ 91 ∷ more)

@@ -1,8 +1,7 @@
 -- The compact text of an array of null, truth values, integers and texts: it reads as that array,
 -- is UTF-8 and has no newline.
-use Rattle.std.proofs.Common.{◌≡◌, ◌≢◌, ℕ, zero, suc, ◌^◌, ◌/◌, ◌%◌, ◌==◌, ◌<◌, ◌≤◌, ℤ, pos, negsuc, List, [], ◌∷◌, ◌++◌, Bool, true, false, cond, nat_lt, ◌||◌, Some, option_map, option_and_then, IsUtf8, decimal, refl, sym, ap, ◌∙◌, subst, inl, inr, arith, append-nil, ltb-false, eq-eqb}
+use Rattle.std.proofs.Common.{◌≡◌, ◌≢◌, ℕ, suc, ◌^◌, ◌/◌, ◌%◌, ◌==◌, ◌<◌, ◌≤◌, ℤ, pos, negsuc, List, [], ◌∷◌, Bool, true, false, cond, nat_lt, ◌||◌, Some, option_map, option_and_then, IsUtf8, refl, sym, ap, ◌∙◌, subst, inl, inr, arith, append-nil, ltb-false, eq-eqb}
 use Rattle.std.specs.Char.{digit_char}
-use Rattle.std.specs.Fmt.{digits, digits_onto, digit_glyph}
 use Rattle.std.specs.List.{AllByRecursion}
 use Rattle.std.proofs.lemmas.Bool.{cases_lt, false≢true}
 use Rattle.std.proofs.lemmas.Fmt.{IsAscii-decimal, IsAscii-signed}
@@ -15,11 +14,13 @@ use Rattle.json.proofs.Printed.Decimals.{IsNumber-decimal, IsNumber-signed_decim
 use Rattle.json.proofs.Printed.Tokens.{tokens-print}
 use Rattle.json.proofs.Printed.Trees.{value-json_tokens, ArePrintable-json_tokens}
 use Rattle.json.proofs.Printed.Utf8.{IsUtf8-are_ascii, IsUtf8-quoted, IsUtf8-boolean}
+use Rattle.pm_base.specs.Newline.{newline, IsUnbroken}
+use Rattle.pm_base.proofs.Laws.{IsUnbroken-nil, IsUnbroken-cons, IsUnbroken-append, IsUnbroken-tested, IsUnbroken-cond, IsUnbroken-decimal}
 use Rattle.serde_json.specs.Data.{Num, unsigned, negative, float, Data, null, boolean, number, string, array, object}
 use Rattle.serde_json.specs.Find.{of_integer}
 use Rattle.serde_json.specs.Read.{of_json, of_items, max_depth, read}
 use Rattle.serde_json.specs.View.{items_of}
-use Rattle.serde_json.specs.Written.{number_text, outline, items_outline, comma_if, compact_text, items_text}
+use Rattle.serde_json.specs.Written.{outline, items_outline, comma_if, compact_text, items_text}
 use Rattle.serde_json.proofs.Numbers.{number_of-decimal, number_of-negative}
 use Rattle.serde_json.proofs.Texts.{print-outline}
 
@@ -123,25 +124,18 @@ IsUtf8-array_text ds h = IsUtf8-append (91 ∷ []) _ (IsUtf8-are_ascii _ refl) (
 
 -- ---- it has no newline
 
-abbrev pub NoNewline : List ℕ → Type 0
-NoNewline = AllByRecursion (λ b. b ≢ 10)
+digit_char-newline : (d : ℕ) → digit_char d ≢ newline
+digit_char-newline d = elim (cases_lt d 10) [ inl small ↦ λ e. grind arith | inr big ↦ λ e. grind arith ]
 
-NoNewline-append : (xs ys : List ℕ) → NoNewline xs → NoNewline ys → NoNewline (xs ++ ys)
-NoNewline-append [] ys h k = k
-NoNewline-append (x ∷ xs) ys h k = (h.0, NoNewline-append xs ys h.1 k)
-
-digit_char-no_newline : (d : ℕ) → digit_char d ≢ 10
-digit_char-no_newline d = elim (cases_lt d 10) [ inl small ↦ λ e. grind arith | inr big ↦ λ e. grind arith ]
-
-either_not : (b : Bool) (m n : ℕ) → (b ≡ true → m ≢ 10) → n ≢ 10 → cond b m n ≢ 10
+either_not : (b : Bool) (m n : ℕ) → (b ≡ true → m ≢ newline) → n ≢ newline → cond b m n ≢ newline
 either_not true m n h k = h refl
 either_not false m n h k = k
 
-either_literal : (b : Bool) (m n : ℕ) → (m == 10) ≡ false → n ≢ 10 → cond b m n ≢ 10
-either_literal b m n h k = either_not b m n (λ _ same. false≢true (sym h ∙ eq-eqb m 10 same)) k
+either_literal : (b : Bool) (m n : ℕ) → (m == newline) ≡ false → n ≢ newline → cond b m n ≢ newline
+either_literal b m n h k = either_not b m n (λ _ same. false≢true (sym h ∙ eq-eqb m newline same)) k
 
-escape_letter-no_newline : (x : ℕ) → escape_letter x ≢ 10
-escape_letter-no_newline x =
+escape_letter-newline : (x : ℕ) → escape_letter x ≢ newline
+escape_letter-newline x =
     let tab = either_literal (x == 9) 116 0 refl (omega arith) in
     let return = either_literal (x == 13) 114 _ refl tab in
     let line = either_literal (x == 10) 110 _ refl return in
@@ -149,74 +143,60 @@ escape_letter-no_newline x =
     let back = either_literal (x == 8) 98 _ refl form in
     either_not ((x == 34) || (x == 92)) x _ (λ is same. false≢true (subst (λ y. ((y == 34) || (y == 92)) ≡ true) same is)) back
 
-either_part : (b : Bool) (xs ys : List ℕ) → NoNewline xs → (b ≡ false → NoNewline ys) → NoNewline (cond b xs ys)
-either_part true xs ys h k = h
-either_part false xs ys h k = k refl
+IsUnbroken-hex : (x : ℕ) → IsUnbroken (92 ∷ 117 ∷ 48 ∷ 48 ∷ digit_char (x / 16) ∷ digit_char (x % 16) ∷ [])
+IsUnbroken-hex x =
+    IsUnbroken-append (92 ∷ 117 ∷ 48 ∷ 48 ∷ []) (digit_char (x / 16) ∷ digit_char (x % 16) ∷ [])
+    (IsUnbroken-tested (92 ∷ 117 ∷ 48 ∷ 48 ∷ []) refl)
+    (IsUnbroken-cons (digit_char (x / 16)) (digit_char (x % 16) ∷ []) (digit_char-newline (x / 16))
+    (IsUnbroken-cons (digit_char (x % 16)) [] (digit_char-newline (x % 16)) IsUnbroken-nil))
 
-from_space : (x : ℕ) → 32 ≤ x → NoNewline (x ∷ [])
-from_space x h = (omega arith, tt)
+IsUnbroken-short : (x : ℕ) → IsUnbroken (92 ∷ escape_letter x ∷ [])
+IsUnbroken-short x =
+    IsUnbroken-cons 92 (escape_letter x ∷ []) (omega arith) (IsUnbroken-cons (escape_letter x) [] (escape_letter-newline x) IsUnbroken-nil)
 
-NoNewline-hex : (x : ℕ) → NoNewline (92 ∷ 117 ∷ 48 ∷ 48 ∷ digit_char (x / 16) ∷ digit_char (x % 16) ∷ [])
-NoNewline-hex x = (omega arith, (omega arith, (omega arith, (omega arith, (digit_char-no_newline (x / 16), (digit_char-no_newline (x % 16), tt))))))
+IsUnbroken-plain : (x : ℕ) → 32 ≤ x → IsUnbroken (x ∷ [])
+IsUnbroken-plain x h = IsUnbroken-cons x [] (omega arith) IsUnbroken-nil
 
-NoNewline-short : (x : ℕ) → NoNewline (92 ∷ escape_letter x ∷ [])
-NoNewline-short x = (omega arith, (escape_letter-no_newline x, tt))
-
-NoNewline-escape_byte : (x : ℕ) → NoNewline (escape_byte x)
+IsUnbroken-escape_byte : (x : ℕ) → IsUnbroken (escape_byte x)
 unfolding escape_byte
-NoNewline-escape_byte x =
-    let long = either_part (nat_lt x 32) _ (x ∷ []) (NoNewline-hex x) (λ high. from_space x (ltb-false x 32 high)) in
-    either_part (nat_lt 0 (escape_letter x)) _ _ (NoNewline-short x) (λ _. long)
+IsUnbroken-escape_byte x =
+    let long = IsUnbroken-cond (nat_lt x 32) _ (x ∷ []) (IsUnbroken-hex x) (λ high. IsUnbroken-plain x (ltb-false x 32 high)) in
+    IsUnbroken-cond (nat_lt 0 (escape_letter x)) _ _ (IsUnbroken-short x) (λ _. long)
 
-NoNewline-escape : (s : List ℕ) → NoNewline (escape s)
-NoNewline-escape [] = tt
-NoNewline-escape (x ∷ xs) = NoNewline-append _ _ (NoNewline-escape_byte x) (NoNewline-escape xs)
+IsUnbroken-escape : (s : List ℕ) → IsUnbroken (escape s)
+IsUnbroken-escape [] = IsUnbroken-nil
+IsUnbroken-escape (x ∷ xs) = IsUnbroken-append _ _ (IsUnbroken-escape_byte x) (IsUnbroken-escape xs)
 
-NoNewline-quoted : (s : List ℕ) → NoNewline (quoted s)
-NoNewline-quoted s = (omega arith, NoNewline-append _ _ (NoNewline-escape s) (omega arith, tt))
-
-digit_glyph-no_newline : (d : ℕ) → digit_glyph false d ≢ 10
-digit_glyph-no_newline d = elim (cases_lt d 10) [ inl small ↦ λ e. grind arith | inr big ↦ λ e. grind arith ]
-
-NoNewline-digits_onto : (k n : ℕ) (after : List ℕ) → NoNewline after → NoNewline (digits_onto k 10 false n after)
-NoNewline-digits_onto zero n after h = h
-NoNewline-digits_onto (suc k) n after h =
-    let more : NoNewline (digit_glyph false (n % 10) ∷ after) = (digit_glyph-no_newline (n % 10), h) in
-    either_part (n / 10 == 0) _ _ more (λ _. NoNewline-digits_onto k (n / 10) _ more)
-
-NoNewline-decimal : (n : ℕ) → NoNewline (decimal n)
-unfolding digits
-NoNewline-decimal n = NoNewline-digits_onto 64 n [] tt
-
-NoNewline-number_text : (z : ℤ) → NoNewline (number_text (of_integer z))
-NoNewline-number_text (pos n) = NoNewline-decimal n
-NoNewline-number_text (negsuc n) = (omega arith, NoNewline-decimal (suc n))
+IsUnbroken-quoted : (s : List ℕ) → IsUnbroken (quoted s)
+IsUnbroken-quoted s =
+    IsUnbroken-cons 34 _ (omega arith) (IsUnbroken-append (escape s) (34 ∷ []) (IsUnbroken-escape s) (IsUnbroken-tested (34 ∷ []) refl))
 
 -- one item's text has no newline
-abbrev pub HasNoNewline : Data → Type 0
-HasNoNewline d = NoNewline (compact_text d)
+abbrev pub IsOneLine : Data → Type 0
+IsOneLine d = IsUnbroken (compact_text d)
 
-pub HasNoNewline-null : HasNoNewline null
-HasNoNewline-null = (omega arith, (omega arith, (omega arith, (omega arith, tt))))
+pub IsOneLine-null : IsOneLine null
+IsOneLine-null = IsUnbroken-tested (compact_text null) refl
 
-pub HasNoNewline-boolean : (b : Bool) → HasNoNewline (boolean b)
-HasNoNewline-boolean true = (omega arith, (omega arith, (omega arith, (omega arith, tt))))
-HasNoNewline-boolean false = (omega arith, (omega arith, (omega arith, (omega arith, (omega arith, tt)))))
+pub IsOneLine-boolean : (b : Bool) → IsOneLine (boolean b)
+IsOneLine-boolean true = IsUnbroken-tested (compact_text (boolean true)) refl
+IsOneLine-boolean false = IsUnbroken-tested (compact_text (boolean false)) refl
 
-pub HasNoNewline-integer : (z : ℤ) → HasNoNewline (number (of_integer z))
-HasNoNewline-integer z = NoNewline-number_text z
+pub IsOneLine-integer : (z : ℤ) → IsOneLine (number (of_integer z))
+IsOneLine-integer (pos n) = IsUnbroken-decimal n
+IsOneLine-integer (negsuc n) = IsUnbroken-cons 45 _ (omega arith) (IsUnbroken-decimal (suc n))
 
-pub HasNoNewline-string : (s : List ℕ) → HasNoNewline (string s)
-HasNoNewline-string s = NoNewline-quoted s
+pub IsOneLine-string : (s : List ℕ) → IsOneLine (string s)
+IsOneLine-string s = IsUnbroken-quoted s
 
-NoNewline-comma_if : (later : Bool) → NoNewline (comma_if later)
-NoNewline-comma_if true = (omega arith, tt)
-NoNewline-comma_if false = tt
+IsUnbroken-comma_if : (later : Bool) → IsUnbroken (comma_if later)
+IsUnbroken-comma_if true = IsUnbroken-tested (comma_if true) refl
+IsUnbroken-comma_if false = IsUnbroken-nil
 
-NoNewline-items_text : (later : Bool) (ds : List Data) → AllByRecursion HasNoNewline ds → NoNewline (items_text later (items_of ds))
-NoNewline-items_text later [] h = (omega arith, tt)
-NoNewline-items_text later (d ∷ ds) h =
-    NoNewline-append _ _ (NoNewline-comma_if later) (NoNewline-append _ _ h.0 (NoNewline-items_text true ds h.1))
+IsUnbroken-items_text : (later : Bool) (ds : List Data) → AllByRecursion IsOneLine ds → IsUnbroken (items_text later (items_of ds))
+IsUnbroken-items_text later [] h = IsUnbroken-tested (93 ∷ []) refl
+IsUnbroken-items_text later (d ∷ ds) h =
+    IsUnbroken-append _ _ (IsUnbroken-comma_if later) (IsUnbroken-append _ _ h.0 (IsUnbroken-items_text true ds h.1))
 
-pub NoNewline-array_text : (ds : List Data) → AllByRecursion HasNoNewline ds → NoNewline (compact_text (array (items_of ds)))
-NoNewline-array_text ds h = (omega arith, NoNewline-items_text false ds h)
+pub IsUnbroken-array_text : (ds : List Data) → AllByRecursion IsOneLine ds → IsUnbroken (compact_text (array (items_of ds)))
+IsUnbroken-array_text ds h = IsUnbroken-cons 91 _ (omega arith) (IsUnbroken-items_text false ds h)

@@ -1,10 +1,12 @@
 -- What a row line reads as: a kind and one value for each column, or the first fault.
-use Rattle.std.specs.Prelude.{◌≡◌, ℕ, suc, ◌-◌, ◌^◌, ◌==◌, ◌&&◌, ℤ, pos, neg_ℤ, int_le, List, [], ◌∷◌, length, if◌then◌else◌, Option, None, Result, Ok, Err, ok_or}
+use Rattle.std.specs.Prelude.{ℕ, suc, ◌-◌, ◌^◌, ◌==◌, ◌&&◌, ℤ, pos, neg_ℤ, int_le, List, [], ◌∷◌, length}
+use Rattle.std.specs.Prelude.{if◌then◌else◌, Option, Some, None, Result, Ok, Err, ok_or}
 use Rattle.std.specs.List.{find}
 use Rattle.std.specs.Str.{is_utf8, bytes_eq}
 use Rattle.serde_json.specs.Data.{Data, null, boolean, number, string, array, Items, no_items, item}
 use Rattle.serde_json.specs.Find.{as_integer}
 use Rattle.serde_json.specs.Read.{read}
+use Rattle.pm_base.specs.Outcome.{◌>>=◌}
 use Rattle.pm_values.specs.Order.{Values}
 use Rattle.pm_values.specs.declared.column.ColType.{ColType}
 use Rattle.pm_values.specs.declared.column.ColType.TheVariants as types
@@ -15,31 +17,24 @@ use Rattle.pm_values.specs.declared.refusal.Why.{Why}
 use Rattle.pm_values.specs.declared.refusal.Why.TheVariants as why
 use Rattle.pm_values.specs.declared.value.Value.{Value}
 use Rattle.pm_values.specs.declared.value.Value.TheVariants as values
-use Rattle.pm_value_text.specs.DateText.{day_in}
-use Rattle.pm_value_text.specs.HexText.{bytes_in}
+use Rattle.pm_value_text.specs.Date.{day_in}
+use Rattle.pm_value_text.specs.Hexadecimal.{bytes_in}
 use Rattle.pm_rows.specs.RowText.{kind_text}
 use Rattle.pm_rows.specs.declared.fault.RowFault.{RowFault}
 use Rattle.pm_rows.specs.declared.fault.RowFault.TheVariants as faults
 
--- what is wrong, and the place of the column from 0; a fault of the whole line has place 0
+-- what is wrong, and the index of the column, from 0; a fault of the whole line has index 0
 abbrev pub Fault : Type 0
 Fault = Why × ℕ
 
--- one reading, and then another of what it gave
-infixl 10 ◌>>=◌
-abbrev pub ◌>>=◌ : {A B : Type 0} → Result A Fault → (A → Result B Fault) → Result B Fault
-(Ok x) >>= f = f x
-(Err e) >>= f = Err e
-
--- A call gave what the reading gives, its value seen by the function. Want of memory alone is free.
-abbrev pub Gives : {X Y : Type 0} → (X → Y) → Result X RowFault → Result Y Fault → Type 0
-Gives view (Ok x) reading = reading ≡ Ok (view x)
-Gives view (Err faults.Memory) reading = Unit {0}
-Gives view (Err (faults.Bad fault place)) reading = reading ≡ Err (fault, place)
+-- the fault that a call answered; out of memory is none
+abbrev pub fault_of : RowFault → Option Fault
+fault_of faults.Memory = None
+fault_of (faults.Bad fault index) = Some (fault, index)
 
 -- the JSON of a line, which is UTF-8 and nests at most 127 deep
-abbrev pub json_of : List ℕ → Result Data Fault
-json_of line = ok_or (if is_utf8 line then read line else None) (why.Json, 0)
+abbrev pub json_in : List ℕ → Result Data Fault
+json_in line = ok_or (if is_utf8 line then read line else None) (why.Json, 0)
 
 -- the items one after another
 abbrev pub list_of : Items → List Data
@@ -47,29 +42,30 @@ list_of no_items = []
 list_of (item d ds) = d ∷ list_of ds
 
 -- the items of an array
-abbrev pub array_of : Data → Result (List Data) Fault
-array_of (array ds) = Ok (list_of ds)
-array_of d = Err (why.Array, 0)
+abbrev pub items_in : Data → Result (List Data) Fault
+items_in (array ds) = Ok (list_of ds)
+items_in d = Err (why.Array, 0)
 
 -- the kind that a text names
 abbrev pub named_kind : List ℕ → Option Kind
-named_kind text = find (λ kind. bytes_eq (kind_text kind) text) (Insert ∷ UpdateBefore ∷ UpdateAfter ∷ Delete ∷ [])
+named_kind text =
+    find (λ kind. bytes_eq (kind_text kind) text) (Insert ∷ UpdateBefore ∷ UpdateAfter ∷ Delete ∷ [])
 
 -- the kind that an item names
-abbrev pub kind_of : Data → Result Kind Fault
-kind_of (string text) = ok_or (named_kind text) (why.Kind, 0)
-kind_of d = Err (why.Kind, 0)
+abbrev pub kind_in : Data → Result Kind Fault
+kind_in (string text) = ok_or (named_kind text) (why.Kind, 0)
+kind_in d = Err (why.Kind, 0)
 
 -- an item in a BOOLEAN column
 abbrev pub truth_at : ℕ → Data → Result Value Fault
-truth_at place (boolean b) = Ok (values.Bool b)
-truth_at place d = Err (why.Type, place)
+truth_at index (boolean b) = Ok (values.Bool b)
+truth_at index d = Err (why.Type, index)
 
 -- An item that is an integer. What JSON reads as a float is none: a number with a point or an
 -- exponent, `-0`, and an integer that 64 bits don't hold, with a sign or without.
 abbrev pub number_at : ℕ → Data → Result ℤ Fault
-number_at place (number n) = ok_or (as_integer n) (why.Type, place)
-number_at place d = Err (why.Type, place)
+number_at index (number n) = ok_or (as_integer n) (why.Type, index)
+number_at index d = Err (why.Type, index)
 
 -- the least integer of that many bits, with a sign
 abbrev pub least : ℕ → ℤ
@@ -81,82 +77,82 @@ greatest bits = pos (2 ^ (bits - 1) - 1)
 
 -- an integer from the low one to the high one
 abbrev pub within : ℕ → ℤ → ℤ → ℤ → Result ℤ Fault
-within place low high z = if int_le low z && int_le z high then Ok z else Err (why.Range, place)
+within index low high z = if int_le low z && int_le z high then Ok z else Err (why.Range, index)
 
 -- an item that is an integer from the low one to the high one
 abbrev pub integer_at : ℕ → ℤ → ℤ → Data → Result ℤ Fault
-integer_at place low high d = do
-  z ← number_at place d
-  within place low high z
+integer_at index low high d = do
+  z ← number_at index d
+  within index low high z
 
 -- an item in a TINYINT, SMALLINT, INT or BIGINT column, from the low integer to the high one
 abbrev pub whole_at : ℕ → ℤ → ℤ → Data → Result Value Fault
-whole_at place low high d = do
-  n ← integer_at place low high d
+whole_at index low high d = do
+  n ← integer_at index low high d
   Ok (values.Int n)
 
 -- an item in a TIMESTAMP(3) column: milliseconds
 abbrev pub millis_at : ℕ → Data → Result Value Fault
-millis_at place d = do
-  n ← integer_at place (least 64) (greatest 64) d
+millis_at index d = do
+  n ← integer_at index (least 64) (greatest 64) d
   Ok (values.Millis n)
 
 -- an item in a STRING column
 abbrev pub text_at : ℕ → Data → Result Value Fault
-text_at place (string text) = Ok (values.Text text)
-text_at place d = Err (why.Type, place)
+text_at index (string text) = Ok (values.Text text)
+text_at index d = Err (why.Type, index)
 
 -- an item in a BYTES column: an even number of hexadecimal digits
 abbrev pub bytes_at : ℕ → Data → Result Value Fault
-bytes_at place (string text) = do
-  bytes ← ok_or (bytes_in text) (why.Range, place)
+bytes_at index (string text) = do
+  bytes ← ok_or (bytes_in text) (why.Range, index)
   Ok (values.Bytes bytes)
-bytes_at place d = Err (why.Type, place)
+bytes_at index d = Err (why.Type, index)
 
 -- an item in a DATE column: a civil date of ten characters
 abbrev pub day_at : ℕ → Data → Result Value Fault
-day_at place (string text) = do
-  day ← ok_or (day_in text) (why.Range, place)
+day_at index (string text) = do
+  day ← ok_or (day_in text) (why.Range, index)
   Ok (values.Day day)
-day_at place d = Err (why.Type, place)
+day_at index d = Err (why.Type, index)
 
 -- an item that isn't null, in a column of the type
 abbrev pub value_at : ℕ → ColType → Data → Result Value Fault
-value_at place types.Boolean d = truth_at place d
-value_at place types.TinyInt d = whole_at place (least 8) (greatest 8) d
-value_at place types.SmallInt d = whole_at place (least 16) (greatest 16) d
-value_at place types.Int d = whole_at place (least 32) (greatest 32) d
-value_at place types.BigInt d = whole_at place (least 64) (greatest 64) d
-value_at place types.Text d = text_at place d
-value_at place types.Bytes d = bytes_at place d
-value_at place types.Date d = day_at place d
-value_at place types.Timestamp d = millis_at place d
+value_at index types.Boolean d = truth_at index d
+value_at index types.TinyInt d = whole_at index (least 8) (greatest 8) d
+value_at index types.SmallInt d = whole_at index (least 16) (greatest 16) d
+value_at index types.Int d = whole_at index (least 32) (greatest 32) d
+value_at index types.BigInt d = whole_at index (least 64) (greatest 64) d
+value_at index types.Text d = text_at index d
+value_at index types.Bytes d = bytes_at index d
+value_at index types.Date d = day_at index d
+value_at index types.Timestamp d = millis_at index d
 
--- an item in a column at the place
+-- an item in a column at the index
 abbrev pub item_at : ℕ → Column → Data → Result Value Fault
-item_at place column null = if column.nullable then Ok values.Null else Err (why.Null, place)
-item_at place column d = value_at place column.kind d
+item_at index column null = if column.nullable then Ok values.Null else Err (why.Null, index)
+item_at index column d = value_at index column.kind d
 
--- the items in the columns from the place on, each in its own, and the first fault of them
+-- the items in the columns from the index on, each in its own, and the first fault of them
 abbrev pub values_at : ℕ → List Column → List Data → Result Values Fault
-values_at place [] [] = Ok []
-values_at place (column ∷ columns) (d ∷ ds) = do
-  value ← item_at place column d
-  more ← values_at (suc place) columns ds
+values_at index [] [] = Ok []
+values_at index (column ∷ columns) (d ∷ ds) = do
+  value ← item_at index column d
+  more ← values_at (suc index) columns ds
   Ok (value ∷ more)
-values_at place columns ds = Err (why.Count, 0)
+values_at index columns ds = Err (why.Count, 0)
 
 -- the kind and the row of an array's items
 abbrev pub row_of_items : List Column → List Data → Result (Kind × Values) Fault
 row_of_items columns [] = Err (why.Kind, 0)
 row_of_items columns (first ∷ ds) = do
-  kind ← kind_of first
+  kind ← kind_in first
   row ← if length ds == length columns then values_at 0 columns ds else Err (why.Count, 0)
   Ok (kind, row)
 
 -- the kind and the row of a line
 unfoldable pub row_of : List Column → List ℕ → Result (Kind × Values) Fault
 row_of columns line = do
-  json ← json_of line
-  ds ← array_of json
+  json ← json_in line
+  ds ← items_in json
   row_of_items columns ds

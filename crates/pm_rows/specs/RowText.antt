@@ -10,8 +10,8 @@ use Rattle.pm_values.specs.declared.kind.Kind.{Kind}
 use Rattle.pm_values.specs.declared.kind.Kind.TheVariants.{Insert, UpdateBefore, UpdateAfter, Delete}
 use Rattle.pm_values.specs.declared.value.Value.{Value}
 use Rattle.pm_values.specs.declared.value.Value.TheVariants.{Null, Bool, Int, Text, Bytes, Day, Millis}
-use Rattle.pm_value_text.specs.DateText.{date_text}
-use Rattle.pm_value_text.specs.HexText.{hex_text}
+use Rattle.pm_value_text.specs.Date.{date_text}
+use Rattle.pm_value_text.specs.Hexadecimal.{hex_text}
 
 -- the text of a kind
 abbrev pub kind_text : Kind → List ℕ

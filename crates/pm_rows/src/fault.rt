@@ -6,8 +6,8 @@ ghost use Rattle.pm_rows.specs.declared.fault.RowFault.TheVariants.{Memory};
 use pm_values::Why;
 use std::alloc::{AllocError, AllocFailed};
 
-/// Why a line is no row: there was no memory left, or its first fault and the place of the column
-/// from 0. A fault of the whole line (`Json`, `Array`, `Kind`, `Count`) has place 0.
+/// Why a line is no row: there was no memory left, or its first fault and the index of the column,
+/// from 0. A fault of the whole line (`Json`, `Array`, `Kind`, `Count`) has index 0.
 #[derive(Debug, Drop)]
 pub enum RowFault {
     Memory,

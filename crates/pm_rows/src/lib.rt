@@ -8,12 +8,12 @@
 #![tactic(auto)]
 
 mod fault;
-mod law;
+mod laws;
 mod print;
 mod read;
 
 pub use fault::RowFault;
-pub use law::{fit_law, line_law, round_trip_law};
+pub use laws::{fit_law, line_law, round_trip_law};
 pub use print::print_row;
 pub use read::read_row;
 

@@ -8,16 +8,10 @@ ghost use Rattle.pm_values.specs.declared.value.Value.TheVariants.{Day};
 ghost use Rattle.pm_rows.specs.RowText.{kind_text, item_data, row_data, row_text};
 ghost use Rattle.pm_rows.specs.Reading.{row_of};
 
-use pm_value_text::{date_of, digits_of};
+use pm_value_text::{is_day, print_date, print_hex};
 use pm_values::{Column, Kind, Row, Value};
 use serde_json::Value as Json;
 use std::alloc::{AllocError, Global};
-
-/// The day 0001-01-01, counted from 1970-01-01.
-const FIRST_DAY: i32 = -719162;
-
-/// The day 9999-12-31.
-const LAST_DAY: i32 = 2932896;
 
 /// The line of a row, without its newline: compact JSON, with hexadecimal digits in lower case. A day
 /// before the year 1 or after 9999, which fits no column, is null.
@@ -40,15 +34,15 @@ fn json_of_row(alloc: Global, kind: Kind, values: &[Value]) -> Result<Json, Allo
     ensures { IfOk result (λ json. view json ≡ row_data kind values.now) }
 {
     let mut items = Vec::with_capacity(alloc, values.len())?;
-    items.push(Json::try_from_str(alloc, text_of(kind))?)?;
+    items.push(Json::try_from_str(alloc, name_of(kind))?)?;
     for value in values {
         items.push(json_of(alloc, value)?)?;
     }
     Ok(Json::Array(items))
 }
 
-/// The text of a kind.
-fn text_of(kind: Kind) -> &'static str
+/// The text that names a kind.
+fn name_of(kind: Kind) -> &'static str
     ensures { result.now ≡ kind_text kind }
 {
     match kind {
@@ -68,7 +62,7 @@ fn json_of(alloc: Global, value: &Value) -> Result<Json, AllocError>
         Value::Bool(b) => Ok(Json::Bool(*b)),
         Value::Int(n) | Value::Millis(n) => Ok(Json::from(*n)),
         Value::Text(text) => Json::try_from_str(alloc, text.as_str()),
-        Value::Bytes(bytes) => Ok(Json::String(digits_of(alloc, bytes.as_bytes())?)),
+        Value::Bytes(bytes) => Ok(Json::String(print_hex(alloc, bytes.as_bytes())?)),
         Value::Day(day) => json_of_day(alloc, *day),
     }
 }
@@ -77,8 +71,8 @@ fn json_of(alloc: Global, value: &Value) -> Result<Json, AllocError>
 fn json_of_day(alloc: Global, day: i32) -> Result<Json, AllocError>
     ensures { IfOk result (λ json. view json ≡ item_data (Day day)) }
 {
-    if FIRST_DAY <= day && day <= LAST_DAY {
-        Ok(Json::String(date_of(alloc, day)?))
+    if is_day(day) {
+        Ok(Json::String(print_date(alloc, day)?))
     } else {
         Ok(Json::Null)
     }

@@ -1,5 +1,5 @@
 use Rattle.pm_rows.proofs.RowLemmas.{row_of-row_text, row_text-injective}
-use Rattle.pm_rows.proofs.law.round_trip_law.Goals as goal
+use Rattle.pm_rows.proofs.laws.round_trip_law.Goals as goal
 
 pub returns-clause-again : goal.returns-clause-again
 returns-clause-again c = row_of-row_text

@@ -1,7 +1,7 @@
 //! What holds of the lines of all rows.
 
-ghost use Rattle.std.specs.Prelude.{◌≡◌, ◌≢◌, ℕ, List, ◌∷◌, Ok};
-ghost use Rattle.std.specs.List.{AllByRecursion};
+ghost use Rattle.std.specs.Prelude.{◌≡◌, ℕ, List, ◌∷◌, Ok};
+ghost use Rattle.pm_base.specs.Newline.{IsUnbroken};
 ghost use Rattle.pm_values.specs.Fits.{Fits};
 ghost use Rattle.pm_values.specs.Order.{Values};
 ghost use Rattle.pm_values.specs.declared.column.Column.{Column};
@@ -20,8 +20,7 @@ pub fn round_trip_law()
 
 /// The line of a row is one line, and isn't blank: it has no newline, and begins with `[`.
 pub fn line_law()
-    ensures newline { (kind : Kind) (row : Values)
-        → AllByRecursion (λ b. b ≢ 10) (row_text kind row) }
+    ensures newline { (kind : Kind) (row : Values) → IsUnbroken (row_text kind row) }
     ensures begins { (kind : Kind) (row : Values)
         → (more : List ℕ) × (row_text kind row ≡ 91 ∷ more) }
 {}

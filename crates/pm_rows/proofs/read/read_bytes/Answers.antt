@@ -1,6 +1,6 @@
 use Rattle.std.proofs.Common.{option_map, sym, ap, ◌∙◌}
-use Rattle.pm_value_text.proofs.HexLemmas.{bytes_in-some}
-use Rattle.pm_rows.proofs.read.bytes_of.Goals as goal
+use Rattle.pm_value_text.proofs.Lemmas.{bytes_in-some}
+use Rattle.pm_rows.proofs.read.read_bytes.Goals as goal
 
 pub returns-in-Some-2-clause-fits : goal.returns-in-Some-2-clause-fits
 returns-in-Some-2-clause-fits c =
