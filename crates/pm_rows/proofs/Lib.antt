@@ -1,5 +1,7 @@
-pub mod ReadLemmas
-pub mod EscapeLemmas
-pub mod FitLemmas
-pub mod RowLemmas
-pub mod TextLemmas
+mod ContentLemmas
+mod DocumentLemmas
+mod FitLemmas
+pub mod Lemmas
+mod ReadLemmas
+mod RowLemmas
+mod TextLemmas

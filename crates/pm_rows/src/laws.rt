@@ -25,8 +25,8 @@ pub fn line_law()
         → (more : List ℕ) × (row_text kind row ≡ 91 ∷ more) }
 {}
 
-/// A line that reads as a row, and is the very line that the row prints as, is that of a row that fits.
+/// A row that was read of a line fits its columns.
 pub fn fit_law()
     ensures { (columns : List Column) (line : List ℕ) (kind : Kind) (row : Values)
-        → row_of columns line ≡ Ok (kind, row) → line ≡ row_text kind row → Fits columns row }
+        → row_of columns line ≡ Ok (kind, row) → Fits columns row }
 {}
