@@ -1,2 +1,2 @@
-pub mod MergeLemmas
-pub mod TableLemmas
+mod MergeLemmas
+mod TableLemmas

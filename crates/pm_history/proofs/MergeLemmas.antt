@@ -1,7 +1,7 @@
 -- What one more row does to the merged table.
 use Rattle.std.proofs.Common.{◌≡◌, ℕ, suc, ◌+◌, List, [], ◌∷◌, ◌++◌, length, map, Bool, true, false, not, cond, ◌||◌, Option, Some, None, refl, sym, ap, subst, ◌∙◌, append-nil, append_assoc, length-append}
 use Rattle.std.specs.Option.{option_map, option_map_or}
-use Rattle.std.specs.List.{filter_map, cons_option, last_or, range_with_len, list_any}
+use Rattle.std.specs.List.{filter_map, cons_option, range_with_len, list_any}
 use Rattle.std.specs.FinMap.{get, find, get-from_entries}
 use Rattle.std.specs.Ordering.{eq_by_cmp, is_eq}
 use Rattle.std.specs.declared.cmp.Ordering.TheVariants.{Less, Equal, Greater}
@@ -10,13 +10,11 @@ use Rattle.std.proofs.Math.Seq.{get_or-append_seam}
 use Rattle.pm_values.specs.declared.value.Value.TheVariants.{Null}
 use Rattle.pm_values.specs.declared.column.Column.{Column}
 use Rattle.pm_values.specs.Kind.{retracts}
-use Rattle.pm_values.specs.Order.{Values, key_cmp, key_total, key_cmp-IsAntisymmetric}
+use Rattle.pm_base.proofs.Laws.{last_or-push}
+use Rattle.pm_values.specs.Order.{Values, key_cmp, key_total}
+use Rattle.pm_values.proofs.Lemmas.{key_cmp-IsAntisymmetric}
 use Rattle.pm_values.specs.Fits.{Fits}
 use Rattle.pm_history.specs.Merge.{HistoryRow, value_at, key_of, rows_of, column_value, shows, merged_row, merged}
-
-last_or-push : {A : Type 0} (o : Option A) (xs : List A) (x : A) → last_or o (xs ++ x ∷ []) ≡ Some x
-last_or-push o [] x = refl
-last_or-push o (y ∷ ys) x = last_or-push (Some y) ys x
 
 -- keys that tie are one
 pub tied : (a b : Values) → eq_by_cmp key_cmp a b ≡ true → a ≡ b
@@ -27,15 +25,15 @@ tied a b e =
       | Greater ↦ λ p q. cc
     ] refl e
 
--- the values at the places of a list are the list
-values_at_places : (front back : Values) → map (λ place. value_at (front ++ back) place) (range_with_len (length front) (length back)) ≡ back
-values_at_places front [] = refl
-values_at_places front (v ∷ vs) =
-    let here : value_at (front ++ v ∷ vs) (length front) ≡ v = get_or-append_seam front v vs Null in
-    let longer : length (front ++ v ∷ []) ≡ length front + 1 = length-append front (v ∷ []) in
-    let rest : map (λ place. value_at (front ++ v ∷ vs) place) (range_with_len (length front + 1) (length vs)) ≡ vs =
-    subst (λ n. map (λ place. value_at (front ++ v ∷ vs) place) (range_with_len n (length vs)) ≡ vs) longer
-    (subst (λ xs. map (λ place. value_at xs place) (range_with_len (length (front ++ v ∷ [])) (length vs)) ≡ vs) (append_assoc front (v ∷ []) vs) (values_at_places (front ++ v ∷ []) vs)) in
+-- the values at the indexes of a list are the list
+values_at_indexes : (before after : Values) → map (λ index. value_at (before ++ after) index) (range_with_len (length before) (length after)) ≡ after
+values_at_indexes before [] = refl
+values_at_indexes before (v ∷ vs) =
+    let here : value_at (before ++ v ∷ vs) (length before) ≡ v = get_or-append_seam before v vs Null in
+    let longer : length (before ++ v ∷ []) ≡ length before + 1 = length-append before (v ∷ []) in
+    let rest : map (λ index. value_at (before ++ v ∷ vs) index) (range_with_len (length before + 1) (length vs)) ≡ vs =
+    subst (λ n. map (λ index. value_at (before ++ v ∷ vs) index) (range_with_len n (length vs)) ≡ vs) longer
+    (subst (λ xs. map (λ index. value_at xs index) (range_with_len (length (before ++ v ∷ [])) (length vs)) ≡ vs) (append_assoc before (v ∷ []) vs) (values_at_indexes (before ++ v ∷ []) vs)) in
     λ i. here i ∷ rest i
 
 length-fits : (columns : List Column) (values : Values) → Fits columns values → length values ≡ length columns
@@ -46,20 +44,20 @@ length-fits (c ∷ cs) (v ∷ vs) fits = ap suc (length-fits cs vs fits.1)
 
 -- the row that is merged of rows whose last is r
 last_row : (columns : List Column) (own : List HistoryRow) (r : HistoryRow) → Fits columns r.1
-    → cond (shows (own ++ r ∷ [])) (Some (map (λ place. column_value place (own ++ r ∷ [])) (range_with_len 0 (length columns)))) None ≡ cond (retracts r.0) None (Some r.1)
+    → cond (shows (own ++ r ∷ [])) (Some (map (λ index. column_value index (own ++ r ∷ [])) (range_with_len 0 (length columns)))) None ≡ cond (retracts r.0) None (Some r.1)
 last_row columns own r fits =
-    subst (λ (o : Option HistoryRow). cond (option_map_or (λ (r : HistoryRow). not (retracts r.0)) o false) (Some (map (λ place. option_map_or (λ (r : HistoryRow). value_at r.1 place) o Null) (range_with_len 0 (length columns)))) None ≡ cond (retracts r.0) None (Some r.1))
+    subst (λ (o : Option HistoryRow). cond (option_map_or (λ (r : HistoryRow). not (retracts r.0)) o false) (Some (map (λ index. option_map_or (λ (r : HistoryRow). value_at r.1 index) o Null) (range_with_len 0 (length columns)))) None ≡ cond (retracts r.0) None (Some r.1))
     (sym (last_or-push None own r))
-    (elim (retracts r.0) as (λ b. cond (not b) (Some (map (λ place. value_at r.1 place) (range_with_len 0 (length columns)))) None ≡ cond b None (Some r.1)) [
+    (elim (retracts r.0) as (λ b. cond (not b) (Some (map (λ index. value_at r.1 index) (range_with_len 0 (length columns)))) None ≡ cond b None (Some r.1)) [
       | true ↦ refl
-      | false ↦ ap Some (subst (λ n. map (λ place. value_at r.1 place) (range_with_len 0 n) ≡ r.1) (length-fits columns r.1 fits) (values_at_places [] r.1))
+      | false ↦ ap Some (subst (λ n. map (λ index. value_at r.1 index) (range_with_len 0 n) ≡ r.1) (length-fits columns r.1 fits) (values_at_indexes [] r.1))
     ])
 
 -- the rows of a key after one more row
 merged_row-push : (columns : List Column) (primary : List ℕ) (rows : List HistoryRow) (r : HistoryRow) (q : Values) → Fits columns r.1
     → merged_row columns primary (rows ++ r ∷ []) q ≡ cond (eq_by_cmp key_cmp q (key_of primary r.1)) (cond (retracts r.0) None (Some r.1)) (merged_row columns primary rows q)
 merged_row-push columns primary rows r q fits =
-    let row_from : List HistoryRow → Option Values = λ own. cond (shows own) (Some (map (λ place. column_value place own) (range_with_len 0 (length columns)))) None in
+    let row_from : List HistoryRow → Option Values = λ own. cond (shows own) (Some (map (λ index. column_value index own) (range_with_len 0 (length columns)))) None in
     ap row_from (filter-append (λ (x : HistoryRow). eq_by_cmp key_cmp q (key_of primary x.1)) rows (r ∷ []))
     ∙ elim (eq_by_cmp key_cmp q (key_of primary r.1)) as (λ b. row_from (rows_of primary q rows ++ cond b (r ∷ []) []) ≡ cond b (cond (retracts r.0) None (Some r.1)) (merged_row columns primary rows q)) [
       | true ↦ last_row columns (rows_of primary q rows) r fits
@@ -74,9 +72,6 @@ rows_of-none primary q (r ∷ rows) e =
       | true ↦ λ h. cc
       | false ↦ λ h. rows_of-none primary q rows h
     ] e
-
-entry_of : List Column → List ℕ → List HistoryRow → HistoryRow → Option (Values × Values)
-entry_of columns primary all r = option_map (λ (row : Values). (key_of primary r.1, row)) (merged_row columns primary all (key_of primary r.1))
 
 -- the entries of rows have the merged row at the keys of the rows, and nothing elsewhere
 find-entries : (columns : List Column) (primary : List ℕ) (all rows : List HistoryRow) (q : Values)
@@ -107,7 +102,7 @@ get-merged columns primary rows q =
     get-from_entries key_total _ q ∙ find-entries columns primary rows rows q
     ∙ elim (list_any (λ (r : HistoryRow). eq_by_cmp key_cmp q (key_of primary r.1)) rows) as (λ b. list_any (λ (r : HistoryRow). eq_by_cmp key_cmp q (key_of primary r.1)) rows ≡ b → cond b (merged_row columns primary rows q) None ≡ merged_row columns primary rows q) [
       | true ↦ λ e. refl
-      | false ↦ λ e. sym (ap (λ own. cond (shows own) (Some (map (λ place. column_value place own) (range_with_len 0 (length columns)))) None) (rows_of-none primary q rows e))
+      | false ↦ λ e. sym (ap (λ own. cond (shows own) (Some (map (λ index. column_value index own) (range_with_len 0 (length columns)))) None) (rows_of-none primary q rows e))
     ] refl
 
 -- what the merged table has at a key after one more row

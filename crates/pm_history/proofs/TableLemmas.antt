@@ -11,14 +11,15 @@ use Rattle.std.specs.List.Sorted.{IsStrictlySortedBy}
 use Rattle.std.specs.FinMap.Entries.{below_all}
 use Rattle.pm_values.specs.declared.column.Column.{Column}
 use Rattle.pm_values.specs.Kind.{retracts}
-use Rattle.pm_values.specs.Order.{Values, key_cmp, key_total, key_equiv, key_cmp-IsAntisymmetric}
+use Rattle.pm_values.specs.Order.{Values, key_cmp, key_total, key_equiv}
+use Rattle.pm_values.proofs.Lemmas.{key_cmp-IsAntisymmetric}
 use Rattle.pm_values.specs.Fits.{Fits}
 use Rattle.std.proofs.lemmas.List.{take_more}
 use Rattle.pm_history.specs.Merge.{HistoryRow, AllFit, key_of, merged}
 use Rattle.pm_history.specs.Table.{IsTable}
 use Rattle.pm_history.proofs.MergeLemmas.{get-merged-push}
 
--- an entry with the row in the place of its borrow
+-- an entry with the row in place of its borrow
 abbrev pub row_entry : Values × Bor Values → Values × Values
 row_entry e = (e.0, e.1.now)
 
@@ -73,22 +74,13 @@ fits_at columns [] i d below fit = absurd (omega arith)
 fits_at columns (r ∷ rows) zero d below fit = fit.0
 fits_at columns (r ∷ rows) (suc i) d below fit = fits_at columns rows i d (omega arith) fit.1
 
--- the rows up to a place, and the row at the place
+-- the rows up to an index, and the row at the index
 pub IsTable-more : (columns : List Column) (primary : List ℕ) (before rows : List HistoryRow) (i : ℕ) (r : HistoryRow) (table : List (Values × Bor Values)) → i < length rows → r ≡ get_or rows i r
     → IsTable table (merged columns primary ((before ++ take i rows) ++ r ∷ [])) → IsTable table (merged columns primary (before ++ take (i + 1) rows))
 IsTable-more columns primary before rows i r table below is =
     let all : (before ++ take i rows) ++ r ∷ [] ≡ before ++ take (i + 1) rows =
     append_assoc before (take i rows) (r ∷ []) ∙ ap (λ xs. before ++ xs) (ap (λ (x : HistoryRow). take i rows ++ x ∷ []) is ∙ sym (take_more rows i r below)) in
     subst (λ xs. IsTable table (merged columns primary xs)) all
-
--- rows in two parts fit where both do
-pub AllFit-front : (columns : List Column) (first then : List HistoryRow) → AllFit columns (first ++ then) → AllFit columns first
-AllFit-front columns [] then fit = tt
-AllFit-front columns (r ∷ rows) then fit = (fit.0, AllFit-front columns rows then fit.1)
-
-pub AllFit-back : (columns : List Column) (first then : List HistoryRow) → AllFit columns (first ++ then) → AllFit columns then
-AllFit-back columns [] then fit = fit
-AllFit-back columns (r ∷ rows) then fit = AllFit-back columns rows then fit.1
 
 -- no entries stand for no rows
 pub IsTable-empty : (columns : List Column) (primary : List ℕ) (table : List (Values × Bor Values)) → table ≡ [] → IsTable table (merged columns primary [])

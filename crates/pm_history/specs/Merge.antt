@@ -20,13 +20,13 @@ HistoryRow = Kind × Values
 abbrev pub AllFit : List Column → List HistoryRow → Type 0
 AllFit columns rows = AllByRecursion (λ (r : HistoryRow). Fits columns r.1) rows
 
--- the value at a column's place
+-- the value at a column's index, null where there is none
 abbrev pub value_at : Values → ℕ → Value
-value_at values place = slice_index_or values place Null
+value_at values index = slice_index_or values index Null
 
--- the key of a row: its values at the places of the primary key's columns
+-- the key of a row: its values at the indexes of the primary key's columns
 abbrev pub key_of : List ℕ → Values → Values
-key_of primary values = map (λ place. value_at values place) primary
+key_of primary values = map (λ index. value_at values index) primary
 
 -- the rows of one key among all rows, in their order
 abbrev pub rows_of : List ℕ → Values → List HistoryRow → List HistoryRow
@@ -34,7 +34,7 @@ rows_of primary key rows = filter (λ (r : HistoryRow). eq_by_cmp key_cmp key (k
 
 -- a column's value over the rows of a key: that of the last row
 abbrev pub column_value : ℕ → List HistoryRow → Value
-column_value place rows = option_map_or (λ (r : HistoryRow). value_at r.1 place) (last_or None rows) Null
+column_value index rows = option_map_or (λ (r : HistoryRow). value_at r.1 index) (last_or None rows) Null
 
 -- whether a key with these rows shows: there is a last row, and it doesn't retract
 abbrev pub shows : List HistoryRow → Bool
@@ -44,9 +44,13 @@ shows rows = option_map_or (λ (r : HistoryRow). not (retracts r.0)) (last_or No
 abbrev pub merged_row : List Column → List ℕ → List HistoryRow → Values → Option Values
 merged_row columns primary rows key =
     let own = rows_of primary key rows in
-    if shows own then Some (map (λ place. column_value place own) (range_with_len 0 (length columns))) else None
+    if shows own then Some (map (λ index. column_value index own) (range_with_len 0 (length columns))) else None
+
+-- a row's key with what the merged table has at it
+abbrev pub merged_entry : List Column → List ℕ → List HistoryRow → HistoryRow → Option (Values × Values)
+merged_entry columns primary rows r =
+    option_map (λ (row : Values). (key_of primary r.1, row)) (merged_row columns primary rows (key_of primary r.1))
 
 -- the merged table: the map from each key that shows to its row
 abbrev pub merged : List Column → List ℕ → List HistoryRow → FinMap key_cmp Values
-merged columns primary rows =
-    from_entries (filter_map (λ (r : HistoryRow). option_map (λ (row : Values). (key_of primary r.1, row)) (merged_row columns primary rows (key_of primary r.1))) rows)
+merged columns primary rows = from_entries (filter_map (merged_entry columns primary rows) rows)

@@ -3,9 +3,11 @@
 //! The definitions stand in `specs/Merge.antt`. They know nothing of files, snapshots or retries.
 #![tactic(auto)]
 
+mod laws;
 mod merge;
 
-pub use merge::{key_of, merged_law, merged_rows};
+pub use laws::merged_law;
+pub use merge::{key_of, merged_rows};
 
 #[cfg(test)]
 mod tests;

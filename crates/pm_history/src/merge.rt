@@ -2,11 +2,11 @@
 
 ghost use Rattle.std.specs.Prelude.{◌≡◌, ℕ, List, [], ◌∷◌, ◌++◌, IfOk, OnOk, map};
 ghost use Rattle.std.specs.BTreeMap.{IsOrdered};
-ghost use Rattle.std.specs.FinMap.{get, values};
+ghost use Rattle.std.specs.FinMap.{values};
 ghost use Rattle.pm_values.specs.declared.column.Column.{Column};
 ghost use Rattle.pm_values.specs.Fits.{Fits};
-ghost use Rattle.pm_values.specs.Order.{Values, key_cmp};
-ghost use Rattle.pm_history.specs.Merge.{HistoryRow, AllFit, key_of, value_at, merged_row, merged};
+ghost use Rattle.pm_values.specs.Order.{key_cmp};
+ghost use Rattle.pm_history.specs.Merge.{HistoryRow, AllFit, key_of, value_at, merged};
 ghost use Rattle.pm_history.specs.Table.{IsTable};
 
 use pm_values::{Key, Kind, Row, Value};
@@ -16,13 +16,13 @@ use std::collections::BTreeMap;
 /// The rows of a table by their keys, borrowed from where they stand.
 type Table<'a> = BTreeMap<Key, &'a Row>;
 
-/// The key of a row: its values at the places of the primary key's columns.
+/// The key of a row: its values at the indexes of the primary key's columns.
 pub fn key_of(alloc: Global, primary: &[usize], row: &Row) -> Result<Key, AllocError>
     ensures { IfOk result (λ key. key ≡ key_of primary.now row.now) }
 {
     let mut key = Vec::with_capacity(alloc, primary.len())?;
-    for place in primary {
-        key.push(value_at(alloc, row.values(), *place)?)?;
+    for index in primary {
+        key.push(value_at(alloc, row.values(), *index)?)?;
     }
     Ok(Key::new(key))
 }
@@ -50,7 +50,8 @@ fn take<'a>(
     primary: &[usize],
     rows: &'a [(Kind, Row)],
 ) -> Result<(), AllocError>
-    ensures { OnOk result ((columns : List Column) (before : List HistoryRow) → AllFit columns before → AllFit columns rows.now
+    ensures { OnOk result ((columns : List Column) (before : List HistoryRow)
+        → AllFit columns before → AllFit columns rows.now
         → IsTable table.old.entries (merged columns primary.now before)
         → IsTable table.new.entries (merged columns primary.now (before ++ rows.now))) }
 {
@@ -63,8 +64,9 @@ fn take<'a>(
 
 /// Takes one row of that key.
 fn put<'a>(table: &mut Table<'a>, key: Key, kind: Kind, row: &'a Row) -> Result<(), AllocError>
-    ensures { OnOk result ((columns : List Column) (primary : List ℕ) (before : List HistoryRow) → Fits columns row.now
-        → key ≡ key_of primary row.now → IsTable table.old.entries (merged columns primary before)
+    ensures { OnOk result ((columns : List Column) (primary : List ℕ) (before : List HistoryRow)
+        → Fits columns row.now → key ≡ key_of primary row.now
+        → IsTable table.old.entries (merged columns primary before)
         → IsTable table.new.entries (merged columns primary (before ++ (kind, row.now) ∷ []))) }
 {
     if kind.retracts() {
@@ -87,18 +89,12 @@ fn rows_of<'a>(alloc: Global, table: &Table<'a>) -> Result<Vec<&'a Row>, AllocEr
     Ok(shown)
 }
 
-/// The value at a place, null where there is none.
-fn value_at(alloc: Global, values: &[Value], place: usize) -> Result<Value, AllocError>
-    ensures { IfOk result (λ value. value ≡ value_at values.now place) }
+/// The value at an index, null where there is none.
+fn value_at(alloc: Global, values: &[Value], index: usize) -> Result<Value, AllocError>
+    ensures { IfOk result (λ value. value ≡ value_at values.now index) }
 {
-    match values.get(place) {
+    match values.get(index) {
         Some(value) => value.copy(alloc),
         None => Ok(Value::Null),
     }
 }
-
-/// The merged table has at each key the row that its definition says of the key's rows.
-pub fn merged_law()
-    ensures { (columns : List Column) (primary : List ℕ) (rows : List HistoryRow) (key : Values)
-        → get (merged columns primary rows) key ≡ merged_row columns primary rows key }
-{}

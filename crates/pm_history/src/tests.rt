@@ -5,7 +5,7 @@ use pm_values::{Kind, Row, Value};
 use std::alloc::{AllocError, Global};
 use std::test::Fail;
 
-// Rows of a key and a number.
+/// Rows of a key and a number.
 fn rows(alloc: Global, list: &[(Kind, i64, i64)]) -> Result<Vec<(Kind, Row)>, AllocError> {
     let mut rows = Vec::new(alloc);
     for (kind, key, number) in list {
