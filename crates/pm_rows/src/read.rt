@@ -6,7 +6,8 @@ ghost use Rattle.pm_values.specs.Fits.{Fits, FitsColumn, IsInType};
 ghost use Rattle.pm_values.specs.declared.value.Value.TheVariants.{Int};
 ghost use Rattle.pm_base.specs.Outcome.{Gives};
 ghost use Rattle.pm_rows.specs.Reading.{fault_of, json_in, items_in, kind_in, row_of_items, row_of};
-ghost use Rattle.pm_rows.specs.Reading.{truth_at, integer_at, whole_at, text_at, bytes_at, day_at, value_at, item_at, values_at};
+ghost use Rattle.pm_rows.specs.Reading.{truth_at, integer_at, whole_at, text_at, bytes_at, day_at};
+ghost use Rattle.pm_rows.specs.Reading.{value_at, item_at, values_at};
 
 use crate::fault::RowFault;
 use pm_value_text::{parse_date, parse_hex};

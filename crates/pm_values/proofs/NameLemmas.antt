@@ -1,4 +1,4 @@
--- The parts of a name are told from each other.
+-- The parts of a name can be known from each other.
 use Rattle.std.proofs.Common.{◌≡◌, ◌≢◌, true≢false, ℕ, ◌<◌, ◌^◌, List, [], ◌∷◌, ◌++◌, All, length, take, drop, get_or, true, false, Option, Some, unwrap_or, inl, arith, refl, sym, ap, ◌∙◌, append_assoc}
 use Rattle.std.specs.Fmt.{decimal}
 use Rattle.std.specs.Char.{digit_value}
@@ -60,9 +60,9 @@ hex_digit-is d small = grind (arith, nat_tests)
 first-digit : (a r : List ℕ) → is_hex_digit (get_or (hyphenated_text lower a ++ r) 0 0) ≡ true
 first-digit a r =
     let long : length (hyphenated_text lower a) ≡ 36 = by_index_length 36 _ in
-    let front : get_or (hyphenated_text lower a ++ r) 0 0 ≡ get_or (hyphenated_text lower a) 0 0 = get_or_append_left (hyphenated_text lower a) r 0 0 (rw long (omega arith)) in
+    let begins : get_or (hyphenated_text lower a ++ r) 0 0 ≡ get_or (hyphenated_text lower a) 0 0 = get_or_append_left (hyphenated_text lower a) r 0 0 (rw long (omega arith)) in
     let first : get_or (hyphenated_text lower a) 0 0 ≡ hex_digit lower (nibble a 0) = by_index_at 36 _ 0 0 (omega arith) in
-    ap is_hex_digit (front ∙ first) ∙ hex_digit-is (nibble a 0) (nibble_small a 0)
+    ap is_hex_digit (begins ∙ first) ∙ hex_digit-is (nibble a 0) (nibble_small a 0)
 
 pub name_of-longer : (prefix more s t : List ℕ) (b : ℕ) (m n : Naming) → is_hex_digit b ≡ false → name_of prefix s m ≢ name_of (prefix ++ b ∷ more) t n
 name_of-longer prefix more s t b m n other e =

@@ -3,9 +3,11 @@ use Rattle.std.specs.Prelude.{◌<◌, ℤ, pos, negsuc, ◌≤ℤ◌, List, [],
 use Rattle.std.specs.Int.{w8, w16, w32, w64}
 use Rattle.std.specs.List.{AllByRecursion}
 use Rattle.pm_values.specs.declared.value.Value.{Value}
-use Rattle.pm_values.specs.declared.value.Value.TheVariants.{Null, Bool as Truth, Int as Whole, Text as Words, Bytes as Octets, Day, Millis}
+use Rattle.pm_values.specs.declared.value.Value.TheVariants.{Null, Bool as Truth, Int as Whole, Text as Words}
+use Rattle.pm_values.specs.declared.value.Value.TheVariants.{Bytes as Octets, Day, Millis}
 use Rattle.pm_values.specs.declared.column.ColType.{ColType}
-use Rattle.pm_values.specs.declared.column.ColType.TheVariants.{Boolean, TinyInt, SmallInt, Int, BigInt, Text, Bytes, Date, Timestamp}
+use Rattle.pm_values.specs.declared.column.ColType.TheVariants.{Boolean, TinyInt, SmallInt, Int, BigInt}
+use Rattle.pm_values.specs.declared.column.ColType.TheVariants.{Text, Bytes, Date, Timestamp}
 use Rattle.pm_values.specs.declared.column.Column.{Column}
 use Rattle.pm_values.specs.Order.{Values}
 

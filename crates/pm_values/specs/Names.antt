@@ -9,9 +9,12 @@ pub record Naming : Type 0 where
   pub base : ℕ
   pub count : ℕ
 
+abbrev pub with_count : List ℕ → ℕ → ℕ → ℕ → Naming
+with_count session actor base count = record { session = session; actor = actor; base = base; count = count }
+
 -- before the first name
 abbrev pub naming : List ℕ → ℕ → ℕ → Naming
-naming session actor base = record { session = session; actor = actor; base = base; count = 0 }
+naming session actor base = with_count session actor base 0
 
 -- with the next count
 abbrev pub counted : Naming → Naming

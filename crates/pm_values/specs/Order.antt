@@ -76,7 +76,8 @@ same a b = refl
 pub value_total : IsTotalOrder value_cmp
 value_total =
     subst IsTotalOrder (λ i a b. same a b i)
-    (then_total (on_total rank nat_cmp_total) (then_total (on_total whole int_cmp_total) (on_total octets nat_list_cmp_total)))
+    (then_total (on_total rank nat_cmp_total)
+    (then_total (on_total whole int_cmp_total) (on_total octets nat_list_cmp_total)))
 
 pub key_total : IsTotalOrder key_cmp
 key_total = lists_total value_total

@@ -20,13 +20,13 @@ pub struct Names {
 }
 
 impl Model for Names {
-    ghost use Rattle.pm_values.specs.Names.{Naming, IsNaming};
+    ghost use Rattle.pm_values.specs.Names.{Naming, IsNaming, with_count};
 
     ghost Value = { Naming };
 
-    ghost view = { λ n. record { session = n.session; actor = n.actor; base = n.base; count = n.count } };
+    ghost view = { λ n. with_count n.session n.actor n.base n.count };
 
-    ghost invariant = { λ n. IsNaming (record { session = n.session; actor = n.actor; base = n.base; count = n.count }) };
+    ghost invariant = { λ n. IsNaming (with_count n.session n.actor n.base n.count) };
 }
 
 impl Names {

@@ -50,7 +50,7 @@ pub enum Refusal {
     NoSnapshot { id: u64, latest: u64 },
     /// `E13`: the snapshot is expired; its id, or 0 where no greater one was listed.
     Expired { id: u64 },
-    /// `E14`: eleven tries each met another commit; the ids that they tried.
+    /// `E14`: eleven tries each found another commit; the ids that they tried.
     Contended { ids: [u64; 11] },
     /// `E15`: a file that the compaction chose isn't live at the newest snapshot; the first such file.
     CompactTaken { file: Txt },
