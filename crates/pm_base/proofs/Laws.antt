@@ -1,9 +1,10 @@
--- Facts that other crates' proofs use: lists and their members, newlines, and steps of a reading.
-use Rattle.std.proofs.Common.{◌≡◌, ◌≢◌, ℕ, zero, suc, ◌/◌, ◌%◌, Bool, true, false, cond, not, ◌&&◌, ◌==◌, inl, inr, List, [], ◌∷◌, ◌++◌, Option, None, Some, Result, Ok, Err, decimal, refl, ap, arith}
+-- Facts that other crates' proofs use: lists and their members, newlines, steps of a reading, and known contents.
+use Rattle.std.proofs.Common.{◌≡◌, ◌≢◌, ℕ, zero, suc, ◌/◌, ◌%◌, Bool, true, false, cond, not, ◌&&◌, ◌==◌, inl, inr, List, [], ◌∷◌, ◌++◌, Option, None, Some, Result, Ok, Err, decimal, refl, ap, append_assoc, append-nil, arith}
 use Rattle.std.specs.Fmt.{digits, digits_onto, digit_glyph}
 use Rattle.std.specs.List.{AllByRecursion, last_or}
 use Rattle.std.proofs.lemmas.Bool.{cases_lt, eqb-false}
 use Rattle.std.proofs.lemmas.List.Elements.{recursion_from_All, All-from_recursion, All-nil, All-cons, All-head, All-tail, All-append, All-push}
+use Rattle.pm_base.specs.Known.{and_then}
 use Rattle.pm_base.specs.Newline.{newline, IsUnbroken}
 use Rattle.pm_base.specs.Outcome.{◌>>=◌, Fails}
 
@@ -98,3 +99,14 @@ IsUnbroken-digits (suc k) n after h =
 pub IsUnbroken-decimal : (n : ℕ) → IsUnbroken (decimal n)
 unfolding digits
 IsUnbroken-decimal n = IsUnbroken-digits 64 n [] IsUnbroken-nil
+
+-- known contents
+
+-- one text and then another
+pub and_then-append : (known : Option (List ℕ)) (a b : List ℕ) → and_then (and_then known a) b ≡ and_then known (a ++ b)
+and_then-append None a b = refl
+and_then-append (Some known) a b = ap Some (append_assoc known a b)
+
+pub and_then-nil : (known : Option (List ℕ)) → and_then known [] ≡ known
+and_then-nil None = refl
+and_then-nil (Some known) = ap Some (append-nil known)

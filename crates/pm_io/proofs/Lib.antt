@@ -1,1 +1,3 @@
-pub mod Reading
+pub mod Lemmas
+mod Reading
+mod Writing

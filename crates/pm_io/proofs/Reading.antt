@@ -1,20 +1,20 @@
 -- What reading a line in pieces keeps.
 use Rattle.std.proofs.Common.{◌≡◌, ◌≢◌, List, [], ◌∷◌, ◌++◌, ℕ, ◌+◌, ◌≤◌, ◌<◌, length, Bool, true, false, Option, Some, None, IfSome, refl, ap, sym, ◌∙◌, arith, append_assoc, append-nil, length-append}
 use Rattle.pm_base.specs.Known.{with_prefix}
-use Rattle.pm_io.specs.Source.{IsAtEnd}
-use Rattle.pm_io.specs.Lines.{first_line, later_lines, has_newline, IsLineOf}
+use Rattle.pm_io.specs.Source.{SourceView, SourceLater}
+use Rattle.pm_io.specs.Lines.{coming, first_line, later_lines, has_newline, IsLineOf}
 use Rattle.pm_base.specs.Newline.{IsUnbroken}
-use Rattle.pm_io.specs.LineLaws.{first_line-append, later_lines-append, has_newline-append}
+use Rattle.pm_io.proofs.Lemmas.{first_line-append, later_lines-append, has_newline-append}
 
 -- nothing is lost, the line that was begun has no newline and is within the limit, or is as it was, and no fault is forgotten
-pub record IsReading (max : ℕ) (before : List ℕ) (to_come : Option (List ℕ)) (faults_before : ℕ) (begun : List ℕ) (now : Option (List ℕ)) (faults : ℕ) : Type 0 where
-  pub kept : now ≡ to_come
+pub record IsReading (max : ℕ) (before ahead_before : List ℕ) (source_before : SourceView) (begun ahead : List ℕ) (source : SourceView) : Type 0 where
+  pub kept : coming begun ahead source ≡ coming before ahead_before source_before
   pub unbroken : IsUnbroken begun
   pub up_to : length before ≤ max → length begun ≤ max + 1
   pub again : max < length before → begun ≡ before
-  pub later : faults_before ≤ faults
+  pub later : SourceLater source_before source
 
--- bytes in front of the same are the same
+-- bytes before the same are the same
 with_prefix-same : (begun a b : List ℕ) (left right : Option (List ℕ)) → with_prefix a left ≡ with_prefix b right → with_prefix (begun ++ a) left ≡ with_prefix (begun ++ b) right
 with_prefix-same begun a b None None h = refl
 with_prefix-same begun a b None (Some y) h = cc
@@ -42,7 +42,7 @@ line_ended all line ahead bytes after (Some left) come is parts h same none =
     }
 
 -- the last line, without a newline
-pub line_last : (line ahead bytes after : List ℕ) (ended : Bool) (left come : Option (List ℕ)) → come ≡ with_prefix (line ++ ahead) left → ahead ≡ [] → IsAtEnd left → IsUnbroken line
+pub line_last : (line ahead bytes after : List ℕ) (ended : Bool) (left come : Option (List ℕ)) → come ≡ with_prefix (line ++ ahead) left → ahead ≡ [] → IfSome left (λ l. l ≡ []) → IsUnbroken line
     → bytes ≡ line → ended ≡ false → line ≢ [] → after ≡ [] → IfSome come (IsLineOf bytes ended (with_prefix (after ++ ahead) left))
 line_last line ahead bytes after ended None come is empty end h same unended some none = rw is tt
 line_last line ahead bytes after ended (Some left) come is empty end h same unended some none =

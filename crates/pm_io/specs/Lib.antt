@@ -1,5 +1,4 @@
 pub mod Source
 pub mod Sink
 pub mod Lines
-pub mod LineLaws
 pub mod Memory

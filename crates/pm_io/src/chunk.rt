@@ -1,16 +1,15 @@
 //! Bytes that were read ahead of a line.
-ghost use Rattle.std.specs.Prelude.{◌≡◌, ◌≢◌, ℕ, ◌≤◌, [], length, drop, true, false, Ok, OnErr};
-ghost use Rattle.pm_base.specs.Faults.{Rose};
+ghost use Rattle.std.specs.Prelude.{◌≡◌, ◌≢◌, ◌≤◌, [], length, drop, true, false, Ok, OnErr};
 ghost use Rattle.pm_base.specs.Known.{with_prefix};
-ghost use Rattle.pm_io.specs.Source.{IsAtEnd};
+ghost use Rattle.pm_io.specs.Source.{SourceFailed, SourceLater, IsAtEnd};
 
 use crate::{Failed, Source};
 use std::marker::Model;
 
 /// How many bytes a chunk has room for.
-const CHUNK_ROOM: usize = 4096;
+const CHUNK_ROOM: usize = 65536;
 
-/// A few bytes of a source, read at once and handed on from the front.
+/// Some bytes of a source, read at once and handed on in order.
 #[derive(Drop)]
 pub(crate) struct Chunk {
     bytes: [u8; CHUNK_ROOM],
@@ -58,13 +57,14 @@ impl Chunk {
 
     /// Whether there are bytes here, after one read where there were none.
     pub(crate) fn refill<S: Source>(&mut self, source: &mut S) -> Result<bool, Failed>
-        ensures kept { with_prefix self.new (S.left source.new) ≡ with_prefix self.old (S.left source.old) }
+        ensures kept { with_prefix self.new (S.seen source.new).left
+            ≡ with_prefix self.old (S.seen source.old).left }
         ensures none_at_fault { OnErr result (self.new ≡ []) }
         ensures some { result ≡ Ok true → self.new ≢ [] }
         ensures none { result ≡ Ok false → self.new ≡ [] }
-        ensures end { result ≡ Ok false → IsAtEnd (S.left source.new) }
-        ensures failed { OnErr result (Rose (S.faults source.old) (S.faults source.new)) }
-        ensures later { S.faults source.old ≤ S.faults source.new }
+        ensures end { result ≡ Ok false → IsAtEnd (S.seen source.new) }
+        ensures failed { OnErr result (SourceFailed (S.seen source.old) (S.seen source.new)) }
+        ensures later { SourceLater (S.seen source.old) (S.seen source.new) }
     {
         if self.start < self.end {
             return Ok(true);

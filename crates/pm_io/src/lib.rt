@@ -2,13 +2,15 @@
 #![tactic(auto)]
 
 mod chunk;
+mod laws;
 mod lines;
 mod memory;
 mod sink;
 mod source;
 mod standard;
 
-pub use lines::{Line, LineFault, Lines, all_lines_law};
+pub use laws::all_lines_law;
+pub use lines::{Line, LineFault, Lines};
 pub use memory::{MemSink, MemSource};
 pub use sink::{Sink, SinkFail, write_all};
 pub use source::{Failed, Source};

@@ -1,8 +1,9 @@
 //! The lines of a source, read in chunks. No byte is looked at twice.
-ghost use Rattle.std.specs.Prelude.{◌≡◌, ◌≢◌, ℕ, ◌+◌, ◌<◌, ◌≤◌, List, [], ◌∷◌, ◌++◌, length, take, drop, true, false, Ok, None, IfOk, IfSome, IfNone, OnOk, OnErr, IsErrOf, vec_len};
-ghost use Rattle.pm_base.specs.Faults.{Rose};
-ghost use Rattle.pm_io.specs.Lines.{first_line, later_lines, has_newline, line_end, all_lines, coming, to_come, IsLineOf, IsOverLimit};
-ghost use Rattle.pm_base.specs.Newline.{IsUnbroken};
+ghost use Rattle.std.specs.Prelude.{◌≡◌, ◌≢◌, ◌+◌, ◌<◌, ◌≤◌, [], ◌∷◌, ◌++◌, length, take, drop, true, false, Ok, None};
+ghost use Rattle.std.specs.Prelude.{IfOk, IfSome, IfNone, OnOk, OnErr, IsErrOf, vec_len};
+ghost use Rattle.pm_base.specs.Newline.{newline, IsUnbroken};
+ghost use Rattle.pm_io.specs.Lines.{first_line, coming, to_come, IsLineOf, IsOverLimit};
+ghost use Rattle.pm_io.specs.Source.{SourceFailed, SourceLater};
 ghost use Rattle.pm_io.specs.declared.lines.LineFault.TheVariants.{Memory, Read};
 
 use crate::chunk::Chunk;
@@ -94,29 +95,29 @@ impl Lines {
     ) -> Result<Option<Line>, LineFault>
         // A line is the first one of what is to come, and the rest is still to come. None comes at the end.
         ensures line { IfOk result (λ found. IfSome found (λ line.
-            IfSome (to_come self.old (S.left source.old))
-            (IsLineOf line.bytes.items line.ended (to_come self.new (S.left source.new))))) }
+            IfSome (to_come self.old (S.seen source.old))
+            (IsLineOf line.bytes.items line.ended (to_come self.new (S.seen source.new))))) }
         ensures end { result ≡ Ok None →
-            IfSome (to_come self.old (S.left source.old)) (λ bytes. bytes ≡ []) }
+            IfSome (to_come self.old (S.seen source.old)) (λ bytes. bytes ≡ []) }
         ensures ended { result ≡ Ok None →
-            to_come self.new (S.left source.new) ≡ to_come self.old (S.left source.old) }
+            to_come self.new (S.seen source.new) ≡ to_come self.old (S.seen source.old) }
         ensures within { IfOk result (λ found. IfSome found (λ line. length line.bytes.items ≤ max)) }
         ensures unbroken { IfOk result (λ found. IfSome found (λ line. IsUnbroken line.bytes.items)) }
         ensures fresh { OnOk result (self.new.begun ≡ []) }
 
         // The first max + 1 bytes of a line decide whether it is too long. Only a read for one of them fails the call.
         ensures long { IsErrOf result LineFault.Long →
-            IfSome (to_come self.old (S.left source.old)) (λ bytes. max < length (first_line bytes)) }
-        ensures front { IsErrOf result LineFault.Long → IsOverLimit max self.old.begun self.new.begun }
-        ensures read { IsErrOf result LineFault.Read → Rose (S.faults source.old) (S.faults source.new) }
+            IfSome (to_come self.old (S.seen source.old)) (λ bytes. max < length (first_line bytes)) }
+        ensures over { IsErrOf result LineFault.Long → IsOverLimit max self.old.begun self.new.begun }
+        ensures read { IsErrOf result LineFault.Read → SourceFailed (S.seen source.old) (S.seen source.new) }
         ensures asked { IsErrOf result LineFault.Read →
             (self.new.ahead ≡ []) × (length self.new.begun ≤ max) }
 
         // No error loses a byte.
         ensures kept { OnErr result
-            (to_come self.new (S.left source.new) ≡ to_come self.old (S.left source.old)) }
+            (to_come self.new (S.seen source.new) ≡ to_come self.old (S.seen source.old)) }
         ensures begun { IsUnbroken self.new.begun }
-        ensures later { S.faults source.old ≤ S.faults source.new }
+        ensures later { SourceLater (S.seen source.old) (S.seen source.new) }
     {
         read_into(self.alloc, &mut self.begun, &mut self.ahead, source, max)
     }
@@ -132,26 +133,26 @@ fn read_into<S: Source>(
 ) -> Result<Option<Line>, LineFault>
     requires { IsUnbroken begun.old.items }
     ensures line { IfOk result (λ found. IfSome found (λ line.
-        IfSome (coming begun.old.items ahead.old (S.left source.old))
-        (IsLineOf line.bytes.items line.ended (coming begun.new.items ahead.new (S.left source.new))))) }
+        IfSome (coming begun.old.items ahead.old (S.seen source.old))
+        (IsLineOf line.bytes.items line.ended (coming begun.new.items ahead.new (S.seen source.new))))) }
     ensures end { result ≡ Ok None →
-        IfSome (coming begun.old.items ahead.old (S.left source.old)) (λ bytes. bytes ≡ []) }
-    ensures ended { result ≡ Ok None → coming begun.new.items ahead.new (S.left source.new)
-        ≡ coming begun.old.items ahead.old (S.left source.old) }
+        IfSome (coming begun.old.items ahead.old (S.seen source.old)) (λ bytes. bytes ≡ []) }
+    ensures ended { result ≡ Ok None → coming begun.new.items ahead.new (S.seen source.new)
+        ≡ coming begun.old.items ahead.old (S.seen source.old) }
     ensures within { IfOk result (λ found. IfSome found (λ line. length line.bytes.items ≤ max)) }
     ensures unbroken { IfOk result (λ found. IfSome found (λ line. IsUnbroken line.bytes.items)) }
     ensures fresh { OnOk result (begun.new.items ≡ []) }
 
     ensures long { IsErrOf result LineFault.Long →
-        IfSome (coming begun.old.items ahead.old (S.left source.old)) (λ bytes. max < length (first_line bytes)) }
-    ensures front { IsErrOf result LineFault.Long → IsOverLimit max begun.old.items begun.new.items }
-    ensures read { IsErrOf result LineFault.Read → Rose (S.faults source.old) (S.faults source.new) }
+        IfSome (coming begun.old.items ahead.old (S.seen source.old)) (λ bytes. max < length (first_line bytes)) }
+    ensures over { IsErrOf result LineFault.Long → IsOverLimit max begun.old.items begun.new.items }
+    ensures read { IsErrOf result LineFault.Read → SourceFailed (S.seen source.old) (S.seen source.new) }
     ensures asked { IsErrOf result LineFault.Read → (ahead.new ≡ []) × (length begun.new.items ≤ max) }
 
-    ensures kept { OnErr result (coming begun.new.items ahead.new (S.left source.new)
-        ≡ coming begun.old.items ahead.old (S.left source.old)) }
+    ensures kept { OnErr result (coming begun.new.items ahead.new (S.seen source.new)
+        ≡ coming begun.old.items ahead.old (S.seen source.old)) }
     ensures begun { IsUnbroken begun.new.items }
-    ensures later { S.faults source.old ≤ S.faults source.new }
+    ensures later { SourceLater (S.seen source.old) (S.seen source.new) }
 {
     while begun.len() <= max {
         if !ahead.refill(source)? {
@@ -168,7 +169,8 @@ fn read_into<S: Source>(
 /// The line that the end of the source ends, if there is one.
 fn last_line(alloc: Global, begun: &mut Vec<u8>) -> Option<Line>
     ensures none { IfNone result (begun.old.items ≡ []) }
-    ensures some { IfSome result (λ line. (line.bytes.items ≡ begun.old.items) × (line.ended ≡ false) × (begun.old.items ≢ [])) }
+    ensures some { IfSome result (λ line. (line.bytes.items ≡ begun.old.items)
+        × (line.ended ≡ false) × (begun.old.items ≢ [])) }
     ensures after { begun.new.items ≡ [] }
 {
     if begun.is_empty() {
@@ -187,7 +189,7 @@ fn take_piece(begun: &mut Vec<u8>, ahead: &mut Chunk, max: usize) -> Result<bool
     requires room { vec_len begun.old ≤ max }
     requires some { ahead.old ≢ [] }
     requires unbroken { IsUnbroken begun.old.items }
-    ensures ended { result ≡ Ok true → begun.new.items ++ (10 ∷ ahead.new) ≡ begun.old.items ++ ahead.old }
+    ensures ended { result ≡ Ok true → begun.new.items ++ (newline ∷ ahead.new) ≡ begun.old.items ++ ahead.old }
     ensures within { result ≡ Ok true → vec_len begun.new ≤ max }
     ensures more { result ≡ Ok false → begun.new.items ++ ahead.new ≡ begun.old.items ++ ahead.old }
     ensures longer { result ≡ Ok false → (vec_len begun.old < vec_len begun.new) × (vec_len begun.new ≤ max + 1) }
@@ -199,9 +201,9 @@ fn take_piece(begun: &mut Vec<u8>, ahead: &mut Chunk, max: usize) -> Result<bool
     let piece = bytes.split_at(room.min(bytes.len())).0;
     let len = piece.len();
     match newline_in(piece) {
-        Some(place) => {
-            begun.extend_from_slice(piece.split_at(place).0)?;
-            ahead.advance(place + 1);
+        Some(index) => {
+            begun.extend_from_slice(piece.split_at(index).0)?;
+            ahead.advance(index + 1);
             Ok(true)
         }
         None => {
@@ -212,22 +214,13 @@ fn take_piece(begun: &mut Vec<u8>, ahead: &mut Chunk, max: usize) -> Result<bool
     }
 }
 
-/// The place of the first newline.
+/// The index of the first newline.
 fn newline_in(bytes: &[u8]) -> Option<usize>
     ensures none { IfNone result (IsUnbroken bytes.now) }
-    ensures place { IfSome result (λ place. place < length bytes.now) }
-    ensures front { IfSome result (λ place. IsUnbroken (take place bytes.now)) }
-    ensures rest { IfSome result (λ place. bytes.now ≡ take place bytes.now ++ (10 ∷ drop (place + 1) bytes.now)) }
+    ensures index { IfSome result (λ index. index < length bytes.now) }
+    ensures prefix { IfSome result (λ index. IsUnbroken (take index bytes.now)) }
+    ensures rest { IfSome result (λ index.
+        bytes.now ≡ take index bytes.now ++ (newline ∷ drop (index + 1) bytes.now)) }
 {
     bytes.iter().position(|byte| *byte == NEWLINE)
 }
-
-/// What determines the lines of a text, and its first line.
-pub fn all_lines_law()
-    ensures none { all_lines [] ≡ [] }
-    ensures ended { (line rest : List ℕ) → IsUnbroken line → all_lines (line ++ (10 ∷ rest)) ≡ line ∷ all_lines rest }
-    ensures last { (line : List ℕ) → IsUnbroken line → line ≢ [] → all_lines line ≡ line ∷ [] }
-    ensures first { (text : List ℕ) → text ≢ [] → all_lines text ≡ first_line text ∷ all_lines (later_lines text) }
-    ensures parts { (text : List ℕ) → text ≡ first_line text ++ line_end (has_newline text) (later_lines text) }
-    ensures unbroken { (text : List ℕ) → IsUnbroken (first_line text) }
-{}

@@ -1,9 +1,10 @@
 //! A source and a sink in memory, which fail at listed calls.
-ghost use Rattle.std.specs.Prelude.{◌≡◌, ◌⊎◌, ◌↔◌, ◌-◌, ◌<◌, ◌≤◌, [], length, take, min, Some, Ok, IfOk, OnErr, IsErr, is_err, Contains, if◌then◌else◌};
-ghost use Rattle.pm_base.specs.Faults.{Rose};
-ghost use Rattle.pm_base.specs.Known.{and_then};
-ghost use Rattle.pm_io.specs.Source.{Reads, without, IsAtEnd};
+ghost use Rattle.std.specs.Prelude.{◌≡◌, ◌⊎◌, ◌↔◌, ◌-◌, ◌<◌, ◌≤◌, [], length, take, drop, min, Ok, IfOk, OnErr, IsErr};
+ghost use Rattle.std.specs.Prelude.{is_err, Contains, ◌++◌, if◌then◌else◌};
 ghost use Rattle.pm_base.specs.Faults.{one_more};
+ghost use Rattle.pm_io.specs.Memory.{source_view, sink_view};
+ghost use Rattle.pm_io.specs.Sink.{SinkFailed, SinkLater};
+ghost use Rattle.pm_io.specs.Source.{SourceFailed, SourceLater, Reads, IsAtEnd};
 
 use crate::{Failed, Sink, Source};
 use std::alloc::{AllocError, Global};
@@ -36,6 +37,7 @@ impl Model for MemSource {
 }
 
 impl MemSource {
+    /// Gives these bytes.
     pub fn new(bytes: Vec<u8>, fails: Vec<u64>) -> MemSource
         ensures left { result.left ≡ bytes.items }
         ensures fails { result.fails ≡ fails.items }
@@ -53,18 +55,16 @@ impl MemSource {
 }
 
 impl Source for MemSource {
-    ghost left = { λ s. Some s.left };
-
-    ghost faults = { λ s. s.faults };
+    ghost seen = { source_view };
 
     fn read(&mut self, into: &mut [u8]) -> Result<usize, Failed>
         ensures count { IfOk result (λ n. n ≤ length into.old) }
-        ensures bytes { IfOk result (λ n. Reads (Some self.old.left) n into.old into.new) }
-        ensures rest { IfOk result (λ n. Some self.new.left ≡ without (Some self.old.left) n) }
-        ensures end { result ≡ Ok 0 → 0 < length into.old → IsAtEnd (Some self.old.left) }
-        ensures kept { OnErr result (Some self.new.left ≡ Some self.old.left) }
-        ensures failed { OnErr result (Rose self.old.faults self.new.faults) }
-        ensures later { self.old.faults ≤ self.new.faults }
+        ensures bytes { IfOk result (λ n. Reads (source_view self.old) n into.old into.new) }
+        ensures rest { IfOk result (λ n. self.new.left ≡ drop n self.old.left) }
+        ensures end { result ≡ Ok 0 → 0 < length into.old → IsAtEnd (source_view self.old) }
+        ensures kept { OnErr result (self.new.left ≡ self.old.left) }
+        ensures failed { OnErr result (SourceFailed (source_view self.old) (source_view self.new)) }
+        ensures later { SourceLater (source_view self.old) (source_view self.new) }
 
         // It fails at the listed calls and at no other, and else gives as much as it can.
         ensures listed { IsErr result ↔ Contains self.old.fails (one_more self.old.calls) }
@@ -140,17 +140,15 @@ impl MemSink {
 }
 
 impl Sink for MemSink {
-    ghost taken = { λ s. Some s.taken };
-
-    ghost faults = { λ s. s.faults };
+    ghost seen = { sink_view };
 
     fn write(&mut self, bytes: &[u8]) -> Result<usize, Failed>
         ensures count { IfOk result (λ n. n ≤ length bytes.now) }
-        ensures bytes { IfOk result (λ n. Some self.new.taken ≡ and_then (Some self.old.taken) (take n bytes.now)) }
-        ensures stuck { result ≡ Ok 0 → 0 < length bytes.now → Rose self.old.faults self.new.faults }
-        ensures kept { OnErr result (Some self.new.taken ≡ Some self.old.taken) }
-        ensures failed { OnErr result (Rose self.old.faults self.new.faults) }
-        ensures later { self.old.faults ≤ self.new.faults }
+        ensures bytes { IfOk result (λ n. self.new.taken ≡ self.old.taken ++ take n bytes.now) }
+        ensures stuck { result ≡ Ok 0 → 0 < length bytes.now → SinkFailed (sink_view self.old) (sink_view self.new) }
+        ensures kept { OnErr result (self.new.taken ≡ self.old.taken) }
+        ensures failed { OnErr result (SinkFailed (sink_view self.old) (sink_view self.new)) }
+        ensures later { SinkLater (sink_view self.old) (sink_view self.new) }
 
         // It fails at the listed calls, where it has no room for any of the bytes, and at no other call.
         ensures listed { IsErr result ↔ (Contains self.old.fails (one_more self.old.calls)

@@ -1,8 +1,7 @@
 //! Where bytes go.
-ghost use Rattle.std.specs.Prelude.{◌≡◌, ℕ, ◌<◌, ◌≤◌, List, length, take, Option, Ok, IfOk, OnOk, OnErr};
-ghost use Rattle.pm_base.specs.Faults.{Rose};
+ghost use Rattle.std.specs.Prelude.{◌≡◌, ◌<◌, ◌≤◌, length, take, Ok, IfOk, OnOk, OnErr};
 ghost use Rattle.pm_base.specs.Known.{and_then};
-ghost use Rattle.pm_io.specs.Sink.{TookPrefix};
+ghost use Rattle.pm_io.specs.Sink.{SinkView, SinkFailed, SinkLater, TookPrefix};
 
 use crate::Failed;
 
@@ -12,28 +11,25 @@ pub struct SinkFail;
 
 /// A sink of bytes. It may fail at any write.
 pub trait Sink {
-    /// The bytes that it took, where it tells them.
-    ghost taken: { Self → Option (List ℕ) };
+    /// The bytes that it took, where they are known, and its count of faults.
+    ghost seen: { Self → SinkView };
 
-    /// How often it has failed, up to the last value of 64 bits.
-    ghost faults: { Self → ℕ };
-
-    /// Takes a front of the bytes, and says how many; to take none of some counts as a fault.
+    /// Takes a prefix of the bytes, and says how many; to take none of some counts as a fault.
     fn write(&mut self, bytes: &[u8]) -> Result<usize, Failed>
         ensures count { IfOk result (λ n. n ≤ length bytes.now) }
-        ensures bytes { IfOk result (λ n. taken self.new ≡ and_then (taken self.old) (take n bytes.now)) }
-        ensures stuck { result ≡ Ok 0 → 0 < length bytes.now → Rose (faults self.old) (faults self.new) }
-        ensures kept { OnErr result (taken self.new ≡ taken self.old) }
-        ensures failed { OnErr result (Rose (faults self.old) (faults self.new)) }
-        ensures later { faults self.old ≤ faults self.new };
+        ensures bytes { IfOk result (λ n. (seen self.new).taken ≡ and_then (seen self.old).taken (take n bytes.now)) }
+        ensures stuck { result ≡ Ok 0 → 0 < length bytes.now → SinkFailed (seen self.old) (seen self.new) }
+        ensures kept { OnErr result ((seen self.new).taken ≡ (seen self.old).taken) }
+        ensures failed { OnErr result (SinkFailed (seen self.old) (seen self.new)) }
+        ensures later { SinkLater (seen self.old) (seen self.new) };
 }
 
-/// Writes all bytes, or a front of them.
+/// Writes all bytes, or a prefix of them.
 pub fn write_all<W: Sink>(sink: &mut W, bytes: &[u8]) -> Result<(), SinkFail>
-    ensures ok { OnOk result (W.taken sink.new ≡ and_then (W.taken sink.old) bytes.now) }
-    ensures front { OnErr result (TookPrefix (W.taken sink.old) (W.taken sink.new) bytes.now) }
-    ensures failed { OnErr result (Rose (W.faults sink.old) (W.faults sink.new)) }
-    ensures later { W.faults sink.old ≤ W.faults sink.new }
+    ensures ok { OnOk result ((W.seen sink.new).taken ≡ and_then (W.seen sink.old).taken bytes.now) }
+    ensures prefix { OnErr result (TookPrefix (W.seen sink.old).taken (W.seen sink.new).taken bytes.now) }
+    ensures failed { OnErr result (SinkFailed (W.seen sink.old) (W.seen sink.new)) }
+    ensures later { SinkLater (W.seen sink.old) (W.seen sink.new) }
 {
     let mut rest = bytes;
     while !rest.is_empty() {

@@ -1,7 +1,6 @@
 //! Where bytes come from.
-ghost use Rattle.std.specs.Prelude.{◌≡◌, ℕ, ◌<◌, ◌≤◌, List, length, Option, Ok, IfOk, OnErr};
-ghost use Rattle.pm_base.specs.Faults.{Rose};
-ghost use Rattle.pm_io.specs.Source.{Reads, without, IsAtEnd};
+ghost use Rattle.std.specs.Prelude.{◌≡◌, ◌<◌, ◌≤◌, length, Ok, IfOk, OnErr};
+ghost use Rattle.pm_io.specs.Source.{SourceView, SourceFailed, SourceLater, Reads, without, IsAtEnd};
 
 /// A read or a write failed.
 #[derive(Clone, Copy, Debug, PartialEq, Eq)]
@@ -9,19 +8,16 @@ pub struct Failed;
 
 /// A source of bytes. It may fail at any read, and may be read again then.
 pub trait Source {
-    /// The bytes that it has left, where it tells them.
-    ghost left: { Self → Option (List ℕ) };
+    /// The bytes that it has left, where they are known, and its count of faults.
+    ghost seen: { Self → SourceView };
 
-    /// How often it has failed, up to the last value of 64 bits.
-    ghost faults: { Self → ℕ };
-
-    /// Reads some bytes into the front of a buffer, and says how many; none only at the end.
+    /// Reads some bytes to the start of a buffer, and says how many; none only at the end.
     fn read(&mut self, into: &mut [u8]) -> Result<usize, Failed>
         ensures count { IfOk result (λ n. n ≤ length into.old) }
-        ensures bytes { IfOk result (λ n. Reads (left self.old) n into.old into.new) }
-        ensures rest { IfOk result (λ n. left self.new ≡ without (left self.old) n) }
-        ensures end { result ≡ Ok 0 → 0 < length into.old → IsAtEnd (left self.old) }
-        ensures kept { OnErr result (left self.new ≡ left self.old) }
-        ensures failed { OnErr result (Rose (faults self.old) (faults self.new)) }
-        ensures later { faults self.old ≤ faults self.new };
+        ensures bytes { IfOk result (λ n. Reads (seen self.old) n into.old into.new) }
+        ensures rest { IfOk result (λ n. (seen self.new).left ≡ without (seen self.old).left n) }
+        ensures end { result ≡ Ok 0 → 0 < length into.old → IsAtEnd (seen self.old) }
+        ensures kept { OnErr result ((seen self.new).left ≡ (seen self.old).left) }
+        ensures failed { OnErr result (SourceFailed (seen self.old) (seen self.new)) }
+        ensures later { SourceLater (seen self.old) (seen self.new) };
 }

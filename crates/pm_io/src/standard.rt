@@ -1,7 +1,6 @@
-//! A source and a sink over std's readers and writers. They tell nothing of content, and count faults.
+//! A source and a sink over std's readers and writers. Their content isn't known; faults are counted.
 ghost use Rattle.std.specs.Prelude.{◌≡◌, ℕ, ◌<◌, ◌≤◌, length, None, Ok, IfOk, OnErr, is_err, if◌then◌else◌};
-ghost use Rattle.pm_base.specs.Faults.{Rose};
-ghost use Rattle.pm_base.specs.Faults.{one_more};
+ghost use Rattle.pm_base.specs.Faults.{one_more, Rose};
 
 use crate::{Failed, Sink, Source};
 use std::io::{ErrorKind, Read, Write};
@@ -26,6 +25,7 @@ impl<R: Read> Model for StdSource<R> {
 }
 
 impl<R: Read> StdSource<R> {
+    /// Reads from this reader.
     pub fn new(reader: R) -> StdSource<R>
         ensures { result ≡ 0 }
     {
@@ -34,9 +34,7 @@ impl<R: Read> StdSource<R> {
 }
 
 impl<R: Read> Source for StdSource<R> {
-    ghost left = { λ _. None };
-
-    ghost faults = { λ s. s };
+    ghost seen = { λ s. record { left = None; faults = s } };
 
     fn read(&mut self, into: &mut [u8]) -> Result<usize, Failed>
         ensures count { IfOk result (λ n. n ≤ length into.old) }
@@ -72,6 +70,7 @@ impl<W: Write> Model for StdSink<W> {
 }
 
 impl<W: Write> StdSink<W> {
+    /// Writes to this writer.
     pub fn new(writer: W) -> StdSink<W>
         ensures { result ≡ 0 }
     {
@@ -80,9 +79,7 @@ impl<W: Write> StdSink<W> {
 }
 
 impl<W: Write> Sink for StdSink<W> {
-    ghost taken = { λ _. None };
-
-    ghost faults = { λ s. s };
+    ghost seen = { λ s. record { taken = None; faults = s } };
 
     fn write(&mut self, bytes: &[u8]) -> Result<usize, Failed>
         ensures count { IfOk result (λ n. n ≤ length bytes.now) }

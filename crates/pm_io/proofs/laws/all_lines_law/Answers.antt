@@ -1,5 +1,5 @@
-use Rattle.pm_io.specs.LineLaws.{all_lines-ended, all_lines-last, all_lines-first, first_line-parts, first_line-unbroken}
-use Rattle.pm_io.proofs.lines.all_lines_law.Goals as goal
+use Rattle.pm_io.proofs.Lemmas.{all_lines-ended, all_lines-last, all_lines-first, first_line-parts, first_line-unbroken}
+use Rattle.pm_io.proofs.laws.all_lines_law.Goals as goal
 
 pub returns-clause-ended : goal.returns-clause-ended
 returns-clause-ended c = all_lines-ended

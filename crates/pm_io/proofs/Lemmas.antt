@@ -1,11 +1,13 @@
--- Laws of lines: what determines the first line of a text and all of them.
-use Rattle.std.specs.Prelude.{◌≡◌, ◌≢◌, List, [], ◌∷◌, ◌++◌, ℕ, Bool, true, false, ◌==◌, ◌||◌, if◌then◌else◌, Option, Some, None, refl}
+-- What determines the first line of a text and all of them, and what was taken of a text in parts.
+use Rattle.std.specs.Prelude.{◌≡◌, ◌≢◌, List, [], ◌∷◌, ◌++◌, ℕ, Bool, true, false, ◌==◌, ◌||◌, if◌then◌else◌, Option, refl}
 use Rattle.std.specs.List.{AllByRecursion}
-use Rattle.std.proofs.Common.{ap, ◌∙◌, sym, ne_eqb, eqb-true, append-nil}
+use Rattle.std.proofs.Common.{ap, ◌∙◌, sym, ne_eqb, eqb-true, append-nil, append_assoc}
 use Rattle.std.proofs.lemmas.Bool.{eqb-false}
 use Rattle.std.proofs.lemmas.List.Elements.{recursion_from_All, All-from_recursion}
-use Rattle.pm_base.specs.Known.{with_prefix}
+use Rattle.pm_base.specs.Known.{and_then}
+use Rattle.pm_base.proofs.Laws.{and_then-append}
 use Rattle.pm_io.specs.Lines.{first_line, later_lines, has_newline, line_end, onto_first, all_lines}
+use Rattle.pm_io.specs.Sink.{TookPrefix}
 use Rattle.pm_base.specs.Newline.{IsUnbroken}
 
 -- no newline, byte by byte
@@ -84,7 +86,14 @@ pub all_lines-last : (line : List ℕ) → IsUnbroken line → line ≢ [] → a
 all_lines-last line h some =
     all_lines-first line some ∙ ap (λ l. l ∷ all_lines (later_lines line)) (sym (ap first_line (append-nil line)) ∙ first_line-append line [] h ∙ append-nil line) ∙ ap (λ r. line ∷ all_lines r) (sym (ap later_lines (append-nil line)) ∙ later_lines-append line [] h)
 
--- no bytes in front
-pub with_prefix-nil : (told : Option (List ℕ)) → with_prefix [] told ≡ told
-with_prefix-nil None = refl
-with_prefix-nil (Some told) = refl
+-- ---- a text that is taken in parts
+
+-- a prefix of the first part
+pub TookPrefix-first : (before after : Option (List ℕ)) (a b : List ℕ) → TookPrefix before after a → TookPrefix before after (a ++ b)
+TookPrefix-first before after a b (prefix, rest, is, took) =
+    (prefix, rest ++ b, ap (λ (l : List ℕ). l ++ b) is ∙ append_assoc prefix rest b, took)
+
+-- the first part, and a prefix of the second
+pub TookPrefix-second : (before mid after : Option (List ℕ)) (a b : List ℕ) → mid ≡ and_then before a → TookPrefix mid after b → TookPrefix before after (a ++ b)
+TookPrefix-second before mid after a b whole (prefix, rest, is, took) =
+    (a ++ prefix, rest, ap (λ (l : List ℕ). a ++ l) is ∙ sym (append_assoc a prefix rest), took ∙ ap (λ t. and_then t prefix) whole ∙ and_then-append before a prefix)
