@@ -3,6 +3,9 @@
 //! The lines stand in `specs/Report.antt`.
 #![tactic(auto)]
 
-mod line;
+mod reports;
 
-pub use line::{report, status};
+pub use reports::{report, status};
+
+#[cfg(test)]
+mod tests;
