@@ -1,18 +1,23 @@
 -- What is written for a datum of a type is that datum of the type.
-use Rattle.std.proofs.Common.{◌≡◌, ℕ, zero, suc, ◌+◌, ◌-◌, ◌*◌, ◌/◌, ◌%◌, ◌^◌, ◌<◌, ◌≤◌, ℤ, pos, negsuc, false, List, [], ◌∷◌, ◌++◌, length, refl, sym, ap, subst, ◌∙◌, append_assoc, inl, inr, arith, FitsSigned, w32, w64}
+use Rattle.std.proofs.Common.{◌≡◌, ℕ, zero, suc, ◌+◌, ◌-◌, ◌*◌, ◌/◌, ◌%◌, ◌^◌, ◌<◌, ◌≤◌, ℤ, pos}
+use Rattle.std.proofs.Common.{negsuc, false, List, [], ◌∷◌, ◌++◌, length, refl, sym, ap, subst}
+use Rattle.std.proofs.Common.{◌∙◌, append_assoc, inl, inr, arith, FitsSigned, w32, w64}
 use Rattle.std.specs.Prelude.{slice_index}
 use Rattle.std.specs.List.{AllByRecursion}
 use Rattle.std.proofs.lemmas.Bool.{cases_lt, lt-ltb, le-ltb, and_cases}
 use Rattle.std.proofs.lemmas.List.{length-append, append-nil}
 use Rattle.std.proofs.lemmas.Nat.{pow-add, mul-le, div_below}
 use Rattle.pm_avro_schema.specs.Avro as types
-use Rattle.pm_avro_schema.specs.Avro.{Avro, Fields, no_fields, field, Branches, no_branches, branch, takes_no_byte, take_no_byte}
+use Rattle.pm_avro_schema.specs.Avro.{Avro, Fields, no_fields, field, Branches}
+use Rattle.pm_avro_schema.specs.Avro.{no_branches, branch, takes_no_byte, take_no_byte}
 use Rattle.pm_avro_schema.specs.Readable.{KeepsBounds, FieldsKeepBounds, BranchesKeepBounds}
-use Rattle.pm_avro_data.specs.Datum.{Data, null, boolean, int, long, bytes, text, record_of, array_of, map_of, union_of, Items, no_items, item, items, Entries, no_entries, entry, entries}
+use Rattle.pm_avro_data.specs.Datum.{Data, null, boolean, int, long, bytes, text, record_of, array_of, map_of}
+use Rattle.pm_avro_data.specs.Datum.{union_of, Items, no_items, item, items, Entries, no_entries, entry, entries}
 use Rattle.pm_avro_data.specs.Number.{zigzag, AreGroups, IsNumber, IsInt, IsLong}
 use Rattle.pm_avro_data.specs.IsDatum.{IsBytes, IsEntry, AreItems, IsBlock, IsBlocked, IsDatum, AreFields, IsBranch}
 use Rattle.pm_avro_data.specs.HasType.{HasType, HaveTypes, HasBranch}
-use Rattle.pm_avro_data.specs.Encoding.{groups, integer, sized, blocked, encoding, items_encoding, entries_encoding, Fits, ItemsFit, EntriesFit}
+use Rattle.pm_avro_data.specs.Writing.{groups, integer, sized, blocked, encoding, items_encoding}
+use Rattle.pm_avro_data.specs.Writing.{entries_encoding, Fits, ItemsFit, EntriesFit}
 
 -- ---- numbers
 
@@ -38,11 +43,11 @@ groups_some (suc more) n =
       | inr high ↦ rw (groups_high more n high) (omega arith)
     ]
 
--- what is above the low seven bits has a place less
+-- what is above the low seven bits has a group less
 above_below : (m n : ℕ) → n < 2 ^ (7 * suc m + 7) → n / 128 < 2 ^ (7 * m + 7)
 above_below m n lt =
-    let place : 7 * suc m + 7 ≡ 7 * m + 7 + 7 = omega arith in
-    let below : n < 2 ^ (7 * m + 7 + 7) = rw place at lt in
+    let bits : 7 * suc m + 7 ≡ 7 * m + 7 + 7 = omega arith in
+    let below : n < 2 ^ (7 * m + 7 + 7) = rw bits at lt in
     omega (arith, pow-add 2 (7 * m + 7) 7)
 
 groups_are : (more n : ℕ) (rest : List ℕ) → n < 2 ^ (7 * more + 7) → AreGroups n (groups more n ++ rest) rest
@@ -64,7 +69,7 @@ groups_few (suc k) (suc more) n lt =
       | inr high ↦ rw (groups_high more n high) (omega (arith, groups_few k more (n / 128) (above_below k n lt)))
     ]
 
--- the last group, at place k
+-- the last group, of index k
 groups_last : (k more n top : ℕ) (rest : List ℕ) → n < (top + 1) * 2 ^ (7 * k) → length (groups more n) ≡ k + 1 → slice_index (groups more n ++ rest) k ≤ top
 groups_last zero zero n top rest lt len = rw (groups_zero n) (omega arith)
 groups_last (suc k) zero n top rest lt len = absurd (omega (arith, ap length (groups_zero n)))
@@ -77,8 +82,8 @@ groups_last (suc k) (suc more) n top rest lt len =
     elim (cases_lt n 128) [
       | inl low ↦ absurd (omega (arith, ap length (groups_low (suc more) n low)))
       | inr high ↦
-          let place : 7 * suc k ≡ 7 * k + 7 = omega arith in
-          let below : n < (top + 1) * 2 ^ (7 * k + 7) = rw place at lt in
+          let bits : 7 * suc k ≡ 7 * k + 7 = omega arith in
+          let below : n < (top + 1) * 2 ^ (7 * k + 7) = rw bits at lt in
           let wide : n < (top + 1) * (2 ^ (7 * k) * 128) = rw (pow-add 2 (7 * k) 7) at below in
           let room : n < (top + 1) * 2 ^ (7 * k) * 128 = omega arith in
           let tail : length (groups more (n / 128)) ≡ k + 1 = omega (arith, ap length (groups_high more n high)) in
@@ -89,11 +94,11 @@ number_is : (p top n : ℕ) (rest : List ℕ) → top < 128 → n < 2 ^ 64 → n
 number_is p top n rest small lt room =
     let fits : n < 2 ^ (7 * p + 7) = omega (arith, mul-le (top + 1) (2 ^ (7 * p)) 128 (2 ^ (7 * p)) (omega arith) (omega arith), pow-add 2 (7 * p) 7) in
     let few = groups_few p 9 n fits in
-    let place : p + 1 - 1 ≡ p = omega arith in
+    let bits : p + 1 - 1 ≡ p = omega arith in
     record {
       groups = groups_are 9 n rest (omega arith);
       short = omega (arith, few, length-append (groups 9 n) rest);
-      last = λ whole. rw place (groups_last p 9 n top rest room (omega (arith, length-append (groups 9 n) rest)));
+      last = λ whole. rw bits (groups_last p 9 n top rest room (omega (arith, length-append (groups 9 n) rest)));
     }
 
 zigzag_long : (z : ℤ) → FitsSigned w64 z → zigzag z < 2 ^ 64
@@ -221,10 +226,10 @@ mutual
       blocked_is (IsDatum t) (items ds) (items_encoding ds) rest f.0 (items_within t ds k.1 h) (items_are t (λ d rest. datum_is t (n + 1) d rest k.2) ds (0 ∷ rest) h f.1)
   datum_is (types.map_of t) n (map_of es) rest k h f =
       blocked_is (IsEntry (IsDatum t)) (entries es) (entries_encoding es) rest f.0 (entries_within es) (entries_are t (λ d rest. datum_is t (n + 1) d rest k.1) es (0 ∷ rest) h f.1)
-  datum_is (types.union_of ts) n (union_of place d) rest k h f =
+  datum_is (types.union_of ts) n (union_of index d) rest k h f =
       let middle = encoding d ++ rest in
-      subst (λ (x : List ℕ). IsDatum (types.union_of ts) (union_of place d) x rest) (sym (append_assoc (integer (pos place)) (encoding d) rest))
-      (middle, int_is (pos place) middle (record { sfits = h.0 }), branch_is ts (n + 1) place d rest k h.1 f)
+      subst (λ (x : List ℕ). IsDatum (types.union_of ts) (union_of index d) x rest) (sym (append_assoc (integer (pos index)) (encoding d) rest))
+      (middle, int_is (pos index) middle (record { sfits = h.0 }), branch_is ts (n + 1) index d rest k h.1 f)
   datum_is t n d rest k h f = absurd h
 
   fields_are : (fs : Fields) (n : ℕ) (ds : Items) (rest : List ℕ) → FieldsKeepBounds fs n → HaveTypes fs ds → ItemsFit ds → AreFields fs ds (items_encoding ds ++ rest) rest
@@ -235,7 +240,7 @@ mutual
       (later, datum_is t n d later k.1 h.0 f.0, fields_are fs n ds rest k.2 h.1 f.1)
   fields_are fs n ds rest k h f = absurd h
 
-  branch_is : (ts : Branches) (n : ℕ) (place : ℕ) (d : Data) (rest : List ℕ) → BranchesKeepBounds ts n → HasBranch ts place d → Fits d → IsBranch ts place d (encoding d ++ rest) rest
-  branch_is no_branches n place d rest k h f = absurd h
+  branch_is : (ts : Branches) (n : ℕ) (index : ℕ) (d : Data) (rest : List ℕ) → BranchesKeepBounds ts n → HasBranch ts index d → Fits d → IsBranch ts index d (encoding d ++ rest) rest
+  branch_is no_branches n index d rest k h f = absurd h
   branch_is (branch t ts) n zero d rest k h f = datum_is t n d rest k.0 h f
-  branch_is (branch t ts) n (suc place) d rest k h f = branch_is ts n place d rest k.1 h f
+  branch_is (branch t ts) n (suc index) d rest k h f = branch_is ts n index d rest k.1 h f

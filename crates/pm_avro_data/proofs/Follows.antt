@@ -1,28 +1,29 @@
 -- The rest of what is read stands at the end of the text.
-use Rattle.std.proofs.Common.{◌≡◌, ℕ, ◌<◌, ◌≤◌, ℤ, pos, negsuc, List, [], ◌∷◌, ◌++◌, length, refl, sym, ap, ◌∙◌, append_assoc, inl, inr, arith}
+use Rattle.std.proofs.Common.{◌≡◌, ℕ, ◌<◌, ◌≤◌, ℤ, pos, negsuc, List, [], ◌∷◌, ◌++◌}
+use Rattle.std.proofs.Common.{length, refl, sym, ap, ◌∙◌, append_assoc, inl, inr, arith}
 use Rattle.std.proofs.lemmas.List.{length-append}
 use Rattle.pm_avro_data.specs.Number.{AreGroups}
 use Rattle.pm_avro_data.specs.IsDatum.{IsBytes, AreItems, IsBody, IsBlock}
 
 pub record Follows (source rest : List ℕ) : Type 0 where
-  pub front : List ℕ
-  pub parts : source ≡ front ++ rest
+  pub prefix : List ℕ
+  pub parts : source ≡ prefix ++ rest
 
 pub Follows-refl : (source rest : List ℕ) → source ≡ rest → Follows source rest
-Follows-refl source rest e = record { front = []; parts = e }
+Follows-refl source rest e = record { prefix = []; parts = e }
 
 pub Follows-then : (a b c : List ℕ) → Follows a b → Follows b c → Follows a c
-Follows-then a b c p q = record { front = p.front ++ q.front; parts = p.parts ∙ ap (λ (t : List ℕ). p.front ++ t) q.parts ∙ sym (append_assoc p.front q.front c) }
+Follows-then a b c p q = record { prefix = p.prefix ++ q.prefix; parts = p.parts ∙ ap (λ (t : List ℕ). p.prefix ++ t) q.parts ∙ sym (append_assoc p.prefix q.prefix c) }
 
 pub Follows-shorter : (source rest : List ℕ) → Follows source rest → length rest ≤ length source
-Follows-shorter source rest f = omega (arith, ap length f.parts, length-append f.front rest)
+Follows-shorter source rest f = omega (arith, ap length f.parts, length-append f.prefix rest)
 
 pub groups_follow : (source : List ℕ) (n : ℕ) (rest : List ℕ) → AreGroups n source rest → Follows source rest
 groups_follow [] n rest h = absurd h
-groups_follow (b ∷ source) n rest (inl h) = record { front = b ∷ []; parts = ap (λ (t : List ℕ). b ∷ t) h.2 }
+groups_follow (b ∷ source) n rest (inl h) = record { prefix = b ∷ []; parts = ap (λ (t : List ℕ). b ∷ t) h.2 }
 groups_follow (b ∷ source) n rest (inr h) =
     let f = groups_follow source h.2.0 rest h.2.2 in
-    record { front = b ∷ f.front; parts = ap (λ (t : List ℕ). b ∷ t) f.parts }
+    record { prefix = b ∷ f.prefix; parts = ap (λ (t : List ℕ). b ∷ t) f.parts }
 
 -- a number takes a byte
 pub groups_shorter : (source : List ℕ) (n : ℕ) (rest : List ℕ) → AreGroups n source rest → length rest < length source
@@ -31,7 +32,7 @@ groups_shorter (b ∷ source) n rest (inl h) = omega (arith, ap length h.2)
 groups_shorter (b ∷ source) n rest (inr h) = omega (arith, groups_shorter source h.2.0 rest h.2.2)
 
 pub bytes_follow : (bs source rest : List ℕ) → IsBytes bs source rest → Follows source rest
-bytes_follow bs source rest h = Follows-then source (bs ++ rest) rest (groups_follow source _ (bs ++ rest) h.groups) (record { front = bs; parts = refl })
+bytes_follow bs source rest h = Follows-then source (bs ++ rest) rest (groups_follow source _ (bs ++ rest) h.groups) (record { prefix = bs; parts = refl })
 
 module _ {X : Type 0} (P : X → List ℕ → List ℕ → Type 0) (each : (x : X) (source rest : List ℕ) → P x source rest → Follows source rest) where
   pub items_follow : (xs : List X) (source rest : List ℕ) → AreItems P xs source rest → Follows source rest

@@ -1,5 +1,6 @@
 -- No spelling of a datum is shorter than what is written for it.
-use Rattle.std.proofs.Common.{◌≡◌, ℕ, zero, suc, ◌+◌, ◌-◌, ◌*◌, ◌/◌, ◌^◌, ◌<◌, ◌≤◌, ℤ, pos, negsuc, List, [], ◌∷◌, ◌++◌, length, refl, sym, ap, ◌∙◌, append_assoc, inl, inr, arith}
+use Rattle.std.proofs.Common.{◌≡◌, ℕ, zero, suc, ◌+◌, ◌-◌, ◌*◌, ◌/◌, ◌^◌, ◌<◌, ◌≤◌, ℤ, pos, negsuc, List}
+use Rattle.std.proofs.Common.{[], ◌∷◌, ◌++◌, length, refl, sym, ap, ◌∙◌, append_assoc, inl, inr, arith}
 use Rattle.std.specs.List.{flat_map}
 use Rattle.std.proofs.lemmas.Bool.{cases_lt}
 use Rattle.std.proofs.lemmas.List.{length-append}
@@ -8,10 +9,12 @@ use Rattle.std.proofs.lemmas.Nat.{pow-add}
 use Rattle.std.proofs.Math.Pow.{pow_mono}
 use Rattle.pm_avro_schema.specs.Avro as types
 use Rattle.pm_avro_schema.specs.Avro.{Avro, Fields, no_fields, field, Branches, no_branches, branch}
-use Rattle.pm_avro_data.specs.Datum.{Data, null, boolean, int, long, bytes, text, record_of, array_of, map_of, union_of, Items, no_items, item, items, Entries, no_entries, entry, entries}
+use Rattle.pm_avro_data.specs.Datum.{Data, null, boolean, int, long, bytes, text, record_of, array_of, map_of}
+use Rattle.pm_avro_data.specs.Datum.{union_of, Items, no_items, item, items, Entries, no_entries, entry, entries}
 use Rattle.pm_avro_data.specs.Number.{zigzag, AreGroups, IsNumber}
-use Rattle.pm_avro_data.specs.IsDatum.{IsBytes, IsEntry, AreItems, IsBody, IsBlock, AreBlocks, IsBlocked, IsDatum, AreFields, IsBranch}
-use Rattle.pm_avro_data.specs.Encoding.{groups, integer, sized, blocked, encoding, items_encoding, entries_encoding}
+use Rattle.pm_avro_data.specs.IsDatum.{IsBytes, IsEntry, AreItems, IsBody, IsBlock}
+use Rattle.pm_avro_data.specs.IsDatum.{AreBlocks, IsBlocked, IsDatum, AreFields, IsBranch}
+use Rattle.pm_avro_data.specs.Writing.{groups, integer, sized, blocked, encoding, items_encoding, entries_encoding}
 use Rattle.pm_avro_data.proofs.Follows.{groups_shorter}
 use Rattle.pm_avro_data.proofs.Encodings.{groups_zero, groups_low, groups_high, groups_some, groups_few}
 
@@ -58,8 +61,8 @@ groups_bound (suc more) n short =
       | inr high ↦
           let len = ap length (groups_high more n high) in
           let fewer = groups_bound more (n / 128) (omega arith) in
-          let place : 7 * suc (length (groups more (n / 128))) ≡ 7 * length (groups more (n / 128)) + 7 = omega arith in
-          rw (groups_high more n high) (rw (place, pow-add 2 (7 * length (groups more (n / 128))) 7) (omega arith))
+          let bits : 7 * suc (length (groups more (n / 128))) ≡ 7 * length (groups more (n / 128)) + 7 = omega arith in
+          rw (groups_high more n high) (rw (bits, pow-add 2 (7 * length (groups more (n / 128))) 7) (omega arith))
     ]
 
 -- two numbers take together as many groups as their sum

@@ -1,11 +1,12 @@
-pub mod Numbers
-pub mod Leaves
-pub mod Loops
-pub mod Moves
-pub mod Follows
-pub mod Readings
-pub mod Types
-pub mod Pushing
-pub mod Encodings
-pub mod Prefixes
-pub mod Lengths
+pub mod Facts
+mod Numbers
+mod Leaves
+mod Loops
+mod Moves
+mod Follows
+mod Readings
+mod Types
+mod Pushing
+mod Encodings
+mod Prefixes
+mod Lengths

@@ -1,63 +1,66 @@
 -- What is a value's bytes before one rest is so before any rest that is as long.
-use Rattle.std.proofs.Common.{◌≡◌, ℕ, zero, suc, ◌+◌, ◌-◌, ◌<◌, ◌≤◌, ℤ, pos, negsuc, List, [], ◌∷◌, ◌++◌, length, refl, sym, ap, subst, ◌∙◌, append_assoc, inl, inr, arith}
+use Rattle.std.proofs.Common.{◌≡◌, ℕ, zero, suc, ◌+◌, ◌-◌, ◌<◌, ◌≤◌, ℤ, pos, negsuc, List, [], ◌∷◌}
+use Rattle.std.proofs.Common.{◌++◌, length, refl, sym, ap, subst, ◌∙◌, append_assoc, inl, inr, arith}
 use Rattle.std.specs.Prelude.{slice_index}
 use Rattle.std.proofs.lemmas.List.{length-append, get_or_append_left}
 use Rattle.pm_avro_schema.specs.Avro as types
 use Rattle.pm_avro_schema.specs.Avro.{Avro, Fields, no_fields, field, Branches, no_branches, branch}
-use Rattle.pm_avro_data.specs.Datum.{Data, null, boolean, int, long, bytes, text, record_of, array_of, map_of, union_of, Items, no_items, item, items, entries}
+use Rattle.pm_avro_data.specs.Datum.{Data, null, boolean, int, long, bytes, text, record_of, array_of}
+use Rattle.pm_avro_data.specs.Datum.{map_of, union_of, Items, no_items, item, items, entries}
 use Rattle.pm_avro_data.specs.Number.{AreGroups, IsNumber, IsInt, IsLong}
-use Rattle.pm_avro_data.specs.IsDatum.{IsBytes, IsText, IsEntry, AreItems, IsSized, IsBody, IsBlock, AreBlocks, IsBlocked, IsDatum, AreFields, IsBranch}
+use Rattle.pm_avro_data.specs.IsDatum.{IsBytes, IsText, IsEntry, AreItems, IsSized, IsBody, IsBlock}
+use Rattle.pm_avro_data.specs.IsDatum.{AreBlocks, IsBlocked, IsDatum, AreFields, IsBranch}
 use Rattle.pm_avro_data.proofs.Follows.{Follows, groups_shorter}
 
--- the rest stands at the end of the source, and the relation holds of the same front before any other rest that isn't shorter
+-- the rest stands at the end of the source, and the relation holds of the same prefix before any other rest that isn't shorter
 pub record Moves (R : List ℕ → List ℕ → Type 0) (source rest : List ℕ) : Type 0 where
-  pub front : List ℕ
-  pub parts : source ≡ front ++ rest
-  pub moved : (other : List ℕ) → length rest ≤ length other → R (front ++ other) other
+  pub prefix : List ℕ
+  pub parts : source ≡ prefix ++ rest
+  pub moved : (other : List ℕ) → length rest ≤ length other → R (prefix ++ other) other
 
 pub moves_same : (source rest : List ℕ) → source ≡ rest → Moves (λ s r. s ≡ r) source rest
-moves_same source rest e = record { front = []; parts = e; moved = λ other le. refl }
+moves_same source rest e = record { prefix = []; parts = e; moved = λ other le. refl }
 
 moves_as : (R S : List ℕ → List ℕ → Type 0) → ((s r : List ℕ) → R s r → S s r) → (source rest : List ℕ) → Moves R source rest → Moves S source rest
-moves_as R S f source rest m = record { front = m.front; parts = m.parts; moved = λ other le. f (m.front ++ other) other (m.moved other le) }
+moves_as R S f source rest m = record { prefix = m.prefix; parts = m.parts; moved = λ other le. f (m.prefix ++ other) other (m.moved other le) }
 
 -- one after another
 moves_then : (A B : List ℕ → List ℕ → Type 0) (source middle rest : List ℕ) → Moves A source middle → Moves B middle rest → Moves (λ s r. (m : List ℕ) × A s m × B m r) source rest
 moves_then A B source middle rest p q =
-    let len : length middle ≡ length q.front + length rest = ap length q.parts ∙ length-append q.front rest in
+    let len : length middle ≡ length q.prefix + length rest = ap length q.parts ∙ length-append q.prefix rest in
     record {
-      front = p.front ++ q.front;
-      parts = p.parts ∙ ap (λ (t : List ℕ). p.front ++ t) q.parts ∙ sym (append_assoc p.front q.front rest);
+      prefix = p.prefix ++ q.prefix;
+      parts = p.parts ∙ ap (λ (t : List ℕ). p.prefix ++ t) q.parts ∙ sym (append_assoc p.prefix q.prefix rest);
       moved = λ other le.
-          let longer : length middle ≤ length (q.front ++ other) = omega (arith, length-append q.front other) in
-          (q.front ++ other, subst (λ (t : List ℕ). A t (q.front ++ other)) (sym (append_assoc p.front q.front other)) (p.moved (q.front ++ other) longer), q.moved other le);
+          let longer : length middle ≤ length (q.prefix ++ other) = omega (arith, length-append q.prefix other) in
+          (q.prefix ++ other, subst (λ (t : List ℕ). A t (q.prefix ++ other)) (sym (append_assoc p.prefix q.prefix other)) (p.moved (q.prefix ++ other) longer), q.moved other le);
     }
 
 -- ---- numbers and bytes
 
 groups_move : (source : List ℕ) (n : ℕ) (rest : List ℕ) → AreGroups n source rest → Moves (AreGroups n) source rest
 groups_move [] n rest h = absurd h
-groups_move (b ∷ source) n rest (inl h) = record { front = b ∷ []; parts = ap (λ (t : List ℕ). b ∷ t) h.2; moved = λ other le. inl (h.0, h.1, refl) }
+groups_move (b ∷ source) n rest (inl h) = record { prefix = b ∷ []; parts = ap (λ (t : List ℕ). b ∷ t) h.2; moved = λ other le. inl (h.0, h.1, refl) }
 groups_move (b ∷ source) n rest (inr h) =
     let m = groups_move source h.2.0 rest h.2.2 in
-    record { front = b ∷ m.front; parts = ap (λ (t : List ℕ). b ∷ t) m.parts; moved = λ other le. inr (h.0, h.1, (h.2.0, h.2.1, m.moved other le)) }
+    record { prefix = b ∷ m.prefix; parts = ap (λ (t : List ℕ). b ∷ t) m.parts; moved = λ other le. inr (h.0, h.1, (h.2.0, h.2.1, m.moved other le)) }
 
 number_moves : (most top n : ℕ) (source rest : List ℕ) → IsNumber most top n source rest → Moves (IsNumber most top n) source rest
 number_moves most top n source rest h =
     let m = groups_move source n rest h.groups in
-    let len : length source ≡ length m.front + length rest = ap length m.parts ∙ length-append m.front rest in
+    let len : length source ≡ length m.prefix + length rest = ap length m.parts ∙ length-append m.prefix rest in
     let some = groups_shorter source n rest h.groups in
     record {
-      front = m.front;
+      prefix = m.prefix;
       parts = m.parts;
       moved = λ other le. record {
         groups = m.moved other le;
-        short = omega (arith, length-append m.front other, h.short);
+        short = omega (arith, length-append m.prefix other, h.short);
         last = λ whole.
-            let full : length m.front ≡ most = omega (arith, length-append m.front other) in
-            let within : most - 1 < length m.front = omega arith in
-            let here : slice_index (m.front ++ rest) (most - 1) ≤ top = subst (λ (t : List ℕ). slice_index t (most - 1) ≤ top) m.parts (h.last (omega arith)) in
-            rw (get_or_append_left m.front other 0 (most - 1) within) (rw (get_or_append_left m.front rest 0 (most - 1) within) at here);
+            let full : length m.prefix ≡ most = omega (arith, length-append m.prefix other) in
+            let within : most - 1 < length m.prefix = omega arith in
+            let here : slice_index (m.prefix ++ rest) (most - 1) ≤ top = subst (λ (t : List ℕ). slice_index t (most - 1) ≤ top) m.parts (h.last (omega arith)) in
+            rw (get_or_append_left m.prefix other 0 (most - 1) within) (rw (get_or_append_left m.prefix rest 0 (most - 1) within) at here);
       };
     }
 
@@ -65,11 +68,11 @@ bytes_move : (bs source rest : List ℕ) → IsBytes bs source rest → Moves (I
 bytes_move bs source rest h =
     let m = number_moves 10 1 _ source (bs ++ rest) h in
     record {
-      front = m.front ++ bs;
-      parts = m.parts ∙ sym (append_assoc m.front bs rest);
+      prefix = m.prefix ++ bs;
+      parts = m.parts ∙ sym (append_assoc m.prefix bs rest);
       moved = λ other le.
           let longer : length (bs ++ rest) ≤ length (bs ++ other) = omega (arith, length-append bs rest, length-append bs other) in
-          subst (λ (t : List ℕ). IsBytes bs t other) (sym (append_assoc m.front bs other)) (m.moved (bs ++ other) longer);
+          subst (λ (t : List ℕ). IsBytes bs t other) (sym (append_assoc m.prefix bs other)) (m.moved (bs ++ other) longer);
     }
 
 text_moves : (bs source rest : List ℕ) → IsText bs source rest → Moves (IsText bs) source rest
@@ -86,17 +89,17 @@ module _ {X : Type 0} (P : X → List ℕ → List ℕ → Type 0) (each : (x : 
   sized_moves xs source rest h =
       let p = number_moves 10 1 _ source h.start h.number in
       let q = items_move xs h.start rest h.each in
-      let len : length h.start ≡ length q.front + length rest = ap length q.parts ∙ length-append q.front rest in
+      let len : length h.start ≡ length q.prefix + length rest = ap length q.parts ∙ length-append q.prefix rest in
       record {
-        front = p.front ++ q.front;
-        parts = p.parts ∙ ap (λ (t : List ℕ). p.front ++ t) q.parts ∙ sym (append_assoc p.front q.front rest);
+        prefix = p.prefix ++ q.prefix;
+        parts = p.parts ∙ ap (λ (t : List ℕ). p.prefix ++ t) q.parts ∙ sym (append_assoc p.prefix q.prefix rest);
         moved = λ other le.
-            let longer : length h.start ≤ length (q.front ++ other) = omega (arith, length-append q.front other) in
+            let longer : length h.start ≤ length (q.prefix ++ other) = omega (arith, length-append q.prefix other) in
             record {
               size = h.size;
-              start = q.front ++ other;
-              number = subst (λ (t : List ℕ). IsLong (pos h.size) t (q.front ++ other)) (sym (append_assoc p.front q.front other)) (p.moved (q.front ++ other) longer);
-              whole = omega (arith, length-append q.front other, h.whole);
+              start = q.prefix ++ other;
+              number = subst (λ (t : List ℕ). IsLong (pos h.size) t (q.prefix ++ other)) (sym (append_assoc p.prefix q.prefix other)) (p.moved (q.prefix ++ other) longer);
+              whole = omega (arith, length-append q.prefix other, h.whole);
               each = q.moved other le;
             };
       }
@@ -109,17 +112,17 @@ module _ {X : Type 0} (P : X → List ℕ → List ℕ → Type 0) (each : (x : 
   block_moves xs source rest h =
       let p = number_moves 10 1 _ source h.left h.number in
       let q = body_moves h.count xs h.left rest h.body in
-      let len : length h.left ≡ length q.front + length rest = ap length q.parts ∙ length-append q.front rest in
+      let len : length h.left ≡ length q.prefix + length rest = ap length q.parts ∙ length-append q.prefix rest in
       record {
-        front = p.front ++ q.front;
-        parts = p.parts ∙ ap (λ (t : List ℕ). p.front ++ t) q.parts ∙ sym (append_assoc p.front q.front rest);
+        prefix = p.prefix ++ q.prefix;
+        parts = p.parts ∙ ap (λ (t : List ℕ). p.prefix ++ t) q.parts ∙ sym (append_assoc p.prefix q.prefix rest);
         moved = λ other le.
-            let longer : length h.left ≤ length (q.front ++ other) = omega (arith, length-append q.front other) in
+            let longer : length h.left ≤ length (q.prefix ++ other) = omega (arith, length-append q.prefix other) in
             record {
               count = h.count;
-              left = q.front ++ other;
+              left = q.prefix ++ other;
               some = h.some;
-              number = subst (λ (t : List ℕ). IsLong h.count t (q.front ++ other)) (sym (append_assoc p.front q.front other)) (p.moved (q.front ++ other) longer);
+              number = subst (λ (t : List ℕ). IsLong h.count t (q.prefix ++ other)) (sym (append_assoc p.prefix q.prefix other)) (p.moved (q.prefix ++ other) longer);
               within = omega (arith, h.within);
               body = q.moved other le;
             };
@@ -140,7 +143,7 @@ entry_moves P each e source rest h = moves_then (IsText e.0) (P e.1) source h.0 
 mutual
   pub datum_moves : (t : Avro) (d : Data) (source rest : List ℕ) → IsDatum t d source rest → Moves (IsDatum t d) source rest
   datum_moves types.null null source rest h = moves_same source rest h
-  datum_moves types.boolean (boolean b) source rest h = record { front = _ ∷ []; parts = h; moved = λ other le. refl }
+  datum_moves types.boolean (boolean b) source rest h = record { prefix = _ ∷ []; parts = h; moved = λ other le. refl }
   datum_moves types.int (int z) source rest h = number_moves 5 15 _ source rest h
   datum_moves types.long (long z) source rest h = number_moves 10 1 _ source rest h
   datum_moves types.bytes (bytes bs) source rest h = bytes_move bs source rest h
@@ -166,7 +169,7 @@ mutual
 -- ---- the rest stands at the end
 
 pub datum_follows : (t : Avro) (d : Data) (source rest : List ℕ) → IsDatum t d source rest → Follows source rest
-datum_follows t d source rest h = let m = datum_moves t d source rest h in record { front = m.front; parts = m.parts }
+datum_follows t d source rest h = let m = datum_moves t d source rest h in record { prefix = m.prefix; parts = m.parts }
 
 pub entry_follows : (t : Avro) (e : List ℕ × Data) (source rest : List ℕ) → IsEntry (IsDatum t) e source rest → Follows source rest
-entry_follows t e source rest h = let m = entry_moves (IsDatum t) (datum_moves t) e source rest h in record { front = m.front; parts = m.parts }
+entry_follows t e source rest h = let m = entry_moves (IsDatum t) (datum_moves t) e source rest h in record { prefix = m.prefix; parts = m.parts }

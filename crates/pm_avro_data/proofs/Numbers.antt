@@ -1,5 +1,6 @@
 -- Numbers in groups: reading them, and the relation.
-use Rattle.std.proofs.Common.{◌≡◌, ℕ, zero, suc, ◌+◌, ◌-◌, ◌*◌, ◌%◌, ◌^◌, ◌<◌, ◌≤◌, ◌⊎◌, inl, inr, List, [], ◌∷◌, Option, Some, None, refl, sym, ap, ◌∙◌, arith}
+use Rattle.std.proofs.Common.{◌≡◌, ℕ, zero, suc, ◌+◌, ◌-◌, ◌*◌, ◌%◌, ◌^◌, ◌<◌, ◌≤◌, ◌⊎◌, inl, inr}
+use Rattle.std.proofs.Common.{List, [], ◌∷◌, Option, Some, None, refl, sym, ap, ◌∙◌, arith}
 use Rattle.std.specs.Prelude.{option_map}
 use Rattle.std.proofs.lemmas.Nat.{pow-add, pow_pos, mul-le}
 use Rattle.std.proofs.lemmas.Bool.{le-ltb, lt-ltb, le-leb, lt-leb}
@@ -80,7 +81,7 @@ ends_none low bits most top text total none so_far = rw none at so_far
 
 -- ---- the bounds
 
--- the place of group i, where the number's groups are at most so many
+-- the room of group i, where the number's groups are at most so many
 pub record IsRoom (g i most top : ℕ) : Type 0 where
   pub whole : (g + 1) * 2 ^ (7 * i) ≤ (top + 1) * 2 ^ (7 * (most - 1))
 

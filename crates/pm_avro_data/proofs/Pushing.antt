@@ -1,11 +1,12 @@
 -- Writing a number in groups, as a loop does.
-use Rattle.std.proofs.Common.{◌≡◌, ℕ, zero, suc, ◌+◌, ◌*◌, ◌/◌, ◌%◌, ◌^◌, ◌<◌, ◌≤◌, List, [], ◌∷◌, ◌++◌, pos, length, map, refl, sym, ap, ◌∙◌, append_assoc, arith}
+use Rattle.std.proofs.Common.{◌≡◌, ℕ, zero, suc, ◌+◌, ◌*◌, ◌/◌, ◌%◌, ◌^◌, ◌<◌, ◌≤◌, List, [], ◌∷◌}
+use Rattle.std.proofs.Common.{◌++◌, pos, length, map, refl, sym, ap, ◌∙◌, append_assoc, arith}
 use Rattle.std.proofs.lemmas.Nat.{pow-add}
 use Rattle.std.proofs.lemmas.Bool.{lt-ltb, le-ltb}
 use Rattle.pm_avro_data.specs.Datum.{Data, items, items_of, entries, entries_of}
-use Rattle.pm_avro_data.specs.Encoding.{groups, integer, blocked}
+use Rattle.pm_avro_data.specs.Writing.{groups, integer, blocked}
 
--- the output, with the groups of what is left behind it, is the old output with the number's groups behind it
+-- the output, and then the groups of what is left, is the old output and then the number's groups
 abbrev pub Pushed : List ℕ → ℕ → List ℕ → ℕ → Type 0
 Pushed out left old n = (more : ℕ) × (left < 2 ^ (7 * more + 7)) × (out ++ groups more left ≡ old ++ groups 9 n)
 
@@ -16,8 +17,8 @@ pub pushed_more : (out : List ℕ) (left : ℕ) (old : List ℕ) (n : ℕ) → 1
 unfolding groups
 pushed_more out left old n high (zero, lt, e) = absurd (omega arith)
 pushed_more out left old n high (suc more, lt, e) =
-    let place : 7 * suc more + 7 ≡ 7 * more + 7 + 7 = omega arith in
-    let below : left < 2 ^ (7 * more + 7 + 7) = rw place at lt in
+    let bits : 7 * suc more + 7 ≡ 7 * more + 7 + 7 = omega arith in
+    let below : left < 2 ^ (7 * more + 7 + 7) = rw bits at lt in
     let step : groups (suc more) left ≡ (left % 128 + 128) ∷ groups more (left / 128) = rw (le-ltb left 128 high) refl in
     let low : left / 128 < 2 ^ (7 * more + 7) = omega (arith, pow-add 2 (7 * more + 7) 7) in
     (more, low, append_assoc out ((left % 128 + 128) ∷ []) (groups more (left / 128)) ∙ ap (λ (t : List ℕ). out ++ t) (sym step) ∙ e)
@@ -49,7 +50,7 @@ pub length_entries : {X : Type 0} (see : X → List ℕ × Data) (xs : List X) �
 length_entries see [] = refl
 length_entries see (x ∷ xs) = ap suc (length_entries see xs)
 
--- one more piece behind the output
+-- one more piece after the output
 pub onward : (out old piece more all : List ℕ) → out ++ (piece ++ more) ≡ old ++ all → (out ++ piece) ++ more ≡ old ++ all
 onward out old piece more all e = append_assoc out piece more ∙ e
 

@@ -1,5 +1,7 @@
 -- What is read is in the relation, and what is in the relation is read.
-use Rattle.std.proofs.Common.{◌≡◌, ℕ, zero, suc, ◌+◌, ◌-◌, ◌*◌, ◌/◌, ◌%◌, ◌<◌, ◌≤◌, ℤ, pos, negsuc, Bool, true, false, cond, ltb, leb, List, [], ◌∷◌, ◌++◌, length, take, drop, Option, Some, None, refl, sym, ap, subst, ◌∙◌, inl, inr, arith}
+use Rattle.std.proofs.Common.{◌≡◌, ℕ, zero, suc, ◌+◌, ◌-◌, ◌*◌, ◌/◌, ◌%◌, ◌<◌, ◌≤◌, ℤ, pos, negsuc}
+use Rattle.std.proofs.Common.{Bool, true, false, cond, ltb, leb, List, [], ◌∷◌, ◌++◌, length, take}
+use Rattle.std.proofs.Common.{drop, Option, Some, None, refl, sym, ap, subst, ◌∙◌, inl, inr, arith}
 use Rattle.std.specs.Prelude.{option_map, slice_index, unsigned_abs, ◌==◌}
 use Rattle.std.specs.List.{flat_map}
 use Rattle.std.specs.Str.{is_utf8}
@@ -7,13 +9,20 @@ use Rattle.std.proofs.lemmas.Bool.{cases_lt, ltb-false, leb-true, le-ltb, eqb-tr
 use Rattle.std.proofs.lemmas.List.{nil_from_length, length-append, length-take, take_at, drop_at, take-append-drop}
 use Rattle.std.proofs.lemmas.Option.{some_pair_parts, same_Some}
 use Rattle.std.proofs.lemmas.Str.{IsUtf8-from_is_utf8, is_utf8-from_IsUtf8}
+use Rattle.pm_base.specs.Steps.{◌>>=◌}
 use Rattle.pm_avro_data.specs.declared.block.Head.{Head}
 use Rattle.pm_avro_schema.specs.Avro as types
 use Rattle.pm_avro_schema.specs.Avro.{Avro, Fields, no_fields, field, Branches, no_branches, branch}
-use Rattle.pm_avro_data.specs.Datum.{Data, null, boolean, int, long, bytes, text, record_of, array_of, map_of, union_of, Items, no_items, item, items, items_of, Entries, no_entries, entry, entries, entries_of}
+use Rattle.pm_avro_data.specs.Datum.{Data, null, boolean, int, long, bytes, text, record_of}
+use Rattle.pm_avro_data.specs.Datum.{array_of, map_of, union_of, Items, no_items, item, items}
+use Rattle.pm_avro_data.specs.Datum.{items_of, Entries, no_entries, entry, entries, entries_of}
 use Rattle.pm_avro_data.specs.Number.{zigzag, AreGroups, IsNumber, IsInt, IsLong}
-use Rattle.pm_avro_data.specs.IsDatum.{IsBoolean, IsBytes, IsText, IsEntry, AreItems, IsBody, IsBlock, AreBlocks, IsBlocked, IsDatum, AreFields, IsBranch}
-use Rattle.pm_avro_data.specs.Reading.{◌>>=◌, number_at, unzigzag, signed, int_at, long_at, not_negative, size_at, place_at, boolean_at, bytes_at, text_at, head_from, head_at, items_at, has_size, body_at, blocks_behind, blocks_at, all_blocks_at, entry_at, seen_as, datum_at, fields_at, branch_at}
+use Rattle.pm_avro_data.specs.IsDatum.{IsBoolean, IsBytes, IsText, IsEntry, AreItems, IsBody}
+use Rattle.pm_avro_data.specs.IsDatum.{IsBlock, AreBlocks, IsBlocked, IsDatum, AreFields, IsBranch}
+use Rattle.pm_avro_data.specs.Reading.{number_at, unzigzag, signed, int_at, long_at, not_negative}
+use Rattle.pm_avro_data.specs.Reading.{size_at, index_at, boolean_at, bytes_at, text_at, head_from}
+use Rattle.pm_avro_data.specs.Reading.{head_at, items_at, has_size, body_at, blocks_after, blocks_at}
+use Rattle.pm_avro_data.specs.Reading.{all_blocks_at, entry_at, seen_as, datum_at, fields_at, branch_at}
 use Rattle.pm_avro_data.proofs.Numbers.{number_at-last, number_at-more, number_at-wide}
 use Rattle.pm_avro_data.proofs.Follows.{Follows, Follows-shorter, groups_shorter, block_shorter}
 use Rattle.pm_avro_data.proofs.Moves.{datum_follows, entry_follows}
@@ -185,16 +194,16 @@ pub size_again : (source : List ℕ) (n : ℕ) (rest : List ℕ) → IsLong (pos
 unfolding size_at
 size_again source n rest h = rw (long_again source (pos n) rest h) refl
 
-pub place_takes : (source : List ℕ) (n : ℕ) (rest : List ℕ) → place_at source ≡ Some (n, rest) → IsInt (pos n) source rest
-unfolding place_at
-place_takes source n rest e =
+pub index_takes : (source : List ℕ) (n : ℕ) (rest : List ℕ) → index_at source ≡ Some (n, rest) → IsInt (pos n) source rest
+unfolding index_at
+index_takes source n rest e =
     let b = bind_some (int_at source) not_negative (n, rest) e in
     let q = not_negative_is b.0.0 b.0.1 n rest b.2 in
     int_takes source (pos n) rest (b.1 ∙ ap Some (pair_is b.0 (pos n) rest q.0 q.1))
 
-pub place_again : (source : List ℕ) (n : ℕ) (rest : List ℕ) → IsInt (pos n) source rest → place_at source ≡ Some (n, rest)
-unfolding place_at
-place_again source n rest h = rw (int_again source (pos n) rest h) refl
+pub index_again : (source : List ℕ) (n : ℕ) (rest : List ℕ) → IsInt (pos n) source rest → index_at source ≡ Some (n, rest)
+unfolding index_at
+index_again source n rest h = rw (int_again source (pos n) rest h) refl
 
 -- ---- booleans, bytes, texts
 
@@ -299,15 +308,15 @@ module _ {X : Type 0} (P : X → List ℕ → List ℕ → Type 0) (R : List ℕ
   unfolding body_at
   body_again each head source xs rest len whole h = rw (← len, items_again each xs source rest h, whole) refl
 
-  -- what stands behind a head is a block's body
-  behind_head : (each : (source : List ℕ) (x : X) (rest : List ℕ) → R source ≡ Some (x, rest) → P x source rest) (count : ℤ) (left : List ℕ) (head : Head) (after : List ℕ) (xs : List X) (rest : List ℕ)
+  -- what stands after a head is a block's body
+  after_head : (each : (source : List ℕ) (x : X) (rest : List ℕ) → R source ≡ Some (x, rest) → P x source rest) (count : ℤ) (left : List ℕ) (head : Head) (after : List ℕ) (xs : List X) (rest : List ℕ)
       → head_from (count, left) ≡ Some (head, after) → body_at R head after ≡ Some (xs, rest) → (length xs ≡ unsigned_abs count) × IsBody P count xs left rest
-  behind_head each (pos n) left head after xs rest h e =
+  after_head each (pos n) left head after xs rest h e =
       let q = some_pair_parts (record { count = n; size = None }) head left after h in
       let t = body_takes each head after xs rest e in
       let len : length xs ≡ n = t.1 ∙ sym (ap (λ (k : Head). k.count) q.0) in
       (len, (len, rw q.1 t.2))
-  behind_head each (negsuc n) left head after xs rest h e =
+  after_head each (negsuc n) left head after xs rest h e =
       let m = map_some (size_at left) (λ x. (record { count = suc n; size = Some x.0 }, x.1)) (head, after) h in
       let q = parts_of (record { count = suc n; size = Some m.0.0 }) head m.0.1 after m.2 in
       let t = body_takes each head after xs rest e in
@@ -343,7 +352,7 @@ module _ {X : Type 0} (P : X → List ℕ → List ℕ → Type 0) (R : List ℕ
   one_block : (each : (source : List ℕ) (x : X) (rest : List ℕ) → R source ≡ Some (x, rest) → P x source rest) (source : List ℕ) (c : ℤ) (left : List ℕ) (head : Head) (after : List ℕ) (ys : List X) (middle : List ℕ) (zs : List X) (rest : List ℕ)
       → IsLong c source left → unsigned_abs c ≤ length left → head_from (c, left) ≡ Some (head, after) → (head.count ≡ 0 → ⊥) → body_at R head after ≡ Some (ys, middle) → IsBlocked P zs middle rest → IsBlocked P (ys ++ zs) source rest
   one_block each source c left head after ys middle zs rest number within h some body later =
-      let t = behind_head each c left head after ys middle h body in
+      let t = after_head each c left head after ys middle h body in
       let len = (body_takes each head after ys middle body).1 in
       let block : IsBlock P ys source middle = record {
         count = c;
@@ -355,13 +364,13 @@ module _ {X : Type 0} (P : X → List ℕ → List ℕ → Type 0) (R : List ℕ
       } in
       (ys ∷ later.0, ap (λ (w : List X). ys ++ w) later.1, (middle, block, later.2))
 
-  behind_takes : (each : (source : List ℕ) (x : X) (rest : List ℕ) → R source ≡ Some (x, rest) → P x source rest) (source : List ℕ) (c : ℤ) (left : List ℕ) (head : Head) (after : List ℕ) (most : ℕ) (xs : List X) (rest : List ℕ)
+  after_takes : (each : (source : List ℕ) (x : X) (rest : List ℕ) → R source ≡ Some (x, rest) → P x source rest) (source : List ℕ) (c : ℤ) (left : List ℕ) (head : Head) (after : List ℕ) (most : ℕ) (xs : List X) (rest : List ℕ)
       → ((source : List ℕ) (xs : List X) (rest : List ℕ) → blocks_at R most source ≡ Some (xs, rest) → IsBlocked P xs source rest)
       → IsLong c source left → unsigned_abs c ≤ length left → head_from (c, left) ≡ Some (head, after) → (b : Bool) → head.count == 0 ≡ b
       → cond {A = Option (List X × List ℕ)} b (Some ([], after)) (body_at R head after >>= λ ys. blocks_at R most ys.1 >>= λ zs. Some (ys.0 ++ zs.0, zs.1)) ≡ Some (xs, rest) → IsBlocked P xs source rest
-  behind_takes each source c left head after most xs rest later number within h true none e =
+  after_takes each source c left head after most xs rest later number within h true none e =
       subst (λ (p : List X × List ℕ). IsBlocked P p.0 source p.1) (same_Some ([], after) (xs, rest) e) (no_block source c left head after number h (eqb-true head.count 0 none))
-  behind_takes each source c left head after most xs rest later number within h false some e =
+  after_takes each source c left head after most xs rest later number within h false some e =
       let b = bind_some (body_at R head after) (λ ys. blocks_at R most ys.1 >>= λ zs. Some (ys.0 ++ zs.0, zs.1)) (xs, rest) e in
       let d = bind_some (blocks_at R most b.0.1) (λ zs. Some (b.0.0 ++ zs.0, zs.1)) (xs, rest) b.2 in
       subst (λ (p : List X × List ℕ). IsBlocked P p.0 source p.1) (same_Some (b.0.0 ++ d.0.0, d.0.1) (xs, rest) d.2)
@@ -372,9 +381,9 @@ module _ {X : Type 0} (P : X → List ℕ → List ℕ → Type 0) (R : List ℕ
   unfolding blocks_at
   blocks_take each zero source xs rest e = absurd cc
   blocks_take each (suc most) source xs rest e =
-      let b = bind_some (head_at source) (blocks_behind R (blocks_at R most)) (xs, rest) e in
+      let b = bind_some (head_at source) (blocks_after R (blocks_at R most)) (xs, rest) e in
       let t = head_takes source b.0.0 b.0.1 b.1 in
-      behind_takes each source t.0.0 t.0.1 b.0.0 b.0.1 most xs rest (blocks_take each most) t.1 t.2 t.3 (b.0.0.count == 0) refl b.2
+      after_takes each source t.0.0 t.0.1 b.0.0 b.0.1 most xs rest (blocks_take each most) t.1 t.2 t.3 (b.0.0.count == 0) refl b.2
 
   pub blocks_again : (each : (source : List ℕ) (x : X) (rest : List ℕ) → P x source rest → R source ≡ Some (x, rest)) (follows : (x : X) (source rest : List ℕ) → P x source rest → Follows source rest) (blocks : List (List X)) (most : ℕ) (source rest : List ℕ)
       → length source < most → AreBlocks P blocks source rest → blocks_at R most source ≡ Some (flat_map (λ block. block) blocks, rest)
@@ -474,10 +483,10 @@ mutual
       let h = all_blocks_take (IsEntry (IsDatum t)) (entry_at (datum_at t)) (entry_takes (IsDatum t) (datum_at t) (datum_takes t)) source s.0 rest s.1 in
       subst (λ (x : Data). IsDatum (types.map_of t) x source rest) s.2 (subst (λ (es : List (List ℕ × Data)). IsBlocked (IsEntry (IsDatum t)) es source rest) (sym (entries-entries_of s.0)) h)
   datum_takes (types.union_of ts) source d rest e =
-      let b = bind_some (place_at source) (λ k. branch_at ts k.0 k.1 >>= λ d. Some (union_of k.0 d.0, d.1)) (d, rest) e in
+      let b = bind_some (index_at source) (λ k. branch_at ts k.0 k.1 >>= λ d. Some (union_of k.0 d.0, d.1)) (d, rest) e in
       let c = bind_some (branch_at ts b.0.0 b.0.1) (λ d. Some (union_of b.0.0 d.0, d.1)) (d, rest) b.2 in
       subst (λ (p : Data × List ℕ). IsDatum (types.union_of ts) p.0 source p.1) (same_Some (union_of b.0.0 c.0.0, c.0.1) (d, rest) c.2)
-      (b.0.1, place_takes source b.0.0 b.0.1 b.1, branch_takes ts b.0.0 b.0.1 c.0.0 c.0.1 c.1)
+      (b.0.1, index_takes source b.0.0 b.0.1 b.1, branch_takes ts b.0.0 b.0.1 c.0.0 c.0.1 c.1)
 
   fields_take : (fs : Fields) (source : List ℕ) (ds : List Data) (rest : List ℕ) → fields_at fs source ≡ Some (ds, rest) → AreFields fs (items_of ds) source rest
   fields_take no_fields source ds rest e = subst (λ (p : List Data × List ℕ). AreFields no_fields (items_of p.0) source p.1) (same_Some ([], source) (ds, rest) e) refl
@@ -508,7 +517,7 @@ mutual
       rw (all_blocks_again (IsDatum t) (datum_at t) (λ source d rest. datum_again t d source rest) (datum_follows t) source (items ds) rest h) (ap (λ xs. Some (array_of xs, rest)) (items_of-items ds))
   datum_again (types.map_of t) (map_of es) source rest h =
       rw (all_blocks_again (IsEntry (IsDatum t)) (entry_at (datum_at t)) (entry_again (IsDatum t) (datum_at t) (λ source d rest. datum_again t d source rest)) (entry_follows t) source (entries es) rest h) (ap (λ xs. Some (map_of xs, rest)) (entries_of-entries es))
-  datum_again (types.union_of ts) (union_of k d) source rest h = rw (place_again source k h.0 h.1, branch_again ts k d h.0 rest h.2) refl
+  datum_again (types.union_of ts) (union_of k d) source rest h = rw (index_again source k h.0 h.1, branch_again ts k d h.0 rest h.2) refl
   datum_again t d source rest h = absurd h
 
   fields_again : (fs : Fields) (ds : Items) (source rest : List ℕ) → AreFields fs ds source rest → fields_at fs source ≡ Some (items ds, rest)
@@ -530,9 +539,9 @@ pub entry_shrinks : (t : Avro) (source : List ℕ) (e : List ℕ × Data) (rest 
 entry_shrinks t source e rest h =
     Follows-shorter source rest (entry_follows t e source rest (entry_takes (IsDatum t) (datum_at t) (datum_takes t) source e rest h))
 
-behind_shrinks : (c : ℤ) (left : List ℕ) (head : Head) (after : List ℕ) → head_from (c, left) ≡ Some (head, after) → length after ≤ length left
-behind_shrinks (pos n) left head after e = let q = some_pair_parts (record { count = n; size = None }) head left after e in omega (arith, ap length q.1)
-behind_shrinks (negsuc n) left head after e =
+after_shrinks : (c : ℤ) (left : List ℕ) (head : Head) (after : List ℕ) → head_from (c, left) ≡ Some (head, after) → length after ≤ length left
+after_shrinks (pos n) left head after e = let q = some_pair_parts (record { count = n; size = None }) head left after e in omega (arith, ap length q.1)
+after_shrinks (negsuc n) left head after e =
     let m = map_some (size_at left) (λ x. (record { count = suc n; size = Some x.0 }, x.1)) (head, after) e in
     let q = parts_of (record { count = suc n; size = Some m.0.0 }) head m.0.1 after m.2 in
     let shorter = groups_shorter left _ m.0.1 (size_takes left m.0.0 m.0.1 m.1).groups in
@@ -541,7 +550,7 @@ behind_shrinks (negsuc n) left head after e =
 pub head_shrinks : (source : List ℕ) (head : Head) (after : List ℕ) → head_at source ≡ Some (head, after) → length after < length source
 head_shrinks source head after e =
     let t = head_takes source head after e in
-    omega (arith, groups_shorter source _ t.0.1 t.1.groups, behind_shrinks t.0.0 t.0.1 head after t.3)
+    omega (arith, groups_shorter source _ t.0.1 t.1.groups, after_shrinks t.0.0 t.0.1 head after t.3)
 
 module _ {X : Type 0} (R : List ℕ → Option (X × List ℕ)) (each : (source : List ℕ) (x : X) (rest : List ℕ) → R source ≡ Some (x, rest) → length rest ≤ length source) where
   items_shrink : (n : ℕ) (source : List ℕ) (xs : List X) (rest : List ℕ) → items_at R n source ≡ Some (xs, rest) → length rest ≤ length source

@@ -1,10 +1,12 @@
 -- What is a datum of a type has the type.
-use Rattle.std.proofs.Common.{◌≡◌, ℕ, zero, suc, ◌+◌, ◌*◌, ◌^◌, ◌<◌, ◌≤◌, ℤ, pos, negsuc, List, [], ◌∷◌, ◌++◌, length, sym, ap, subst, inl, inr, arith}
+use Rattle.std.proofs.Common.{◌≡◌, ℕ, zero, suc, ◌+◌, ◌*◌, ◌^◌, ◌<◌, ◌≤◌, ℤ, pos, negsuc}
+use Rattle.std.proofs.Common.{List, [], ◌∷◌, ◌++◌, length, sym, ap, subst, inl, inr, arith}
 use Rattle.std.specs.List.{AllByRecursion, flat_map}
 use Rattle.std.proofs.lemmas.Nat.{pow-add, pow_pos, mul-le}
 use Rattle.pm_avro_schema.specs.Avro as types
 use Rattle.pm_avro_schema.specs.Avro.{Avro, Fields, no_fields, field, Branches, no_branches, branch}
-use Rattle.pm_avro_data.specs.Datum.{Data, null, boolean, int, long, bytes, text, record_of, array_of, map_of, union_of, Items, no_items, item, items, entries}
+use Rattle.pm_avro_data.specs.Datum.{Data, null, boolean, int, long, bytes, text, record_of, array_of}
+use Rattle.pm_avro_data.specs.Datum.{map_of, union_of, Items, no_items, item, items, entries}
 use Rattle.pm_avro_data.specs.Number.{IsNumber, IsInt}
 use Rattle.pm_avro_data.specs.IsDatum.{IsEntry, AreItems, IsBody, AreBlocks, IsBlocked, IsDatum, AreFields, IsBranch}
 use Rattle.pm_avro_data.specs.HasType.{HasType, HaveTypes, HasBranch}
@@ -23,13 +25,13 @@ number_below zero top (b ∷ source) n rest h =
       | inr g ↦ absurd (omega (arith, groups_shorter source g.2.0 rest g.2.2, h.short))
     ]
 number_below (suc p) top (b ∷ source) n rest h =
-    let place : 7 * suc p ≡ 7 * p + 7 = omega arith in
+    let bits : 7 * suc p ≡ 7 * p + 7 = omega arith in
     let some = mul-le 1 1 (top + 1) (2 ^ (7 * p)) (omega arith) (omega (arith, pow_pos (7 * p))) in
     elim h.groups [
-      | inl g ↦ rw (place, pow-add 2 (7 * p) 7) (omega (arith, g.0, g.1))
+      | inl g ↦ rw (bits, pow-add 2 (7 * p) 7) (omega (arith, g.0, g.1))
       | inr g ↦
           let high = number_below p top source g.2.0 rest (above_group p top b source n rest h g) in
-          rw (place, pow-add 2 (7 * p) 7) (omega (arith, g.1, g.2.1))
+          rw (bits, pow-add 2 (7 * p) 7) (omega (arith, g.1, g.2.1))
     ]
 
 place_below : (k : ℕ) (source rest : List ℕ) → IsInt (pos k) source rest → k < 2 ^ 31

@@ -3,10 +3,11 @@ use Rattle.std.specs.Prelude.{ℕ, zero, suc, ◌^◌, ◌<◌}
 use Rattle.std.specs.List.{AllByRecursion}
 use Rattle.pm_avro_schema.specs.Avro as types
 use Rattle.pm_avro_schema.specs.Avro.{Avro, Fields, no_fields, field, Branches, no_branches, branch}
-use Rattle.pm_avro_data.specs.Datum.{Data, null, boolean, int, long, bytes, text, record_of, array_of, map_of, union_of, Items, no_items, item, items, entries}
+use Rattle.pm_avro_data.specs.Datum.{Data, null, boolean, int, long, bytes, text, record_of, array_of}
+use Rattle.pm_avro_data.specs.Datum.{map_of, union_of, Items, no_items, item, items, entries}
 
 abbrev mutual
-  -- the datum is of the type; the place of a union's branch is an int
+  -- the datum is of the type; the index of a union's branch is an int
   pub HasType : Avro → Data → Type 0
   HasType types.null null = Unit {0}
   HasType types.boolean (boolean b) = Unit {0}
@@ -26,7 +27,7 @@ abbrev mutual
   HaveTypes (field name t fs) (item d ds) = HasType t d × HaveTypes fs ds
   HaveTypes fs ds = ⊥
 
-  -- the datum is of the branch at this place
+  -- the datum is of the branch at this index
   pub HasBranch : Branches → ℕ → Data → Type 0
   HasBranch no_branches k d = ⊥
   HasBranch (branch t ts) zero d = HasType t d

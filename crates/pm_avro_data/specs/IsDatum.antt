@@ -1,10 +1,12 @@
 -- Which sources are a datum of a type, and then a rest (Apache Avro specification, "Binary Encoding").
 -- Each relation says of a source that it is the value's bytes and then the rest, which may be any bytes.
-use Rattle.std.specs.Prelude.{◌≡◌, ◌≢◌, ℕ, zero, suc, ◌+◌, ◌≤◌, ℤ, pos, negsuc, Bool, List, [], ◌∷◌, ◌++◌, length, if◌then◌else◌, IsUtf8}
+use Rattle.std.specs.Prelude.{◌≡◌, ◌≢◌, ℕ, zero, suc, ◌+◌, ◌≤◌, ℤ, pos, negsuc, Bool}
+use Rattle.std.specs.Prelude.{List, [], ◌∷◌, ◌++◌, length, if◌then◌else◌, IsUtf8}
 use Rattle.std.specs.List.{flat_map}
 use Rattle.pm_avro_schema.specs.Avro as types
 use Rattle.pm_avro_schema.specs.Avro.{Avro, Fields, no_fields, field, Branches, no_branches, branch}
-use Rattle.pm_avro_data.specs.Datum.{Data, null, boolean, int, long, bytes, text, record_of, array_of, map_of, union_of, Items, no_items, item, items, entries}
+use Rattle.pm_avro_data.specs.Datum.{Data, null, boolean, int, long, bytes, text, record_of, array_of}
+use Rattle.pm_avro_data.specs.Datum.{map_of, union_of, Items, no_items, item, items, entries}
 use Rattle.pm_avro_data.specs.Number.{IsInt, IsLong}
 
 -- a byte 0 or 1
@@ -36,7 +38,7 @@ pub record IsSized {X : Type 0} (P : X → List ℕ → List ℕ → Type 0) (xs
   pub whole : length start ≡ size + length rest
   pub each : AreItems P xs start rest
 
--- what follows a block's count: as many items, behind their size where the count is negative
+-- what follows a block's count: as many items, after their size where the count is negative
 abbrev pub IsBody : {X : Type 0} → (X → List ℕ → List ℕ → Type 0) → ℤ → List X → List ℕ → List ℕ → Type 0
 IsBody P (pos n) xs source rest = (length xs ≡ n) × AreItems P xs source rest
 IsBody P (negsuc n) xs source rest = (length xs ≡ suc n) × IsSized P xs source rest
@@ -57,7 +59,8 @@ AreBlocks P (xs ∷ blocks) source rest = (middle : List ℕ) × IsBlock P xs so
 
 -- the items of blocks, one after another
 abbrev pub IsBlocked : {X : Type 0} → (X → List ℕ → List ℕ → Type 0) → List X → List ℕ → List ℕ → Type 0
-IsBlocked {X} P xs source rest = (blocks : List (List X)) × (xs ≡ flat_map (λ block. block) blocks) × AreBlocks P blocks source rest
+IsBlocked {X} P xs source rest =
+    (blocks : List (List X)) × (xs ≡ flat_map (λ block. block) blocks) × AreBlocks P blocks source rest
 
 abbrev mutual
   -- the source is a datum of the type, and then the rest
@@ -71,16 +74,18 @@ abbrev mutual
   IsDatum (types.record_of fs) (record_of ds) source rest = AreFields fs ds source rest
   IsDatum (types.array_of t) (array_of ds) source rest = IsBlocked (IsDatum t) (items ds) source rest
   IsDatum (types.map_of t) (map_of es) source rest = IsBlocked (IsEntry (IsDatum t)) (entries es) source rest
-  IsDatum (types.union_of ts) (union_of k d) source rest = (middle : List ℕ) × IsInt (pos k) source middle × IsBranch ts k d middle rest
+  IsDatum (types.union_of ts) (union_of k d) source rest =
+      (middle : List ℕ) × IsInt (pos k) source middle × IsBranch ts k d middle rest
   IsDatum t d source rest = ⊥
 
   -- a record's values, one for each field, in order
   pub AreFields : Fields → Items → List ℕ → List ℕ → Type 0
   AreFields no_fields no_items source rest = source ≡ rest
-  AreFields (field name t fs) (item d ds) source rest = (middle : List ℕ) × IsDatum t d source middle × AreFields fs ds middle rest
+  AreFields (field name t fs) (item d ds) source rest =
+      (middle : List ℕ) × IsDatum t d source middle × AreFields fs ds middle rest
   AreFields fs ds source rest = ⊥
 
-  -- a datum of the branch at this place
+  -- a datum of the branch at this index
   pub IsBranch : Branches → ℕ → Data → List ℕ → List ℕ → Type 0
   IsBranch no_branches k d source rest = ⊥
   IsBranch (branch t ts) zero d source rest = IsDatum t d source rest

@@ -1,7 +1,7 @@
 pub mod Datum
-pub mod Encoding
 pub mod HasType
 pub mod IsDatum
 pub mod Number
-pub mod Outcome
+pub mod Begins
+pub mod Writing
 pub mod Reading

@@ -1,33 +1,32 @@
--- Reading from the front of a text, from left to right: the value and the rest, or none.
-use Rattle.std.specs.Prelude.{◌≡◌, ℕ, zero, suc, ◌+◌, ◌-◌, ◌*◌, ◌/◌, ◌%◌, ℤ, pos, negsuc, Bool, true, false, List, [], ◌∷◌, ◌++◌, length, take, drop, Option, Some, None, Result, Ok, Err, nat_lt, nat_le, ◌==◌, if◌then◌else◌, option_map, option_and_then, unsigned_abs}
+-- Private: reading what a text begins with, from left to right: the value and the rest, or none.
+use Rattle.std.specs.Prelude.{◌≡◌, ℕ, zero, suc, ◌+◌, ◌-◌, ◌*◌, ◌/◌, ◌%◌, ℤ, pos, negsuc, Bool, true}
+use Rattle.std.specs.Prelude.{false, List, [], ◌∷◌, ◌++◌, length, take, drop, Option, Some, None, Result}
+use Rattle.std.specs.Prelude.{Ok, Err, nat_lt, nat_le, ◌==◌, if◌then◌else◌, option_map, unsigned_abs}
 use Rattle.std.specs.Borrow.{Bor}
 use Rattle.std.specs.Str.{is_utf8}
+use Rattle.pm_base.specs.Steps.{◌>>=◌}
 use Rattle.pm_avro_schema.specs.Avro as types
 use Rattle.pm_avro_schema.specs.Avro.{Avro, Fields, no_fields, field, Branches, no_branches, branch}
 use Rattle.pm_avro_schema.specs.declared.fault.AvroFault.{AvroFault}
 use Rattle.pm_avro_schema.specs.declared.fault.AvroFault.TheVariants as faults
 use Rattle.pm_avro_data.specs.declared.block.Head.{Head}
-use Rattle.pm_avro_data.specs.Datum.{Data, null, boolean, int, long, bytes, text, record_of, array_of, map_of, union_of, items_of, entries_of}
-
--- the next step, where there is one
-infixl 10 ◌>>=◌
-abbrev pub ◌>>=◌ : {A B : Type 0} → Option A → (A → Option B) → Option B
-o >>= f = option_and_then f o
+use Rattle.pm_avro_data.specs.Datum.{Data, null, boolean, int, long, bytes, text, record_of}
+use Rattle.pm_avro_data.specs.Datum.{array_of, map_of, union_of, items_of, entries_of}
 
 -- what a reader that needs no memory gives
-abbrev pub Finds : {X Y : Type 0} → (X → Y) → Option (X × Bor (List ℕ)) → Option (Y × List ℕ) → Type 0
-Finds view result reading = option_map (λ x. (view x.0, x.1.now)) result ≡ reading
+abbrev pub IsReading : {X Y : Type 0} → (X → Y) → Option (X × Bor (List ℕ)) → Option (Y × List ℕ) → Type 0
+IsReading view result reading = option_map (λ x. (view x.0, x.1.now)) result ≡ reading
 
--- a fault where nothing is read: `Bad` at 0, or want of memory, which is free
-abbrev pub Fails : {Y : Type 0} → AvroFault → Option Y → Type 0
-Fails faults.Memory reading = Unit {0}
-Fails (faults.Unsupported what said) reading = ⊥
-Fails (faults.Bad place) reading = (place ≡ 0) × (reading ≡ None)
+-- a fault where nothing is read: `Bad` at 0, or out of memory, of which nothing is said
+abbrev pub YieldsNone : {Y : Type 0} → AvroFault → Option Y → Type 0
+YieldsNone faults.Memory reading = Unit {0}
+YieldsNone (faults.Unsupported what said) reading = ⊥
+YieldsNone (faults.Bad offset) reading = (offset ≡ 0) × (reading ≡ None)
 
 -- what a reader gives: what is read, seen by view, or a fault where nothing is
-abbrev pub Gives : {X Y : Type 0} → (X → Y) → Result X AvroFault → Option Y → Type 0
-Gives view (Ok x) reading = reading ≡ Some (view x)
-Gives view (Err e) reading = Fails e reading
+abbrev pub Yields : {X Y : Type 0} → (X → Y) → Result X AvroFault → Option Y → Type 0
+Yields view (Ok x) reading = reading ≡ Some (view x)
+Yields view (Err e) reading = YieldsNone e reading
 
 -- a byte
 abbrev pub byte_at : List ℕ → Option (ℕ × List ℕ)
@@ -43,7 +42,9 @@ unfoldable pub number_at : ℕ → ℕ → List ℕ → Option (ℕ × List ℕ)
 number_at zero top source = None
 number_at (suc p) top [] = None
 number_at (suc zero) top (b ∷ source) = if nat_le b top then Some (b, source) else None
-number_at (suc (suc p)) top (b ∷ source) = if nat_lt b 128 then Some (b, source) else (if nat_lt b 256 then above b (number_at (suc p) top source) else None)
+number_at (suc (suc p)) top (b ∷ source) =
+    if nat_lt b 128 then Some (b, source)
+    else (if nat_lt b 256 then above b (number_at (suc p) top source) else None)
 
 -- the integer that a number stands for
 abbrev pub unzigzag : ℕ → ℤ
@@ -70,9 +71,9 @@ not_negative (negsuc n, rest) = None
 unfoldable pub size_at : List ℕ → Option (ℕ × List ℕ)
 size_at source = long_at source >>= not_negative
 
--- the place of a branch: an int that isn't negative
-unfoldable pub place_at : List ℕ → Option (ℕ × List ℕ)
-place_at source = int_at source >>= not_negative
+-- the index of a branch: an int that isn't negative
+unfoldable pub index_at : List ℕ → Option (ℕ × List ℕ)
+index_at source = int_at source >>= not_negative
 
 -- a byte 0 or 1
 unfoldable pub boolean_at : List ℕ → Option (Bool × List ℕ)
@@ -93,7 +94,7 @@ text_at source = do
   bs ← bytes_at source
   if is_utf8 bs.0 then Some bs else None
 
--- what a block's count says, with the size that stands behind a negative one
+-- what a block's count says, with the size that stands after a negative one
 abbrev pub head_from : ℤ × List ℕ → Option (Head × List ℕ)
 head_from (pos n, rest) = Some (record { count = n; size = None }, rest)
 head_from (negsuc n, rest) = option_map (λ x. (record { count = suc n; size = Some x.0 }, x.1)) (size_at rest)
@@ -105,8 +106,8 @@ head_at source = do
   if nat_lt (length count.1) (unsigned_abs count.0) then None else head_from count
 
 -- what was read before, and what is still read
-abbrev pub with_front : {X : Type 0} → List X → Option (List X × List ℕ) → Option (List X × List ℕ)
-with_front front = option_map (λ x. (front ++ x.0, x.1))
+abbrev pub with_earlier : {X : Type 0} → List X → Option (List X × List ℕ) → Option (List X × List ℕ)
+with_earlier before = option_map (λ x. (before ++ x.0, x.1))
 
 -- so many items, one after another
 unfoldable pub items_at : {X : Type 0} → (List ℕ → Option (X × List ℕ)) → ℕ → List ℕ → Option (List X × List ℕ)
@@ -127,9 +128,10 @@ body_at P head source = do
   xs ← items_at P head.count source
   if has_size head.size source xs.1 then Some xs else None
 
--- what stands behind a head: nothing where it ends the blocks, and else the block's items and the later blocks
-abbrev pub blocks_behind : {X : Type 0} → (List ℕ → Option (X × List ℕ)) → (List ℕ → Option (List X × List ℕ)) → Head × List ℕ → Option (List X × List ℕ)
-blocks_behind P later (head, after) = if head.count == 0 then Some ([], after) else (do
+-- what stands after a head: nothing where it ends the blocks, and else the block's items and the later blocks
+abbrev pub blocks_after : {X : Type 0} → (List ℕ → Option (X × List ℕ)) → (List ℕ → Option (List X × List ℕ))
+    → Head × List ℕ → Option (List X × List ℕ)
+blocks_after P later (head, after) = if head.count == 0 then Some ([], after) else (do
   xs ← body_at P head after
   ys ← later xs.1
   Some (xs.0 ++ ys.0, ys.1))
@@ -137,7 +139,7 @@ blocks_behind P later (head, after) = if head.count == 0 then Some ([], after) e
 -- the blocks of an array or a map, at most so many, with the one that ends them
 unfoldable pub blocks_at : {X : Type 0} → (List ℕ → Option (X × List ℕ)) → ℕ → List ℕ → Option (List X × List ℕ)
 blocks_at P zero source = None
-blocks_at P (suc most) source = head_at source >>= blocks_behind P (blocks_at P most)
+blocks_at P (suc most) source = head_at source >>= blocks_after P (blocks_at P most)
 
 -- all blocks: a source has no more of them than bytes
 unfoldable pub all_blocks_at : {X : Type 0} → (List ℕ → Option (X × List ℕ)) → List ℕ → Option (List X × List ℕ)
@@ -165,9 +167,10 @@ unfoldable mutual
   datum_at types.text source = seen_as text (text_at source)
   datum_at (types.record_of fs) source = seen_as (λ ds. record_of (items_of ds)) (fields_at fs source)
   datum_at (types.array_of t) source = seen_as (λ ds. array_of (items_of ds)) (all_blocks_at (datum_at t) source)
-  datum_at (types.map_of t) source = seen_as (λ es. map_of (entries_of es)) (all_blocks_at (entry_at (datum_at t)) source)
+  datum_at (types.map_of t) source =
+      seen_as (λ es. map_of (entries_of es)) (all_blocks_at (entry_at (datum_at t)) source)
   datum_at (types.union_of ts) source = do
-    k ← place_at source
+    k ← index_at source
     d ← branch_at ts k.0 k.1
     Some (union_of k.0 d.0, d.1)
 
@@ -179,7 +182,7 @@ unfoldable mutual
     ds ← fields_at fs d.1
     Some (d.0 ∷ ds.0, ds.1)
 
-  -- a datum of the branch at this place
+  -- a datum of the branch at this index
   pub branch_at : Branches → ℕ → List ℕ → Option (Data × List ℕ)
   branch_at no_branches k source = None
   branch_at (branch t ts) zero source = datum_at t source

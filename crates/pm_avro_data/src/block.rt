@@ -1,13 +1,13 @@
 //! The heads of an array's or a map's blocks.
 
 ghost use Rattle.std.specs.Prelude.{◌≡◌, ◌≤◌, length};
-ghost use Rattle.pm_avro_data.specs.Reading.{Gives, has_size, head_at};
+ghost use Rattle.pm_avro_data.specs.Reading.{Yields, has_size, head_at};
 
-use crate::number::{long_of, size_of};
+use crate::number::{read_long, read_size};
 use pm_avro_schema::AvroFault;
 
 /// How many items a block has, none in the one that ends, and how many bytes they must take, where that is said.
-#[derive(Clone, Copy, Debug)]
+#[derive(Clone, Copy)]
 pub(crate) struct Head {
     pub(crate) count: usize,
     pub(crate) size: Option<usize>,
@@ -26,12 +26,12 @@ impl Head {
     }
 }
 
-/// The head at the front.
+/// The head of a block, and the rest.
 #[tactic(auto, unfolding(crate::specs::Reading::head_at))]
-pub(crate) fn head_of(bytes: &[u8]) -> Result<(Head, &[u8]), AvroFault>
-    ensures { Gives (λ x. (x.0, x.1.now)) result (head_at bytes.now) }
+pub(crate) fn read_head(bytes: &[u8]) -> Result<(Head, &[u8]), AvroFault>
+    ensures { Yields (λ x. (x.0, x.1.now)) result (head_at bytes.now) }
 {
-    let (count, rest) = long_of(bytes).ok_or(AvroFault::Bad(0))?;
+    let (count, rest) = read_long(bytes).ok_or(AvroFault::Bad(0))?;
     if count.unsigned_abs() > rest.len() as u64 {
         return Err(AvroFault::Bad(0));
     }
@@ -43,7 +43,7 @@ pub(crate) fn head_of(bytes: &[u8]) -> Result<(Head, &[u8]), AvroFault>
         };
         return Ok((head, rest));
     }
-    let (size, rest) = size_of(rest).ok_or(AvroFault::Bad(0))?;
+    let (size, rest) = read_size(rest).ok_or(AvroFault::Bad(0))?;
     let head = Head {
         count: items,
         size: Some(size),

@@ -1,6 +1,6 @@
 //! Avro's data as values.
 
-use pm_avro_schema::Txt2;
+use pm_base::Txt;
 
 /// A datum (Apache Avro specification, "Binary Encoding").
 #[derive(Debug, Drop)]
@@ -10,12 +10,12 @@ pub enum Datum {
     Int(i32),
     Long(i64),
     Bytes(Vec<u8>),
-    Text(Txt2),
+    Text(Txt),
     /// The values of its fields, in order.
     Record(Vec<Datum>),
     Array(Vec<Datum>),
     /// Its keys and values, in the order in which they stand.
-    Map(Vec<(Txt2, Datum)>),
-    /// The place of the branch in the union, from 0, and the datum.
+    Map(Vec<(Txt, Datum)>),
+    /// The index of the branch in the union, and the datum.
     Union(u32, Box<Datum>),
 }

@@ -2,86 +2,88 @@
 
 ghost use Rattle.std.specs.Prelude.{◌≡◌};
 ghost use Rattle.pm_avro_data.specs.Datum.{view, boolean, int, long, bytes as bytes_data, text};
-ghost use Rattle.pm_avro_data.specs.Reading.{Finds, Gives, seen_as, boolean_at, int_at, long_at, bytes_at, text_at};
+ghost use Rattle.pm_avro_data.specs.Reading.{IsReading, Yields, seen_as, boolean_at};
+ghost use Rattle.pm_avro_data.specs.Reading.{int_at, long_at, bytes_at, text_at};
 
 use crate::datum::Datum;
-use crate::number::{byte_of, int_of, long_of, size_of};
-use pm_avro_schema::{AvroFault, Txt2};
+use crate::number::{read_byte, read_int, read_long, read_size};
+use pm_avro_schema::AvroFault;
+use pm_base::Txt;
 use std::alloc::Global;
 use std::str;
 
-/// The boolean at the front.
+/// The boolean that the bytes begin with, and the rest.
 #[tactic(auto, unfolding(crate::specs::Reading::boolean_at))]
-fn boolean_of(bytes: &[u8]) -> Option<(bool, &[u8])>
-    ensures { Finds (λ b. b) result (boolean_at bytes.now) }
+fn read_boolean(bytes: &[u8]) -> Option<(bool, &[u8])>
+    ensures { IsReading (λ b. b) result (boolean_at bytes.now) }
 {
-    match byte_of(bytes) {
+    match read_byte(bytes) {
         Some((0, rest)) => Some((false, rest)),
         Some((1, rest)) => Some((true, rest)),
         _ => None,
     }
 }
 
-/// The bytes at the front, where they lie.
+/// The bytes that stand first, with their length, where they lie, and the rest.
 #[tactic(auto, unfolding(crate::specs::Reading::bytes_at))]
-fn bytes_of(bytes: &[u8]) -> Option<(&[u8], &[u8])>
-    ensures { Finds (λ b. b.now) result (bytes_at bytes.now) }
+fn read_bytes(bytes: &[u8]) -> Option<(&[u8], &[u8])>
+    ensures { IsReading (λ b. b.now) result (bytes_at bytes.now) }
 {
-    let (size, rest) = size_of(bytes)?;
+    let (size, rest) = read_size(bytes)?;
     if rest.len() < size {
         return None;
     }
     Some(rest.split_at(size))
 }
 
-/// The text at the front.
+/// The text that the bytes begin with, and the rest.
 #[tactic(auto, unfolding(crate::specs::Reading::text_at))]
-pub(crate) fn text_of(alloc: Global, bytes: &[u8]) -> Result<(Txt2, &[u8]), AvroFault>
-    ensures { Gives (λ x. (x.0, x.1.now)) result (text_at bytes.now) }
+pub(crate) fn read_text(alloc: Global, bytes: &[u8]) -> Result<(Txt, &[u8]), AvroFault>
+    ensures { Yields (λ x. (x.0, x.1.now)) result (text_at bytes.now) }
 {
-    let (text, rest) = bytes_of(bytes).ok_or(AvroFault::Bad(0))?;
+    let (text, rest) = read_bytes(bytes).ok_or(AvroFault::Bad(0))?;
     match str::from_utf8(text) {
-        Ok(text) => Ok((Txt2::from_str(alloc, text)?, rest)),
+        Ok(text) => Ok((Txt::from_str(alloc, text)?, rest)),
         Err(_) => Err(AvroFault::Bad(0)),
     }
 }
 
-/// A boolean at the front.
+/// A boolean as a datum, and the rest.
 pub(crate) fn boolean_datum(bytes: &[u8]) -> Result<(Datum, &[u8]), AvroFault>
-    ensures { Gives (λ x. (view x.0, x.1.now)) result (seen_as boolean (boolean_at bytes.now)) }
+    ensures { Yields (λ x. (view x.0, x.1.now)) result (seen_as boolean (boolean_at bytes.now)) }
 {
-    let (flag, rest) = boolean_of(bytes).ok_or(AvroFault::Bad(0))?;
+    let (flag, rest) = read_boolean(bytes).ok_or(AvroFault::Bad(0))?;
     Ok((Datum::Bool(flag), rest))
 }
 
-/// An int at the front.
+/// An int as a datum, and the rest.
 pub(crate) fn int_datum(bytes: &[u8]) -> Result<(Datum, &[u8]), AvroFault>
-    ensures { Gives (λ x. (view x.0, x.1.now)) result (seen_as int (int_at bytes.now)) }
+    ensures { Yields (λ x. (view x.0, x.1.now)) result (seen_as int (int_at bytes.now)) }
 {
-    let (number, rest) = int_of(bytes).ok_or(AvroFault::Bad(0))?;
+    let (number, rest) = read_int(bytes).ok_or(AvroFault::Bad(0))?;
     Ok((Datum::Int(number), rest))
 }
 
-/// A long at the front.
+/// A long as a datum, and the rest.
 pub(crate) fn long_datum(bytes: &[u8]) -> Result<(Datum, &[u8]), AvroFault>
-    ensures { Gives (λ x. (view x.0, x.1.now)) result (seen_as long (long_at bytes.now)) }
+    ensures { Yields (λ x. (view x.0, x.1.now)) result (seen_as long (long_at bytes.now)) }
 {
-    let (number, rest) = long_of(bytes).ok_or(AvroFault::Bad(0))?;
+    let (number, rest) = read_long(bytes).ok_or(AvroFault::Bad(0))?;
     Ok((Datum::Long(number), rest))
 }
 
-/// Bytes at the front, copied.
+/// Bytes as a datum, copied, and the rest.
 pub(crate) fn bytes_datum(alloc: Global, bytes: &[u8]) -> Result<(Datum, &[u8]), AvroFault>
-    ensures { Gives (λ x. (view x.0, x.1.now)) result (seen_as bytes_data (bytes_at bytes.now)) }
+    ensures { Yields (λ x. (view x.0, x.1.now)) result (seen_as bytes_data (bytes_at bytes.now)) }
 {
-    let (content, rest) = bytes_of(bytes).ok_or(AvroFault::Bad(0))?;
+    let (content, rest) = read_bytes(bytes).ok_or(AvroFault::Bad(0))?;
     Ok((Datum::Bytes(Vec::from_slice(alloc, content)?), rest))
 }
 
-/// A text at the front, copied.
+/// A text as a datum, copied, and the rest.
 pub(crate) fn text_datum(alloc: Global, bytes: &[u8]) -> Result<(Datum, &[u8]), AvroFault>
-    ensures { Gives (λ x. (view x.0, x.1.now)) result (seen_as text (text_at bytes.now)) }
+    ensures { Yields (λ x. (view x.0, x.1.now)) result (seen_as text (text_at bytes.now)) }
 {
-    let (text, rest) = text_of(alloc, bytes)?;
+    let (text, rest) = read_text(alloc, bytes)?;
     Ok((Datum::Text(text), rest))
 }

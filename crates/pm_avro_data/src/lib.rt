@@ -19,7 +19,7 @@ mod reading;
 mod writing;
 
 pub use datum::Datum;
-pub use laws::{one_datum, one_prefix, one_type, shortest};
+pub use laws::{one_datum_law, one_prefix_law, one_type_law, shortest_law};
 pub use reading::decode;
 pub use writing::encode;
 

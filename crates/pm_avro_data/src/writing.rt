@@ -7,10 +7,12 @@ ghost use Rattle.pm_avro_data.specs.HasType.{HasType};
 ghost use Rattle.pm_avro_data.specs.IsDatum.{IsDatum};
 ghost use Rattle.pm_avro_data.specs.Datum.{view, array_of, map_of, items_of, entry_view, entries_of};
 ghost use Rattle.pm_avro_data.specs.Number.{zigzag};
-ghost use Rattle.pm_avro_data.specs.Encoding.{groups, integer, sized, encoding, items_encoding, entries_encoding, Fits, ItemsFit, EntriesFit};
+ghost use Rattle.pm_avro_data.specs.Writing.{groups, integer, sized, encoding, items_encoding};
+ghost use Rattle.pm_avro_data.specs.Writing.{entries_encoding, Fits, ItemsFit, EntriesFit};
 
 use crate::datum::Datum;
-use pm_avro_schema::{AvroFault, AvroType, Txt2};
+use pm_avro_schema::{AvroFault, AvroType};
+use pm_base::Txt;
 use std::alloc::{AllocError, Global};
 
 /// Writes a number in groups.
@@ -38,14 +40,14 @@ fn to_zigzag(value: i64) -> u64
 }
 
 /// Writes a long, or an int.
-#[tactic(auto, unfolding(crate::specs::Encoding::integer))]
+#[tactic(auto, unfolding(crate::specs::Writing::integer))]
 fn push_integer(out: &mut Vec<u8>, value: i64) -> Result<(), AllocError>
     ensures { OnOk result (out.new.items ≡ out.old.items ++ integer value) }
 {
     push_groups(out, to_zigzag(value))
 }
 
-/// Writes bytes behind their length.
+/// Writes bytes after their length.
 fn push_sized(out: &mut Vec<u8>, content: &[u8]) -> Result<(), AllocError>
     ensures written { OnOk result (out.new.items ≡ out.old.items ++ sized content.now) }
     ensures fits { OnOk result (length content.now < 2 ^ 63) }
@@ -55,8 +57,8 @@ fn push_sized(out: &mut Vec<u8>, content: &[u8]) -> Result<(), AllocError>
     Ok(())
 }
 
-/// Writes a text behind its length.
-fn push_text(out: &mut Vec<u8>, text: &Txt2) -> Result<(), AllocError>
+/// Writes a text after its length.
+fn push_text(out: &mut Vec<u8>, text: &Txt) -> Result<(), AllocError>
     ensures written { OnOk result (out.new.items ≡ out.old.items ++ sized text.now) }
     ensures utf8 { OnOk result (IsUtf8 text.now) }
     ensures fits { OnOk result (length text.now < 2 ^ 63) }
@@ -78,8 +80,8 @@ pub(crate) fn push_datum(out: &mut Vec<u8>, datum: &Datum) -> Result<(), AllocEr
         Datum::Bytes(content) => push_sized(out, content),
         Datum::Text(text) => push_text(out, text),
         Datum::Record(values) => push_items(out, values),
-        Datum::Union(place, datum) => {
-            push_integer(out, i64::from(*place))?;
+        Datum::Union(index, datum) => {
+            push_integer(out, i64::from(*index))?;
             push_datum(out, datum)
         }
         Datum::Array(items) => push_array(out, items),
@@ -90,7 +92,8 @@ pub(crate) fn push_datum(out: &mut Vec<u8>, datum: &Datum) -> Result<(), AllocEr
 /// Writes an array: its items as one block, or none, and a count of 0.
 #[cycle(encode)]
 fn push_array(out: &mut Vec<u8>, items: &Vec<Datum>) -> Result<(), AllocError>
-    ensures written { OnOk result (out.new.items ≡ out.old.items ++ encoding (array_of (items_of (map view items.now.items)))) }
+    ensures written { OnOk result
+        (out.new.items ≡ out.old.items ++ encoding (array_of (items_of (map view items.now.items)))) }
     ensures fits { OnOk result (Fits (array_of (items_of (map view items.now.items)))) }
 {
     if items.is_empty() {
@@ -105,8 +108,9 @@ fn push_array(out: &mut Vec<u8>, items: &Vec<Datum>) -> Result<(), AllocError>
 
 /// Writes a map: its entries as one block, or none, and a count of 0.
 #[cycle(encode)]
-fn push_map(out: &mut Vec<u8>, entries: &Vec<(Txt2, Datum)>) -> Result<(), AllocError>
-    ensures written { OnOk result (out.new.items ≡ out.old.items ++ encoding (map_of (entries_of (map entry_view entries.now.items)))) }
+fn push_map(out: &mut Vec<u8>, entries: &Vec<(Txt, Datum)>) -> Result<(), AllocError>
+    ensures written { OnOk result
+        (out.new.items ≡ out.old.items ++ encoding (map_of (entries_of (map entry_view entries.now.items)))) }
     ensures fits { OnOk result (Fits (map_of (entries_of (map entry_view entries.now.items)))) }
 {
     if entries.is_empty() {
@@ -122,7 +126,8 @@ fn push_map(out: &mut Vec<u8>, entries: &Vec<(Txt2, Datum)>) -> Result<(), Alloc
 /// Writes data, one after another.
 #[cycle(encode)]
 fn push_items(out: &mut Vec<u8>, items: &Vec<Datum>) -> Result<(), AllocError>
-    ensures written { OnOk result (out.new.items ≡ out.old.items ++ items_encoding (items_of (map view items.now.items))) }
+    ensures written { OnOk result
+        (out.new.items ≡ out.old.items ++ items_encoding (items_of (map view items.now.items))) }
     ensures fits { OnOk result (ItemsFit (items_of (map view items.now.items))) }
 {
     for item in items {
@@ -133,8 +138,9 @@ fn push_items(out: &mut Vec<u8>, items: &Vec<Datum>) -> Result<(), AllocError>
 
 /// Writes a map's keys and values, one after another.
 #[cycle(encode)]
-fn push_entries(out: &mut Vec<u8>, entries: &Vec<(Txt2, Datum)>) -> Result<(), AllocError>
-    ensures written { OnOk result (out.new.items ≡ out.old.items ++ entries_encoding (entries_of (map entry_view entries.now.items))) }
+fn push_entries(out: &mut Vec<u8>, entries: &Vec<(Txt, Datum)>) -> Result<(), AllocError>
+    ensures written { OnOk result
+        (out.new.items ≡ out.old.items ++ entries_encoding (entries_of (map entry_view entries.now.items))) }
     ensures fits { OnOk result (EntriesFit (entries_of (map entry_view entries.now.items))) }
 {
     for entry in entries {
@@ -150,7 +156,8 @@ pub fn encode(alloc: Global, kind: &AvroType, datum: &Datum) -> Result<Vec<u8>, 
     requires of_type { HasType (types.view kind.now) (view datum.now) }
     ensures bytes { IfOk result (λ v. v.items ≡ encoding (view datum.now)) }
     // The bytes are that datum of the type, whatever follows them.
-    ensures datum { IfOk result (λ v. (rest : List ℕ) → IsDatum (types.view kind.now) (view datum.now) (v.items ++ rest) rest) }
+    ensures datum { IfOk result (λ v. (rest : List ℕ) →
+        IsDatum (types.view kind.now) (view datum.now) (v.items ++ rest) rest) }
     ensures memory { IfErr result (λ e. e ≡ AvroFault.Memory) }
 {
     let mut out = Vec::new(alloc);

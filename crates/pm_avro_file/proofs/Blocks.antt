@@ -1,20 +1,22 @@
 -- Blocks: what was read makes one, and each that stands there is of what was read.
-use Rattle.std.proofs.Common.{◌≡◌, ℕ, ◌+◌, ◌-◌, ◌<◌, ◌≤◌, List, [], ◌∷◌, ◌++◌, length, take, drop, refl, sym, ap, subst, ◌∙◌, append_assoc, ◌⊎◌, inl, inr, arith}
-use Rattle.std.proofs.lemmas.List.{length-append, length-drop, length-take-le, take-append-drop, append_cancel_left, drop_at}
+use Rattle.std.proofs.Common.{◌≡◌, ℕ, ◌+◌, ◌-◌, ◌<◌, ◌≤◌, List, [], ◌∷◌, ◌++◌, length, take, drop}
+use Rattle.std.proofs.Common.{refl, sym, ap, subst, ◌∙◌, append_assoc, ◌⊎◌, inl, inr, arith}
+use Rattle.std.proofs.lemmas.List.{length-append, length-drop, length-take-le}
+use Rattle.std.proofs.lemmas.List.{take-append-drop, append_cancel_left, drop_at}
 use Rattle.std.proofs.Math.Seq.{take-append_seam}
 use Rattle.pm_avro_schema.specs.Avro.{Avro}
 use Rattle.pm_avro_data.specs.Datum.{Data}
 use Rattle.pm_avro_data.specs.IsDatum.{IsDatum, AreItems}
-use Rattle.pm_avro_data.proofs.Follows.{Follows}
+use Rattle.pm_avro_data.proofs.Facts.{Follows}
 use Rattle.pm_avro_file.specs.Container.{IsBlock}
-use Rattle.pm_avro_file.specs.Finds.{IsSize, AreData}
+use Rattle.pm_avro_file.specs.Part.{IsSize, AreData}
 use Rattle.pm_avro_file.specs.Reader.{HasBlock}
 use Rattle.pm_avro_file.proofs.Items.{items_split, items_one}
 use Rattle.pm_avro_file.proofs.Parts.{datum_one, size_one, size_follows, size_shorter, at_end}
 
 -- ---- the data of a block
 
--- no datum stands behind those that were read, and more are asked
+-- no datum stands after those that were read, and more are asked
 pub data_missing : (t : Avro) (count : ℕ) (xs : List Data) (source middle : List ℕ) → AreItems (IsDatum t) xs source middle → length xs < count
     → ((d : Data) (rest : List ℕ) → IsDatum t d middle rest → ⊥) → (ds : List Data) (rest : List ℕ) → AreData t count ds source rest → ⊥
 data_missing t count xs source middle h few none ds rest a =
@@ -85,8 +87,8 @@ pub block_follows : (t : Avro) (marker : List ℕ) (ds : List Data) (source rest
 block_follows t marker ds source rest b =
     let p = size_follows (length ds) source b.middle b.count in
     let q = size_follows (length b.content) b.middle b.left b.size in
-    let parts : source ≡ p.front ++ (q.front ++ (b.content ++ (marker ++ rest))) = p.parts ∙ ap (λ (x : List ℕ). p.front ++ x) (q.parts ∙ ap (λ (x : List ℕ). q.front ++ x) b.marked) in
-    record { front = p.front ++ (q.front ++ (b.content ++ marker)); parts = parts ∙ sym (simp append_assoc) }
+    let parts : source ≡ p.prefix ++ (q.prefix ++ (b.content ++ (marker ++ rest))) = p.parts ∙ ap (λ (x : List ℕ). p.prefix ++ x) (q.parts ∙ ap (λ (x : List ℕ). q.prefix ++ x) b.marked) in
+    record { prefix = p.prefix ++ (q.prefix ++ (b.content ++ marker)); parts = parts ∙ sym (simp append_assoc) }
 
 pub block_shorter : (t : Avro) (marker : List ℕ) (ds : List Data) (source rest : List ℕ) → IsBlock t marker ds source rest → length rest < length source
 block_shorter t marker ds source rest b =
@@ -113,15 +115,15 @@ module _ (t : Avro) (marker : List ℕ) (count : ℕ) (source middle : List ℕ)
         let a = block_agrees t marker ds count size source middle left rest c s b in
         none ds [] (a.counted, a.each, refl)
 
--- the place behind a block
-pub block_place : (t : Avro) (marker : List ℕ) (ds : List Data) (bytes : List ℕ) (place : ℕ) (rest : List ℕ) → place ≤ length bytes → IsBlock t marker ds (drop place bytes) rest → HasBlock t marker bytes place ds (length bytes - length rest)
-block_place t marker ds bytes place rest le b =
-    let f = block_follows t marker ds (drop place bytes) rest b in
-    let whole : Follows bytes rest = record { front = take place bytes ++ f.front; parts = sym (take-append-drop place bytes) ∙ ap (λ (x : List ℕ). take place bytes ++ x) f.parts ∙ sym (append_assoc (take place bytes) f.front rest) } in
+-- the offset after a block
+pub block_offset : (t : Avro) (marker : List ℕ) (ds : List Data) (bytes : List ℕ) (offset : ℕ) (rest : List ℕ) → offset ≤ length bytes → IsBlock t marker ds (drop offset bytes) rest → HasBlock t marker bytes offset ds (length bytes - length rest)
+block_offset t marker ds bytes offset rest le b =
+    let f = block_follows t marker ds (drop offset bytes) rest b in
+    let whole : Follows bytes rest = record { prefix = take offset bytes ++ f.prefix; parts = sym (take-append-drop offset bytes) ∙ ap (λ (x : List ℕ). take offset bytes ++ x) f.parts ∙ sym (append_assoc (take offset bytes) f.prefix rest) } in
     record {
       within = omega arith;
-      block = subst (λ (x : List ℕ). IsBlock t marker ds (drop place bytes) x) (sym (at_end bytes rest whole)) b;
+      block = subst (λ (x : List ℕ). IsBlock t marker ds (drop offset bytes) x) (sym (at_end bytes rest whole)) b;
     }
 
-pub block_not_longer : (t : Avro) (marker : List ℕ) (ds : List Data) (bytes : List ℕ) (place : ℕ) (rest : List ℕ) → IsBlock t marker ds (drop place bytes) rest → length rest ≤ length bytes
-block_not_longer t marker ds bytes place rest b = omega (arith, block_shorter t marker ds (drop place bytes) rest b, length-drop place bytes)
+pub block_not_longer : (t : Avro) (marker : List ℕ) (ds : List Data) (bytes : List ℕ) (offset : ℕ) (rest : List ℕ) → IsBlock t marker ds (drop offset bytes) rest → length rest ≤ length bytes
+block_not_longer t marker ds bytes offset rest b = omega (arith, block_shorter t marker ds (drop offset bytes) rest b, length-drop offset bytes)

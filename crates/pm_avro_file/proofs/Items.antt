@@ -1,8 +1,9 @@
--- Items, one after another, of which each that stands at the front is one.
-use Rattle.std.proofs.Common.{◌≡◌, ℕ, ◌+◌, ◌≤◌, List, [], ◌∷◌, ◌++◌, length, refl, sym, ap, subst, ◌∙◌, append_assoc, arith}
+-- Items, one after another, of which each that stands at the prefix is one.
+use Rattle.std.proofs.Common.{◌≡◌, ℕ, ◌+◌, ◌≤◌, List, [], ◌∷◌, ◌++◌, length}
+use Rattle.std.proofs.Common.{refl, sym, ap, subst, ◌∙◌, append_assoc, arith}
 use Rattle.std.proofs.lemmas.List.{length-append, append-nil}
 use Rattle.pm_avro_data.specs.IsDatum.{AreItems}
-use Rattle.pm_avro_data.proofs.Follows.{Follows}
+use Rattle.pm_avro_data.proofs.Facts.{Follows}
 
 pub no_items_left : {X : Type 0} (more : List X) (n : ℕ) → n ≡ n + length more → more ≡ []
 no_items_left [] n e = refl
@@ -15,11 +16,11 @@ module _ {X : Type 0} (P : X → List ℕ → List ℕ → Type 0) where
   items_push (y ∷ xs) x source middle rest h p = (h.0, h.1, items_push xs x h.0 middle rest h.2 p)
 
   -- the same, whatever follows
-  pub items_written : (xs : List X) (x : X) (front bytes : List ℕ) → ((rest : List ℕ) → AreItems P xs (front ++ rest) rest) → ((rest : List ℕ) → P x (bytes ++ rest) rest)
-      → (rest : List ℕ) → AreItems P (xs ++ x ∷ []) ((front ++ bytes) ++ rest) rest
-  items_written xs x front bytes h p rest =
-      subst (λ (s : List ℕ). AreItems P (xs ++ x ∷ []) s rest) (sym (append_assoc front bytes rest))
-      (items_push xs x (front ++ (bytes ++ rest)) (bytes ++ rest) rest (h (bytes ++ rest)) (p rest))
+  pub items_written : (xs : List X) (x : X) (prefix bytes : List ℕ) → ((rest : List ℕ) → AreItems P xs (prefix ++ rest) rest) → ((rest : List ℕ) → P x (bytes ++ rest) rest)
+      → (rest : List ℕ) → AreItems P (xs ++ x ∷ []) ((prefix ++ bytes) ++ rest) rest
+  items_written xs x prefix bytes h p rest =
+      subst (λ (s : List ℕ). AreItems P (xs ++ x ∷ []) s rest) (sym (append_assoc prefix bytes rest))
+      (items_push xs x (prefix ++ (bytes ++ rest)) (bytes ++ rest) rest (h (bytes ++ rest)) (p rest))
 
 module _ {X : Type 0} (P : X → List ℕ → List ℕ → Type 0) (one : (x y : X) (source rest other : List ℕ) → P x source rest → P y source other → (x ≡ y) × (rest ≡ other)) where
   -- where some items stand, those that are as many or more begin with them
@@ -44,8 +45,8 @@ module _ {X : Type 0} (P : X → List ℕ → List ℕ → Type 0) (one : (x y :
 
 module _ {X : Type 0} (P : X → List ℕ → List ℕ → Type 0) (each : (x : X) (source rest : List ℕ) → P x source rest → Follows source rest) where
   pub items_follow : (xs : List X) (source rest : List ℕ) → AreItems P xs source rest → Follows source rest
-  items_follow [] source rest h = record { front = []; parts = h }
+  items_follow [] source rest h = record { prefix = []; parts = h }
   items_follow (x ∷ xs) source rest h =
       let p = each x source h.0 h.1 in
       let q = items_follow xs h.0 rest h.2 in
-      record { front = p.front ++ q.front; parts = p.parts ∙ ap (λ (t : List ℕ). p.front ++ t) q.parts ∙ sym (append_assoc p.front q.front rest) }
+      record { prefix = p.prefix ++ q.prefix; parts = p.parts ∙ ap (λ (t : List ℕ). p.prefix ++ t) q.parts ∙ sym (append_assoc p.prefix q.prefix rest) }

@@ -1,9 +1,9 @@
-pub mod Fronts
-pub mod Items
-pub mod Meanings
-pub mod LawLemmas
-pub mod Parts
-pub mod Pairs
-pub mod Blocks
-pub mod Seen
-pub mod Writes
+mod Preambles
+mod Items
+mod Meanings
+mod LawLemmas
+mod Parts
+mod Pairs
+mod Blocks
+mod Seen
+mod Writes

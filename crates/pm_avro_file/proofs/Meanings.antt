@@ -6,11 +6,11 @@ use Rattle.std.proofs.lemmas.Bool.{false_from_ne_true}
 use Rattle.std.proofs.lemmas.Str.{IsUtf8-from_is_utf8, is_utf8-from_IsUtf8}
 use Rattle.std.proofs.lemmas.Slice.Eq.{bytes_eq-Decides}
 use Rattle.pm_avro_schema.specs.Avro.{Avro}
-use Rattle.pm_avro_schema.specs.Reading.{type_of}
+use Rattle.pm_avro_schema.specs.Reading.{parsed_type}
 use Rattle.pm_avro_schema.specs.declared.fault.AvroFault.{AvroFault}
 use Rattle.pm_avro_schema.specs.declared.fault.AvroFault.TheVariants.{Memory, Unsupported, Bad}
-use Rattle.pm_avro_schema.proofs.Wholes.{TypeOf-type_of, type_of-TypeOf, IsReadable-TypeOf}
-use Rattle.pm_avro_file.specs.Container.{Pairs, codec_in, schema_in, IsPlain, IsFront, IsHeader}
+use Rattle.pm_avro_schema.proofs.Facts.{TypeOf-parsed_type, parsed_type-TypeOf, IsReadable-TypeOf}
+use Rattle.pm_avro_file.specs.Container.{Pairs, codec_in, schema_in, IsPlain, IsPreamble, IsHeader}
 use Rattle.pm_avro_file.specs.Header.{codec_fault, unpacked, at_header, declared_by, kind_in}
 
 tells : (b : Bool) → (b ≡ true) ⊎ (b ≡ false)
@@ -35,27 +35,27 @@ at_header-Ok : (kind : Result Avro AvroFault) (t : Avro) → at_header kind ≡ 
 at_header-Ok (Ok u) t e = e
 at_header-Ok (Err Memory) t e = absurd cc
 at_header-Ok (Err (Unsupported what said)) t e = absurd cc
-at_header-Ok (Err (Bad place)) t e = absurd cc
+at_header-Ok (Err (Bad offset)) t e = absurd cc
 
-declared-Ok : (found : Option (List ℕ)) (t : Avro) → declared_by found ≡ Ok t → (schema : List ℕ) × (found ≡ Some schema) × (type_of schema ≡ Ok t)
+declared-Ok : (found : Option (List ℕ)) (t : Avro) → declared_by found ≡ Ok t → (schema : List ℕ) × (found ≡ Some schema) × (parsed_type schema ≡ Ok t)
 declared-Ok None t e = absurd cc
-declared-Ok (Some schema) t e = (schema, refl, at_header-Ok (type_of schema) t e)
+declared-Ok (Some schema) t e = (schema, refl, at_header-Ok (parsed_type schema) t e)
 
 -- the metadata of a header give its type
 pub header_kind : (t : Avro) (marker source rest : List ℕ) (h : IsHeader t marker source rest) → kind_in h.pairs ≡ Ok t
 header_kind t marker source rest h =
-    let declared : type_of h.schema ≡ Ok t = type_of-TypeOf h.schema t h.declared in
+    let declared : parsed_type h.schema ≡ Ok t = parsed_type-TypeOf h.schema t h.declared in
     unpacked-plain (codec_in h.pairs) (declared_by (schema_in h.pairs)) h.plain ∙ ap declared_by h.found ∙ ap at_header declared
 
--- a front whose metadata give a type is a header
-pub kind_header : (t : Avro) (pairs : Pairs) (marker source rest : List ℕ) → IsFront pairs marker source rest → kind_in pairs ≡ Ok t → IsHeader t marker source rest
-kind_header t pairs marker source rest front e =
+-- a preamble whose metadata give a type is a header
+pub kind_header : (t : Avro) (pairs : Pairs) (marker source rest : List ℕ) → IsPreamble pairs marker source rest → kind_in pairs ≡ Ok t → IsHeader t marker source rest
+kind_header t pairs marker source rest preamble e =
     let p = unpacked-Ok (codec_in pairs) (declared_by (schema_in pairs)) t e in
     let d = declared-Ok (schema_in pairs) t p.1 in
-    let declared = TypeOf-type_of d.0 t d.2 in
+    let declared = TypeOf-parsed_type d.0 t d.2 in
     record {
       pairs = pairs;
-      front = front;
+      preamble = preamble;
       plain = p.0;
       schema = d.0;
       found = d.1;

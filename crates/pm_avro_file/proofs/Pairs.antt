@@ -1,5 +1,6 @@
 -- Metadata: the last value of a key, and the datum that keys and values are.
-use Rattle.std.proofs.Common.{◌≡◌, ℕ, List, [], ◌∷◌, ◌++◌, map, length, take, get_or, ◌+◌, ◌<◌, Option, Some, None, Bool, true, false, refl, sym, ap, ◌∙◌}
+use Rattle.std.proofs.Common.{◌≡◌, ℕ, List, [], ◌∷◌, ◌++◌, map, length, take, get_or, ◌+◌, ◌<◌}
+use Rattle.std.proofs.Common.{Option, Some, None, Bool, true, false, refl, sym, ap, ◌∙◌}
 use Rattle.std.specs.Prelude.{if◌then◌else◌}
 use Rattle.std.specs.Option.{option_or}
 use Rattle.std.specs.List.{AllByRecursion}
@@ -9,7 +10,7 @@ use Rattle.pm_avro_schema.specs.Avro as types
 use Rattle.pm_avro_data.specs.Datum.{Data, bytes, map_of, entries, entries_of, view, entry_view}
 use Rattle.pm_avro_data.specs.declared.datum.Datum.{Datum}
 use Rattle.pm_avro_data.specs.HasType.{HasType}
-use Rattle.pm_avro_data.proofs.Readings.{entries-entries_of, entries_of-entries}
+use Rattle.pm_avro_data.proofs.Facts.{entries-entries_of, entries_of-entries}
 use Rattle.pm_avro_file.specs.Container.{Pairs, metadata, last_value}
 use Rattle.pm_avro_file.specs.Views.{content, pairs_of, pairs_view, entries_in, newer}
 
@@ -23,7 +24,7 @@ or_none : {A : Type 0} (a : Option A) → option_or a None ≡ a
 or_none None = refl
 or_none (Some x) = refl
 
--- behind the others the last one counts
+-- after the others the last one counts
 pub last_value-push : (key : List ℕ) (pairs : Pairs) (name value : List ℕ)
     → last_value key (pairs ++ (name, value) ∷ []) ≡ option_or (if bytes_eq name key then Some value else None) (last_value key pairs)
 last_value-push key [] name value = sym (or_none (if bytes_eq name key then Some value else None))

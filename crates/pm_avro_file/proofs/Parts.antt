@@ -1,33 +1,32 @@
--- What stands at the front is one thing, and the rest of it stands at the end.
-use Rattle.std.proofs.Common.{◌≡◌, ℕ, ◌+◌, ◌-◌, ◌<◌, ◌≤◌, pos, List, [], ◌∷◌, ◌++◌, length, drop, Option, Some, None, refl, sym, ap, subst, ◌∙◌, arith}
+-- What stands at the prefix is one thing, and the rest of it stands at the end.
+use Rattle.std.proofs.Common.{◌≡◌, ℕ, ◌+◌, ◌-◌, ◌<◌, ◌≤◌, pos, List, [], ◌∷◌, ◌++◌, length}
+use Rattle.std.proofs.Common.{drop, Option, Some, None, refl, sym, ap, subst, ◌∙◌, arith}
 use Rattle.std.proofs.lemmas.List.{length-append, drop_at}
 use Rattle.std.proofs.lemmas.Option.{some_pair_parts}
 use Rattle.pm_avro_schema.specs.Avro as types
 use Rattle.pm_avro_schema.specs.Avro.{Avro}
 use Rattle.pm_avro_data.specs.Datum.{Data, long}
 use Rattle.pm_avro_data.specs.IsDatum.{IsDatum}
-use Rattle.pm_avro_data.specs.Outcome.{Begins}
-use Rattle.pm_avro_data.proofs.Follows.{Follows, groups_shorter}
-use Rattle.pm_avro_data.proofs.Moves.{datum_follows}
-use Rattle.pm_avro_data.proofs.Readings.{datum_again}
-use Rattle.pm_avro_file.specs.Finds.{IsSize}
+use Rattle.pm_avro_data.specs.Begins.{Begins}
+use Rattle.pm_avro_data.proofs.Facts.{Follows, groups_shorter, datum_follows, datum_again}
+use Rattle.pm_avro_file.specs.Part.{IsSize}
 use Rattle.pm_avro_file.specs.Views.{size_in}
 
 -- one datum, and one rest
 pub datum_one : (t : Avro) (d e : Data) (source rest other : List ℕ) → IsDatum t d source rest → IsDatum t e source other → (d ≡ e) × (rest ≡ other)
 datum_one t d e source rest other p q = some_pair_parts d e rest other (sym (datum_again t d source rest p) ∙ datum_again t e source other q)
 
--- a rest that stands at the end is what is left behind the bytes before it
+-- a rest that stands at the end is what is left after the bytes before it
 pub at_end : (source rest : List ℕ) → Follows source rest → drop (length source - length rest) source ≡ rest
 at_end source rest f =
-    let len : length source ≡ length f.front + length rest = ap length f.parts ∙ length-append f.front rest in
-    let n : length source - length rest ≡ length f.front = omega arith in
-    ap (λ (k : ℕ). drop k source) n ∙ ap (drop (length f.front)) f.parts ∙ drop_at f.front rest (length f.front) refl
+    let len : length source ≡ length f.prefix + length rest = ap length f.parts ∙ length-append f.prefix rest in
+    let n : length source - length rest ≡ length f.prefix = omega arith in
+    ap (λ (k : ℕ). drop k source) n ∙ ap (drop (length f.prefix)) f.parts ∙ drop_at f.prefix rest (length f.prefix) refl
 
 pub not_longer : (source rest : List ℕ) → Follows source rest → length rest ≤ length source
-not_longer source rest f = omega (arith, ap length f.parts, length-append f.front rest)
+not_longer source rest f = omega (arith, ap length f.parts, length-append f.prefix rest)
 
--- a datum at the front is one that the source begins with
+-- a datum at the prefix is one that the source begins with
 pub datum_begins : (t : Avro) (d : Data) (source rest : List ℕ) → IsDatum t d source rest → Begins t source d (length source - length rest)
 datum_begins t d source rest h =
     let f = datum_follows t d source rest h in
@@ -67,14 +66,14 @@ size_not d source rest h e n other s =
 
 -- ---- equal texts
 
--- fronts that are as long are the same
-pub fronts_same : (a b x y : List ℕ) → length a ≡ length b → a ++ x ≡ b ++ y → (a ≡ b) × (x ≡ y)
-fronts_same [] [] x y len e = (refl, e)
-fronts_same [] (c ∷ b) x y len e = absurd (omega arith)
-fronts_same (c ∷ a) [] x y len e = absurd (omega arith)
-fronts_same (c ∷ a) (d ∷ b) x y len e =
+-- prefixes that are as long are the same
+pub prefixes_same : (a b x y : List ℕ) → length a ≡ length b → a ++ x ≡ b ++ y → (a ≡ b) × (x ≡ y)
+prefixes_same [] [] x y len e = (refl, e)
+prefixes_same [] (c ∷ b) x y len e = absurd (omega arith)
+prefixes_same (c ∷ a) [] x y len e = absurd (omega arith)
+prefixes_same (c ∷ a) (d ∷ b) x y len e =
     let h : c ≡ d = cc in
     let t : a ++ x ≡ b ++ y = cc in
-    let r = fronts_same a b x y (omega arith) t in
+    let r = prefixes_same a b x y (omega arith) t in
     let first = r.0 in
     (cc, r.1)

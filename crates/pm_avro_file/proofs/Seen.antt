@@ -10,7 +10,7 @@ use Rattle.pm_avro_data.specs.Datum.{map_of, entries, entries_of, entry_view}
 use Rattle.pm_avro_data.specs.Datum as datums
 use Rattle.pm_avro_data.specs.declared.datum.Datum.{Datum, fold-roll-Datum}
 use Rattle.pm_avro_data.specs.declared.datum.Datum.TheVariants.{Map, rolls-Map}
-use Rattle.pm_avro_data.proofs.Readings.{entries-entries_of}
+use Rattle.pm_avro_data.proofs.Facts.{entries-entries_of}
 use Rattle.pm_avro_file.specs.Views.{entries_in}
 
 pub view-Long : view Long ≡ types.long

@@ -1,23 +1,24 @@
 -- What is written is what the relations have.
-use Rattle.std.proofs.Common.{◌≡◌, ℕ, zero, suc, ◌+◌, ◌<◌, ◌≤◌, pos, false, List, [], ◌∷◌, ◌++◌, length, map, take, get_or, refl, sym, ap, subst, ◌∙◌, append_assoc, arith}
+use Rattle.std.proofs.Common.{◌≡◌, ℕ, zero, suc, ◌+◌, ◌<◌, ◌≤◌, pos, false, List, [], ◌∷◌, ◌++◌, length}
+use Rattle.std.proofs.Common.{map, take, get_or, refl, sym, ap, subst, ◌∙◌, append_assoc, arith}
 use Rattle.std.specs.Prelude.{Ok, Result}
 use Rattle.std.specs.List.{AllByRecursion, flat_map}
 use Rattle.std.proofs.lemmas.List.{length-append, append-nil, map_push, take_more}
 use Rattle.pm_avro_schema.specs.Avro as types
 use Rattle.pm_avro_schema.specs.Avro.{Avro, Fields, no_fields, field, takes_no_byte, take_no_byte}
-use Rattle.pm_avro_schema.specs.Reading.{type_of}
-use Rattle.pm_avro_schema.specs.Text.{avro_text}
+use Rattle.pm_avro_schema.specs.Reading.{parsed_type}
+use Rattle.pm_avro_schema.specs.Writing.{avro_text}
 use Rattle.pm_avro_schema.specs.declared.fault.AvroFault.{AvroFault}
 use Rattle.pm_avro_data.specs.Datum.{Data, items_of, view}
 use Rattle.pm_avro_data.specs.declared.datum.Datum.{Datum}
-use Rattle.pm_avro_data.specs.Encoding.{integer, sized, encoding, items_encoding}
+use Rattle.pm_avro_data.specs.Writing.{integer, sized, encoding, items_encoding}
 use Rattle.pm_avro_data.specs.HasType.{HasType}
 use Rattle.pm_avro_data.specs.IsDatum.{IsDatum, AreItems}
 use Rattle.pm_avro_data.specs.Number.{IsLong}
-use Rattle.pm_avro_data.proofs.Encodings.{datum_some}
-use Rattle.pm_avro_file.specs.Container.{magic, metadata, IsFront, IsHeader, IsBlock, IsContainer}
+use Rattle.pm_avro_data.proofs.Facts.{datum_some}
+use Rattle.pm_avro_file.specs.Container.{magic, metadata, IsPreamble, IsHeader, IsBlock, IsContainer}
 use Rattle.pm_avro_file.specs.Header.{at_header, kind_in}
-use Rattle.pm_avro_file.specs.Written.{written_pairs, header_bytes, block_bytes, file_bytes}
+use Rattle.pm_avro_file.specs.Writing.{written_pairs, header_bytes, block_bytes, file_bytes}
 use Rattle.pm_avro_file.proofs.Items.{items_written}
 use Rattle.pm_avro_file.proofs.Meanings.{kind_header}
 
@@ -25,9 +26,9 @@ use Rattle.pm_avro_file.proofs.Meanings.{kind_header}
 
 pub written_header : (t : Avro) (marker pairs out : List ℕ) → length marker ≡ 16
     → ((rest : List ℕ) → IsDatum (types.map_of types.bytes) (metadata (written_pairs (avro_text t))) (pairs ++ rest) rest)
-    → ◌≡◌ {A = Result Avro AvroFault} (type_of (avro_text t)) (Ok t) → out ≡ (magic ++ pairs) ++ marker → (rest : List ℕ) → IsHeader t marker (out ++ rest) rest
+    → ◌≡◌ {A = Result Avro AvroFault} (parsed_type (avro_text t)) (Ok t) → out ≡ (magic ++ pairs) ++ marker → (rest : List ℕ) → IsHeader t marker (out ++ rest) rest
 written_header t marker pairs out sixteen read schema parts rest =
-    let front : IsFront (written_pairs (avro_text t)) marker (out ++ rest) rest = record {
+    let preamble : IsPreamble (written_pairs (avro_text t)) marker (out ++ rest) rest = record {
       start = pairs ++ (marker ++ rest);
       left = marker ++ rest;
       begins = ap (λ (x : List ℕ). x ++ rest) parts ∙ simp append_assoc;
@@ -36,7 +37,7 @@ written_header t marker pairs out sixteen read schema parts rest =
       marked = refl;
     } in
     let kind : kind_in (written_pairs (avro_text t)) ≡ Ok t = ap at_header schema in
-    kind_header t (written_pairs (avro_text t)) marker (out ++ rest) rest front kind
+    kind_header t (written_pairs (avro_text t)) marker (out ++ rest) rest preamble kind
 
 -- ---- the data of a block
 
@@ -71,7 +72,7 @@ more_written t ds i d content more free typed lt is spelled datum w =
       within = omega (arith, length-append (map view (take i ds)) (view d ∷ []), length-append content more, w.within, ap length spelled, some);
     })
 
--- with nothing behind them
+-- with nothing after them
 pub all_read : (t : Avro) (ds : List Data) (content : List ℕ) → AreWritten t ds content → AreItems (IsDatum t) ds content []
 all_read t ds content w = subst (λ (x : List ℕ). AreItems (IsDatum t) ds x []) (append-nil content) (w.read [])
 
@@ -81,16 +82,16 @@ pub written_block : (t : Avro) (marker content : List ℕ) (ds : List Data) → 
     → ((rest : List ℕ) → IsLong (pos (length ds)) (integer (pos (length ds)) ++ rest) rest) → ((rest : List ℕ) → IsLong (pos (length content)) (integer (pos (length content)) ++ rest) rest)
     → (rest : List ℕ) → IsBlock t marker ds (block_bytes marker ds ++ rest) rest
 written_block t marker content ds spelled each within count size rest =
-    let behind = content ++ (marker ++ rest) in
-    let middle = integer (pos (length content)) ++ behind in
+    let left = content ++ (marker ++ rest) in
+    let middle = integer (pos (length content)) ++ left in
     let source : integer (pos (length ds)) ++ middle ≡ block_bytes marker ds ++ rest =
     sym (simp append_assoc) ∙ ap (λ (x : List ℕ). (integer (pos (length ds)) ++ (sized x ++ marker)) ++ rest) spelled in
     subst (λ (x : List ℕ). IsBlock t marker ds x rest) source (record {
       middle = middle;
-      left = behind;
+      left = left;
       content = content;
       count = count middle;
-      size = size behind;
+      size = size left;
       within = within;
       each = each;
       marked = refl;

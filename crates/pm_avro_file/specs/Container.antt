@@ -1,6 +1,7 @@
 -- Which bytes are an object container file (Apache Avro specification, "Object Container Files").
 -- Each relation says of a source that it is the part's bytes and then the rest, which may be any bytes.
-use Rattle.std.specs.Prelude.{◌≡◌, ℕ, ◌≤◌, pos, List, [], ◌∷◌, ◌++◌, length, map, codes, if◌then◌else◌, Option, Some, None}
+use Rattle.std.specs.Prelude.{◌≡◌, ℕ, ◌≤◌, pos, List, [], ◌∷◌, ◌++◌, length}
+use Rattle.std.specs.Prelude.{map, codes, if◌then◌else◌, Option, Some, None}
 use Rattle.std.specs.Option.{option_or}
 use Rattle.std.specs.Str.{bytes_eq}
 use Rattle.pm_avro_schema.specs.Avro as types
@@ -42,7 +43,7 @@ IsPlain None = Unit {0}
 IsPlain (Some name) = name ≡ codes "null"
 
 -- what stands before the blocks, whatever it says: the four bytes, the metadata, and the marker of 16 bytes
-pub record IsFront (pairs : Pairs) (marker source rest : List ℕ) : Type 0 where
+pub record IsPreamble (pairs : Pairs) (marker source rest : List ℕ) : Type 0 where
   pub start : List ℕ
   pub left : List ℕ
   pub begins : source ≡ magic ++ start
@@ -53,7 +54,7 @@ pub record IsFront (pairs : Pairs) (marker source rest : List ℕ) : Type 0 wher
 -- the header of a file that has data of the type
 pub record IsHeader (t : Avro) (marker source rest : List ℕ) : Type 0 where
   pub pairs : Pairs
-  pub front : IsFront pairs marker source rest
+  pub preamble : IsPreamble pairs marker source rest
   pub plain : IsPlain (codec_in pairs)
   pub schema : List ℕ
   pub found : schema_in pairs ≡ Some schema

@@ -1,10 +1,10 @@
 -- What a header's metadata say: the type of the data, or why it isn't read. The codec is judged first.
-use Rattle.std.specs.Prelude.{ℕ, List, codes, if◌then◌else◌, Option, Some, None, Result, Ok, Err}
+use Rattle.std.specs.Prelude.{ℕ, List, codes, if◌then◌else◌, Option, Some, None, Result, Err}
 use Rattle.std.specs.Str.{bytes_eq, is_utf8}
 use Rattle.pm_avro_schema.specs.Avro.{Avro}
-use Rattle.pm_avro_schema.specs.Reading.{type_of}
+use Rattle.pm_avro_schema.specs.Reading.{parsed_type}
 use Rattle.pm_avro_schema.specs.declared.fault.AvroFault.{AvroFault}
-use Rattle.pm_avro_schema.specs.declared.fault.AvroFault.TheVariants.{Memory, Unsupported, Bad}
+use Rattle.pm_avro_schema.specs.declared.fault.AvroFault.TheVariants.{Unsupported, Bad}
 use Rattle.pm_avro_file.specs.Container.{Pairs, codec_in, schema_in}
 
 -- the fault of a codec that isn't read: bytes that aren't UTF-8 are no name
@@ -16,17 +16,15 @@ abbrev pub unpacked : Option (List ℕ) → Result Avro AvroFault → Result Avr
 unpacked None kind = kind
 unpacked (Some name) kind = if bytes_eq name (codes "null") then kind else Err (codec_fault name)
 
--- a fault of the header, whose place is 0
+-- a fault of the header, whose offset is 0
 abbrev pub at_header : Result Avro AvroFault → Result Avro AvroFault
-at_header (Ok t) = Ok t
-at_header (Err Memory) = Err Memory
-at_header (Err (Unsupported what said)) = Err (Unsupported what said)
-at_header (Err (Bad place)) = Err (Bad 0)
+at_header (Err (Bad offset)) = Err (Bad 0)
+at_header reading = reading
 
 -- the type that the text declares; there must be one
 abbrev pub declared_by : Option (List ℕ) → Result Avro AvroFault
 declared_by None = Err (Bad 0)
-declared_by (Some schema) = at_header (type_of schema)
+declared_by (Some schema) = at_header (parsed_type schema)
 
 -- the type that the metadata give, or their fault
 abbrev pub kind_in : Pairs → Result Avro AvroFault

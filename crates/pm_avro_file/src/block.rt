@@ -4,28 +4,29 @@ ghost use Rattle.std.specs.Prelude.{◌≡◌, ◌≤◌, [], map, length};
 ghost use Rattle.pm_avro_schema.specs.View as types;
 ghost use Rattle.pm_avro_data.specs.Datum.{view};
 ghost use Rattle.pm_avro_file.specs.Container.{IsBlock};
-ghost use Rattle.pm_avro_file.specs.Finds.{Finds, AreData};
+ghost use Rattle.pm_avro_file.specs.Part.{Finds, AreData};
 ghost use Rattle.pm_avro_file.specs.Reader.{AnswersAt, answer_of};
 
-use crate::part::{behind, datum_of, size_of};
+use crate::part::{after_prefix, read_datum, read_size};
 use crate::stop::Stop;
 use pm_avro_data::Datum;
 use pm_avro_schema::AvroType;
 use std::alloc::{AllocError, Global};
 
 /// As many data of the type, where they are all of the bytes.
-fn data_of(
+fn read_data(
     alloc: Global,
     kind: &AvroType,
     count: usize,
     bytes: &[u8],
 ) -> Result<Option<Vec<Datum>>, AllocError>
-    ensures { Finds (λ v. (map view v.items, [])) (AreData (types.view kind.now) count) bytes.now result }
+    ensures { Finds (λ v. (map view v.items, [])) (AreData (types.view kind.now) count)
+        bytes.now result }
 {
     let mut data = Vec::new(alloc);
     let mut rest = bytes;
     for _ in 0..count {
-        let Some((datum, after)) = datum_of(alloc, kind, rest)? else {
+        let Some((datum, after)) = read_datum(alloc, kind, rest)? else {
             return Ok(None);
         };
         data.push(datum)?;
@@ -38,50 +39,52 @@ fn data_of(
     }
 }
 
-/// The block at the front, and the rest.
-fn block_of<'a>(
+/// The block that the bytes begin with, and the rest.
+fn read_block<'a>(
     alloc: Global,
     kind: &AvroType,
     marker: &[u8],
     bytes: &'a [u8],
 ) -> Result<Option<(Vec<Datum>, &'a [u8])>, AllocError>
-    ensures { Finds (λ x. (map view x.0.items, x.1.now)) (IsBlock (types.view kind.now) marker.now) bytes.now result }
+    ensures { Finds (λ x. (map view x.0.items, x.1.now)) (IsBlock (types.view kind.now) marker.now)
+        bytes.now result }
 {
-    let Some((count, middle)) = size_of(alloc, bytes)? else {
+    let Some((count, middle)) = read_size(alloc, bytes)? else {
         return Ok(None);
     };
-    let Some((size, left)) = size_of(alloc, middle)? else {
+    let Some((size, left)) = read_size(alloc, middle)? else {
         return Ok(None);
     };
     if size < count || left.len() < size {
         return Ok(None);
     }
     let (content, after) = left.split_at(size);
-    let Some(rest) = behind(marker, after) else {
+    let Some(rest) = after_prefix(marker, after) else {
         return Ok(None);
     };
-    match data_of(alloc, kind, count, content)? {
+    match read_data(alloc, kind, count, content)? {
         Some(data) => Ok(Some((data, rest))),
         None => Ok(None),
     }
 }
 
-/// The block at this place of the file, and the place behind it, or none at the end.
+/// The block at this offset of the file, and the offset after it, or none at the end.
 pub(crate) fn answer_at(
     alloc: Global,
     kind: &AvroType,
     marker: &[u8],
     bytes: &[u8],
-    place: usize,
+    offset: usize,
 ) -> Result<Option<(Vec<Datum>, usize)>, Stop>
-    requires { place ≤ length bytes.now }
-    ensures { AnswersAt (λ v. map view v.items) (types.view kind.now) marker.now bytes.now place (answer_of result) }
+    requires { offset ≤ length bytes.now }
+    ensures { AnswersAt (λ v. map view v.items) (types.view kind.now) marker.now bytes.now offset
+        (answer_of result) }
 {
-    if place == bytes.len() {
+    if offset == bytes.len() {
         return Ok(None);
     }
-    match block_of(alloc, kind, marker, bytes.split_at(place).1)? {
+    match read_block(alloc, kind, marker, bytes.split_at(offset).1)? {
         Some((data, rest)) => Ok(Some((data, bytes.len() - rest.len()))),
-        None => Err(Stop::Bad(place)),
+        None => Err(Stop::Bad(offset)),
     }
 }

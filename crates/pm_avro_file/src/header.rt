@@ -2,21 +2,23 @@
 
 ghost use Rattle.std.specs.Prelude.{◌≡◌, Err, map, option_map, IfOk};
 ghost use Rattle.pm_avro_schema.specs.Avro as avro;
-ghost use Rattle.pm_avro_schema.specs.Outcome.{Gives};
+ghost use Rattle.pm_avro_schema.specs.Fault.{fault_of};
+ghost use Rattle.pm_base.specs.Outcome.{Gives};
 ghost use Rattle.pm_avro_schema.specs.View as types;
 ghost use Rattle.pm_avro_data.specs.Datum.{view, entry_view};
 ghost use Rattle.pm_avro_file.specs.Container.{last_value};
 ghost use Rattle.pm_avro_file.specs.Header.{codec_fault, declared_by, kind_in};
-ghost use Rattle.pm_avro_file.specs.Finds.{Shows};
+ghost use Rattle.pm_avro_file.specs.Part.{Shows};
 ghost use Rattle.pm_avro_file.specs.Views.{content, entries_in, newer, pairs_view};
 
-use crate::part::{behind, datum_of};
+use crate::part::{after_prefix, read_datum};
 use pm_avro_data::Datum;
-use pm_avro_schema::{AvroFault, AvroType, Txt2, parse};
+use pm_avro_schema::{AvroFault, AvroType, parse};
+use pm_base::Txt;
 use std::alloc::{AllocError, Global};
 use std::str;
 
-/// The bytes that a file begins with.
+/// The four bytes that a file begins with.
 pub(crate) const MAGIC: [u8; 4] = [79, 98, 106, 1];
 
 /// The type of metadata: a map from texts to bytes.
@@ -27,23 +29,23 @@ pub(crate) fn metadata_kind(alloc: Global) -> Result<AvroType, AllocError>
 }
 
 /// What stands before the blocks.
-#[derive(Debug, Drop)]
-pub(crate) struct Front {
-    pub(crate) entries: Vec<(Txt2, Datum)>,
+#[derive(Drop)]
+pub(crate) struct Preamble {
+    pub(crate) entries: Vec<(Txt, Datum)>,
     pub(crate) marker: [u8; 16],
     /// How many bytes it takes.
     pub(crate) size: usize,
 }
 
-/// The front of a file, whatever its metadata say.
-pub(crate) fn front_of(alloc: Global, bytes: &[u8]) -> Result<Option<Front>, AllocError>
+/// The preamble of a file, whatever its metadata say.
+pub(crate) fn read_preamble(alloc: Global, bytes: &[u8]) -> Result<Option<Preamble>, AllocError>
     ensures { Shows bytes.now result }
 {
-    let Some(start) = behind(&MAGIC, bytes) else {
+    let Some(start) = after_prefix(&MAGIC, bytes) else {
         return Ok(None);
     };
     let kind = metadata_kind(alloc)?;
-    let Some((metadata, left)) = datum_of(alloc, &kind, start)? else {
+    let Some((metadata, left)) = read_datum(alloc, &kind, start)? else {
         return Ok(None);
     };
     let Some(entries) = entries_in(metadata) else {
@@ -52,16 +54,16 @@ pub(crate) fn front_of(alloc: Global, bytes: &[u8]) -> Result<Option<Front>, All
     let Some((marker, rest)) = left.split_first_chunk::<16>() else {
         return Ok(None);
     };
-    let front = Front {
+    let preamble = Preamble {
         entries,
         marker: *marker,
         size: bytes.len() - rest.len(),
     };
-    Ok(Some(front))
+    Ok(Some(preamble))
 }
 
 /// The entries of a datum that is a map.
-fn entries_in(datum: Datum) -> Option<Vec<(Txt2, Datum)>>
+fn entries_in(datum: Datum) -> Option<Vec<(Txt, Datum)>>
     ensures { option_map (λ v. map entry_view v.items) result ≡ entries_in (view datum) }
 {
     match datum {
@@ -71,7 +73,7 @@ fn entries_in(datum: Datum) -> Option<Vec<(Txt2, Datum)>>
 }
 
 /// The value of a key: where it stands more than once its last one.
-fn last_value<'a>(entries: &'a [(Txt2, Datum)], key: &str) -> Option<&'a [u8]>
+fn last_value<'a>(entries: &'a [(Txt, Datum)], key: &str) -> Option<&'a [u8]>
     ensures { option_map (λ b. b.now) result ≡ last_value key.now (pairs_view entries.now) }
 {
     let mut found = None;
@@ -82,8 +84,9 @@ fn last_value<'a>(entries: &'a [(Txt2, Datum)], key: &str) -> Option<&'a [u8]>
 }
 
 /// The value of an entry that has the key, or else what was found before it.
-fn newer<'a>(entry: &'a (Txt2, Datum), key: &str, found: Option<&'a [u8]>) -> Option<&'a [u8]>
-    ensures { option_map (λ b. b.now) result ≡ newer key.now (entry_view entry.now) (option_map (λ b. b.now) found.entry) }
+fn newer<'a>(entry: &'a (Txt, Datum), key: &str, found: Option<&'a [u8]>) -> Option<&'a [u8]>
+    ensures { option_map (λ b. b.now) result
+        ≡ newer key.now (entry_view entry.now) (option_map (λ b. b.now) found.entry) }
 {
     if entry.0.as_str() == key {
         Some(content_of(&entry.1))
@@ -103,8 +106,8 @@ fn content_of(datum: &Datum) -> &[u8]
 }
 
 /// The type of the data, as the metadata have it. The codec is judged first.
-pub(crate) fn kind_of(alloc: Global, entries: &[(Txt2, Datum)]) -> Result<AvroType, AvroFault>
-    ensures { Gives types.view result (kind_in (pairs_view entries.now)) }
+pub(crate) fn kind_in(alloc: Global, entries: &[(Txt, Datum)]) -> Result<AvroType, AvroFault>
+    ensures { Gives types.view fault_of result (kind_in (pairs_view entries.now)) }
 {
     match last_value(entries, "avro.codec") {
         Some(name) if name != b"null".as_slice() => refuse(alloc, name),
@@ -114,7 +117,7 @@ pub(crate) fn kind_of(alloc: Global, entries: &[(Txt2, Datum)]) -> Result<AvroTy
 
 /// The type that a text declares.
 fn declared_by(alloc: Global, schema: Option<&[u8]>) -> Result<AvroType, AvroFault>
-    ensures { Gives types.view result (declared_by (option_map (λ b. b.now) schema.entry)) }
+    ensures { Gives types.view fault_of result (declared_by (option_map (λ b. b.now) schema.entry)) }
 {
     let text = schema.ok_or(AvroFault::Bad(0))?;
     match parse(alloc, text) {
@@ -126,12 +129,12 @@ fn declared_by(alloc: Global, schema: Option<&[u8]>) -> Result<AvroType, AvroFau
 
 /// Refuses a codec that isn't read.
 fn refuse(alloc: Global, name: &[u8]) -> Result<AvroType, AvroFault>
-    ensures { Gives types.view result (Err (codec_fault name.now)) }
+    ensures { Gives types.view fault_of result (Err (codec_fault name.now)) }
 {
     match str::from_utf8(name) {
         Ok(name) => {
-            let what = Txt2::from_str(alloc, "codec")?;
-            let text = Txt2::from_str(alloc, name)?;
+            let what = Txt::from_str(alloc, "codec")?;
+            let text = Txt::from_str(alloc, name)?;
             Err(AvroFault::Unsupported { what, text })
         }
         Err(_) => Err(AvroFault::Bad(0)),

@@ -18,7 +18,8 @@ mod stop;
 mod writing;
 
 pub use laws::{
-    damaged_file, one_answer, one_block, one_file, one_opening, unread_file, whole_file,
+    damaged_file_law, one_answer_law, one_block_law, one_file_law, one_opening_law,
+    unread_file_law, whole_file_law,
 };
 pub use reader::FileReader;
 pub use writing::write_file;

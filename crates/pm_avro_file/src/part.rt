@@ -1,10 +1,10 @@
-//! What stands at the front of a slice.
+//! The parts that a slice may begin with.
 
 ghost use Rattle.std.specs.Prelude.{◌≡◌, ◌≢◌, ◌++◌, List, ℕ, MatchOption};
 ghost use Rattle.pm_avro_schema.specs.View as types;
 ghost use Rattle.pm_avro_data.specs.Datum.{view};
 ghost use Rattle.pm_avro_data.specs.IsDatum.{IsDatum};
-ghost use Rattle.pm_avro_file.specs.Finds.{Finds, IsSize};
+ghost use Rattle.pm_avro_file.specs.Part.{Finds, IsSize};
 ghost use Rattle.pm_avro_file.specs.Views.{size_in};
 
 use pm_avro_data::{Datum, decode};
@@ -12,14 +12,15 @@ use pm_avro_schema::{AvroFault, AvroType};
 use std::alloc::{AllocError, Global};
 
 /// What follows a prefix.
-pub(crate) fn behind<'a>(prefix: &[u8], bytes: &'a [u8]) -> Option<&'a [u8]>
-    ensures { MatchOption result ((rest : List ℕ) → bytes.now ≢ prefix.now ++ rest) (λ x. bytes.now ≡ prefix.now ++ x.now) }
+pub(crate) fn after_prefix<'a>(prefix: &[u8], bytes: &'a [u8]) -> Option<&'a [u8]>
+    ensures { MatchOption result ((rest : List ℕ) → bytes.now ≢ prefix.now ++ rest)
+        (λ x. bytes.now ≡ prefix.now ++ x.now) }
 {
     bytes.strip_prefix(prefix)
 }
 
-/// The datum of the type at the front, and the rest.
-pub(crate) fn datum_of<'a>(
+/// The datum of the type that the bytes begin with, and the rest.
+pub(crate) fn read_datum<'a>(
     alloc: Global,
     kind: &AvroType,
     bytes: &'a [u8],
@@ -43,11 +44,11 @@ fn size_in(datum: &Datum) -> Option<usize>
     }
 }
 
-/// The size at the front, and the rest.
-pub(crate) fn size_of(alloc: Global, bytes: &[u8]) -> Result<Option<(usize, &[u8])>, AllocError>
+/// The size that the bytes begin with, and the rest.
+pub(crate) fn read_size(alloc: Global, bytes: &[u8]) -> Result<Option<(usize, &[u8])>, AllocError>
     ensures { Finds (λ x. (x.0, x.1.now)) IsSize bytes.now result }
 {
-    let Some((datum, rest)) = datum_of(alloc, &AvroType::Long, bytes)? else {
+    let Some((datum, rest)) = read_datum(alloc, &AvroType::Long, bytes)? else {
         return Ok(None);
     };
     match size_in(&datum) {

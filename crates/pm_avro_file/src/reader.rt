@@ -6,22 +6,22 @@ ghost use Rattle.pm_avro_data.specs.Datum.{view};
 ghost use Rattle.pm_avro_file.specs.Reader.{Reader, Opens, AnswersAt, Advances};
 
 use crate::block::answer_at;
-use crate::header::{front_of, kind_of};
+use crate::header::{kind_in, read_preamble};
 use crate::stop::Stop;
 use pm_avro_data::Datum;
 use pm_avro_schema::{AvroFault, AvroType};
-use pm_values::Blob;
+use pm_base::Blob;
 use std::alloc::Global;
 use std::marker::Model;
 
-/// A file that is read block by block, from the first on or at places that were answered. Places are offsets in bytes.
+/// A file that is read block by block, from the first on or at offsets that were answered. Offsets are in bytes.
 #[derive(Debug, Drop)]
 pub struct FileReader {
     bytes: Blob,
     kind: AvroType,
     marker: [u8; 16],
     first: usize,
-    place: usize,
+    offset: usize,
     stop: Option<Stop>,
 }
 
@@ -29,16 +29,23 @@ impl Model for FileReader {
     ghost use Rattle.std.specs.Prelude.{◌≤◌, length, option_map};
     ghost use Rattle.pm_avro_schema.specs.View as types;
     ghost use Rattle.std.specs.Coded.{codes};
-    ghost use Rattle.pm_avro_file.specs.Coded.{avro_code};
-    ghost use Rattle.pm_avro_file.specs.Reader.{Reader, fault_of};
+    ghost use Rattle.pm_avro_schema.specs.Coded.{avro_code};
+    ghost use Rattle.pm_avro_file.specs.Reader.{Reader, stop_fault};
 
     ghost Value = { Reader };
 
     ghost coded = { Prim.hlevel (codes, avro_code) };
 
-    ghost view = { λ r. record { bytes = r.bytes; kind = types.view r.kind; marker = r.marker; first = r.first; place = r.place; fault = option_map fault_of r.stop } };
+    ghost view = { λ r. record {
+      bytes = r.bytes;
+      kind = types.view r.kind;
+      marker = r.marker;
+      first = r.first;
+      offset = r.offset;
+      fault = option_map stop_fault r.stop;
+    } };
 
-    ghost invariant = { λ r. (r.first ≤ length r.bytes) × (r.place ≤ length r.bytes) };
+    ghost invariant = { λ r. (r.first ≤ length r.bytes) × (r.offset ≤ length r.bytes) };
 }
 
 impl FileReader {
@@ -47,16 +54,16 @@ impl FileReader {
     pub fn open(alloc: Global, bytes: Blob) -> Result<FileReader, AvroFault>
         ensures { Opens bytes result }
     {
-        let Some(front) = front_of(alloc, bytes.as_bytes())? else {
+        let Some(preamble) = read_preamble(alloc, bytes.as_bytes())? else {
             return Err(AvroFault::Bad(0));
         };
-        let kind = kind_of(alloc, &front.entries)?;
+        let kind = kind_in(alloc, &preamble.entries)?;
         Ok(FileReader {
             bytes,
             kind,
-            marker: front.marker,
-            first: front.size,
-            place: front.size,
+            marker: preamble.marker,
+            first: preamble.size,
+            offset: preamble.size,
             stop: None,
         })
     }
@@ -76,7 +83,7 @@ impl FileReader {
         self.first
     }
 
-    /// The data of the next block, or none at the end. Faults are `Memory`, and `Bad` at the block's place; after a
+    /// The data of the next block, or none at the end. Faults are `Memory`, and `Bad` at the block's offset; after a
     /// fault the same one is answered again.
     pub fn next_block(&mut self, alloc: Global) -> Result<Option<Vec<Datum>>, AvroFault>
         ensures { Advances (λ v. map view v.items) self.old self.new result }
@@ -89,10 +96,10 @@ impl FileReader {
             &self.kind,
             &self.marker,
             self.bytes.as_bytes(),
-            self.place,
+            self.offset,
         ) {
             Ok(Some((data, next))) => {
-                self.place = next;
+                self.offset = next;
                 Ok(Some(data))
             }
             Ok(None) => Ok(None),
@@ -103,18 +110,19 @@ impl FileReader {
         }
     }
 
-    /// The data of the block at a place and the place behind it, or none at the end. Faults are `Memory`, and `Bad`
-    /// at this place. Blocks begin at `first` and at the places that are answered here.
+    /// The data of the block at an offset and the offset after it, or none at the end. Faults are `Memory`, and `Bad`
+    /// at this offset. Blocks begin at `first` and at the offsets that are answered here.
     pub fn block_at(
         &self,
         alloc: Global,
-        place: usize,
+        offset: usize,
     ) -> Result<Option<(Vec<Datum>, usize)>, AvroFault>
-        requires { place ≤ length self.now.bytes }
-        ensures { AnswersAt (λ v. map view v.items) self.now.kind self.now.marker self.now.bytes place result }
+        requires { offset ≤ length self.now.bytes }
+        ensures { AnswersAt (λ v. map view v.items) self.now.kind self.now.marker self.now.bytes
+            offset result }
     {
         let bytes = self.bytes.as_bytes();
-        match answer_at(alloc, &self.kind, &self.marker, bytes, place) {
+        match answer_at(alloc, &self.kind, &self.marker, bytes, offset) {
             Ok(found) => Ok(found),
             Err(stop) => Err(stop.fault()),
         }

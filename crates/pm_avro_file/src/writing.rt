@@ -1,25 +1,27 @@
 //! Writing a file.
 
-ghost use Rattle.std.specs.Prelude.{◌≡◌, ◌++◌, ◌<◌, ◌≤◌, ◌^◌, [], pos, false, List, ℕ, map, length, Ok, IfOk, IfErr, OnOk};
+ghost use Rattle.std.specs.Prelude.{◌≡◌, ◌++◌, ◌<◌, ◌≤◌, ◌^◌, [], pos, false};
+ghost use Rattle.std.specs.Prelude.{List, ℕ, map, length, Ok, IfOk, IfErr, OnOk};
 ghost use Rattle.std.specs.List.{AllByRecursion};
 ghost use Rattle.pm_avro_schema.specs.Avro as avro;
 ghost use Rattle.pm_avro_schema.specs.Avro.{takes_no_byte};
 ghost use Rattle.pm_avro_schema.specs.View as types;
 ghost use Rattle.pm_avro_schema.specs.Readable.{IsReadable};
-ghost use Rattle.pm_avro_schema.specs.Reading.{type_of};
-ghost use Rattle.pm_avro_schema.specs.Text.{avro_text};
+ghost use Rattle.pm_avro_schema.specs.Reading.{parsed_type};
+ghost use Rattle.pm_avro_schema.specs.Writing.{avro_text};
 ghost use Rattle.pm_avro_data.specs.Datum.{view, bytes, entry_view, items_of};
-ghost use Rattle.pm_avro_data.specs.Encoding.{integer, encoding, items_encoding};
+ghost use Rattle.pm_avro_data.specs.Writing.{integer, encoding, items_encoding};
 ghost use Rattle.pm_avro_data.specs.HasType.{HasType};
 ghost use Rattle.pm_avro_data.specs.IsDatum.{IsDatum, AreItems};
 ghost use Rattle.pm_avro_data.specs.Number.{IsLong};
 ghost use Rattle.pm_avro_file.specs.Container.{metadata, IsBlock, IsHeader, IsContainer};
 ghost use Rattle.pm_avro_file.specs.Views.{blocks_view};
-ghost use Rattle.pm_avro_file.specs.Written.{written_pairs, header_bytes, block_bytes, file_bytes};
+ghost use Rattle.pm_avro_file.specs.Writing.{written_pairs, header_bytes, block_bytes, file_bytes};
 
 use crate::header::{MAGIC, metadata_kind};
 use pm_avro_data::{Datum, encode};
-use pm_avro_schema::{AvroFault, AvroType, Txt2, print};
+use pm_avro_schema::{AvroFault, AvroType, print};
+use pm_base::Txt;
 use std::alloc::{AllocError, Global};
 
 /// The bytes of a file with these blocks, in order. The only fault is `Memory`.
@@ -32,12 +34,14 @@ pub fn write_file(
     requires readable { IsReadable (types.view kind.now) }
     requires some { takes_no_byte (types.view kind.now) ≡ false }
     requires of_type { AllByRecursion (AllByRecursion (HasType (types.view kind.now))) (blocks_view blocks.now) }
-    ensures bytes { IfOk result (λ v. v.items ≡ file_bytes (types.view kind.now) (blocks_view blocks.now) marker) }
+    ensures bytes { IfOk result (λ v.
+        v.items ≡ file_bytes (types.view kind.now) (blocks_view blocks.now) marker) }
     // The bytes are the file with these blocks.
-    ensures file { IfOk result (λ v. IsContainer (types.view kind.now) (blocks_view blocks.now) marker v.items) }
+    ensures file { IfOk result (λ v.
+        IsContainer (types.view kind.now) (blocks_view blocks.now) marker v.items) }
     ensures memory { IfErr result (λ e. e ≡ AvroFault.Memory) }
 {
-    let mut out = header_of(alloc, kind, &marker)?;
+    let mut out = write_header(alloc, kind, &marker)?;
     for block in blocks {
         push_block(alloc, &mut out, kind, block, &marker)?;
     }
@@ -45,13 +49,14 @@ pub fn write_file(
 }
 
 /// The header of a file with data of this type.
-fn header_of(alloc: Global, kind: &AvroType, marker: &[u8; 16]) -> Result<Vec<u8>, AvroFault>
+fn write_header(alloc: Global, kind: &AvroType, marker: &[u8; 16]) -> Result<Vec<u8>, AvroFault>
     requires readable { IsReadable (types.view kind.now) }
     ensures bytes { IfOk result (λ v. v.items ≡ header_bytes (types.view kind.now) marker.now) }
-    ensures header { IfOk result (λ v. (rest : List ℕ) → IsHeader (types.view kind.now) marker.now (v.items ++ rest) rest) }
+    ensures header { IfOk result (λ v. (rest : List ℕ) →
+        IsHeader (types.view kind.now) marker.now (v.items ++ rest) rest) }
     ensures memory { IfErr result (λ e. e ≡ AvroFault.Memory) }
 {
-    let pairs = metadata_of(alloc, kind)?;
+    let pairs = write_metadata(alloc, kind)?;
     let mut out = Vec::from_slice(alloc, &MAGIC)?;
     out.extend_from_slice(&pairs)?;
     out.extend_from_slice(marker)?;
@@ -59,12 +64,15 @@ fn header_of(alloc: Global, kind: &AvroType, marker: &[u8; 16]) -> Result<Vec<u8
 }
 
 /// The bytes of such a header's metadata.
-fn metadata_of(alloc: Global, kind: &AvroType) -> Result<Vec<u8>, AvroFault>
+fn write_metadata(alloc: Global, kind: &AvroType) -> Result<Vec<u8>, AvroFault>
     requires readable { IsReadable (types.view kind.now) }
-    ensures bytes { IfOk result (λ v. v.items ≡ encoding (metadata (written_pairs (avro_text (types.view kind.now))))) }
+    ensures bytes { IfOk result (λ v.
+        v.items ≡ encoding (metadata (written_pairs (avro_text (types.view kind.now))))) }
     ensures read { IfOk result (λ v. (rest : List ℕ) →
-        IsDatum (avro.map_of avro.bytes) (metadata (written_pairs (avro_text (types.view kind.now)))) (v.items ++ rest) rest) }
-    ensures schema { IfOk result (λ v. type_of (avro_text (types.view kind.now)) ≡ Ok (types.view kind.now)) }
+        IsDatum (avro.map_of avro.bytes) (metadata (written_pairs (avro_text (types.view kind.now))))
+        (v.items ++ rest) rest) }
+    ensures schema { IfOk result (λ v.
+        parsed_type (avro_text (types.view kind.now)) ≡ Ok (types.view kind.now)) }
     ensures memory { IfErr result (λ e. e ≡ AvroFault.Memory) }
 {
     let schema = print(alloc, kind)?;
@@ -80,16 +88,16 @@ fn metadata_with(alloc: Global, schema: Vec<u8>) -> Result<Datum, AllocError>
 {
     let codec = Vec::from_slice(alloc, b"null")?;
     let mut entries = Vec::with_capacity(alloc, 2)?;
-    entries.push(entry_of(alloc, "avro.codec", codec)?)?;
-    entries.push(entry_of(alloc, "avro.schema", schema)?)?;
+    entries.push(metadata_entry(alloc, "avro.codec", codec)?)?;
+    entries.push(metadata_entry(alloc, "avro.schema", schema)?)?;
     Ok(Datum::Map(entries))
 }
 
 /// An entry of the metadata.
-fn entry_of(alloc: Global, key: &str, value: Vec<u8>) -> Result<(Txt2, Datum), AllocError>
+fn metadata_entry(alloc: Global, key: &str, value: Vec<u8>) -> Result<(Txt, Datum), AllocError>
     ensures { IfOk result (λ e. entry_view e ≡ (key.now, bytes value.items)) }
 {
-    Ok((Txt2::from_str(alloc, key)?, Datum::Bytes(value)))
+    Ok((Txt::from_str(alloc, key)?, Datum::Bytes(value)))
 }
 
 /// Writes a block.
@@ -103,12 +111,14 @@ fn push_block(
     requires readable { IsReadable (types.view kind.now) }
     requires some { takes_no_byte (types.view kind.now) ≡ false }
     requires of_type { AllByRecursion (HasType (types.view kind.now)) (map view block.now.items) }
-    ensures bytes { OnOk result (out.new.items ≡ out.old.items ++ block_bytes marker.now (map view block.now.items)) }
-    ensures block { OnOk result ((rest : List ℕ) → IsBlock (types.view kind.now) marker.now (map view block.now.items)
+    ensures bytes { OnOk result
+        (out.new.items ≡ out.old.items ++ block_bytes marker.now (map view block.now.items)) }
+    ensures block { OnOk result ((rest : List ℕ) →
+        IsBlock (types.view kind.now) marker.now (map view block.now.items)
         (block_bytes marker.now (map view block.now.items) ++ rest) rest) }
     ensures memory { IfErr result (λ e. e ≡ AvroFault.Memory) }
 {
-    let content = content_of(alloc, kind, block)?;
+    let content = write_data(alloc, kind, block)?;
     push_size(alloc, out, block.len())?;
     push_size(alloc, out, content.len())?;
     out.extend_from_slice(&content)?;
@@ -117,12 +127,13 @@ fn push_block(
 }
 
 /// The data of a block, one after another.
-fn content_of(alloc: Global, kind: &AvroType, block: &Vec<Datum>) -> Result<Vec<u8>, AvroFault>
+fn write_data(alloc: Global, kind: &AvroType, block: &Vec<Datum>) -> Result<Vec<u8>, AvroFault>
     requires readable { IsReadable (types.view kind.now) }
     requires some { takes_no_byte (types.view kind.now) ≡ false }
     requires of_type { AllByRecursion (HasType (types.view kind.now)) (map view block.now.items) }
     ensures bytes { IfOk result (λ v. v.items ≡ items_encoding (items_of (map view block.now.items))) }
-    ensures data { IfOk result (λ v. AreItems (IsDatum (types.view kind.now)) (map view block.now.items) v.items []) }
+    ensures data { IfOk result (λ v.
+        AreItems (IsDatum (types.view kind.now)) (map view block.now.items) v.items []) }
     ensures within { IfOk result (λ v. length block.now.items ≤ length v.items) }
     ensures memory { IfErr result (λ e. e ≡ AvroFault.Memory) }
 {

@@ -1,14 +1,19 @@
 -- The JSON of a readable type is read as the type.
 use Rattle.std.proofs.lemmas.Bool.Decides.{nat_tests}
-use Rattle.std.proofs.Common.{◌≡◌, ℕ, ◌+◌, ◌≤◌, List, [], ◌∷◌, ◌++◌, false, nat_lt, Some, Result, Ok, refl, ap, ◌∙◌, arith}
+use Rattle.std.proofs.Common.{◌≡◌, ℕ, ◌+◌, ◌≤◌, List, [], ◌∷◌, ◌++◌, false}
+use Rattle.std.proofs.Common.{nat_lt, Some, Result, Ok, refl, ap, ◌∙◌, arith}
 use Rattle.serde_json.specs.Data.{depth, items_depth}
 use Rattle.serde_json.specs.Written.{has_float, items_have_float}
 use Rattle.pm_avro_schema.proofs.Apart.{Apart, IsNew, Apart-split, Apart-push}
-use Rattle.pm_avro_schema.specs.Avro.{Avro, null, boolean, int, long, bytes, text, record_of, array_of, map_of, union_of, Fields, no_fields, field, Branches, no_branches, branch, takes_no_byte}
-use Rattle.pm_avro_schema.specs.Outcome.{◌>>=◌}
-use Rattle.pm_avro_schema.specs.Readable.{KeepsBounds, FieldsKeepBounds, BranchesKeepBounds, max_around, levels, fields_levels, branches_levels}
-use Rattle.pm_avro_schema.specs.Reading.{type_at, branches_at, fields_at, nested, array_with, array_from, map_from, field_with}
-use Rattle.pm_avro_schema.specs.Text.{records, json_of, fields_json, branches_json}
+use Rattle.pm_avro_schema.specs.Avro.{Avro, null, boolean, int, long, bytes, text, record_of}
+use Rattle.pm_avro_schema.specs.Avro.{array_of, map_of, union_of, Fields, no_fields, field}
+use Rattle.pm_avro_schema.specs.Avro.{Branches, no_branches, branch, takes_no_byte}
+use Rattle.pm_base.specs.Outcome.{◌>>=◌}
+use Rattle.pm_avro_schema.specs.Readable.{KeepsBounds, FieldsKeepBounds, BranchesKeepBounds}
+use Rattle.pm_avro_schema.specs.Readable.{max_around, levels, fields_levels, branches_levels}
+use Rattle.pm_avro_schema.specs.Reading.{type_at, branches_at, fields_at, nested}
+use Rattle.pm_avro_schema.specs.Reading.{array_with, array_from, map_from, field_with}
+use Rattle.pm_avro_schema.specs.Writing.{records, json_of, fields_json, branches_json}
 use Rattle.pm_avro_schema.specs.declared.fault.AvroFault.{AvroFault}
 
 not_deep : (n : ℕ) → n ≤ max_around → nat_lt max_around n ≡ false

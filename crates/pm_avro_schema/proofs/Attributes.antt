@@ -1,18 +1,21 @@
 -- An attribute of an object: how deep it nests, and what it is read as.
-use Rattle.std.proofs.Common.{◌≡◌, ℕ, ◌+◌, ◌≤◌, max, List, Option, Some, Result, Ok, codes, false, refl, sym, ap, subst, ◌∙◌, arith}
+use Rattle.std.proofs.Common.{◌≡◌, ℕ, ◌+◌, ◌≤◌, max, List, Option, Some, Result}
+use Rattle.std.proofs.Common.{Ok, codes, false, refl, sym, ap, subst, ◌∙◌, arith}
 use Rattle.std.specs.Ordering.{nat_cmp, match_ordering}
 use Rattle.std.specs.declared.cmp.Ordering.{Ordering}
 use Rattle.std.specs.declared.cmp.Ordering.TheVariants.{Less, Equal, Greater}
 use Rattle.std.specs.Cmp.Lexicographic.{slice_cmp}
 use Rattle.std.specs.List.{list_any}
 use Rattle.std.specs.Str.{bytes_eq}
-use Rattle.serde_json.specs.Data.{Data, null, boolean, number, string, array, object, Members, no_members, member, depth, members_depth}
+use Rattle.serde_json.specs.Data.{Data, null, boolean, number, string, array, object}
+use Rattle.serde_json.specs.Data.{Members, no_members, member, depth, members_depth}
 use Rattle.serde_json.specs.Find.{get, get_member}
 use Rattle.pm_avro_schema.specs.Attribute.{text_at, present, object_at}
 use Rattle.pm_avro_schema.specs.Reading.{type_at, type_in, fields_in, fields_from, field_at, field_with}
-use Rattle.pm_avro_schema.specs.Outcome.{◌>>=◌, Fails}
+use Rattle.pm_base.specs.Outcome.{◌>>=◌, Fails}
+use Rattle.pm_base.proofs.Laws.{Fails-step}
+use Rattle.pm_avro_schema.specs.Fault.{fault_of}
 use Rattle.pm_avro_schema.specs.declared.fault.AvroFault.{AvroFault}
-use Rattle.pm_avro_schema.specs.declared.fault.AvroFault.TheVariants.{Memory, Unsupported, Bad}
 
 no_deeper-at : (o : Ordering) (key : List ℕ) (d e : Data) (ms : Members) → match_ordering o (get_member key ms) (Some d) (get_member key ms) ≡ Some e → (get_member key ms ≡ Some e → depth e ≤ members_depth ms) → depth e ≤ max (depth d) (members_depth ms)
 no_deeper-at Less key d e ms is later = let below = later is in omega arith
@@ -62,18 +65,13 @@ field_at-get (string s) before n = refl
 field_at-get (array ds) before n = refl
 field_at-get (object ms) before n = rw (type_in-get ms (codes "type") n) refl
 
--- the next step hands a fault on
-fails_bind : {A B : Type 0} (e : AvroFault) (r : Result A AvroFault) (f : A → Result B AvroFault) → Fails e r → Fails e (r >>= f)
-fails_bind Memory r f is = tt
-fails_bind (Unsupported what why) r f is = ap (λ q. q >>= f) is
-fails_bind (Bad place) r f is = ap (λ q. q >>= f) is
-
 -- a field with a new name is read as its type is
 pub field_at-named : (d : Data) (before : List (List ℕ)) (n : ℕ) (name : List ℕ) → Some name ≡ text_at (codes "name") d → list_any (λ other. bytes_eq other name) before ≡ false
     → field_at d before n ≡ (present (λ e. type_at e n) (get (codes "type") d) >>= λ t. Ok (name, t))
 field_at-named d before n name is new = field_at-get d before n ∙ rw (sym is, new)
 
 pub field_at-fails : (d : Data) (before : List (List ℕ)) (n : ℕ) (name : List ℕ) (e : AvroFault) → Some name ≡ text_at (codes "name") d → list_any (λ other. bytes_eq other name) before ≡ false
-    → Fails e (present (λ e. type_at e n) (get (codes "type") d)) → Fails e (field_at d before n)
+    → Fails (fault_of e) (present (λ e. type_at e n) (get (codes "type") d)) → Fails (fault_of e) (field_at d before n)
 field_at-fails d before n name e is new fault =
-    subst (Fails e) (sym (field_at-named d before n name is new)) (fails_bind e _ (λ t. Ok (name, t)) fault)
+    subst (Fails (fault_of e)) (sym (field_at-named d before n name is new))
+    (Fails-step (fault_of e) (present (λ e. type_at e n) (get (codes "type") d)) (λ t. Ok (name, t)) fault)

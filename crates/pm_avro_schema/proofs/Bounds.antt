@@ -2,9 +2,11 @@
 use Rattle.std.proofs.Common.{ℕ, ◌+◌, ◌≤◌, codes, ap, arith}
 use Rattle.serde_json.specs.Data.{Data, array, Items, depth, items_depth}
 use Rattle.pm_avro_schema.proofs.Attributes.{depth-get}
-use Rattle.pm_avro_schema.specs.Avro.{Avro, null, boolean, int, long, bytes, text, record_of, array_of, map_of, union_of, Fields, no_fields, field, Branches, no_branches, branch}
+use Rattle.pm_avro_schema.specs.Avro.{Avro, null, boolean, int, long, bytes, text, record_of, array_of, map_of}
+use Rattle.pm_avro_schema.specs.Avro.{union_of, Fields, no_fields, field, Branches, no_branches, branch}
 use Rattle.pm_avro_schema.specs.Meaning.{Declares, DeclareFields, DeclareBranches}
-use Rattle.pm_avro_schema.specs.Readable.{KeepsBounds, FieldsKeepBounds, BranchesKeepBounds, levels, fields_levels, branches_levels}
+use Rattle.pm_avro_schema.specs.Readable.{KeepsBounds, FieldsKeepBounds, BranchesKeepBounds}
+use Rattle.pm_avro_schema.specs.Readable.{levels, fields_levels, branches_levels}
 
 -- the type keeps to the bounds with n types around it, and its text nests at most so deep
 pub record Fit (t : Avro) (n deep : ℕ) : Type 0 where

@@ -1,5 +1,6 @@
 -- What a type is read from, and only that, declares the type.
-use Rattle.std.proofs.Common.{◌≡◌, ℕ, ◌+◌, List, [], ◌∷◌, ◌++◌, Bool, true, false, cond, codes, Option, Some, None, option_and_then, Result, Ok, refl, ap, subst, ◌∙◌, inl, inr}
+use Rattle.std.proofs.Common.{◌≡◌, ℕ, ◌+◌, List, [], ◌∷◌, ◌++◌, Bool, true, false, cond, codes, Option}
+use Rattle.std.proofs.Common.{Some, None, option_and_then, Result, Ok, refl, ap, subst, ◌∙◌, inl, inr}
 use Rattle.std.proofs.lemmas.Slice.Eq.{bytes_eq-Decides}
 use Rattle.std.specs.Cmp.Lexicographic.{slice_cmp}
 use Rattle.std.specs.List.{list_any}
@@ -7,17 +8,23 @@ use Rattle.std.specs.Ordering.{nat_cmp, match_ordering}
 use Rattle.std.specs.Str.{bytes_eq}
 use Rattle.std.specs.declared.cmp.Ordering.{Ordering}
 use Rattle.std.specs.declared.cmp.Ordering.TheVariants.{Less, Equal, Greater}
-use Rattle.serde_json.specs.Data.{Data, null as json_null, boolean as json_boolean, number, string, array, object, Items, no_items, item, Members, no_members, member}
+use Rattle.serde_json.specs.Data.{Data, null as json_null, boolean as json_boolean, number, string}
+use Rattle.serde_json.specs.Data.{array, object, Items, no_items, item, Members, no_members, member}
 use Rattle.serde_json.specs.Find.{get, get_member, as_str}
 use Rattle.pm_avro_schema.proofs.Again.{nested-within, array_with-filled, field_with-new}
 use Rattle.pm_avro_schema.proofs.Apart.{Apart, IsNew, Apart-none, Apart-split, Apart-push, Apart-join, Apart-unpush}
 use Rattle.pm_avro_schema.proofs.Attributes.{type_at-object, field_at-get}
-use Rattle.pm_avro_schema.proofs.Steps.{bind_ok, refused, nested_ok, array_with_ok, field_new}
+use Rattle.pm_base.proofs.Laws.{step_ok}
+use Rattle.pm_avro_schema.proofs.Steps.{refused, nested_ok, array_with_ok, field_new}
 use Rattle.pm_avro_schema.specs.Attribute.{present}
-use Rattle.pm_avro_schema.specs.Avro.{Avro, null, boolean, int, long, bytes, text, record_of, array_of, map_of, union_of, Fields, no_fields, field, Branches, no_branches, branch, takes_no_byte}
+use Rattle.pm_avro_schema.specs.Avro.{Avro, null, boolean, int, long, bytes, text, record_of}
+use Rattle.pm_avro_schema.specs.Avro.{array_of, map_of, union_of, Fields, no_fields, field}
+use Rattle.pm_avro_schema.specs.Avro.{Branches, no_branches, branch, takes_no_byte}
 use Rattle.pm_avro_schema.specs.Meaning.{HasType, IsNamed, Declares, DeclareFields, DeclareBranches}
-use Rattle.pm_avro_schema.specs.Outcome.{◌>>=◌}
-use Rattle.pm_avro_schema.specs.Reading.{named, nested, array_with, array_from, map_from, object_with, field_with, text_in, type_at, branches_at, type_in, fields_in, fields_from, fields_at, field_at}
+use Rattle.pm_base.specs.Outcome.{◌>>=◌}
+use Rattle.pm_avro_schema.specs.Reading.{named, nested, array_with, array_from, map_from}
+use Rattle.pm_avro_schema.specs.Reading.{object_with, field_with, text_in, type_at, branches_at}
+use Rattle.pm_avro_schema.specs.Reading.{type_in, fields_in, fields_from, fields_at, field_at}
 use Rattle.pm_avro_schema.specs.declared.fault.AvroFault.{AvroFault}
 
 -- an object with this `type` is read by it
@@ -124,7 +131,7 @@ HoldsFields ms key fs n = (ds : Items) × (get_member key ms ≡ Some (array ds)
 
 Declares-record : (ms : Members) (n : ℕ) (fields : Result Fields AvroFault) (t : Avro) → HasType (codes "record") (object ms) → ((fs : Fields) → fields ≡ Ok fs → HoldsFields ms (codes "fields") fs (n + 1)) → (fields >>= λ fs. Ok (record_of fs)) ≡ Ok t → Declares t (object ms) n
 Declares-record ms n fields t typed inner h =
-    let found = bind_ok fields (λ fs. Ok (record_of fs)) t h in
+    let found = step_ok fields (λ fs. Ok (record_of fs)) t h in
     let same : record_of found.0 ≡ t = let whole = found.2 in cc in
     let held = inner found.0 found.1 in
     subst (λ u. Declares u (object ms) n) same (typed, held.0, held.1, held.2)
@@ -132,7 +139,7 @@ Declares-record ms n fields t typed inner h =
 Declares-array : (ms : Members) (n : ℕ) (items : Result Avro AvroFault) (t : Avro) → HasType (codes "array") (object ms) → ((s : Avro) → items ≡ Ok s → Holds ms (codes "items") s (n + 1)) → nested n (array_from items) ≡ Ok t → Declares t (object ms) n
 Declares-array ms n items t typed inner h =
     let shallow = nested_ok n (array_from items) t h in
-    let found = bind_ok items array_with t shallow.1 in
+    let found = step_ok items array_with t shallow.1 in
     let filled = array_with_ok (takes_no_byte found.0) found.0 t found.2 in
     let held = inner found.0 found.1 in
     subst (λ u. Declares u (object ms) n) filled.1 (typed, shallow.0, held.0, held.1, held.2, filled.0)
@@ -140,7 +147,7 @@ Declares-array ms n items t typed inner h =
 Declares-map : (ms : Members) (n : ℕ) (values : Result Avro AvroFault) (t : Avro) → HasType (codes "map") (object ms) → ((s : Avro) → values ≡ Ok s → Holds ms (codes "values") s (n + 1)) → nested n (map_from values) ≡ Ok t → Declares t (object ms) n
 Declares-map ms n values t typed inner h =
     let shallow = nested_ok n (map_from values) t h in
-    let found = bind_ok values (λ u. Ok (map_of u)) t shallow.1 in
+    let found = step_ok values (λ u. Ok (map_of u)) t shallow.1 in
     let same : map_of found.0 ≡ t = let whole = found.2 in cc in
     let held = inner found.0 found.1 in
     subst (λ u. Declares u (object ms) n) same (typed, shallow.0, held.0, held.1, held.2)
@@ -199,7 +206,7 @@ mutual
   Declares-type_at (number x) n t h = refused _ _ t h
   Declares-type_at (string name) n t h = Declares-named name t (string name) n (inl refl) h
   Declares-type_at (array ds) n t h =
-      let found = bind_ok (branches_at ds (n + 1)) (λ ts. Ok (union_of ts)) t h in
+      let found = step_ok (branches_at ds (n + 1)) (λ ts. Ok (union_of ts)) t h in
       let same : union_of found.0 ≡ t = let whole = found.2 in cc in
       subst (λ u. Declares u (array ds) n) same (ds, refl, Declares-branches_at ds (n + 1) found.0 found.1)
   Declares-type_at (object ms) n t h =
@@ -209,8 +216,8 @@ mutual
   Declares-branches_at : (ds : Items) (n : ℕ) (ts : Branches) → branches_at ds n ≡ Ok ts → DeclareBranches ts ds n
   Declares-branches_at no_items n ts h = let same : no_branches ≡ ts = cc in subst (λ u. DeclareBranches u no_items n) same refl
   Declares-branches_at (item d ds) n ts h =
-      let first = bind_ok (type_at d n) (λ u. branches_at ds n >>= λ us. Ok (branch u us)) ts h in
-      let rest = bind_ok (branches_at ds n) (λ us. Ok (branch first.0 us)) ts first.2 in
+      let first = step_ok (type_at d n) (λ u. branches_at ds n >>= λ us. Ok (branch u us)) ts h in
+      let rest = step_ok (branches_at ds n) (λ us. Ok (branch first.0 us)) ts first.2 in
       let same : branch first.0 rest.0 ≡ ts = let whole = rest.2 in cc in
       subst (λ u. DeclareBranches u (item d ds) n) same (d, ds, refl, Declares-type_at d n first.0 first.1, Declares-branches_at ds n rest.0 rest.1)
 
@@ -233,9 +240,9 @@ mutual
   Declares-fields_at : (ds : Items) (before : List (List ℕ)) (n : ℕ) (fs : Fields) → fields_at ds before n ≡ Ok fs → HoldsList ds fs before n
   Declares-fields_at no_items before n fs h = let same : no_fields ≡ fs = cc in subst (λ u. HoldsList no_items u before n) same (refl, Apart-none before)
   Declares-fields_at (item d ds) before n fs h =
-      let first = bind_ok (field_at d before n) (λ f. fields_at ds (before ++ f.0 ∷ []) n >>= λ gs. Ok (field f.0 f.1 gs)) fs h in
+      let first = step_ok (field_at d before n) (λ f. fields_at ds (before ++ f.0 ∷ []) n >>= λ gs. Ok (field f.0 f.1 gs)) fs h in
       let f = first.0 in
-      let rest = bind_ok (fields_at ds (before ++ f.0 ∷ []) n) (λ gs. Ok (field f.0 f.1 gs)) fs first.2 in
+      let rest = step_ok (fields_at ds (before ++ f.0 ∷ []) n) (λ gs. Ok (field f.0 f.1 gs)) fs first.2 in
       HoldsList-cons d ds f rest.0 fs before n (Declares-field_at d before n f first.1) (Declares-fields_at ds (before ++ f.0 ∷ []) n rest.0 rest.1) (let whole = rest.2 in cc)
 
   Declares-field_at : (d : Data) (before : List (List ℕ)) (n : ℕ) (f : List ℕ × Avro) → field_at d before n ≡ Ok f → HoldsField d f before n

@@ -1,10 +1,10 @@
-pub mod Steps
-pub mod Apart
-pub mod Attributes
-pub mod Bounds
-pub mod Again
-pub mod Written
-pub mod Declared
-pub mod Wholes
-pub mod Loops
-pub mod NameLemmas
+pub mod Facts
+mod Steps
+mod Apart
+mod Attributes
+mod Bounds
+mod Again
+mod Written
+mod Declared
+mod Loops
+mod FieldNames

@@ -2,14 +2,11 @@
 use Rattle.std.proofs.Common.{◌≡◌, ℕ, ◌≤◌, List, Bool, true, false, cond, nat_lt, codes, Result, Ok, Err, refl}
 use Rattle.std.proofs.lemmas.Bool.{ltb-false}
 use Rattle.pm_avro_schema.specs.Avro.{Avro, array_of}
-use Rattle.pm_avro_schema.specs.Outcome.{◌>>=◌}
+use Rattle.pm_base.specs.Outcome.{◌>>=◌}
+use Rattle.pm_base.proofs.Laws.{step_ok}
 use Rattle.pm_avro_schema.specs.Readable.{max_around}
 use Rattle.pm_avro_schema.specs.Reading.{bad, unsupported, nested}
 use Rattle.pm_avro_schema.specs.declared.fault.AvroFault.{AvroFault}
-
-pub bind_ok : {A B : Type 0} (r : Result A AvroFault) (f : A → Result B AvroFault) (y : B) → (r >>= f) ≡ Ok y → (x : A) × (r ≡ Ok x) × (f x ≡ Ok y)
-bind_ok (Ok x) f y h = (x, refl, h)
-bind_ok (Err e) f y h = cc
 
 pub refused : {A : Type 0} (P : Type 0) (e : AvroFault) (x : A) → Err e ≡ Ok x → P
 refused P e x h = absurd cc
@@ -27,4 +24,4 @@ array_with_ok false s t h = (refl, cc)
 
 pub field_new : (b : Bool) (name : List ℕ) (kind : Result Avro AvroFault) (f : List ℕ × Avro) → cond b bad (kind >>= λ t. Ok (name, t)) ≡ Ok f → (b ≡ false) × (t : Avro) × (kind ≡ Ok t) × ((name, t) ≡ f)
 field_new true name kind f h = refused _ _ f h
-field_new false name kind f h = let found = bind_ok kind (λ t. Ok (name, t)) f h in (refl, found.0, found.1, let whole = found.2 in cc)
+field_new false name kind f h = let found = step_ok kind (λ t. Ok (name, t)) f h in (refl, found.0, found.1, let whole = found.2 in cc)

@@ -1,11 +1,12 @@
 -- Lists of JSON values, written one after another.
-use Rattle.std.proofs.Common.{◌≡◌, ℕ, ◌+◌, ◌<◌, ◌≤◌, List, [], ◌∷◌, ◌++◌, codes, length, drop, get_or, refl, sym, ap, ◌∙◌, add-one}
+use Rattle.std.proofs.Common.{◌≡◌, ℕ, ◌+◌, ◌<◌, ◌≤◌, List, [], ◌∷◌, ◌++◌, codes}
+use Rattle.std.proofs.Common.{length, drop, get_or, refl, sym, ap, ◌∙◌, add-one}
 use Rattle.std.proofs.Math.Seq.{drop-cons}
 use Rattle.std.proofs.lemmas.List.{drop_all}
 use Rattle.serde_json.specs.Data.{Data, string, object, member, no_members, Items, no_items, item}
 use Rattle.serde_json.specs.View.{items_of}
 use Rattle.pm_avro_schema.specs.Avro.{field, branch}
-use Rattle.pm_avro_schema.specs.Text.{records, fields_records, branches_records, json_of, fields_json, branches_json}
+use Rattle.pm_avro_schema.specs.Writing.{records, fields_records, branches_records, json_of, fields_json, branches_json}
 use Rattle.pm_avro_schema.specs.View.{view, fields_view, branches_view}
 use Rattle.pm_avro_schema.specs.declared.kind.AvroType.{AvroType}
 
@@ -22,7 +23,7 @@ items_before-end : (ds : List Data) → items_before ds no_items ≡ items_of ds
 items_before-end [] = refl
 items_before-end (e ∷ ds) = ap (item e) (items_before-end ds)
 
--- the field at a place, and the fields behind it
+-- the field at an index, and the fields after it
 pub fields_view-next : (fs : List (List ℕ × AvroType)) (i : ℕ) (f : List ℕ × AvroType) → i < length fs → f ≡ get_or fs i f → fields_view (drop i fs) ≡ field f.0 (view f.1) (fields_view (drop (i + 1) fs))
 fields_view-next fs i f h is =
     let cut : drop i fs ≡ get_or fs i f ∷ drop (i + 1) fs = rw (add-one, drop-cons fs i f) in
@@ -36,7 +37,7 @@ branches_view-next ts i t h is =
 abbrev pub field_json : List ℕ → Data → Data
 field_json name d = object (member (codes "name") (string name) (member (codes "type") d no_members))
 
--- a field that was written goes behind those so far
+-- a field that was written comes after those so far
 pub fields_json-next : (ds : List Data) (fs : List (List ℕ × AvroType)) (i k next : ℕ) (f : List ℕ × AvroType) (d : Data) → i < length fs → f ≡ get_or fs i f → d ≡ field_json f.0 (json_of (view f.1) k) → next ≡ k + records (view f.1)
     → items_before ds (fields_json (fields_view (drop i fs)) k) ≡ items_before (ds ++ d ∷ []) (fields_json (fields_view (drop (i + 1) fs)) next)
 fields_json-next ds fs i k next f d h is written counted =
@@ -55,7 +56,7 @@ branches_json-next ds ts i k next t d h is written counted =
     ∙ ap (λ e. items_before (ds ++ e ∷ []) (branches_json rest (k + records (view t)))) (sym written)
     ∙ ap (λ m. items_before (ds ++ d ∷ []) (branches_json rest m)) (sym counted)
 
--- behind the last one the values so far are all
+-- after the last one the values so far are all
 pub fields_json-end : (ds : List Data) (fs : List (List ℕ × AvroType)) (i k : ℕ) (all : Items) → length fs ≤ i → items_before ds (fields_json (fields_view (drop i fs)) k) ≡ all → items_of ds ≡ all
 fields_json-end ds fs i k all h whole = sym (items_before-end ds) ∙ sym (ap (λ gs. items_before ds (fields_json (fields_view gs) k)) (drop_all i fs h)) ∙ whole
 

@@ -1,4 +1,4 @@
--- For private clauses: what an attribute of a JSON object is read as.
+-- Private: what an attribute of a JSON object is read as.
 use Rattle.std.specs.Prelude.{ℕ, ◌+◌, List, codes, Option, Some, None, option_and_then, Result}
 use Rattle.pm_avro_schema.specs.Avro.{Avro}
 use Rattle.serde_json.specs.Data.{Data}
@@ -17,4 +17,7 @@ present read (Some d) = read d
 
 -- the type that an object declares by its attributes, with n types around it
 abbrev pub object_at : Data → ℕ → Result Avro AvroFault
-object_at d n = object_with (text_at (codes "type") d) n (present (λ e. fields_from e (n + 1)) (get (codes "fields") d)) (present (λ e. type_at e (n + 1)) (get (codes "items") d)) (present (λ e. type_at e (n + 1)) (get (codes "values") d))
+object_at d n = object_with (text_at (codes "type") d) n
+    (present (λ e. fields_from e (n + 1)) (get (codes "fields") d))
+    (present (λ e. type_at e (n + 1)) (get (codes "items") d))
+    (present (λ e. type_at e (n + 1)) (get (codes "values") d))

@@ -1,9 +1,10 @@
+pub mod Fault
 pub mod Avro
 pub mod View
-pub mod Outcome
+pub mod Coded
+pub mod Meaning
 pub mod Readable
 pub mod Reading
-pub mod Text
+pub mod Writing
 pub mod Attribute
-pub mod Meaning
-pub mod Named
+pub mod FieldList

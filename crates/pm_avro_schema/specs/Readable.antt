@@ -2,7 +2,9 @@
 use Rattle.std.specs.Prelude.{◌≡◌, ℕ, ◌+◌, ◌≤◌, max, List, Bool, false, ◌||◌}
 use Rattle.std.specs.Str.{bytes_eq}
 use Rattle.serde_json.specs.Read.{max_depth}
-use Rattle.pm_avro_schema.specs.Avro.{Avro, null, boolean, int, long, bytes, text, record_of, array_of, map_of, union_of, Fields, no_fields, field, Branches, no_branches, branch, takes_no_byte}
+use Rattle.pm_avro_schema.specs.Avro.{Avro, null, boolean, int, long, bytes, text, record_of}
+use Rattle.pm_avro_schema.specs.Avro.{array_of, map_of, union_of, Fields, no_fields, field}
+use Rattle.pm_avro_schema.specs.Avro.{Branches, no_branches, branch, takes_no_byte}
 
 -- some field has this name
 abbrev pub has_name : List ℕ → Fields → Bool

@@ -1,17 +1,21 @@
 -- The type that a JSON text means, or its first fault. A value is judged before what it holds: what
 -- it is, its `type`, how deep it stands, and whether the attribute that it needs is there. What it
 -- holds follows in order, of a field its name before its type. That an array's items take no byte
--- is seen behind all faults of its items.
-use Rattle.std.specs.Prelude.{ℕ, ◌+◌, List, [], ◌∷◌, ◌++◌, codes, nat_lt, if◌then◌else◌, Option, Some, None, option_and_then, Result, Ok, Err}
+-- is judged after all faults of its items.
+use Rattle.std.specs.Prelude.{ℕ, ◌+◌, List, [], ◌∷◌, ◌++◌, codes, nat_lt, if◌then◌else◌}
+use Rattle.std.specs.Prelude.{Option, Some, None, option_and_then, Result, Ok, Err}
 use Rattle.std.specs.Ordering.{nat_cmp, match_ordering}
 use Rattle.std.specs.Cmp.Lexicographic.{slice_cmp}
 use Rattle.std.specs.List.{list_any}
 use Rattle.std.specs.Str.{bytes_eq, is_utf8}
-use Rattle.serde_json.specs.Data.{Data, null as json_null, boolean as json_boolean, number, string, array, object, Items, no_items, item, Members, no_members, member}
+use Rattle.serde_json.specs.Data.{Data, null as json_null, boolean as json_boolean, number, string}
+use Rattle.serde_json.specs.Data.{array, object, Items, no_items, item, Members, no_members, member}
 use Rattle.serde_json.specs.Find.{get_member, as_str}
 use Rattle.serde_json.specs.Read.{read}
-use Rattle.pm_avro_schema.specs.Avro.{Avro, null, boolean, int, long, bytes, text, record_of, array_of, map_of, union_of, Fields, no_fields, field, Branches, no_branches, branch, takes_no_byte}
-use Rattle.pm_avro_schema.specs.Outcome.{◌>>=◌}
+use Rattle.pm_avro_schema.specs.Avro.{Avro, null, boolean, int, long, bytes, text, record_of}
+use Rattle.pm_avro_schema.specs.Avro.{array_of, map_of, union_of, Fields, no_fields, field}
+use Rattle.pm_avro_schema.specs.Avro.{Branches, no_branches, branch, takes_no_byte}
+use Rattle.pm_base.specs.Outcome.{◌>>=◌}
 use Rattle.pm_avro_schema.specs.Readable.{max_around}
 use Rattle.pm_avro_schema.specs.declared.fault.AvroFault.{AvroFault}
 use Rattle.pm_avro_schema.specs.declared.fault.AvroFault.TheVariants.{Unsupported, Bad}
@@ -51,7 +55,8 @@ abbrev pub map_from : Result Avro AvroFault → Result Avro AvroFault
 map_from values = values >>= λ t. Ok (map_of t)
 
 -- an object by its `type`, with n types around it, and what its other attributes mean
-abbrev pub object_with : Option (List ℕ) → ℕ → Result Fields AvroFault → Result Avro AvroFault → Result Avro AvroFault → Result Avro AvroFault
+abbrev pub object_with : Option (List ℕ) → ℕ → Result Fields AvroFault → Result Avro AvroFault → Result Avro AvroFault
+    → Result Avro AvroFault
 object_with None n fields items values = bad
 object_with (Some name) n fields items values =
     if bytes_eq name (codes "record") then (fields >>= λ fs. Ok (record_of fs))
@@ -62,7 +67,9 @@ object_with (Some name) n fields items values =
 -- a field's name, which no field before it has, and its type
 abbrev pub field_with : Option (List ℕ) → List (List ℕ) → Result Avro AvroFault → Result (List ℕ × Avro) AvroFault
 field_with None before kind = bad
-field_with (Some name) before kind = if list_any (λ other. bytes_eq other name) before then bad else (kind >>= λ t. Ok (name, t))
+field_with (Some name) before kind =
+    if list_any (λ other. bytes_eq other name) before then bad
+    else (kind >>= λ t. Ok (name, t))
 
 -- the text at an attribute
 abbrev pub text_in : Members → List ℕ → Option (List ℕ)
@@ -76,7 +83,10 @@ abbrev mutual
   type_at (number x) n = bad
   type_at (string name) n = named name
   type_at (array ds) n = branches_at ds (n + 1) >>= λ ts. Ok (union_of ts)
-  type_at (object ms) n = object_with (text_in ms (codes "type")) n (fields_in ms (codes "fields") (n + 1)) (type_in ms (codes "items") (n + 1)) (type_in ms (codes "values") (n + 1))
+  type_at (object ms) n = object_with (text_in ms (codes "type")) n
+      (fields_in ms (codes "fields") (n + 1))
+      (type_in ms (codes "items") (n + 1))
+      (type_in ms (codes "values") (n + 1))
 
   -- the types of a list
   pub branches_at : Items → ℕ → Result Branches AvroFault
@@ -86,12 +96,14 @@ abbrev mutual
   -- the type at an attribute
   pub type_in : Members → List ℕ → ℕ → Result Avro AvroFault
   type_in no_members key n = bad
-  type_in (member other d ms) key n = match_ordering (slice_cmp nat_cmp key other) (type_in ms key n) (type_at d n) (type_in ms key n)
+  type_in (member other d ms) key n =
+      match_ordering (slice_cmp nat_cmp key other) (type_in ms key n) (type_at d n) (type_in ms key n)
 
   -- the fields at an attribute
   pub fields_in : Members → List ℕ → ℕ → Result Fields AvroFault
   fields_in no_members key n = bad
-  fields_in (member other d ms) key n = match_ordering (slice_cmp nat_cmp key other) (fields_in ms key n) (fields_from d n) (fields_in ms key n)
+  fields_in (member other d ms) key n =
+      match_ordering (slice_cmp nat_cmp key other) (fields_in ms key n) (fields_from d n) (fields_in ms key n)
 
   -- the fields of a record that has the list of them
   pub fields_from : Data → ℕ → Result Fields AvroFault
@@ -102,25 +114,27 @@ abbrev mutual
   fields_from (array ds) n = fields_at ds [] n
   fields_from (object ms) n = bad
 
-  -- the fields of a list, behind fields of these names
+  -- the fields of a list, after fields of these names
   pub fields_at : Items → List (List ℕ) → ℕ → Result Fields AvroFault
   fields_at no_items before n = Ok no_fields
-  fields_at (item d ds) before n = field_at d before n >>= λ f. fields_at ds (before ++ f.0 ∷ []) n >>= λ fs. Ok (field f.0 f.1 fs)
+  fields_at (item d ds) before n =
+      field_at d before n >>= λ f. fields_at ds (before ++ f.0 ∷ []) n >>= λ fs. Ok (field f.0 f.1 fs)
 
-  -- a field, behind fields of these names
+  -- a field, after fields of these names
   pub field_at : Data → List (List ℕ) → ℕ → Result (List ℕ × Avro) AvroFault
   field_at json_null before n = bad
   field_at (json_boolean b) before n = bad
   field_at (number x) before n = bad
   field_at (string name) before n = bad
   field_at (array ds) before n = bad
-  field_at (object ms) before n = field_with (text_in ms (codes "name")) before (type_in ms (codes "type") n)
+  field_at (object ms) before n =
+      field_with (text_in ms (codes "name")) before (type_in ms (codes "type") n)
 
 -- a value that a text may have
-abbrev pub type_of_json : Option Data → Result Avro AvroFault
-type_of_json None = bad
-type_of_json (Some d) = type_at d 0
+abbrev pub json_type : Option Data → Result Avro AvroFault
+json_type None = bad
+json_type (Some d) = type_at d 0
 
 -- the type that a text means
-abbrev pub type_of : List ℕ → Result Avro AvroFault
-type_of schema = type_of_json (if is_utf8 schema then read schema else None)
+abbrev pub parsed_type : List ℕ → Result Avro AvroFault
+parsed_type schema = json_type (if is_utf8 schema then read schema else None)

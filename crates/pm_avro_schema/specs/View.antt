@@ -1,6 +1,7 @@
 -- The type that an `AvroType` stands for.
 use Rattle.std.specs.Prelude.{ℕ, List, [], ◌∷◌, map}
-use Rattle.pm_avro_schema.specs.Avro.{Avro, null, boolean, int, long, bytes, text, record_of, array_of, map_of, union_of, Fields, no_fields, field, Branches, no_branches, branch}
+use Rattle.pm_avro_schema.specs.Avro.{Avro, null, boolean, int, long, bytes, text, record_of, array_of, map_of}
+use Rattle.pm_avro_schema.specs.Avro.{union_of, Fields, no_fields, field, Branches, no_branches, branch}
 use Rattle.pm_avro_schema.specs.declared.kind.AvroType.{AvroType, fold-AvroType}
 use Rattle.pm_avro_schema.specs.declared.kind.AvroType.TheOpen.{AvroType-F}
 

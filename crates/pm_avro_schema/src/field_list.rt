@@ -3,10 +3,10 @@
 ghost use Rattle.std.specs.Prelude.{◌≡◌, [], ◌∷◌, ◌++◌, IfOk};
 ghost use Rattle.std.specs.List.{list_any};
 ghost use Rattle.std.specs.Str.{bytes_eq};
-ghost use Rattle.pm_avro_schema.specs.Named.{names};
+ghost use Rattle.pm_avro_schema.specs.FieldList.{names};
 
 use crate::kind::AvroType;
-use pm_base::Txt as Txt2;
+use pm_base::Txt;
 use std::alloc::{AllocError, Global};
 use std::collections::BTreeSet;
 use std::marker::Model;
@@ -14,13 +14,13 @@ use std::marker::Model;
 /// Fields in order, seen as their list, with their names beside them in a set.
 #[derive(Drop)]
 pub(crate) struct FieldList {
-    fields: Vec<(Txt2, AvroType)>,
+    fields: Vec<(Txt, AvroType)>,
     names: BTreeSet<String>,
 }
 
 impl Model for FieldList {
     ghost use Rattle.std.specs.Coded.{codes};
-    ghost use Rattle.pm_avro_schema.specs.Named.{NamedTypes, AreNames};
+    ghost use Rattle.pm_avro_schema.specs.FieldList.{NamedTypes, AreNames};
     ghost use Rattle.pm_avro_schema.specs.contracts.kind.AvroType as types;
 
     ghost Value = { NamedTypes };
@@ -51,11 +51,7 @@ impl FieldList {
     }
 
     /// These fields and one more at their end.
-    pub(crate) fn with(
-        self,
-        alloc: Global,
-        field: (Txt2, AvroType),
-    ) -> Result<FieldList, AllocError>
+    pub(crate) fn with(self, alloc: Global, field: (Txt, AvroType)) -> Result<FieldList, AllocError>
         ensures { IfOk result (λ l. l ≡ self ++ field ∷ []) }
     {
         let FieldList {
@@ -68,7 +64,7 @@ impl FieldList {
     }
 
     /// The fields.
-    pub(crate) fn into_fields(self) -> Vec<(Txt2, AvroType)>
+    pub(crate) fn into_fields(self) -> Vec<(Txt, AvroType)>
         ensures { result.items ≡ self }
     {
         self.fields

@@ -4,7 +4,7 @@ ghost use Rattle.std.specs.Prelude.{◌≡◌, IfOk};
 ghost use Rattle.pm_avro_schema.specs.Avro.{takes_no_byte, take_no_byte};
 ghost use Rattle.pm_avro_schema.specs.View.{view, fields_view, branches_view};
 
-use pm_base::Txt as Txt2;
+use pm_base::Txt;
 use std::alloc::{AllocError, Global};
 
 /// A type (Apache Avro specification, "Primitive Types" and "Complex Types").
@@ -17,7 +17,7 @@ pub enum AvroType {
     Bytes,
     Text,
     /// Its fields, each with its name, in order.
-    Record(Vec<(Txt2, AvroType)>),
+    Record(Vec<(Txt, AvroType)>),
     /// The type of its items.
     Array(Box<AvroType>),
     /// The type of its values; its keys are texts.
@@ -49,7 +49,7 @@ impl AvroType {
 
 /// Whether no field of a record takes a byte.
 #[cycle(empty)]
-fn take_no_byte(fields: &Vec<(Txt2, AvroType)>) -> bool
+fn take_no_byte(fields: &Vec<(Txt, AvroType)>) -> bool
     ensures { result ≡ take_no_byte (fields_view fields.now.items) }
 {
     for field in fields {
@@ -83,8 +83,8 @@ fn copied(alloc: Global, kind: &AvroType) -> Result<AvroType, AllocError>
 #[cycle(copy)]
 fn copied_fields(
     alloc: Global,
-    fields: &Vec<(Txt2, AvroType)>,
-) -> Result<Vec<(Txt2, AvroType)>, AllocError>
+    fields: &Vec<(Txt, AvroType)>,
+) -> Result<Vec<(Txt, AvroType)>, AllocError>
     ensures { IfOk result (λ v. fields_view v.items ≡ fields_view fields.now.items) }
 {
     let mut copies = Vec::with_capacity(alloc, fields.len())?;

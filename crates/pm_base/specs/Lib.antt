@@ -2,3 +2,4 @@ pub mod Faults
 pub mod Newline
 pub mod Outcome
 pub mod Known
+pub mod Steps

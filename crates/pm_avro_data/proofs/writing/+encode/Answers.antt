@@ -1,9 +1,10 @@
-use Rattle.std.proofs.Common.{◌≡◌, ◌++◌, ◌∷◌, [], ◌+◌, ◌<◌, ◌^◌, pos, length, vec_len, drop, map, ℕ, ℤ, List, to_z, w64, sym, ap, ◌∙◌, arith}
+use Rattle.std.proofs.Common.{◌≡◌, ◌++◌, ◌∷◌, [], ◌+◌, ◌<◌, ◌^◌, pos, length, vec_len}
+use Rattle.std.proofs.Common.{drop, map, ℕ, ℤ, List, to_z, w64, sym, ap, ◌∙◌, arith}
 use Rattle.std.proofs.lemmas.List.{append-nil}
 use Rattle.std.proofs.lemmas.Int.{to_z_pos}
 use Rattle.std.proofs.lemmas.Bool.{eqb-true, eqb-false}
 use Rattle.pm_avro_data.specs.Datum.{view, items, items_of, entry_view, entries, entries_of}
-use Rattle.pm_avro_data.specs.Encoding.{integer, sized, encoding, items_encoding, entries_encoding, ItemsFit, EntriesFit}
+use Rattle.pm_avro_data.specs.Writing.{integer, sized, encoding, items_encoding, entries_encoding, ItemsFit, EntriesFit}
 use Rattle.pm_avro_data.proofs.Loops.{drop_next, drop_none}
 use Rattle.pm_avro_data.proofs.Pushing.{blocked_none, blocked_some, length_items, length_entries, onward, block_joined}
 use Rattle.pm_avro_data.proofs.writing.+encode.Goals as goal

@@ -1,6 +1,6 @@
 use Rattle.std.proofs.Common.{◌≡◌, ◌++◌, map, drop}
 use Rattle.pm_avro_data.specs.Datum.{view, items_of, entry_view, entries_of}
-use Rattle.pm_avro_data.specs.Encoding.{items_encoding, entries_encoding, ItemsFit, EntriesFit}
+use Rattle.pm_avro_data.specs.Writing.{items_encoding, entries_encoding, ItemsFit, EntriesFit}
 use Rattle.pm_avro_data.proofs.writing.+encode.Given as goal
 
 abbrev pub invariant-push_items-loop-item : goal.invariant-push_items-loop-item

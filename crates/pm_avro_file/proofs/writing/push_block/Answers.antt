@@ -3,7 +3,7 @@ use Rattle.std.proofs.lemmas.List.{length-map}
 use Rattle.std.proofs.lemmas.Grind.{common_steps}
 use Rattle.pm_avro_schema.specs.View as types
 use Rattle.pm_avro_data.specs.Datum.{view}
-use Rattle.pm_avro_data.specs.Encoding.{integer}
+use Rattle.pm_avro_data.specs.Writing.{integer}
 use Rattle.pm_avro_data.specs.Number.{IsLong}
 use Rattle.pm_avro_file.proofs.Writes.{written_block}
 use Rattle.pm_avro_file.proofs.writing.push_block.Goals as goal

@@ -5,16 +5,16 @@ use Rattle.pm_avro_file.proofs.Meanings.{kind_header}
 use Rattle.pm_avro_file.proofs.reader.FileReader.open.Goals as goal
 
 pub returns-in_default : goal.returns-in_default
-returns-in_default c = (refl, inl (rw (c.in_default.is, c.as_bytes.ensures) at c.in_ok-front.ensures))
+returns-in_default c = (refl, inl (rw (c.in_default.is, c.as_bytes.ensures) at c.in_ok-preamble.ensures))
 
 pub returns : goal.returns
 returns c =
-    let front = rw (c.in-Some.is, c.as_bytes.ensures) at c.in_ok-front.ensures in
+    let preamble = rw (c.in-Some.is, c.as_bytes.ensures) at c.in_ok-preamble.ensures in
     let kind = rw c.deref.ensures.value at c.in_ok-kind.ensures in
     record {
       same = refl;
-      within = front.0;
-      header = kind_header (types.view c.in_ok-kind.kind) (pairs_view c.in-Some.front.entries.items) c.in-Some.front.marker c.args.bytes (drop c.in-Some.front.size c.args.bytes) front.1 kind;
+      within = preamble.0;
+      header = kind_header (types.view c.in_ok-kind.kind) (pairs_view c.in-Some.preamble.entries.items) c.in-Some.preamble.marker c.args.bytes (drop c.in-Some.preamble.size c.args.bytes) preamble.1 kind;
       before = refl;
       reads = refl;
     }

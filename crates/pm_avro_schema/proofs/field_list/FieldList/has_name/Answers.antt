@@ -1,7 +1,7 @@
 use Rattle.std.proofs.Common.{ap, ◌∙◌}
 use Rattle.std.specs.List.{list_any}
 use Rattle.std.specs.Str.{bytes_eq}
-use Rattle.pm_avro_schema.specs.Named.{names}
+use Rattle.pm_avro_schema.specs.FieldList.{names}
 use Rattle.pm_avro_schema.proofs.field_list.FieldList.has_name.Goals as goal
 
 pub returns : goal.returns

@@ -1,6 +1,6 @@
 use Rattle.std.proofs.Common.{true, string_bytes, ◌∙◌}
 use Rattle.std.proofs.lemmas.Map.Text.{btree_set_updates_text}
-use Rattle.pm_avro_schema.proofs.NameLemmas.{AreNames-push}
+use Rattle.pm_avro_schema.proofs.FieldNames.{AreNames-push}
 use Rattle.pm_avro_schema.proofs.field_list.FieldList.with.Goals as goal
 
 pub invariant_of-result : goal.invariant_of-result

@@ -1,5 +1,0 @@
-use Rattle.pm_avro_data.proofs.Types.{datum_typed}
-use Rattle.pm_avro_data.proofs.laws.one_type.Goals as goal
-
-pub returns : goal.returns
-returns c = datum_typed

@@ -1,5 +1,0 @@
-use Rattle.pm_avro_file.proofs.LawLemmas.{opens_one}
-use Rattle.pm_avro_file.proofs.laws.one_opening.Goals as goal
-
-pub returns : goal.returns
-returns c = opens_one
