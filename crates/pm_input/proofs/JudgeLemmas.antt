@@ -6,14 +6,14 @@ use Rattle.std.proofs.lemmas.List.Elements.{filter-append, recursion_from_All, A
 use Rattle.std.proofs.lemmas.List.Folds.{list_all-append}
 use Rattle.pm_io.specs.Lines.{has_newline, all_lines}
 use Rattle.pm_base.specs.Newline.{IsUnbroken}
-use Rattle.pm_io.specs.LineLaws.{has_newline-append, all_lines-ended, all_lines-last}
+use Rattle.pm_io.proofs.Lemmas.{has_newline-append, all_lines-ended, all_lines-last}
 use Rattle.pm_input.specs.Blank.{is_blank_byte, is_blank, row_count}
-use Rattle.pm_input.specs.Judge.{joined, Leaves, passed, or_then, passed_from, passed_by}
-use Rattle.pm_input.specs.Limits.{open_line, PassesBehind, IsWithin, IsFirstLimit, rank}
-use Rattle.pm_input.specs.declared.judge.Left.{Left}
+use Rattle.pm_input.specs.Judge.{joined, IsRoomAfter, exceeded, or_then, exceeded_from, exceeded_by}
+use Rattle.pm_input.specs.Limits.{open_line, ExceedsAfter, IsWithin, IsFirstLimit, rank}
+use Rattle.pm_input.specs.declared.judge.Room.{Room}
 use Rattle.pm_input.specs.declared.limits.Limits.{Limits}
-use Rattle.pm_input.specs.declared.limits.Which.{Which}
-use Rattle.pm_input.specs.declared.limits.Which.TheVariants.{Line, BatchRows, BatchBytes}
+use Rattle.pm_input.specs.declared.limits.LimitKind.{LimitKind}
+use Rattle.pm_input.specs.declared.limits.LimitKind.TheVariants.{Line, BatchRows, BatchBytes}
 use Rattle.pm_input.proofs.LimitLemmas.{IsWithin-push, IsFirstLimit-at}
 
 -- no newline, byte by byte
@@ -30,7 +30,7 @@ IsFree-push : (piece : List ℕ) (b : ℕ) → IsFree piece → b ≢ 10 → IsF
 IsFree-push [] b h this = (this, tt)
 IsFree-push (x ∷ piece) b h this = (h.0, IsFree-push piece b h.1 this)
 
--- ---- lines, and the piece of a line behind them
+-- ---- lines, and the piece of a line after them
 
 or-true : (x : Bool) → (x || true) ≡ true
 or-true true = refl
@@ -91,51 +91,51 @@ row_count-joined lines piece whole free is =
 
 -- ---- the tests of a byte
 
-abbrev pick : Bool → Bool → Bool → Which → Bool
+abbrev pick : Bool → Bool → Bool → LimitKind → Bool
 pick line rows bytes Line = line
 pick line rows bytes BatchRows = rows
 pick line rows bytes BatchBytes = bytes
 
--- the test of each limit, at a byte behind a piece
-abbrev test : Limits → Left → List ℕ → ℕ → Which → Bool
-test limits left piece b which =
-    pick (nat_le limits.line (length piece)) ((is_blank piece && not (is_blank_byte b)) && (left.rows == 0)) (nat_le left.bytes (length piece)) which
+-- the test of each limit, at a byte after a piece
+abbrev test : Limits → Room → List ℕ → ℕ → LimitKind → Bool
+test limits room piece b which =
+    pick (nat_le limits.line (length piece)) ((is_blank piece && not (is_blank_byte b)) && (room.rows == 0)) (nat_le room.bytes (length piece)) which
 
 not-true : (x : Bool) → not x ≡ true → x ≡ false
 not-true true e = cc
 not-true false e = refl
 
-to_test : (limits : Limits) (left : Left) (lines : List (List ℕ)) (piece : List ℕ) (b : ℕ) → Leaves limits left lines → IsFree piece
-    → (which : Which) → PassesBehind limits which (joined lines ++ piece) b → test limits left piece b which ≡ true
-to_test limits left lines piece b leaves free Line passes =
-    le-leb limits.line (length piece) (subst (λ (l : List ℕ). limits.line ≤ length l) (open_line-joined lines piece free) passes.1)
-to_test limits left lines piece b leaves free BatchRows passes =
-    let blank : is_blank piece ≡ true = ap is_blank (sym (open_line-joined lines piece free)) ∙ passes.2 in
-    let count = row_count-joined lines piece leaves.unbroken free blank in
-    let most = passes.3 in
-    let rows = leaves.rows in
-    let none : left.rows ≡ 0 = omega arith in
-    rw (blank, passes.1, none) refl
-to_test limits left lines piece b leaves free BatchBytes passes =
-    let bytes = leaves.bytes in
+to_test : (limits : Limits) (room : Room) (lines : List (List ℕ)) (piece : List ℕ) (b : ℕ) → IsRoomAfter limits room lines → IsFree piece
+    → (which : LimitKind) → ExceedsAfter limits which (joined lines ++ piece) b → test limits room piece b which ≡ true
+to_test limits room lines piece b is_room free Line exceeds =
+    le-leb limits.line (length piece) (subst (λ (l : List ℕ). limits.line ≤ length l) (open_line-joined lines piece free) exceeds.1)
+to_test limits room lines piece b is_room free BatchRows exceeds =
+    let blank : is_blank piece ≡ true = ap is_blank (sym (open_line-joined lines piece free)) ∙ exceeds.2 in
+    let count = row_count-joined lines piece is_room.unbroken free blank in
+    let most = exceeds.3 in
+    let rows = is_room.rows in
+    let none : room.rows ≡ 0 = omega arith in
+    rw (blank, exceeds.1, none) refl
+to_test limits room lines piece b is_room free BatchBytes exceeds =
+    let bytes = is_room.bytes in
     let len = length-append (joined lines) piece in
-    le-leb left.bytes (length piece) (omega arith)
+    le-leb room.bytes (length piece) (omega arith)
 
-from_test : (limits : Limits) (left : Left) (lines : List (List ℕ)) (piece : List ℕ) (b : ℕ) → Leaves limits left lines → IsFree piece → b ≢ 10
-    → (which : Which) → test limits left piece b which ≡ true → PassesBehind limits which (joined lines ++ piece) b
-from_test limits left lines piece b leaves free other Line is =
+from_test : (limits : Limits) (room : Room) (lines : List (List ℕ)) (piece : List ℕ) (b : ℕ) → IsRoomAfter limits room lines → IsFree piece → b ≢ 10
+    → (which : LimitKind) → test limits room piece b which ≡ true → ExceedsAfter limits which (joined lines ++ piece) b
+from_test limits room lines piece b is_room free other Line is =
     (other, subst (λ (l : List ℕ). limits.line ≤ length l) (sym (open_line-joined lines piece free)) (leb-true limits.line (length piece) is))
-from_test limits left lines piece b leaves free other BatchRows is =
+from_test limits room lines piece b is_room free other BatchRows is =
     let parts = and_parts _ _ is in
     let both = and_parts _ _ parts.0 in
-    let count = row_count-joined lines piece leaves.unbroken free both.0 in
-    let rows = leaves.rows in
-    let none : left.rows ≡ 0 = eqb-true left.rows 0 parts.1 in
+    let count = row_count-joined lines piece is_room.unbroken free both.0 in
+    let rows = is_room.rows in
+    let none : room.rows ≡ 0 = eqb-true room.rows 0 parts.1 in
     (other, not-true (is_blank_byte b) both.1, ap is_blank (open_line-joined lines piece free) ∙ both.0, omega arith)
-from_test limits left lines piece b leaves free other BatchBytes is =
-    let bytes = leaves.bytes in
+from_test limits room lines piece b is_room free other BatchBytes is =
+    let bytes = is_room.bytes in
     let len = length-append (joined lines) piece in
-    let most = leb-true left.bytes (length piece) is in
+    let most = leb-true room.bytes (length piece) is in
     omega arith
 
 false_unless : (t : Bool) → (t ≡ true → ⊥) → t ≡ false
@@ -143,10 +143,10 @@ false_unless true h = absurd (h refl)
 false_unless false h = refl
 
 -- the first of three tests that holds
-abbrev first_of_three : Bool → Bool → Bool → Option Which
+abbrev first_of_three : Bool → Bool → Bool → Option LimitKind
 first_of_three line rows bytes = if line then Some Line else if rows then Some BatchRows else if bytes then Some BatchBytes else None
 
-none_holds : (line rows bytes : Bool) → first_of_three line rows bytes ≡ None → (which : Which) → pick line rows bytes which ≡ true → ⊥
+none_holds : (line rows bytes : Bool) → first_of_three line rows bytes ≡ None → (which : LimitKind) → pick line rows bytes which ≡ true → ⊥
 none_holds true rows bytes e which is = cc
 none_holds false true bytes e which is = cc
 none_holds false false true e which is = cc
@@ -154,17 +154,17 @@ none_holds false false false e Line is = false≢true is
 none_holds false false false e BatchRows is = false≢true is
 none_holds false false false e BatchBytes is = false≢true is
 
-rows_first : (bytes : Bool) (other : Which) → rank other < 1 → pick false true bytes other ≡ true → ⊥
+rows_first : (bytes : Bool) (other : LimitKind) → rank other < 1 → pick false true bytes other ≡ true → ⊥
 rows_first bytes Line less is = false≢true is
 rows_first bytes BatchRows less is = omega arith
 rows_first bytes BatchBytes less is = omega arith
 
-bytes_first : (other : Which) → rank other < 2 → pick false false true other ≡ true → ⊥
+bytes_first : (other : LimitKind) → rank other < 2 → pick false false true other ≡ true → ⊥
 bytes_first Line less is = false≢true is
 bytes_first BatchRows less is = false≢true is
 bytes_first BatchBytes less is = omega arith
 
-first_holds : (line rows bytes : Bool) (which : Which) → first_of_three line rows bytes ≡ Some which → (pick line rows bytes which ≡ true) × ((other : Which) → rank other < rank which → pick line rows bytes other ≡ true → ⊥)
+first_holds : (line rows bytes : Bool) (which : LimitKind) → first_of_three line rows bytes ≡ Some which → (pick line rows bytes which ≡ true) × ((other : LimitKind) → rank other < rank which → pick line rows bytes other ≡ true → ⊥)
 first_holds true rows bytes Line e = (refl, λ other less is. omega arith)
 first_holds true rows bytes BatchRows e = cc
 first_holds true rows bytes BatchBytes e = cc
@@ -176,20 +176,20 @@ first_holds false false true BatchRows e = cc
 first_holds false false true BatchBytes e = (refl, bytes_first)
 first_holds false false false which e = cc
 
--- a byte that passes none keeps the input within the limits
-push_passed : (limits : Limits) (left : Left) (lines : List (List ℕ)) (piece : List ℕ) (b : ℕ) → Leaves limits left lines → IsWithin limits (joined lines ++ piece) → IsFree piece
-    → passed limits left (length piece) (is_blank piece) b ≡ None → IsWithin limits (joined lines ++ (piece ++ b ∷ []))
-push_passed limits left lines piece b leaves within free none =
+-- a byte that exceeds none keeps the input within the limits
+push_exceeded : (limits : Limits) (room : Room) (lines : List (List ℕ)) (piece : List ℕ) (b : ℕ) → IsRoomAfter limits room lines → IsWithin limits (joined lines ++ piece) → IsFree piece
+    → exceeded limits room (length piece) (is_blank piece) b ≡ None → IsWithin limits (joined lines ++ (piece ++ b ∷ []))
+push_exceeded limits room lines piece b is_room within free none =
     subst (λ (l : List ℕ). IsWithin limits l) (append_assoc (joined lines) piece (b ∷ []))
-    (IsWithin-push limits (joined lines ++ piece) b within (λ which passes. none_holds _ _ _ none which (to_test limits left lines piece b leaves free which passes)))
+    (IsWithin-push limits (joined lines ++ piece) b within (λ which exceeds. none_holds _ _ _ none which (to_test limits room lines piece b is_room free which exceeds)))
 
--- the limit that a byte passes is the first of the input
-at_passed : (limits : Limits) (left : Left) (lines : List (List ℕ)) (piece : List ℕ) (b : ℕ) (rest : List ℕ) (which : Which) → Leaves limits left lines → IsWithin limits (joined lines ++ piece) → IsFree piece → b ≢ 10
-    → passed limits left (length piece) (is_blank piece) b ≡ Some which → IsFirstLimit limits which ((joined lines ++ piece) ++ b ∷ rest)
-at_passed limits left lines piece b rest which leaves within free other is =
+-- the limit that a byte exceeds is the first of the input
+at_exceeded : (limits : Limits) (room : Room) (lines : List (List ℕ)) (piece : List ℕ) (b : ℕ) (rest : List ℕ) (which : LimitKind) → IsRoomAfter limits room lines → IsWithin limits (joined lines ++ piece) → IsFree piece → b ≢ 10
+    → exceeded limits room (length piece) (is_blank piece) b ≡ Some which → IsFirstLimit limits which ((joined lines ++ piece) ++ b ∷ rest)
+at_exceeded limits room lines piece b rest which is_room within free other is =
     let first = first_holds _ _ _ which is in
-    IsFirstLimit-at limits which (joined lines ++ piece) b rest within (from_test limits left lines piece b leaves free other which first.0)
-    (λ less_which less passes. first.1 less_which less (to_test limits left lines piece b leaves free less_which passes))
+    IsFirstLimit-at limits which (joined lines ++ piece) b rest within (from_test limits room lines piece b is_room free other which first.0)
+    (λ less_which less exceeds. first.1 less_which less (to_test limits room lines piece b is_room free less_which exceeds))
 
 -- ---- the bytes of a line
 
@@ -203,168 +203,168 @@ is_blank-push piece b = list_all-append is_blank_byte piece (b ∷ []) ∙ ap (�
 length-push : (piece : List ℕ) (b : ℕ) → length (piece ++ b ∷ []) ≡ suc (length piece)
 length-push piece b = length-append piece (b ∷ []) ∙ add-one (length piece)
 
-next_place : (limits : Limits) (left : Left) (piece : List ℕ) (b : ℕ) (bytes : List ℕ) → passed_from limits left (length (piece ++ b ∷ [])) (is_blank (piece ++ b ∷ [])) bytes ≡ passed_from limits left (suc (length piece)) (is_blank piece && is_blank_byte b) bytes
-next_place limits left piece b bytes =
-    ap (λ (n : ℕ). passed_from limits left n (is_blank (piece ++ b ∷ [])) bytes) (length-push piece b) ∙ ap (λ (t : Bool). passed_from limits left (suc (length piece)) t bytes) (is_blank-push piece b)
+next_offset : (limits : Limits) (room : Room) (piece : List ℕ) (b : ℕ) (bytes : List ℕ) → exceeded_from limits room (length (piece ++ b ∷ [])) (is_blank (piece ++ b ∷ [])) bytes ≡ exceeded_from limits room (suc (length piece)) (is_blank piece && is_blank_byte b) bytes
+next_offset limits room piece b bytes =
+    ap (λ (n : ℕ). exceeded_from limits room n (is_blank (piece ++ b ∷ [])) bytes) (length-push piece b) ∙ ap (λ (t : Bool). exceeded_from limits room (suc (length piece)) t bytes) (is_blank-push piece b)
 
 regroup : (before piece : List ℕ) (b : ℕ) (bytes : List ℕ) → (before ++ (piece ++ b ∷ [])) ++ bytes ≡ (before ++ piece) ++ b ∷ bytes
 regroup before piece b bytes = ap (λ (l : List ℕ). l ++ bytes) (sym (append_assoc before piece (b ∷ []))) ∙ append_assoc (before ++ piece) (b ∷ []) bytes
 
-pub or_none : (o more : Option Which) → or_then o more ≡ None → (o ≡ None) × (more ≡ None)
+pub or_none : (o more : Option LimitKind) → or_then o more ≡ None → (o ≡ None) × (more ≡ None)
 or_none None more e = (refl, e)
 or_none (Some which) more e = cc
 
-pub within_from : (limits : Limits) (left : Left) (lines : List (List ℕ)) (piece bytes : List ℕ) → Leaves limits left lines → IsWithin limits (joined lines ++ piece) → IsFree piece → IsFree bytes
-    → passed_from limits left (length piece) (is_blank piece) bytes ≡ None → IsWithin limits ((joined lines ++ piece) ++ bytes)
-within_from limits left lines piece [] leaves within free whole none = subst (λ (l : List ℕ). IsWithin limits l) (sym (append-nil (joined lines ++ piece))) within
-within_from limits left lines piece (b ∷ bytes) leaves within free whole none =
+pub within_from : (limits : Limits) (room : Room) (lines : List (List ℕ)) (piece bytes : List ℕ) → IsRoomAfter limits room lines → IsWithin limits (joined lines ++ piece) → IsFree piece → IsFree bytes
+    → exceeded_from limits room (length piece) (is_blank piece) bytes ≡ None → IsWithin limits ((joined lines ++ piece) ++ bytes)
+within_from limits room lines piece [] is_room within free whole none = subst (λ (l : List ℕ). IsWithin limits l) (sym (append-nil (joined lines ++ piece))) within
+within_from limits room lines piece (b ∷ bytes) is_room within free whole none =
     let both = or_none _ _ none in
-    let here = push_passed limits left lines piece b leaves within free both.0 in
-    let later = within_from limits left lines (piece ++ b ∷ []) bytes leaves here (IsFree-push piece b free whole.0) whole.1 (next_place limits left piece b bytes ∙ both.1) in
+    let here = push_exceeded limits room lines piece b is_room within free both.0 in
+    let later = within_from limits room lines (piece ++ b ∷ []) bytes is_room here (IsFree-push piece b free whole.0) whole.1 (next_offset limits room piece b bytes ∙ both.1) in
     subst (λ (l : List ℕ). IsWithin limits l) (regroup (joined lines) piece b bytes) later
 
-first_at : (limits : Limits) (left : Left) (lines : List (List ℕ)) (piece : List ℕ) (b : ℕ) (rest : List ℕ) (which : Which) (here more : Option Which) → Leaves limits left lines → IsWithin limits (joined lines ++ piece) → IsFree piece → b ≢ 10
-    → passed limits left (length piece) (is_blank piece) b ≡ here → (here ≡ None → more ≡ Some which → IsFirstLimit limits which ((joined lines ++ piece) ++ b ∷ rest)) → or_then here more ≡ Some which
+first_at : (limits : Limits) (room : Room) (lines : List (List ℕ)) (piece : List ℕ) (b : ℕ) (rest : List ℕ) (which : LimitKind) (here more : Option LimitKind) → IsRoomAfter limits room lines → IsWithin limits (joined lines ++ piece) → IsFree piece → b ≢ 10
+    → exceeded limits room (length piece) (is_blank piece) b ≡ here → (here ≡ None → more ≡ Some which → IsFirstLimit limits which ((joined lines ++ piece) ++ b ∷ rest)) → or_then here more ≡ Some which
     → IsFirstLimit limits which ((joined lines ++ piece) ++ b ∷ rest)
-first_at limits left lines piece b rest which None more leaves within free other at later is = later refl is
-first_at limits left lines piece b rest which (Some found) more leaves within free other at later is =
-    at_passed limits left lines piece b rest which leaves within free other (at ∙ is)
+first_at limits room lines piece b rest which None more is_room within free other at later is = later refl is
+first_at limits room lines piece b rest which (Some found) more is_room within free other at later is =
+    at_exceeded limits room lines piece b rest which is_room within free other (at ∙ is)
 
-pub first_from : (limits : Limits) (left : Left) (lines : List (List ℕ)) (piece bytes rest : List ℕ) (which : Which) → Leaves limits left lines → IsWithin limits (joined lines ++ piece) → IsFree piece → IsFree bytes
-    → passed_from limits left (length piece) (is_blank piece) bytes ≡ Some which → IsFirstLimit limits which ((joined lines ++ piece) ++ (bytes ++ rest))
-first_from limits left lines piece [] rest which leaves within free whole is = cc
-first_from limits left lines piece (b ∷ bytes) rest which leaves within free whole is =
-    first_at limits left lines piece b (bytes ++ rest) which (passed limits left (length piece) (is_blank piece) b) (passed_from limits left (suc (length piece)) (is_blank piece && is_blank_byte b) bytes) leaves within free whole.0 refl
+pub first_from : (limits : Limits) (room : Room) (lines : List (List ℕ)) (piece bytes rest : List ℕ) (which : LimitKind) → IsRoomAfter limits room lines → IsWithin limits (joined lines ++ piece) → IsFree piece → IsFree bytes
+    → exceeded_from limits room (length piece) (is_blank piece) bytes ≡ Some which → IsFirstLimit limits which ((joined lines ++ piece) ++ (bytes ++ rest))
+first_from limits room lines piece [] rest which is_room within free whole is = cc
+first_from limits room lines piece (b ∷ bytes) rest which is_room within free whole is =
+    first_at limits room lines piece b (bytes ++ rest) which (exceeded limits room (length piece) (is_blank piece) b) (exceeded_from limits room (suc (length piece)) (is_blank piece && is_blank_byte b) bytes) is_room within free whole.0 refl
     (λ none found.
-    let here = push_passed limits left lines piece b leaves within free none in
-    let later = first_from limits left lines (piece ++ b ∷ []) bytes rest which leaves here (IsFree-push piece b free whole.0) whole.1 (next_place limits left piece b bytes ∙ found) in
+    let here = push_exceeded limits room lines piece b is_room within free none in
+    let later = first_from limits room lines (piece ++ b ∷ []) bytes rest which is_room here (IsFree-push piece b free whole.0) whole.1 (next_offset limits room piece b bytes ∙ found) in
     subst (λ (l : List ℕ). IsFirstLimit limits which l) (regroup (joined lines) piece b (bytes ++ rest)) later)
     is
 
--- a byte that passes none has room in its line
-pub room_at : (limits : Limits) (left : Left) (place : ℕ) (blank : Bool) (b : ℕ) → passed limits left place blank b ≡ None → place < limits.line
-room_at limits left place blank b none =
-    leb-false limits.line place
-    (false_unless (nat_le limits.line place) (λ is. none_holds (nat_le limits.line place) ((blank && not (is_blank_byte b)) && (left.rows == 0)) (nat_le left.bytes place) none Line is))
+-- a byte that exceeds none has enough in its line
+pub room_at : (limits : Limits) (room : Room) (offset : ℕ) (blank : Bool) (b : ℕ) → exceeded limits room offset blank b ≡ None → offset < limits.line
+room_at limits room offset blank b none =
+    leb-false limits.line offset
+    (false_unless (nat_le limits.line offset) (λ is. none_holds (nat_le limits.line offset) ((blank && not (is_blank_byte b)) && (room.rows == 0)) (nat_le room.bytes offset) none Line is))
 
 blank_rest : (t : Bool) (bytes : List ℕ) → t ≡ true → (t && is_blank bytes) ≡ false → is_blank bytes ≡ false
 blank_rest true bytes e is = is
 blank_rest false bytes e is = cc
 
-row_found : (limits : Limits) (left : Left) (place b : ℕ) → passed limits left place true b ≡ None → is_blank_byte b ≡ false → left.rows ≡ 0 → ⊥
-row_found limits left place b none row rows =
-    none_holds (nat_le limits.line place) (not (is_blank_byte b) && (left.rows == 0)) (nat_le left.bytes place) none BatchRows (rw (row, rows) refl)
+row_found : (limits : Limits) (room : Room) (offset b : ℕ) → exceeded limits room offset true b ≡ None → is_blank_byte b ≡ false → room.rows ≡ 0 → ⊥
+row_found limits room offset b none row rows =
+    none_holds (nat_le limits.line offset) (not (is_blank_byte b) && (room.rows == 0)) (nat_le room.bytes offset) none BatchRows (rw (row, rows) refl)
 
-row_at : (limits : Limits) (left : Left) (place b : ℕ) (bytes : List ℕ) (t : Bool) → is_blank_byte b ≡ t → passed limits left place true b ≡ None → left.rows ≡ 0 → (t ≡ true → ⊥) → ⊥
-row_at limits left place b bytes true e none rows later = later refl
-row_at limits left place b bytes false e none rows later = row_found limits left place b none e rows
+row_at : (limits : Limits) (room : Room) (offset b : ℕ) (bytes : List ℕ) (t : Bool) → is_blank_byte b ≡ t → exceeded limits room offset true b ≡ None → room.rows ≡ 0 → (t ≡ true → ⊥) → ⊥
+row_at limits room offset b bytes true e none rows later = later refl
+row_at limits room offset b bytes false e none rows later = row_found limits room offset b none e rows
 
--- where no row is left, a line that isn't blank passes a limit
-pub some_row : (limits : Limits) (left : Left) (place : ℕ) (bytes : List ℕ) → passed_from limits left place true bytes ≡ None → is_blank bytes ≡ false → left.rows ≡ 0 → ⊥
-some_row limits left place [] none is rows = cc
-some_row limits left place (b ∷ bytes) none is rows =
-    let both = or_none (passed limits left place true b) (passed_from limits left (suc place) (is_blank_byte b) bytes) none in
-    row_at limits left place b bytes (is_blank_byte b) refl both.0 rows
-    (λ blank. some_row limits left (suc place) bytes
-    (subst (λ (t : Bool). passed_from limits left (suc place) t bytes ≡ None) blank both.1)
+-- where no row is room, a line that isn't blank exceeds a limit
+pub some_row : (limits : Limits) (room : Room) (offset : ℕ) (bytes : List ℕ) → exceeded_from limits room offset true bytes ≡ None → is_blank bytes ≡ false → room.rows ≡ 0 → ⊥
+some_row limits room offset [] none is rows = cc
+some_row limits room offset (b ∷ bytes) none is rows =
+    let both = or_none (exceeded limits room offset true b) (exceeded_from limits room (suc offset) (is_blank_byte b) bytes) none in
+    row_at limits room offset b bytes (is_blank_byte b) refl both.0 rows
+    (λ blank. some_row limits room (suc offset) bytes
+    (subst (λ (t : Bool). exceeded_from limits room (suc offset) t bytes ≡ None) blank both.1)
     (blank_rest (is_blank_byte b) bytes blank is) rows)
 
 -- ---- a whole line
 
-newline_none : (limits : Limits) (left : Left) (lines : List (List ℕ)) (line : List ℕ) → Leaves limits left lines → nat_le left.bytes (length line) ≡ false → (which : Which) → PassesBehind limits which (joined lines ++ line) 10 → ⊥
-newline_none limits left lines line leaves room Line passes = passes.0 refl
-newline_none limits left lines line leaves room BatchRows passes = passes.0 refl
-newline_none limits left lines line leaves room BatchBytes passes =
-    let bytes = leaves.bytes in
+newline_none : (limits : Limits) (room : Room) (lines : List (List ℕ)) (line : List ℕ) → IsRoomAfter limits room lines → nat_le room.bytes (length line) ≡ false → (which : LimitKind) → ExceedsAfter limits which (joined lines ++ line) 10 → ⊥
+newline_none limits room lines line is_room enough Line exceeds = exceeds.0 refl
+newline_none limits room lines line is_room enough BatchRows exceeds = exceeds.0 refl
+newline_none limits room lines line is_room enough BatchBytes exceeds =
+    let bytes = is_room.bytes in
     let len = length-append (joined lines) line in
-    let more = leb-false left.bytes (length line) room in
+    let more = leb-false room.bytes (length line) enough in
     omega arith
 
-newline_first : (limits : Limits) (lines : List (List ℕ)) (line : List ℕ) (other : Which) → rank other < 2 → PassesBehind limits other (joined lines ++ line) 10 → ⊥
-newline_first limits lines line Line less passes = passes.0 refl
-newline_first limits lines line BatchRows less passes = passes.0 refl
-newline_first limits lines line BatchBytes less passes = omega arith
+newline_first : (limits : Limits) (lines : List (List ℕ)) (line : List ℕ) (other : LimitKind) → rank other < 2 → ExceedsAfter limits other (joined lines ++ line) 10 → ⊥
+newline_first limits lines line Line less exceeds = exceeds.0 refl
+newline_first limits lines line BatchRows less exceeds = exceeds.0 refl
+newline_first limits lines line BatchBytes less exceeds = omega arith
 
 -- the bytes of a line without its newline
-pub bytes_within : (limits : Limits) (left : Left) (lines : List (List ℕ)) (line : List ℕ) → Leaves limits left lines → IsWithin limits (joined lines) → IsUnbroken line → passed_from limits left 0 true line ≡ None → IsWithin limits (joined lines ++ line)
-bytes_within limits left lines line leaves within whole none =
+pub bytes_within : (limits : Limits) (room : Room) (lines : List (List ℕ)) (line : List ℕ) → IsRoomAfter limits room lines → IsWithin limits (joined lines) → IsUnbroken line → exceeded_from limits room 0 true line ≡ None → IsWithin limits (joined lines ++ line)
+bytes_within limits room lines line is_room within whole none =
     let here = subst (λ (l : List ℕ). IsWithin limits l) (sym (append-nil (joined lines))) within in
-    subst (λ (l : List ℕ). IsWithin limits (l ++ line)) (append-nil (joined lines)) (within_from limits left lines [] line leaves here tt (IsFree-unbroken line whole) none)
+    subst (λ (l : List ℕ). IsWithin limits (l ++ line)) (append-nil (joined lines)) (within_from limits room lines [] line is_room here tt (IsFree-unbroken line whole) none)
 
-pub first_in_line : (limits : Limits) (left : Left) (lines : List (List ℕ)) (line rest : List ℕ) (which : Which) → Leaves limits left lines → IsWithin limits (joined lines) → IsUnbroken line → passed_from limits left 0 true line ≡ Some which → IsFirstLimit limits which (joined lines ++ (line ++ rest))
-first_in_line limits left lines line rest which leaves within whole is =
+pub first_in_line : (limits : Limits) (room : Room) (lines : List (List ℕ)) (line rest : List ℕ) (which : LimitKind) → IsRoomAfter limits room lines → IsWithin limits (joined lines) → IsUnbroken line → exceeded_from limits room 0 true line ≡ Some which → IsFirstLimit limits which (joined lines ++ (line ++ rest))
+first_in_line limits room lines line rest which is_room within whole is =
     let here = subst (λ (l : List ℕ). IsWithin limits l) (sym (append-nil (joined lines))) within in
-    subst (λ (l : List ℕ). IsFirstLimit limits which (l ++ (line ++ rest))) (append-nil (joined lines)) (first_from limits left lines [] line rest which leaves here tt (IsFree-unbroken line whole) is)
+    subst (λ (l : List ℕ). IsFirstLimit limits which (l ++ (line ++ rest))) (append-nil (joined lines)) (first_from limits room lines [] line rest which is_room here tt (IsFree-unbroken line whole) is)
 
-ending_none : (limits : Limits) (left : Left) (lines : List (List ℕ)) (line : List ℕ) (ended full : Bool) → nat_le left.bytes (length line) ≡ full → Leaves limits left lines → IsWithin limits (joined lines ++ line)
+ending_none : (limits : Limits) (room : Room) (lines : List (List ℕ)) (line : List ℕ) (ended full : Bool) → nat_le room.bytes (length line) ≡ full → IsRoomAfter limits room lines → IsWithin limits (joined lines ++ line)
     → (if ended && full then Some BatchBytes else None) ≡ None → IsWithin limits ((joined lines ++ line) ++ (if ended then 10 ∷ [] else []))
-ending_none limits left lines line false full room leaves within none = subst (λ (l : List ℕ). IsWithin limits l) (sym (append-nil (joined lines ++ line))) within
-ending_none limits left lines line true true room leaves within none = cc
-ending_none limits left lines line true false room leaves within none = IsWithin-push limits (joined lines ++ line) 10 within (newline_none limits left lines line leaves room)
+ending_none limits room lines line false full enough is_room within none = subst (λ (l : List ℕ). IsWithin limits l) (sym (append-nil (joined lines ++ line))) within
+ending_none limits room lines line true true enough is_room within none = cc
+ending_none limits room lines line true false enough is_room within none = IsWithin-push limits (joined lines ++ line) 10 within (newline_none limits room lines line is_room enough)
 
-pub line_within : (limits : Limits) (left : Left) (lines : List (List ℕ)) (line : List ℕ) (ended : Bool) → Leaves limits left lines → IsWithin limits (joined lines) → IsUnbroken line → passed_by limits left line ended ≡ None
+pub line_within : (limits : Limits) (room : Room) (lines : List (List ℕ)) (line : List ℕ) (ended : Bool) → IsRoomAfter limits room lines → IsWithin limits (joined lines) → IsUnbroken line → exceeded_by limits room line ended ≡ None
     → IsWithin limits ((joined lines ++ line) ++ (if ended then 10 ∷ [] else []))
-line_within limits left lines line ended leaves within whole none =
-    let both = or_none (passed_from limits left 0 true line) _ none in
-    ending_none limits left lines line ended (nat_le left.bytes (length line)) refl leaves (bytes_within limits left lines line leaves within whole both.0) both.1
+line_within limits room lines line ended is_room within whole none =
+    let both = or_none (exceeded_from limits room 0 true line) _ none in
+    ending_none limits room lines line ended (nat_le room.bytes (length line)) refl is_room (bytes_within limits room lines line is_room within whole both.0) both.1
 
-ending_first : (limits : Limits) (left : Left) (lines : List (List ℕ)) (line rest : List ℕ) (which : Which) (ended full : Bool) → nat_le left.bytes (length line) ≡ full → Leaves limits left lines → IsWithin limits (joined lines ++ line)
+ending_first : (limits : Limits) (room : Room) (lines : List (List ℕ)) (line rest : List ℕ) (which : LimitKind) (ended full : Bool) → nat_le room.bytes (length line) ≡ full → IsRoomAfter limits room lines → IsWithin limits (joined lines ++ line)
     → (if ended && full then Some BatchBytes else None) ≡ Some which → IsFirstLimit limits which ((joined lines ++ line) ++ (if ended then 10 ∷ rest else []))
-ending_first limits left lines line rest which false full room leaves within is = cc
-ending_first limits left lines line rest which true false room leaves within is = cc
-ending_first limits left lines line rest which true true room leaves within is =
-    let bytes = leaves.bytes in
+ending_first limits room lines line rest which false full enough is_room within is = cc
+ending_first limits room lines line rest which true false enough is_room within is = cc
+ending_first limits room lines line rest which true true enough is_room within is =
+    let bytes = is_room.bytes in
     let len = length-append (joined lines) line in
-    let most = leb-true left.bytes (length line) room in
+    let most = leb-true room.bytes (length line) enough in
     let same : BatchBytes ≡ which = cc in
-    subst (λ (w : Which). IsFirstLimit limits w ((joined lines ++ line) ++ 10 ∷ rest)) same
+    subst (λ (w : LimitKind). IsFirstLimit limits w ((joined lines ++ line) ++ 10 ∷ rest)) same
     (IsFirstLimit-at limits BatchBytes (joined lines ++ line) 10 rest within (omega arith) (newline_first limits lines line))
 
-line_first_at : (limits : Limits) (left : Left) (lines : List (List ℕ)) (line rest : List ℕ) (which : Which) (ended : Bool) (inside : Option Which) → passed_from limits left 0 true line ≡ inside → Leaves limits left lines → IsWithin limits (joined lines) → IsUnbroken line
-    → or_then inside (if ended && nat_le left.bytes (length line) then Some BatchBytes else None) ≡ Some which → IsFirstLimit limits which ((joined lines ++ line) ++ (if ended then 10 ∷ rest else []))
-line_first_at limits left lines line rest which ended None at leaves within whole is =
-    ending_first limits left lines line rest which ended (nat_le left.bytes (length line)) refl leaves (bytes_within limits left lines line leaves within whole at) is
-line_first_at limits left lines line rest which ended (Some found) at leaves within whole is =
-    let e : passed_from limits left 0 true line ≡ Some which = at ∙ is in
+line_first_at : (limits : Limits) (room : Room) (lines : List (List ℕ)) (line rest : List ℕ) (which : LimitKind) (ended : Bool) (inside : Option LimitKind) → exceeded_from limits room 0 true line ≡ inside → IsRoomAfter limits room lines → IsWithin limits (joined lines) → IsUnbroken line
+    → or_then inside (if ended && nat_le room.bytes (length line) then Some BatchBytes else None) ≡ Some which → IsFirstLimit limits which ((joined lines ++ line) ++ (if ended then 10 ∷ rest else []))
+line_first_at limits room lines line rest which ended None at is_room within whole is =
+    ending_first limits room lines line rest which ended (nat_le room.bytes (length line)) refl is_room (bytes_within limits room lines line is_room within whole at) is
+line_first_at limits room lines line rest which ended (Some found) at is_room within whole is =
+    let e : exceeded_from limits room 0 true line ≡ Some which = at ∙ is in
     subst (λ (l : List ℕ). IsFirstLimit limits which l) (sym (append_assoc (joined lines) line (if ended then 10 ∷ rest else [])))
-    (first_in_line limits left lines line (if ended then 10 ∷ rest else []) which leaves within whole e)
+    (first_in_line limits room lines line (if ended then 10 ∷ rest else []) which is_room within whole e)
 
-pub line_first : (limits : Limits) (left : Left) (lines : List (List ℕ)) (line rest : List ℕ) (which : Which) (ended : Bool) → Leaves limits left lines → IsWithin limits (joined lines) → IsUnbroken line → passed_by limits left line ended ≡ Some which
+pub line_first : (limits : Limits) (room : Room) (lines : List (List ℕ)) (line rest : List ℕ) (which : LimitKind) (ended : Bool) → IsRoomAfter limits room lines → IsWithin limits (joined lines) → IsUnbroken line → exceeded_by limits room line ended ≡ Some which
     → IsFirstLimit limits which ((joined lines ++ line) ++ (if ended then 10 ∷ rest else []))
-line_first limits left lines line rest which ended leaves within whole is =
-    line_first_at limits left lines line rest which ended (passed_from limits left 0 true line) refl leaves within whole is
+line_first limits room lines line rest which ended is_room within whole is =
+    line_first_at limits room lines line rest which ended (exceeded_from limits room 0 true line) refl is_room within whole is
 
 unbroken_push : (lines : List (List ℕ)) (line : List ℕ) → AllByRecursion IsUnbroken lines → IsUnbroken line → AllByRecursion IsUnbroken (lines ++ line ∷ [])
 unbroken_push [] line h this = (this, tt)
 unbroken_push (first ∷ lines) line h this = (h.0, unbroken_push lines line h.1 this)
 
-rows_behind : (limits : Limits) (left : Left) (lines : List (List ℕ)) (line : List ℕ) (blank : Bool) → is_blank line ≡ blank → Leaves limits left lines → passed_from limits left 0 true line ≡ None → (if blank then left.rows else left.rows - 1) + row_count (lines ++ line ∷ []) ≡ limits.rows
-rows_behind limits left lines line true is leaves none =
-    let rows = leaves.rows in
+rows_after : (limits : Limits) (room : Room) (lines : List (List ℕ)) (line : List ℕ) (blank : Bool) → is_blank line ≡ blank → IsRoomAfter limits room lines → exceeded_from limits room 0 true line ≡ None → (if blank then room.rows else room.rows - 1) + row_count (lines ++ line ∷ []) ≡ limits.rows
+rows_after limits room lines line true is is_room none =
+    let rows = is_room.rows in
     let count = row_count-append lines (line ∷ []) in
     let one = row_count-blank line is in
     omega arith
-rows_behind limits left lines line false is leaves none =
-    let rows = leaves.rows in
+rows_after limits room lines line false is is_room none =
+    let rows = is_room.rows in
     let count = row_count-append lines (line ∷ []) in
     let one = row_count-row line is in
-    let some : left.rows ≢ 0 = some_row limits left 0 line none is in
+    let some : room.rows ≢ 0 = some_row limits room 0 line none is in
     omega arith
 
-room_for : (left : Left) (line : List ℕ) (full : Bool) → nat_le left.bytes (length line) ≡ full → (if full then Some BatchBytes else None) ≡ None → length line < left.bytes
-room_for left line true is none = cc
-room_for left line false is none = leb-false left.bytes (length line) is
+room_for : (room : Room) (line : List ℕ) (full : Bool) → nat_le room.bytes (length line) ≡ full → (if full then Some BatchBytes else None) ≡ None → length line < room.bytes
+room_for room line true is none = cc
+room_for room line false is none = leb-false room.bytes (length line) is
 
-pub line_leaves : (limits : Limits) (left after : Left) (lines : List (List ℕ)) (line : List ℕ) → Leaves limits left lines → IsUnbroken line → passed_by limits left line true ≡ None
-    → after.rows ≡ (if is_blank line then left.rows else left.rows - 1) → after.bytes ≡ left.bytes - (length line + 1) → Leaves limits after (lines ++ line ∷ [])
-line_leaves limits left after lines line leaves whole none rows_is bytes_is =
-    let both = or_none (passed_from limits left 0 true line) _ none in
-    let room = room_for left line (nat_le left.bytes (length line)) refl both.1 in
-    let bytes = leaves.bytes in
+pub line_room : (limits : Limits) (room after : Room) (lines : List (List ℕ)) (line : List ℕ) → IsRoomAfter limits room lines → IsUnbroken line → exceeded_by limits room line true ≡ None
+    → after.rows ≡ (if is_blank line then room.rows else room.rows - 1) → after.bytes ≡ room.bytes - (length line + 1) → IsRoomAfter limits after (lines ++ line ∷ [])
+line_room limits room after lines line is_room whole none rows_is bytes_is =
+    let both = or_none (exceeded_from limits room 0 true line) _ none in
+    let enough = room_for room line (nat_le room.bytes (length line)) refl both.1 in
+    let bytes = is_room.bytes in
     let len = ap length (joined-push lines line) ∙ length-append (joined lines ++ line) (10 ∷ []) in
     let inner = length-append (joined lines) line in
     record {
-      rows = ap (λ (n : ℕ). n + row_count (lines ++ line ∷ [])) rows_is ∙ rows_behind limits left lines line (is_blank line) refl leaves both.0;
+      rows = ap (λ (n : ℕ). n + row_count (lines ++ line ∷ [])) rows_is ∙ rows_after limits room lines line (is_blank line) refl is_room both.0;
       bytes = omega arith;
-      unbroken = unbroken_push lines line leaves.unbroken whole;
+      unbroken = unbroken_push lines line is_room.unbroken whole;
     }

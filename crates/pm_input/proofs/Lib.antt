@@ -1,5 +1,6 @@
-pub mod InputLemmas
-pub mod JudgeLemmas
-pub mod LawLemmas
-pub mod LimitLemmas
-pub mod RowLemmas
+mod FirstLemmas
+mod InputLemmas
+mod JudgeLemmas
+mod LawLemmas
+mod LimitLemmas
+mod RowLemmas

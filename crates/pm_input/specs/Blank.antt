@@ -1,4 +1,4 @@
--- Blank lines. They are counted, and passed over.
+-- Blank lines. They count among the lines, and have no row.
 use Rattle.std.specs.Prelude.{ℕ, List, length, filter, Bool, not, ◌==◌, ◌||◌}
 use Rattle.std.specs.List.{list_all}
 

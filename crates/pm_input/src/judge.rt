@@ -1,96 +1,116 @@
-//! Which limit a line passes first.
+//! Which limit a line exceeds first.
 
-ghost use Rattle.std.specs.Prelude.{◌≡◌, ℕ, ◌+◌, ◌-◌, List, [], ◌∷◌, ◌++◌, length, true, IfOk, IfErr, if◌then◌else◌};
-ghost use Rattle.pm_base.specs.Newline.{IsUnbroken};
-ghost use Rattle.pm_input.specs.Blank.{is_blank};
-ghost use Rattle.pm_input.specs.Judge.{Leaves, joined, passed, passed_from, passed_by};
+ghost use Rattle.std.specs.Prelude.{◌≡◌, ◌==◌, ℕ, ◌+◌, ◌-◌, List, [], ◌∷◌, ◌++◌, length, true, not, IfOk, IfErr};
+ghost use Rattle.std.specs.Prelude.{if◌then◌else◌};
+ghost use Rattle.std.specs.List.{prefix_len};
+ghost use Rattle.pm_base.specs.Newline.{newline, IsUnbroken};
+ghost use Rattle.pm_input.specs.Blank.{is_blank, is_blank_byte};
+ghost use Rattle.pm_input.specs.Judge.{IsRoomAfter, joined, exceeded_from, exceeded_by, first_of};
 ghost use Rattle.pm_input.specs.Limits.{IsWithin, IsFirstLimit};
 
-use crate::blank::{is_blank, is_blank_byte};
-use crate::limits::{Limits, Which};
+use crate::blank::{blank_len, is_blank};
+use crate::limits::{LimitKind, Limits};
 use pm_io::Line;
 
-/// What the limits leave behind some lines.
+/// The room that some lines leave of the limits.
 #[derive(Clone, Copy, Debug)]
-pub(crate) struct Left {
+pub(crate) struct Room {
     pub rows: usize,
     pub bytes: usize,
 }
 
-/// The limit that a byte passes first which is no newline, at a place of its line, behind blank
-/// bytes or others.
-fn passed(limits: &Limits, left: &Left, place: usize, blank: bool, byte: u8) -> Option<Which>
-    ensures { result ≡ passed limits.now left.now place blank byte }
+/// A line that exceeds no limit: the room after it, and whether it isn't blank.
+#[derive(Clone, Copy, Debug)]
+pub(crate) struct Judged {
+    pub room: Room,
+    pub is_row: bool,
+}
+
+/// The first limit that the bytes of a line exceed, its newline left out.
+pub(crate) fn first_limit(limits: &Limits, room: &Room, line: &[u8]) -> Option<LimitKind>
+    ensures { result ≡ exceeded_from limits.now room.now 0 true line.now }
 {
-    if limits.line <= place {
-        Some(Which::Line)
-    } else if blank && !is_blank_byte(byte) && left.rows == 0 {
-        Some(Which::BatchRows)
-    } else if left.bytes <= place {
-        Some(Which::BatchBytes)
+    let row = row_offset(room, line);
+    first_of(limits.line, row, room.bytes, line.len())
+}
+
+/// The offset of the byte that exceeds the limit of rows: the first that isn't blank, where no row
+/// is left. Where there is none, the length.
+fn row_offset(room: &Room, line: &[u8]) -> usize
+    ensures { result ≡ (if room.now.rows == 0 then prefix_len is_blank_byte line.now else length line.now) }
+{
+    if room.rows == 0 {
+        blank_len(line)
+    } else {
+        line.len()
+    }
+}
+
+/// The limit of the least of three offsets in a line of that length, in their order at equal ones.
+fn first_of(line: usize, row: usize, bytes: usize, len: usize) -> Option<LimitKind>
+    ensures { result ≡ first_of line row bytes len }
+{
+    if line <= row && line <= bytes && line < len {
+        Some(LimitKind::Line)
+    } else if row <= bytes && row < len {
+        Some(LimitKind::BatchRows)
+    } else if bytes < len {
+        Some(LimitKind::BatchBytes)
     } else {
         None
     }
 }
 
-/// The first limit that the bytes of a line pass, its newline left out.
-pub(crate) fn first_limit(limits: &Limits, left: &Left, line: &[u8]) -> Option<Which>
-    ensures { result ≡ passed_from limits.now left.now 0 true line.now }
+/// The first limit that a line exceeds, with its newline where that ends it.
+fn exceeded_by(limits: &Limits, room: &Room, line: &Line) -> Option<LimitKind>
+    ensures { result ≡ exceeded_by limits.now room.now line.now.bytes.items line.now.ended }
 {
-    let mut blank = true;
-    for (place, byte) in line.iter().enumerate() {
-        if let Some(which) = passed(limits, left, place, blank, *byte) {
-            return Some(which);
-        }
-        blank = blank && is_blank_byte(*byte);
-    }
-    None
-}
-
-/// The first limit that a line passes, with its newline where that ends it.
-fn passed_by(limits: &Limits, left: &Left, line: &Line) -> Option<Which>
-    ensures { result ≡ passed_by limits.now left.now line.now.bytes.items line.now.ended }
-{
-    if let Some(which) = first_limit(limits, left, &line.bytes) {
+    if let Some(which) = first_limit(limits, room, &line.bytes) {
         return Some(which);
     }
-    if line.ended && left.bytes <= line.bytes.len() {
-        return Some(Which::BatchBytes);
+    if line.ended && room.bytes <= line.bytes.len() {
+        return Some(LimitKind::BatchBytes);
     }
     None
 }
 
-/// What is left behind a line and its newline.
-fn less(left: &Left, line: &[u8]) -> Left
-    ensures rows { result.rows ≡ (if is_blank line.now then left.now.rows else left.now.rows - 1) }
-    ensures bytes { result.bytes ≡ left.now.bytes - (length line.now + 1) }
+/// The room after a line and its newline, and whether the line isn't blank.
+fn room_after(room: &Room, line: &[u8]) -> Judged
+    ensures rows { result.room.rows ≡ (if is_blank line.now then room.now.rows else room.now.rows - 1) }
+    ensures bytes { result.room.bytes ≡ room.now.bytes - (length line.now + 1) }
+    ensures row { result.is_row ≡ not (is_blank line.now) }
 {
-    let rows = if is_blank(line) {
-        left.rows
+    let is_row = !is_blank(line);
+    let rows = if is_row {
+        room.rows.saturating_sub(1)
     } else {
-        left.rows.saturating_sub(1)
+        room.rows
     };
-    let bytes = left.bytes.saturating_sub(line.len()).saturating_sub(1);
-    Left { rows, bytes }
+    let bytes = room.bytes.saturating_sub(line.len()).saturating_sub(1);
+    Judged {
+        room: Room { rows, bytes },
+        is_row,
+    }
 }
 
-/// What the limits leave behind a line, or the first limit that it passes.
-pub(crate) fn behind(limits: &Limits, left: &Left, line: &Line) -> Result<Left, Which>
+/// The room after a line, or the first limit that it exceeds.
+pub(crate) fn judge_line(limits: &Limits, room: &Room, line: &Line) -> Result<Judged, LimitKind>
     requires { IsUnbroken line.now.bytes.items }
     ensures within { IfOk result (λ _. (lines : List (List ℕ))
-        → Leaves limits.now left.now lines → IsWithin limits.now (joined lines)
+        → IsRoomAfter limits.now room.now lines → IsWithin limits.now (joined lines)
         → IsWithin limits.now ((joined lines ++ line.now.bytes.items)
-        ++ (if line.now.ended then 10 ∷ [] else []))) }
-    ensures left { IfOk result (λ after. (lines : List (List ℕ))
-        → Leaves limits.now left.now lines → line.now.ended ≡ true
-        → Leaves limits.now after (lines ++ line.now.bytes.items ∷ [])) }
+        ++ (if line.now.ended then newline ∷ [] else []))) }
+    ensures room { IfOk result (λ judged. (lines : List (List ℕ))
+        → IsRoomAfter limits.now room.now lines → line.now.ended ≡ true
+        → IsRoomAfter limits.now judged.room (lines ++ line.now.bytes.items ∷ [])) }
+    ensures row { IfOk result (λ judged. judged.is_row ≡ not (is_blank line.now.bytes.items)) }
     ensures first { IfErr result (λ which. (lines : List (List ℕ)) (rest : List ℕ)
-        → Leaves limits.now left.now lines → IsWithin limits.now (joined lines)
+        → IsRoomAfter limits.now room.now lines → IsWithin limits.now (joined lines)
         → IsFirstLimit limits.now which ((joined lines ++ line.now.bytes.items)
-        ++ (if line.now.ended then 10 ∷ rest else []))) }
+        ++ (if line.now.ended then newline ∷ rest else []))) }
 {
-    match passed_by(limits, left, line) {
+    match exceeded_by(limits, room, line) {
         Some(which) => Err(which),
-        None => Ok(less(left, &line.bytes)),
+        None => Ok(room_after(room, &line.bytes)),
     }
 }

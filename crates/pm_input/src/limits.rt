@@ -1,7 +1,7 @@
 //! The limits of a command's input.
 
 ghost use Rattle.std.specs.Prelude.{◌≡◌};
-ghost use Rattle.pm_input.specs.Limits.{text_of, number_of};
+ghost use Rattle.pm_input.specs.Limits.{limit_text, limit_number};
 
 /// How much input one command takes.
 #[derive(Clone, Copy, Debug, PartialEq, Eq)]
@@ -23,32 +23,32 @@ pub const LIMITS: Limits = Limits {
 
 /// A limit of the input, in the order in which they are answered at one byte.
 #[derive(Clone, Copy, Debug, PartialEq, Eq)]
-pub enum Which {
+pub enum LimitKind {
     Line,
     BatchRows,
     BatchBytes,
 }
 
-impl Which {
+impl LimitKind {
     /// The text of the limit.
     pub fn text(self) -> &'static str
-        ensures { result.now ≡ text_of self }
+        ensures { result.now ≡ limit_text self }
     {
         match self {
-            Which::Line => "line",
-            Which::BatchRows => "batch-rows",
-            Which::BatchBytes => "batch-bytes",
+            LimitKind::Line => "line",
+            LimitKind::BatchRows => "batch-rows",
+            LimitKind::BatchBytes => "batch-bytes",
         }
     }
 
     /// The number of the limit.
     pub fn number(self, limits: &Limits) -> usize
-        ensures { result ≡ number_of limits.now self }
+        ensures { result ≡ limit_number limits.now self }
     {
         match self {
-            Which::Line => limits.line,
-            Which::BatchRows => limits.rows,
-            Which::BatchBytes => limits.bytes,
+            LimitKind::Line => limits.line,
+            LimitKind::BatchRows => limits.rows,
+            LimitKind::BatchBytes => limits.bytes,
         }
     }
 }

@@ -1,28 +1,38 @@
 //! The lines of a command's input.
 
-ghost use Rattle.std.specs.Prelude.{◌≡◌, ◌≤◌, ℕ, List, [], ◌++◌, Ok, None, IfOk, IfErr, IfSome, IsErrOf, map};
-ghost use Rattle.pm_base.specs.Faults.{Rose};
-ghost use Rattle.pm_io.specs.Lines.{IsLineOf, to_come};
+ghost use Rattle.std.specs.Prelude.{◌≡◌, ℕ, List, [], ◌∷◌, ◌++◌, Ok, None, IfOk, IfErr, IfSome, IsErrOf, OnOk};
+ghost use Rattle.std.specs.Prelude.{map, if◌then◌else◌};
 ghost use Rattle.pm_base.specs.Newline.{IsUnbroken};
-ghost use Rattle.pm_input.specs.Judge.{Leaves, joined};
+ghost use Rattle.pm_io.specs.Lines.{IsLineOf, to_come};
+ghost use Rattle.pm_io.specs.Source.{SourceFailed, SourceLater};
+ghost use Rattle.pm_input.specs.Judge.{IsRoomAfter, joined};
 ghost use Rattle.pm_input.specs.Limits.{IsWithin};
-ghost use Rattle.pm_input.specs.Lines.{IsRead, IsRefused, fault_of};
+ghost use Rattle.pm_input.specs.Lines.{IsRead, IsRefused, fault_of, line_view};
 ghost use Rattle.pm_input.specs.declared.lines.InputFault.TheVariants.{Memory};
 
-use crate::judge::{Left, behind, first_limit};
-use crate::limits::{Limits, Which};
+use crate::judge::{Room, first_limit, judge_line};
+use crate::limits::{LimitKind, Limits};
 use pm_io::{Line, LineFault, Lines, Source};
 use std::alloc::{AllocError, AllocFailed, Global};
+
+/// A line that isn't blank.
+#[derive(Debug, Drop)]
+pub struct InputLine {
+    /// Its number from 1 among all lines.
+    pub number: u64,
+    /// Its bytes without the newline.
+    pub bytes: Vec<u8>,
+}
 
 /// Why an input wasn't read.
 #[derive(Clone, Copy, Debug, PartialEq, Eq)]
 pub enum InputFault {
     /// There was no memory left.
     Memory,
-    /// The source failed, behind bytes that are within the limits.
+    /// The source failed, after bytes that are within the limits.
     Read,
-    /// The first limit that is passed.
-    Limit(Which),
+    /// The first limit that is exceeded.
+    Limit(LimitKind),
 }
 
 impl From<AllocError> for InputFault {
@@ -41,84 +51,101 @@ impl<T: Drop> From<AllocFailed<T>> for InputFault {
     }
 }
 
-/// The lines of a source up to its end, blank ones too.
+/// The lines of a source up to its end that aren't blank.
 pub fn read_lines<S: Source>(
     alloc: Global,
     source: &mut S,
     limits: &Limits,
-) -> Result<Vec<Vec<u8>>, InputFault>
-    ensures read { IfOk result (λ lines. IfSome (S.left source.old) (λ bytes.
-        IsRead limits.now (map (λ line. line.items) lines.items) bytes (S.left source.new))) }
-    ensures refused { IfErr result (λ fault. IfSome (S.left source.old) (λ bytes.
-        IsRefused limits.now fault bytes (S.left source.new))) }
-    ensures failed { IsErrOf result InputFault.Read → Rose (S.faults source.old) (S.faults source.new) }
-    ensures later { S.faults source.old ≤ S.faults source.new }
+) -> Result<Vec<InputLine>, InputFault>
+    ensures read { IfOk result (λ lines. IfSome (S.seen source.old).left (λ bytes.
+        IsRead limits.now (map line_view lines.items) bytes (S.seen source.new).left)) }
+    ensures refused { IfErr result (λ fault. IfSome (S.seen source.old).left (λ bytes.
+        IsRefused limits.now fault bytes (S.seen source.new).left)) }
+    ensures failed { IsErrOf result InputFault.Read → SourceFailed (S.seen source.old) (S.seen source.new) }
+    ensures later { SourceLater (S.seen source.old) (S.seen source.new) }
 {
     let mut held = Lines::new(alloc);
     let mut lines = Vec::new(alloc);
-    let mut left = Left {
+    let mut room = Room {
         rows: limits.rows,
         bytes: limits.bytes,
     };
-    for _ in 0..u64::MAX {
-        let line = match next_line(&mut held, source, limits, &left) {
+    for number in 1..u64::MAX {
+        let line = match next_line(&mut held, source, limits, &room) {
             Ok(Some(line)) => line,
             Ok(None) => return Ok(lines),
             Err(fault) => return Err(fault),
         };
-        left = match behind(limits, &left, &line) {
-            Ok(after) => after,
+        let judged = match judge_line(limits, &room, &line) {
+            Ok(judged) => judged,
             Err(which) => return Err(InputFault::Limit(which)),
         };
         let Line { bytes, ended } = line;
-        lines.push(bytes)?;
+        keep(&mut lines, number, bytes, judged.is_row)?;
         if !ended {
             return Ok(lines);
         }
+        room = judged.room;
     }
     Err(InputFault::Memory)
 }
 
-/// The next line, or why there is none: the first limit that it passes as far as it was read, or
+/// Adds a line with its number, where it isn't blank.
+fn keep(
+    lines: &mut Vec<InputLine>,
+    number: u64,
+    bytes: Vec<u8>,
+    is_row: bool,
+) -> Result<(), AllocError>
+    ensures { OnOk result (map line_view lines.new.items
+        ≡ map line_view lines.old.items ++ (if is_row then (number, bytes.items) ∷ [] else [])) }
+{
+    if is_row {
+        lines.push(InputLine { number, bytes })?;
+    }
+    Ok(())
+}
+
+/// The next line, or why there is none: the first limit that it exceeds as far as it was read, or
 /// the read that failed.
 fn next_line<S: Source>(
     held: &mut Lines,
     source: &mut S,
     limits: &Limits,
-    left: &Left,
+    room: &Room,
 ) -> Result<Option<Line>, InputFault>
     ensures line { IfOk result (λ found. IfSome found (λ line.
-        IfSome (to_come held.old (S.left source.old))
-        (IsLineOf line.bytes.items line.ended (to_come held.new (S.left source.new))))) }
+        IfSome (to_come held.old (S.seen source.old))
+        (IsLineOf line.bytes.items line.ended (to_come held.new (S.seen source.new))))) }
     ensures unbroken { IfOk result (λ found. IfSome found (λ line. IsUnbroken line.bytes.items)) }
     ensures end { result ≡ Ok None →
-        IfSome (to_come held.old (S.left source.old)) (λ bytes. bytes ≡ []) }
+        IfSome (to_come held.old (S.seen source.old)) (λ bytes. bytes ≡ []) }
     ensures ended { result ≡ Ok None →
-        to_come held.new (S.left source.new) ≡ to_come held.old (S.left source.old) }
+        to_come held.new (S.seen source.new) ≡ to_come held.old (S.seen source.old) }
     ensures refused { IfErr result (λ fault. (lines : List (List ℕ))
-        → Leaves limits.now left.now lines → IsWithin limits.now (joined lines)
-        → IfSome (to_come held.old (S.left source.old))
-        (λ bytes. IsRefused limits.now fault (joined lines ++ bytes) (S.left source.new))) }
-    ensures failed { IsErrOf result InputFault.Read → Rose (S.faults source.old) (S.faults source.new) }
-    ensures later { S.faults source.old ≤ S.faults source.new }
+        → IsRoomAfter limits.now room.now lines → IsWithin limits.now (joined lines)
+        → IfSome (to_come held.old (S.seen source.old))
+        (λ bytes. IsRefused limits.now fault (joined lines ++ bytes) (S.seen source.new).left)) }
+    ensures failed { IsErrOf result InputFault.Read → SourceFailed (S.seen source.old) (S.seen source.new) }
+    ensures later { SourceLater (S.seen source.old) (S.seen source.new) }
 {
     match held.read_line(source, limits.line) {
         Ok(line) => Ok(line),
         Err(fault) => {
-            let limit = first_limit(limits, left, held.begun());
+            let limit = first_limit(limits, room, held.begun());
             let fault = fault_of(fault, limit);
             Err(fault)
         }
     }
 }
 
-/// The fault of a line that wasn't read, by the limit that it passes as far as it was read.
-fn fault_of(fault: LineFault, limit: Option<Which>) -> InputFault
+/// The fault of a line that wasn't read, by the limit that it exceeds as far as it was read.
+fn fault_of(fault: LineFault, limit: Option<LimitKind>) -> InputFault
     ensures { result ≡ fault_of fault limit }
 {
     match fault {
         LineFault::Memory => InputFault::Memory,
         LineFault::Read => limit.map_or(InputFault::Read, InputFault::Limit),
-        LineFault::Long => limit.map_or(InputFault::Limit(Which::Line), InputFault::Limit),
+        LineFault::Long => limit.map_or(InputFault::Limit(LimitKind::Line), InputFault::Limit),
     }
 }

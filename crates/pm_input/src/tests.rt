@@ -1,6 +1,7 @@
+//! Each call once, and a source that fails.
+
 use super::*;
 use pm_io::MemSource;
-use pm_rows::print_row;
 use pm_values::{ColType, Column, Refusal, Txt, Why};
 use std::alloc::{AllocError, Global};
 use std::test::Fail;
@@ -16,7 +17,7 @@ fn answer(
     alloc: Global,
     input: &[u8],
     fails: u64,
-) -> Result<Result<Vec<Vec<u8>>, InputFault>, AllocError> {
+) -> Result<Result<Vec<InputLine>, InputFault>, AllocError> {
     let bytes = Vec::from_slice(alloc, input)?;
     let fails = vec![in alloc; fails]?;
     let mut source = MemSource::new(bytes, fails);
@@ -25,107 +26,59 @@ fn answer(
 
 #[test]
 fn reads_lines(rt: HostRuntime) -> Result<(), Fail> {
-    for (input, count, last) in [
-        ("", 0, ""),
-        ("\n", 1, ""),
-        ("a", 1, "a"),
-        ("a\n", 1, "a"),
-        ("abcd\n \t\r\nef", 3, "ef"),
-        ("ab\n\n\ncdef\n ", 5, " "),
-        ("abcd\nefgh\n \n", 3, " "),
-    ] {
-        let lines = answer(rt.alloc(), input.as_bytes(), 0)?;
-        let lines = lines.ok().ok_or("lines")?;
-        assert_eq!(rt; lines.len(), count, "{input:?}");
-        if let Some(line) = lines.last() {
-            assert_eq!(rt; line.as_slice(), last.as_bytes(), "{input:?}");
-        }
-    }
+    let lines = answer(rt.alloc(), b"abcd\n \t\n\nef", 0)?;
+    let lines = lines.ok().ok_or("lines")?;
+    assert_eq!(rt; lines.len(), 2);
+    let last = lines.last().ok_or("a line")?;
+    assert_eq!(rt; last.number, 4);
+    assert_eq!(rt; last.bytes.as_slice(), b"ef".as_slice());
     Ok(())
 }
 
 #[test]
-fn first_limit_passed(rt: HostRuntime) -> Result<(), Fail> {
-    for (input, which) in [
-        ("abcde", Which::Line),
-        ("a\nbcdef\nc", Which::Line),
-        ("     ", Which::Line),
-        ("a\nb\nc", Which::BatchRows),
-        ("a\nb\n \nc", Which::BatchRows),
-        ("a\nb\nc23456", Which::BatchRows),
-        ("a\nb\n    c", Which::Line),
-        ("abcd\nefgh\n\n\n\n", Which::BatchBytes),
-        ("abcd\nefgh\n  i", Which::BatchRows),
-        ("abcd\n\n\n\n\n\n\n\n\n", Which::BatchBytes),
-        ("abcd\nefgh\n\n ijklm", Which::BatchRows),
-        ("\n\n\n\n\n\n\n\n\n\n\n\na", Which::BatchBytes),
-        ("\n\n\n\n\n\n\n\nabcde", Which::Line),
+fn first_limit_exceeded(rt: HostRuntime) -> Result<(), Fail> {
+    for (input, fails, fault) in [
+        ("a\nbcdef\nc", 0, InputFault::Limit(LimitKind::Line)),
+        ("a\nb\n \n  c", 2, InputFault::Limit(LimitKind::BatchRows)),
+        (
+            "abcd\nefgh\n\n\n\n",
+            0,
+            InputFault::Limit(LimitKind::BatchBytes),
+        ),
+        ("abcd", 2, InputFault::Read),
     ] {
-        let lines = answer(rt.alloc(), input.as_bytes(), 0)?;
-        assert_eq!(rt; lines.err(), Some(InputFault::Limit(which)), "{input:?}");
+        let lines = answer(rt.alloc(), input.as_bytes(), fails)?;
+        assert_eq!(rt; lines.err(), Some(fault), "{input:?}");
     }
+    let which = LimitKind::BatchRows;
+    assert_eq!(rt; which.text(), "batch-rows");
+    assert_eq!(rt; which.number(&LIMITS), 100000);
     Ok(())
 }
 
 #[test]
-fn a_source_that_fails(rt: HostRuntime) -> Result<(), Fail> {
-    let lines = answer(rt.alloc(), b"ab\n", 1)?;
-    assert_eq!(rt; lines.err(), Some(InputFault::Read));
-    let lines = answer(rt.alloc(), b"abcd", 2)?;
-    assert_eq!(rt; lines.err(), Some(InputFault::Read));
-    let lines = answer(rt.alloc(), b"a\nb\nc", 2)?;
-    assert_eq!(rt; lines.err(), Some(InputFault::Limit(Which::BatchRows)));
-    Ok(())
-}
-
-#[test]
-fn names_and_numbers(rt: HostRuntime) {
-    for (which, text, number) in [
-        (Which::Line, "line", 1048576),
-        (Which::BatchRows, "batch-rows", 100000),
-        (Which::BatchBytes, "batch-bytes", 268435456),
-    ] {
-        assert_eq!(rt; which.text(), text);
-        assert_eq!(rt; which.number(&LIMITS), number);
-    }
-}
-
-/// The columns `id BIGINT NOT NULL` and `v STRING`.
-fn columns(alloc: Global) -> Result<Vec<Column>, AllocError> {
+fn reads_rows(rt: HostRuntime) -> Result<(), Fail> {
+    let alloc = rt.alloc();
     let id = Column {
         id: 0,
         name: Txt::from_str(alloc, "id")?,
         kind: ColType::BigInt,
         nullable: false,
     };
-    let v = Column {
-        id: 1,
-        name: Txt::from_str(alloc, "v")?,
-        kind: ColType::Text,
-        nullable: true,
+    let columns = vec![in alloc; id]?;
+    let good = InputLine {
+        number: 2,
+        bytes: Vec::from_slice(alloc, b"[\"+I\",2]")?,
     };
-    Ok(vec![in alloc; id, v]?)
-}
-
-/// The lines of a text that has no empty line at its end.
-fn lines_of(alloc: Global, text: &str) -> Result<Vec<Vec<u8>>, AllocError> {
-    let mut lines = Vec::new(alloc);
-    for line in text.split('\n') {
-        lines.push(Vec::from_slice(alloc, line.as_bytes())?)?;
-    }
-    Ok(lines)
-}
-
-#[test]
-fn reads_rows(rt: HostRuntime) -> Result<(), Fail> {
-    let columns = columns(rt.alloc())?;
-    let lines = lines_of(rt.alloc(), "\n[\"+I\",2,\"b\"]\n \t\r\n[\"-D\",2,null]")?;
-    let rows = read_rows(rt.alloc(), &columns, &lines).ok().ok_or("rows")?;
-    assert_eq!(rt; rows.len(), 2);
-    for ((kind, row), want) in rows.iter().zip(["[\"+I\",2,\"b\"]", "[\"-D\",2,null]"]) {
-        let line = print_row(rt.alloc(), &columns, *kind, row)?;
-        assert_eq!(rt; line.as_slice(), want.as_bytes());
-    }
+    let bad = InputLine {
+        number: 5,
+        bytes: Vec::from_slice(alloc, b"[\"+I\",null]")?,
+    };
+    let lines = vec![in alloc; good, bad]?;
+    let rows = read_rows(alloc, &columns, &lines[..1]);
+    assert_eq!(rt; rows.ok().map(|rows| rows.len()), Some(1));
+    let refusal = read_rows(alloc, &columns, &lines).err().ok_or("a refusal")?;
+    assert_eq!(rt; bad_line(&refusal), Some((5, Why::Null, "id")));
     Ok(())
 }
 
@@ -135,24 +88,4 @@ fn bad_line(refusal: &Refusal) -> Option<(u64, Why, &str)> {
         Refusal::BadLine { line, why, column } => Some((*line, *why, column.as_str())),
         _ => None,
     }
-}
-
-#[test]
-fn first_bad_line(rt: HostRuntime) -> Result<(), Fail> {
-    let columns = columns(rt.alloc())?;
-    for (text, line, why, column) in [
-        ("[\"+I\",1]", 1, Why::Count, ""),
-        ("[\"+I\",\"x\",null]", 1, Why::Type, "id"),
-        ("\n\n[\"+I\",1,\"a\"]\nx\n[]", 4, Why::Json, ""),
-        ("[\"+I\",1,\"a\"]\n \n[\"+I\",1,5]\n[]", 3, Why::Type, "v"),
-        ("[\"+I\",null,\"a\"]", 1, Why::Null, "id"),
-        ("[\"+I\",9223372036854775808,5]", 1, Why::Range, "id"),
-    ] {
-        let lines = lines_of(rt.alloc(), text)?;
-        let refusal = read_rows(rt.alloc(), &columns, &lines)
-            .err()
-            .ok_or("a refusal")?;
-        assert_eq!(rt; bad_line(&refusal), Some((line, why, column)), "{text}");
-    }
-    Ok(())
 }

@@ -1,5 +1,6 @@
 -- The lines of a text. A newline ends a line and is no part of it. The last line may lack it.
-use Rattle.std.specs.Prelude.{◌≡◌, ◌≢◌, List, [], ◌∷◌, ◌++◌, ℕ, ◌+◌, ◌≤◌, ◌<◌, length, Bool, false, ◌==◌, ◌||◌, if◌then◌else◌, Option, Some}
+use Rattle.std.specs.Prelude.{◌≡◌, ◌≢◌, List, [], ◌∷◌, ◌++◌, ℕ, ◌+◌, ◌≤◌, ◌<◌, length, Bool}
+use Rattle.std.specs.Prelude.{false, ◌==◌, ◌||◌, if◌then◌else◌, Option, Some}
 use Rattle.pm_base.specs.Known.{with_prefix}
 use Rattle.pm_base.specs.Newline.{newline}
 use Rattle.pm_io.specs.Source.{SourceView}

@@ -1,11 +1,12 @@
-use Rattle.std.proofs.Common.{◌≡◌, ◌+◌, map, drop}
+use Rattle.std.proofs.Common.{◌≡◌, map, drop}
 use Rattle.pm_history.specs.Merge.{AllFit}
-use Rattle.pm_input.specs.Rows.{rows_from, rows_in}
-use Rattle.pm_input.proofs.RowLemmas.{behind_rows}
+use Rattle.pm_input.specs.Lines.{line_view}
+use Rattle.pm_input.specs.Rows.{rows_in}
+use Rattle.pm_input.proofs.RowLemmas.{after_rows}
 use Rattle.pm_input.proofs.rows.read_rows.Given as goal
 
-abbrev pub invariant-loop-place : goal.invariant-loop-place
-invariant-loop-place l = record {
-  exact : behind_rows l.rows.items (rows_from (l.place + 1) l.columns (map (λ line. line.items) (drop l.place l.lines))) ≡ rows_in l.columns (map (λ line. line.items) l.lines);
+abbrev pub invariant-loop-line : goal.invariant-loop-line
+invariant-loop-line l = record {
+  exact : after_rows l.rows.items (rows_in l.columns (map line_view (drop l.line-index l.lines))) ≡ rows_in l.columns (map line_view l.lines);
   fits : AllFit l.columns l.rows.items;
 }

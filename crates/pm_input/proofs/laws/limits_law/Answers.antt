@@ -1,5 +1,5 @@
 use Rattle.pm_input.proofs.LawLemmas.{one_verdict, one_limit}
-use Rattle.pm_input.proofs.law.limits_law.Goals as goal
+use Rattle.pm_input.proofs.laws.limits_law.Goals as goal
 
 pub returns-clause-one : goal.returns-clause-one
 returns-clause-one c = one_verdict
