@@ -4,10 +4,9 @@ use Rattle.std.proofs.Math.Seq.{take-nil}
 use Rattle.std.proofs.lemmas.List.{append_assoc, append-nil}
 use Rattle.std.specs.FinMap as map
 use Rattle.pm_store.specs.declared.call.Op.{Op}
-use Rattle.pm_store.specs.Answers.{added}
 use Rattle.pm_store.specs.Files.{Files, after_op, after_from, files_after}
-use Rattle.pm_store.specs.Images.{MayLeave, CrashImage, AllImages, Extends}
-use Rattle.pm_store.proofs.FileLaws.{MayLeave-none, MayLeave-after_effect}
+use Rattle.pm_store.specs.Images.{MayLeave, HasEffect, CrashImage, AllImages, Extends}
+use Rattle.pm_store.proofs.FileLaws.{MayLeave-none, MayLeave-after_effect, effect_left}
 
 -- a crash image of operations that begin with these files
 abbrev ImageFrom : Files → List Op → ℕ → Files → Type 0
@@ -56,14 +55,15 @@ Extends-refl P (Some told) here = ([], ap Some (sym (append-nil told)), end_imag
         ]
 
 -- one more operation, whose images have P
-pub Extends-added : (P : Files → Type 0) (first now : Option (List Op)) (op : Op) → Extends P first now →
-    ((ops : List Op) → now ≡ Some ops → (f : Files) → MayLeave op.call (files_after ops) f → P f) → Extends P first (added now op)
-Extends-added P None now op before step = ap (λ ops. added ops op) before
-Extends-added P (Some old) now op (more, is, images) step =
-    let longer : (old ++ more) ++ op ∷ [] ≡ old ++ (more ++ op ∷ []) = append_assoc old more (op ∷ []) in (
+pub Extends-push : (P : Files → Type 0) (first : Option (List Op)) (ops : List Op) (op : Op) → Extends P first (Some ops) →
+    ((f : Files) → MayLeave op.call (files_after ops) f → P f) → Extends P first (Some (ops ++ op ∷ []))
+Extends-push P None ops op before step = absurd (let no : Some ops ≡ None = before in cc)
+Extends-push P (Some old) ops op (more, is, images) step =
+    let same : ops ≡ old ++ more = cc in
+    let longer : ops ++ op ∷ [] ≡ old ++ (more ++ op ∷ []) = ap (λ ops. ops ++ op ∷ []) same ∙ append_assoc old more (op ∷ []) in (
       more ++ op ∷ [],
-      ap (λ ops. added ops op) is ∙ ap Some longer,
-      subst (AllImages P (length old)) longer (AllImages-push P (length old) (old ++ more) op images (step (old ++ more) is)),
+      ap Some longer,
+      subst (AllImages P (length old)) longer (AllImages-push P (length old) ops op (subst (AllImages P (length old)) (sym same) images) step),
     )
 
 -- a weaker fact holds of the images too
@@ -88,3 +88,22 @@ Extends-trans P (Some old) middle now (more, is, images) after =
       rest.1 ∙ ap Some joined,
       subst (AllImages P (length old)) joined (images_joined P (length old) (old ++ more) rest.0 images rest.2),
     )
+
+-- an image within an operation is what one of the effects of its call leaves
+some_effect : (files f : Files) (op : Option Op) → IsSomeAnd op (λ op. MayLeave op.call files f) → IsSomeAnd op (λ op. HasEffect op.call files f)
+some_effect files f None here = absurd here
+some_effect files f (Some op) here = effect_left op.call files f here
+
+some_image : (files f : Files) (op : Option Op) → IsSomeAnd op (λ op. HasEffect op.call files f) → IsSomeAnd op (λ op. MayLeave op.call files f)
+some_image files f None here = absurd here
+some_image files f (Some op) here = subst (MayLeave op.call files) (sym here.1) (MayLeave-after_effect op.call here.0 files)
+
+pub image-effect : (ops : List Op) (i : ℕ) (f : Files) → CrashImage ops i f →
+    (f ≡ files_after (take i ops)) ⊎ IsSomeAnd (slice_get ops i) (λ op. HasEffect op.call (files_after (take i ops)) f)
+image-effect ops i f (inl is) = inl is
+image-effect ops i f (inr here) = inr (some_effect (files_after (take i ops)) f (slice_get ops i) here)
+
+pub effect-image : (ops : List Op) (i : ℕ) (f : Files) →
+    (f ≡ files_after (take i ops)) ⊎ IsSomeAnd (slice_get ops i) (λ op. HasEffect op.call (files_after (take i ops)) f) → CrashImage ops i f
+effect-image ops i f (inl is) = inl is
+effect-image ops i f (inr here) = inr (some_image (files_after (take i ops)) f (slice_get ops i) here)

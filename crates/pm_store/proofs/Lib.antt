@@ -1,4 +1,6 @@
+mod FileMapLaws
 pub mod FileLaws
+pub mod ChangeLaws
 pub mod ImageLaws
-pub mod MemoryLaws
+mod NameLaws
 pub mod StepLaws

@@ -1,67 +1,140 @@
--- What a store tells of its operations, and what the answers of its calls say.
-use Rattle.std.specs.Prelude.{◌≡◌, ◌≢◌, ◌⊎◌, ℕ, ◌+◌, List, [], ◌∷◌, ◌++◌, length, Option, None, Some, Result, Ok, Err}
+-- What the answers of a store's calls say.
+use Rattle.std.specs.Prelude.{◌≡◌, ◌≢◌, ◌⊎◌, ◌≤◌, ℕ, ◌+◌, List, [], ◌∷◌, ◌++◌, length, Option, None, Some, Result, Ok}
+use Rattle.std.specs.Prelude.{Err}
+use Rattle.std.specs.Cmp.Lexicographic.{slice_cmp}
+use Rattle.std.specs.FinMap as map
+use Rattle.std.specs.List.Sorted.{IsStrictlySortedBy}
+use Rattle.std.specs.Ordering.{nat_cmp}
 use Rattle.pm_base.specs.Faults.{Rose}
+use Rattle.pm_store.specs.declared.answer.Answer.{Answer}
+use Rattle.pm_store.specs.declared.answer.Answer.TheVariants as answers
+use Rattle.pm_store.specs.declared.answer.Made.{Made}
+use Rattle.pm_store.specs.declared.answer.Made.TheVariants as made
+use Rattle.pm_store.specs.declared.answer.Published.{Published}
+use Rattle.pm_store.specs.declared.answer.Removed.{Removed}
+use Rattle.pm_store.specs.declared.answer.Swapped.{Swapped}
+use Rattle.pm_store.specs.declared.answer.Published.TheVariants as published
+use Rattle.pm_store.specs.declared.answer.Removed.TheVariants as removed
+use Rattle.pm_store.specs.declared.answer.Swapped.TheVariants as swaps
 use Rattle.pm_store.specs.declared.call.Call.{Call}
 use Rattle.pm_store.specs.declared.call.Call.TheVariants as calls
+use Rattle.pm_store.specs.declared.call.Effect.{Effect}
 use Rattle.pm_store.specs.declared.call.Effect.TheVariants as effects
 use Rattle.pm_store.specs.declared.call.Op.{Op}
 use Rattle.pm_store.specs.declared.store.StoreFail.{StoreFail}
 use Rattle.pm_store.specs.declared.store.StoreFail.TheVariants.{Memory, Failed}
-use Rattle.pm_store.specs.declared.store.Swapped.{Swapped}
-use Rattle.pm_store.specs.declared.store.Swapped.TheVariants as swaps
-use Rattle.pm_store.specs.Files.{file_at}
+use Rattle.pm_store.specs.Files.{Files, files_after, IsListing, Puts}
+use Rattle.pm_store.specs.Store.{StoreView, IsLater}
 
 -- the call, carried out whole
 abbrev pub whole : Call → Op
 whole call = record { call = call; effect = effects.Whole }
 
--- the call, of which nothing was carried out
-abbrev pub undone : Call → Op
-undone call = record { call = call; effect = effects.None }
+-- what a create answers at a path with this content
+abbrev pub made_at : Option (List ℕ) → Made
+made_at None = made.Created
+made_at (Some found) = made.Exists
 
--- the operations with one more, where they are told
-abbrev pub added : Option (List Op) → Op → Option (List Op)
-added None op = None
-added (Some ops) op = Some (ops ++ op ∷ [])
+-- what a publish answers at a path with this content, after a path with that one
+abbrev pub published_at : Option (List ℕ) → Option (List ℕ) → Published
+published_at (Some found) after = published.Exists
+published_at None None = published.AfterGone
+published_at None (Some present) = published.Created
 
--- Others' operations came since, as many as their count rose by, and none by this handle. Where none are told, none come to be told.
-abbrev pub Meanwhile : Option (List Op) → ℕ → Option (List Op) → ℕ → Type 0
-Meanwhile None m new n = new ≡ None
-Meanwhile (Some ops) m new n = (others : List Op) × (new ≡ Some (ops ++ others)) × (n ≡ m + length others)
+-- what a swap from the expected content answers at a path with this content
+abbrev pub Swaps : Option (List ℕ) → Option (List ℕ) → Swapped → Type 0
+Swaps expected found swaps.Swapped = found ≡ expected
+Swaps expected found (swaps.Differs other) = (found ≡ other) × (other ≢ expected)
 
--- One operation came by this handle, behind those of others meanwhile; what was told up to it has P.
-abbrev pub Steps : Op → (List Op → Type 0) → Option (List Op) → ℕ → Option (List Op) → ℕ → Type 0
-Steps op P None m new n = new ≡ None
-Steps op P (Some ops) m new n =
-    (others : List Op) × (new ≡ Some ((ops ++ others) ++ op ∷ [])) × (n ≡ m + length others) × P (ops ++ others)
+-- what a remove answers at a path with this content
+abbrev pub removed_at : Option (List ℕ) → Removed
+removed_at (Some found) = removed.Removed
+removed_at None = removed.Absent
 
--- operations leave this at the path
-abbrev pub Holds : List ℕ → Option (List ℕ) → List Op → Type 0
-Holds path found ops = file_at ops path ≡ found
+-- what a call answers where it is carried out on these files
+abbrev pub Answers : Call → Answer → Files → Type 0
+Answers (calls.List folder) (answers.Listed names) files = IsListing folder names.items files
+Answers (calls.Read path) (answers.Found found) files = found ≡ map.get files path
+Answers (calls.Create path bytes) (answers.Made answer) files = answer ≡ made_at (map.get files path)
+Answers (calls.Publish after path bytes) (answers.Published answer) files =
+    answer ≡ published_at (map.get files path) (map.get files after)
+Answers (calls.Swap path expected bytes) (answers.Swapped answer) files = Swaps expected (map.get files path) answer
+Answers (calls.Remove path) (answers.Removed answer) files = answer ≡ removed_at (map.get files path)
+Answers call other files = ⊥
 
--- of operations nothing is asked
-abbrev pub Any : List Op → Type 0
-Any ops = Unit {0}
+-- What an answer says of the files after the call: the path of a change has its content, and any other answer means
+-- that nothing changed.
+abbrev pub Changed : Call → Answer → Files → Files → Type 0
+Changed (calls.Create path bytes) (answers.Made made.Created) files after = Puts files path (Some bytes) after
+Changed (calls.Publish other path bytes) (answers.Published published.Created) files after =
+    Puts files path (Some bytes) after
+Changed (calls.Swap path expected bytes) (answers.Swapped swaps.Swapped) files after =
+    Puts files path (Some bytes) after
+Changed (calls.Remove path) (answers.Removed removed.Removed) files after = Puts files path None after
+Changed call other files after = (path : List ℕ) → map.get after path ≡ map.get files path
 
--- What a read of the path answers: from the operations, the count of others' among them and the count of faults, each
--- before it and after it.
-abbrev pub ReadAnswers : List ℕ → Option (List Op) → ℕ → Option (List Op) → ℕ → ℕ → ℕ → Result (Option (List ℕ)) StoreFail → Type 0
-ReadAnswers path old m new n before now (Ok found) = Steps (whole (calls.Read path)) (Holds path found) old m new n
-ReadAnswers path old m new n before now (Err Failed) = Steps (undone (calls.Read path)) Any old m new n × Rose before now
-ReadAnswers path old m new n before now (Err Memory) = Meanwhile old m new n
+-- an answer that a call may give, whatever the files are
+abbrev pub MayAnswer : Call → Answer → Type 0
+MayAnswer (calls.List folder) (answers.Listed names) = IsStrictlySortedBy (slice_cmp nat_cmp) names.items
+MayAnswer (calls.Read path) (answers.Found found) = Unit {0}
+MayAnswer (calls.Create path bytes) (answers.Made answer) = Unit {0}
+MayAnswer (calls.Publish after path bytes) (answers.Published answer) = Unit {0}
+MayAnswer (calls.Swap path expected bytes) (answers.Swapped swaps.Swapped) = Unit {0}
+MayAnswer (calls.Swap path expected bytes) (answers.Swapped (swaps.Differs found)) = found ≢ expected
+MayAnswer (calls.Remove path) (answers.Removed answer) = Unit {0}
+MayAnswer call other = ⊥
 
--- where a swap answers that the content differed, what it found isn't the expected
-abbrev pub DiffersFrom : Option (List ℕ) → Swapped → Type 0
-DiffersFrom expected swaps.Swapped = Unit {0}
-DiffersFrom expected (swaps.Differs found) = found ≢ expected
+-- how much of a call may have been carried out where it failed: nothing, all, or a part of a create of an absent path
+abbrev pub MayHave : Call → Effect → Files → Type 0
+MayHave (calls.Create path bytes) (effects.Part found) files = map.get files path ≡ None
+MayHave call (effects.Part found) files = ⊥
+MayHave call effect files = Unit {0}
 
--- What a swap of the path from the expected content to the bytes answers, likewise. A fault leaves it open
--- whether the swap was carried out.
-abbrev pub SwapAnswers : List ℕ → Option (List ℕ) → List ℕ → Option (List Op) → ℕ → Option (List Op) → ℕ → ℕ → ℕ → Result Swapped StoreFail → Type 0
-SwapAnswers path expected bytes old m new n before now (Ok swaps.Swapped) =
-    Steps (whole (calls.Swap path expected bytes)) (Holds path expected) old m new n
-SwapAnswers path expected bytes old m new n before now (Ok (swaps.Differs found)) =
-    Steps (whole (calls.Swap path expected bytes)) (Holds path found) old m new n × (found ≢ expected)
-SwapAnswers path expected bytes old m new n before now (Err Failed) =
-    (Steps (undone (calls.Swap path expected bytes)) Any old m new n ⊎ Steps (whole (calls.Swap path expected bytes)) Any old m new n) × Rose before now
-SwapAnswers path expected bytes old m new n before now (Err Memory) = Meanwhile old m new n
+-- Others' operations came since, as many as their count rose by, and none by this handle. Where none are known, none
+-- come to be known.
+abbrev pub CameBetween : Option (List Op) → ℕ → StoreView → Type 0
+CameBetween None count after = after.ops ≡ None
+CameBetween (Some ops) count after =
+    (others : List Op) × (after.ops ≡ Some (ops ++ others)) × (after.others ≡ count + length others)
+
+abbrev pub Meanwhile : StoreView → StoreView → Type 0
+Meanwhile before after = CameBetween before.ops before.others after
+
+-- One operation came by this handle, after those of others meanwhile; what is known up to it has P.
+abbrev pub CameAfter : Op → (List Op → Type 0) → Option (List Op) → ℕ → StoreView → Type 0
+CameAfter op P None count after = after.ops ≡ None
+CameAfter op P (Some ops) count after =
+    (others : List Op) × (after.ops ≡ Some ((ops ++ others) ++ op ∷ [])) × (after.others ≡ count + length others)
+    × P (ops ++ others)
+
+abbrev pub Steps : Op → (List Op → Type 0) → StoreView → StoreView → Type 0
+Steps op P before after = CameAfter op P before.ops before.others after
+
+-- the call came as an operation with some effect that it may have
+abbrev pub StepsInPart : Call → StoreView → StoreView → Type 0
+StepsInPart call before after =
+    (effect : Effect)
+    × Steps (record { call = call; effect = effect }) (λ ops. MayHave call effect (files_after ops)) before after
+
+-- What a call says, its answer seen by view: it came as one operation, and its answer is that of the files before it. A
+-- fault leaves open how much of it was carried out, and its count rose; out of memory, it was not made.
+abbrev pub Tells : {X : Type 0} → Call → (X → Answer) → StoreView → StoreView → Result X StoreFail → Type 0
+Tells call view before after (Ok x) =
+    Steps (whole call) (λ ops. Answers call (view x) (files_after ops)) before after × MayAnswer call (view x)
+Tells call view before after (Err Failed) = StepsInPart call before after × Rose before.faults after.faults
+Tells call view before after (Err Memory) = Meanwhile before after
+
+-- After these operations the call came, whole or not, or nothing did.
+abbrev pub GoesOnWith : Call → Option (List Op) → Option (List Op) → Type 0
+GoesOnWith call None after = Unit {0}
+GoesOnWith call (Some ops) after =
+    (after ≡ Some ops)
+    ⊎ ((effect : Effect) × (more : List Op) × (after ≡ Some (ops ++ record { call = call; effect = effect } ∷ more)))
+
+-- The moment of a command's first call: others alone acted up to it, no more of them than are counted at the end, and
+-- this call came right after it, or none did.
+pub record IsFirst (call : Call) (before first after : StoreView) : Type 0 where
+  pub meanwhile : Meanwhile before first
+  pub faults : before.faults ≤ first.faults
+  pub later : IsLater first after
+  pub goes_on : GoesOnWith call first.ops after.ops

@@ -1,6 +1,9 @@
 -- The files of a store, and what operations do to them.
-use Rattle.std.specs.Prelude.{ℕ, Bool, List, [], ◌∷◌, Option, None, Some, is_none, is_some, ◌&&◌, ◌==◌, if◌then◌else◌}
+use Rattle.std.specs.Prelude.{◌≡◌, ◌≢◌, ◌↔◌, ℕ, Bool, List, [], ◌∷◌, ◌++◌, drop, length, Contains, Option, None, Some}
+use Rattle.std.specs.Prelude.{IsSome, is_none, is_some, ◌&&◌, ◌==◌, nat_eq, if◌then◌else◌}
 use Rattle.std.specs.Option.{option_eq}
+use Rattle.std.specs.List.{starts_with, before_first}
+use Rattle.std.specs.List.Sorted.{IsStrictlySortedBy}
 use Rattle.std.specs.Ordering.{nat_cmp}
 use Rattle.std.specs.Cmp.Lexicographic.{pointwise, slice_cmp}
 use Rattle.std.specs.FinMap as map
@@ -62,3 +65,38 @@ files_after ops = after_from map.empty ops
 -- what operations leave at a path
 abbrev pub file_at : List Op → List ℕ → Option (List ℕ)
 file_at ops path = map.get (files_after ops) path
+
+-- the byte between the parts of a path
+abbrev pub slash : ℕ
+slash = 47
+
+-- what stands before the names in a folder, in the paths below it: nothing for the store's own folder
+abbrev pub prefix_of : List ℕ → List ℕ
+prefix_of [] = []
+prefix_of (b ∷ folder) = (b ∷ folder) ++ slash ∷ []
+
+-- a name that isn't empty
+abbrev pub some_name : List ℕ → Option (List ℕ)
+some_name [] = None
+some_name (b ∷ name) = Some (b ∷ name)
+
+-- the name that a path leads to after a prefix: what follows it, up to the next slash
+abbrev pub name_after : List ℕ → List ℕ → Option (List ℕ)
+name_after prefix path =
+    if starts_with nat_eq path prefix
+    then some_name (before_first (λ b. b == slash) (drop (length prefix) path)) else None
+
+-- the name in a folder that a path leads to
+abbrev pub name_in : List ℕ → List ℕ → Option (List ℕ)
+name_in folder path = name_after (prefix_of folder) path
+
+-- the names directly in a folder, rising by bytes: each that the path of a file leads to
+pub record IsListing (folder : List ℕ) (names : List (List ℕ)) (files : Files) : Type 0 where
+  pub rising : IsStrictlySortedBy (slice_cmp nat_cmp) names
+  pub exact : (name : List ℕ) → Contains names name
+      ↔ ((path : List ℕ) × IsSome (map.get files path) × (name_in folder path ≡ Some name))
+
+-- the path alone changed, and now has this content
+pub record Puts (files : Files) (path : List ℕ) (content : Option (List ℕ)) (after : Files) : Type 0 where
+  pub here : map.get after path ≡ content
+  pub others : (other : List ℕ) → other ≢ path → map.get after other ≡ map.get files other

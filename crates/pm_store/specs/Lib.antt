@@ -1,4 +1,7 @@
 pub mod Answers
+pub mod Disk
+pub mod Failing
 pub mod Files
 pub mod Images
-pub mod Memory
+pub mod Names
+pub mod Store

@@ -1,8 +1,10 @@
 //! A call of a store, and what it did to the files.
 
-ghost use Rattle.std.specs.Prelude.{◌≡◌};
+ghost use Rattle.std.specs.Prelude.{◌≡◌, IfOk};
+ghost use Rattle.std.specs.Option.{option_copied};
 
 use pm_base::{Blob, Txt};
+use std::alloc::{AllocError, Global};
 
 /// A call with copies of its arguments.
 #[derive(Debug, Drop, PartialEq, Eq)]
@@ -32,6 +34,78 @@ pub enum Call {
     },
 }
 
+impl Call {
+    ghost use Rattle.pm_store.specs.declared.call.Call.TheVariants as calls;
+
+    /// A list, with a copy of its argument.
+    pub fn list(alloc: Global, folder: &str) -> Result<Call, AllocError>
+        ensures { IfOk result (λ call. call ≡ calls.List folder.now) }
+    {
+        Ok(Call::List {
+            folder: Txt::from_str(alloc, folder)?,
+        })
+    }
+
+    /// A read, with a copy of its argument.
+    pub fn read(alloc: Global, path: &str) -> Result<Call, AllocError>
+        ensures { IfOk result (λ call. call ≡ calls.Read path.now) }
+    {
+        Ok(Call::Read {
+            path: Txt::from_str(alloc, path)?,
+        })
+    }
+
+    /// A create, with copies of its arguments.
+    pub fn create(alloc: Global, path: &str, bytes: &[u8]) -> Result<Call, AllocError>
+        ensures { IfOk result (λ call. call ≡ calls.Create path.now bytes.now) }
+    {
+        Ok(Call::Create {
+            path: Txt::from_str(alloc, path)?,
+            bytes: Blob::from_slice(alloc, bytes)?,
+        })
+    }
+
+    /// A publish, with copies of its arguments.
+    pub fn publish(alloc: Global, after: &str, path: &str, bytes: &[u8]) -> Result<Call, AllocError>
+        ensures { IfOk result (λ call. call ≡ calls.Publish after.now path.now bytes.now) }
+    {
+        Ok(Call::Publish {
+            after: Txt::from_str(alloc, after)?,
+            path: Txt::from_str(alloc, path)?,
+            bytes: Blob::from_slice(alloc, bytes)?,
+        })
+    }
+
+    /// A swap, with copies of its arguments.
+    pub fn swap(
+        alloc: Global,
+        path: &str,
+        expected: Option<&[u8]>,
+        bytes: &[u8],
+    ) -> Result<Call, AllocError>
+        ensures { IfOk result (λ call. call ≡ calls.Swap path.now (option_copied expected.entry) bytes.now) }
+    {
+        let expected = match expected {
+            Some(expected) => Some(Blob::from_slice(alloc, expected)?),
+            None => None,
+        };
+        Ok(Call::Swap {
+            path: Txt::from_str(alloc, path)?,
+            expected,
+            bytes: Blob::from_slice(alloc, bytes)?,
+        })
+    }
+
+    /// A remove, with a copy of its argument.
+    pub fn remove(alloc: Global, path: &str) -> Result<Call, AllocError>
+        ensures { IfOk result (λ call. call ≡ calls.Remove path.now) }
+    {
+        Ok(Call::Remove {
+            path: Txt::from_str(alloc, path)?,
+        })
+    }
+}
+
 /// Which call it is.
 #[derive(Clone, Copy, Debug, PartialEq, Eq)]
 pub enum CallKind {
@@ -50,6 +124,20 @@ pub enum Effect {
     None,
     Part(Option<Blob>),
     Whole,
+}
+
+impl Effect {
+    /// An equal effect.
+    pub fn copy(&self, alloc: Global) -> Result<Effect, AllocError>
+        ensures { IfOk result (λ effect. effect ≡ self.now) }
+    {
+        match self {
+            Effect::None => Ok(Effect::None),
+            Effect::Part(None) => Ok(Effect::Part(None)),
+            Effect::Part(Some(bytes)) => Ok(Effect::Part(Some(bytes.copy(alloc)?))),
+            Effect::Whole => Ok(Effect::Whole),
+        }
+    }
 }
 
 /// A call that was made, with its effect.

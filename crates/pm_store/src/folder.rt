@@ -1,25 +1,26 @@
 //! A store on a real folder. What it does to the folder is trusted, and no clause tells of it.
 
-ghost use Rattle.std.specs.Prelude.{◌≡◌, ℕ, ◌≤◌, None, IfOk, IsErrOf};
+ghost use Rattle.std.specs.Prelude.{◌≡◌, ◌≤◌, None, IfOk, IsErrOf, OnOk};
+ghost use Rattle.std.specs.Option.{option_copied};
 ghost use Rattle.pm_base.specs.Faults.{Rose};
 
-use crate::{FileStore, StoreFail, Swapped, disk};
-use pm_base::Blob;
+use crate::disk::{Condition, Disk, Verdict};
+use crate::{FileStore, Made, Published, Removed, StoreFail, Swapped};
+use pm_base::{Blob, Txt};
 use std::alloc::Global;
 use std::fs::File;
 use std::marker::Model;
-use std::rt::Files;
+use std::rt::{Clock, Files};
 
-/// A store on a folder, seen as its count of faults. Its lock file and its temporary files have names that
-/// begin with a dot, and no file of the store has one.
+/// A store on a folder, seen as its count of faults. Its lock file and its temporary files have names that begin
+/// with a dot, and no file of the store has one.
 #[derive(Drop)]
-pub struct FolderStore<R: Files<File = File> + Drop> {
-    rt: R,
-    folder: String,
+pub struct FolderStore<R: Files<File = File> + AllocGlobal + Clock + Clone + Drop> {
+    disk: Disk<R>,
     faults: u64,
 }
 
-impl<R: Files<File = File> + Drop> Model for FolderStore<R> {
+impl<R: Files<File = File> + AllocGlobal + Clock + Clone + Drop> Model for FolderStore<R> {
     ghost use Rattle.std.specs.Prelude.{ℕ};
 
     ghost Value = { ℕ };
@@ -27,30 +28,53 @@ impl<R: Files<File = File> + Drop> Model for FolderStore<R> {
     ghost view = { λ s. s.faults };
 }
 
-impl<R: Files<File = File> + Drop> FolderStore<R> {
-    /// A store on a folder that is there.
+impl<R: Files<File = File> + AllocGlobal + Clock + Clone + Drop> FolderStore<R> {
+    /// A store on a folder. One that isn't there has no files, where its parent is a folder; nothing is made.
     pub fn open(alloc: Global, rt: R, folder: &str) -> Result<FolderStore<R>, StoreFail>
         ensures { IfOk result (λ s. s ≡ 0) }
     {
-        disk::sync_folder(&rt, folder)?;
         Ok(FolderStore {
-            folder: String::from_str(alloc, folder)?,
-            rt,
+            disk: Disk::open(alloc, rt, folder)?,
             faults: 0,
         })
     }
 }
 
-impl<R: Files<File = File> + Drop> FileStore for FolderStore<R> {
-    ghost ops = { λ s. None };
+impl<R: Files<File = File> + AllocGlobal + Clock + Clone + Drop> FileStore for FolderStore<R> {
+    ghost seen = { λ s. record { ops = None; others = 0; faults = s } };
 
-    ghost others = { λ s. 0 };
-
-    ghost faults = { λ s. s };
+    fn list(&mut self, alloc: Global, folder: &str) -> Result<Vec<Txt>, StoreFail> {
+        let answer = self.disk.list(alloc, folder);
+        counted(&mut self.faults, answer)
+    }
 
     fn read(&mut self, alloc: Global, path: &str) -> Result<Option<Blob>, StoreFail> {
-        let answer = disk::read(alloc, &self.rt, self.folder.as_str(), path);
+        let answer = self.disk.read(alloc, path);
         counted(&mut self.faults, answer)
+    }
+
+    fn create(&mut self, alloc: Global, path: &str, bytes: &[u8]) -> Result<Made, StoreFail> {
+        let answer = self.disk.put(alloc, path, Condition::Absent, bytes);
+        match counted(&mut self.faults, answer)? {
+            Verdict::Write => Ok(Made::Created),
+            _ => Ok(Made::Exists),
+        }
+    }
+
+    fn publish(
+        &mut self,
+        alloc: Global,
+        after: &str,
+        path: &str,
+        bytes: &[u8],
+    ) -> Result<Published, StoreFail> {
+        let condition = Condition::AbsentAfter(after);
+        let answer = self.disk.put(alloc, path, condition, bytes);
+        match counted(&mut self.faults, answer)? {
+            Verdict::Write => Ok(Published::Created),
+            Verdict::AfterGone => Ok(Published::AfterGone),
+            _ => Ok(Published::Exists),
+        }
     }
 
     fn swap(
@@ -60,12 +84,24 @@ impl<R: Files<File = File> + Drop> FileStore for FolderStore<R> {
         expected: Option<&[u8]>,
         bytes: &[u8],
     ) -> Result<Swapped, StoreFail> {
-        let answer = disk::swap(alloc, &self.rt, self.folder.as_str(), path, expected, bytes);
-        counted(&mut self.faults, answer)
+        let condition = Condition::Is(expected);
+        let answer = self.disk.put(alloc, path, condition, bytes);
+        match counted(&mut self.faults, answer)? {
+            Verdict::Differs(found) => Ok(Swapped::Differs(found)),
+            _ => Ok(Swapped::Swapped),
+        }
+    }
+
+    fn remove(&mut self, alloc: Global, path: &str) -> Result<Removed, StoreFail> {
+        let answer = self.disk.remove(alloc, path);
+        if counted(&mut self.faults, answer)? {
+            return Ok(Removed::Removed);
+        }
+        Ok(Removed::Absent)
     }
 }
 
-// The answer, with its fault counted. The count stands still at its last value.
+/// The answer, with its fault counted. The count stands still at its last value.
 fn counted<T>(faults: &mut u64, answer: Result<T, StoreFail>) -> Result<T, StoreFail>
     ensures same { result ≡ answer }
     ensures failed { IsErrOf result StoreFail.Failed → Rose faults.old faults.new }

@@ -1,36 +1,33 @@
 //! A store in memory, which keeps all its operations.
 
-ghost use Rattle.std.specs.Prelude.{◌≡◌, [], ◌∷◌, ◌++◌, Some, IfOk, OnOk, OnErr};
-ghost use Rattle.std.specs.BTreeMap.{get, IsUnchanged, Updates};
-ghost use Rattle.std.specs.Cmp.Lexicographic.{slice_cmp};
-ghost use Rattle.std.specs.Option.{option_copied};
-ghost use Rattle.std.specs.Ordering.{nat_cmp};
-ghost use Rattle.pm_store.specs.declared.call.Call.TheVariants as calls;
+ghost use Rattle.std.specs.Prelude.{◌≡◌, [], ◌∷◌, ◌++◌, Some, OnOk, OnErr, IfOk};
+ghost use Rattle.pm_store.specs.Answers.{whole, Answers, MayAnswer};
+ghost use Rattle.pm_store.specs.Failing.{allowed};
+ghost use Rattle.pm_store.specs.Files.{files_after};
 
-use crate::store::is_expected;
-use crate::{Call, FileStore, Op, StoreFail, Swapped};
+use crate::files::FileMap;
+use crate::{Answer, Call, Effect, FileStore, Made, Op, Published, Removed, StoreFail, Swapped};
 use pm_base::{Blob, Txt};
 use std::alloc::{AllocError, Global};
-use std::collections::BTreeMap;
 use std::marker::Model;
 
 /// A store that never fails, seen as the list of its operations. It answers from an index of the files.
 #[derive(Drop)]
 pub struct MemStore {
-    index: BTreeMap<Txt, Blob>,
+    files: FileMap,
     ops: Vec<Op>,
 }
 
 impl Model for MemStore {
-    ghost use Rattle.std.specs.Prelude.{List};
+    ghost use Rattle.std.specs.Prelude.{◌≡◌, List};
     ghost use Rattle.pm_store.specs.declared.call.Op.{Op};
-    ghost use Rattle.pm_store.specs.Memory.{Agrees};
+    ghost use Rattle.pm_store.specs.Files.{files_after};
 
     ghost Value = { List Op };
 
     ghost view = { λ m. m.ops.items };
 
-    ghost invariant = { λ m. Agrees m.index.entries m.ops.items };
+    ghost invariant = { λ m. m.files ≡ files_after m.ops.items };
 }
 
 impl MemStore {
@@ -39,7 +36,7 @@ impl MemStore {
         ensures { result ≡ [] }
     {
         MemStore {
-            index: BTreeMap::new(alloc),
+            files: FileMap::new(alloc),
             ops: Vec::new(alloc),
         }
     }
@@ -50,20 +47,89 @@ impl MemStore {
     {
         self.ops.as_slice()
     }
+
+    /// What a call answers where it comes after the operations.
+    pub(crate) fn answer(&self, alloc: Global, call: &Call) -> Result<Answer, AllocError>
+        ensures answer { IfOk result (λ answer. Answers call.now answer (files_after self.now)) }
+        ensures may { IfOk result (λ answer. MayAnswer call.now answer) }
+    {
+        self.files.answer(alloc, call)
+    }
+
+    /// Carries out as much of a call as the operation says, and keeps it.
+    pub(crate) fn record(&mut self, alloc: Global, op: Op) -> Result<(), AllocError>
+        ensures ok { OnOk result (self.new ≡ self.old ++ op ∷ []) }
+        ensures err { OnErr result (self.new ≡ self.old) }
+    {
+        self.ops.reserve(1)?;
+        self.files.apply(alloc, &op)?;
+        match self.ops.push(op) {
+            Ok(()) => Ok(()),
+            Err(_) => unreachable!(),
+        }
+    }
+
+    /// How much of a call is carried out where it is to fail with this effect.
+    pub(crate) fn allowed(&self, call: &Call, effect: Effect) -> Effect
+        ensures { result ≡ allowed call.now effect (files_after self.now) }
+    {
+        match effect {
+            Effect::Part(found) => match call {
+                Call::Create { path, .. } if self.files.get(path).is_none() => Effect::Part(found),
+                _ => Effect::None,
+            },
+            effect => effect,
+        }
+    }
+
+    /// Makes a call.
+    pub(crate) fn make(&mut self, alloc: Global, call: Call) -> Result<Answer, AllocError>
+        ensures ok { OnOk result (self.new ≡ self.old ++ whole call ∷ []) }
+        ensures answer { IfOk result (λ answer. Answers call answer (files_after self.old)) }
+        ensures may { IfOk result (λ answer. MayAnswer call answer) }
+        ensures err { OnErr result (self.new ≡ self.old) }
+    {
+        let answer = self.answer(alloc, &call)?;
+        self.record(alloc, Op::whole(call))?;
+        Ok(answer)
+    }
 }
 
 impl FileStore for MemStore {
-    ghost ops = { λ m. Some m };
+    ghost seen = { λ m. record { ops = Some m; others = 0; faults = 0 } };
 
-    ghost others = { λ m. 0 };
-
-    ghost faults = { λ m. 0 };
+    fn list(&mut self, alloc: Global, folder: &str) -> Result<Vec<Txt>, StoreFail> {
+        match self.make(alloc, Call::list(alloc, folder)?)? {
+            Answer::Listed(names) => Ok(names),
+            _ => unreachable!(),
+        }
+    }
 
     fn read(&mut self, alloc: Global, path: &str) -> Result<Option<Blob>, StoreFail> {
-        let path = Txt::from_str(alloc, path)?;
-        let found = find(alloc, &self.index, &path)?;
-        self.ops.push(Op::whole(Call::Read { path }))?;
-        Ok(found)
+        match self.make(alloc, Call::read(alloc, path)?)? {
+            Answer::Found(found) => Ok(found),
+            _ => unreachable!(),
+        }
+    }
+
+    fn create(&mut self, alloc: Global, path: &str, bytes: &[u8]) -> Result<Made, StoreFail> {
+        match self.make(alloc, Call::create(alloc, path, bytes)?)? {
+            Answer::Made(made) => Ok(made),
+            _ => unreachable!(),
+        }
+    }
+
+    fn publish(
+        &mut self,
+        alloc: Global,
+        after: &str,
+        path: &str,
+        bytes: &[u8],
+    ) -> Result<Published, StoreFail> {
+        match self.make(alloc, Call::publish(alloc, after, path, bytes)?)? {
+            Answer::Published(published) => Ok(published),
+            _ => unreachable!(),
+        }
     }
 
     fn swap(
@@ -73,68 +139,16 @@ impl FileStore for MemStore {
         expected: Option<&[u8]>,
         bytes: &[u8],
     ) -> Result<Swapped, StoreFail> {
-        let path = Txt::from_str(alloc, path)?;
-        let call = swap_call(alloc, &path, expected, bytes)?;
-        if !is_expected(self.index.get(&path), expected) {
-            let found = find(alloc, &self.index, &path)?;
-            self.ops.push(Op::whole(call))?;
-            return Ok(Swapped::Differs(found));
+        match self.make(alloc, Call::swap(alloc, path, expected, bytes)?)? {
+            Answer::Swapped(swapped) => Ok(swapped),
+            _ => unreachable!(),
         }
-        let bytes = Blob::from_slice(alloc, bytes)?;
-        write(&mut self.index, &mut self.ops, Op::whole(call), path, bytes)?;
-        Ok(Swapped::Swapped)
     }
-}
 
-// A swap with copies of its arguments.
-fn swap_call(
-    alloc: Global,
-    path: &Txt,
-    expected: Option<&[u8]>,
-    bytes: &[u8],
-) -> Result<Call, AllocError>
-    ensures { IfOk result (λ call. call ≡ calls.Swap path.now (option_copied expected.entry) bytes.now) }
-{
-    let expected = match expected {
-        Some(expected) => Some(Blob::from_slice(alloc, expected)?),
-        None => None,
-    };
-    Ok(Call::Swap {
-        path: path.copy(alloc)?,
-        expected,
-        bytes: Blob::from_slice(alloc, bytes)?,
-    })
-}
-
-// A copy of what stands at a path.
-fn find(alloc: Global, index: &BTreeMap<Txt, Blob>, path: &Txt) -> Result<Option<Blob>, AllocError>
-    ensures { IfOk result (λ found. found ≡ get (slice_cmp nat_cmp) index.now path.now) }
-{
-    match index.get(path) {
-        Some(bytes) => Ok(Some(bytes.copy(alloc)?)),
-        None => Ok(None),
-    }
-}
-
-// Records an operation, and writes a path.
-fn write(
-    index: &mut BTreeMap<Txt, Blob>,
-    ops: &mut Vec<Op>,
-    op: Op,
-    path: Txt,
-    bytes: Blob,
-) -> Result<(), AllocError>
-    ensures recorded { OnOk result (ops.new.items ≡ ops.old.items ++ op ∷ []) }
-    ensures written { OnOk result (Updates (slice_cmp nat_cmp) index.old index.new path (Some bytes)) }
-    ensures ops_stay { OnErr result (ops.new.items ≡ ops.old.items) }
-    ensures index_stays { OnErr result (IsUnchanged index.old index.new) }
-{
-    ops.push(op)?;
-    match index.insert(path, bytes) {
-        Ok(_) => Ok(()),
-        Err(_) => {
-            let _ = ops.pop();
-            Err(AllocError)
+    fn remove(&mut self, alloc: Global, path: &str) -> Result<Removed, StoreFail> {
+        match self.make(alloc, Call::remove(alloc, path)?)? {
+            Answer::Removed(removed) => Ok(removed),
+            _ => unreachable!(),
         }
     }
 }

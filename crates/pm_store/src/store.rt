@@ -1,14 +1,16 @@
-//! The trait of a store, and what its calls answer.
+//! The trait of a store.
 
-ghost use Rattle.std.specs.Prelude.{◌≡◌, ◌↔◌, List, Option, ℕ, ◌≤◌, IsTrue};
+ghost use Rattle.std.specs.Prelude.{◌≡◌, ◌↔◌, IsTrue};
 ghost use Rattle.std.specs.Option.{option_copied};
-ghost use Rattle.pm_store.specs.declared.call.Op.{Op};
+ghost use Rattle.pm_store.specs.declared.call.Call.TheVariants as calls;
+ghost use Rattle.pm_store.specs.declared.answer.Answer.TheVariants as answers;
 ghost use Rattle.pm_store.specs.declared.store.StoreFail.TheVariants.{Memory};
 
-use pm_base::Blob;
+use crate::{Made, Published, Removed, Swapped};
+use pm_base::{Blob, Txt};
 use std::alloc::{AllocError, AllocFailed, Global};
 
-/// Why a call of a store gave no answer: want of memory, which changes nothing, or a fault.
+/// Why a call of a store gave no answer: out of memory, which changes nothing, or a fault.
 #[derive(Clone, Copy, Debug, PartialEq, Eq)]
 pub enum StoreFail {
     Memory,
@@ -31,58 +33,46 @@ impl<T: Drop> From<AllocFailed<T>> for StoreFail {
     }
 }
 
-/// What a create answers: it wrote the path, or the path was there.
-#[derive(Clone, Copy, Debug, PartialEq, Eq)]
-pub enum Made {
-    Created,
-    Exists,
-}
-
-/// What a publish answers: it wrote the path, or the path was there, or the path that it was to come
-/// after was gone.
-#[derive(Clone, Copy, Debug, PartialEq, Eq)]
-pub enum Published {
-    Created,
-    Exists,
-    AfterGone,
-}
-
-/// What a swap answers: it wrote the path, or the content differed, and this is what it found.
-#[derive(Debug, Drop, PartialEq, Eq)]
-pub enum Swapped {
-    Swapped,
-    Differs(Option<Blob>),
-}
-
-/// What a remove answers: it took the path away, or the path wasn't there.
-#[derive(Clone, Copy, Debug, PartialEq, Eq)]
-pub enum Removed {
-    Removed,
-    Absent,
-}
-
-/// Files by their paths. A path is relative, and its folders end at each `/`. Each call is one atomic
-/// step. A change that was answered with success is durable.
+/// Files by their paths. A path is relative, and its folders end at each `/`; the folder of the store
+/// itself has the empty path. Each call is one atomic step, and what it answered outlives a crash: a change
+/// that succeeded, as well as what a read or a list found.
 pub trait FileStore {
-    ghost use Rattle.pm_store.specs.Answers.{ReadAnswers, SwapAnswers};
+    ghost use Rattle.pm_store.specs.Answers.{Tells};
+    ghost use Rattle.pm_store.specs.Store.{StoreView, IsLater};
 
-    /// All operations from the empty store on up to the last call, each with its effect, where they are told. Others
-    /// than the caller may have operations among them: each call tells those that came before its own.
-    ghost ops: { Self → Option (List Op) };
+    /// Its operations, how many of them others had, and how often a call failed.
+    ghost seen: { Self → StoreView };
 
-    /// How many of the told operations came between the calls, by others.
-    ghost others: { Self → ℕ };
-
-    /// How often a call failed.
-    ghost faults: { Self → ℕ };
+    /// What stands right in a folder, files and folders alike, by name and in the order of the names' bytes. Of a folder
+    /// that is absent there is nothing.
+    fn list(&mut self, alloc: Global, folder: &str) -> Result<Vec<Txt>, StoreFail>
+        ensures answer { Tells (calls.List folder.now) answers.Listed (seen self.old) (seen self.new) result }
+        ensures later { IsLater (seen self.old) (seen self.new) };
 
     /// The bytes at a path, or nothing where it is absent.
     fn read(&mut self, alloc: Global, path: &str) -> Result<Option<Blob>, StoreFail>
-        ensures answer { ReadAnswers path.now (ops self.old) (others self.old) (ops self.new) (others self.new)
-            (faults self.old) (faults self.new) result }
-        ensures later { faults self.old ≤ faults self.new };
+        ensures answer { Tells (calls.Read path.now) answers.Found (seen self.old) (seen self.new) result }
+        ensures later { IsLater (seen self.old) (seen self.new) };
 
-    /// Writes the path where its content, or its absence, is the expected one.
+    /// Writes the path where it is absent.
+    fn create(&mut self, alloc: Global, path: &str, bytes: &[u8]) -> Result<Made, StoreFail>
+        ensures answer { Tells (calls.Create path.now bytes.now) answers.Made
+            (seen self.old) (seen self.new) result }
+        ensures later { IsLater (seen self.old) (seen self.new) };
+
+    /// Writes an absent path, provided that the file `after` is there.
+    fn publish(
+        &mut self,
+        alloc: Global,
+        after: &str,
+        path: &str,
+        bytes: &[u8],
+    ) -> Result<Published, StoreFail>
+        ensures answer { Tells (calls.Publish after.now path.now bytes.now) answers.Published
+            (seen self.old) (seen self.new) result }
+        ensures later { IsLater (seen self.old) (seen self.new) };
+
+    /// Writes a path that has the expected content, or that is absent where nothing is expected.
     fn swap(
         &mut self,
         alloc: Global,
@@ -90,12 +80,17 @@ pub trait FileStore {
         expected: Option<&[u8]>,
         bytes: &[u8],
     ) -> Result<Swapped, StoreFail>
-        ensures answer { SwapAnswers path.now (option_copied expected.entry) bytes.now
-            (ops self.old) (others self.old) (ops self.new) (others self.new) (faults self.old) (faults self.new) result }
-        ensures later { faults self.old ≤ faults self.new };
+        ensures answer { Tells (calls.Swap path.now (option_copied expected.entry) bytes.now) answers.Swapped
+            (seen self.old) (seen self.new) result }
+        ensures later { IsLater (seen self.old) (seen self.new) };
+
+    /// Takes the path away.
+    fn remove(&mut self, alloc: Global, path: &str) -> Result<Removed, StoreFail>
+        ensures answer { Tells (calls.Remove path.now) answers.Removed (seen self.old) (seen self.new) result }
+        ensures later { IsLater (seen self.old) (seen self.new) };
 }
 
-// Whether what was found is what is expected.
+/// Whether what was found is what is expected.
 pub(crate) fn is_expected(found: Option<&Blob>, expected: Option<&[u8]>) -> bool
     ensures { IsTrue result ↔ (option_copied found.entry ≡ option_copied expected.entry) }
 {
