@@ -5,15 +5,16 @@ use Rattle.std.specs.Option.{option_and_then, option_map_or}
 use Rattle.std.specs.Str.{bytes_eq}
 use Rattle.std.proofs.lemmas.Slice.Eq.{bytes_eq-Decides}
 use Rattle.std.proofs.lemmas.Bool.{lt-ltb}
+use Rattle.pm_base.specs.Newline.{IsUnbroken, line}
 use Rattle.pm_values.specs.Fits.{Fits}
 use Rattle.pm_history.specs.Merge.{HistoryRow, AllFit}
 use Rattle.pm_rows.specs.RowText.{row_text}
 use Rattle.pm_rows.specs.Reading.{row_of}
-use Rattle.pm_rows.proofs.RowLemmas.{row_of-row_text, row_text-no_newline, row_text-begins}
+use Rattle.pm_rows.proofs.Lemmas.{row_of-row_text, IsUnbroken-row_text, row_text-begins}
 use Rattle.pm_plain.specs.Columns.{plain_columns}
-use Rattle.pm_plain.specs.Text.{History, line, snapshot_line, rows_text, text_from, history_text, last_id, IsCommit, IsHistory}
+use Rattle.pm_plain.specs.Text.{History, snapshot_line, rows_text, text_from, history_text, last_id, IsCommit, IsHistory}
 use Rattle.pm_plain.specs.Reading.{is_whole, has_row, with_row, exact_row, after_line, after_bytes, history_in}
-use Rattle.pm_plain.proofs.TextLemmas.{IsUnbroken, IsUnbroken-snapshot_line}
+use Rattle.pm_plain.proofs.TextLemmas.{IsUnbroken-snapshot_line}
 use Rattle.pm_plain.proofs.ReadingLemmas.{is_whole-push, with_row-snoc, after_bytes-ended, history_text-after_line}
 
 same_bytes : (xs : List ℕ) → bytes_eq xs xs ≡ true
@@ -52,13 +53,13 @@ after_bytes-line text rest h next unbroken after =
     ∙ ap (λ o. option_map_or (λ (next : History). after_bytes rest [] next) o (Err (length (history_text h)))) after
 
 -- the lines of fitting rows are rows more
-after_bytes-rows : (rows front : List HistoryRow) (rest : List ℕ) (h : History) → AllFit plain_columns rows → after_bytes (rows_text rows ++ rest) [] (h ++ front ∷ []) ≡ after_bytes rest [] (h ++ (front ++ rows) ∷ [])
-after_bytes-rows [] front rest h fit = ap (λ rows. after_bytes rest [] (h ++ rows ∷ [])) (sym (append-nil front))
-after_bytes-rows (r ∷ rows) front rest h fit =
-    ap (λ bytes. after_bytes bytes [] (h ++ front ∷ [])) (append_assoc (line (row_text r.0 r.1)) (rows_text rows) rest)
-    ∙ after_bytes-line (row_text r.0 r.1) (rows_text rows ++ rest) (h ++ front ∷ []) (h ++ (front ++ r ∷ []) ∷ []) (row_text-no_newline r.0 r.1) (after_line-row h front r fit.0)
-    ∙ after_bytes-rows rows (front ++ r ∷ []) rest h fit.1
-    ∙ ap (λ rows. after_bytes rest [] (h ++ rows ∷ [])) (append_assoc front (r ∷ []) rows)
+after_bytes-rows : (rows prefix : List HistoryRow) (rest : List ℕ) (h : History) → AllFit plain_columns rows → after_bytes (rows_text rows ++ rest) [] (h ++ prefix ∷ []) ≡ after_bytes rest [] (h ++ (prefix ++ rows) ∷ [])
+after_bytes-rows [] prefix rest h fit = ap (λ rows. after_bytes rest [] (h ++ rows ∷ [])) (sym (append-nil prefix))
+after_bytes-rows (r ∷ rows) prefix rest h fit =
+    ap (λ bytes. after_bytes bytes [] (h ++ prefix ∷ [])) (append_assoc (line (row_text r.0 r.1)) (rows_text rows) rest)
+    ∙ after_bytes-line (row_text r.0 r.1) (rows_text rows ++ rest) (h ++ prefix ∷ []) (h ++ (prefix ++ r ∷ []) ∷ []) (IsUnbroken-row_text r.0 r.1) (after_line-row h prefix r fit.0)
+    ∙ after_bytes-rows rows (prefix ++ r ∷ []) rest h fit.1
+    ∙ ap (λ rows. after_bytes rest [] (h ++ rows ∷ [])) (append_assoc prefix (r ∷ []) rows)
 
 has_row-some : (rows : List HistoryRow) → rows ≢ [] → has_row rows ≡ true
 has_row-some [] some = absurd (some refl)
@@ -77,7 +78,7 @@ reads_from (rows ∷ more) h commits whole within =
     let later : after_bytes (text_from (length next + 1) more) [] next ≡ Ok (next ++ more) =
     reads_from more next commits.1 (is_whole-push h rows ∙ has_row-some rows commits.0.some) (omega (arith, within, count)) in
     ap (λ bytes. after_bytes bytes [] h) (append_assoc (line (snapshot_line id)) (rows_text rows) rest)
-    ∙ after_bytes-line (snapshot_line id) (rows_text rows ++ rest) h (h ++ [] ∷ []) (IsUnbroken-snapshot_line id (omega (arith, below))) (after_line-snapshot h whole below)
+    ∙ after_bytes-line (snapshot_line id) (rows_text rows ++ rest) h (h ++ [] ∷ []) (IsUnbroken-snapshot_line id) (after_line-snapshot h whole below)
     ∙ after_bytes-rows rows [] rest h commits.0.fit
     ∙ ap (λ n. after_bytes (text_from (n + 1) more) [] next) (sym count)
     ∙ later

@@ -1,27 +1,29 @@
--- What a commit's answer says of each history that the store stands for.
-use Rattle.std.proofs.Common.{◌≡◌, ◌≢◌, ◌⊎◌, ℕ, ◌<◌, List, [], ◌∷◌, ◌++◌, length, cond, Option, Some, None, Result, Ok, Err, Vec, Global, IfOk, IfErr, MatchResult, refl, sym, ap, subst, ◌∙◌, inl, inr, arith, length-append}
-use Rattle.std.specs.List.{AllByRecursion}
+-- What a commit's answer says of each history that the store stands for at its first call.
+use Rattle.std.proofs.Common.{◌≡◌, ◌≢◌, ◌⊎◌, ℕ, ◌+◌, ◌<◌, List, [], ◌∷◌, ◌++◌, length, cond, Option, Some, None, Result, Ok, Err, Vec, Global, refl, sym, ap, subst, ◌∙◌, inl, inr, arith, length-append}
 use Rattle.std.specs.FinMap as map
 use Rattle.std.specs.Cmp.Lexicographic.{nat_list_cmp_total}
 use Rattle.std.specs.Ordering.{is_eq}
 use Rattle.std.proofs.lemmas.Cmp.{tied_itself}
-use Rattle.std.proofs.Math.Seq.{take-length}
+use Rattle.pm_base.specs.Faults.{Rose}
+use Rattle.pm_base.proofs.Laws.{AllByRecursion-push}
 use Rattle.pm_values.specs.declared.refusal.Refusal.{Refusal}
 use Rattle.pm_values.specs.declared.refusal.Refusal.TheVariants as refusals
 use Rattle.pm_history.specs.Merge.{HistoryRow, AllFit}
-use Rattle.pm_store.specs.declared.call.Call.TheVariants as calls
+use Rattle.pm_store.specs.declared.call.Effect.{Effect}
+use Rattle.pm_store.specs.declared.call.Effect.TheVariants as effects
 use Rattle.pm_store.specs.declared.call.Op.{Op}
-use Rattle.pm_store.specs.Files.{Files, files_after, file_at, carried}
-use Rattle.pm_store.specs.Answers.{undone}
+use Rattle.pm_store.specs.Files.{Files, files_after, file_at, carried, after_effect}
+use Rattle.pm_store.specs.Answers.{whole, IsFirst}
 use Rattle.pm_store.specs.Images.{Extends, MayLeave}
+use Rattle.pm_store.specs.Store.{StoreView, IsLater, IsAlone}
 use Rattle.pm_store.proofs.FileLaws.{files_after-push, carried-swapped}
-use Rattle.pm_store.proofs.ImageLaws.{Extends-refl, Extends-added}
+use Rattle.pm_store.proofs.ImageLaws.{Extends-refl, Extends-push}
 use Rattle.pm_plain.specs.declared.commit.Committed.{Committed}
 use Rattle.pm_plain.specs.Columns.{plain_columns}
 use Rattle.pm_plain.specs.Text.{History, history_text, nothing_text, plain_path, last_id, StandsFor, IsHistory, IsCommit, IsFileOf}
 use Rattle.pm_plain.specs.Reading.{history_in}
-use Rattle.pm_plain.specs.Commit.{Stands, IsBeforeOrAfter, reading_of, reading_at, read_op, swap_op, failed_swap_op, IsCommitted, Commits, ShowsPlain, IsWantOrFault, Leaves}
-use Rattle.pm_plain.proofs.AloneLaws.{CommitsAlone, ShowsAlone, Commits-alone, ShowsPlain-alone}
+use Rattle.pm_plain.specs.Commit.{StandsAfter, Stands, IsBeforeOrAfter, reading_of, reading_at, read_call, swap_call, IsCommitted, Commits, ShowsPlain, IsMemoryOrFault, LeavesPlain, AddsTo, KeepsTo}
+use Rattle.pm_plain.proofs.AloneLaws.{known, after_read, after_swap, CommitsAlone, ShowsAlone, FromFirst, Commits-first, ShowsPlain-first}
 use Rattle.pm_plain.proofs.CodecLaws.{history_in-history_text}
 
 reading_of-file : (found : Option (List ℕ)) (h : History) → IsHistory h → IsFileOf found h → reading_of found ≡ Ok h
@@ -29,27 +31,22 @@ reading_of-file None h is file = ap Ok (sym file)
 reading_of-file (Some bytes) h is file = ap history_in file ∙ history_in-history_text h is
 
 -- what stands for a history reads as it
-pub reading_at-stands : (ops : List Op) (h : History) → StandsFor (files_after ops) h → reading_at ops ≡ Ok h
+reading_at-stands : (ops : List Op) (h : History) → StandsFor (files_after ops) h → reading_at ops ≡ Ok h
 reading_at-stands ops h stands = reading_of-file (file_at ops plain_path) h stands.history stands.file
 
 same_ok : (h k : History) → ◌≡◌ {A = Result History ℕ} (Ok h) (Ok k) → h ≡ k
 same_ok h k e = cc
 
+ok_err : (h : History) (offset : ℕ) → ◌≡◌ {A = Result History ℕ} (Ok h) (Err offset) → ⊥
+ok_err h offset e = cc
+
 -- the history that was read is the one that stood
 read_same : (ops : List Op) (h k : History) → StandsFor (files_after ops) h → reading_at ops ≡ Ok k → k ≡ h
 read_same ops h k stands reads = same_ok k h (sym reads ∙ reading_at-stands ops h stands)
 
--- a read, and a call of which nothing was carried out, leave what stood
-Stands-read : (ops : List Op) (h : History) → StandsFor (files_after ops) h → StandsFor (files_after (ops ++ read_op ∷ [])) h
-Stands-read ops h stands = subst (λ files. StandsFor files h) (sym (files_after-push ops read_op)) stands
-
-commits-push : (h : History) (batch : List HistoryRow) → AllByRecursion IsCommit h → IsCommit batch → AllByRecursion IsCommit (h ++ batch ∷ [])
-commits-push [] batch all is = (is, tt)
-commits-push (rows ∷ h) batch all is = (all.0, commits-push h batch all.1 is)
-
 IsHistory-push : (h : History) (batch : List HistoryRow) → IsHistory h → batch ≢ [] → AllFit plain_columns batch → length h < last_id → IsHistory (h ++ batch ∷ [])
 IsHistory-push h batch is some fit below = record {
-  commits = commits-push h batch is.commits (record { some = some; fit = fit });
+  commits = AllByRecursion-push IsCommit h batch is.commits (record { some = some; fit = fit });
   within = omega (arith, length-append h (batch ∷ []));
 }
 
@@ -60,191 +57,220 @@ StandsFor-inserted files h is = record {
   file = subst (λ found. IsFileOf found h) (sym (map.get-insert nat_list_cmp_total files plain_path (history_text h) plain_path ∙ ap (λ o. cond (is_eq o) (Some (history_text h)) (map.get files plain_path)) (tied_itself nat_list_cmp_total plain_path))) refl;
 }
 
+-- ---- a read
+
+-- whatever was carried out of it, the files stay
+read_stays : (effect : Effect) (files : Files) → after_effect read_call effect files ≡ files
+read_stays effects.None files = refl
+read_stays (effects.Part found) files = refl
+read_stays effects.Whole files = refl
+
+files_after-read : (ops : List Op) (effect : Effect) → files_after (ops ++ record { call = read_call; effect = effect } ∷ []) ≡ files_after ops
+files_after-read ops effect = files_after-push ops (record { call = read_call; effect = effect }) ∙ read_stays effect (files_after ops)
+
+read_leaves : (files f : Files) → MayLeave read_call files f → f ≡ files
+read_leaves files f (inl e) = e
+read_leaves files f (inr e) = e
+
+-- where no call came
+images_none : (P : Files → Type 0) (ops : List Op) → P (files_after ops) → Extends P (Some ops) (Some ops)
+images_none P ops here = Extends-refl P (Some ops) (λ found e. let same : ops ≡ found = cc in subst (λ ops. P (files_after ops)) same here)
+
+images_read : (P : Files → Type 0) (ops : List Op) (effect : Effect) → P (files_after ops) → Extends P (Some ops) (Some (ops ++ record { call = read_call; effect = effect } ∷ []))
+images_read P ops effect here =
+    Extends-push P (Some ops) ops (record { call = read_call; effect = effect }) (images_none P ops here) (λ f may. subst P (sym (read_leaves (files_after ops) f may)) here)
+
+-- what stands, and the images, where nothing was changed
+abbrev Stays : (Files → Type 0) → List Op → Option (List Op) → History → Type 0
+Stays P ops now h = StandsAfter now h × Extends P (Some ops) now
+
+stays_none : (P : Files → Type 0) (ops : List Op) (now : Option (List Op)) (h : History) → P (files_after ops) → StandsFor (files_after ops) h → now ≡ Some ops → Stays P ops now h
+stays_none P ops now h here stands e = subst (λ now. Stays P ops now h) (sym e) (stands, images_none P ops here)
+
+stays_read : (P : Files → Type 0) (ops : List Op) (now : Option (List Op)) (h : History) (effect : Effect) → P (files_after ops) → StandsFor (files_after ops) h
+    → now ≡ Some (ops ++ record { call = read_call; effect = effect } ∷ []) → Stays P ops now h
+stays_read P ops now h effect here stands e =
+    subst (λ now. Stays P ops now h) (sym e) (subst (λ files. StandsFor files h) (sym (files_after-read ops effect)) stands, images_read P ops effect here)
+
+stays_memory : (P : Files → Type 0) (ops : List Op) (now : Option (List Op)) (h : History) → P (files_after ops) → StandsFor (files_after ops) h
+    → (now ≡ Some ops) ⊎ (now ≡ Some (after_read ops)) → Stays P ops now h
+stays_memory P ops now h here stands (inl e) = stays_none P ops now h here stands e
+stays_memory P ops now h here stands (inr e) = stays_read P ops now h effects.Whole here stands e
+
+-- ---- a swap after it
+
 -- the swap of a commit leaves files that stand for the history with the batch
-StandsFor-swapped : (ops : List Op) (h : History) (batch : List HistoryRow) → StandsFor (files_after ops) h → batch ≢ [] → AllFit plain_columns batch → length h < last_id
-    → StandsFor (carried (calls.Swap plain_path (file_at ops plain_path) (history_text (h ++ batch ∷ []))) (files_after (ops ++ read_op ∷ []))) (h ++ batch ∷ [])
-StandsFor-swapped ops h batch stands some fit below =
+StandsFor-swapped : (ops : List Op) (h : History) (batch : List HistoryRow) → IsHistory (h ++ batch ∷ [])
+    → StandsFor (carried (swap_call (file_at ops plain_path) h batch) (files_after (after_read ops))) (h ++ batch ∷ [])
+StandsFor-swapped ops h batch is =
     subst (λ files. StandsFor files (h ++ batch ∷ []))
-    (sym (carried-swapped plain_path (history_text (h ++ batch ∷ [])) (file_at ops plain_path) (files_after (ops ++ read_op ∷ [])) (ap (λ files. map.get files plain_path) (files_after-push ops read_op))))
-    (StandsFor-inserted (files_after (ops ++ read_op ∷ [])) (h ++ batch ∷ []) (IsHistory-push h batch stands.history some fit below))
+    (sym (carried-swapped plain_path (history_text (h ++ batch ∷ [])) (file_at ops plain_path) (files_after (after_read ops)) (ap (λ files. map.get files plain_path) (files_after-read ops effects.Whole))))
+    (StandsFor-inserted (files_after (after_read ops)) (h ++ batch ∷ []) is)
 
--- each image of a read stands for what stood
-images_read : (P : Files → Type 0) (ops : List Op) (op : Op) → P (files_after ops) → ((files f : Files) → MayLeave op.call files f → f ≡ files) → Extends P (Some ops) (Some (ops ++ op ∷ []))
-images_read P ops op stands stays =
-    Extends-added P (Some ops) (Some ops) op (Extends-refl P (Some ops) (λ told e. let same : ops ≡ told = cc in subst (λ ops. P (files_after ops)) same stands))
-    (λ told e f may. let same : ops ≡ told = cc in subst P (ap files_after same ∙ sym (stays (files_after told) f may)) stands)
+swap_leaves : (h : History) (batch : List HistoryRow) (ops : List Op) (f : Files) → StandsFor (files_after ops) h → IsHistory (h ++ batch ∷ [])
+    → MayLeave (swap_call (file_at ops plain_path) h batch) (files_after (after_read ops)) f → IsBeforeOrAfter h batch f
+swap_leaves h batch ops f stands is (inl e) = inl (subst (λ files. StandsFor files h) (sym (e ∙ files_after-read ops effects.Whole)) stands)
+swap_leaves h batch ops f stands is (inr e) = inr (subst (λ files. StandsFor files (h ++ batch ∷ [])) (sym e) (StandsFor-swapped ops h batch is))
 
-read_leaves : (path : List ℕ) (files f : Files) → MayLeave (calls.Read path) files f → f ≡ files
-read_leaves path files f (inl e) = e
-read_leaves path files f (inr e) = e
+-- each of its images stands for what stood, or for it with the batch
+images_swap : (h : History) (batch : List HistoryRow) (ops : List Op) (effect : Effect) → StandsFor (files_after ops) h → IsHistory (h ++ batch ∷ [])
+    → Extends (IsBeforeOrAfter h batch) (Some ops) (Some (after_swap batch ops h effect))
+images_swap h batch ops effect stands is =
+    Extends-push (IsBeforeOrAfter h batch) (Some ops) (after_read ops) (record { call = swap_call (file_at ops plain_path) h batch; effect = effect })
+    (images_read (IsBeforeOrAfter h batch) ops effects.Whole (inl stands)) (λ f may. swap_leaves h batch ops f stands is may)
 
-swap_leaves : (h : History) (batch : List HistoryRow) (ops : List Op) (f : Files) → StandsFor (files_after ops) h → batch ≢ [] → AllFit plain_columns batch → length h < last_id
-    → MayLeave (calls.Swap plain_path (file_at ops plain_path) (history_text (h ++ batch ∷ []))) (files_after (ops ++ read_op ∷ [])) f → IsBeforeOrAfter h batch f
-swap_leaves h batch ops f stands some fit below (inl e) = inl (subst (λ files. StandsFor files h) (sym e) (Stands-read ops h stands))
-swap_leaves h batch ops f stands some fit below (inr e) = inr (subst (λ files. StandsFor files (h ++ batch ∷ [])) (sym e) (StandsFor-swapped ops h batch stands some fit below))
+-- and so do the files after it, whatever was carried out
+swap_stands : (h : History) (batch : List HistoryRow) (ops : List Op) (effect : Effect) → StandsFor (files_after ops) h → IsHistory (h ++ batch ∷ [])
+    → IsBeforeOrAfter h batch (after_effect (swap_call (file_at ops plain_path) h batch) effect (files_after (after_read ops)))
+swap_stands h batch ops effects.None stands is = inl (subst (λ files. StandsFor files h) (sym (files_after-read ops effects.Whole)) stands)
+swap_stands h batch ops (effects.Part found) stands is = inl (subst (λ files. StandsFor files h) (sym (files_after-read ops effects.Whole)) stands)
+swap_stands h batch ops effects.Whole stands is = inr (StandsFor-swapped ops h batch is)
 
--- and each image of a swap after it for what stood, or for it with the batch
-images_swap : (h : History) (batch : List HistoryRow) (ops : List Op) (op : Op) → op.call ≡ calls.Swap plain_path (file_at ops plain_path) (history_text (h ++ batch ∷ []))
-    → StandsFor (files_after ops) h → batch ≢ [] → AllFit plain_columns batch → length h < last_id
-    → Extends (IsBeforeOrAfter h batch) (Some ops) (Some ((ops ++ read_op ∷ []) ++ op ∷ []))
-images_swap h batch ops op is stands some fit below =
-    Extends-added (IsBeforeOrAfter h batch) (Some ops) (Some (ops ++ read_op ∷ [])) op
-    (images_read (IsBeforeOrAfter h batch) ops read_op (inl stands) (read_leaves plain_path))
-    (λ told e f may.
-    let same : ops ++ read_op ∷ [] ≡ told = cc in
-    swap_leaves h batch ops f stands some fit below (subst (λ call. MayLeave call (files_after (ops ++ read_op ∷ [])) f) is (subst (λ ops. MayLeave op.call (files_after ops) f) (sym same) may)))
+-- a fault leaves what stood, or it with the batch
+outcome_fault : (h : History) (batch : List HistoryRow) (ops : List Op) (now : Option (List Op)) (effect : Effect) → StandsFor (files_after ops) h → IsHistory (h ++ batch ∷ [])
+    → now ≡ Some (after_swap batch ops h effect) → (StandsAfter now h ⊎ StandsAfter now (h ++ batch ∷ [])) × Extends (IsBeforeOrAfter h batch) (Some ops) now
+outcome_fault h batch ops now effect stands is e =
+    let op : Op = record { call = swap_call (file_at ops plain_path) h batch; effect = effect } in
+    subst (λ now. (StandsAfter now h ⊎ StandsAfter now (h ++ batch ∷ [])) × Extends (IsBeforeOrAfter h batch) (Some ops) now) (sym e)
+    (subst (IsBeforeOrAfter h batch) (sym (files_after-push (after_read ops) op)) (swap_stands h batch ops effect stands is), images_swap h batch ops effect stands is)
 
--- what a read leaves, or a call of it that failed
-outcome_read : (h : History) (batch : List HistoryRow) (ops : List Op) (new : Option (List Op)) → StandsFor (files_after ops) h → new ≡ Some (ops ++ read_op ∷ []) → Stands new h × Extends (IsBeforeOrAfter h batch) (Some ops) new
-outcome_read h batch ops new stands e =
-    subst (λ new. Stands new h × Extends (IsBeforeOrAfter h batch) (Some ops) new) (sym e)
-    (Stands-read ops h stands, images_read (IsBeforeOrAfter h batch) ops read_op (inl stands) (read_leaves plain_path))
+-- a swap that was made leaves it with the batch
+outcome_done : (h : History) (batch : List HistoryRow) (ops : List Op) (now : Option (List Op)) → StandsFor (files_after ops) h → IsHistory (h ++ batch ∷ [])
+    → now ≡ Some (after_swap batch ops h effects.Whole) → StandsAfter now (h ++ batch ∷ []) × Extends (IsBeforeOrAfter h batch) (Some ops) now
+outcome_done h batch ops now stands is e =
+    let op : Op = whole (swap_call (file_at ops plain_path) h batch) in
+    subst (λ now. StandsAfter now (h ++ batch ∷ []) × Extends (IsBeforeOrAfter h batch) (Some ops) now) (sym e)
+    (subst (λ files. StandsFor files (h ++ batch ∷ [])) (sym (files_after-push (after_read ops) op)) (StandsFor-swapped ops h batch is), images_swap h batch ops effects.Whole stands is)
 
-outcome_failed_read : (h : History) (batch : List HistoryRow) (ops : List Op) (new : Option (List Op)) → StandsFor (files_after ops) h → new ≡ Some (ops ++ undone (calls.Read plain_path) ∷ []) → Stands new h × Extends (IsBeforeOrAfter h batch) (Some ops) new
-outcome_failed_read h batch ops new stands e =
-    subst (λ new. Stands new h × Extends (IsBeforeOrAfter h batch) (Some ops) new) (sym e)
-    (subst (λ files. StandsFor files h) (sym (files_after-push ops (undone (calls.Read plain_path)))) stands, images_read (IsBeforeOrAfter h batch) ops (undone (calls.Read plain_path)) (inl stands) (read_leaves plain_path))
+-- ---- a commit
 
-outcome_memory : (h : History) (batch : List HistoryRow) (ops : List Op) (new : Option (List Op)) → StandsFor (files_after ops) h → (new ≡ Some ops) ⊎ (new ≡ Some (ops ++ read_op ∷ []))
-    → Stands new h × Extends (IsBeforeOrAfter h batch) (Some ops) new
-outcome_memory h batch ops new stands (inl e) =
-    subst (λ new. Stands new h × Extends (IsBeforeOrAfter h batch) (Some ops) new) (sym e)
-    (stands, Extends-refl (IsBeforeOrAfter h batch) (Some ops) (λ told e. let same : ops ≡ told = cc in inl (subst (λ ops. StandsFor (files_after ops) h) same stands)))
-outcome_memory h batch ops new stands (inr e) = outcome_read h batch ops new stands e
-
--- what the swap leaves, made or not
-outcome_swap : (h : History) (batch : List HistoryRow) (ops : List Op) (new : Option (List Op)) → StandsFor (files_after ops) h → batch ≢ [] → AllFit plain_columns batch → length h < last_id
-    → new ≡ Some ((ops ++ read_op ∷ []) ++ swap_op (file_at ops plain_path) h batch ∷ []) → Stands new (h ++ batch ∷ []) × Extends (IsBeforeOrAfter h batch) (Some ops) new
-outcome_swap h batch ops new stands some fit below e =
-    subst (λ new. Stands new (h ++ batch ∷ []) × Extends (IsBeforeOrAfter h batch) (Some ops) new) (sym e) (
-      subst (λ files. StandsFor files (h ++ batch ∷ [])) (sym (files_after-push (ops ++ read_op ∷ []) (swap_op (file_at ops plain_path) h batch))) (StandsFor-swapped ops h batch stands some fit below),
-      images_swap h batch ops (swap_op (file_at ops plain_path) h batch) refl stands some fit below,
-    )
-
-outcome_failed_swap : (h : History) (batch : List HistoryRow) (ops : List Op) (new : Option (List Op)) → StandsFor (files_after ops) h → batch ≢ [] → AllFit plain_columns batch → length h < last_id
-    → new ≡ Some ((ops ++ read_op ∷ []) ++ failed_swap_op (file_at ops plain_path) h batch ∷ []) → Stands new h × Extends (IsBeforeOrAfter h batch) (Some ops) new
-outcome_failed_swap h batch ops new stands some fit below e =
-    subst (λ new. Stands new h × Extends (IsBeforeOrAfter h batch) (Some ops) new) (sym e) (
-      subst (λ files. StandsFor files h) (sym (files_after-push (ops ++ read_op ∷ []) (failed_swap_op (file_at ops plain_path) h batch))) (Stands-read ops h stands),
-      images_swap h batch ops (failed_swap_op (file_at ops plain_path) h batch) refl stands some fit below,
-    )
-
--- what stands after an answer
-abbrev pub Outcome : Result Committed Refusal → History → List HistoryRow → Option (List Op) → Type 0
-Outcome r h batch new = MatchResult r (λ committed. IsCommitted batch h committed × Stands new (h ++ batch ∷ [])) (λ e. Leaves e h batch new)
-
--- an answer's outcome and its images, for the history that stood
-pub outcome : (r : Result Committed Refusal) (h : History) (batch : List HistoryRow) (ops : List Op) (new : Option (List Op)) (rose : Type 0) → batch ≢ [] → AllFit plain_columns batch
-    → CommitsAlone batch ops new rose r → StandsFor (files_after ops) h → Outcome r h batch new × Extends (IsBeforeOrAfter h batch) (Some ops) new
-outcome (Ok committed) h batch ops new rose some fit (k, reads, is, e) stands =
+-- what a refusal leaves, and the images
+left : (e : Refusal) (h : History) (batch : List HistoryRow) (ops : List Op) (after : StoreView) (failed : Type 0) → batch ≢ [] → AllFit plain_columns batch
+    → StandsFor (files_after ops) h → CommitsAlone batch ops after.ops failed (Err e) → LeavesPlain e h batch after × Extends (IsBeforeOrAfter h batch) (Some ops) after.ops
+left refusals.Memory h batch ops after failed some fit stands answer = stays_memory (IsBeforeOrAfter h batch) ops after.ops h (inl stands) stands answer
+left (refusals.StoreFault path) h batch ops after failed some fit stands (at, fault, inl (effect, e)) =
+    let kept = stays_read (IsBeforeOrAfter h batch) ops after.ops h effect (inl stands) stands e in
+    (inl kept.0, kept.1)
+left (refusals.StoreFault path) h batch ops after failed some fit stands (at, fault, inr (k, reads, below, (effect, e))) =
     let same : k ≡ h = read_same ops h k stands reads in
-    let made : IsCommitted batch h committed = subst (λ k. IsCommitted batch k committed) same is in
-    let left = outcome_swap h batch ops new stands some fit made.below (subst (λ k. new ≡ Some ((ops ++ read_op ∷ []) ++ swap_op (file_at ops plain_path) k batch ∷ [])) same e) in
-    ((made, left.0), left.1)
-outcome (Err refusals.Memory) h batch ops new rose some fit answer stands = outcome_memory h batch ops new stands answer
-outcome (Err (refusals.StoreFault path)) h batch ops new rose some fit (at, rises, inl e) stands =
-    let left = outcome_failed_read h batch ops new stands e in
-    (inl left.0, left.1)
-outcome (Err (refusals.StoreFault path)) h batch ops new rose some fit (at, rises, inr (k, reads, below, inl e)) stands =
-    let same : k ≡ h = read_same ops h k stands reads in
-    let left = outcome_failed_swap h batch ops new stands some fit (subst (λ k. length k < last_id) same below) (subst (λ k. new ≡ Some ((ops ++ read_op ∷ []) ++ failed_swap_op (file_at ops plain_path) k batch ∷ [])) same e) in
-    (inl left.0, left.1)
-outcome (Err (refusals.StoreFault path)) h batch ops new rose some fit (at, rises, inr (k, reads, below, inr e)) stands =
-    let same : k ≡ h = read_same ops h k stands reads in
-    let left = outcome_swap h batch ops new stands some fit (subst (λ k. length k < last_id) same below) (subst (λ k. new ≡ Some ((ops ++ read_op ∷ []) ++ swap_op (file_at ops plain_path) k batch ∷ [])) same e) in
-    (inr left.0, left.1)
-outcome (Err (refusals.Damaged path place)) h batch ops new rose some fit answer stands = outcome_read h batch ops new stands answer.1
-outcome (Err (refusals.Limit which number)) h batch ops new rose some fit answer stands = outcome_read h batch ops new stands answer.1
-outcome (Err (refusals.Words command)) h batch ops new rose some fit answer stands = absurd answer.0
-outcome (Err refusals.SourceFault) h batch ops new rose some fit answer stands = absurd answer.0
-outcome (Err (refusals.SinkFault snapshot)) h batch ops new rose some fit answer stands = absurd answer.0
-outcome (Err (refusals.BadLine line why column)) h batch ops new rose some fit answer stands = absurd answer.0
-outcome (Err (refusals.Contended ids)) h batch ops new rose some fit answer stands = absurd answer.0
+    let is = IsHistory-push h batch stands.history some fit (subst (λ k. length k < last_id) same below) in
+    outcome_fault h batch ops after.ops effect stands is (e ∙ ap (λ k. Some (after_swap batch ops k effect)) same)
+left e h batch ops after failed some fit stands answer = stays_read (IsBeforeOrAfter h batch) ops after.ops h effects.Whole (inl stands) stands answer.1
 
--- the same, where the operations may not be told
-pub told_outcome : (r : Result Committed Refusal) (batch : List HistoryRow) (old : Option (List Op)) (m : ℕ) (new : Option (List Op)) (n : ℕ) (rose : Type 0) → batch ≢ [] → AllFit plain_columns batch
-    → Commits batch old m new n rose r → n ≡ m → (h : History) → Stands old h → Outcome r h batch new × Extends (IsBeforeOrAfter h batch) old new
-told_outcome r batch None m new n rose some fit answer alone h stands = absurd stands
-told_outcome r batch (Some ops) m new n rose some fit answer alone h stands = outcome r h batch ops new rose some fit (Commits-alone batch ops m new n rose r answer (omega (arith, alone))) stands
-
-pub told_done : (r : Result Committed Refusal) (batch : List HistoryRow) (old : Option (List Op)) (m : ℕ) (new : Option (List Op)) (n : ℕ) (rose : Type 0) → batch ≢ [] → AllFit plain_columns batch
-    → Commits batch old m new n rose r → n ≡ m → IfOk r (λ committed. (h : History) → Stands old h → IsCommitted batch h committed × Stands new (h ++ batch ∷ []))
-told_done (Ok committed) batch old m new n rose some fit answer alone = λ h stands. (told_outcome (Ok committed) batch old m new n rose some fit answer alone h stands).0
-told_done (Err e) batch old m new n rose some fit answer alone = tt
-
-pub told_leaves : (r : Result Committed Refusal) (batch : List HistoryRow) (old : Option (List Op)) (m : ℕ) (new : Option (List Op)) (n : ℕ) (rose : Type 0) → batch ≢ [] → AllFit plain_columns batch
-    → Commits batch old m new n rose r → n ≡ m → IfErr r (λ e. (h : History) → Stands old h → Leaves e h batch new)
-told_leaves (Ok committed) batch old m new n rose some fit answer alone = tt
-told_leaves (Err e) batch old m new n rose some fit answer alone = λ h stands. (told_outcome (Err e) batch old m new n rose some fit answer alone h stands).0
-
-ok_err : (h : History) (place : ℕ) → ◌≡◌ {A = Result History ℕ} (Ok h) (Err place) → ⊥
-ok_err h place e = cc
-
--- on a history with an id left a commit is made, or memory was wanted, or the store failed
-complete_alone : (e : Refusal) (h : History) (batch : List HistoryRow) (ops : List Op) (new : Option (List Op)) (rose : Type 0) → CommitsAlone batch ops new rose (Err e) → StandsFor (files_after ops) h → length h < last_id → IsWantOrFault rose e
-complete_alone refusals.Memory h batch ops new rose answer stands below = tt
-complete_alone (refusals.StoreFault path) h batch ops new rose answer stands below = answer.1
-complete_alone (refusals.Damaged path place) h batch ops new rose answer stands below = ok_err h place (sym (reading_at-stands ops h stands) ∙ answer.0.1)
-complete_alone (refusals.Limit which number) h batch ops new rose answer stands below =
+-- on a history with an id left a commit is made, or memory ran out, or the store failed
+complete : (e : Refusal) (h : History) (batch : List HistoryRow) (ops : List Op) (now : Option (List Op)) (failed : Type 0) → StandsFor (files_after ops) h
+    → CommitsAlone batch ops now failed (Err e) → length h < last_id → IsMemoryOrFault failed e
+complete refusals.Memory h batch ops now failed stands answer below = tt
+complete (refusals.StoreFault path) h batch ops now failed stands answer below = answer.1
+complete (refusals.Damaged path offset) h batch ops now failed stands answer below = ok_err h offset (sym (reading_at-stands ops h stands) ∙ answer.0.1)
+complete (refusals.Limit which number) h batch ops now failed stands answer below =
     let same = read_same ops h answer.0.2.0 stands answer.0.2.1 in
     absurd (omega (arith, below, ap length same, answer.0.2.2))
-complete_alone (refusals.Words command) h batch ops new rose answer stands below = answer.0
-complete_alone refusals.SourceFault h batch ops new rose answer stands below = answer.0
-complete_alone (refusals.SinkFault snapshot) h batch ops new rose answer stands below = answer.0
-complete_alone (refusals.BadLine line why column) h batch ops new rose answer stands below = answer.0
-complete_alone (refusals.Contended ids) h batch ops new rose answer stands below = answer.0
+complete e h batch ops now failed stands answer below = answer.0
 
-pub told_complete : (r : Result Committed Refusal) (batch : List HistoryRow) (old : Option (List Op)) (m : ℕ) (new : Option (List Op)) (n : ℕ) (rose : Type 0)
-    → Commits batch old m new n rose r → n ≡ m → IfErr r (λ e. (h : History) → Stands old h → length h < last_id → IsWantOrFault rose e)
-told_complete (Ok committed) batch old m new n rose answer alone = tt
-told_complete (Err e) batch None m new n rose answer alone = λ h stands below. absurd stands
-told_complete (Err e) batch (Some ops) m new n rose answer alone = λ h stands below. complete_alone e h batch ops new rose (Commits-alone batch ops m new n rose (Err e) answer (omega (arith, alone))) stands below
+adds : (r : Result Committed Refusal) (h : History) (batch : List HistoryRow) (ops : List Op) (m f : ℕ) (after : StoreView) → batch ≢ [] → AllFit plain_columns batch
+    → StandsFor (files_after ops) h → CommitsAlone batch ops after.ops (Rose f after.faults) r → AddsTo h batch (known ops m f) after r
+adds (Ok committed) h batch ops m f after some fit stands (k, reads, is, e) =
+    let same : k ≡ h = read_same ops h k stands reads in
+    let made : IsCommitted batch h committed = subst (λ k. IsCommitted batch k committed) same is in
+    let history = IsHistory-push h batch stands.history some fit made.below in
+    let now = outcome_done h batch ops after.ops stands history (e ∙ ap (λ k. Some (after_swap batch ops k effects.Whole)) same) in
+    record {
+      done = (made, now.0, Extends-refl (λ files. StandsFor files (h ++ batch ∷ [])) after.ops (λ found at. subst (λ now. StandsAfter now (h ++ batch ∷ [])) at now.0));
+      leaves = tt;
+      complete = tt;
+      images = now.1;
+    }
+adds (Err e) h batch ops m f after some fit stands answer =
+    let now = left e h batch ops after (Rose f after.faults) some fit stands answer in
+    record {
+      done = tt;
+      leaves = now.0;
+      complete = complete e h batch ops after.ops (Rose f after.faults) stands answer;
+      images = now.1;
+    }
 
-shows_complete_alone : (e : Refusal) (h : History) (ops : List Op) (new : Option (List Op)) (rose : Type 0) → ShowsAlone ops new rose (Err e) → StandsFor (files_after ops) h → IsWantOrFault rose e
-shows_complete_alone refusals.Memory h ops new rose answer stands = tt
-shows_complete_alone (refusals.StoreFault path) h ops new rose answer stands = answer.1
-shows_complete_alone (refusals.Damaged path place) h ops new rose answer stands = ok_err h place (sym (reading_at-stands ops h stands) ∙ answer.0.1)
-shows_complete_alone (refusals.Limit which number) h ops new rose answer stands = answer.0
-shows_complete_alone (refusals.Words command) h ops new rose answer stands = answer.0
-shows_complete_alone refusals.SourceFault h ops new rose answer stands = answer.0
-shows_complete_alone (refusals.SinkFault snapshot) h ops new rose answer stands = answer.0
-shows_complete_alone (refusals.BadLine line why column) h ops new rose answer stands = answer.0
-shows_complete_alone (refusals.Contended ids) h ops new rose answer stands = answer.0
+-- what is so of the moment of the first call
+abbrev pub HasFirst : StoreView → StoreView → (StoreView → History → Type 0) → Type 0
+HasFirst before after P =
+    (first : StoreView) × IsFirst read_call before first after × (IsAlone first after → (h : History) → Stands first h → P first h)
 
-pub shows_complete : (r : Result (Vec ℕ Global) Refusal) (old : Option (List Op)) (m : ℕ) (new : Option (List Op)) (n : ℕ) (rose : Type 0)
-    → ShowsPlain old m new n rose r → n ≡ m → IfErr r (λ e. (h : History) → Stands old h → IsWantOrFault rose e)
-shows_complete (Ok text) old m new n rose answer alone = tt
-shows_complete (Err e) None m new n rose answer alone = λ h stands. absurd stands
-shows_complete (Err e) (Some ops) m new n rose answer alone = λ h stands. shows_complete_alone e h ops new rose (ShowsPlain-alone ops m new n rose (Err e) answer (omega (arith, alone))) stands
+-- where no operations are known it is any moment
+unknown_first : (m f : ℕ) (after : StoreView) (P : StoreView → History → Type 0) → IsLater (record { ops = None; others = m; faults = f }) after
+    → HasFirst (record { ops = None; others = m; faults = f }) after P
+unknown_first m f after P later = (
+  record { ops = None; others = m; faults = f },
+  record { meanwhile = refl; faults = omega arith; later = later; goes_on = tt },
+  λ alone h stands. absurd stands,
+)
 
--- what a command without a batch leaves
-stays : (P : Files → Type 0) (r : Result (Vec ℕ Global) Refusal) (ops : List Op) (new : Option (List Op)) (rose : Type 0) → P (files_after ops) → ShowsAlone ops new rose r
-    → Extends P (Some ops) new
-stays P (Ok text) ops new rose here (k, reads, is, e) = subst (Extends P (Some ops)) (sym e) (images_read P ops read_op here (read_leaves plain_path))
-stays P (Err refusals.Memory) ops new rose here (inl e) = subst (Extends P (Some ops)) (sym e) (Extends-refl P (Some ops) (λ told e. let same : ops ≡ told = cc in subst (λ ops. P (files_after ops)) same here))
-stays P (Err refusals.Memory) ops new rose here (inr e) = subst (Extends P (Some ops)) (sym e) (images_read P ops read_op here (read_leaves plain_path))
-stays P (Err (refusals.StoreFault path)) ops new rose here (at, rises, e) = subst (Extends P (Some ops)) (sym e) (images_read P ops (undone (calls.Read plain_path)) here (read_leaves plain_path))
-stays P (Err (refusals.Damaged path place)) ops new rose here answer = subst (Extends P (Some ops)) (sym answer.1) (images_read P ops read_op here (read_leaves plain_path))
-stays P (Err (refusals.Limit which number)) ops new rose here answer = absurd answer.0
-stays P (Err (refusals.Words command)) ops new rose here answer = absurd answer.0
-stays P (Err refusals.SourceFault) ops new rose here answer = absurd answer.0
-stays P (Err (refusals.SinkFault snapshot)) ops new rose here answer = absurd answer.0
-stays P (Err (refusals.BadLine line why column)) ops new rose here answer = absurd answer.0
-stays P (Err (refusals.Contended ids)) ops new rose here answer = absurd answer.0
+known_first : (ops : List Op) (m f : ℕ) (after : StoreView) (A : List Op → Type 0) (P : StoreView → History → Type 0) → IsLater (known ops m f) after → FromFirst ops m after A
+    → ((first : List Op) (n : ℕ) (h : History) → A first → StandsFor (files_after first) h → P (known first n f) h) → HasFirst (known ops m f) after P
+known_first ops m f after A P later (others, within, goes_on, from) then = (
+  known (ops ++ others) (m + length others) f,
+  record {
+    meanwhile = (others, refl, refl);
+    faults = omega arith;
+    later = record { others = within; faults = later.faults };
+    goes_on = goes_on;
+  },
+  λ alone h stands. then (ops ++ others) (m + length others) h (from alone) stands,
+)
 
-pub told_images : (r : Result (Vec ℕ Global) Refusal) (old : Option (List Op)) (m : ℕ) (new : Option (List Op)) (n : ℕ) (rose : Type 0) → ShowsPlain old m new n rose r → n ≡ m → (h : History) → Stands old h → Extends (λ files. StandsFor files h) old new
-told_images r None m new n rose answer alone h stands = absurd stands
-told_images r (Some ops) m new n rose answer alone h stands = stays (λ files. StandsFor files h) r ops new rose stands (ShowsPlain-alone ops m new n rose r answer (omega (arith, alone)))
+commits_first : (batch : List HistoryRow) (ops : Option (List Op)) (m f : ℕ) (after : StoreView) (r : Result Committed Refusal) → batch ≢ [] → AllFit plain_columns batch
+    → IsLater (record { ops = ops; others = m; faults = f }) after → Commits batch (record { ops = ops; others = m; faults = f }) after r
+    → HasFirst (record { ops = ops; others = m; faults = f }) after (λ first h. AddsTo h batch first after r)
+commits_first batch None m f after r some fit later answer = unknown_first m f after (λ first h. AddsTo h batch first after r) later
+commits_first batch (Some ops) m f after r some fit later answer =
+    known_first ops m f after (λ first. CommitsAlone batch first after.ops (Rose f after.faults) r) (λ first h. AddsTo h batch first after r) later (Commits-first batch ops m f after r answer)
+    (λ first n h alone stands. adds r h batch first n f after some fit stands alone)
 
--- what all images meet, the files meet in the end
-pub Stands-images : (old new : Option (List Op)) (h : History) → Stands old h → Extends (λ files. StandsFor files h) old new → Stands new h
-Stands-images None new h stands images = absurd stands
-Stands-images (Some ops) new h stands (more, is, images) =
-    subst (λ new. Stands new h) (sym is) (images (length (ops ++ more)) (files_after (ops ++ more)) (omega (arith, length-append ops more)) (inl (ap files_after (sym (take-length (ops ++ more))))))
+-- the history of a commit
+pub Commits-history : (batch : List HistoryRow) (before after : StoreView) (r : Result Committed Refusal) → batch ≢ [] → AllFit plain_columns batch
+    → IsLater before after → Commits batch before after r → HasFirst before after (λ first h. AddsTo h batch first after r)
+Commits-history batch before = commits_first batch before.ops before.others before.faults
 
-pub told_shows : (r : Result (Vec ℕ Global) Refusal) (old : Option (List Op)) (m : ℕ) (new : Option (List Op)) (n : ℕ) (rose : Type 0) → ShowsPlain old m new n rose r → n ≡ m → IfOk r (λ text. (h : History) → Stands old h → text.items ≡ nothing_text h)
-told_shows (Ok text) None m new n rose answer alone = λ h stands. absurd stands
-told_shows (Ok text) (Some ops) m new n rose answer alone =
-    let told = ShowsPlain-alone ops m new n rose (Ok text) answer (omega (arith, alone)) in
-    λ h stands. told.2 ∙ ap nothing_text (read_same ops h told.0 stands told.1)
-told_shows (Err e) old m new n rose answer alone = tt
+-- ---- a batch without rows
+
+shows_left : (r : Result (Vec ℕ Global) Refusal) (h : History) (ops : List Op) (now : Option (List Op)) (failed : Type 0) → StandsFor (files_after ops) h → ShowsAlone ops now failed r
+    → Stays (λ files. StandsFor files h) ops now h
+shows_left (Ok text) h ops now failed stands (k, reads, is, e) = stays_read (λ files. StandsFor files h) ops now h effects.Whole stands stands e
+shows_left (Err refusals.Memory) h ops now failed stands answer = stays_memory (λ files. StandsFor files h) ops now h stands stands answer
+shows_left (Err (refusals.StoreFault path)) h ops now failed stands (at, fault, (effect, e)) = stays_read (λ files. StandsFor files h) ops now h effect stands stands e
+shows_left (Err e) h ops now failed stands answer = stays_read (λ files. StandsFor files h) ops now h effects.Whole stands stands answer.1
+
+shows_complete : (e : Refusal) (h : History) (ops : List Op) (now : Option (List Op)) (failed : Type 0) → StandsFor (files_after ops) h → ShowsAlone ops now failed (Err e) → IsMemoryOrFault failed e
+shows_complete refusals.Memory h ops now failed stands answer = tt
+shows_complete (refusals.StoreFault path) h ops now failed stands answer = answer.1
+shows_complete (refusals.Damaged path offset) h ops now failed stands answer = ok_err h offset (sym (reading_at-stands ops h stands) ∙ answer.0.1)
+shows_complete e h ops now failed stands answer = answer.0
+
+keeps : (r : Result (Vec ℕ Global) Refusal) (h : History) (ops : List Op) (m f : ℕ) (after : StoreView) → StandsFor (files_after ops) h
+    → ShowsAlone ops after.ops (Rose f after.faults) r → KeepsTo h (known ops m f) after r
+keeps (Ok text) h ops m f after stands answer =
+    let now = shows_left (Ok text) h ops after.ops (Rose f after.faults) stands answer in
+    record {
+      done = answer.2 ∙ ap nothing_text (read_same ops h answer.0 stands answer.1);
+      stays = now.0;
+      complete = tt;
+      images = now.1;
+    }
+keeps (Err e) h ops m f after stands answer =
+    let now = shows_left (Err e) h ops after.ops (Rose f after.faults) stands answer in
+    record {
+      done = tt;
+      stays = now.0;
+      complete = shows_complete e h ops after.ops (Rose f after.faults) stands answer;
+      images = now.1;
+    }
+
+shows_first : (ops : Option (List Op)) (m f : ℕ) (after : StoreView) (r : Result (Vec ℕ Global) Refusal)
+    → IsLater (record { ops = ops; others = m; faults = f }) after → ShowsPlain (record { ops = ops; others = m; faults = f }) after r
+    → HasFirst (record { ops = ops; others = m; faults = f }) after (λ first h. KeepsTo h first after r)
+shows_first None m f after r later answer = unknown_first m f after (λ first h. KeepsTo h first after r) later
+shows_first (Some ops) m f after r later answer =
+    known_first ops m f after (λ first. ShowsAlone first after.ops (Rose f after.faults) r) (λ first h. KeepsTo h first after r) later (ShowsPlain-first ops m f after r answer)
+    (λ first n h alone stands. keeps r h first n f after stands alone)
+
+pub ShowsPlain-history : (before after : StoreView) (r : Result (Vec ℕ Global) Refusal) → IsLater before after → ShowsPlain before after r → HasFirst before after (λ first h. KeepsTo h first after r)
+ShowsPlain-history before = shows_first before.ops before.others before.faults

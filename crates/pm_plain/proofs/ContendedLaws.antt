@@ -1,5 +1,5 @@
--- Where each of all tries met other content, nothing but that is answered.
-use Rattle.std.proofs.Common.{◌≡◌, ◌≢◌, ℕ, ◌+◌, List, [], ◌∷◌, ◌++◌, length, drop, get_or, Option, Some, Result, Ok, Err, refl, sym, ap, subst, ◌∙◌, inl, inr, arith, length-append}
+-- Where each of all tries found other content, nothing but that is answered.
+use Rattle.std.proofs.Common.{◌≡◌, ◌≢◌, ℕ, ◌+◌, List, [], ◌∷◌, ◌++◌, length, drop, get_or, Option, Some, Result, Ok, Err, refl, sym, ap, ◌∙◌, inl, inr, arith}
 use Rattle.std.proofs.lemmas.List.{length_push}
 use Rattle.pm_values.specs.declared.refusal.Refusal.{Refusal}
 use Rattle.pm_values.specs.declared.refusal.Refusal.TheVariants as refusals
@@ -8,17 +8,16 @@ use Rattle.pm_store.specs.declared.call.Call.{Call}
 use Rattle.pm_store.specs.declared.call.Call.TheVariants as calls
 use Rattle.pm_store.specs.declared.call.Op.{Op}
 use Rattle.pm_store.specs.Files.{file_at}
-use Rattle.pm_store.specs.Answers.{Meanwhile, Steps, Holds}
-use Rattle.pm_store.proofs.StepLaws.{Steps-later}
+use Rattle.pm_store.specs.Answers.{whole}
+use Rattle.pm_store.specs.Store.{StoreView}
+use Rattle.pm_store.proofs.StepLaws.{Steps-known}
 use Rattle.pm_plain.specs.declared.commit.Committed.{Committed}
 use Rattle.pm_plain.specs.declared.commit.Attempt.{Attempt}
 use Rattle.pm_plain.specs.declared.commit.Attempt.TheVariants as attempts
 use Rattle.pm_plain.specs.Text.{History, plain_path}
-use Rattle.pm_plain.specs.Commit.{read_op, swap_op, Attempts, Tried, Reaches, tries, Ends, Commits}
-use Rattle.pm_plain.proofs.AloneLaws.{Reaches-told}
-
-some_same : (xs ys : List Op) → ◌≡◌ {A = Option (List Op)} (Some xs) (Some ys) → xs ≡ ys
-some_same xs ys e = cc
+use Rattle.pm_plain.specs.Commit.{StoreFailed, Holds, read_call, swap_call, Tried, Reaches, tries, Ends, Commits}
+use Rattle.pm_plain.proofs.AloneLaws.{Rose-longer}
+use Rattle.pm_plain.proofs.FollowLaws.{Follows, some_same, Follows-own, Follows-then, Follows-step, Follows-meanwhile, Follows-uncalled, Follows-reaches}
 
 -- lists that end with one operation
 last_op : (xs ys : List Op) (x y : Op) → xs ++ x ∷ [] ≡ ys ++ y ∷ [] → (xs ≡ ys) × (x ≡ y)
@@ -35,94 +34,66 @@ abbrev expected_by : Call → Option (List ℕ)
 expected_by (calls.Swap path expected bytes) = expected
 expected_by other = Some []
 
--- how many operations of its own a step adds, and how many tries do
-Steps-own : (op : Op) (P : List Op → Type 0) (ops : List Op) (m : ℕ) (new : List Op) (n : ℕ) → Steps op P (Some ops) m (Some new) n → length new + m ≡ length ops + n + 1
-Steps-own op P ops m new n (others, is, count, here) =
-    omega (arith, ap length (some_same new ((ops ++ others) ++ op ∷ []) is), length_push (ops ++ others) op, length-append ops others, count)
+-- the last operation is a swap that found other content
+abbrev FoundLast : List HistoryRow → Option (List Op) → Type 0
+FoundLast batch now =
+    (before : List Op) × (expected : Option (List ℕ)) × (h : History) × (found : Option (List ℕ))
+    × (now ≡ Some (before ++ whole (swap_call expected h batch) ∷ [])) × (file_at before plain_path ≡ found) × (found ≢ expected)
 
-Meanwhile-own : (ops : List Op) (m : ℕ) (new : List Op) (n : ℕ) → Meanwhile (Some ops) m (Some new) n → length new + m ≡ length ops + n
-Meanwhile-own ops m new n (others, is, count) = omega (arith, ap length (some_same new (ops ++ others) is), length-append ops others, count)
+Tried-ends : (batch : List HistoryRow) (first : Option (List ℕ)) (id : ℕ) (ids : List ℕ) (last : Option (List ℕ)) (before after : StoreView) (ops : List Op)
+    → before.ops ≡ Some ops → Tried batch first (id ∷ ids) last before after → FoundLast batch after.ops
+Tried-ends batch first id [] last before after ops is (found, middle, (h, reads, below, next, other, steps), (same, none)) =
+    let came = Steps-known (whole (swap_call first h batch)) (Holds found) before middle ops is steps in
+    (ops ++ came.0, first, h, found, ap (λ (store : StoreView). store.ops) (sym none) ∙ came.1, came.3, other)
+Tried-ends batch first id (more ∷ ids) last before after ops is (found, middle, (h, reads, below, next, other, steps), tried) =
+    let one = Follows-step (whole (swap_call first h batch)) (Holds found) before middle ops is steps in
+    Tried-ends batch found more ids last middle after (ops ++ one.more) one.is tried
 
-Tried-own : (batch : List HistoryRow) (first : Option (List ℕ)) (ids : List ℕ) (last : Option (List ℕ)) (ops : List Op) (m : ℕ) (new : List Op) (n : ℕ) → Tried batch first ids last (Some ops) m (Some new) n → length new + m ≡ length ops + n + length ids
-Tried-own batch first [] last ops m new n tried = omega (arith, ap length (some_same ops new tried.1), tried.2)
-Tried-own batch first (id ∷ ids) last ops m new n (met, mid, k, (h, reads, below, next, other, steps), tried) =
-    let told = Steps-later (swap_op first h batch) (Holds plain_path met) ops m mid k steps in
-    let own = Steps-own (swap_op first h batch) (Holds plain_path met) ops m told.0 k (subst (λ mid. Steps (swap_op first h batch) (Holds plain_path met) (Some ops) m mid k) told.1 steps) in
-    let rest = Tried-own batch met ids last told.0 k new n (subst (λ mid. Tried batch met ids last mid k (Some new) n) told.1 tried) in
-    omega (arith, own, rest)
+Reaches-ends : (batch : List HistoryRow) (ids : List ℕ) (found : Option (List ℕ)) (before after : StoreView) (ops : List Op) → before.ops ≡ Some ops → length ids ≡ tries
+    → Reaches batch ids found before after → FoundLast batch after.ops
+Reaches-ends batch [] found before after ops is all r = absurd (omega (arith, all))
+Reaches-ends batch (id ∷ ids) found before after ops is all r =
+    let one = Follows-step (whole read_call) (Holds r.first) before r.mid ops is r.read in
+    Tried-ends batch r.first id ids found r.mid after (ops ++ one.more) one.is r.tried
 
-Reaches-own : (batch : List HistoryRow) (ids : List ℕ) (found : Option (List ℕ)) (ops : List Op) (m : ℕ) (new : List Op) (n : ℕ) → Reaches batch ids found (Some ops) m (Some new) n → length new + m ≡ length ops + n + 1 + length ids
-Reaches-own batch ids found ops m new n r =
-    let told = Steps-later read_op (Holds plain_path r.first) ops m r.mid r.count r.read in
-    let own = Steps-own read_op (Holds plain_path r.first) ops m told.0 r.count (subst (λ mid. Steps read_op (Holds plain_path r.first) (Some ops) m mid r.count) told.1 r.read) in
-    let rest = Tried-own batch r.first ids found told.0 r.count new n (subst (λ mid. Tried batch r.first ids found mid r.count (Some new) n) told.1 r.tried) in
-    omega (arith, own, rest)
+-- a commit that was made doesn't end with a swap that found other content
+not_done : (batch : List HistoryRow) (before after : StoreView) (ops : List Op) (committed : Committed) → before.ops ≡ Some ops → FoundLast batch after.ops
+    → Ends batch before after (Ok (attempts.Done committed)) → ⊥
+not_done batch before after ops committed is (prefix, expected, h, found, ends, here, other) e =
+    let from = Follows-reaches batch e.ids e.found before e.mid ops is e.reaches in
+    let (k, reads, made, steps) = e.last in
+    let came = Steps-known (whole (swap_call e.found k batch)) (Holds e.found) e.mid after (ops ++ from.more) from.is steps in
+    let last = (ops ++ from.more) ++ came.0 in
+    let both = last_op prefix last (whole (swap_call expected h batch)) (whole (swap_call e.found k batch))
+    (some_same (prefix ++ whole (swap_call expected h batch) ∷ []) (last ++ whole (swap_call e.found k batch) ∷ []) (sym ends ∙ came.1)) in
+    let same : expected ≡ e.found = ap (λ (op : Op). expected_by op.call) both.1 in
+    other (sym here ∙ ap (λ (ops : List Op). file_at ops plain_path) both.0 ∙ came.3 ∙ sym same)
 
--- the last operation is a swap that met other content
-abbrev MetLast : List HistoryRow → List Op → Type 0
-MetLast batch new =
-    (before : List Op) × (found : Option (List ℕ)) × (h : History) × (met : Option (List ℕ))
-    × (new ≡ before ++ swap_op found h batch ∷ []) × (file_at before plain_path ≡ met) × (met ≢ found)
+-- and one whose last try made no call made fewer calls
+not_fewer : (batch : List HistoryRow) (attempt : Result Attempt Refusal) (before after : StoreView) (ops : List Op) (own : ℕ) → own ≡ 1 + tries → before.ops ≡ Some ops → Follows own ops before.others after
+    → (e : Ends batch before after attempt) → ((ops : List Op) → e.mid.ops ≡ Some ops → Follows 0 ops e.mid.others after) → ⊥
+not_fewer batch attempt before after ops own all is whole e last =
+    let from = Follows-reaches batch e.ids e.found before e.mid ops is e.reaches in
+    let fewer = Follows-then (1 + length e.ids) 0 ops before.others e.mid after from (last (ops ++ from.more) from.is) in
+    let same = Follows-own own (1 + length e.ids + 0) ops before.others after whole fewer in
+    omega (arith, all, same, e.fewer)
 
-Tried-ends : (batch : List HistoryRow) (first : Option (List ℕ)) (id : ℕ) (ids : List ℕ) (last : Option (List ℕ)) (ops : List Op) (m : ℕ) (new : List Op) (n : ℕ) → Tried batch first (id ∷ ids) last (Some ops) m (Some new) n → MetLast batch new
-Tried-ends batch first id [] last ops m new n (met, mid, k, (h, reads, below, next, other, (others, is, count, here)), tried) =
-    (ops ++ others, first, h, met, some_same new ((ops ++ others) ++ swap_op first h batch ∷ []) (sym tried.1 ∙ is), here, other)
-Tried-ends batch first id (more ∷ ids) last ops m new n (met, mid, k, (h, reads, below, next, other, steps), tried) =
-    let told = Steps-later (swap_op first h batch) (Holds plain_path met) ops m mid k steps in
-    Tried-ends batch met more ids last told.0 k new n (subst (λ mid. Tried batch met (more ∷ ids) last mid k (Some new) n) told.1 tried)
+contended_known : (batch : List HistoryRow) (before after : StoreView) (ops : List Op) (own : ℕ) (r : Result Committed Refusal) → own ≡ 1 + tries → before.ops ≡ Some ops
+    → Follows own ops before.others after → FoundLast batch after.ops → Commits batch before after r → (StoreFailed before after → ⊥) → (tried : List ℕ) × (r ≡ Err (refusals.Contended tried))
+contended_known batch before after ops own (Ok committed) all is whole ends answer no_fault = absurd (not_done batch before after ops committed is ends answer)
+contended_known batch before after ops own (Err refusals.Memory) all is whole ends (inl read) no_fault =
+    absurd (omega (arith, all, Follows-own own 0 ops before.others after whole (Follows-meanwhile before after ops is read)))
+contended_known batch before after ops own (Err refusals.Memory) all is whole ends (inr e) no_fault =
+    absurd (not_fewer batch (Err refusals.Memory) before after ops own all is whole e (λ ops is. Follows-meanwhile e.mid after ops is e.last))
+contended_known batch before after ops own (Err (refusals.StoreFault path)) all is whole ends (inl read) no_fault = absurd (no_fault read.1)
+contended_known batch before after ops own (Err (refusals.StoreFault path)) all is whole ends (inr e) no_fault =
+    absurd (no_fault (Rose-longer before.faults e.mid.faults after.faults e.reaches.later.faults e.last.4))
+contended_known batch before after ops own (Err (refusals.Contended tried)) all is whole ends answer no_fault = (tried, refl)
+contended_known batch before after ops own (Err e) all is whole ends (inl read) no_fault = absurd read
+contended_known batch before after ops own (Err e) all is whole ends (inr last) no_fault =
+    absurd (not_fewer batch (Err e) before after ops own all is whole last (λ ops is. Follows-uncalled last.mid after ops is last.last.1))
 
-Reaches-ends : (batch : List HistoryRow) (ids : List ℕ) (found : Option (List ℕ)) (ops : List Op) (m : ℕ) (new : List Op) (n : ℕ) → length ids ≡ tries → Reaches batch ids found (Some ops) m (Some new) n → MetLast batch new
-Reaches-ends batch [] found ops m new n all r = absurd (omega (arith, all))
-Reaches-ends batch (id ∷ ids) found ops m new n all r =
-    let told = Steps-later read_op (Holds plain_path r.first) ops m r.mid r.count r.read in
-    Tried-ends batch r.first id ids found told.0 r.count new n (subst (λ mid. Tried batch r.first (id ∷ ids) found mid r.count (Some new) n) told.1 r.tried)
-
--- the operations of the tries before the last one
-Ends-own : (batch : List HistoryRow) (ops : List Op) (m : ℕ) (new : Option (List Op)) (n : ℕ) (rose : Type 0) (attempt : Result Attempt Refusal) → (e : Ends batch (Some ops) m new n rose attempt)
-    → (told : List Op) × (e.mid ≡ Some told) × (length told + m ≡ length ops + e.count + 1 + length e.ids)
-Ends-own batch ops m new n rose attempt e =
-    let told = Reaches-told batch e.ids e.found ops m e.mid e.count e.reaches in
-    (told.0, told.1, Reaches-own batch e.ids e.found ops m told.0 e.count (subst (λ mid. Reaches batch e.ids e.found (Some ops) m mid e.count) told.1 e.reaches))
-
--- a commit that was made doesn't end with a swap that met other content
-not_done : (batch : List HistoryRow) (ops new : List Op) (m n : ℕ) (rose : Type 0) (committed : Committed) → MetLast batch new → Ends batch (Some ops) m (Some new) n rose (Ok (attempts.Done committed)) → ⊥
-not_done batch ops new m n rose committed (before, found, h, met, is, here, other) e =
-    let from = Ends-own batch ops m (Some new) n rose (Ok (attempts.Done committed)) e in
-    let last : Attempts batch e.found (Some from.0) e.count (Some new) n rose (Ok (attempts.Done committed)) = subst (λ mid. Attempts batch e.found mid e.count (Some new) n rose (Ok (attempts.Done committed))) from.1 e.last in
-    let steps = last.3 in
-    let both = last_op before (from.0 ++ steps.0) (swap_op found h batch) (swap_op e.found last.0 batch) (sym is ∙ some_same new ((from.0 ++ steps.0) ++ swap_op e.found last.0 batch ∷ []) steps.1) in
-    let same : found ≡ e.found = ap (λ (op : Op). expected_by op.call) both.1 in
-    other (sym here ∙ ap (λ (ops : List Op). file_at ops plain_path) both.0 ∙ steps.3 ∙ sym same)
-
--- and one that was refused for its text made fewer swaps
-not_refused : (batch : List HistoryRow) (ops new : List Op) (m n : ℕ) (rose : Type 0) (e : Refusal) → length new + m ≡ length ops + n + 12 → (ends : Ends batch (Some ops) m (Some new) n rose (Err e)) → ◌≡◌ {A = Option (List Op)} (Some new) ends.mid → n ≡ ends.count → ⊥
-not_refused batch ops new m n rose e own ends is count =
-    let from = Ends-own batch ops m (Some new) n rose (Err e) ends in
-    omega (arith, own, from.2, ends.fewer, count, ap length (some_same new from.0 (is ∙ from.1)))
-
-pub contended : (batch : List HistoryRow) (ids : List ℕ) (found : Option (List ℕ)) (ops new : List Op) (m n : ℕ) (rose : Type 0) (r : Result Committed Refusal)
-    → length ids ≡ tries → Reaches batch ids found (Some ops) m (Some new) n → Commits batch (Some ops) m (Some new) n rose r → (rose → ⊥) → (tried : List ℕ) × (r ≡ Err (refusals.Contended tried))
-contended batch ids found ops new m n rose (Ok committed) all reaches answer no_fault = absurd (not_done batch ops new m n rose committed (Reaches-ends batch ids found ops m new n all reaches) answer)
-contended batch ids found ops new m n rose (Err refusals.Memory) all reaches (inl read) no_fault =
-    absurd (omega (arith, all, Reaches-own batch ids found ops m new n reaches, Meanwhile-own ops m new n read))
-contended batch ids found ops new m n rose (Err refusals.Memory) all reaches (inr e) no_fault =
-    let from = Ends-own batch ops m (Some new) n rose (Err refusals.Memory) e in
-    let last = Meanwhile-own from.0 e.count new n (subst (λ mid. Meanwhile mid e.count (Some new) n) from.1 e.last) in
-    absurd (omega (arith, all, Reaches-own batch ids found ops m new n reaches, from.2, last, e.fewer))
-contended batch ids found ops new m n rose (Err (refusals.StoreFault path)) all reaches (inl read) no_fault = absurd (no_fault read.1)
-contended batch ids found ops new m n rose (Err (refusals.StoreFault path)) all reaches (inr e) no_fault = absurd (no_fault e.last.4)
-contended batch ids found ops new m n rose (Err (refusals.Contended tried)) all reaches answer no_fault = (tried, refl)
-contended batch ids found ops new m n rose (Err (refusals.Damaged path place)) all reaches (inl read) no_fault = absurd read
-contended batch ids found ops new m n rose (Err (refusals.Damaged path place)) all reaches (inr e) no_fault =
-    absurd (not_refused batch ops new m n rose (refusals.Damaged path place) (omega (arith, all, Reaches-own batch ids found ops m new n reaches)) e e.last.1 e.last.2)
-contended batch ids found ops new m n rose (Err (refusals.Limit which number)) all reaches (inl read) no_fault = absurd read
-contended batch ids found ops new m n rose (Err (refusals.Limit which number)) all reaches (inr e) no_fault =
-    absurd (not_refused batch ops new m n rose (refusals.Limit which number) (omega (arith, all, Reaches-own batch ids found ops m new n reaches)) e e.last.1 e.last.2)
-contended batch ids found ops new m n rose (Err (refusals.Words command)) all reaches (inl read) no_fault = absurd read
-contended batch ids found ops new m n rose (Err (refusals.Words command)) all reaches (inr e) no_fault = absurd e.last.0
-contended batch ids found ops new m n rose (Err refusals.SourceFault) all reaches (inl read) no_fault = absurd read
-contended batch ids found ops new m n rose (Err refusals.SourceFault) all reaches (inr e) no_fault = absurd e.last.0
-contended batch ids found ops new m n rose (Err (refusals.SinkFault snapshot)) all reaches (inl read) no_fault = absurd read
-contended batch ids found ops new m n rose (Err (refusals.SinkFault snapshot)) all reaches (inr e) no_fault = absurd e.last.0
-contended batch ids found ops new m n rose (Err (refusals.BadLine line why column)) all reaches (inl read) no_fault = absurd read
-contended batch ids found ops new m n rose (Err (refusals.BadLine line why column)) all reaches (inr e) no_fault = absurd e.last.0
+pub contended : (batch : List HistoryRow) (ids : List ℕ) (found : Option (List ℕ)) (before after : StoreView) (ops : List Op) (r : Result Committed Refusal) → before.ops ≡ Some ops
+    → length ids ≡ tries → Reaches batch ids found before after → Commits batch before after r → (StoreFailed before after → ⊥) → (tried : List ℕ) × (r ≡ Err (refusals.Contended tried))
+contended batch ids found before after ops r is all reaches =
+    contended_known batch before after ops (1 + length ids) r (ap (λ n. 1 + n) all) is (Follows-reaches batch ids found before after ops is reaches) (Reaches-ends batch ids found before after ops is all reaches)

@@ -1,20 +1,21 @@
--- What reads as a history is one, and where nothing is read the place is that of the first line that doesn't fit.
+-- What reads as a history is one, and where nothing is read the offset is that of the first line that doesn't fit.
 use Rattle.std.proofs.Common.{◌≡◌, ◌≢◌, ◌⊎◌, ◌↔◌, ℕ, ◌+◌, ◌-◌, ◌≤◌, ◌<◌, pos, true, false, ◌==◌, cond, List, [], ◌∷◌, ◌++◌, length, take, drop, Some, None, Result, Ok, Err, refl, sym, ap, subst, ◌∙◌, append-nil, append_assoc, arith, length-append, eqb-true, inl, inr}
 use Rattle.std.specs.List.{AllByRecursion}
 use Rattle.std.specs.Option.{option_map_or}
 use Rattle.std.proofs.lemmas.Bool.{eqb-false, cases_lt}
 use Rattle.std.proofs.lemmas.List.{take-append-drop, length-take-le}
 use Rattle.std.proofs.Math.Seq.{take-append_seam, take-append-add}
+use Rattle.pm_base.specs.Newline.{IsUnbroken, line}
+use Rattle.pm_base.proofs.Laws.{AllByRecursion-push, IsUnbroken-nil, IsUnbroken-append, IsUnbroken-push, IsUnbroken-head, IsUnbroken-tail, IsUnbroken-newline}
 use Rattle.pm_values.specs.Fits.{Fits}
 use Rattle.pm_values.specs.declared.kind.Kind.TheVariants.{Insert}
 use Rattle.pm_values.specs.declared.value.Value.TheVariants.{Null, Int}
 use Rattle.pm_history.specs.Merge.{HistoryRow, AllFit}
-use Rattle.pm_rows.proofs.FitLemmas.{Fits-row_of}
+use Rattle.pm_rows.proofs.Lemmas.{Fits-row_of}
 use Rattle.pm_plain.specs.Columns.{plain_columns}
-use Rattle.pm_plain.specs.Text.{History, line, history_text, last_id, IsCommit, IsHistory}
+use Rattle.pm_plain.specs.Text.{History, history_text, last_id, IsCommit, IsHistory}
 use Rattle.pm_plain.specs.Reading.{is_whole, has_row, with_row, after_line, after_bytes, history_in}
 use Rattle.pm_plain.specs.Damage.{AreLines, IsBegun, IsDamagedAt}
-use Rattle.pm_plain.proofs.TextLemmas.{IsUnbroken, IsUnbroken-append, AllFit-append}
 use Rattle.pm_plain.proofs.ReadingLemmas.{TakesRow, is_whole-push, with_row-snoc, takes_row_nonempty, after_line-cases, after_bytes-ended, history_text-after_line}
 use Rattle.pm_plain.proofs.CodecLaws.{after_bytes-line, history_in-history_text, history_text-history_in}
 
@@ -22,19 +23,15 @@ use Rattle.pm_plain.proofs.CodecLaws.{after_bytes-line, history_in-history_text,
 
 -- each commit but the last has a row, and all rows fit
 record HasLast (h : History) : Type 0 where
-  front : History
+  prefix : History
   last : List HistoryRow
-  is : h ≡ front ++ last ∷ []
-  commits : AllByRecursion IsCommit front
+  is : h ≡ prefix ++ last ∷ []
+  commits : AllByRecursion IsCommit prefix
   fit : AllFit plain_columns last
   within : length h ≤ last_id
 
 abbrev AreBegun : History → Type 0
 AreBegun h = (h ≡ []) ⊎ HasLast h
-
-commits-push : (front : History) (last : List HistoryRow) → AllByRecursion IsCommit front → IsCommit last → AllByRecursion IsCommit (front ++ last ∷ [])
-commits-push [] last commits is = (is, tt)
-commits-push (rows ∷ front) last commits is = (commits.0, commits-push front last commits.1 is)
 
 rows_some : (rows : List HistoryRow) → has_row rows ≡ true → rows ≢ []
 rows_some [] e = cc
@@ -42,8 +39,8 @@ rows_some (r ∷ rows) e = λ same. cc
 
 last_whole : (h : History) (l : HasLast h) → is_whole h ≡ true → AllByRecursion IsCommit h
 last_whole h l whole =
-    let some : has_row l.last ≡ true = sym (is_whole-push l.front l.last) ∙ ap is_whole (sym l.is) ∙ whole in
-    subst (AllByRecursion IsCommit) (sym l.is) (commits-push l.front l.last l.commits (record { some = rows_some l.last some; fit = l.fit }))
+    let some : has_row l.last ≡ true = sym (is_whole-push l.prefix l.last) ∙ ap is_whole (sym l.is) ∙ whole in
+    subst (AllByRecursion IsCommit) (sym l.is) (AllByRecursion-push IsCommit l.prefix l.last l.commits (record { some = rows_some l.last some; fit = l.fit }))
 
 IsHistory-last : (h : History) (l : HasLast h) → is_whole h ≡ true → IsHistory h
 IsHistory-last h l whole = record { commits = last_whole h l whole; within = l.within }
@@ -58,13 +55,13 @@ IsHistory-whole h (inr l) whole = IsHistory-last h l whole
 
 last-takes : (h next : History) (r : HistoryRow) → HasLast h → Fits plain_columns r.1 → TakesRow h r next → HasLast next
 last-takes h next r l fits takes =
-    let is : next ≡ l.front ++ (l.last ++ r ∷ []) ∷ [] = let e = sym takes.is ∙ ap (with_row r) l.is ∙ with_row-snoc l.front l.last r in cc in
+    let is : next ≡ l.prefix ++ (l.last ++ r ∷ []) ∷ [] = let e = sym takes.is ∙ ap (with_row r) l.is ∙ with_row-snoc l.prefix l.last r in cc in
     record {
-      front = l.front;
+      prefix = l.prefix;
       last = l.last ++ r ∷ [];
       is = is;
       commits = l.commits;
-      fit = AllFit-append plain_columns l.last (r ∷ []) l.fit (fits, tt);
+      fit = AllByRecursion-push (λ (r : HistoryRow). Fits plain_columns r.1) l.last r l.fit fits;
       within = omega (arith, takes.count, l.within);
     }
 
@@ -76,14 +73,14 @@ begun-after_line : (text : List ℕ) (h next : History) → AreBegun h → after
 begun-after_line text h next begun e =
     elim (after_line-cases text h next e) [
       | inl b ↦ inr (record {
-        front = h;
+        prefix = h;
         last = [];
         is = b.after;
         commits = (IsHistory-whole h begun b.whole).commits;
         fit = tt;
         within = omega (arith, ap length b.after, length-append h ([] ∷ []), b.below);
       })
-      | inr (r, a) ↦ begun-takes h next r begun (Fits-row_of plain_columns text r a.reads a.is) a.takes
+      | inr (r, a) ↦ begun-takes h next r begun (Fits-row_of plain_columns text r a.reads) a.takes
     ]
 
 -- ---- what was read of a text
@@ -117,7 +114,7 @@ sample-fits = (omega arith, (refl, tt))
 continued : (h : History) → AreBegun h → (whole : History) × (more : List ℕ) × IsHistory whole × (history_text whole ≡ history_text h ++ more)
 continued h (inl none) = (h, [], subst IsHistory (sym none) IsHistory-empty, sym (append-nil (history_text h)))
 continued h (inr l) =
-    let some : length h ≢ 0 = λ none. omega (arith, ap length l.is, length-append l.front (l.last ∷ [])) in
+    let some : length h ≢ 0 = λ none. omega (arith, ap length l.is, length-append l.prefix (l.last ∷ [])) in
     let next = takes_row_nonempty h sample some in
     (next.0, _, IsHistory-last next.0 (last-takes h next.0 sample l sample-fits next.1) next.1.whole, next.1.text)
 
@@ -135,19 +132,19 @@ record IsUnfit (rest : List ℕ) (h : History) : Type 0 where
 -- how a reading ends
 abbrev Ends : List ℕ → Result History ℕ → Type 0
 Ends bytes (Ok h) = (bytes ≡ history_text h) × IsReached h × (is_whole h ≡ true)
-Ends bytes (Err place) = (h : History) × (rest : List ℕ) × (bytes ≡ history_text h ++ rest) × IsReached h × (place ≡ length (history_text h)) × (IsUnbroken rest ⊎ IsUnfit rest h)
+Ends bytes (Err offset) = (h : History) × (rest : List ℕ) × (bytes ≡ history_text h ++ rest) × IsReached h × (offset ≡ length (history_text h)) × (IsUnbroken rest ⊎ IsUnfit rest h)
 
 ends : (bytes begun all : List ℕ) (h : History) → IsReached h → IsUnbroken begun → all ≡ history_text h ++ (begun ++ bytes) → Ends all (after_bytes bytes begun h)
 ends [] [] all h reached unbroken is =
     elim (is_whole h) as (λ w. is_whole h ≡ w → Ends all (cond w (Ok h) (Err (length (history_text h))))) [
       | true ↦ λ whole. (is ∙ append-nil (history_text h), reached, whole)
-      | false ↦ λ whole. (h, [], is, reached, refl, inl tt)
+      | false ↦ λ whole. (h, [], is, reached, refl, inl IsUnbroken-nil)
     ] refl
-ends [] (b ∷ begun) all h reached unbroken is = (h, (b ∷ begun) ++ [], is, reached, refl, inl (IsUnbroken-append (b ∷ begun) [] unbroken tt))
+ends [] (b ∷ begun) all h reached unbroken is = (h, (b ∷ begun) ++ [], is, reached, refl, inl (IsUnbroken-append (b ∷ begun) [] unbroken IsUnbroken-nil))
 ends (b ∷ bytes) begun all h reached unbroken is =
     elim (b == 10) as (λ t. (b == 10) ≡ t → Ends all (cond t (option_map_or (λ (next : History). after_bytes bytes [] next) (after_line begun h) (Err (length (history_text h)))) (after_bytes bytes (begun ++ b ∷ []) h))) [
       | true ↦ λ t. elim (after_line begun h) as (λ o. after_line begun h ≡ o → Ends all (option_map_or (λ (next : History). after_bytes bytes [] next) o (Err (length (history_text h))))) [
-        | Some next ↦ λ after. ends bytes [] all next (IsReached-after_line begun h next reached unbroken after) tt
+        | Some next ↦ λ after. ends bytes [] all next (IsReached-after_line begun h next reached unbroken after) IsUnbroken-nil
             (is ∙ ap (λ c. history_text h ++ (begun ++ c ∷ bytes)) (eqb-true b 10 t)
             ∙ ap (λ text. history_text h ++ text) (sym (append_assoc begun (10 ∷ []) bytes))
             ∙ sym (append_assoc (history_text h) (line begun) bytes)
@@ -167,12 +164,12 @@ ends (b ∷ bytes) begun all h reached unbroken is =
           }),
         )
       ] refl
-      | false ↦ λ t. ends bytes (begun ++ b ∷ []) all h reached (IsUnbroken-append begun (b ∷ []) unbroken (eqb-false b 10 t, tt))
+      | false ↦ λ t. ends bytes (begun ++ b ∷ []) all h reached (IsUnbroken-push begun b unbroken (eqb-false b 10 t))
           (is ∙ ap (λ text. history_text h ++ text) (sym (append_assoc begun (b ∷ []) bytes)))
     ] refl
 
 reading_ends : (bytes : List ℕ) (reading : Result History ℕ) → history_in bytes ≡ reading → Ends bytes reading
-reading_ends bytes reading e = subst (Ends bytes) e (ends bytes [] bytes [] IsReached-none tt refl)
+reading_ends bytes reading e = subst (Ends bytes) e (ends bytes [] bytes [] IsReached-none IsUnbroken-nil refl)
 
 -- what reads as a history is one
 pub IsHistory-history_in : (bytes : List ℕ) (h : History) → history_in bytes ≡ Ok h → IsHistory h
@@ -182,23 +179,19 @@ IsHistory-history_in bytes h e =
 
 -- ---- no more of the lines can be continued
 
-broken : (xs ys : List ℕ) → IsUnbroken (xs ++ 10 ∷ ys) → ⊥
-broken [] ys unbroken = unbroken.0 refl
-broken (x ∷ xs) ys unbroken = broken xs ys unbroken.1
-
-last_newline : (xs ys front : List ℕ) → 0 < length ys → xs ++ ys ≡ front ++ 10 ∷ [] → (text : List ℕ) × (ys ≡ text ++ 10 ∷ [])
-last_newline [] ys front some e = (front, e)
+last_newline : (xs ys prefix : List ℕ) → 0 < length ys → xs ++ ys ≡ prefix ++ 10 ∷ [] → (text : List ℕ) × (ys ≡ text ++ 10 ∷ [])
+last_newline [] ys prefix some e = (prefix, e)
 last_newline (x ∷ xs) ys [] some e = absurd (omega (arith, ap length e, length-append xs ys))
-last_newline (x ∷ xs) ys (c ∷ front) some e = last_newline xs ys front some cc
+last_newline (x ∷ xs) ys (c ∷ prefix) some e = last_newline xs ys prefix some cc
 
--- the first line is whole in each front that ends with a newline
+-- the first line is whole in each prefix that ends with a newline
 first_line : (text tail first later : List ℕ) → IsUnbroken first → text ++ 10 ∷ tail ≡ first ++ 10 ∷ later → (more : List ℕ) × (text ++ 10 ∷ [] ≡ first ++ 10 ∷ more)
 first_line [] tail [] later unbroken e = ([], refl)
 first_line (x ∷ text) tail [] later unbroken e = let same : x ≡ 10 = cc in (text ++ 10 ∷ [], ap (λ c. c ∷ (text ++ 10 ∷ [])) same)
-first_line [] tail (c ∷ first) later unbroken e = absurd (unbroken.0 cc)
+first_line [] tail (c ∷ first) later unbroken e = absurd (IsUnbroken-head c first unbroken cc)
 first_line (x ∷ text) tail (c ∷ first) later unbroken e =
     let same : x ≡ c = cc in
-    let rest = first_line text tail first later unbroken.1 cc in
+    let rest = first_line text tail first later (IsUnbroken-tail c first unbroken) cc in
     (rest.0, ap (λ y. y ∷ (text ++ 10 ∷ [])) same ∙ ap (λ l. c ∷ l) rest.1)
 
 refuted : (h : History) (first more : List ℕ) → IsReached h → IsUnbroken first → after_line first h ≡ None
@@ -218,16 +211,16 @@ unfit_line h rest text tail reached unfit parts begun =
     refuted h unfit.first (whole.0 ++ more) reached unfit.unbroken unfit.after other begun.continued.2 longer
 
 no_line : (h : History) (rest text tail : List ℕ) → IsReached h → IsUnbroken rest ⊎ IsUnfit rest h → rest ≡ (text ++ 10 ∷ []) ++ tail → IsBegun (history_text h ++ (text ++ 10 ∷ [])) → ⊥
-no_line h rest text tail reached (inl unbroken) parts begun = broken text tail (subst IsUnbroken (parts ∙ append_assoc text (10 ∷ []) tail) unbroken)
+no_line h rest text tail reached (inl unbroken) parts begun = IsUnbroken-newline text tail (subst IsUnbroken (parts ∙ append_assoc text (10 ∷ []) tail) unbroken)
 no_line h rest text tail reached (inr unfit) parts begun = unfit_line h rest text tail reached unfit parts begun
 
-ended : (xs front : List ℕ) → 0 < length front → AreLines (xs ++ front) → (text : List ℕ) × (front ≡ text ++ 10 ∷ [])
-ended xs front some (inl none) = absurd (omega (arith, ap length none, length-append xs front))
-ended xs front some (inr (text, is)) = last_newline xs front text some is
+ended : (xs prefix : List ℕ) → 0 < length prefix → AreLines (xs ++ prefix) → (text : List ℕ) × (prefix ≡ text ++ 10 ∷ [])
+ended xs prefix some (inl none) = absurd (omega (arith, ap length none, length-append xs prefix))
+ended xs prefix some (inr (text, is)) = last_newline xs prefix text some is
 
-too_long : (h : History) (rest front tail : List ℕ) → IsReached h → IsUnbroken rest ⊎ IsUnfit rest h → rest ≡ front ++ tail → 0 < length front → IsBegun (history_text h ++ front) → ⊥
-too_long h rest front tail reached stuck parts some begun =
-    let text = ended (history_text h) front some begun.lines in
+too_long : (h : History) (rest prefix tail : List ℕ) → IsReached h → IsUnbroken rest ⊎ IsUnfit rest h → rest ≡ prefix ++ tail → 0 < length prefix → IsBegun (history_text h ++ prefix) → ⊥
+too_long h rest prefix tail reached stuck parts some begun =
+    let text = ended (history_text h) prefix some begun.lines in
     no_line h rest text.0 tail reached stuck (parts ∙ ap (λ l. l ++ tail) text.1) (subst (λ l. IsBegun (history_text h ++ l)) text.1 begun)
 
 longest : (h : History) (rest : List ℕ) (n : ℕ) → IsReached h → IsUnbroken rest ⊎ IsUnfit rest h → n ≤ length (history_text h) + length rest → IsBegun (take n (history_text h ++ rest)) → n ≤ length (history_text h)
@@ -236,15 +229,15 @@ longest h rest n reached stuck within begun = elim (cases_lt (length (history_te
       let m = n - length (history_text h) in
       let is : n ≡ length (history_text h) + m = omega arith in
       let count : length (take m rest) ≡ m = length-take-le m rest (omega arith) in
-      let front : IsBegun (history_text h ++ take m rest) = subst IsBegun (ap (λ n. take n (history_text h ++ rest)) is ∙ take-append-add (history_text h) rest m) begun in
-      absurd (too_long h rest (take m rest) (drop m rest) reached stuck (sym (take-append-drop m rest)) (omega (arith, count)) front)
+      let prefix : IsBegun (history_text h ++ take m rest) = subst IsBegun (ap (λ n. take n (history_text h ++ rest)) is ∙ take-append-add (history_text h) rest m) begun in
+      absurd (too_long h rest (take m rest) (drop m rest) reached stuck (sym (take-append-drop m rest)) (omega (arith, count)) prefix)
   | inr fewer ↦ fewer
 ]
 
--- what reads as no history is damaged at the place that it reads as
-pub IsDamagedAt-history_in : (bytes : List ℕ) (place : ℕ) → history_in bytes ≡ Err place → IsDamagedAt bytes place
-IsDamagedAt-history_in bytes place e =
-    let (h, rest, is, reached, there, stuck) = reading_ends bytes (Err place) e in
+-- what reads as no history is damaged at the offset that it reads as
+pub IsDamagedAt-history_in : (bytes : List ℕ) (offset : ℕ) → history_in bytes ≡ Err offset → IsDamagedAt bytes offset
+IsDamagedAt-history_in bytes offset e =
+    let (h, rest, is, reached, there, stuck) = reading_ends bytes (Err offset) e in
     let count : length bytes ≡ length (history_text h) + length rest = ap length is ∙ length-append (history_text h) rest in
     record {
       no_text = λ other history same. let read = sym e ∙ ap history_in same ∙ history_in-history_text other history in cc;
@@ -259,12 +252,12 @@ history_law bytes h = (
   λ is. ap history_in is.1 ∙ history_in-history_text h is.0,
 )
 
--- there is one such place
-one_place : (bytes : List ℕ) (place : ℕ) (reading : Result History ℕ) → history_in bytes ≡ reading → IsDamagedAt bytes place → reading ≡ Err place
-one_place bytes place (Ok h) e at = absurd (at.no_text h (IsHistory-history_in bytes h e) (history_text-history_in bytes h e))
-one_place bytes place (Err other) e at =
+-- there is one such offset
+one_offset : (bytes : List ℕ) (offset : ℕ) (reading : Result History ℕ) → history_in bytes ≡ reading → IsDamagedAt bytes offset → reading ≡ Err offset
+one_offset bytes offset (Ok h) e at = absurd (at.no_text h (IsHistory-history_in bytes h e) (history_text-history_in bytes h e))
+one_offset bytes offset (Err other) e at =
     let found = IsDamagedAt-history_in bytes other e in
-    ap Err (omega (arith, at.longest other found.within found.before, found.longest place at.within at.before))
+    ap Err (omega (arith, at.longest other found.within found.before, found.longest offset at.within at.before))
 
-pub damage_law : (bytes : List ℕ) (place : ℕ) → (history_in bytes ≡ Err place) ↔ IsDamagedAt bytes place
-damage_law bytes place = (IsDamagedAt-history_in bytes place, one_place bytes place (history_in bytes) refl)
+pub damage_law : (bytes : List ℕ) (offset : ℕ) → (history_in bytes ≡ Err offset) ↔ IsDamagedAt bytes offset
+damage_law bytes offset = (IsDamagedAt-history_in bytes offset, one_offset bytes offset (history_in bytes) refl)

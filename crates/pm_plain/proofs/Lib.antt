@@ -1,9 +1,10 @@
-pub mod TextLemmas
-pub mod ReadingLemmas
-pub mod AloneLaws
-pub mod CodecLaws
-pub mod DamageLaws
-pub mod CommitLemmas
-pub mod TryLemmas
-pub mod CommitLaws
-pub mod ContendedLaws
+mod TextLemmas
+mod ReadingLemmas
+mod CodecLaws
+mod DamageLaws
+mod FollowLaws
+mod AloneLaws
+mod CommitLaws
+mod CommitLemmas
+mod TryLemmas
+mod ContendedLaws

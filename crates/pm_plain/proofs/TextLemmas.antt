@@ -1,47 +1,19 @@
 -- Laws of the text of a history.
-use Rattle.std.proofs.Common.{◌≡◌, ◌≢◌, ℕ, suc, ◌+◌, ◌<◌, ◌^◌, Bool, true, false, not, ◌&&◌, ◌==◌, List, [], ◌∷◌, ◌++◌, length, take, get_or, refl, sym, ap, ◌∙◌, append-nil, append_assoc, arith, codes}
-use Rattle.std.specs.List.{AllByRecursion}
+use Rattle.std.proofs.Common.{◌≡◌, ℕ, suc, ◌+◌, ◌<◌, List, [], ◌∷◌, ◌++◌, length, take, get_or, refl, sym, ap, ◌∙◌, append-nil, append_assoc, arith, codes}
 use Rattle.std.specs.Fmt.{decimal}
-use Rattle.std.proofs.lemmas.Fmt.{decimal_by_steps}
-use Rattle.std.proofs.lemmas.Bool.{eqb-false}
 use Rattle.std.proofs.lemmas.List.{take_more}
 use Rattle.std.proofs.lemmas.Grind.{flat_map-append}
-use Rattle.pm_values.specs.declared.column.Column.{Column}
-use Rattle.pm_history.specs.Merge.{HistoryRow, AllFit}
+use Rattle.pm_base.specs.Newline.{IsUnbroken, line}
+use Rattle.pm_base.proofs.Laws.{IsUnbroken-append, IsUnbroken-tested, IsUnbroken-decimal}
+use Rattle.pm_history.specs.Merge.{HistoryRow}
 use Rattle.pm_rows.specs.RowText.{row_text}
-use Rattle.pm_plain.specs.Text.{History, line, snapshot_line, rows_text, commit_text, text_from, history_text, joined}
+use Rattle.pm_plain.specs.Text.{History, snapshot_line, rows_text, commit_text, text_from, history_text, joined}
 
--- a text without a newline
-abbrev pub IsUnbroken : List ℕ → Type 0
-IsUnbroken bytes = AllByRecursion (λ b. b ≢ 10) bytes
-
-pub IsUnbroken-append : (xs ys : List ℕ) → IsUnbroken xs → IsUnbroken ys → IsUnbroken (xs ++ ys)
-IsUnbroken-append [] ys p q = q
-IsUnbroken-append (x ∷ xs) ys p q = (p.0, IsUnbroken-append xs ys p.1 q)
-
-abbrev no_newline : List ℕ → Bool
-no_newline [] = true
-no_newline (b ∷ bytes) = not (b == 10) && no_newline bytes
-
--- a text that a test shows to have no newline
-unbroken_by_test : (bytes : List ℕ) → no_newline bytes ≡ true → IsUnbroken bytes
-unbroken_by_test [] e = tt
-unbroken_by_test (b ∷ bytes) e =
-    elim (b == 10) as (λ t. (b == 10) ≡ t → (not t && no_newline bytes) ≡ true → (b ≢ 10) × IsUnbroken bytes) [
-      | true ↦ λ t e. cc
-      | false ↦ λ t e. (eqb-false b 10 t, unbroken_by_test bytes e)
-    ] refl e
-
-IsUnbroken-decimal : (n : ℕ) → n < 2 ^ 64 → IsUnbroken (decimal n)
-IsUnbroken-decimal =
-    decimal_by_steps (λ n ds. IsUnbroken ds) (λ n h. ((λ e. omega arith), tt))
-    (λ n ds h p. IsUnbroken-append ds _ p ((λ e. omega arith), tt))
-
-pub IsUnbroken-snapshot_line : (id : ℕ) → id < 2 ^ 64 → IsUnbroken (snapshot_line id)
-IsUnbroken-snapshot_line id h =
-    let front : IsUnbroken (codes "{\"snapshot\":") = unbroken_by_test (codes "{\"snapshot\":") refl in
-    let back : IsUnbroken (codes "}") = unbroken_by_test (codes "}") refl in
-    IsUnbroken-append (codes "{\"snapshot\":" ++ decimal id) (codes "}") (IsUnbroken-append (codes "{\"snapshot\":") (decimal id) front (IsUnbroken-decimal id h)) back
+pub IsUnbroken-snapshot_line : (id : ℕ) → IsUnbroken (snapshot_line id)
+IsUnbroken-snapshot_line id =
+    let start = IsUnbroken-tested (codes "{\"snapshot\":") refl in
+    let end = IsUnbroken-tested (codes "}") refl in
+    IsUnbroken-append (codes "{\"snapshot\":" ++ decimal id) (codes "}") (IsUnbroken-append (codes "{\"snapshot\":") (decimal id) start (IsUnbroken-decimal id)) end
 
 -- one row more in a commit
 pub commit_text-push : (id : ℕ) (rows : List HistoryRow) (r : HistoryRow) → commit_text id (rows ++ r ∷ []) ≡ commit_text id rows ++ line (row_text r.0 r.1)
@@ -49,7 +21,7 @@ commit_text-push id rows r =
     ap (λ text. line (snapshot_line id) ++ text) (flat_map-append (λ (r : HistoryRow). line (row_text r.0 r.1)) rows (r ∷ []) ∙ ap (λ text. rows_text rows ++ text) (append-nil (line (row_text r.0 r.1))))
     ∙ sym (append_assoc (line (snapshot_line id)) (rows_text rows) (line (row_text r.0 r.1)))
 
--- the rows up to a place, and the row at the place
+-- the rows up to an index, and the row at the index
 pub commit_text-more : (id : ℕ) (rows : List HistoryRow) (i : ℕ) (r : HistoryRow) → i < length rows → r ≡ get_or rows i r
     → commit_text id (take (i + 1) rows) ≡ commit_text id (take i rows) ++ line (row_text r.0 r.1)
 commit_text-more id rows i r below is =
@@ -68,7 +40,3 @@ history_text-push h rows = text_from-push 1 h rows ∙ ap (λ n. history_text h 
 pub joined-push : (h : History) (rows : List HistoryRow) → joined (h ++ rows ∷ []) ≡ joined h ++ rows
 joined-push [] rows = append-nil rows
 joined-push (first ∷ h) rows = ap (λ all. first ++ all) (joined-push h rows) ∙ sym (append_assoc first (joined h) rows)
-
-pub AllFit-append : (columns : List Column) (xs ys : List HistoryRow) → AllFit columns xs → AllFit columns ys → AllFit columns (xs ++ ys)
-AllFit-append columns [] ys p q = q
-AllFit-append columns (x ∷ xs) ys p q = (p.0, AllFit-append columns xs ys p.1 q)

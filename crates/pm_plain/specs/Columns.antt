@@ -12,6 +12,6 @@ v_column = record { id = 1; name = codes "v"; kind = types.Text; nullable = true
 abbrev pub plain_columns : List Column
 plain_columns = id_column ∷ v_column ∷ []
 
--- the place of the primary key's column
+-- the index of the primary key's column
 abbrev pub plain_primary : List ℕ
 plain_primary = 0 ∷ []

@@ -19,19 +19,19 @@ RefusesCommit reading (refusals.Limit which number) =
     (which ≡ codes "snapshot-id") × (number ≡ last_id) × ((h : History) × (reading ≡ Ok h) × (length h ≡ last_id))
 RefusesCommit reading other = RefusesText reading other
 
--- a plan for a batch on a history: the next id, the text of the file with the batch, and what is printed
+-- Private: a plan for a batch on a history: the next id, the text of the file with the batch, and what is printed
 pub record IsPlan (batch : List HistoryRow) (h : History) (plan : Plan) : Type 0 where
   pub below : length h < last_id
   pub number : plan.id ≡ length h + 1
   pub writes : plan.file.items ≡ history_text (h ++ batch ∷ [])
   pub prints : plan.text.items ≡ committed_text (length h + 1) (h ++ batch ∷ [])
 
--- a plan for the text, or why there is none
+-- Private: a plan for the text, or why there is none
 abbrev pub Plans : List HistoryRow → Result History ℕ → Result Plan Refusal → Type 0
 Plans batch reading (Ok plan) = (h : History) × (reading ≡ Ok h) × IsPlan batch h plan
 Plans batch reading (Err e) = RefusesCommit reading e
 
--- what is printed of the text where there is nothing to commit, or why not
+-- Private: what is printed of the text where there is nothing to commit, or why not
 abbrev pub Shows : Result History ℕ → Result (Vec ℕ Global) Refusal → Type 0
 Shows reading (Ok text) = (h : History) × (reading ≡ Ok h) × (text.items ≡ nothing_text h)
 Shows reading (Err e) = RefusesText reading e

@@ -1,8 +1,10 @@
 -- What a plain file's text reads as: its history, or the offset of the first line that doesn't fit.
-use Rattle.std.specs.Prelude.{ℕ, ◌+◌, List, [], ◌∷◌, ◌++◌, length, Bool, true, false, ◌==◌, ◌&&◌, nat_lt, if◌then◌else◌, Option, Some, None, Result, Ok, Err}
+use Rattle.std.specs.Prelude.{ℕ, ◌+◌, List, [], ◌∷◌, ◌++◌, length, Bool, true, false, ◌==◌, ◌&&◌, nat_lt, if◌then◌else◌}
+use Rattle.std.specs.Prelude.{Option, Some, None, Result, Ok, Err}
 use Rattle.std.specs.List.{last_or}
 use Rattle.std.specs.Str.{bytes_eq}
 use Rattle.std.specs.Option.{option_and_then, option_map_or}
+use Rattle.pm_base.specs.Newline.{newline}
 use Rattle.pm_history.specs.Merge.{HistoryRow}
 use Rattle.pm_rows.specs.Reading.{Fault, row_of}
 use Rattle.pm_rows.specs.RowText.{row_text}
@@ -41,8 +43,9 @@ abbrev pub after_bytes : List ℕ → List ℕ → History → Result History �
 after_bytes [] [] h = if is_whole h then Ok h else Err (length (history_text h))
 after_bytes [] (b ∷ begun) h = Err (length (history_text h))
 after_bytes (b ∷ bytes) begun h =
-    if b == 10
-    then option_map_or (λ (next : History). after_bytes bytes [] next) (after_line begun h) (Err (length (history_text h)))
+    if b == newline
+    then option_map_or (λ (next : History). after_bytes bytes [] next) (after_line begun h)
+    (Err (length (history_text h)))
     else after_bytes bytes (begun ++ b ∷ []) h
 
 -- the history of a text

@@ -16,13 +16,13 @@ pub record IsTableOf (table : Table) (h : History) : Type 0 where
   pub within : length h ≤ last_id
   pub fit : AllFit plain_columns (joined h)
 
--- a table for the history that there is, or none where there is none
+-- Private: a table for the history that there is, or none where there is none
 abbrev pub IsNext : Option Table → Option History → Type 0
 IsNext None next = next ≡ None
 IsNext (Some table) next = (h : History) × (next ≡ Some h) × IsTableOf table h
 
--- a call gave what the reading gives; want of memory alone is free
+-- a call gave what the reading gives; out of memory alone is free
 abbrev pub Reads : Result Table PlainFault → Result History ℕ → Type 0
 Reads (Ok table) reading = (h : History) × (reading ≡ Ok h) × IsTableOf table h
 Reads (Err Memory) reading = Unit {0}
-Reads (Err (Bad place)) reading = reading ≡ Err place
+Reads (Err (Bad offset)) reading = reading ≡ Err offset

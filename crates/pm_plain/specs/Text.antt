@@ -4,6 +4,7 @@ use Rattle.std.specs.List.{AllByRecursion, flat_map}
 use Rattle.std.specs.Fmt.{decimal}
 use Rattle.std.specs.FinMap.{values}
 use Rattle.std.specs.FinMap as map
+use Rattle.pm_base.specs.Newline.{line}
 use Rattle.pm_values.specs.Order.{Values}
 use Rattle.pm_values.specs.declared.kind.Kind.TheVariants.{Insert}
 use Rattle.pm_history.specs.Merge.{HistoryRow, AllFit, merged}
@@ -14,10 +15,6 @@ use Rattle.pm_plain.specs.Columns.{plain_columns, plain_primary}
 -- a list of commits, each with its rows
 abbrev pub History : Type 0
 History = List (List HistoryRow)
-
--- a text and its newline
-abbrev pub line : List ℕ → List ℕ
-line text = text ++ 10 ∷ []
 
 -- the line that begins the commit of a snapshot, without its newline
 abbrev pub snapshot_line : ℕ → List ℕ
@@ -75,7 +72,8 @@ joined (rows ∷ h) = rows ++ joined h
 
 -- the text of a scan: the rows of the merged table by rising key, as lines that insert them
 abbrev pub scan_text : List HistoryRow → List ℕ
-scan_text rows = flat_map (λ (row : Values). line (row_text Insert row)) (values (merged plain_columns plain_primary rows))
+scan_text rows =
+    flat_map (λ (row : Values). line (row_text Insert row)) (values (merged plain_columns plain_primary rows))
 
 -- what a commit prints: its snapshot, and the scan of all rows
 abbrev pub committed_text : ℕ → History → List ℕ

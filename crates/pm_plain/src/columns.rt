@@ -6,7 +6,7 @@ ghost use Rattle.pm_plain.specs.Columns.{plain_columns};
 use pm_values::{ColType, Column, Txt};
 use std::alloc::{AllocError, Global};
 
-/// The places of the primary key's columns.
+/// The indexes of the primary key's columns.
 pub(crate) const PRIMARY: [usize; 1] = [0];
 
 /// `id BIGINT NOT NULL`, which is the primary key, and `v STRING`.

@@ -1,13 +1,14 @@
-//! A commit to the plain file: read it, and swap in the old text with the batch behind it.
+//! A commit to the plain file: read it, and swap in the old text with the batch after it.
 
-ghost use Rattle.std.specs.Prelude.{◌≡◌, ◌≢◌, ◌≤◌, ◌<◌, [], ◌∷◌, ◌++◌, length, IfOk, IfErr};
+ghost use Rattle.std.specs.Prelude.{◌≡◌, ◌≢◌, [], IfErr};
 ghost use Rattle.std.specs.Option.{option_copied, unwrap_or};
-ghost use Rattle.pm_base.specs.Faults.{Rose};
 ghost use Rattle.pm_history.specs.Merge.{AllFit};
+ghost use Rattle.pm_store.specs.Answers.{IsFirst};
+ghost use Rattle.pm_store.specs.Store.{StoreView, IsLater, IsAlone};
 ghost use Rattle.pm_plain.specs.Columns.{plain_columns};
-ghost use Rattle.pm_store.specs.Images.{Extends};
-ghost use Rattle.pm_plain.specs.Text.{History, StandsFor, nothing_text, last_id};
-ghost use Rattle.pm_plain.specs.Commit.{Stands, IsBeforeOrAfter, IsCommitted, ReadsPlain, Attempts, attempt_of, WasContended, Commits, ShowsPlain, MayRefuseText, MayRefuse, IsWantOrFault, Leaves};
+ghost use Rattle.pm_plain.specs.Text.{History};
+ghost use Rattle.pm_plain.specs.Commit.{Stands, StoreFailed, read_call, ReadsPlain, Attempts, attempt_of};
+ghost use Rattle.pm_plain.specs.Commit.{WasContended, Commits, ShowsPlain, MayRefuseText, MayRefuse, AddsTo, KeepsTo};
 
 use crate::plan::{Plan, nothing, plan_of};
 use crate::table::PATH;
@@ -29,13 +30,12 @@ pub struct Committed {
 #[derive(Debug, Drop)]
 pub enum Attempt {
     Done(Committed),
-    Met(u64, Option<Blob>),
+    Found(u64, Option<Blob>),
 }
 
 /// Adds a batch to the plain file as one commit. It reads the file, and swaps in the old text with
-/// the batch behind it; where other content is met it tries again from that, eleven times in all.
-/// The memory for what is printed is taken before the swap. What is promised of a history holds where
-/// nobody else has an operation meanwhile, and `answer` always.
+/// the batch after it; where other content is found it tries again from that, eleven times in all.
+/// The memory for what is printed is taken before the swap.
 pub fn commit_batch<F: FileStore>(
     alloc: Global,
     store: &mut F,
@@ -45,18 +45,13 @@ pub fn commit_batch<F: FileStore>(
     requires columns { columns.now ≡ plain_columns }
     requires some { batch.now ≢ [] }
     requires fit { AllFit plain_columns batch.now }
-    ensures answer { Commits batch.now (F.ops store.old) (F.others store.old) (F.ops store.new) (F.others store.new)
-        (Rose (F.faults store.old) (F.faults store.new)) result }
-    ensures refusal { IfErr result (MayRefuse (Rose (F.faults store.old) (F.faults store.new))
-        (WasContended batch.now (F.ops store.old) (F.others store.old) (F.ops store.new) (F.others store.new))) }
-    ensures done { F.others store.new ≡ F.others store.old → IfOk result (λ committed. (h : History) → Stands (F.ops store.old) h
-        → IsCommitted batch.now h committed × Stands (F.ops store.new) (h ++ batch.now ∷ [])) }
-    ensures leaves { F.others store.new ≡ F.others store.old → IfErr result (λ e. (h : History) → Stands (F.ops store.old) h → Leaves e h batch.now (F.ops store.new)) }
-    ensures complete { F.others store.new ≡ F.others store.old → IfErr result (λ e. (h : History) → Stands (F.ops store.old) h → length h < last_id
-        → IsWantOrFault (Rose (F.faults store.old) (F.faults store.new)) e) }
-    ensures images { F.others store.new ≡ F.others store.old → (h : History) → Stands (F.ops store.old) h
-        → Extends (IsBeforeOrAfter h batch.now) (F.ops store.old) (F.ops store.new) }
-    ensures later { F.faults store.old ≤ F.faults store.new }
+    ensures answer { Commits batch.now (F.seen store.old) (F.seen store.new) result }
+    ensures refusal { IfErr result (MayRefuse (StoreFailed (F.seen store.old) (F.seen store.new))
+        (WasContended batch.now (F.seen store.old) (F.seen store.new))) }
+    ensures history { (first : StoreView) × IsFirst read_call (F.seen store.old) first (F.seen store.new)
+        × (IsAlone first (F.seen store.new) → (h : History) → Stands first h
+        → AddsTo h batch.now first (F.seen store.new) result) }
+    ensures later { IsLater (F.seen store.old) (F.seen store.new) }
 {
     try_commits(alloc, store, columns, batch)
 }
@@ -68,16 +63,12 @@ pub fn nothing_to_commit<F: FileStore>(
     columns: &[Column],
 ) -> Result<Vec<u8>, Refusal>
     requires { columns.now ≡ plain_columns }
-    ensures answer { ShowsPlain (F.ops store.old) (F.others store.old) (F.ops store.new) (F.others store.new)
-        (Rose (F.faults store.old) (F.faults store.new)) result }
-    ensures refusal { IfErr result (MayRefuseText (Rose (F.faults store.old) (F.faults store.new))) }
-    ensures done { F.others store.new ≡ F.others store.old → IfOk result (λ text. (h : History) → Stands (F.ops store.old) h → text.items ≡ nothing_text h) }
-    ensures stays { F.others store.new ≡ F.others store.old → (h : History) → Stands (F.ops store.old) h → Stands (F.ops store.new) h }
-    ensures complete { F.others store.new ≡ F.others store.old → IfErr result (λ e. (h : History) → Stands (F.ops store.old) h
-        → IsWantOrFault (Rose (F.faults store.old) (F.faults store.new)) e) }
-    ensures images { F.others store.new ≡ F.others store.old → (h : History) → Stands (F.ops store.old) h
-        → Extends (λ files. StandsFor files h) (F.ops store.old) (F.ops store.new) }
-    ensures later { F.faults store.old ≤ F.faults store.new }
+    ensures answer { ShowsPlain (F.seen store.old) (F.seen store.new) result }
+    ensures refusal { IfErr result (MayRefuseText (StoreFailed (F.seen store.old) (F.seen store.new))) }
+    ensures history { (first : StoreView) × IsFirst read_call (F.seen store.old) first (F.seen store.new)
+        × (IsAlone first (F.seen store.new) → (h : History) → Stands first h
+        → KeepsTo h first (F.seen store.new) result) }
+    ensures later { IsLater (F.seen store.old) (F.seen store.new) }
 {
     read_and_show(alloc, store, columns)
 }
@@ -91,16 +82,15 @@ fn try_commits<F: FileStore>(
 ) -> Result<Committed, Refusal>
     requires columns { columns.now ≡ plain_columns }
     requires fit { AllFit plain_columns batch.now }
-    ensures answer { Commits batch.now (F.ops store.old) (F.others store.old) (F.ops store.new) (F.others store.new)
-        (Rose (F.faults store.old) (F.faults store.new)) result }
-    ensures later { F.faults store.old ≤ F.faults store.new }
+    ensures answer { Commits batch.now (F.seen store.old) (F.seen store.new) result }
+    ensures later { IsLater (F.seen store.old) (F.seen store.new) }
 {
     let mut found = read_plain(alloc, store)?;
     let mut ids = [0; TRIES];
     for i in 0..TRIES {
         match try_commit(alloc, store, columns, &found, batch)? {
             Attempt::Done(committed) => return Ok(committed),
-            Attempt::Met(id, now) => {
+            Attempt::Found(id, now) => {
                 ids[i] = id;
                 found = now;
             }
@@ -116,9 +106,8 @@ fn read_and_show<F: FileStore>(
     columns: &[Column],
 ) -> Result<Vec<u8>, Refusal>
     requires { columns.now ≡ plain_columns }
-    ensures answer { ShowsPlain (F.ops store.old) (F.others store.old) (F.ops store.new) (F.others store.new)
-        (Rose (F.faults store.old) (F.faults store.new)) result }
-    ensures later { F.faults store.old ≤ F.faults store.new }
+    ensures answer { ShowsPlain (F.seen store.old) (F.seen store.new) result }
+    ensures later { IsLater (F.seen store.old) (F.seen store.new) }
 {
     let found = read_plain(alloc, store)?;
     nothing(alloc, columns, text_of(&found))
@@ -126,9 +115,8 @@ fn read_and_show<F: FileStore>(
 
 /// What stands at the path of the plain file.
 fn read_plain<F: FileStore>(alloc: Global, store: &mut F) -> Result<Option<Blob>, Refusal>
-    ensures answer { ReadsPlain (F.ops store.old) (F.others store.old) (F.ops store.new) (F.others store.new)
-        (Rose (F.faults store.old) (F.faults store.new)) result }
-    ensures later { F.faults store.old ≤ F.faults store.new }
+    ensures answer { ReadsPlain (F.seen store.old) (F.seen store.new) result }
+    ensures later { IsLater (F.seen store.old) (F.seen store.new) }
 {
     let path = Txt::from_str(alloc, PATH)?;
     match store.read(alloc, PATH) {
@@ -148,9 +136,8 @@ fn try_commit<F: FileStore>(
 ) -> Result<Attempt, Refusal>
     requires columns { columns.now ≡ plain_columns }
     requires fit { AllFit plain_columns batch.now }
-    ensures answer { Attempts batch.now found.now (F.ops store.old) (F.others store.old) (F.ops store.new) (F.others store.new)
-        (Rose (F.faults store.old) (F.faults store.new)) result }
-    ensures later { F.faults store.old ≤ F.faults store.new }
+    ensures answer { Attempts batch.now found.now (F.seen store.old) (F.seen store.new) result }
+    ensures later { IsLater (F.seen store.old) (F.seen store.new) }
 {
     let plan = plan_of(alloc, columns, text_of(found), batch)?;
     let path = Txt::from_str(alloc, PATH)?;
@@ -170,7 +157,7 @@ fn attempt_of(plan: Plan, swapped: Swapped) -> Attempt
             id: plan.id,
             text: plan.text,
         }),
-        Swapped::Differs(now) => Attempt::Met(plan.id, now),
+        Swapped::Differs(now) => Attempt::Found(plan.id, now),
     }
 }
 

@@ -2,10 +2,11 @@
 
 ghost use Rattle.std.specs.Prelude.{◌≡◌, ◌++◌, ℕ, Ok, IfOk, IfErr, codes};
 ghost use Rattle.std.specs.Fmt.{decimal};
+ghost use Rattle.pm_base.specs.Newline.{line};
 ghost use Rattle.pm_values.specs.declared.refusal.Refusal.TheVariants as refusals;
 ghost use Rattle.pm_history.specs.Merge.{AllFit};
 ghost use Rattle.pm_plain.specs.Columns.{plain_columns};
-ghost use Rattle.pm_plain.specs.Text.{History, line, scan_text};
+ghost use Rattle.pm_plain.specs.Text.{History};
 ghost use Rattle.pm_plain.specs.Reading.{history_in};
 ghost use Rattle.pm_plain.specs.Table.{IsTableOf};
 ghost use Rattle.pm_plain.specs.Plan.{RefusesText, Plans, Shows};
@@ -78,9 +79,9 @@ fn read_table(alloc: Global, columns: &[Column], found: &[u8]) -> Result<Table, 
     match parse(alloc, columns, found) {
         Ok(table) => Ok(table),
         Err(PlainFault::Memory) => Err(Refusal::Memory),
-        Err(PlainFault::Bad(place)) => Err(Refusal::Damaged {
+        Err(PlainFault::Bad(offset)) => Err(Refusal::Damaged {
             path: Txt::from_str(alloc, PATH)?,
-            place: place as u64,
+            place: offset as u64,
         }),
     }
 }

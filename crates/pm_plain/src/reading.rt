@@ -1,9 +1,12 @@
 //! The plain file's text read again.
 
-ghost use Rattle.std.specs.Prelude.{◌≡◌, ◌≢◌, ◌&&◌, [], ◌∷◌, ◌++◌, length, nat_lt, if◌then◌else◌, All, Some, None, IfOk, IfSome, IfNone};
+ghost use Rattle.std.specs.Prelude.{◌≡◌, ◌&&◌, ◌+◌, ◌<◌, [], ◌∷◌, ◌++◌, length, nat_lt, if◌then◌else◌};
+ghost use Rattle.std.specs.Prelude.{Some, None, IfOk, IfSome, IfNone};
+ghost use Rattle.std.specs.Str.{bytes_eq};
+ghost use Rattle.pm_base.specs.Newline.{newline, IsUnbroken};
 ghost use Rattle.pm_values.specs.Fits.{Fits};
 ghost use Rattle.pm_rows.specs.Reading.{row_of};
-ghost use Rattle.pm_plain.specs.Text.{History, last_id};
+ghost use Rattle.pm_plain.specs.Text.{History, snapshot_line, last_id};
 ghost use Rattle.pm_plain.specs.Columns.{plain_columns};
 ghost use Rattle.pm_plain.specs.Reading.{is_whole, with_row, exact_row, after_line, history_in};
 ghost use Rattle.pm_plain.specs.Table.{IsTableOf, IsNext, Reads};
@@ -44,12 +47,12 @@ pub fn parse(alloc: Global, columns: &[Column], text: &[u8]) -> Result<Table, Pl
 
 /// The first line of a text without its newline, and what follows it. None where no newline ends it.
 fn first_line(text: &[u8]) -> Option<(&[u8], &[u8])>
-    ensures none { IfNone result (All (λ b. b ≢ 10) text.now) }
-    ensures parts { IfSome result (λ x. text.now ≡ x.0.now ++ 10 ∷ x.1.now) }
-    ensures unbroken { IfSome result (λ x. All (λ b. b ≢ 10) x.0.now) }
+    ensures none { IfNone result (IsUnbroken text.now) }
+    ensures parts { IfSome result (λ x. text.now ≡ x.0.now ++ newline ∷ x.1.now) }
+    ensures unbroken { IfSome result (λ x. IsUnbroken x.0.now) }
 {
-    let place = text.iter().position(|byte| *byte == b'\n')?;
-    let (line, more) = text.split_at(place);
+    let offset = text.iter().position(|byte| *byte == b'\n')?;
+    let (line, more) = text.split_at(offset);
     Some((line, more.split_at(1).1))
 }
 
@@ -63,8 +66,7 @@ fn take_line(
     requires { columns.now ≡ plain_columns }
     ensures { IfOk result (λ next. (h : History) → IsTableOf table h → IsNext next (after_line line.now h)) }
 {
-    let begins = snapshot_line(alloc, table.commits.saturating_add(1))?;
-    if begins.as_slice() == line {
+    if is_snapshot(alloc, table.commits.saturating_add(1), line)? {
         return Ok(begin_commit(table));
     }
     match exact_row(alloc, columns, line)? {
@@ -73,9 +75,24 @@ fn take_line(
     }
 }
 
+/// Whether a line is that of a snapshot. It is formatted only for a line that begins as such a line does.
+fn is_snapshot(alloc: Global, id: u64, line: &[u8]) -> Result<bool, AllocError>
+    ensures { IfOk result (λ is. is ≡ bytes_eq (snapshot_line id) line.now) }
+{
+    let Some((first, _)) = line.split_first() else {
+        return Ok(false);
+    };
+    if *first != b'{' {
+        return Ok(false);
+    }
+    let text = snapshot_line(alloc, id)?;
+    Ok(text.as_slice() == line)
+}
+
 /// The table with a commit more, where the last one has a row and there is an id left.
 fn begin_commit(table: Table) -> Option<Table>
-    ensures { (h : History) → IsTableOf table h → IsNext result (if is_whole h && nat_lt (length h) last_id then Some (h ++ [] ∷ []) else None) }
+    ensures { (h : History) → IsTableOf table h
+        → IsNext result (if is_whole h && nat_lt (length h) last_id then Some (h ++ [] ∷ []) else None) }
 {
     if table.whole && table.commits < LAST_ID {
         return Some(Table {

@@ -11,7 +11,7 @@ pub const PATH: &str = "plain/table";
 /// The greatest snapshot id.
 pub const LAST_ID: u64 = 9007199254740991;
 
-/// Why a text wasn't read: there was no memory left, or it is no history's text, and its first
+/// Why a text wasn't read: out of memory, or it is no history's text, and its first
 /// line that doesn't fit begins at that offset.
 #[derive(Debug, Drop)]
 pub enum PlainFault {

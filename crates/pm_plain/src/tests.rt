@@ -8,71 +8,22 @@ ghost use Rattle.pm_plain.specs.Columns.{plain_columns};
 use super::*;
 use crate::table::PATH;
 use pm_rows::read_row;
-use pm_store::{FileStore, MemStore, StoreFail, Swapped};
-use pm_values::{Blob, Column, Kind, Row};
+use pm_store::{FileStore, Made, MemStore, Published, Removed, StoreFail, Swapped};
+use pm_values::{Blob, Column, Kind, Row, Txt};
 use std::alloc::{AllocError, Global};
 use std::test::Fail;
 
-/// Where a text doesn't fit, and how many commits and rows it has where it does.
-fn reading(alloc: Global, text: &str) -> Result<(Option<usize>, u64, usize), Fail> {
-    let columns = plain_columns(alloc)?;
-    match parse(alloc, &columns, text.as_bytes()) {
-        Ok(table) => Ok((None, table.commits, table.rows.len())),
-        Err(PlainFault::Bad(place)) => Ok((Some(place), 0, 0)),
-        Err(PlainFault::Memory) => Err("memory")?,
-    }
-}
-
 #[test]
-fn readings(rt: HostRuntime) -> Result<(), Fail> {
-    for (text, place, commits, rows) in [
-        ("", None, 0, 0),
-        ("{\"snapshot\":1}\n[\"+I\",1,\"a\"]\n", None, 1, 1),
-        (
-            "{\"snapshot\":1}\n[\"+I\",1,\"a\"]\n{\"snapshot\":2}\n[\"-D\",1,null]\n[\"+I\",2,\"b\"]\n",
-            None,
-            2,
-            3,
-        ),
-        ("{\"snapshot\":1}\n", Some(15), 0, 0),
-        (
-            "{\"snapshot\":1}\n[\"+I\",1,\"a\"]\n{\"snapshot\":2}\n",
-            Some(43),
-            0,
-            0,
-        ),
-        (
-            "{\"snapshot\":1}\n{\"snapshot\":2}\n[\"+I\",1,\"a\"]\n",
-            Some(15),
-            0,
-            0,
-        ),
-        ("{\"snapshot\":1}\n[\"+I\",1,\"a\"]", Some(15), 0, 0),
-        (
-            "{\"snapshot\":1}\n[\"+I\",1,\"a\"]\n{\"snap",
-            Some(28),
-            0,
-            0,
-        ),
-        ("[\"+I\",1,\"a\"]\n{\"snapshot\":1}\n", Some(0), 0, 0),
-        ("{\"snapshot\":2}\n[\"+I\",1,\"a\"]\n", Some(0), 0, 0),
-        ("{\"snapshot\": 1}\n[\"+I\",1,\"a\"]\n", Some(0), 0, 0),
-        ("{\"snapshot\":1}\n[\"+I\", 1, \"a\"]\n", Some(15), 0, 0),
-        ("{\"snapshot\":1}\n[\"+I\",null,\"a\"]\n", Some(15), 0, 0),
-        (
-            "{\"snapshot\":1}\n[\"+I\",1,\"a\"]\n?\n[\"+I\",2,\"b\"]\n",
-            Some(28),
-            0,
-            0,
-        ),
-        ("{\"snapshot\":1}\n[\"+I\",1,\"a\"]\n\n", Some(28), 0, 0),
-    ] {
-        assert_eq!(rt;
-            reading(rt.alloc(), text)?,
-            (place, commits, rows),
-            "{text}"
-        );
-    }
+fn reads_texts(rt: HostRuntime) -> Result<(), Fail> {
+    let alloc = rt.alloc();
+    let columns = plain_columns(alloc)?;
+    let text =
+        b"{\"snapshot\":1}\n[\"+I\",1,\"a\"]\n{\"snapshot\":2}\n[\"-D\",1,null]\n[\"+I\",2,\"b\"]\n";
+    let table = parse(alloc, &columns, text).ok().ok_or("no text")?;
+    assert_eq!(rt; table.commits, 2);
+    assert_eq!(rt; table.rows.len(), 3);
+    let unended = b"{\"snapshot\":1}\n[\"+I\",1,\"a\"]\n{\"snap";
+    assert!(rt; matches!(parse(alloc, &columns, unended), Err(PlainFault::Bad(28))));
     Ok(())
 }
 
@@ -137,10 +88,14 @@ fn commits(rt: HostRuntime) -> Result<(), Fail> {
     assert!(rt; shown.as_slice() == "nothing to commit\n[\"+I\",1,null]\n".as_bytes());
     let found = store.read(alloc, PATH).ok().ok_or("refused")?;
     let file = found.ok_or("no file")?;
-    assert!(rt;
-        file.as_bytes()
-            == "{\"snapshot\":1}\n[\"+I\",2,\"b\"]\n[\"+I\",1,\"a\"]\n{\"snapshot\":2}\n[\"-D\",2,\"b\"]\n[\"+U\",1,null]\n".as_bytes()
-    );
+    let text = r#"{"snapshot":1}
+["+I",2,"b"]
+["+I",1,"a"]
+{"snapshot":2}
+["-D",2,"b"]
+["+U",1,null]
+"#;
+    assert!(rt; file.as_bytes() == text.as_bytes());
     Ok(())
 }
 
@@ -152,14 +107,28 @@ struct Rival {
 }
 
 impl FileStore for Rival {
-    ghost ops = { λ _. None };
+    ghost seen = { λ _. record { ops = None; others = 0; faults = 0 } };
 
-    ghost others = { λ _. 0 };
-
-    ghost faults = { λ _. 0 };
+    fn list(&mut self, _alloc: Global, _folder: &str) -> Result<Vec<Txt>, StoreFail> {
+        Err(StoreFail::Memory)
+    }
 
     fn read(&mut self, alloc: Global, _path: &str) -> Result<Option<Blob>, StoreFail> {
         Ok(Some(Blob::from_slice(alloc, &self.text)?))
+    }
+
+    fn create(&mut self, _alloc: Global, _path: &str, _bytes: &[u8]) -> Result<Made, StoreFail> {
+        Err(StoreFail::Memory)
+    }
+
+    fn publish(
+        &mut self,
+        _alloc: Global,
+        _after: &str,
+        _path: &str,
+        _bytes: &[u8],
+    ) -> Result<Published, StoreFail> {
+        Err(StoreFail::Memory)
     }
 
     fn swap(
@@ -183,10 +152,14 @@ impl FileStore for Rival {
             _ => Ok(Swapped::Differs(Some(found))),
         }
     }
+
+    fn remove(&mut self, _alloc: Global, _path: &str) -> Result<Removed, StoreFail> {
+        Err(StoreFail::Memory)
+    }
 }
 
 #[test]
-fn comes_behind_a_rival(rt: HostRuntime) -> Result<(), Fail> {
+fn comes_after_a_rival(rt: HostRuntime) -> Result<(), Fail> {
     let alloc = rt.alloc();
     let mut store = Rival {
         text: Vec::new(alloc),

@@ -2,11 +2,12 @@
 
 ghost use Rattle.std.specs.Prelude.{◌≡◌, ◌++◌, map, IfOk};
 ghost use Rattle.std.specs.List.{flat_map};
+ghost use Rattle.pm_base.specs.Newline.{line};
 ghost use Rattle.pm_rows.specs.RowText.{row_text};
 ghost use Rattle.pm_values.specs.declared.kind.Kind.TheVariants.{Insert};
 ghost use Rattle.pm_history.specs.Merge.{AllFit};
 ghost use Rattle.pm_plain.specs.Columns.{plain_columns};
-ghost use Rattle.pm_plain.specs.Text.{line, snapshot_line, rows_text, commit_text, scan_text};
+ghost use Rattle.pm_plain.specs.Text.{snapshot_line, rows_text, commit_text, scan_text};
 
 use crate::columns::PRIMARY;
 use pm_history::merged_rows;
@@ -75,7 +76,8 @@ fn push_inserts(
     rows: &[&Row],
 ) -> Result<(), AllocError>
     requires { columns.now ≡ plain_columns }
-    ensures { IfOk result (λ _. text.new.items ≡ text.old.items ++ flat_map (λ row. line (row_text Insert row)) (map (λ row. row.now) rows.now)) }
+    ensures { IfOk result (λ _. text.new.items
+        ≡ text.old.items ++ flat_map (λ row. line (row_text Insert row)) (map (λ row. row.now) rows.now)) }
 {
     for row in rows {
         let line = print_row(alloc, columns, Kind::Insert, row)?;

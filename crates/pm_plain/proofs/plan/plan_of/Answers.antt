@@ -1,6 +1,7 @@
 use Rattle.std.proofs.Common.{◌≡◌, ◌<◌, ◌++◌, ◌+◌, length, ap, sym, subst, ◌∙◌, codes}
 use Rattle.std.specs.Fmt.{decimal}
-use Rattle.pm_plain.specs.Text.{line, commit_text, history_text, scan_text, last_id}
+use Rattle.pm_base.specs.Newline.{line}
+use Rattle.pm_plain.specs.Text.{commit_text, history_text, scan_text, last_id}
 use Rattle.pm_plain.proofs.TextLemmas.{history_text-push, joined-push}
 use Rattle.pm_plain.proofs.CodecLaws.{history_text-history_in}
 use Rattle.pm_plain.proofs.plan.plan_of.Goals as goal

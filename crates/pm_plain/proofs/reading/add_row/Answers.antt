@@ -1,8 +1,9 @@
 use Rattle.std.proofs.Common.{◌++◌, ◌∷◌, [], ◌≤◌, ap, sym, subst, ◌∙◌}
-use Rattle.pm_history.specs.Merge.{AllFit}
+use Rattle.pm_base.proofs.Laws.{AllByRecursion-push}
+use Rattle.pm_values.specs.Fits.{Fits}
+use Rattle.pm_history.specs.Merge.{HistoryRow, AllFit}
 use Rattle.pm_plain.specs.Columns.{plain_columns}
 use Rattle.pm_plain.specs.Text.{joined, last_id}
-use Rattle.pm_plain.proofs.TextLemmas.{AllFit-append}
 use Rattle.pm_plain.proofs.ReadingLemmas.{takes_row_nonempty}
 use Rattle.pm_plain.proofs.reading.add_row.Goals as goal
 
@@ -17,6 +18,6 @@ returns c h is =
         all = c.in_ok-push.ensures.items ∙ ap (λ rows. rows ++ c.args.row ∷ []) is.all ∙ sym next.1.all;
         last = sym next.1.whole;
         within = subst (λ n. n ≤ last_id) (sym next.1.count) is.within;
-        fit = subst (AllFit plain_columns) (sym next.1.all) (AllFit-append plain_columns (joined h) (c.args.row ∷ []) is.fit (c.requires, tt));
+        fit = subst (AllFit plain_columns) (sym next.1.all) (AllByRecursion-push (λ (r : HistoryRow). Fits plain_columns r.1) (joined h) c.args.row is.fit c.requires);
       },
     )

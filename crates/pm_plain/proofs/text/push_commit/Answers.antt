@@ -1,6 +1,7 @@
 use Rattle.std.proofs.Common.{◌++◌, take, ap, sym, ◌∙◌, append_assoc}
 use Rattle.pm_rows.specs.RowText.{row_text}
-use Rattle.pm_plain.specs.Text.{line, commit_text}
+use Rattle.pm_base.specs.Newline.{line}
+use Rattle.pm_plain.specs.Text.{commit_text}
 use Rattle.pm_plain.proofs.TextLemmas.{commit_text-more}
 use Rattle.pm_plain.proofs.text.push_commit.Goals as goal
 

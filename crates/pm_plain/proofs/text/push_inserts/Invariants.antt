@@ -2,7 +2,7 @@ use Rattle.std.proofs.Common.{◌≡◌, ◌++◌, map, take}
 use Rattle.std.specs.List.{flat_map}
 use Rattle.pm_values.specs.declared.kind.Kind.TheVariants.{Insert}
 use Rattle.pm_rows.specs.RowText.{row_text}
-use Rattle.pm_plain.specs.Text.{line}
+use Rattle.pm_base.specs.Newline.{line}
 use Rattle.pm_plain.proofs.text.push_inserts.Given as goal
 
 -- the lines of the rows so far
