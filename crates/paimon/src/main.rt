@@ -1,5 +1,5 @@
-//! The program: `paimon FOLDER COMMAND ..` runs one command on the folder, over standard input,
-//! output and error. It ends with 0, or with the number of the refusal.
+//! The program: `paimon FOLDER COMMAND ..` runs one command on the folder, over standard input, output and
+//! error. It ends with 0, or with the number of the refusal.
 #![tactic(auto)]
 
 use pm_cli::run;
@@ -11,19 +11,22 @@ use std::io::ErrorKind;
 use std::process::ExitCode;
 use std::random::RandomSource;
 use std::time::SystemTime;
-use std::{env, fs, io};
+use std::{env, io};
 
-/// The exit statuses of what no refusal speaks of: the words, the clock or the random bytes can't be had.
+/// The exit status where the words can't be had. No refusal speaks of this and the next two.
 const NO_WORDS: u8 = 100;
 
+/// The exit status where the clock can't be read.
 const NO_CLOCK: u8 = 101;
 
+/// The exit status where no random bytes can be had.
 const NO_RANDOM_BYTES: u8 = 102;
 
+/// Runs the command of the command line, and ends with its status.
 fn main(rt: HostRuntime) -> ExitCode {
-    let code = match words_of(&rt) {
+    let code = match read_words(&rt) {
         Ok(words) => match words.split_first() {
-            Some((folder, words)) => started(&rt, folder, words),
+            Some((folder, words)) => run_command(&rt, folder, words),
             None => said(&rt, "E2 words ", 2),
         },
         Err(e) if e.kind() == ErrorKind::InvalidData => said(&rt, "E2 words ", 2),
@@ -32,9 +35,10 @@ fn main(rt: HostRuntime) -> ExitCode {
     ExitCode::from(code)
 }
 
-/// Runs the command that the words give on a folder, which is made where it isn't there.
-fn started(rt: &HostRuntime, folder: &Txt, words: &[Txt]) -> u8 {
-    let mut store = match opened(rt, folder.as_str()) {
+/// Runs the command that the words give on a folder. The folder is opened before the words are judged, and
+/// nothing is made of it.
+fn run_command(rt: &HostRuntime, folder: &Txt, words: &[Txt]) -> u8 {
+    let mut store = match open_store(rt, folder) {
         Ok(store) => store,
         Err(StoreFail::Memory) => return said(rt, "E1 memory", 1),
         Err(StoreFail::Failed) => return said(rt, "E5 store .", 5),
@@ -64,17 +68,12 @@ fn started(rt: &HostRuntime, folder: &Txt, words: &[Txt]) -> u8 {
 }
 
 /// A store on a folder.
-fn opened(rt: &HostRuntime, folder: &str) -> Result<FolderStore<HostRuntime>, StoreFail> {
-    match fs::create_dir(rt, folder) {
-        Ok(()) => {}
-        Err(e) if e.kind() == ErrorKind::AlreadyExists => {}
-        Err(e) => return Err(StoreFail::from(e)),
-    }
-    FolderStore::open(rt.alloc(), rt.clone()?, folder)
+fn open_store(rt: &HostRuntime, folder: &Txt) -> Result<FolderStore<HostRuntime>, StoreFail> {
+    FolderStore::open(rt.alloc(), rt.clone()?, folder.as_str())
 }
 
-/// The words of the command line behind the program's name.
-fn words_of(rt: &HostRuntime) -> io::Result<Vec<Txt>> {
+/// The words of the command line after the program's name.
+fn read_words(rt: &HostRuntime) -> io::Result<Vec<Txt>> {
     let mut words = Vec::new(rt.alloc());
     for word in env::args(rt)?.skip(1) {
         words.push(Txt::from_str(rt.alloc(), word.as_str())?)?;

@@ -1,13 +1,14 @@
 -- The batch of an input, or why there is none.
-use Rattle.std.specs.Prelude.{◌≡◌, ℕ, List, [], ◌++◌, Option, Some, Result, Ok, Err}
+use Rattle.std.specs.Prelude.{◌≡◌, ℕ, List, [], ◌++◌, Some, Result, Ok, Err}
 use Rattle.pm_values.specs.declared.refusal.Refusal.{Refusal}
 use Rattle.pm_values.specs.declared.refusal.Refusal.TheVariants as refusals
 use Rattle.pm_history.specs.Merge.{HistoryRow}
-use Rattle.pm_io.specs.Lines.{all_lines}
-use Rattle.pm_input.specs.Limits.{IsWithin, IsFirstLimit, text_of, number_of}
+use Rattle.pm_io.specs.Source.{SourceView, SourceFailed}
+use Rattle.pm_input.specs.Limits.{IsWithin, IsFirstLimit, limit_text, limit_number}
+use Rattle.pm_input.specs.Lines.{row_lines}
 use Rattle.pm_input.specs.Rows.{rows_in}
 use Rattle.pm_input.specs.declared.limits.Limits.{Limits}
-use Rattle.pm_input.specs.declared.limits.Which.{Which}
+use Rattle.pm_input.specs.declared.limits.LimitKind.{LimitKind}
 use Rattle.pm_input.specs.declared.lines.InputFault.{InputFault}
 use Rattle.pm_input.specs.declared.lines.InputFault.TheVariants as faults
 use Rattle.pm_plain.specs.Columns.{plain_columns}
@@ -19,32 +20,39 @@ limits = record { line = 1048576; rows = 100000; bytes = 268435456 }
 -- rows are the batch of an input: it is within the limits, and they are its rows
 pub record IsBatch (rows : List HistoryRow) (bytes : List ℕ) : Type 0 where
   pub within : IsWithin limits bytes
-  pub read : rows_in plain_columns (all_lines bytes) ≡ Ok rows
+  pub read : rows_in plain_columns (row_lines bytes) ≡ Ok rows
 
 -- the refusal of a fault of the input
 abbrev pub refusal_of : InputFault → Refusal
 refusal_of faults.Memory = refusals.Memory
 refusal_of faults.Read = refusals.SourceFault
-refusal_of (faults.Limit which) = refusals.Limit (text_of which) (number_of limits which)
+refusal_of (faults.Limit kind) = refusals.Limit (limit_text kind) (limit_number limits kind)
 
--- a refusal that comes from the input: its source failed behind bytes within the limits, or it passes a limit
--- first, or it is within them and has a bad line; what the source has left is nothing, but after the first two
-abbrev pub RefusesInput : List ℕ → Option (List ℕ) → Type 0 → Refusal → Type 0
-RefusesInput bytes left rose refusals.Memory = Unit {0}
-RefusesInput bytes left rose refusals.SourceFault = rose × ((front rest : List ℕ) × (bytes ≡ front ++ rest) × IsWithin limits front)
-RefusesInput bytes left rose (refusals.Limit text number) = (which : Which) × (text ≡ text_of which) × (number ≡ number_of limits which) × IsFirstLimit limits which bytes
-RefusesInput bytes left rose (refusals.BadLine line why column) = (left ≡ Some []) × IsWithin limits bytes × (rows_in plain_columns (all_lines bytes) ≡ Err (line, (why, column)))
-RefusesInput bytes left rose other = ⊥
+-- A refusal that comes from the input: its source failed after a prefix within the limits, or it exceeds a limit
+-- first, or it is within them and has a bad line; then the source has nothing left.
+abbrev pub RefusesInput : List ℕ → SourceView → SourceView → Refusal → Type 0
+RefusesInput bytes before after refusals.Memory = Unit {0}
+RefusesInput bytes before after refusals.SourceFault =
+    SourceFailed before after
+    × ((prefix rest : List ℕ) × (bytes ≡ prefix ++ rest) × (after.left ≡ Some rest) × IsWithin limits prefix)
+RefusesInput bytes before after (refusals.Limit text number) =
+    (kind : LimitKind) × (text ≡ limit_text kind) × (number ≡ limit_number limits kind) × IsFirstLimit limits kind bytes
+RefusesInput bytes before after (refusals.BadLine line why column) =
+    (after.left ≡ Some []) × IsWithin limits bytes
+    × (rows_in plain_columns (row_lines bytes) ≡ Err (line, (why, column)))
+RefusesInput bytes before after other = ⊥
 
 -- what reading the batch of an input answers, the rows seen by the function
-abbrev pub ReadsBatch : {X : Type 0} → (X → List HistoryRow) → List ℕ → Option (List ℕ) → Type 0 → Result X Refusal → Type 0
-ReadsBatch view bytes left rose (Ok rows) = (left ≡ Some []) × IsBatch (view rows) bytes
-ReadsBatch view bytes left rose (Err e) = RefusesInput bytes left rose e
+abbrev pub ReadsBatch : {X : Type 0} → (X → List HistoryRow) → List ℕ → SourceView → SourceView → Result X Refusal
+    → Type 0
+ReadsBatch view bytes before after (Ok rows) = (after.left ≡ Some []) × IsBatch (view rows) bytes
+ReadsBatch view bytes before after (Err e) = RefusesInput bytes before after e
 
--- the refusals where the source tells nothing; a fault of the source only where its count rose
-abbrev pub MayRefuseInput : Type 0 → Refusal → Type 0
-MayRefuseInput rose refusals.Memory = Unit {0}
-MayRefuseInput rose refusals.SourceFault = rose
-MayRefuseInput rose (refusals.Limit text number) = (which : Which) × (text ≡ text_of which) × (number ≡ number_of limits which)
-MayRefuseInput rose (refusals.BadLine line why column) = Unit {0}
-MayRefuseInput rose other = ⊥
+-- the refusals where the bytes of the source aren't known; a fault of the source comes only where its count rose
+abbrev pub MayRefuseInput : SourceView → SourceView → Refusal → Type 0
+MayRefuseInput before after refusals.Memory = Unit {0}
+MayRefuseInput before after refusals.SourceFault = SourceFailed before after
+MayRefuseInput before after (refusals.Limit text number) =
+    (kind : LimitKind) × (text ≡ limit_text kind) × (number ≡ limit_number limits kind)
+MayRefuseInput before after (refusals.BadLine line why column) = Unit {0}
+MayRefuseInput before after other = ⊥

@@ -1,8 +1,8 @@
 //! The batch of a `write`: the rows of its input.
 
-ghost use Rattle.std.specs.Prelude.{◌≡◌, ◌≤◌, IfOk, IfErr, IfSome};
-ghost use Rattle.pm_base.specs.Faults.{Rose};
+ghost use Rattle.std.specs.Prelude.{◌≡◌, IfOk, IfErr, IfSome};
 ghost use Rattle.pm_history.specs.Merge.{AllFit};
+ghost use Rattle.pm_io.specs.Source.{SourceLater};
 ghost use Rattle.pm_plain.specs.Columns.{plain_columns};
 ghost use Rattle.pm_cli.specs.Batch.{ReadsBatch, MayRefuseInput, refusal_of};
 
@@ -18,11 +18,11 @@ pub(crate) fn read_batch<S: Source>(
     input: &mut S,
 ) -> Result<Vec<(Kind, Row)>, Refusal>
     requires { columns.now ≡ plain_columns }
-    ensures answer { IfSome (S.left input.old) (λ bytes. ReadsBatch (λ rows. rows.items) bytes (S.left input.new)
-        (Rose (S.faults input.old) (S.faults input.new)) result) }
-    ensures refusal { IfErr result (MayRefuseInput (Rose (S.faults input.old) (S.faults input.new))) }
+    ensures answer { IfSome (S.seen input.old).left (λ bytes. ReadsBatch (λ rows. rows.items) bytes
+        (S.seen input.old) (S.seen input.new) result) }
+    ensures refusal { IfErr result (MayRefuseInput (S.seen input.old) (S.seen input.new)) }
     ensures fit { IfOk result (λ rows. AllFit plain_columns rows.items) }
-    ensures later { S.faults input.old ≤ S.faults input.new }
+    ensures later { SourceLater (S.seen input.old) (S.seen input.new) }
 {
     let lines = match read_lines(alloc, input, &LIMITS) {
         Ok(lines) => lines,

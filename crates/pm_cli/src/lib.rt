@@ -5,12 +5,12 @@
 
 mod batch;
 mod execute;
-mod law;
-mod top;
+mod laws;
+mod running;
 mod write;
 
-pub use law::next_command_law;
-pub use top::{Status, run};
+pub use laws::next_command_law;
+pub use running::{Status, run};
 
 #[cfg(test)]
 mod tests;

@@ -1,17 +1,15 @@
 //! The command `write`: add the rows of the input as one commit, and print the merged table.
 
-ghost use Rattle.std.specs.Prelude.{◌≡◌, ◌≢◌, ◌≤◌, [], IfErr, OnOk, OnErr};
+ghost use Rattle.std.specs.Prelude.{◌≡◌, ◌≢◌, [], IfErr, OnOk, OnErr};
 ghost use Rattle.std.specs.Result.{result_err};
-ghost use Rattle.pm_base.specs.Faults.{Rose};
+ghost use Rattle.pm_base.specs.Known.{and_then};
 ghost use Rattle.pm_values.specs.declared.refusal.Refusal.TheVariants as refusals;
 ghost use Rattle.pm_history.specs.Merge.{AllFit};
-ghost use Rattle.pm_base.specs.Known.{and_then};
-ghost use Rattle.pm_io.specs.Sink.{TookPrefix};
-ghost use Rattle.pm_store.specs.Images.{Extends};
+ghost use Rattle.pm_io.specs.Sink.{SinkFailed, SinkLater, TookPrefix};
+ghost use Rattle.pm_io.specs.Source.{SourceView};
+ghost use Rattle.pm_store.specs.Store.{IsLater};
 ghost use Rattle.pm_plain.specs.Columns.{plain_columns};
-ghost use Rattle.pm_plain.specs.Text.{History};
-ghost use Rattle.pm_plain.specs.Commit.{Stands};
-ghost use Rattle.pm_cli.specs.Run.{printed, HasRoom, WritesNothing, WritesRows, WritesBatch, IsServed, Leaves, MetOthers, MayRefuseBatch, IsEither};
+ghost use Rattle.pm_cli.specs.Run.{outside, WritesNothing, WritesRows, WritesBatch, MayRefuseBatch, AddsBatches};
 
 use pm_io::{Sink, write_all};
 use pm_plain::{commit_batch, nothing_to_commit};
@@ -29,18 +27,15 @@ pub(crate) fn write_batch<W: Sink, F: FileStore>(
 ) -> Result<(), Refusal>
     requires columns { columns.now ≡ plain_columns }
     requires fit { AllFit plain_columns batch.now }
-    ensures answer { WritesBatch batch.now (F.ops store.old) (F.others store.old) (F.ops store.new) (F.others store.new) (W.taken out.old) (W.taken out.new)
-        (Rose (W.faults out.old) (W.faults out.new)) (Rose (F.faults store.old) (F.faults store.new)) (result_err result) }
-    ensures refusal { IfErr result (MayRefuseBatch (Rose (W.faults out.old) (W.faults out.new)) (Rose (F.faults store.old) (F.faults store.new))
-        (MetOthers (F.ops store.old) (F.others store.old) (F.ops store.new) (F.others store.new))) }
-    ensures prints { F.others store.new ≡ F.others store.old → OnOk result ((h : History) → Stands (F.ops store.old) h
-        → W.taken out.new ≡ and_then (W.taken out.old) (printed h batch.now)) }
-    ensures complete { F.others store.new ≡ F.others store.old → (h : History) → Stands (F.ops store.old) h → HasRoom h batch.now
-        → (Rose (W.faults out.old) (W.faults out.new) → ⊥) → (Rose (F.faults store.old) (F.faults store.new) → ⊥) → IsServed (result_err result) }
-    ensures leaves { F.others store.new ≡ F.others store.old → (h : History) → Stands (F.ops store.old) h → Leaves (result_err result) h batch.now (F.ops store.new) }
-    ensures images { F.others store.new ≡ F.others store.old → (h : History) → Stands (F.ops store.old) h → Extends (IsEither h batch.now) (F.ops store.old) (F.ops store.new) }
-    ensures sink_later { W.faults out.old ≤ W.faults out.new }
-    ensures store_later { F.faults store.old ≤ F.faults store.new }
+    ensures answer { (input : SourceView) → WritesBatch batch.now
+        (outside input (W.seen out.old) (F.seen store.old))
+        (outside input (W.seen out.new) (F.seen store.new)) (result_err result) }
+    ensures refusal { (input : SourceView) → IfErr result (MayRefuseBatch
+        (outside input (W.seen out.old) (F.seen store.old)) (outside input (W.seen out.new) (F.seen store.new))) }
+    ensures history { AddsBatches batch.now (W.seen out.old) (W.seen out.new)
+        (F.seen store.old) (F.seen store.new) (result_err result) }
+    ensures out_later { SinkLater (W.seen out.old) (W.seen out.new) }
+    ensures store_later { IsLater (F.seen store.old) (F.seen store.new) }
 {
     if batch.is_empty() {
         return write_nothing(alloc, columns, out, store);
@@ -59,18 +54,15 @@ fn write_rows<W: Sink, F: FileStore>(
     requires columns { columns.now ≡ plain_columns }
     requires some { batch.now ≢ [] }
     requires fit { AllFit plain_columns batch.now }
-    ensures answer { WritesRows batch.now (F.ops store.old) (F.others store.old) (F.ops store.new) (F.others store.new) (W.taken out.old) (W.taken out.new)
-        (Rose (W.faults out.old) (W.faults out.new)) (Rose (F.faults store.old) (F.faults store.new)) (result_err result) }
-    ensures refusal { IfErr result (MayRefuseBatch (Rose (W.faults out.old) (W.faults out.new)) (Rose (F.faults store.old) (F.faults store.new))
-        (MetOthers (F.ops store.old) (F.others store.old) (F.ops store.new) (F.others store.new))) }
-    ensures prints { F.others store.new ≡ F.others store.old → OnOk result ((h : History) → Stands (F.ops store.old) h
-        → W.taken out.new ≡ and_then (W.taken out.old) (printed h batch.now)) }
-    ensures complete { F.others store.new ≡ F.others store.old → (h : History) → Stands (F.ops store.old) h → HasRoom h batch.now
-        → (Rose (W.faults out.old) (W.faults out.new) → ⊥) → (Rose (F.faults store.old) (F.faults store.new) → ⊥) → IsServed (result_err result) }
-    ensures leaves { F.others store.new ≡ F.others store.old → (h : History) → Stands (F.ops store.old) h → Leaves (result_err result) h batch.now (F.ops store.new) }
-    ensures images { F.others store.new ≡ F.others store.old → (h : History) → Stands (F.ops store.old) h → Extends (IsEither h batch.now) (F.ops store.old) (F.ops store.new) }
-    ensures sink_later { W.faults out.old ≤ W.faults out.new }
-    ensures store_later { F.faults store.old ≤ F.faults store.new }
+    ensures answer { (input : SourceView) → WritesRows batch.now
+        (outside input (W.seen out.old) (F.seen store.old))
+        (outside input (W.seen out.new) (F.seen store.new)) (result_err result) }
+    ensures refusal { (input : SourceView) → IfErr result (MayRefuseBatch
+        (outside input (W.seen out.old) (F.seen store.old)) (outside input (W.seen out.new) (F.seen store.new))) }
+    ensures history { AddsBatches batch.now (W.seen out.old) (W.seen out.new)
+        (F.seen store.old) (F.seen store.new) (result_err result) }
+    ensures out_later { SinkLater (W.seen out.old) (W.seen out.new) }
+    ensures store_later { IsLater (F.seen store.old) (F.seen store.new) }
 {
     let committed = commit_batch(alloc, store, columns, batch)?;
     print(out, &committed.text, Some(committed.id))
@@ -84,18 +76,15 @@ fn write_nothing<W: Sink, F: FileStore>(
     store: &mut F,
 ) -> Result<(), Refusal>
     requires { columns.now ≡ plain_columns }
-    ensures answer { WritesNothing (F.ops store.old) (F.others store.old) (F.ops store.new) (F.others store.new) (W.taken out.old) (W.taken out.new)
-        (Rose (W.faults out.old) (W.faults out.new)) (Rose (F.faults store.old) (F.faults store.new)) (result_err result) }
-    ensures refusal { IfErr result (MayRefuseBatch (Rose (W.faults out.old) (W.faults out.new)) (Rose (F.faults store.old) (F.faults store.new))
-        (MetOthers (F.ops store.old) (F.others store.old) (F.ops store.new) (F.others store.new))) }
-    ensures prints { F.others store.new ≡ F.others store.old → OnOk result ((h : History) → Stands (F.ops store.old) h
-        → W.taken out.new ≡ and_then (W.taken out.old) (printed h [])) }
-    ensures complete { F.others store.new ≡ F.others store.old → (h : History) → Stands (F.ops store.old) h → HasRoom h []
-        → (Rose (W.faults out.old) (W.faults out.new) → ⊥) → (Rose (F.faults store.old) (F.faults store.new) → ⊥) → IsServed (result_err result) }
-    ensures leaves { F.others store.new ≡ F.others store.old → (h : History) → Stands (F.ops store.old) h → Leaves (result_err result) h [] (F.ops store.new) }
-    ensures images { F.others store.new ≡ F.others store.old → (h : History) → Stands (F.ops store.old) h → Extends (IsEither h []) (F.ops store.old) (F.ops store.new) }
-    ensures sink_later { W.faults out.old ≤ W.faults out.new }
-    ensures store_later { F.faults store.old ≤ F.faults store.new }
+    ensures answer { (input : SourceView) → WritesNothing
+        (outside input (W.seen out.old) (F.seen store.old))
+        (outside input (W.seen out.new) (F.seen store.new)) (result_err result) }
+    ensures refusal { (input : SourceView) → IfErr result (MayRefuseBatch
+        (outside input (W.seen out.old) (F.seen store.old)) (outside input (W.seen out.new) (F.seen store.new))) }
+    ensures history { AddsBatches [] (W.seen out.old) (W.seen out.new)
+        (F.seen store.old) (F.seen store.new) (result_err result) }
+    ensures out_later { SinkLater (W.seen out.old) (W.seen out.new) }
+    ensures store_later { IsLater (F.seen store.old) (F.seen store.new) }
 {
     let text = nothing_to_commit(alloc, store, columns)?;
     print(out, &text, None)
@@ -103,11 +92,11 @@ fn write_nothing<W: Sink, F: FileStore>(
 
 /// Prints a text, after the commit of that snapshot where there is one.
 fn print<W: Sink>(out: &mut W, text: &[u8], snapshot: Option<u64>) -> Result<(), Refusal>
-    ensures ok { OnOk result (W.taken out.new ≡ and_then (W.taken out.old) text.now) }
+    ensures ok { OnOk result ((W.seen out.new).taken ≡ and_then (W.seen out.old).taken text.now) }
     ensures fault { IfErr result (λ e. e ≡ refusals.SinkFault snapshot) }
-    ensures front { OnErr result (TookPrefix (W.taken out.old) (W.taken out.new) text.now) }
-    ensures failed { OnErr result (Rose (W.faults out.old) (W.faults out.new)) }
-    ensures later { W.faults out.old ≤ W.faults out.new }
+    ensures prefix { OnErr result (TookPrefix (W.seen out.old).taken (W.seen out.new).taken text.now) }
+    ensures failed { OnErr result (SinkFailed (W.seen out.old) (W.seen out.new)) }
+    ensures later { SinkLater (W.seen out.old) (W.seen out.new) }
 {
     match write_all(out, text) {
         Ok(()) => Ok(()),

@@ -1,19 +1,54 @@
 use Rattle.std.proofs.Common.{subst}
-use Rattle.pm_store.specs.Images.{Extends}
-use Rattle.pm_cli.specs.Run.{IsEither}
-use Rattle.pm_cli.proofs.RunLaws.{batch_told, images-untouched, images-batch}
+use Rattle.std.specs.Result.{result_err}
+use Rattle.std.proofs.lemmas.Result.{err_from_is_err_and}
+use Rattle.pm_cli.specs.Run.{outside, WritesBatch, AddsBatches}
+use Rattle.pm_cli.proofs.RunLaws.{nothing_read, input_refused, batch_serves, batch_command, batch_cause}
 use Rattle.pm_cli.proofs.execute.write.Goals as goal
 
-pub returns-in_err-columns-clause-images : goal.returns-in_err-columns-clause-images
-returns-in_err-columns-clause-images g c alone h bytes stands told = images-untouched h bytes (g.F.FileStore.ops c.args.store.now) stands
+pub returns-in_err-columns-clause-history : goal.returns-in_err-columns-clause-history
+returns-in_err-columns-clause-history g c =
+    let p = err_from_is_err_and c.from_residual.result c.from_residual.ensures.1 in
+    rw (p.1, p.2)
+    (nothing_read (g.S.Source.seen c.args.input.now) (g.W.Sink.seen c.args.out.now)
+    (g.F.FileStore.seen c.args.store.now))
 
-pub returns-in_err-batch-clause-images : goal.returns-in_err-batch-clause-images
-returns-in_err-batch-clause-images g c alone h bytes stands told = images-untouched h bytes (g.F.FileStore.ops c.args.store.now) stands
+pub returns-in_err-batch-clause-history : goal.returns-in_err-batch-clause-history
+returns-in_err-batch-clause-history g c =
+    let p = err_from_is_err_and c.from_residual-in_err-batch.result c.from_residual-in_err-batch.ensures.1 in
+    rw (p.1, p.2)
+    (input_refused (g.S.Source.seen c.args.input.now) (g.S.Source.seen c.read_batch.new.input)
+    (g.W.Sink.seen c.args.out.now)
+    (g.F.FileStore.seen c.args.store.now) c.in_err-batch.field-0.0 c.in_err-batch.ensures.answer)
 
-pub returns-clause-images : goal.returns-clause-images
-returns-clause-images g c alone h bytes stands told =
-    let old = g.F.FileStore.ops c.args.store.now in
-    let new = g.F.FileStore.ops c.write_batch.new.store in
-    let batch = c.in_ok-batch.batch.items in
-    images-batch h bytes batch old new (batch_told (g.S.Source.left c.args.input.now) (g.S.Source.left c.read_batch.new.input) batch bytes told c.in_ok-batch.ensures.answer)
-    (subst (λ batch. Extends (IsEither h batch) old new) c.deref-3.ensures.value (c.write_batch.ensures.images alone h stands))
+pub returns-clause-command : goal.returns-clause-command
+returns-clause-command g c =
+    let input = g.S.Source.seen c.args.input.now in
+    let out = g.W.Sink.seen c.args.out.now in
+    let out_after = g.W.Sink.seen c.write_batch.new.out in
+    let store = g.F.FileStore.seen c.args.store.now in
+    let store_after = g.F.FileStore.seen c.write_batch.new.store in
+    batch_command store store_after input (g.S.Source.seen c.read_batch.new.input) out out_after
+    c.in_ok-batch.batch.items
+    (result_err c.write_batch.result) c.in_ok-batch.ensures.answer
+    (subst (λ (batch : _). WritesBatch batch (outside input out store) (outside input out_after store_after)
+    (result_err c.write_batch.result))
+    c.deref-3.ensures.value (c.write_batch.ensures.answer input))
+
+pub returns-clause-cause : goal.returns-clause-cause
+returns-clause-cause g c =
+    batch_cause (g.S.Source.seen c.args.input.now) (g.S.Source.seen c.read_batch.new.input)
+    (g.W.Sink.seen c.args.out.now) (g.W.Sink.seen c.write_batch.new.out)
+    (g.F.FileStore.seen c.args.store.now) (g.F.FileStore.seen c.write_batch.new.store)
+    c.write_batch.result (c.write_batch.ensures.refusal (g.S.Source.seen c.args.input.now))
+
+pub returns-clause-history : goal.returns-clause-history
+returns-clause-history g c =
+    let out = g.W.Sink.seen c.args.out.now in
+    let out_after = g.W.Sink.seen c.write_batch.new.out in
+    let store = g.F.FileStore.seen c.args.store.now in
+    let store_after = g.F.FileStore.seen c.write_batch.new.store in
+    batch_serves store store_after (g.S.Source.seen c.args.input.now) (g.S.Source.seen c.read_batch.new.input) out
+    out_after
+    c.in_ok-batch.batch.items (result_err c.write_batch.result) c.in_ok-batch.ensures.answer
+    (subst (λ (batch : _). AddsBatches batch out out_after store store_after (result_err c.write_batch.result))
+    c.deref-3.ensures.value c.write_batch.ensures.history)

@@ -4,6 +4,7 @@ ghost use Rattle.std.specs.Prelude.{◌≡◌, ◌≤◌, ◌⊎◌, ℕ, List, 
 ghost use Rattle.pm_store.specs.declared.call.Op.{Op};
 ghost use Rattle.pm_store.specs.Files.{Files, files_after};
 ghost use Rattle.pm_store.specs.Images.{CrashImage, Extends};
+ghost use Rattle.pm_store.specs.Store.{StoreView};
 ghost use Rattle.pm_plain.specs.Text.{History};
 ghost use Rattle.pm_plain.specs.Commit.{Stands};
 ghost use Rattle.pm_cli.specs.Run.{IsEitherOf, StandsWith};
@@ -13,5 +14,6 @@ ghost use Rattle.pm_cli.specs.Run.{IsEitherOf, StandsWith};
 pub fn next_command_law()
     ensures { (bytes : List ℕ) (h : History) (old new : List Op) (i : ℕ) (image : Files)
         → Extends (IsEitherOf bytes h) (Some old) (Some new) → length old ≤ i → CrashImage new i image
-        → (ops : List Op) → files_after ops ≡ image → Stands (Some ops) h ⊎ StandsWith bytes h (Some ops) }
+        → (ops : List Op) (store : StoreView) → store.ops ≡ Some ops → files_after ops ≡ image
+        → Stands store h ⊎ StandsWith bytes h store }
 {}
