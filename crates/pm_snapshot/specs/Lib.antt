@@ -1,0 +1,9 @@
+pub mod Consumer
+pub mod Decimal
+pub mod Fault
+pub mod Field
+pub mod Names
+pub mod Parts
+pub mod Properties
+pub mod Ranges
+pub mod Snapshot
