@@ -1,0 +1,5 @@
+pub mod Judging
+mod NumberLemmas
+mod ReadLemmas
+mod TextLemmas
+mod WriteLemmas

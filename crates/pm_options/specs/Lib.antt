@@ -1,0 +1,11 @@
+pub mod Faults
+pub mod Entries
+pub mod Kinds
+pub mod Numbers
+pub mod Table
+pub mod Settings
+pub mod Fields
+pub mod Options
+pub mod Pairs
+pub mod Reading
+pub mod Written

@@ -1,0 +1,34 @@
+//! The options of a table: their texts, defaults and pairs, read and written.
+//!
+//! A setting is an option's key and its text. `specs/Table.antt` has each option with the texts that it takes,
+//! `specs/Fields.antt` the options of a column, `specs/Options.antt` which options settings state,
+//! `specs/Pairs.antt` the pairs of options that don't go together, `specs/Reading.antt` the first fault of
+//! settings, and `specs/Written.antt` the settings that options are written as.
+#![tactic(auto)]
+
+mod copied;
+mod entries;
+mod fault;
+mod fields;
+mod kinds;
+mod listed;
+mod numbers;
+mod options;
+mod pairs;
+mod read;
+mod settings;
+mod table;
+mod write;
+
+pub use copied::Copied;
+pub use entries::entry_of;
+pub use fault::{limit, unsupported};
+pub use kinds::{EngineKind, Function, Producer};
+pub use listed::Listed;
+pub use options::Options;
+pub use read::read_options;
+pub use settings::fill;
+pub use write::write_options;
+
+#[cfg(test)]
+mod tests;
