@@ -1,0 +1,9 @@
+mod AgainLemmas
+mod ColumnLemmas
+mod FloatLemmas
+mod FolderLemmas
+mod JsonLemmas
+mod LawLemmas
+mod Lists
+mod ShapeLemmas
+mod WriteLemmas

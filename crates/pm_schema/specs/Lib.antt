@@ -1,0 +1,10 @@
+pub mod ColumnType
+pub mod Stated
+pub mod Shape
+pub mod Parts
+pub mod Rules
+pub mod Reading
+pub mod Meaning
+pub mod Written
+pub mod Folder
+pub mod Again

@@ -1,0 +1,20 @@
+//! What holds of the texts of all schemas.
+
+ghost use Rattle.std.specs.Prelude.{◌≡◌, ◌↔◌, ℤ, ℕ, List, Ok};
+ghost use Rattle.pm_schema.specs.Meaning.{SchemaOf, DraftOf};
+ghost use Rattle.pm_schema.specs.Reading.{schema_of, draft_of};
+ghost use Rattle.pm_schema.specs.declared.schema.TableSchema.{TableSchema};
+
+/// A file is read as a schema exactly where its text declares the schema, and it declares one at most.
+pub fn schema_law()
+    ensures exact { (path text : List ℕ) (s : TableSchema)
+        → (schema_of path text ≡ Ok s) ↔ SchemaOf path text s }
+    ensures one { (path text : List ℕ) (s t : TableSchema)
+        → SchemaOf path text s → SchemaOf path text t → s ≡ t }
+{}
+
+/// A line is read as a draft exactly where it is one of the schema.
+pub fn draft_law()
+    ensures { (line origin : List ℕ) (now : ℤ) (s : TableSchema)
+        → (draft_of line origin now ≡ Ok s) ↔ DraftOf line origin now s }
+{}
