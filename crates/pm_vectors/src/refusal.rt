@@ -1,0 +1,131 @@
+//! Refusals: their statuses and their lines.
+
+use pm_io::MemSink;
+use pm_report::{report, status};
+use pm_values::{Blob, Refusal, Txt, Why};
+use std::alloc::{AllocError, Global};
+
+/// How much a line may take here.
+const ROOM: usize = 1000;
+
+/// The status of a refusal, and its line.
+pub fn answer(alloc: Global, arguments: &str) -> Result<Option<String>, AllocError> {
+    let (kind, parts) = arguments.split_once('\t').unwrap_or((arguments, ""));
+    let (first, more) = parts.split_once('\t').unwrap_or((parts, ""));
+    let (second, third) = more.split_once('\t').unwrap_or((more, ""));
+    let refusal = match read_refusal(alloc, kind, first, second)? {
+        Some(refusal) => refusal,
+        None => match read_bad_line(alloc, kind, first, second, third)? {
+            Some(refusal) => refusal,
+            None => return Ok(None),
+        },
+    };
+    Ok(Some(print_refusal(alloc, &refusal)?))
+}
+
+/// The status of a refusal, and its line with the newline.
+pub fn print_refusal(alloc: Global, refusal: &Refusal) -> Result<String, AllocError> {
+    let mut sink = MemSink::new(alloc, ROOM, Vec::new(alloc))?;
+    let is_whole = report(&mut sink, refusal).is_ok();
+    let line = String::from_utf8_lossy(alloc, sink.bytes())?;
+    let status = status(refusal);
+    if is_whole {
+        format!(in alloc; "{status} {:?}", line.as_str())
+    } else {
+        format!(in alloc; "{status} {:?} and no more", line.as_str())
+    }
+}
+
+/// A refusal of that kind with these parts, but for those of a line.
+fn read_refusal(
+    alloc: Global,
+    kind: &str,
+    first: &str,
+    second: &str,
+) -> Result<Option<Refusal>, AllocError> {
+    let text = Txt::from_str(alloc, first)?;
+    let number = first.parse::<u64>().unwrap_or(0);
+    let other = second.parse::<u64>().unwrap_or(0);
+    let refusal = match kind {
+        "memory" => Refusal::Memory,
+        "words" => Refusal::Words { command: text },
+        "source" => Refusal::SourceFault,
+        "sink" => Refusal::SinkFault {
+            snapshot: first.parse::<u64>().ok(),
+        },
+        "store" => Refusal::StoreFault { path: text },
+        "table exists" => Refusal::TableExists,
+        "no table" => Refusal::NoTable,
+        "unsupported" => Refusal::Unsupported {
+            what: text,
+            text: Txt::from_str(alloc, second)?,
+        },
+        "damaged" => Refusal::Damaged {
+            path: text,
+            place: other,
+        },
+        "no snapshot" => Refusal::NoSnapshot {
+            id: number,
+            latest: other,
+        },
+        "expired" => Refusal::Expired { id: number },
+        "contended" => Refusal::Contended {
+            ids: [1, 2, 3, 4, 5, 6, 7, 8, 9, 10, number],
+        },
+        "taken" => Refusal::CompactTaken { file: text },
+        "fenced" => Refusal::Fenced {
+            base: number,
+            fence: second.parse::<i64>().unwrap_or(0),
+        },
+        "below floor" => Refusal::BelowFloor {
+            next: number,
+            floor: other,
+        },
+        "moved" => Refusal::ConsumerMoved {
+            found: Some(Blob::from_slice(alloc, first.as_bytes())?),
+        },
+        "gone" => Refusal::ConsumerMoved { found: None },
+        "no changelog" => Refusal::NoChangelog,
+        "session used" => Refusal::SessionUsed { path: text },
+        "limit" => Refusal::Limit {
+            which: text,
+            number: other,
+        },
+        "rule" => Refusal::SchemaRule {
+            rule: first.parse::<u32>().unwrap_or(0),
+        },
+        _ => return Ok(None),
+    };
+    Ok(Some(refusal))
+}
+
+/// A refusal of a line: its number, what is wrong with it, and the column.
+fn read_bad_line(
+    alloc: Global,
+    kind: &str,
+    line: &str,
+    why: &str,
+    column: &str,
+) -> Result<Option<Refusal>, AllocError> {
+    let Ok(line) = line.parse::<u64>() else {
+        return Ok(None);
+    };
+    let why = match why {
+        "json" => Why::Json,
+        "array" => Why::Array,
+        "kind" => Why::Kind,
+        "count" => Why::Count,
+        "null" => Why::Null,
+        "type" => Why::Type,
+        "range" => Why::Range,
+        "draft" => Why::Draft,
+        "script" => Why::Script,
+        _ => return Ok(None),
+    };
+    let column = Txt::from_str(alloc, column)?;
+    match kind {
+        "line" => Ok(Some(Refusal::BadLine { line, why, column })),
+        "retraction" => Ok(Some(Refusal::Retraction { line, column })),
+        _ => Ok(None),
+    }
+}
