@@ -11,6 +11,3 @@ mod write;
 
 pub use laws::next_command_law;
 pub use running::{Status, run};
-
-#[cfg(test)]
-mod tests;

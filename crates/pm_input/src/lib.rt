@@ -15,6 +15,3 @@ pub use laws::{first_bad_line_law, limits_law};
 pub use limits::{LIMITS, LimitKind, Limits};
 pub use lines::{InputFault, InputLine, read_lines};
 pub use rows::read_rows;
-
-#[cfg(test)]
-mod tests;

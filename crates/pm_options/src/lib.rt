@@ -29,6 +29,3 @@ pub use options::Options;
 pub use read::read_options;
 pub use settings::fill;
 pub use write::write_options;
-
-#[cfg(test)]
-mod tests;

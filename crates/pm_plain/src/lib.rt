@@ -18,6 +18,3 @@ pub use laws::{contended_law, reading_law};
 pub use reading::parse;
 pub use table::{LAST_ID, PlainFault, Table};
 pub use text::{push_commit, push_scan};
-
-#[cfg(test)]
-mod tests;

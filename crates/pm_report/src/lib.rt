@@ -6,6 +6,3 @@
 mod reports;
 
 pub use reports::{report, status};
-
-#[cfg(test)]
-mod tests;

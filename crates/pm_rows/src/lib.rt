@@ -16,6 +16,3 @@ pub use fault::RowFault;
 pub use laws::{fit_law, line_law, round_trip_law};
 pub use print::print_row;
 pub use read::read_row;
-
-#[cfg(test)]
-mod tests;

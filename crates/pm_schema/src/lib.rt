@@ -21,6 +21,3 @@ pub use pm_options::{EngineKind, Function, Listed, Options, Producer};
 pub use read::{read_draft, read_schema};
 pub use schema::TableSchema;
 pub use write::write_schema;
-
-#[cfg(test)]
-mod tests;

@@ -24,6 +24,3 @@ pub use laws::{base_law, consumer_law, decimal_law, name_law, snapshot_law};
 pub use names::{base_of_name, floor_of_name, id_of_name, snapshot_name};
 pub use snapshot::{Snapshot, read_snapshot};
 pub use write::write_snapshot;
-
-#[cfg(test)]
-mod tests;

@@ -28,6 +28,3 @@ pub use laws::{
 };
 pub use memory::MemStore;
 pub use store::{FileStore, StoreFail};
-
-#[cfg(test)]
-mod tests;

@@ -43,8 +43,8 @@ pub trait FileStore {
     /// Its operations, how many of them others had, and how often a call failed.
     ghost seen: { Self → StoreView };
 
-    /// What stands right in a folder, files and folders alike, by name and in the order of the names' bytes. Of a folder
-    /// that is absent there is nothing.
+    /// What stands right in a folder, files and folders alike, by name and in the order of the names' bytes. Of a
+    /// folder that is absent there is nothing.
     fn list(&mut self, alloc: Global, folder: &str) -> Result<Vec<Txt>, StoreFail>
         ensures answer { Tells (calls.List folder.now) answers.Listed (seen self.old) (seen self.new) result }
         ensures later { IsLater (seen self.old) (seen self.new) };

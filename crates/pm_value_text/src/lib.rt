@@ -11,6 +11,3 @@ mod laws;
 pub use date::{is_day, parse_date, print_date};
 pub use hexadecimal::{parse_hex, print_hex};
 pub use laws::{date_characters_law, dates_law, digits_law, known_days_law};
-
-#[cfg(test)]
-mod tests;

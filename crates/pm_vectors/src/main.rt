@@ -11,12 +11,26 @@
 //! | `hex` | a text | the digits that are printed for the bytes that it reads as, and these bytes; or `none` |
 //! | `date` | a text | the day that it reads as, and the text that is printed for it; or `none` |
 //! | `lines` | the number of a read that fails, or 0; a text | the lines that aren't blank, or why not |
+//! | `batch` | a text | how many rows it has, and each as it is printed; or the refusal of its first bad line |
+//! | `plain` | a text | how many commits and rows it has as the plain file; or where it is damaged |
+//! | `store` | `memory`, `fails` and a plan, or `folder` and a name; calls | their answers |
+//! | `command` | see below | the status, `out` and `err`; how many operations the store has; the same of `write` without rows |
+//! | `rivals` | how many others commit before this one, an input | as for `command`, and the plain file that is left |
 //! | `refusal` | its kind and its parts | its status and its line |
+//! | `short-refusal` | the room of the sink, a refusal as before | its status, and what the sink takes of its line |
+//! | `partition-text` | a truth, a number, or `=` and a text | the text of the value before it is escaped |
+//! | `folder` | a bucket, a draft without partition columns | the path of the group's folder |
 //! | `draft` | an origin, a blank and a moment; a text | the written schema of the draft; or its refusal |
 //! | `schema` | a path, a text | the written schema of the file; or its refusal |
 //! | `snapshot` | a number, a text | the fields of the snapshot that the text of the file of that number is; or `bad` |
+//! | `snapshot-text` | a number, a text | the text that is written for this snapshot |
+//! | `consumer-text` | a text | the text that is written for this consumer |
+//! | `snapshot-name` | a number | the name of the file of the snapshot |
 //! | `consumer` | a text | the fields of the consumer that it is; or `bad` |
 //! | `name` | `id`, `floor` or `base`, a name | the number that the name bears; or `none` |
+//!
+//! A `command` has eight arguments: the call of the store that fails, or 0, and its effect; the read and the write that
+//! fail, or 0; the room of `out`; the plain file, made by call 1 where it isn't empty; the word; and the input.
 //!
 //! Digits are hexadecimal. Any other argument is the text itself, or `0x` and the digits of its bytes.
 #![tactic(auto)]
@@ -26,31 +40,37 @@ mod avro_datum;
 mod avro_fault;
 mod avro_file;
 mod avro_type;
+mod batch;
+mod command;
 mod date;
+mod folder;
 mod hex;
 mod input;
 mod name;
+mod plain;
 mod refusal;
+mod rivals;
 mod row;
 mod schema;
 mod snapshot;
+mod store;
 
-use std::alloc::{AllocError, Global};
+use std::alloc::Global;
 use std::io;
 
 /// Answers each line of standard input.
 fn main(rt: HostRuntime) -> io::Result<()> {
     for line in rt.lines(rt.alloc()) {
-        let answer = answer(rt.alloc(), line?.as_str())?;
+        let answer = answer(&rt, rt.alloc(), line?.as_str())?;
         println!(rt; "{answer}")?;
     }
     Ok(())
 }
 
 /// What is printed for a line.
-fn answer(alloc: Global, line: &str) -> Result<String, AllocError> {
+fn answer(rt: &HostRuntime, alloc: Global, line: &str) -> io::Result<String> {
     if line.is_empty() || line.starts_with('#') {
-        return String::from_str(alloc, line);
+        return Ok(String::from_str(alloc, line)?);
     }
     let (codec, arguments) = line.split_once('\t').unwrap_or((line, ""));
     let found = match codec {
@@ -61,16 +81,27 @@ fn answer(alloc: Global, line: &str) -> Result<String, AllocError> {
         "hex" => hex::answer(alloc, arguments)?,
         "date" => date::answer(alloc, arguments)?,
         "lines" => input::answer(alloc, arguments)?,
+        "batch" => batch::answer(alloc, arguments)?,
+        "plain" => plain::answer(alloc, arguments)?,
+        "store" => store::answer(rt, alloc, arguments)?,
+        "command" => command::answer(alloc, arguments)?,
+        "rivals" => rivals::answer(alloc, arguments)?,
         "refusal" => refusal::answer(alloc, arguments)?,
+        "short-refusal" => refusal::short_answer(alloc, arguments)?,
+        "partition-text" => folder::text_answer(alloc, arguments)?,
+        "folder" => folder::answer(alloc, arguments)?,
         "draft" => schema::draft_answer(alloc, arguments)?,
         "schema" => schema::answer(alloc, arguments)?,
         "snapshot" => snapshot::answer(alloc, arguments)?,
         "consumer" => snapshot::consumer_answer(alloc, arguments)?,
+        "snapshot-text" => snapshot::text_answer(alloc, arguments)?,
+        "consumer-text" => snapshot::consumer_text_answer(alloc, arguments)?,
+        "snapshot-name" => snapshot::name_answer(alloc, arguments)?,
         "name" => name::answer(alloc, arguments)?,
         _ => None,
     };
     match found {
         Some(text) => Ok(text),
-        None => String::from_str(alloc, "no such case"),
+        None => Ok(String::from_str(alloc, "no such case")?),
     }
 }

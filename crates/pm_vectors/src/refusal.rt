@@ -8,8 +8,27 @@ use std::alloc::{AllocError, Global};
 /// How much a line may take here.
 const ROOM: usize = 1000;
 
+/// The status of a refusal, and as much of its line as a sink with this room takes.
+pub fn short_answer(alloc: Global, arguments: &str) -> Result<Option<String>, AllocError> {
+    match arguments.split_once('\t') {
+        Some((room, refusal)) => {
+            answer_within(alloc, room.parse::<usize>().unwrap_or(ROOM), refusal)
+        }
+        None => Ok(None),
+    }
+}
+
 /// The status of a refusal, and its line.
 pub fn answer(alloc: Global, arguments: &str) -> Result<Option<String>, AllocError> {
+    answer_within(alloc, ROOM, arguments)
+}
+
+/// The status of a refusal, and its line in a sink with this room.
+fn answer_within(
+    alloc: Global,
+    room: usize,
+    arguments: &str,
+) -> Result<Option<String>, AllocError> {
     let (kind, parts) = arguments.split_once('\t').unwrap_or((arguments, ""));
     let (first, more) = parts.split_once('\t').unwrap_or((parts, ""));
     let (second, third) = more.split_once('\t').unwrap_or((more, ""));
@@ -20,12 +39,17 @@ pub fn answer(alloc: Global, arguments: &str) -> Result<Option<String>, AllocErr
             None => return Ok(None),
         },
     };
-    Ok(Some(print_refusal(alloc, &refusal)?))
+    Ok(Some(print_within(alloc, room, &refusal)?))
 }
 
 /// The status of a refusal, and its line with the newline.
 pub fn print_refusal(alloc: Global, refusal: &Refusal) -> Result<String, AllocError> {
-    let mut sink = MemSink::new(alloc, ROOM, Vec::new(alloc))?;
+    print_within(alloc, ROOM, refusal)
+}
+
+/// The status of a refusal, and its line in a sink with this room.
+fn print_within(alloc: Global, room: usize, refusal: &Refusal) -> Result<String, AllocError> {
+    let mut sink = MemSink::new(alloc, room, Vec::new(alloc))?;
     let is_whole = report(&mut sink, refusal).is_ok();
     let line = String::from_utf8_lossy(alloc, sink.bytes())?;
     let status = status(refusal);

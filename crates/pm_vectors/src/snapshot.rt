@@ -2,7 +2,10 @@
 
 use crate::argument::read_bytes;
 use pm_base::Txt;
-use pm_snapshot::{CommitKind, Consumer, SnapFault, Snapshot, read_consumer, read_snapshot};
+use pm_snapshot::{
+    CommitKind, Consumer, SnapFault, Snapshot, read_consumer, read_snapshot, snapshot_name,
+    write_consumer, write_snapshot,
+};
 use std::alloc::{AllocError, Global};
 
 /// The fields of the snapshot of a number that a text is, in the order that `Snapshot` has them; or `bad`.
@@ -20,6 +23,43 @@ pub fn answer(alloc: Global, arguments: &str) -> Result<Option<String>, AllocErr
         Ok(snapshot) => Ok(Some(print_snapshot(alloc, &snapshot)?)),
         Err(fault) => print_fault(alloc, &fault),
     }
+}
+
+/// The text that is written for the snapshot of a number that a text is; or `bad`.
+pub fn text_answer(alloc: Global, arguments: &str) -> Result<Option<String>, AllocError> {
+    let Some((id, text)) = arguments.split_once('\t') else {
+        return Ok(None);
+    };
+    let Ok(id) = id.parse::<u64>() else {
+        return Ok(None);
+    };
+    match read_snapshot(alloc, id, text.as_bytes()) {
+        Ok(snapshot) => {
+            let text = write_snapshot(alloc, &snapshot)?;
+            Ok(Some(String::from_utf8_lossy(alloc, text.as_slice())?))
+        }
+        Err(fault) => print_fault(alloc, &fault),
+    }
+}
+
+/// The text that is written for the consumer that a text is; or `bad`.
+pub fn consumer_text_answer(alloc: Global, text: &str) -> Result<Option<String>, AllocError> {
+    match read_consumer(alloc, text.as_bytes()) {
+        Ok(consumer) => {
+            let text = write_consumer(alloc, &consumer)?;
+            Ok(Some(String::from_utf8_lossy(alloc, text.as_slice())?))
+        }
+        Err(fault) => print_fault(alloc, &fault),
+    }
+}
+
+/// The name of the file of a snapshot.
+pub fn name_answer(alloc: Global, id: &str) -> Result<Option<String>, AllocError> {
+    let Ok(id) = id.parse::<u64>() else {
+        return Ok(None);
+    };
+    let name = snapshot_name(alloc, id)?;
+    Ok(Some(String::from_utf8_lossy(alloc, name.as_slice())?))
 }
 
 /// The fields of the consumer that a text is; or `bad`.
