@@ -8,6 +8,3 @@ mod merge;
 
 pub use laws::merged_law;
 pub use merge::{key_of, merged_rows};
-
-#[cfg(test)]
-mod tests;

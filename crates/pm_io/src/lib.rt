@@ -15,6 +15,3 @@ pub use memory::{MemSink, MemSource};
 pub use sink::{Sink, SinkFail, write_all};
 pub use source::{Failed, Source};
 pub use standard::{StdSink, StdSource};
-
-#[cfg(test)]
-mod tests;

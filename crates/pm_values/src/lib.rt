@@ -30,6 +30,3 @@ pub use record::{Change, Stamped};
 pub use refusal::{Refusal, Why};
 pub use row::Row;
 pub use value::Value;
-
-#[cfg(test)]
-mod tests;

@@ -10,11 +10,17 @@
 //! | `row` | columns as `NAME:TYPE` or `NAME:TYPE!`, a line | the printed row, or its fault with the column's index |
 //! | `hex` | a text | the digits that are printed for the bytes that it reads as, and these bytes; or `none` |
 //! | `date` | a text | the day that it reads as, and the text that is printed for it; or `none` |
+//! | `compare` | columns, two row lines | how the rows compare as keys, and as the groups of buckets 1 and 0 |
+//! | `merged` | columns, row lines | the merged table's rows, whose key is the first column |
+//! | `names` | an actor, a base, another base | the first two names that are given, and the actor |
+//! | `kind` | a number | the kind's number, and whether it takes away; or `none` |
+//! | `source` | see `lines.rt` | the lines of a source that fails |
+//! | `sink` | see `lines.rt` | what a sink takes, and whether that is all |
 //! | `lines` | the number of a read that fails, or 0; a text | the lines that aren't blank, or why not |
 //! | `batch` | a text | how many rows it has, and each as it is printed; or the refusal of its first bad line |
 //! | `plain` | a text | how many commits and rows it has as the plain file; or where it is damaged |
 //! | `store` | `memory`, `fails` and a plan, or `folder` and a name; calls | their answers |
-//! | `command` | see below | the status, `out` and `err`; how many operations the store has; the same of `write` without rows |
+//! | `command` | see below | the status, `out`, `err`; the number of operations; the same of `write` without rows |
 //! | `rivals` | how many others commit before this one, an input | as for `command`, and the plain file that is left |
 //! | `refusal` | its kind and its parts | its status and its line |
 //! | `short-refusal` | the room of the sink, a refusal as before | its status, and what the sink takes of its line |
@@ -46,6 +52,7 @@ mod date;
 mod folder;
 mod hex;
 mod input;
+mod lines;
 mod name;
 mod plain;
 mod refusal;
@@ -54,6 +61,7 @@ mod row;
 mod schema;
 mod snapshot;
 mod store;
+mod value;
 
 use std::alloc::Global;
 use std::io;
@@ -80,7 +88,13 @@ fn answer(rt: &HostRuntime, alloc: Global, line: &str) -> io::Result<String> {
         "row" => row::answer(alloc, arguments)?,
         "hex" => hex::answer(alloc, arguments)?,
         "date" => date::answer(alloc, arguments)?,
+        "source" => lines::source_answer(alloc, arguments)?,
+        "sink" => lines::sink_answer(alloc, arguments)?,
         "lines" => input::answer(alloc, arguments)?,
+        "compare" => value::compare_answer(alloc, arguments)?,
+        "merged" => value::merged_answer(alloc, arguments)?,
+        "names" => value::names_answer(alloc, arguments)?,
+        "kind" => value::kind_answer(alloc, arguments)?,
         "batch" => batch::answer(alloc, arguments)?,
         "plain" => plain::answer(alloc, arguments)?,
         "store" => store::answer(rt, alloc, arguments)?,

@@ -28,7 +28,7 @@ pub fn answer(alloc: Global, arguments: &str) -> Result<Option<String>, AllocErr
 }
 
 /// Columns with commas between them.
-fn read_columns(alloc: Global, text: &str) -> Result<Option<Vec<Column>>, AllocError> {
+pub fn read_columns(alloc: Global, text: &str) -> Result<Option<Vec<Column>>, AllocError> {
     let mut columns = Vec::new(alloc);
     for part in text.split(',') {
         match read_column(alloc, part)? {
