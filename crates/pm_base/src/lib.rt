@@ -12,6 +12,3 @@ mod txt;
 
 pub use blob::Blob;
 pub use txt::Txt;
-
-#[cfg(test)]
-mod tests;

@@ -1,4 +1,4 @@
-//! The tables of cases of the codecs, a line in and a line out: each line of standard input names a codec and its
+//! The cases of all crates, a line in and a line out: each line of standard input names a codec and its
 //! arguments, with a TAB between them, and the line that is printed for it is the codec's answer. Blank lines and lines
 //! that begin with `#` are printed as they are, so that both texts can be read side by side.
 //!
