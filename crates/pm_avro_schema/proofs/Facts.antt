@@ -1,6 +1,6 @@
--- Facts that other crates' proofs use, and what they rest on: what whole texts are read as.
+-- Facts that other crates' proofs use, and what they rest on: what whole texts are read as, and what a type is seen as.
 use Rattle.std.proofs.Common.{◌≡◌, ◌≢◌, ℕ, ◌≤◌, List, Bool, true, false, if◌then◌else◌, Option}
-use Rattle.std.proofs.Common.{Some, None, Result, Ok, Err, IfOk, IfErr, refl, sym, ◌∙◌, arith}
+use Rattle.std.proofs.Common.{Some, None, Result, Ok, Err, IfOk, IfErr, refl, sym, ap, ◌∙◌, arith, rules}
 use Rattle.std.proofs.lemmas.Str.{is_utf8-from_IsUtf8, IsUtf8-from_is_utf8}
 use Rattle.std.specs.Str.{IsUtf8, is_utf8}
 use Rattle.serde_json.proofs.Nesting.{depth-read}
@@ -10,7 +10,7 @@ use Rattle.pm_avro_schema.proofs.Again.{type_at-json_of, depth-json_of}
 use Rattle.pm_avro_schema.proofs.Bounds.{Fit-Declares}
 use Rattle.pm_avro_schema.proofs.Declared.{type_at-Declares, Declares-type_at}
 use Rattle.pm_avro_schema.proofs.Steps.{refused}
-use Rattle.pm_avro_schema.specs.Avro.{Avro}
+use Rattle.pm_avro_schema.specs.Avro.{Avro, long}
 use Rattle.pm_avro_schema.specs.Meaning.{TypeOf}
 use Rattle.pm_base.specs.Outcome.{Fails, Gives}
 use Rattle.pm_avro_schema.specs.Fault.{fault_of}
@@ -20,7 +20,8 @@ use Rattle.pm_avro_schema.specs.Writing.{json_of}
 use Rattle.pm_avro_schema.specs.View.{view}
 use Rattle.pm_avro_schema.specs.declared.fault.AvroFault.{AvroFault}
 use Rattle.pm_avro_schema.specs.declared.fault.AvroFault.TheVariants.{Memory}
-use Rattle.pm_avro_schema.specs.declared.kind.AvroType.{AvroType}
+use Rattle.pm_avro_schema.specs.declared.kind.AvroType.{AvroType, fold-roll-AvroType}
+use Rattle.pm_avro_schema.specs.declared.kind.AvroType.TheVariants.{Long, rolls-Long}
 
 -- a text that is JSON is read as its value is
 pub parsed_type-read : (schema : List ℕ) (d : Data) → IsUtf8 schema → read schema ≡ Some d → parsed_type schema ≡ type_at d 0
@@ -78,3 +79,7 @@ IsReadable-TypeOf schema t is =
 pub readable : (schema : List ℕ) (r : Result AvroType AvroFault) → Gives view fault_of r (parsed_type schema) → IfOk r (λ t. IsReadable (view t))
 readable schema (Ok t) gives = IsReadable-TypeOf schema (view t) (TypeOf-parsed_type schema (view t) gives)
 readable schema (Err e) gives = tt
+
+-- the type of longs that is given
+pub view-Long : view Long ≡ long
+view-Long = ap view (sym rolls-Long) ∙ search (rules, fold-roll-AvroType)

@@ -19,6 +19,3 @@ pub use kind::AvroType;
 pub use laws::reading_law;
 pub use reading::parse;
 pub use writing::print;
-
-#[cfg(test)]
-mod tests;
