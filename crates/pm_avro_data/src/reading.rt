@@ -12,6 +12,7 @@ use crate::block::{Head, read_head};
 use crate::datum::Datum;
 use crate::leaf::{boolean_datum, bytes_datum, int_datum, long_datum, read_text, text_datum};
 use crate::number::read_index;
+use crate::room::Room;
 use pm_avro_schema::{AvroFault, AvroType};
 use pm_base::Txt;
 use std::alloc::Global;
@@ -20,7 +21,7 @@ use std::alloc::Global;
 #[cycle(decode)]
 #[tactic(auto, unfolding(crate::specs::Reading::datum_at))]
 pub(crate) fn read_datum<'a>(
-    alloc: Global,
+    room: &mut Room,
     kind: &AvroType,
     bytes: &'a [u8],
 ) -> Result<(Datum, &'a [u8]), AvroFault>
@@ -31,23 +32,23 @@ pub(crate) fn read_datum<'a>(
         AvroType::Boolean => boolean_datum(bytes),
         AvroType::Int => int_datum(bytes),
         AvroType::Long => long_datum(bytes),
-        AvroType::Bytes => bytes_datum(alloc, bytes),
-        AvroType::Text => text_datum(alloc, bytes),
+        AvroType::Bytes => bytes_datum(room.alloc, bytes),
+        AvroType::Text => text_datum(room.alloc, bytes),
         AvroType::Record(fields) => {
-            let (values, rest) = read_fields(alloc, fields, bytes)?;
+            let (values, rest) = read_fields(room, fields, bytes)?;
             Ok((Datum::Record(values), rest))
         }
         AvroType::Union(branches) => {
             let (index, rest) = read_index(bytes).ok_or(AvroFault::Bad(0))?;
-            let (datum, rest) = read_branch(alloc, branches, index, rest)?;
-            Ok((Datum::Union(index, Box::new(alloc, datum)?), rest))
+            let (datum, rest) = read_branch(room, branches, index, rest)?;
+            Ok((Datum::Union(index, Box::new(room.alloc, datum)?), rest))
         }
         AvroType::Array(kind) => {
-            let (items, rest) = read_array(alloc, kind, bytes)?;
+            let (items, rest) = read_array(room, kind, bytes)?;
             Ok((Datum::Array(items), rest))
         }
         AvroType::Map(kind) => {
-            let (entries, rest) = read_map(alloc, kind, bytes)?;
+            let (entries, rest) = read_map(room, kind, bytes)?;
             Ok((Datum::Map(entries), rest))
         }
     }
@@ -56,17 +57,18 @@ pub(crate) fn read_datum<'a>(
 /// The values of a record's fields, and the rest.
 #[cycle(decode)]
 fn read_fields<'a>(
-    alloc: Global,
+    room: &mut Room,
     fields: &Vec<(Txt, AvroType)>,
     bytes: &'a [u8],
 ) -> Result<(Vec<Datum>, &'a [u8]), AvroFault>
     ensures { Yields (λ x. (map view x.0.items, x.1.now)) result
         (fields_at (types.fields_view fields.now.items) bytes.now) }
 {
-    let mut values = Vec::with_capacity(alloc, fields.len())?;
+    room.take(fields.len())?;
+    let mut values = Vec::with_capacity(room.alloc, fields.len())?;
     let mut rest = bytes;
     for field in fields {
-        let (value, after) = read_datum(alloc, &field.1, rest)?;
+        let (value, after) = read_datum(room, &field.1, rest)?;
         values.push(value)?;
         rest = after;
     }
@@ -76,7 +78,7 @@ fn read_fields<'a>(
 /// The datum of the branch at this index, and the rest.
 #[cycle(decode)]
 fn read_branch<'a>(
-    alloc: Global,
+    room: &mut Room,
     branches: &Vec<AvroType>,
     index: u32,
     bytes: &'a [u8],
@@ -85,7 +87,7 @@ fn read_branch<'a>(
         (branch_at (types.branches_view branches.now.items) index bytes.now) }
 {
     match branches.get(index as usize) {
-        Some(kind) => read_datum(alloc, kind, bytes),
+        Some(kind) => read_datum(room, kind, bytes),
         None => Err(AvroFault::Bad(0)),
     }
 }
@@ -93,28 +95,28 @@ fn read_branch<'a>(
 /// The items of an array, block by block, and the rest.
 #[cycle(decode)]
 fn read_array<'a>(
-    alloc: Global,
+    room: &mut Room,
     kind: &AvroType,
     bytes: &'a [u8],
 ) -> Result<(Vec<Datum>, &'a [u8]), AvroFault>
     ensures { Yields (λ x. (map view x.0.items, x.1.now)) result
         (all_blocks_at (datum_at (types.view kind.now)) bytes.now) }
 {
-    let mut items = Vec::new(alloc);
+    let mut items = Vec::new(room.alloc);
     let mut rest = bytes;
     loop {
         let (head, after) = read_head(rest)?;
         if head.count == 0 {
             return Ok((items, after));
         }
-        rest = read_items(alloc, kind, head, after, &mut items)?;
+        rest = read_items(room, kind, head, after, &mut items)?;
     }
 }
 
 /// Adds the items of a block, and gives what follows them.
 #[cycle(decode)]
 fn read_items<'a>(
-    alloc: Global,
+    room: &mut Room,
     kind: &AvroType,
     head: Head,
     bytes: &'a [u8],
@@ -126,7 +128,7 @@ fn read_items<'a>(
 {
     let mut rest = bytes;
     for _ in 0..head.count {
-        let (item, after) = read_datum(alloc, kind, rest)?;
+        let (item, after) = read_datum(room, kind, rest)?;
         items.push(item)?;
         rest = after;
     }
@@ -140,28 +142,28 @@ fn read_items<'a>(
 /// The entries of a map, block by block, and the rest.
 #[cycle(decode)]
 fn read_map<'a>(
-    alloc: Global,
+    room: &mut Room,
     kind: &AvroType,
     bytes: &'a [u8],
 ) -> Result<(Vec<(Txt, Datum)>, &'a [u8]), AvroFault>
     ensures { Yields (λ x. (map entry_view x.0.items, x.1.now)) result
         (all_blocks_at (entry_at (datum_at (types.view kind.now))) bytes.now) }
 {
-    let mut entries = Vec::new(alloc);
+    let mut entries = Vec::new(room.alloc);
     let mut rest = bytes;
     loop {
         let (head, after) = read_head(rest)?;
         if head.count == 0 {
             return Ok((entries, after));
         }
-        rest = read_entries(alloc, kind, head, after, &mut entries)?;
+        rest = read_entries(room, kind, head, after, &mut entries)?;
     }
 }
 
 /// Adds the entries of a block, and gives what follows them.
 #[cycle(decode)]
 fn read_entries<'a>(
-    alloc: Global,
+    room: &mut Room,
     kind: &AvroType,
     head: Head,
     bytes: &'a [u8],
@@ -173,7 +175,7 @@ fn read_entries<'a>(
 {
     let mut rest = bytes;
     for _ in 0..head.count {
-        let (entry, after) = read_entry(alloc, kind, rest)?;
+        let (entry, after) = read_entry(room, kind, rest)?;
         entries.push(entry)?;
         rest = after;
     }
@@ -188,20 +190,21 @@ fn read_entries<'a>(
 #[cycle(decode)]
 #[tactic(auto, unfolding(crate::specs::Reading::entry_at))]
 fn read_entry<'a>(
-    alloc: Global,
+    room: &mut Room,
     kind: &AvroType,
     bytes: &'a [u8],
 ) -> Result<((Txt, Datum), &'a [u8]), AvroFault>
     ensures { Yields (λ x. (entry_view x.0, x.1.now)) result
         (entry_at (datum_at (types.view kind.now)) bytes.now) }
 {
-    let (key, rest) = read_text(alloc, bytes)?;
-    let (value, rest) = read_datum(alloc, kind, rest)?;
+    let (key, rest) = read_text(room.alloc, bytes)?;
+    let (value, rest) = read_datum(room, kind, rest)?;
     Ok(((key, value), rest))
 }
 
 /// The datum of the type that the bytes begin with, and how many bytes it takes. More bytes may follow. Faults are
-/// `Memory`, and `Bad` at 0 where the bytes begin with no datum of the type.
+/// `Memory`, and `Bad` at 0 where the bytes begin with no datum of the type. Records with far more fields than there
+/// are bytes are out of memory.
 pub fn decode(alloc: Global, kind: &AvroType, bytes: &[u8]) -> Result<(Datum, usize), AvroFault>
     // What is answered is there.
     ensures found { IfOk result (λ x. Begins (types.view kind.now) bytes.now (view x.0) x.1) }
@@ -212,6 +215,21 @@ pub fn decode(alloc: Global, kind: &AvroType, bytes: &[u8]) -> Result<(Datum, us
     // `Bad` comes where nothing is there.
     ensures bad { IfErr result (HasCause (types.view kind.now) bytes.now) }
 {
-    let (datum, rest) = read_datum(alloc, kind, bytes)?;
+    decode_in(&mut Room::new(alloc, bytes.len()), kind, bytes)
+}
+
+/// The same in a room, which is made once for a text of many data.
+pub fn decode_in(
+    room: &mut Room,
+    kind: &AvroType,
+    bytes: &[u8],
+) -> Result<(Datum, usize), AvroFault>
+    ensures found { IfOk result (λ x. Begins (types.view kind.now) bytes.now (view x.0) x.1) }
+    ensures typed { IfOk result (λ x. HasType (types.view kind.now) (view x.0)) }
+    ensures only { (d : Data) (n : ℕ) → Begins (types.view kind.now) bytes.now d n →
+        MatchResult result (λ x. (view x.0 ≡ d) × (x.1 ≡ n)) (λ e. e ≡ AvroFault.Memory) }
+    ensures bad { IfErr result (HasCause (types.view kind.now) bytes.now) }
+{
+    let (datum, rest) = read_datum(room, kind, bytes)?;
     Ok((datum, bytes.len() - rest.len()))
 }

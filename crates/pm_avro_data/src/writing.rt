@@ -161,6 +161,21 @@ pub fn encode(alloc: Global, kind: &AvroType, datum: &Datum) -> Result<Vec<u8>, 
     ensures memory { IfErr result (λ e. e ≡ AvroFault.Memory) }
 {
     let mut out = Vec::new(alloc);
-    push_datum(&mut out, datum)?;
+    encode_to(&mut out, kind, datum)?;
     Ok(out)
+}
+
+/// Adds the bytes of the datum, of its spellings one that is shortest. The only fault is `Memory`; nothing is said of
+/// `out` after it.
+pub fn encode_to(out: &mut Vec<u8>, kind: &AvroType, datum: &Datum) -> Result<(), AvroFault>
+    requires readable { IsReadable (types.view kind.now) }
+    requires of_type { HasType (types.view kind.now) (view datum.now) }
+    ensures bytes { OnOk result (out.new.items ≡ out.old.items ++ encoding (view datum.now)) }
+    // What is added is that datum of the type, whatever follows it.
+    ensures datum { OnOk result ((rest : List ℕ) →
+        IsDatum (types.view kind.now) (view datum.now) (encoding (view datum.now) ++ rest) rest) }
+    ensures memory { IfErr result (λ e. e ≡ AvroFault.Memory) }
+{
+    push_datum(out, datum)?;
+    Ok(())
 }

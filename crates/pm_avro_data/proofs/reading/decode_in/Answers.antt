@@ -4,7 +4,7 @@ use Rattle.pm_avro_data.specs.Datum.{view}
 use Rattle.pm_avro_data.proofs.Readings.{datum_shrinks, datum_takes}
 use Rattle.pm_avro_data.proofs.Types.{datum_typed}
 use Rattle.pm_avro_data.proofs.Prefixes.{prefix_found, prefix_only, fault_cause, fault_only}
-use Rattle.pm_avro_data.proofs.reading.decode.Goals as goal
+use Rattle.pm_avro_data.proofs.reading.decode_in.Goals as goal
 
 pub overflow_sub-result : goal.overflow_sub-result
 overflow_sub-result c = datum_shrinks (types.view c.args.kind.now) c.args.bytes.now (view c.in_ok-datum.datum) c.in_ok-datum.rest.now c.in_ok-datum.ensures
