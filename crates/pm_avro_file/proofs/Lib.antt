@@ -7,3 +7,4 @@ mod Pairs
 mod Blocks
 mod Seen
 mod Writes
+mod Typed

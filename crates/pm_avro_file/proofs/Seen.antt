@@ -1,20 +1,13 @@
--- Types and data that are given, as contracts see them.
+-- A map that is given, as contracts see it.
 use Rattle.std.proofs.Common.{◌≡◌, ℕ, List, Some, map, sym, ap, ◌∙◌, rules}
 use Rattle.std.specs.Prelude.{Vec}
 use Rattle.std.specs.declared.alloc.Global.{Global}
-use Rattle.pm_avro_schema.specs.Avro as types
-use Rattle.pm_avro_schema.specs.View.{view}
-use Rattle.pm_avro_schema.specs.declared.kind.AvroType.{fold-roll-AvroType}
-use Rattle.pm_avro_schema.specs.declared.kind.AvroType.TheVariants.{Long, rolls-Long}
 use Rattle.pm_avro_data.specs.Datum.{map_of, entries, entries_of, entry_view}
 use Rattle.pm_avro_data.specs.Datum as datums
 use Rattle.pm_avro_data.specs.declared.datum.Datum.{Datum, fold-roll-Datum}
 use Rattle.pm_avro_data.specs.declared.datum.Datum.TheVariants.{Map, rolls-Map}
 use Rattle.pm_avro_data.proofs.Facts.{entries-entries_of}
 use Rattle.pm_avro_file.specs.Views.{entries_in}
-
-pub view-Long : view Long ≡ types.long
-view-Long = ap view (sym rolls-Long) ∙ search (rules, fold-roll-AvroType)
 
 view-Map : (v : Vec (List ℕ × Datum) Global) → datums.view (Map v) ≡ map_of (entries_of (map entry_view v.items))
 view-Map v = ap datums.view (sym (rolls-Map v)) ∙ search (rules, fold-roll-Datum)

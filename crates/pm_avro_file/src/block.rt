@@ -1,15 +1,17 @@
 //! Blocks.
 
-ghost use Rattle.std.specs.Prelude.{◌≡◌, ◌≤◌, [], map, length};
+ghost use Rattle.std.specs.Prelude.{◌≡◌, ◌≤◌, [], map, length, IfOk, IfSome};
+ghost use Rattle.std.specs.List.{AllByRecursion};
 ghost use Rattle.pm_avro_schema.specs.View as types;
 ghost use Rattle.pm_avro_data.specs.Datum.{view};
+ghost use Rattle.pm_avro_data.specs.HasType.{HasType};
 ghost use Rattle.pm_avro_file.specs.Container.{IsBlock};
 ghost use Rattle.pm_avro_file.specs.Part.{Finds, AreData};
 ghost use Rattle.pm_avro_file.specs.Reader.{AnswersAt, answer_of};
 
 use crate::part::{after_prefix, read_datum, read_size};
 use crate::stop::Stop;
-use pm_avro_data::Datum;
+use pm_avro_data::{Datum, Room};
 use pm_avro_schema::AvroType;
 use std::alloc::{AllocError, Global};
 
@@ -23,10 +25,11 @@ fn read_data(
     ensures { Finds (λ v. (map view v.items, [])) (AreData (types.view kind.now) count)
         bytes.now result }
 {
+    let mut room = Room::new(alloc, bytes.len());
     let mut data = Vec::new(alloc);
     let mut rest = bytes;
     for _ in 0..count {
-        let Some((datum, after)) = read_datum(alloc, kind, rest)? else {
+        let Some((datum, after)) = read_datum(&mut room, kind, rest)? else {
             return Ok(None);
         };
         data.push(datum)?;
@@ -77,8 +80,10 @@ pub(crate) fn answer_at(
     offset: usize,
 ) -> Result<Option<(Vec<Datum>, usize)>, Stop>
     requires { offset ≤ length bytes.now }
-    ensures { AnswersAt (λ v. map view v.items) (types.view kind.now) marker.now bytes.now offset
+    ensures answers { AnswersAt (λ v. map view v.items) (types.view kind.now) marker.now bytes.now offset
         (answer_of result) }
+    ensures typed { IfOk result (λ found. IfSome found (λ x.
+        AllByRecursion (HasType (types.view kind.now)) (map view x.0.items))) }
 {
     if offset == bytes.len() {
         return Ok(None);

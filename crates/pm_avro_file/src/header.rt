@@ -12,7 +12,7 @@ ghost use Rattle.pm_avro_file.specs.Part.{Shows};
 ghost use Rattle.pm_avro_file.specs.Views.{content, entries_in, newer, pairs_view};
 
 use crate::part::{after_prefix, read_datum};
-use pm_avro_data::Datum;
+use pm_avro_data::{Datum, Room};
 use pm_avro_schema::{AvroFault, AvroType, parse};
 use pm_base::Txt;
 use std::alloc::{AllocError, Global};
@@ -45,7 +45,8 @@ pub(crate) fn read_preamble(alloc: Global, bytes: &[u8]) -> Result<Option<Preamb
         return Ok(None);
     };
     let kind = metadata_kind(alloc)?;
-    let Some((metadata, left)) = read_datum(alloc, &kind, start)? else {
+    let mut room = Room::new(alloc, start.len());
+    let Some((metadata, left)) = read_datum(&mut room, &kind, start)? else {
         return Ok(None);
     };
     let Some(entries) = entries_in(metadata) else {

@@ -1,10 +1,13 @@
 //! Laws of the relations and of what the calls answer. Each holds with no call.
 
 ghost use Rattle.std.specs.Prelude.{◌≡◌, ◌≢◌, ◌↔◌, ◌<◌, List, [], ℕ, length, Option, Result, Ok, Err};
+ghost use Rattle.std.specs.List.{AllByRecursion};
 ghost use Rattle.pm_avro_schema.specs.Avro.{Avro};
+ghost use Rattle.pm_avro_schema.specs.Readable.{IsReadable};
 ghost use Rattle.pm_avro_schema.specs.declared.fault.AvroFault.{AvroFault};
 ghost use Rattle.pm_avro_schema.specs.declared.fault.AvroFault.TheVariants.{Memory, Bad};
 ghost use Rattle.pm_avro_data.specs.Datum.{Data};
+ghost use Rattle.pm_avro_data.specs.HasType.{HasType};
 ghost use Rattle.pm_avro_file.specs.Container.{IsBlock, IsContainer};
 ghost use Rattle.pm_avro_file.specs.Reader.{Reader, Opens, AnswersAt, Leads};
 
@@ -56,4 +59,13 @@ pub fn damaged_file_law()
         Opens bytes (Ok r) → Leads r r.first before offset
         → AnswersAt {X = List Data} (λ d. d) r.kind r.marker r.bytes offset (Err (Bad at)) →
         (t : Avro) (blocks : List (List Data)) (marker : List ℕ) → IsContainer t blocks marker bytes → ⊥ }
+{}
+
+/// What was read can be written again: the type is one that is read, and the data have it.
+pub fn reread_law()
+    ensures reader { (bytes : List ℕ) (r : Reader) → Opens bytes (Ok r) → IsReadable r.kind }
+    ensures block { (t : Avro) (ds : List Data) (marker source rest : List ℕ) →
+        IsBlock t marker ds source rest → AllByRecursion (HasType t) ds }
+    ensures file { (t : Avro) (blocks : List (List Data)) (marker bytes : List ℕ) →
+        IsContainer t blocks marker bytes → IsReadable t × AllByRecursion (AllByRecursion (HasType t)) blocks }
 {}

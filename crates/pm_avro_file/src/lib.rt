@@ -3,10 +3,11 @@
 //!
 //! `IsContainer` says which bytes are a file of a type, with which blocks of data and which marker. Contracts see a
 //! `FileReader` as the record of `specs/Reader.antt`. What the metadata of a header say stands in
-//! `specs/Header.antt`, and the bytes that are written in `specs/Written.antt`. The laws speak of the relations alone,
+//! `specs/Header.antt`, and the bytes that are written in `specs/Writing.antt`. The laws speak of the relations alone,
 //! and of what the calls answer.
 //!
-//! Reading goes on in the slice that is left, takes time linear in the bytes, and holds one decoded block.
+//! Reading goes on in the slice that is left, takes time linear in the bytes, and holds one decoded block, which takes
+//! no more memory than the block's bytes allow (`Room` of `pm_avro_data`).
 #![tactic(auto)]
 
 mod block;
@@ -18,11 +19,8 @@ mod stop;
 mod writing;
 
 pub use laws::{
-    damaged_file_law, one_answer_law, one_block_law, one_file_law, one_opening_law,
+    damaged_file_law, one_answer_law, one_block_law, one_file_law, one_opening_law, reread_law,
     unread_file_law, whole_file_law,
 };
 pub use reader::FileReader;
 pub use writing::write_file;
-
-#[cfg(test)]
-mod tests;

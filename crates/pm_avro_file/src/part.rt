@@ -7,7 +7,7 @@ ghost use Rattle.pm_avro_data.specs.IsDatum.{IsDatum};
 ghost use Rattle.pm_avro_file.specs.Part.{Finds, IsSize};
 ghost use Rattle.pm_avro_file.specs.Views.{size_in};
 
-use pm_avro_data::{Datum, decode};
+use pm_avro_data::{Datum, Room, decode_in};
 use pm_avro_schema::{AvroFault, AvroType};
 use std::alloc::{AllocError, Global};
 
@@ -21,13 +21,13 @@ pub(crate) fn after_prefix<'a>(prefix: &[u8], bytes: &'a [u8]) -> Option<&'a [u8
 
 /// The datum of the type that the bytes begin with, and the rest.
 pub(crate) fn read_datum<'a>(
-    alloc: Global,
+    room: &mut Room,
     kind: &AvroType,
     bytes: &'a [u8],
 ) -> Result<Option<(Datum, &'a [u8])>, AllocError>
     ensures { Finds (λ x. (view x.0, x.1.now)) (IsDatum (types.view kind.now)) bytes.now result }
 {
-    match decode(alloc, kind, bytes) {
+    match decode_in(room, kind, bytes) {
         Ok((datum, size)) => Ok(Some((datum, bytes.split_at(size).1))),
         Err(AvroFault::Bad(_)) => Ok(None),
         Err(_) => Err(AllocError),
@@ -48,7 +48,8 @@ fn size_in(datum: &Datum) -> Option<usize>
 pub(crate) fn read_size(alloc: Global, bytes: &[u8]) -> Result<Option<(usize, &[u8])>, AllocError>
     ensures { Finds (λ x. (x.0, x.1.now)) IsSize bytes.now result }
 {
-    let Some((datum, rest)) = read_datum(alloc, &AvroType::Long, bytes)? else {
+    let mut room = Room::new(alloc, bytes.len());
+    let Some((datum, rest)) = read_datum(&mut room, &AvroType::Long, bytes)? else {
         return Ok(None);
     };
     match size_in(&datum) {

@@ -1,8 +1,11 @@
 //! Reading a file.
 
-ghost use Rattle.std.specs.Prelude.{◌≡◌, ◌≤◌, map, length};
+ghost use Rattle.std.specs.Prelude.{◌≡◌, ◌≤◌, map, length, IfOk, IfSome};
+ghost use Rattle.std.specs.List.{AllByRecursion};
 ghost use Rattle.pm_avro_schema.specs.View as types;
+ghost use Rattle.pm_avro_schema.specs.Readable.{IsReadable};
 ghost use Rattle.pm_avro_data.specs.Datum.{view};
+ghost use Rattle.pm_avro_data.specs.HasType.{HasType};
 ghost use Rattle.pm_avro_file.specs.Reader.{Reader, Opens, AnswersAt, Advances};
 
 use crate::block::answer_at;
@@ -30,6 +33,7 @@ impl Model for FileReader {
     ghost use Rattle.pm_avro_schema.specs.View as types;
     ghost use Rattle.std.specs.Coded.{codes};
     ghost use Rattle.pm_avro_schema.specs.Coded.{avro_code};
+    ghost use Rattle.pm_avro_schema.specs.Readable.{IsReadable};
     ghost use Rattle.pm_avro_file.specs.Reader.{Reader, stop_fault};
 
     ghost Value = { Reader };
@@ -45,7 +49,8 @@ impl Model for FileReader {
       fault = option_map stop_fault r.stop;
     } };
 
-    ghost invariant = { λ r. (r.first ≤ length r.bytes) × (r.offset ≤ length r.bytes) };
+    ghost invariant = { λ r. (r.first ≤ length r.bytes) × (r.offset ≤ length r.bytes)
+        × IsReadable (types.view r.kind) };
 }
 
 impl FileReader {
@@ -68,9 +73,10 @@ impl FileReader {
         })
     }
 
-    /// The type of the data.
+    /// The type of the data, of which more may be written.
     pub fn kind(&self) -> &AvroType
-        ensures { types.view result.now ≡ self.now.kind }
+        ensures kind { types.view result.now ≡ self.now.kind }
+        ensures readable { IsReadable (types.view result.now) }
     {
         &self.kind
     }
@@ -86,7 +92,10 @@ impl FileReader {
     /// The data of the next block, or none at the end. Faults are `Memory`, and `Bad` at the block's offset; after a
     /// fault the same one is answered again.
     pub fn next_block(&mut self, alloc: Global) -> Result<Option<Vec<Datum>>, AvroFault>
-        ensures { Advances (λ v. map view v.items) self.old self.new result }
+        ensures advances { Advances (λ v. map view v.items) self.old self.new result }
+        // What is read may be written again.
+        ensures typed { IfOk result (λ found. IfSome found (λ v.
+            AllByRecursion (HasType self.old.kind) (map view v.items))) }
     {
         if let Some(stop) = self.stop {
             return Err(stop.fault());
@@ -118,8 +127,11 @@ impl FileReader {
         offset: usize,
     ) -> Result<Option<(Vec<Datum>, usize)>, AvroFault>
         requires { offset ≤ length self.now.bytes }
-        ensures { AnswersAt (λ v. map view v.items) self.now.kind self.now.marker self.now.bytes
+        ensures answers { AnswersAt (λ v. map view v.items) self.now.kind self.now.marker self.now.bytes
             offset result }
+        // What is read may be written again.
+        ensures typed { IfOk result (λ found. IfSome found (λ x.
+            AllByRecursion (HasType self.now.kind) (map view x.0.items))) }
     {
         let bytes = self.bytes.as_bytes();
         match answer_at(alloc, &self.kind, &self.marker, bytes, offset) {

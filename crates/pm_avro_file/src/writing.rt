@@ -19,12 +19,13 @@ ghost use Rattle.pm_avro_file.specs.Views.{blocks_view};
 ghost use Rattle.pm_avro_file.specs.Writing.{written_pairs, header_bytes, block_bytes, file_bytes};
 
 use crate::header::{MAGIC, metadata_kind};
-use pm_avro_data::{Datum, encode};
+use pm_avro_data::{Datum, encode, encode_to};
 use pm_avro_schema::{AvroFault, AvroType, print};
 use pm_base::Txt;
 use std::alloc::{AllocError, Global};
 
-/// The bytes of a file with these blocks, in order. The only fault is `Memory`.
+/// The bytes of a file with these blocks, in order. The only fault is `Memory`. A block without data is written like
+/// any other, but the table's crates never write one: at such a block other readers stop, or read stale data.
 pub fn write_file(
     alloc: Global,
     kind: &AvroType,
@@ -119,8 +120,8 @@ fn push_block(
     ensures memory { IfErr result (λ e. e ≡ AvroFault.Memory) }
 {
     let content = write_data(alloc, kind, block)?;
-    push_size(alloc, out, block.len())?;
-    push_size(alloc, out, content.len())?;
+    push_size(out, block.len())?;
+    push_size(out, content.len())?;
     out.extend_from_slice(&content)?;
     out.extend_from_slice(marker)?;
     Ok(())
@@ -139,20 +140,17 @@ fn write_data(alloc: Global, kind: &AvroType, block: &Vec<Datum>) -> Result<Vec<
 {
     let mut content = Vec::new(alloc);
     for datum in block {
-        let bytes = encode(alloc, kind, datum)?;
-        content.extend_from_slice(&bytes)?;
+        encode_to(&mut content, kind, datum)?;
     }
     Ok(content)
 }
 
 /// Writes a size.
-fn push_size(alloc: Global, out: &mut Vec<u8>, size: usize) -> Result<(), AvroFault>
+fn push_size(out: &mut Vec<u8>, size: usize) -> Result<(), AvroFault>
     requires { size < 2 ^ 63 }
     ensures bytes { OnOk result (out.new.items ≡ out.old.items ++ integer (pos size)) }
     ensures long { OnOk result ((rest : List ℕ) → IsLong (pos size) (integer (pos size) ++ rest) rest) }
     ensures memory { IfErr result (λ e. e ≡ AvroFault.Memory) }
 {
-    let bytes = encode(alloc, &AvroType::Long, &Datum::Long(size as i64))?;
-    out.extend_from_slice(&bytes)?;
-    Ok(())
+    encode_to(out, &AvroType::Long, &Datum::Long(size as i64))
 }

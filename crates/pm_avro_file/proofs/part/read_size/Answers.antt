@@ -1,7 +1,7 @@
 use Rattle.std.proofs.Common.{pos, sym, ◌∙◌}
+use Rattle.pm_avro_schema.proofs.Facts.{view-Long}
 use Rattle.pm_avro_data.specs.Datum.{view, long}
 use Rattle.pm_avro_file.proofs.Parts.{size_not}
-use Rattle.pm_avro_file.proofs.Seen.{view-Long}
 use Rattle.pm_avro_file.proofs.part.read_size.Goals as goal
 
 pub returns-in_default : goal.returns-in_default
