@@ -4,11 +4,13 @@ use Rattle.std.specs.Prelude.{⊤}
 use Rattle.std.proofs.Math.Seq.{drop-cons}
 use Rattle.std.proofs.lemmas.List.{drop_all}
 use Rattle.pm_base.specs.Outcome.{Fails}
+use Rattle.std.specs.List.{AllByRecursion}
 use Rattle.std.specs.Option.{option_or}
 use Rattle.pm_options.specs.Faults.{first_of, judged}
 use Rattle.pm_values.specs.declared.refusal.Refusal.{Refusal}
 
-judged_none : (fault : Option Refusal) (u : ⊤) → judged fault ≡ Ok u → fault ≡ None
+-- a judgement that found no fault
+pub judged_none : (fault : Option Refusal) (u : ⊤) → judged fault ≡ Ok u → fault ≡ None
 judged_none None u is = refl
 judged_none (Some f) u is = cc
 
@@ -42,3 +44,17 @@ judge-all fault xs i whole past before = ap judged (sym before ∙ ap (first_of 
 pub first_of-map : {A B : Type 0} (fault : B → Option Refusal) (f : A → B) (xs : List A) → first_of (λ x. fault (f x)) xs ≡ first_of fault (map f xs)
 first_of-map fault f [] = refl
 first_of-map fault f (x ∷ xs) = ap (option_or (fault (f x))) (first_of-map fault f xs)
+
+-- where the first of two faults is none, both are
+none_then : (a b : Option Refusal) → option_or a b ≡ None → (a ≡ None) × (b ≡ None)
+none_then None b is = (refl, is)
+none_then (Some e) b is = cc
+
+-- where there is no first fault, no item has one
+pub all_none : {A : Type 0} (fault : A → Option Refusal) (xs : List A) → first_of fault xs ≡ None → AllByRecursion (λ x. fault x ≡ None) xs
+all_none fault [] is = tt
+all_none fault (x ∷ xs) is = let parts = none_then (fault x) (first_of fault xs) is in (parts.0, all_none fault xs parts.1)
+
+pub none_all : {A : Type 0} (fault : A → Option Refusal) (xs : List A) → AllByRecursion (λ x. fault x ≡ None) xs → first_of fault xs ≡ None
+none_all fault [] all = refl
+none_all fault (x ∷ xs) all = ap (λ o. option_or o (first_of fault xs)) all.0 ∙ none_all fault xs all.1

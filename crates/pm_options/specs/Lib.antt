@@ -9,3 +9,4 @@ pub mod Options
 pub mod Pairs
 pub mod Reading
 pub mod Written
+pub mod Stands

@@ -3,7 +3,8 @@
 //! A setting is an option's key and its text. `specs/Table.antt` has each option with the texts that it takes,
 //! `specs/Fields.antt` the options of a column, `specs/Options.antt` which options settings state,
 //! `specs/Pairs.antt` the pairs of options that don't go together, `specs/Reading.antt` the first fault of
-//! settings, and `specs/Written.antt` the settings that options are written as.
+//! settings, `specs/Written.antt` the settings that options are written as, and `specs/Stands.antt` which options
+//! settings can state.
 #![tactic(auto)]
 
 mod copied;
@@ -11,6 +12,7 @@ mod entries;
 mod fault;
 mod fields;
 mod kinds;
+mod laws;
 mod listed;
 mod numbers;
 mod options;
@@ -24,6 +26,7 @@ pub use copied::Copied;
 pub use entries::entry_of;
 pub use fault::{limit, unsupported};
 pub use kinds::{EngineKind, Function, Producer};
+pub use laws::{read_law, written_law};
 pub use listed::Listed;
 pub use options::Options;
 pub use read::read_options;
