@@ -19,6 +19,7 @@ use Rattle.pm_schema.specs.Again.{HasRanges, field_of, stated_again}
 use Rattle.pm_schema.specs.Stated.{all_in, field_in, file_in, settings_in, text_or_null}
 use Rattle.pm_schema.specs.Written.{column_data, comment_data, first_members, last_members, schema_members, settings_members, with_origin}
 use Rattle.pm_schema.specs.declared.schema.TableSchema.{TableSchema}
+use Rattle.pm_schema.proofs.Steps.{member_parts}
 
 -- ---- how deep it nests
 
@@ -95,17 +96,6 @@ below n small = search (rules, nat_tests)
 time_again : (z : ℤ) → FitsSigned w64 z → as_i64 (of_integer z) ≡ Some z
 time_again (pos n) fits = ap (λ b. cond b (Some (pos n)) None) (below n fits.sfits)
 time_again (negsuc n) fits = refl
-
--- the parts of an object of texts
-member_parts : (l : List ℕ) (e : Data) (ms : Members) (ss : List Setting) → settings_in (member l e ms) ≡ Some ss
-    → (text : List ℕ) × (rest : List Setting) × (as_str e ≡ Some text) × (settings_in ms ≡ Some rest) × ((l, text) ∷ rest ≡ ss)
-member_parts l e ms ss is = member_at (as_str e) (settings_in ms) refl refl is
-  where
-    member_at : (o : Option (List ℕ)) (p : Option (List Setting)) → as_str e ≡ o → settings_in ms ≡ p → option_and_then (λ text. option_and_then (λ more. Some ((l, text) ∷ more)) p) o ≡ Some ss
-        → (text : List ℕ) × (rest : List Setting) × (as_str e ≡ Some text) × (settings_in ms ≡ Some rest) × ((l, text) ∷ rest ≡ ss)
-    member_at None p a b is = absurd cc
-    member_at (Some text) None a b is = absurd cc
-    member_at (Some text) (Some rest) a b is = (text, rest, a, b, cc)
 
 member_whole : (l : List ℕ) (e : Data) (ms : Members) (text : List ℕ) (rest : List Setting) → as_str e ≡ Some text → settings_in ms ≡ Some rest → settings_in (member l e ms) ≡ Some ((l, text) ∷ rest)
 member_whole l e ms text rest a b =

@@ -4,7 +4,6 @@ use Rattle.std.proofs.lemmas.Bool.Decides.{nat_tests}
 use Rattle.std.proofs.lemmas.Bool.{ltb-false}
 use Rattle.std.proofs.lemmas.Slice.Eq.{bytes_eq-Decides}
 use Rattle.std.specs.List.{AllByRecursion, AllZip}
-use Rattle.std.specs.Option.{option_or}
 use Rattle.std.specs.Prelude.{⊤}
 use Rattle.std.specs.Str.{bytes_eq}
 use Rattle.pm_base.specs.Outcome.{◌>>=◌}
@@ -14,6 +13,7 @@ use Rattle.pm_options.specs.Faults.{first_of, judged}
 use Rattle.pm_options.specs.Options.{options_in}
 use Rattle.pm_options.specs.Pairs.{pair_fault}
 use Rattle.pm_options.specs.Reading.{options_of, setting_fault}
+use Rattle.pm_options.proofs.Judging.{all_none, judged_none, none_all}
 use Rattle.pm_values.specs.declared.column.ColType.{ColType}
 use Rattle.pm_values.specs.declared.column.ColType.TheVariants as types
 use Rattle.pm_values.specs.declared.column.Column.{Column}
@@ -33,22 +33,6 @@ use Rattle.pm_schema.specs.declared.schema.TableSchema.{TableSchema}
 ok_or_some : {A : Type 0} (o : Option A) (e : Refusal) (x : A) → ok_or o e ≡ Ok x → o ≡ Some x
 ok_or_some None e x is = cc
 ok_or_some (Some y) e x is = let same : y ≡ x = cc in ap Some same
-
-judged_none : (fault : Option Refusal) (u : ⊤) → judged fault ≡ Ok u → fault ≡ None
-judged_none None u is = refl
-judged_none (Some f) u is = cc
-
-none_then : (a b : Option Refusal) → option_or a b ≡ None → (a ≡ None) × (b ≡ None)
-none_then None b is = (refl, is)
-none_then (Some e) b is = cc
-
-pub all_none : {A : Type 0} (fault : A → Option Refusal) (xs : List A) → first_of fault xs ≡ None → AllByRecursion (λ x. fault x ≡ None) xs
-all_none fault [] is = tt
-all_none fault (x ∷ xs) is = let parts = none_then (fault x) (first_of fault xs) is in (parts.0, all_none fault xs parts.1)
-
-pub none_all : {A : Type 0} (fault : A → Option Refusal) (xs : List A) → AllByRecursion (λ x. fault x ≡ None) xs → first_of fault xs ≡ None
-none_all fault [] all = refl
-none_all fault (x ∷ xs) all = ap (λ o. option_or o (first_of fault xs)) all.0 ∙ none_all fault xs all.1
 
 -- ---- types
 
@@ -136,7 +120,7 @@ all_met : (s : TableSchema) (rules : List Rule) → AllByRecursion (λ rule. bro
 all_met s [] all = tt
 all_met s (rule ∷ rules) all = (met_at (meets rule s) _ all.0, all_met s rules all.1)
 
-met_all : (s : TableSchema) (rules : List Rule) → AllByRecursion (λ rule. IsTrue (meets rule s)) rules → AllByRecursion (λ rule. broken s rule ≡ None) rules
+pub met_all : (s : TableSchema) (rules : List Rule) → AllByRecursion (λ rule. IsTrue (meets rule s)) rules → AllByRecursion (λ rule. broken s rule ≡ None) rules
 met_all s [] all = tt
 met_all s (rule ∷ rules) all = (ap (λ b. cond b None (Some (SchemaRule (number_of rule)))) all.0, met_all s rules all.1)
 
@@ -241,7 +225,7 @@ one_schema path text s t is was =
 
 -- ---- drafts
 
-same_count : (n : ℕ) (fields : List (List ℕ × List ℕ)) → length (numbered n fields) ≡ length fields
+pub same_count : (n : ℕ) (fields : List (List ℕ × List ℕ)) → length (numbered n fields) ≡ length fields
 same_count n [] = refl
 same_count n (f ∷ fields) = ap suc (same_count (n + 1) fields)
 

@@ -1,9 +1,12 @@
 mod AgainLemmas
 mod ColumnLemmas
+mod DeclaredLemmas
 mod FloatLemmas
 mod FolderLemmas
 mod JsonLemmas
 mod LawLemmas
 mod Lists
+mod OrderLemmas
 mod ShapeLemmas
+mod Steps
 mod WriteLemmas

@@ -1,11 +1,14 @@
--- What the written text of a schema states.
-use Rattle.std.specs.Prelude.{◌^◌, ◌<◌, map, FitsSigned}
+-- What the written text of a schema states, and which schemas it declares again.
+use Rattle.std.specs.Prelude.{◌^◌, ◌<◌, ◌≤◌, map, length, FitsSigned, IsTrue}
 use Rattle.std.specs.Int.{w64}
 use Rattle.std.specs.List.{AllByRecursion}
 use Rattle.pm_options.specs.Fields.{by_name}
+use Rattle.pm_options.specs.Stands.{Stands}
 use Rattle.pm_options.specs.Written.{settings_of}
 use Rattle.pm_values.specs.declared.column.Column.{Column}
 use Rattle.pm_schema.specs.ColumnType.{Field, type_text}
+use Rattle.pm_schema.specs.Reading.{most_columns}
+use Rattle.pm_schema.specs.Rules.{all_rules, meets}
 use Rattle.pm_schema.specs.Stated.{Stated}
 use Rattle.pm_schema.specs.declared.schema.TableSchema.{TableSchema}
 
@@ -32,3 +35,11 @@ pub record HasRanges (s : TableSchema) : Type 0 where
   pub highest : s.highest < 2 ^ 32
   pub ids : AllByRecursion (λ c. c.id < 2 ^ 32) s.columns
   pub time : FitsSigned w64 s.time
+
+-- a schema that a file or a draft can declare: its numbers are those of their types, there are at most 64 columns,
+-- settings can state its options, and each rule is met
+pub record IsDeclared (s : TableSchema) : Type 0 where
+  pub ranges : HasRanges s
+  pub few : length s.columns ≤ most_columns
+  pub options : Stands s.options
+  pub rules : AllByRecursion (λ rule. IsTrue (meets rule s)) all_rules

@@ -1,6 +1,8 @@
 //! What holds of the texts of all schemas.
 
-ghost use Rattle.std.specs.Prelude.{◌≡◌, ◌↔◌, ℤ, ℕ, List, Ok};
+ghost use Rattle.std.specs.Prelude.{◌≡◌, ◌↔◌, ℤ, ℕ, List, Ok, FitsSigned};
+ghost use Rattle.std.specs.Int.{w64};
+ghost use Rattle.pm_schema.specs.Again.{IsDeclared};
 ghost use Rattle.pm_schema.specs.Meaning.{SchemaOf, DraftOf};
 ghost use Rattle.pm_schema.specs.Reading.{schema_of, draft_of};
 ghost use Rattle.pm_schema.specs.declared.schema.TableSchema.{TableSchema};
@@ -17,4 +19,12 @@ pub fn schema_law()
 pub fn draft_law()
     ensures { (line origin : List ℕ) (now : ℤ) (s : TableSchema)
         → (draft_of line origin now ≡ Ok s) ↔ DraftOf line origin now s }
+{}
+
+/// What a file or a draft declares has the numbers, the options and the columns with which its written text is read as
+/// that very schema.
+pub fn declared_law()
+    ensures file { (path text : List ℕ) (s : TableSchema) → SchemaOf path text s → IsDeclared s }
+    ensures draft { (line origin : List ℕ) (now : ℤ) (s : TableSchema) → FitsSigned w64 now
+        → DraftOf line origin now s → IsDeclared s }
 {}

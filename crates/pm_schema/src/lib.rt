@@ -16,7 +16,7 @@ mod stated;
 mod write;
 
 pub use folder::{folder_of, partition_text};
-pub use laws::{draft_law, schema_law};
+pub use laws::{declared_law, draft_law, schema_law};
 pub use pm_options::{EngineKind, Function, Listed, Options, Producer};
 pub use read::{read_draft, read_schema};
 pub use schema::TableSchema;

@@ -3,8 +3,9 @@
 ghost use Rattle.std.specs.Prelude.{◌≡◌, [], Some, option_and_then, IfOk, IfErr, OnOk, string_bytes};
 ghost use Rattle.serde_json.specs.Data.{object, put as with_member, string};
 ghost use Rattle.serde_json.specs.View.{view, members_view};
-ghost use Rattle.pm_schema.specs.Again.{HasRanges, stated_again};
-ghost use Rattle.pm_schema.specs.Stated.{file_in, json_of};
+ghost use Rattle.pm_schema.specs.Again.{HasRanges, IsDeclared, stated_again};
+ghost use Rattle.pm_schema.specs.Meaning.{SchemaOf};
+ghost use Rattle.pm_schema.specs.Stated.{file_in, json_of, schema_path};
 ghost use Rattle.pm_schema.specs.Written.{column_data, columns_data, comment_data, first_members, last_members, schema_members, schema_text, settings_members, texts_data, with_origin};
 ghost use Rattle.pm_options.specs.Written.{settings_of, text_views};
 
@@ -22,6 +23,9 @@ pub fn write_schema(alloc: Global, schema: &TableSchema) -> Result<Vec<u8>, Refu
     // The text states the schema again, with its settings by rising key.
     ensures again { IfOk result (λ v. HasRanges schema.now
         → option_and_then file_in (json_of v.items) ≡ Some (stated_again schema.now)) }
+    // It is read as the very schema, where that is one that a file or a draft declares.
+    ensures reads { IfOk result (λ v. IsDeclared schema.now
+        → SchemaOf (schema_path schema.now.id) v.items schema.now) }
     ensures memory { IfErr result (λ e. e ≡ Refusal.Memory) }
 {
     let json = json_of_schema(alloc, schema)?;
