@@ -6,7 +6,7 @@ use std::alloc::{AllocError, Global};
 /// The text of a fault.
 pub fn print_fault(alloc: Global, fault: &AvroFault) -> Result<String, AllocError> {
     match fault {
-        AvroFault::Memory => Err(AllocError),
+        AvroFault::Memory => String::from_str(alloc, "memory"),
         AvroFault::Unsupported { what, text } => {
             format!(in alloc; "unsupported {} {:?}", what.as_str(), text.as_str())
         }

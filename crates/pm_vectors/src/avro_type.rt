@@ -17,8 +17,8 @@ pub fn answer(alloc: Global, argument: &str) -> Result<Option<String>, AllocErro
     Ok(Some(text))
 }
 
-/// The printed JSON of the type that a text declares.
+/// The printed JSON of the type that a text declares, which is copied before.
 fn printed(alloc: Global, schema: &[u8]) -> Result<Vec<u8>, AvroFault> {
-    let kind = parse(alloc, schema)?;
+    let kind = parse(alloc, schema)?.copy(alloc)?;
     print(alloc, &kind)
 }

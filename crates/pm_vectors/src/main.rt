@@ -7,7 +7,10 @@
 //! | `avro-type` | the JSON of a type | the type's printed JSON |
 //! | `avro-datum` | the JSON of a type, digits | the datum, how many bytes it took, its shortest spelling in digits |
 //! | `avro-file` | digits | the first block's offset, the blocks, and `end` or a fault, which is asked for twice |
+//! | `avro-write` | the JSON of a type, digits | the digits of a file of the datum, its block, the offset after it |
 //! | `row` | columns as `NAME:TYPE` or `NAME:TYPE!`, a line | the printed row, or its fault with the column's index |
+//! | `binary-row` | types with blanks between them, a row line or digits | the digits and their row, or `bad` |
+//! | `hash` | the digits of a body, a number of buckets | the hash, and its bucket |
 //! | `hex` | a text | the digits that are printed for the bytes that it reads as, and these bytes; or `none` |
 //! | `date` | a text | the day that it reads as, and the text that is printed for it; or `none` |
 //! | `compare` | columns, two row lines | how the rows compare as keys, and as the groups of buckets 1 and 0 |
@@ -46,7 +49,9 @@ mod avro_datum;
 mod avro_fault;
 mod avro_file;
 mod avro_type;
+mod avro_write;
 mod batch;
+mod binary_row;
 mod command;
 mod date;
 mod folder;
@@ -85,7 +90,10 @@ fn answer(rt: &HostRuntime, alloc: Global, line: &str) -> io::Result<String> {
         "avro-type" => avro_type::answer(alloc, arguments)?,
         "avro-datum" => avro_datum::answer(alloc, arguments)?,
         "avro-file" => avro_file::answer(alloc, arguments)?,
+        "avro-write" => avro_write::answer(alloc, arguments)?,
         "row" => row::answer(alloc, arguments)?,
+        "binary-row" => binary_row::answer(alloc, arguments)?,
+        "hash" => binary_row::hash_answer(alloc, arguments)?,
         "hex" => hex::answer(alloc, arguments)?,
         "date" => date::answer(alloc, arguments)?,
         "source" => lines::source_answer(alloc, arguments)?,

@@ -60,7 +60,7 @@ fn read_column(alloc: Global, text: &str) -> Result<Option<Column>, AllocError> 
 }
 
 /// The type of that name.
-fn read_type(name: &str) -> Option<ColType> {
+pub fn read_type(name: &str) -> Option<ColType> {
     match name {
         "BOOLEAN" => Some(ColType::Boolean),
         "TINYINT" => Some(ColType::TinyInt),

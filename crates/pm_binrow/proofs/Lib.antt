@@ -1,0 +1,10 @@
+mod Bits
+mod Sizes
+mod Words
+mod Pushes
+mod Cells
+mod Numbers
+mod Steps
+mod Texts
+mod Slots
+mod Rows

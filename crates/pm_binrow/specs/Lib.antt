@@ -1,0 +1,4 @@
+pub mod Answer
+pub mod Hashing
+pub mod Reading
+pub mod Row
