@@ -179,7 +179,7 @@ tidy_parts (json.object js) d is =
     subst HasTidyParts parts.2 (λ key e found. tidy_member key parts.0 e (tidy_read js no_members parts.0 tt parts.1) found)
 
 json_parts : (text : List ℕ) (d : Data) → read text ≡ Some d → HasTidyParts d
-json_parts text d is = 
+json_parts text d is =
     let parts = and_then_parts of_json (option_and_then (λ p. json.if_last p.0 p.1) (json.value max_depth (tokens text))) d is in tidy_parts parts.0 d parts.2
 
 pub json_of-parts : (text : List ℕ) (d : Data) → json_of text ≡ Some d → HasTidyParts d
