@@ -37,9 +37,13 @@
 //! | `snapshot-name` | a number | the name of the file of the snapshot |
 //! | `consumer` | a text | the fields of the consumer that it is; or `bad` |
 //! | `name` | `id`, `floor` or `base`, a name | the number that the name bears; or `none` |
+//! | `live` | see below | the live files, each with the number of the entry that added it; after a refusal, if any |
 //!
 //! A `command` has eight arguments: the call of the store that fails, or 0, and its effect; the read and the write that
 //! fail, or 0; the room of `out`; the plain file, made by call 1 where it isn't empty; the word; and the input.
+//!
+//! The argument of `live` is manifests with `;` between them. The entries of one are words: `+NAME@LEVEL/BUCKET` adds a
+//! file, and `-` in the place of `+` deletes one. Entries are numbered from 1.
 //!
 //! Digits are hexadecimal. Any other argument is the text itself, or `0x` and the digits of its bytes.
 #![tactic(auto)]
@@ -58,6 +62,7 @@ mod folder;
 mod hex;
 mod input;
 mod lines;
+mod live;
 mod name;
 mod plain;
 mod refusal;
@@ -120,6 +125,7 @@ fn answer(rt: &HostRuntime, alloc: Global, line: &str) -> io::Result<String> {
         "consumer-text" => snapshot::consumer_text_answer(alloc, arguments)?,
         "snapshot-name" => snapshot::name_answer(alloc, arguments)?,
         "name" => name::answer(alloc, arguments)?,
+        "live" => live::answer(alloc, arguments)?,
         _ => None,
     };
     match found {

@@ -1,0 +1,3 @@
+mod IdLemmas
+mod OrderLemmas
+mod LiveLemmas

@@ -1,0 +1,19 @@
+//! Manifests: what they list, and the live files that their entries leave.
+//!
+//! An entry adds a file or deletes one. A file is known by its group, its name and its level, so a file is moved to
+//! another level by a DELETE and an ADD. What is live of a file after a list of entries is said in `specs/Live.antt`
+//! by the last of them that is of the file, apart from how it is found; `joined_law` says that lists can be folded
+//! one after another.
+//!
+//! `fold_entries` takes about constant time an entry: it moves the entry into a hash map, and copies its id once.
+#![tactic(auto)]
+
+mod entry;
+mod file_id;
+mod laws;
+mod live;
+
+pub use entry::{Entry, ManifestMeta};
+pub use file_id::FileId;
+pub use laws::{id_law, joined_law, last_law, move_law};
+pub use live::fold_entries;
