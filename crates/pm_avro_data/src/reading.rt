@@ -203,8 +203,8 @@ fn read_entry<'a>(
 }
 
 /// The datum of the type that the bytes begin with, and how many bytes it takes. More bytes may follow. Faults are
-/// `Memory`, and `Bad` at 0 where the bytes begin with no datum of the type. Records with far more fields than there
-/// are bytes are out of memory.
+/// `Memory`, and `Bad` at 0 where the bytes begin with no datum of the type. Memory also runs out where records have
+/// more fields than `Room` allows for the number of bytes.
 pub fn decode(alloc: Global, kind: &AvroType, bytes: &[u8]) -> Result<(Datum, usize), AvroFault>
     // What is answered is there.
     ensures found { IfOk result (λ x. Begins (types.view kind.now) bytes.now (view x.0) x.1) }
@@ -218,7 +218,7 @@ pub fn decode(alloc: Global, kind: &AvroType, bytes: &[u8]) -> Result<(Datum, us
     decode_in(&mut Room::new(alloc, bytes.len()), kind, bytes)
 }
 
-/// The same in a room, which is made once for a text of many data.
+/// The same in a room, which is made once for a text of many data. Each takes from it what its records need.
 pub fn decode_in(
     room: &mut Room,
     kind: &AvroType,

@@ -32,7 +32,7 @@ impl Room {
         }
     }
 
-    /// Takes room for the fields of a record, which is out of memory where it hasn't so much.
+    /// Takes room for so many fields of a record, or answers that memory ran out where there isn't so much left.
     pub(crate) fn take(&mut self, fields: usize) -> Result<(), AllocError>
         ensures taken { OnOk result (self.old.fields ≡ self.new.fields + fields) }
         ensures full { OnErr result (self.old.fields < fields) }

@@ -65,9 +65,9 @@ short_in n place tails =
 
 -- Private: so many bytes of the tails, which are at this offset of a body of this size, and the later tails
 unfoldable pub long_in : ℕ → ℕ → ℕ → List ℕ → Option (List ℕ × List ℕ)
-long_in size n at tails =
+long_in size n offset tails =
     if nat_lt 7 n
-    then if at + length tails == size
+    then if offset + length tails == size
     then if nat_le (padded n) (length tails)
     then if is_zero (drop n (take (padded n) tails))
     then Some (take n (take (padded n) tails), drop (padded n) tails)

@@ -63,8 +63,8 @@ padded n = (n + 7) / 8 * 8
 -- The slot of a text, or of bytes. At most seven bytes stand in it, with zeros after them, and the last byte is 128
 -- and their number. Of more it has their length and the offset of their tail in the body.
 unfoldable pub text_slot : ℕ → List ℕ → List ℕ
-text_slot at text =
-    if nat_lt 7 (length text) then to_le_bytes w32 (length text) ++ to_le_bytes w32 at
+text_slot offset text =
+    if nat_lt 7 (length text) then to_le_bytes w32 (length text) ++ to_le_bytes w32 offset
     else text ++ (zeros (7 - length text) ++ (128 + length text) ∷ [])
 
 -- its tail: more than seven bytes, filled up with zeros
@@ -74,13 +74,13 @@ text_tail text = if nat_lt 7 (length text) then text ++ zeros (padded (length te
 -- The slot of a value, whose tail would stand at this offset. A number is in two's complement in the width of its type,
 -- lowest byte first, with zeros after it.
 unfoldable pub slot : ℕ → ColType → Value → List ℕ
-slot at kind Null = zeros 8
-slot at kind (Truth b) = to_le_bytes w64 (bit b)
-slot at kind (Whole n) = to_le_bytes w64 (cut kind (cast_unsigned w64 n))
-slot at kind (Day d) = to_le_bytes w64 (cast_unsigned w32 d)
-slot at kind (Millis m) = to_le_bytes w64 (cast_unsigned w64 m)
-slot at kind (Words text) = text_slot at text
-slot at kind (Octets bytes) = text_slot at bytes
+slot offset kind Null = zeros 8
+slot offset kind (Truth b) = to_le_bytes w64 (bit b)
+slot offset kind (Whole n) = to_le_bytes w64 (cut kind (cast_unsigned w64 n))
+slot offset kind (Day d) = to_le_bytes w64 (cast_unsigned w32 d)
+slot offset kind (Millis m) = to_le_bytes w64 (cast_unsigned w64 m)
+slot offset kind (Words text) = text_slot offset text
+slot offset kind (Octets bytes) = text_slot offset bytes
 
 -- the tail of a value
 unfoldable pub tail : Value → List ℕ
@@ -92,9 +92,10 @@ tail value = []
 
 -- the slots of values in columns of these types, whose tails stand from this offset on, in the order of the columns
 unfoldable pub slots : ℕ → List ColType → Values → List ℕ
-slots at [] values = []
-slots at (kind ∷ kinds) [] = []
-slots at (kind ∷ kinds) (value ∷ values) = slot at kind value ++ slots (at + length (tail value)) kinds values
+slots offset [] values = []
+slots offset (kind ∷ kinds) [] = []
+slots offset (kind ∷ kinds) (value ∷ values) =
+    slot offset kind value ++ slots (offset + length (tail value)) kinds values
 
 -- how many bytes of a body stand before its tails
 abbrev pub fixed_size : ℕ → ℕ

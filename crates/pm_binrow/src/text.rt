@@ -29,14 +29,18 @@ pub(crate) fn push_zeros(out: &mut Vec<u8>, count: usize) -> Result<(), AllocErr
 
 /// Adds the slot of a text, whose tail would stand at this offset of the body.
 #[tactic(auto, unfolding(crate::specs::Row::text_slot))]
-pub(crate) fn push_text_slot(out: &mut Vec<u8>, at: usize, text: &[u8]) -> Result<(), AllocError>
+pub(crate) fn push_text_slot(
+    out: &mut Vec<u8>,
+    offset: usize,
+    text: &[u8],
+) -> Result<(), AllocError>
     requires text { length text.now < 2 ^ 32 }
-    requires at { at < 2 ^ 32 }
-    ensures { OnOk result (out.new.items ≡ out.old.items ++ text_slot at text.now) }
+    requires offset { offset < 2 ^ 32 }
+    ensures { OnOk result (out.new.items ≡ out.old.items ++ text_slot offset text.now) }
 {
     if text.len() > SHORT {
         out.extend_from_slice(&(text.len() as u32).to_le_bytes())?;
-        out.extend_from_slice(&(at as u32).to_le_bytes())
+        out.extend_from_slice(&(offset as u32).to_le_bytes())
     } else {
         out.extend_from_slice(text)?;
         push_zeros(out, SHORT - text.len())?;
@@ -61,7 +65,6 @@ pub(crate) fn push_text_tail(out: &mut Vec<u8>, text: &[u8]) -> Result<(), Alloc
 #[tactic(auto, unfolding(crate::specs::Row::text_tail))]
 pub(crate) fn tail_size(text: &[u8]) -> usize
     ensures size { result ≡ length (text_tail text.now) }
-    ensures text { length text.now ≤ result + 7 }
     ensures bound { result < 2 ^ 63 + 8 }
 {
     if text.len() > SHORT {
@@ -102,12 +105,12 @@ fn read_short<'a>(length: usize, slot: &'a [u8; 8], tails: &'a [u8]) -> Option<(
 
 /// So many bytes of the tails, which are at this offset of a body of this size, and the later tails.
 #[tactic(auto, unfolding(crate::specs::Reading::long_in))]
-fn read_long(size: usize, length: usize, at: usize, tails: &[u8]) -> Option<(&[u8], &[u8])>
+fn read_long(size: usize, length: usize, offset: usize, tails: &[u8]) -> Option<(&[u8], &[u8])>
     requires length { length < 2 ^ 32 }
-    requires at { at < 2 ^ 32 }
-    ensures { option_map (λ t. (t.0.now, t.1.now)) result ≡ long_in size length at tails.now }
+    requires offset { offset < 2 ^ 32 }
+    ensures { option_map (λ t. (t.0.now, t.1.now)) result ≡ long_in size length offset tails.now }
 {
-    if length <= SHORT || at + tails.len() != size {
+    if length <= SHORT || offset + tails.len() != size {
         return None;
     }
     let (part, later) = tails.split_at_checked(padded(length))?;
@@ -132,8 +135,8 @@ pub(crate) fn read_text<'a>(
         return read_short(usize::from(slot[7] - 128), slot, tails);
     }
     let (length, rest) = slot.split_first_chunk::<4>()?;
-    let (at, _) = rest.split_first_chunk::<4>()?;
+    let (offset, _) = rest.split_first_chunk::<4>()?;
     let length = u32::from_le_bytes(*length) as usize;
-    let at = u32::from_le_bytes(*at) as usize;
-    read_long(size, length, at, tails)
+    let offset = u32::from_le_bytes(*offset) as usize;
+    read_long(size, length, offset, tails)
 }

@@ -13,7 +13,8 @@ use std::alloc::{AllocError, Global};
 /// One more than how many bytes a row takes at most.
 pub(crate) const LIMIT: usize = 0x8000_0000;
 
-/// The bytes of a row of columns of these types. Out of memory is also answered where they would be 2^31 or more.
+/// The bytes of a row of columns of these types, null where it has no value for a column. Out of memory is also
+/// answered where they would be 2^31 or more.
 pub fn to_binary(alloc: Global, types: &[ColType], row: &Row) -> Result<Vec<u8>, AllocError>
     ensures bytes { IfOk result (λ v. v.items ≡ row_bytes types.now row.now) }
     ensures short { IfOk result (λ v. IsShort types.now row.now) }
@@ -105,27 +106,32 @@ fn value_tail_size(value: &Value) -> usize
 /// Adds the slots of values, whose tails stand from this offset of the body on.
 fn push_slots(
     out: &mut Vec<u8>,
-    at: usize,
+    offset: usize,
     types: &[ColType],
     values: &[Value],
 ) -> Result<(), AllocError>
     requires same { length values.now ≡ length types.now }
-    requires bound { at + length (flat_map tail values.now) < 2 ^ 31 }
-    ensures { OnOk result (out.new.items ≡ out.old.items ++ slots at types.now values.now) }
+    requires bound { offset + length (flat_map tail values.now) < 2 ^ 31 }
+    ensures { OnOk result (out.new.items ≡ out.old.items ++ slots offset types.now values.now) }
 {
-    let mut at = at;
+    let mut offset = offset;
     for i in 0..types.len() {
-        push_slot(out, at, types[i], &values[i])?;
-        at += value_tail_size(&values[i]);
+        push_slot(out, offset, types[i], &values[i])?;
+        offset += value_tail_size(&values[i]);
     }
     Ok(())
 }
 
 /// Adds the slot of a value, whose tail would stand at this offset of the body.
 #[tactic(auto, unfolding(crate::specs::Row::slot))]
-fn push_slot(out: &mut Vec<u8>, at: usize, kind: ColType, value: &Value) -> Result<(), AllocError>
-    requires { at + length (tail value.now) < 2 ^ 31 }
-    ensures { OnOk result (out.new.items ≡ out.old.items ++ slot at kind value.now) }
+fn push_slot(
+    out: &mut Vec<u8>,
+    offset: usize,
+    kind: ColType,
+    value: &Value,
+) -> Result<(), AllocError>
+    requires { offset + length (tail value.now) < 2 ^ 31 }
+    ensures { OnOk result (out.new.items ≡ out.old.items ++ slot offset kind value.now) }
 {
     match value {
         Value::Null => push_zeros(out, 8),
@@ -133,8 +139,8 @@ fn push_slot(out: &mut Vec<u8>, at: usize, kind: ColType, value: &Value) -> Resu
         Value::Int(number) => push_number(out, cut(kind, number.cast_unsigned())),
         Value::Day(day) => push_number(out, u64::from(day.cast_unsigned())),
         Value::Millis(millis) => push_number(out, millis.cast_unsigned()),
-        Value::Text(text) => push_text_slot(out, at, text.as_bytes()),
-        Value::Bytes(bytes) => push_text_slot(out, at, bytes.as_bytes()),
+        Value::Text(text) => push_text_slot(out, offset, text.as_bytes()),
+        Value::Bytes(bytes) => push_text_slot(out, offset, bytes.as_bytes()),
     }
 }
 

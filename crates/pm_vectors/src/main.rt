@@ -8,6 +8,7 @@
 //! | `avro-datum` | the JSON of a type, digits | the datum, how many bytes it took, its shortest spelling in digits |
 //! | `avro-file` | digits | the first block's offset, the blocks, and `end` or a fault, which is asked for twice |
 //! | `avro-write` | the JSON of a type, digits | the digits of a file of the datum, its block, the offset after it |
+//! | `record` | the JSON of a type, names with commas, digits | what stands at the names; `none` or `no such fields` |
 //! | `row` | columns as `NAME:TYPE` or `NAME:TYPE!`, a line | the printed row, or its fault with the column's index |
 //! | `binary-row` | types with blanks between them, a row line or digits | the digits and their row, or `bad` |
 //! | `hash` | the digits of a body, a number of buckets | the hash, and its bucket |
@@ -65,6 +66,7 @@ mod lines;
 mod live;
 mod name;
 mod plain;
+mod record;
 mod refusal;
 mod rivals;
 mod row;
@@ -96,6 +98,7 @@ fn answer(rt: &HostRuntime, alloc: Global, line: &str) -> io::Result<String> {
         "avro-datum" => avro_datum::answer(alloc, arguments)?,
         "avro-file" => avro_file::answer(alloc, arguments)?,
         "avro-write" => avro_write::answer(alloc, arguments)?,
+        "record" => record::answer(alloc, arguments)?,
         "row" => row::answer(alloc, arguments)?,
         "binary-row" => binary_row::answer(alloc, arguments)?,
         "hash" => binary_row::hash_answer(alloc, arguments)?,

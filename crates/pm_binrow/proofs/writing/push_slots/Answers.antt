@@ -17,12 +17,12 @@ loop-i-preserved c =
     let next : drop c.loop-i.i c.args.types.now ≡ kind ∷ drop (c.loop-i.i + 1) c.args.types.now = drop_more c.args.types.now c.loop-i.i Boolean c.loop-i-test.true in
     let first : drop c.loop-i.i c.args.values.now ≡ value ∷ drop (c.loop-i.i + 1) c.args.values.now =
     drop_more c.args.values.now c.loop-i.i Null within ∙ ap (λ v. v ∷ drop (c.loop-i.i + 1) c.args.values.now) here in
-    let size : c.value_tail_size-at.result ≡ length (tail value) = c.value_tail_size-at.ensures.size ∙ ap (λ v. length (tail v)) again in
+    let size : c.value_tail_size-offset.result ≡ length (tail value) = c.value_tail_size-offset.ensures.size ∙ ap (λ v. length (tail v)) again in
     record {
-      offset = rw size (tail_counted c.loop-i.at c.loop-i.i c.args.values.now value _ first c.loop-i.invariant.offset);
+      counted = rw size (tail_counted c.loop-i.offset c.loop-i.i c.args.values.now value _ first c.loop-i.invariant.counted);
       written = rw (size, c.in_ok-push_slot.ensures)
-          (slot_pushed c.loop-i.out.items c.loop-i.at c.loop-i.i c.args.types.now c.args.values.now kind value _ next first c.loop-i.invariant.written);
+          (slot_pushed c.loop-i.out.items c.loop-i.offset c.loop-i.i c.args.types.now c.args.values.now kind value _ next first c.loop-i.invariant.written);
     }
 
 pub returns : goal.returns
-returns c = slots_end c.loop-i.out.items c.loop-i.at c.loop-i.i c.args.types.now c.args.values.now _ c.loop-i-test.false c.loop-i.invariant.written
+returns c = slots_end c.loop-i.out.items c.loop-i.offset c.loop-i.i c.args.types.now c.args.values.now _ c.loop-i-test.false c.loop-i.invariant.written

@@ -5,6 +5,6 @@ use Rattle.pm_binrow.proofs.writing.push_slots.Given as goal
 
 abbrev pub invariant-loop-i : goal.invariant-loop-i
 invariant-loop-i l = record {
-  offset : l.at + length (flat_map tail (drop l.i l.values)) ≡ l.fn.at + length (flat_map tail l.values);
-  written : l.out.items ++ slots l.at (drop l.i l.types) (drop l.i l.values) ≡ l.fn.out.items ++ slots l.fn.at l.types l.values;
+  counted : l.offset + length (flat_map tail (drop l.i l.values)) ≡ l.fn.offset + length (flat_map tail l.values);
+  written : l.out.items ++ slots l.offset (drop l.i l.types) (drop l.i l.values) ≡ l.fn.out.items ++ slots l.fn.offset l.types l.values;
 }

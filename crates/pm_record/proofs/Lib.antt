@@ -1,0 +1,5 @@
+pub mod Facts
+mod Loops
+mod Taking
+mod Nulls
+mod Values
