@@ -1,5 +1,5 @@
 -- What joined lists of entries leave, and what one entry leaves.
-use Rattle.std.proofs.Common.{◌≡◌, ◌≢◌, ◌↔◌, ℕ, Bool, true, false, cond, not, filter, List, [], ◌∷◌, ◌++◌, Option, None, Some, is_some, if◌then◌else◌, length, take, refl, ap, sym, subst, ◌∙◌, arith, length-append}
+use Rattle.std.proofs.Common.{◌≡◌, ◌≢◌, ◌↔◌, ℕ, Bool, true, false, cond, not, filter, List, [], ◌∷◌, ◌++◌, Option, None, Some, is_some, if◌then◌else◌, length, take, refl, ap, sym, subst, ◌∙◌, arith, length-append, ◌⊎◌, inl, inr, true≢false}
 use Rattle.std.specs.List.{AllByRecursion, last_or}
 use Rattle.std.specs.Option.{option_map_or}
 use Rattle.std.proofs.lemmas.List.Elements.{filter-append}
@@ -106,6 +106,21 @@ live_at-one b id e = by (id_eq (id_of e) id)
     by true = refl
     by false = refl
 
+-- where only the file of an entry changes, to what the entry leaves, that is what the entry leaves
+pub Leaves-one : (before after : Live) (id : FileId) (e : Entry) (w : Option Entry) → left_by e ≡ w → id_of e ≡ id
+    → ((q : FileId) → after q ≡ cond (id_eq id q) w (before q)) → Leaves before (e ∷ []) after
+Leaves-one before after id e w left own changed q =
+    changed q
+    ∙ ap (λ o. cond (id_eq id q) o (before q)) (sym left)
+    ∙ ap (λ i. cond (id_eq i q) (left_by e) (before q)) (sym own)
+    ∙ sym (live_at-one (before q) q e)
+
+pub left_by-add : (e : Entry) → e.add ≡ true → left_by e ≡ Some e
+left_by-add e add = ap (λ b. if b then Some e else None) add
+
+pub left_by-delete : (e : Entry) → e.add ≡ false → left_by e ≡ None
+left_by-delete e delete = ap (λ b. if b then Some e else None) delete
+
 -- a test that is never true is false
 untrue : (b : Bool) → (b ≡ true → ⊥) → b ≡ false
 untrue true never = absurd (never refl)
@@ -130,23 +145,39 @@ last b first later e all =
     ∙ ap (λ o. live_at o id later) (live_at-one mid id e ∙ ap (λ t. cond t (left_by e) mid) (equal_id id id refl))
     ∙ others (left_by e) id later all
 
+same_entry : (a b : Entry) → Some a ≡ Some b → a ≡ b
+same_entry a b e = cc
+
+-- what an entry leaves of its file is an ADD of it
+added : (x e : Entry) (id : FileId) → id_of x ≡ id → left_by x ≡ Some e → (e.add ≡ true) × (id_of e ≡ id)
+added x e id own = by x.add refl
+  where
+    by : (add : Bool) → x.add ≡ add → (if add then Some x else None) ≡ Some e → (e.add ≡ true) × (id_of e ≡ id)
+    by true is left = subst (λ y. (y.add ≡ true) × (id_of y ≡ id)) (same_entry x e left) (is, own)
+    by false is left = absurd (true≢false (sym (ap is_some left)))
+
+one_added : (b : Option Entry) (id : FileId) (x e : Entry) → live_at b id (x ∷ []) ≡ Some e → (b ≡ Some e) ⊎ ((e.add ≡ true) × (id_of e ≡ id))
+one_added b id x e is = by (id_eq (id_of x) id) refl (sym (live_at-one b id x) ∙ is)
+  where
+    by : (own : Bool) → id_eq (id_of x) id ≡ own → cond own (left_by x) b ≡ Some e → (b ≡ Some e) ⊎ ((e.add ≡ true) × (id_of e ≡ id))
+    by true own left = inr (added x e id (same_id (id_of x) id own) left)
+    by false other kept = inl kept
+
+-- what is live of a file was live before, or it is an ADD of that file
+pub whence : (b : Option Entry) (id : FileId) (entries : List Entry) (e : Entry) → live_at b id entries ≡ Some e → (b ≡ Some e) ⊎ ((e.add ≡ true) × (id_of e ≡ id))
+whence b id [] e is = inl is
+whence b id (x ∷ xs) e is = by (whence (live_at b id (x ∷ [])) id xs e (sym (live_at-append b id (x ∷ []) xs) ∙ is))
+  where
+    by : (live_at b id (x ∷ []) ≡ Some e) ⊎ ((e.add ≡ true) × (id_of e ≡ id)) → (b ≡ Some e) ⊎ ((e.add ≡ true) × (id_of e ≡ id))
+    by (inl first) = one_added b id x e first
+    by (inr later) = inr later
+
 -- a DELETE of a file at one level and an ADD of it at another move it
 pub moved : (before : Live) (from to : Entry) → from.add ≡ false → to.add ≡ true
     → to.group ≡ from.group → to.file.name ≡ from.file.name → to.file.level ≢ from.file.level
     → (live_after before (from ∷ to ∷ []) (id_of from) ≡ None) × (live_after before (from ∷ to ∷ []) (id_of to) ≡ Some to)
 moved before from to went came group name apart =
-    let left : (id : FileId) → live_after before (from ∷ to ∷ []) id ≡ cond (id_eq (id_of to) id) (left_by to) (cond (id_eq (id_of from) id) (left_by from) (before id)) =
-    λ id. live_at-append (before id) id (from ∷ []) (to ∷ []) ∙ live_at-one (live_at (before id) id (from ∷ [])) id to
-    ∙ ap (cond (id_eq (id_of to) id) (left_by to)) (live_at-one (before id) id from) in
-    let other : id_eq (id_of to) (id_of from) ≡ false =
-    untrue (id_eq (id_of to) (id_of from)) (λ e. apart (ap (λ (i : FileId). i.level) (same_id (id_of to) (id_of from) e))) in
-    let gone : left_by from ≡ None = ap (λ b. if b then Some from else None) went in
-    let here : left_by to ≡ Some to = ap (λ b. if b then Some to else None) came in (
-      left (id_of from)
-          ∙ ap (λ b. cond b (left_by to) (cond (id_eq (id_of from) (id_of from)) (left_by from) (before (id_of from)))) other
-          ∙ ap (λ b. cond b (left_by from) (before (id_of from))) (equal_id (id_of from) (id_of from) refl)
-          ∙ gone,
-      left (id_of to)
-          ∙ ap (λ b. cond b (left_by to) (cond (id_eq (id_of from) (id_of to)) (left_by from) (before (id_of to)))) (equal_id (id_of to) (id_of to) refl)
-          ∙ here,
+    let other : id_of to ≢ id_of from = λ e. apart (ap (λ (i : FileId). i.level) e) in (
+      last (before (id_of from)) [] (to ∷ []) from (other, tt) ∙ left_by-delete from went,
+      last (before (id_of to)) (from ∷ []) [] to tt ∙ left_by-add to came,
     )

@@ -1,6 +1,6 @@
 //! What holds of all ids, and of the live files of all lists of entries. Each law holds with no call.
 
-ghost use Rattle.std.specs.Prelude.{◌≡◌, ◌≢◌, ◌↔◌, List, [], ◌∷◌, ◌++◌, true, false, Option, None, Some, IsTrue};
+ghost use Rattle.std.specs.Prelude.{◌≡◌, ◌≢◌, ◌⊎◌, ◌↔◌, List, [], ◌∷◌, ◌++◌, true, false, Option, None, Some, IsTrue};
 ghost use Rattle.std.specs.List.{AllByRecursion};
 ghost use Rattle.pm_manifest.specs.declared.entry.Entry.{Entry};
 ghost use Rattle.pm_manifest.specs.declared.file_id.FileId.{FileId};
@@ -20,6 +20,12 @@ pub fn last_law()
         → live_at before (id_of e) (first ++ e ∷ later) ≡ left_by e }
     ensures others { (before : Option Entry) (id : FileId) (entries : List Entry)
         → AllByRecursion (λ (other : Entry). id_of other ≢ id) entries → live_at before id entries ≡ before }
+{}
+
+/// What is live of a file was live before, or it is an ADD of that file.
+pub fn live_law()
+    ensures { (before : Option Entry) (id : FileId) (entries : List Entry) (e : Entry)
+        → live_at before id entries ≡ Some e → (before ≡ Some e) ⊎ ((e.add ≡ true) × (id_of e ≡ id)) }
 {}
 
 /// Two lists of entries leave what the second leaves after the first, and are in order where the first is, and the

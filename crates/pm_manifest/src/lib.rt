@@ -15,5 +15,5 @@ mod live;
 
 pub use entry::{Entry, ManifestMeta};
 pub use file_id::FileId;
-pub use laws::{id_law, joined_law, last_law, move_law};
+pub use laws::{id_law, joined_law, last_law, live_law, move_law};
 pub use live::fold_entries;
