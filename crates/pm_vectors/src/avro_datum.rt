@@ -1,10 +1,10 @@
 //! Avro's data: bytes, read as a datum of a type and written again.
 
-use crate::argument::read_bytes;
 use crate::avro_fault::print_fault;
 use pm_avro_data::{Datum, decode, encode};
 use pm_avro_schema::{AvroFault, parse};
 use pm_base::Txt;
+use pm_case::read_bytes;
 use pm_value_text::{parse_hex, print_hex};
 use std::alloc::{AllocError, Global};
 

@@ -1,8 +1,8 @@
 //! Avro's types: the JSON that declares one, read and printed.
 
-use crate::argument::read_bytes;
 use crate::avro_fault::print_fault;
 use pm_avro_schema::{AvroFault, parse, print};
+use pm_case::read_bytes;
 use std::alloc::{AllocError, Global};
 
 /// The printed JSON of the type that a text declares, or the text's fault.

@@ -1,11 +1,11 @@
 //! Avro's files, written, read at an offset, and written again.
 
-use crate::argument::read_bytes;
 use crate::avro_datum::push_data;
 use crate::avro_fault::print_fault;
 use pm_avro_data::decode;
 use pm_avro_file::{FileReader, write_file};
 use pm_avro_schema::{AvroFault, parse};
+use pm_case::read_bytes;
 use pm_value_text::{parse_hex, print_hex};
 use pm_values::Blob;
 use std::alloc::{AllocError, Global};

@@ -1,7 +1,7 @@
 //! Binary rows, written and read, and the hash of a body.
 
-use crate::row::read_type;
 use pm_binrow::{BinFault, bucket_of, from_binary, hash, to_binary};
+use pm_case::read_type;
 use pm_rows::{RowFault, print_row, read_row};
 use pm_value_text::{parse_hex, print_hex};
 use pm_values::{ColType, Column, Kind, Row, Txt};

@@ -1,6 +1,6 @@
 //! Days as `YYYY-MM-DD`, read and printed.
 
-use crate::argument::read_text;
+use pm_case::read_text;
 use pm_value_text::{is_day, parse_date, print_date};
 use std::alloc::{AllocError, Global};
 

@@ -1,7 +1,6 @@
 //! The folders of groups.
 
-use crate::argument::read_bytes;
-use pm_schema::{folder_of, partition_text, read_draft};
+use pm_schema::{TableSchema, folder_of, partition_text, read_draft};
 use pm_values::{Group, Row, Txt, Value};
 use std::alloc::{AllocError, Global};
 
@@ -25,12 +24,14 @@ pub fn answer(alloc: Global, arguments: &str) -> Result<Option<String>, AllocErr
     let Ok(bucket) = bucket.parse::<u32>() else {
         return Ok(None);
     };
-    let Some(draft) = read_bytes(alloc, draft)? else {
-        return Ok(None);
-    };
-    let Ok(schema) = read_draft(alloc, &draft, Txt::from_str(alloc, "")?, 0) else {
-        return Ok(None);
-    };
+    match read_draft(alloc, draft.as_bytes(), Txt::from_str(alloc, "")?, 0) {
+        Ok(schema) => folder(alloc, &schema, bucket),
+        Err(_) => Ok(None),
+    }
+}
+
+/// The folder of the group of a bucket in a table without partition columns.
+fn folder(alloc: Global, schema: &TableSchema, bucket: u32) -> Result<Option<String>, AllocError> {
     if !schema.partition.as_slice().is_empty() {
         return Ok(None);
     }
@@ -38,6 +39,6 @@ pub fn answer(alloc: Global, arguments: &str) -> Result<Option<String>, AllocErr
         partition: Row::new(Vec::new(alloc)),
         bucket,
     };
-    let folder = folder_of(alloc, &schema.copy(alloc)?, &group)?;
+    let folder = folder_of(alloc, schema, &group)?;
     Ok(Some(String::from_str(alloc, folder.as_str())?))
 }

@@ -1,6 +1,6 @@
 //! Bytes as hexadecimal digits, read and printed.
 
-use crate::argument::read_text;
+use pm_case::read_text;
 use pm_value_text::{parse_hex, print_hex};
 use std::alloc::{AllocError, Global};
 

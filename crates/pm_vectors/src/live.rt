@@ -1,7 +1,7 @@
 //! The live files that manifests leave, one after another.
 
-use crate::refusal::print_refusal;
 use indexmap::IndexMap;
+use pm_case::print_refusal;
 use pm_manifest::{Entry, FileId, fold_entries};
 use pm_values::{FileMeta, Group, Key, Row, Txt};
 use std::alloc::{AllocError, Global};

@@ -1,6 +1,6 @@
 //! The names of the table's files.
 
-use crate::argument::read_bytes;
+use pm_case::read_bytes;
 use pm_snapshot::{base_of_name, floor_of_name, id_of_name};
 use std::alloc::{AllocError, Global};
 

@@ -1,10 +1,10 @@
 //! A record's fields, found by their names in a type and taken from a datum of it.
 
-use crate::argument::read_bytes;
 use crate::avro_datum::push_data;
 use crate::avro_fault::print_fault;
 use pm_avro_data::{Datum, decode};
 use pm_avro_schema::{AvroFault, AvroType, parse};
+use pm_case::read_bytes;
 use pm_record::{Selection, all_differ};
 use pm_value_text::parse_hex;
 use std::alloc::{AllocError, Global};

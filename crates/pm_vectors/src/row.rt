@@ -1,8 +1,8 @@
 //! Row lines, read in some columns and printed again.
 
-use crate::argument::read_bytes;
+use pm_case::{read_bytes, read_columns};
 use pm_rows::{RowFault, print_row, read_row};
-use pm_values::{ColType, Column, Txt, Why};
+use pm_values::Why;
 use std::alloc::{AllocError, Global};
 
 /// The printed row of a line, or its fault and the index of the column.
@@ -25,54 +25,6 @@ pub fn answer(alloc: Global, arguments: &str) -> Result<Option<String>, AllocErr
         Err(RowFault::Memory) => return Err(AllocError),
     };
     Ok(Some(text))
-}
-
-/// Columns with commas between them.
-pub fn read_columns(alloc: Global, text: &str) -> Result<Option<Vec<Column>>, AllocError> {
-    let mut columns = Vec::new(alloc);
-    for part in text.split(',') {
-        match read_column(alloc, part)? {
-            Some(column) => columns.push(column)?,
-            None => return Ok(None),
-        }
-    }
-    Ok(Some(columns))
-}
-
-/// A column: its name, a colon, its type, and `!` where it isn't nullable.
-fn read_column(alloc: Global, text: &str) -> Result<Option<Column>, AllocError> {
-    let Some((name, kind)) = text.split_once(':') else {
-        return Ok(None);
-    };
-    let (kind, nullable) = match kind.strip_suffix('!') {
-        Some(kind) => (kind, false),
-        None => (kind, true),
-    };
-    let Some(kind) = read_type(kind) else {
-        return Ok(None);
-    };
-    Ok(Some(Column {
-        id: 0,
-        name: Txt::from_str(alloc, name)?,
-        kind,
-        nullable,
-    }))
-}
-
-/// The type of that name.
-pub fn read_type(name: &str) -> Option<ColType> {
-    match name {
-        "BOOLEAN" => Some(ColType::Boolean),
-        "TINYINT" => Some(ColType::TinyInt),
-        "SMALLINT" => Some(ColType::SmallInt),
-        "INT" => Some(ColType::Int),
-        "BIGINT" => Some(ColType::BigInt),
-        "STRING" => Some(ColType::Text),
-        "BYTES" => Some(ColType::Bytes),
-        "DATE" => Some(ColType::Date),
-        "TIMESTAMP(3)" => Some(ColType::Timestamp),
-        _ => None,
-    }
 }
 
 /// The fault as refusals have it.

@@ -1,7 +1,6 @@
 //! Table schemas, read and written again.
 
-use crate::argument::read_bytes;
-use crate::refusal::print_refusal;
+use pm_case::{print_refusal, read_bytes};
 use pm_schema::{TableSchema, read_draft, read_schema, write_schema};
 use pm_values::{Refusal, Txt};
 use std::alloc::{AllocError, Global};

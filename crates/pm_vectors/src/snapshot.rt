@@ -1,7 +1,7 @@
 //! Files of snapshots and of consumers, read.
 
-use crate::argument::read_bytes;
 use pm_base::Txt;
+use pm_case::read_bytes;
 use pm_snapshot::{
     CommitKind, Consumer, SnapFault, Snapshot, read_consumer, read_snapshot, snapshot_name,
     write_consumer, write_snapshot,

@@ -1,8 +1,10 @@
 //! Commands on a store that others use: before each of the first swaps another command commits.
 
-use crate::argument::read_bytes;
+ghost use Rattle.std.specs.Prelude.{None};
+
 use crate::command::{Command, ROOM, run_one};
 use pm_base::{Blob, Txt};
+use pm_case::read_bytes;
 use pm_store::{FileStore, Made, MemStore, Published, Removed, StoreFail, Swapped};
 use std::alloc::{AllocError, Global};
 
@@ -18,10 +20,12 @@ struct Rivals {
 }
 
 impl Rivals {
-    /// One commit more.
-    fn commit(&mut self, alloc: Global) -> Result<(), StoreFail> {
-        let id = self.commits.checked_add(1).ok_or(StoreFail::Memory)?;
-        let found = self.read(alloc, PATH)?;
+    /// One commit more. No call of a store in memory fails but for memory.
+    fn commit(&mut self, alloc: Global) -> Result<(), AllocError> {
+        let id = self.commits.checked_add(1).ok_or(AllocError)?;
+        let Ok(found) = self.store.read(alloc, PATH) else {
+            return Err(AllocError);
+        };
         let before = found.as_ref().map(|text| text.as_bytes());
         let mut text = Vec::from_slice(alloc, before.unwrap_or(&[]))?;
         let commit = format!(in alloc; "{{\"snapshot\":{id}}}\n[\"+I\",{id},null]\n")?;
@@ -31,7 +35,7 @@ impl Rivals {
                 self.commits = id;
                 Ok(())
             }
-            Err(_) => Err(StoreFail::Memory),
+            Err(_) => Err(AllocError),
         }
     }
 }

@@ -1,12 +1,8 @@
 //! Refusals: their statuses and their lines.
 
-use pm_io::MemSink;
-use pm_report::{report, status};
+use pm_case::{ROOM, print_within};
 use pm_values::{Blob, Refusal, Txt, Why};
 use std::alloc::{AllocError, Global};
-
-/// How much a line may take here.
-const ROOM: usize = 1000;
 
 /// The status of a refusal, and as much of its line as a sink with this room takes.
 pub fn short_answer(alloc: Global, arguments: &str) -> Result<Option<String>, AllocError> {
@@ -40,24 +36,6 @@ fn answer_within(
         },
     };
     Ok(Some(print_within(alloc, room, &refusal)?))
-}
-
-/// The status of a refusal, and its line with the newline.
-pub fn print_refusal(alloc: Global, refusal: &Refusal) -> Result<String, AllocError> {
-    print_within(alloc, ROOM, refusal)
-}
-
-/// The status of a refusal, and its line in a sink with this room.
-fn print_within(alloc: Global, room: usize, refusal: &Refusal) -> Result<String, AllocError> {
-    let mut sink = MemSink::new(alloc, room, Vec::new(alloc))?;
-    let is_whole = report(&mut sink, refusal).is_ok();
-    let line = String::from_utf8_lossy(alloc, sink.bytes())?;
-    let status = status(refusal);
-    if is_whole {
-        format!(in alloc; "{status} {:?}", line.as_str())
-    } else {
-        format!(in alloc; "{status} {:?} and no more", line.as_str())
-    }
 }
 
 /// A refusal of that kind with these parts, but for those of a line.

@@ -1,7 +1,6 @@
 //! Batches: the rows of an input for the plain table.
 
-use crate::argument::read_bytes;
-use crate::refusal::print_refusal;
+use pm_case::{print_refusal, read_bytes};
 use pm_input::{InputLine, LIMITS, read_lines, read_rows};
 use pm_io::MemSource;
 use pm_plain::plain_columns;

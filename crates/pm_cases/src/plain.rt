@@ -1,6 +1,6 @@
 //! Texts of the plain file, read.
 
-use crate::argument::read_bytes;
+use pm_case::read_bytes;
 use pm_plain::{PlainFault, parse, plain_columns};
 use std::alloc::{AllocError, Global};
 

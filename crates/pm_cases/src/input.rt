@@ -1,6 +1,6 @@
 //! Inputs: their lines within small limits.
 
-use crate::argument::read_bytes;
+use pm_case::read_bytes;
 use pm_input::{InputFault, InputLine, Limits, read_lines};
 use pm_io::MemSource;
 use std::alloc::{AllocError, Global};

@@ -1,7 +1,6 @@
 //! Keys and groups compared, rows merged, and names of new files.
 
-use crate::argument::read_bytes;
-use crate::row::read_columns;
+use pm_case::{read_bytes, read_columns};
 use pm_history::{key_of, merged_rows};
 use pm_rows::{print_row, read_row};
 use pm_values::{Column, Group, Key, Kind, Names, Row};

@@ -1,6 +1,6 @@
 //! Commands on a store in memory, with a call of the store, a read or a write that fails.
 
-use crate::argument::{read_bytes, read_text};
+use pm_case::{read_bytes, read_text};
 use pm_cli::run;
 use pm_io::{MemSink, MemSource};
 use pm_store::{Effect, FailStore, FileStore, Planned};
@@ -114,7 +114,12 @@ pub fn run_one<F: FileStore>(
         1000,
         [0; 16],
     );
-    let out = String::from_utf8_lossy(alloc, out.bytes())?;
-    let err = String::from_utf8_lossy(alloc, err.bytes())?;
-    format!(in alloc; "{} {:?} {:?}", status.code, out.as_str(), err.as_str())
+    print_outcome(alloc, status.code, out.bytes(), err.bytes())
+}
+
+/// A status, what was printed, and what was said.
+fn print_outcome(alloc: Global, status: u8, out: &[u8], err: &[u8]) -> Result<String, AllocError> {
+    let out = String::from_utf8_lossy(alloc, out)?;
+    let err = String::from_utf8_lossy(alloc, err)?;
+    format!(in alloc; "{status} {:?} {:?}", out.as_str(), err.as_str())
 }

@@ -1,0 +1,84 @@
+//! The cases of keys, streams, stores and commands, a line in and a line out: each line of standard input names what is
+//! tried and its arguments, with a TAB between them, and the line that is printed for it is the answer. Blank lines and
+//! lines that begin with `#` are printed as they are. `pm_vectors` has the cases of codecs, in the same form.
+//!
+//! | Codec | Arguments | Answer |
+//! |---|---|---|
+//! | `compare` | columns, two row lines | how the rows compare as keys, and as the groups of buckets 1 and 0 |
+//! | `merged` | columns, row lines | the merged table's rows, whose key is the first column |
+//! | `names` | an actor, a base, another base | the first two names that are given, and the actor |
+//! | `kind` | a number | the kind's number, and whether it takes away; or `none` |
+//! | `source` | see `lines.rt` | the lines of a source that fails |
+//! | `sink` | see `lines.rt` | what a sink takes, and whether that is all |
+//! | `lines` | the number of a read that fails, or 0; a text | the lines that aren't blank, or why not |
+//! | `batch` | a text | how many rows it has, and each as it is printed; or the refusal of its first bad line |
+//! | `plain` | a text | how many commits and rows it has as the plain file; or where it is damaged |
+//! | `store` | `memory`, `fails` and a plan, or `folder` and a name; calls | their answers |
+//! | `command` | see below | the status, `out`, `err`; the number of operations; the same of `write` without rows |
+//! | `rivals` | how many others commit before this one, an input | as for `command`, and the plain file that is left |
+//! | `refusal` | its kind and its parts | its status and its line |
+//! | `short-refusal` | the room of the sink, a refusal as before | its status, and what the sink takes of its line |
+//!
+//! A `command` has eight arguments: the call of the store that fails, or 0, and its effect; the read and the write that
+//! fail, or 0; the room of `out`; the plain file, made by call 1 where it isn't empty; the word; and the input.
+//!
+//! Digits are hexadecimal. Any other argument is the text itself, or `0x` and the digits of its bytes.
+#![tactic(auto)]
+
+mod batch;
+mod command;
+mod input;
+mod lines;
+mod plain;
+mod refusal;
+mod rivals;
+mod store;
+mod value;
+
+use std::alloc::{AllocError, Global};
+use std::io;
+
+/// Answers each line of standard input.
+fn main(rt: HostRuntime) -> io::Result<()> {
+    for line in rt.lines(rt.alloc()) {
+        let answer = answer(&rt, rt.alloc(), line?.as_str())?;
+        println!(rt; "{answer}")?;
+    }
+    Ok(())
+}
+
+/// What is printed for a line.
+fn answer(rt: &HostRuntime, alloc: Global, line: &str) -> io::Result<String> {
+    if line.is_empty() || line.starts_with('#') {
+        return Ok(String::from_str(alloc, line)?);
+    }
+    let (codec, arguments) = line.split_once('\t').unwrap_or((line, ""));
+    let found = match codec {
+        "store" => store::answer(rt, alloc, arguments)?,
+        _ => answer_of(alloc, codec, arguments)?,
+    };
+    match found {
+        Some(text) => Ok(text),
+        None => Ok(String::from_str(alloc, "no such case")?),
+    }
+}
+
+/// What is answered to arguments, and nothing where nothing is tried by that name.
+fn answer_of(alloc: Global, codec: &str, arguments: &str) -> Result<Option<String>, AllocError> {
+    match codec {
+        "source" => lines::source_answer(alloc, arguments),
+        "sink" => lines::sink_answer(alloc, arguments),
+        "lines" => input::answer(alloc, arguments),
+        "compare" => value::compare_answer(alloc, arguments),
+        "merged" => value::merged_answer(alloc, arguments),
+        "names" => value::names_answer(alloc, arguments),
+        "kind" => value::kind_answer(alloc, arguments),
+        "batch" => batch::answer(alloc, arguments),
+        "plain" => plain::answer(alloc, arguments),
+        "command" => command::answer(alloc, arguments),
+        "rivals" => rivals::answer(alloc, arguments),
+        "refusal" => refusal::answer(alloc, arguments),
+        "short-refusal" => refusal::short_answer(alloc, arguments),
+        _ => Ok(None),
+    }
+}
