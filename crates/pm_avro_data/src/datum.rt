@@ -3,7 +3,7 @@
 use pm_base::Txt;
 
 /// A datum (Apache Avro specification, "Binary Encoding").
-#[derive(Debug, Drop)]
+#[derive(Drop)]
 pub enum Datum {
     Null,
     Bool(bool),

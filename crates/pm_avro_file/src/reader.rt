@@ -18,7 +18,7 @@ use std::alloc::Global;
 use std::marker::Model;
 
 /// A file that is read block by block, from the first on or at offsets that were answered. Offsets are in bytes.
-#[derive(Debug, Drop)]
+#[derive(Drop)]
 pub struct FileReader {
     bytes: Blob,
     kind: AvroType,

@@ -8,7 +8,7 @@ use pm_avro_schema::AvroFault;
 use std::alloc::AllocError;
 
 /// A fault that ends the reading: memory ran out, or no block begins at the offset.
-#[derive(Clone, Copy, Debug)]
+#[derive(Clone, Copy)]
 pub(crate) enum Stop {
     Memory,
     Bad(usize),

@@ -7,7 +7,7 @@ use pm_base::Txt;
 use std::alloc::{AllocError, AllocFailed};
 
 /// A fault of a text or of bytes.
-#[derive(Debug, Drop)]
+#[derive(Drop)]
 pub enum AvroFault {
     /// Memory ran out.
     Memory,

@@ -8,7 +8,7 @@ use pm_base::Txt;
 use std::alloc::{AllocError, Global};
 
 /// A type (Apache Avro specification, "Primitive Types" and "Complex Types").
-#[derive(Debug, Drop)]
+#[derive(Drop)]
 pub enum AvroType {
     Null,
     Boolean,

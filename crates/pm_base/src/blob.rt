@@ -13,7 +13,7 @@ use std::cmp::Ordering;
 use std::marker::Model;
 
 /// Bytes, seen as their list. They compare unsigned.
-#[derive(Debug, Drop)]
+#[derive(Drop)]
 pub struct Blob {
     bytes: Vec<u8>,
 }

@@ -14,7 +14,7 @@ use std::fmt;
 use std::marker::Model;
 
 /// A text in UTF-8, seen as the list of its bytes. Texts compare by their bytes, unsigned.
-#[derive(Debug, Drop)]
+#[derive(Drop)]
 pub struct Txt {
     text: String,
 }

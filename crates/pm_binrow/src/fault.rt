@@ -6,7 +6,7 @@ ghost use Rattle.pm_binrow.specs.declared.fault.BinFault.TheVariants.{Memory};
 use std::alloc::{AllocError, AllocFailed};
 
 /// A fault of the bytes of a row.
-#[derive(Clone, Copy, Debug, PartialEq, Eq)]
+#[derive(Clone, Copy)]
 pub enum BinFault {
     /// Memory ran out.
     Memory,

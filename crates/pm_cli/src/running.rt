@@ -14,7 +14,7 @@ use pm_values::{Refusal, Txt};
 use std::alloc::Global;
 
 /// How a command ended: 0, or the number of its refusal.
-#[derive(Debug, Drop)]
+#[derive(Drop)]
 pub struct Status {
     pub code: u8,
     pub refusal: Option<Refusal>,

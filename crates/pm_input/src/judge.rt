@@ -13,14 +13,14 @@ use crate::limits::{LimitKind, Limits};
 use pm_io::Line;
 
 /// The room that some lines leave of the limits.
-#[derive(Clone, Copy, Debug)]
+#[derive(Clone, Copy)]
 pub(crate) struct Room {
     pub rows: usize,
     pub bytes: usize,
 }
 
 /// A line that exceeds no limit: the room after it, and whether it isn't blank.
-#[derive(Clone, Copy, Debug)]
+#[derive(Clone, Copy)]
 pub(crate) struct Judged {
     pub room: Room,
     pub is_row: bool,

@@ -4,7 +4,7 @@ ghost use Rattle.std.specs.Prelude.{◌≡◌};
 ghost use Rattle.pm_input.specs.Limits.{limit_text, limit_number};
 
 /// How much input one command takes.
-#[derive(Clone, Copy, Debug, PartialEq, Eq)]
+#[derive(Clone, Copy)]
 pub struct Limits {
     /// Bytes of a line, without its newline.
     pub line: usize,
@@ -22,7 +22,7 @@ pub const LIMITS: Limits = Limits {
 };
 
 /// A limit of the input, in the order in which they are answered at one byte.
-#[derive(Clone, Copy, Debug, PartialEq, Eq)]
+#[derive(Clone, Copy)]
 pub enum LimitKind {
     Line,
     BatchRows,

@@ -16,7 +16,7 @@ use pm_io::{Line, LineFault, Lines, Source};
 use std::alloc::{AllocError, AllocFailed, Global};
 
 /// A line that isn't blank.
-#[derive(Debug, Drop)]
+#[derive(Drop)]
 pub struct InputLine {
     /// Its number from 1 among all lines.
     pub number: u64,
@@ -25,7 +25,7 @@ pub struct InputLine {
 }
 
 /// Why an input wasn't read.
-#[derive(Clone, Copy, Debug, PartialEq, Eq)]
+#[derive(Clone, Copy)]
 pub enum InputFault {
     /// There was no memory left.
     Memory,

@@ -15,14 +15,14 @@ use std::mem;
 const NEWLINE: u8 = b'\n';
 
 /// A line without its newline, and whether a newline ended it.
-#[derive(Debug, Drop)]
+#[derive(Drop)]
 pub struct Line {
     pub bytes: Vec<u8>,
     pub ended: bool,
 }
 
 /// Why no line was read.
-#[derive(Clone, Copy, Debug, PartialEq, Eq)]
+#[derive(Clone, Copy)]
 pub enum LineFault {
     Memory,
     Read,

@@ -11,7 +11,7 @@ use std::alloc::{AllocError, Global};
 use std::marker::Model;
 
 /// A source that gives these bytes and fails at the listed calls, numbered from 1.
-#[derive(Debug, Drop)]
+#[derive(Drop)]
 pub struct MemSource {
     bytes: Vec<u8>,
     at: usize,
@@ -87,7 +87,7 @@ impl Source for MemSource {
 }
 
 /// A sink that keeps up to `room` bytes and fails at the listed calls, numbered from 1.
-#[derive(Debug, Drop)]
+#[derive(Drop)]
 pub struct MemSink {
     bytes: Vec<u8>,
     room: usize,

@@ -6,7 +6,7 @@ ghost use Rattle.pm_io.specs.Sink.{SinkView, SinkFailed, SinkLater, TookPrefix};
 use crate::Failed;
 
 /// Not all bytes were taken.
-#[derive(Clone, Copy, Debug, PartialEq, Eq)]
+#[derive(Clone, Copy)]
 pub struct SinkFail;
 
 /// A sink of bytes. It may fail at any write.

@@ -3,7 +3,7 @@ ghost use Rattle.std.specs.Prelude.{◌≡◌, ◌<◌, ◌≤◌, length, Ok, I
 ghost use Rattle.pm_io.specs.Source.{SourceView, SourceFailed, SourceLater, Reads, without, IsAtEnd};
 
 /// A read or a write failed.
-#[derive(Clone, Copy, Debug, PartialEq, Eq)]
+#[derive(Clone, Copy)]
 pub struct Failed;
 
 /// A source of bytes. It may fail at any read, and may be read again then.

@@ -9,7 +9,7 @@ use pm_values::{FileMeta, Group};
 use std::alloc::{AllocError, Global};
 
 /// A manifest, as manifest lists have it.
-#[derive(Debug, Drop)]
+#[derive(Drop)]
 pub struct ManifestMeta {
     /// Its name in the folder of manifests.
     pub name: Txt,
@@ -39,7 +39,7 @@ impl ManifestMeta {
 }
 
 /// An entry of a manifest: a file came, or it went.
-#[derive(Debug, Drop)]
+#[derive(Drop)]
 pub struct Entry {
     /// Whether the file came (`ADD`), else it went (`DELETE`).
     pub add: bool,

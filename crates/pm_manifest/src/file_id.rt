@@ -9,7 +9,7 @@ use pm_values::Group;
 use std::hash::{Hash, Hasher};
 
 /// A file, as entries name it. The same name at another level is another file.
-#[derive(Debug, Drop)]
+#[derive(Drop)]
 pub struct FileId {
     /// The group that it is of.
     pub group: Group,

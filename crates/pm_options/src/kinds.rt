@@ -6,7 +6,7 @@ ghost use Rattle.pm_options.specs.Kinds.{engine_in, engine_text, producer_in, pr
 use crate::entries::entry_of;
 
 /// How the rows of a key become one.
-#[derive(Clone, Copy, Debug, PartialEq, Eq)]
+#[derive(Clone, Copy)]
 pub enum EngineKind {
     Deduplicate,
     PartialUpdate,
@@ -15,7 +15,7 @@ pub enum EngineKind {
 }
 
 /// Where a table's changelog comes from.
-#[derive(Clone, Copy, Debug, PartialEq, Eq)]
+#[derive(Clone, Copy)]
 pub enum Producer {
     None,
     Input,
@@ -24,7 +24,7 @@ pub enum Producer {
 }
 
 /// How a column's values become one.
-#[derive(Clone, Copy, Debug, PartialEq, Eq)]
+#[derive(Clone, Copy)]
 pub enum Function {
     Sum,
     Max,

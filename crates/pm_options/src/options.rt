@@ -9,7 +9,7 @@ use pm_values::Txt;
 use std::alloc::{AllocError, Global};
 
 /// What a table's options say, with their defaults put in.
-#[derive(Debug, Drop)]
+#[derive(Drop)]
 pub struct Options {
     /// The number of buckets.
     pub bucket: u32,

@@ -14,7 +14,7 @@ use pm_values::{Refusal, Txt};
 use std::alloc::Global;
 
 /// A pair of options that don't go together. A fault names the first of the two.
-#[derive(Clone, Copy, Debug, PartialEq, Eq)]
+#[derive(Clone, Copy)]
 pub(crate) enum Pair {
     /// The producer `input` with another engine than `deduplicate`.
     InputEngine,

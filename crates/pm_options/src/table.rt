@@ -9,7 +9,7 @@ use crate::kinds::{read_engine, read_producer, read_truth};
 use crate::numbers::{read_number_from, read_time};
 
 /// Which texts an option takes.
-#[derive(Clone, Copy, Debug, PartialEq, Eq)]
+#[derive(Clone, Copy)]
 pub(crate) enum Form {
     /// `avro` alone.
     Format,
@@ -24,7 +24,7 @@ pub(crate) enum Form {
 }
 
 /// The one text that an option that isn't supported takes.
-#[derive(Clone, Copy, Debug, PartialEq, Eq)]
+#[derive(Clone, Copy)]
 pub(crate) enum Only {
     Nothing,
     False,

@@ -20,14 +20,14 @@ use std::alloc::Global;
 const TRIES: usize = 11;
 
 /// A commit that was made: its snapshot's id, and what is printed of it.
-#[derive(Debug, Drop)]
+#[derive(Drop)]
 pub struct Committed {
     pub id: u64,
     pub text: Vec<u8>,
 }
 
 /// How one try ended: the commit was made, or the file had other content than was expected.
-#[derive(Debug, Drop)]
+#[derive(Drop)]
 pub enum Attempt {
     Done(Committed),
     Found(u64, Option<Blob>),

@@ -18,7 +18,7 @@ use pm_values::{Column, Kind, Refusal, Row, Txt};
 use std::alloc::{AllocError, Global};
 
 /// A commit that is ready: its id, the text of the file with it, and what is printed of it.
-#[derive(Debug, Drop)]
+#[derive(Drop)]
 pub struct Plan {
     pub id: u64,
     pub file: Vec<u8>,

@@ -13,14 +13,14 @@ pub const LAST_ID: u64 = 9007199254740991;
 
 /// Why a text wasn't read: out of memory, or it is no history's text, and its first
 /// line that doesn't fit begins at that offset.
-#[derive(Debug, Drop)]
+#[derive(Drop)]
 pub enum PlainFault {
     Memory,
     Bad(usize),
 }
 
 /// What a text holds: how many commits, all their rows in order, and whether the last commit has a row.
-#[derive(Debug, Drop)]
+#[derive(Drop)]
 pub struct Table {
     pub commits: u64,
     pub rows: Vec<(Kind, Row)>,

@@ -16,7 +16,7 @@ use std::marker::Model;
 use std::mem;
 
 /// The indexes of some fields in a record, in the order in which they were asked for.
-#[derive(Debug, Drop)]
+#[derive(Drop)]
 pub struct Selection {
     indexes: Vec<usize>,
 }

@@ -8,7 +8,7 @@ use std::alloc::{AllocError, AllocFailed};
 
 /// Why a line is no row: there was no memory left, or its first fault and the index of the column,
 /// from 0. A fault of the whole line (`Json`, `Array`, `Kind`, `Count`) has index 0.
-#[derive(Debug, Drop)]
+#[derive(Drop)]
 pub enum RowFault {
     Memory,
     Bad(Why, usize),

@@ -11,7 +11,7 @@ use pm_options::{EngineKind, Function, Listed};
 use pm_values::{ColType, Column, Refusal, Txt};
 
 /// A rule of schemas.
-#[derive(Clone, Copy, Debug, PartialEq, Eq)]
+#[derive(Clone, Copy)]
 pub(crate) enum Rule {
     /// Each name is one.
     Names,

@@ -7,7 +7,7 @@ use pm_values::{Column, Txt};
 use std::alloc::{AllocError, Global};
 
 /// A table's schema.
-#[derive(Debug, Drop)]
+#[derive(Drop)]
 pub struct TableSchema {
     pub id: u64,
     pub columns: Listed<Column>,

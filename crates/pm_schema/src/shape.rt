@@ -15,7 +15,7 @@ use serde_json::{Map, Value as Json};
 use std::alloc::{AllocError, AllocFailed, Global};
 
 /// Why JSON isn't read: there was no memory left, or it has another form.
-#[derive(Debug, Drop)]
+#[derive(Drop)]
 pub(crate) enum Flaw {
     Memory,
     Shape,

@@ -13,7 +13,7 @@ use serde_json::{Value as Json, json};
 use std::alloc::{AllocError, Global};
 
 /// A consumer of changelogs, as its file has it.
-#[derive(Clone, Copy, Debug, PartialEq, Eq)]
+#[derive(Clone, Copy)]
 pub struct Consumer {
     /// The next snapshot that it reads, at least 1.
     pub next: u64,

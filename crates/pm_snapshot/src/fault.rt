@@ -6,7 +6,7 @@ ghost use Rattle.pm_snapshot.specs.declared.fault.SnapFault.TheVariants.{Memory}
 use std::alloc::{AllocError, AllocFailed};
 
 /// A fault of the bytes of a file.
-#[derive(Debug, Drop)]
+#[derive(Drop)]
 pub enum SnapFault {
     /// Memory ran out.
     Memory,

@@ -15,7 +15,7 @@ use serde_json::Value as Json;
 use std::alloc::Global;
 
 /// A snapshot of the table, as its file has it.
-#[derive(Debug, Drop)]
+#[derive(Drop)]
 pub struct Snapshot {
     /// Its number, from 1.
     pub id: u64,

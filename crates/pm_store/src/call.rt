@@ -7,7 +7,7 @@ use pm_base::{Blob, Txt};
 use std::alloc::{AllocError, Global};
 
 /// A call with copies of its arguments.
-#[derive(Debug, Drop, PartialEq, Eq)]
+#[derive(Drop)]
 pub enum Call {
     List {
         folder: Txt,
@@ -107,7 +107,7 @@ impl Call {
 }
 
 /// Which call it is.
-#[derive(Clone, Copy, Debug, PartialEq, Eq)]
+#[derive(Clone, Copy)]
 pub enum CallKind {
     List,
     Read,
@@ -119,7 +119,7 @@ pub enum CallKind {
 
 /// How much of a call was carried out: nothing, a part of a create, or all of it. A call whose
 /// condition fails is carried out whole too, and changes nothing.
-#[derive(Debug, Drop, PartialEq, Eq)]
+#[derive(Drop)]
 pub enum Effect {
     None,
     Part(Option<Blob>),
@@ -141,7 +141,7 @@ impl Effect {
 }
 
 /// A call that was made, with its effect.
-#[derive(Debug, Drop, PartialEq, Eq)]
+#[derive(Drop)]
 pub struct Op {
     pub call: Call,
     pub effect: Effect,

@@ -58,7 +58,7 @@ impl From<io::Error> for StoreFail {
 }
 
 /// What stands at a path, a symbolic link not followed.
-#[derive(Clone, Copy, PartialEq, Eq)]
+#[derive(Clone, Copy)]
 enum Kind {
     Nothing,
     File,
@@ -78,7 +78,7 @@ pub(crate) enum Condition<'a> {
 }
 
 /// Whether a file is written, or why not.
-#[derive(Debug, Drop)]
+#[derive(Drop)]
 pub(crate) enum Verdict {
     Write,
     Exists,

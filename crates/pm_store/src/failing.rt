@@ -16,7 +16,7 @@ use std::alloc::{AllocError, Global};
 use std::marker::Model;
 
 /// A call that fails, numbered from 1, and how much of it is carried out all the same.
-#[derive(Debug, Drop)]
+#[derive(Drop)]
 pub struct Planned {
     pub call: u64,
     pub effect: Effect,

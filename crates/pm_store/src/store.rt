@@ -11,7 +11,7 @@ use pm_base::{Blob, Txt};
 use std::alloc::{AllocError, AllocFailed, Global};
 
 /// Why a call of a store gave no answer: out of memory, which changes nothing, or a fault.
-#[derive(Clone, Copy, Debug, PartialEq, Eq)]
+#[derive(Clone, Copy)]
 pub enum StoreFail {
     Memory,
     Failed,

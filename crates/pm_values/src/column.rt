@@ -6,7 +6,7 @@ use pm_base::Txt;
 use std::alloc::{AllocError, Global};
 
 /// The type of a column: BOOLEAN, TINYINT, SMALLINT, INT, BIGINT, STRING, BYTES, DATE, TIMESTAMP(3).
-#[derive(Clone, Copy, Debug, PartialEq, Eq)]
+#[derive(Clone, Copy)]
 pub enum ColType {
     Boolean,
     TinyInt,
@@ -20,7 +20,7 @@ pub enum ColType {
 }
 
 /// A column: its id, its name, its type, and whether null may stand in it.
-#[derive(Debug, Drop)]
+#[derive(Drop)]
 pub struct Column {
     pub id: u32,
     pub name: Txt,

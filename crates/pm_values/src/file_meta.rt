@@ -7,7 +7,7 @@ use pm_base::Txt;
 use std::alloc::{AllocError, Global};
 
 /// A data file or a changelog file, as manifests list it.
-#[derive(Debug, Drop)]
+#[derive(Drop)]
 pub struct FileMeta {
     /// Its name in the folder of its group.
     pub name: Txt,

@@ -13,7 +13,7 @@ use std::cmp::Ordering;
 
 /// The rows of one partition and one bucket, whose files lie in one folder. Groups compare by
 /// the values of the partition, then by the bucket.
-#[derive(Debug, Drop)]
+#[derive(Drop)]
 pub struct Group {
     /// The values of the partition columns in their order, none where the table has none.
     pub partition: Row,

@@ -4,7 +4,7 @@ ghost use Rattle.std.specs.Prelude.{◌≡◌};
 ghost use Rattle.pm_values.specs.Kind.{code_of, retracts, kind_from};
 
 /// What a row does to its key: `+I`, `-U`, `+U` or `-D`.
-#[derive(Clone, Copy, Debug, PartialEq, Eq)]
+#[derive(Clone, Copy)]
 pub enum Kind {
     /// `+I`: adds a row.
     Insert,

@@ -11,7 +11,7 @@ use uuid::Uuid;
 /// Gives a new file its name, `<prefix><identifier>-<actor>-<base>-<count><suffix>`. The
 /// identifier is the session as a UUID, in lower case with hyphens; the numbers are decimal. The
 /// count is the number of names that were given before.
-#[derive(Debug, Drop)]
+#[derive(Drop)]
 pub struct Names {
     session: [u8; 16],
     actor: u32,

@@ -5,7 +5,7 @@ use crate::kind::Kind;
 use crate::row::Row;
 
 /// A row with its key, its kind and the sequence number that orders the rows of its group.
-#[derive(Debug, Drop)]
+#[derive(Drop)]
 pub struct Stamped {
     pub key: Key,
     pub seq: u64,
@@ -14,7 +14,7 @@ pub struct Stamped {
 }
 
 /// A line of a changelog: what happened to a key.
-#[derive(Debug, Drop)]
+#[derive(Drop)]
 pub struct Change {
     pub key: Key,
     pub kind: Kind,

@@ -8,7 +8,7 @@ use std::alloc::{AllocError, AllocFailed};
 
 /// What is wrong with a line: the first fault in this order. `Draft` and `Script` are faults of
 /// the lines of a table's draft and of a script, which have no others but `Json`.
-#[derive(Clone, Copy, Debug, PartialEq, Eq)]
+#[derive(Clone, Copy)]
 pub enum Why {
     Json,
     Array,
@@ -22,7 +22,7 @@ pub enum Why {
 }
 
 /// Why a command was refused. The exit status is the number that each variant's line begins with.
-#[derive(Debug, Drop)]
+#[derive(Drop)]
 pub enum Refusal {
     /// `E1`: there was no memory left.
     Memory,

@@ -7,7 +7,7 @@ use std::alloc::{AllocError, Global};
 
 /// A value. Values of one variant compare as false before true, by size, or by bytes unsigned;
 /// values of different variants compare in the order of the variants, so null is least.
-#[derive(Debug, Drop, PartialEq, Eq, PartialOrd, Ord)]
+#[derive(Drop, PartialEq, Eq, PartialOrd, Ord)]
 pub enum Value {
     Null,
     Bool(bool),
