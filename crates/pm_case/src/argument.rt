@@ -1,10 +1,15 @@
 //! The arguments of a case.
 
+ghost use Rattle.std.specs.Prelude.{◌≡◌, option_map, IfOk};
+ghost use Rattle.pm_case.specs.Argument.{spelled};
+
 use pm_value_text::parse_hex;
 use std::alloc::{AllocError, Global};
 
 /// The bytes that an argument spells: those of the digits after `0x`, or its own. None where no digits follow.
-pub fn read_bytes(alloc: Global, argument: &str) -> Result<Option<Vec<u8>>, AllocError> {
+pub fn read_bytes(alloc: Global, argument: &str) -> Result<Option<Vec<u8>>, AllocError>
+    ensures { IfOk result (λ found. option_map (λ bytes. bytes.items) found ≡ spelled argument.now) }
+{
     match argument.strip_prefix("0x") {
         Some(digits) => parse_hex(alloc, digits),
         None => Ok(Some(Vec::from_slice(alloc, argument.as_bytes())?)),
