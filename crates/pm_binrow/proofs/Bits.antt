@@ -30,6 +30,10 @@ below (b ∷ bits) (suc n) le = let h = below bits n (omega arith) in let k = bi
 pub octet_below : (bits : List Bool) → length bits ≤ 7 → octet bits < 128
 octet_below bits le = below bits 7 le
 
+-- eight bits are a byte
+pub octet_byte : (bits : List Bool) → length bits ≤ 8 → octet bits < 256
+octet_byte bits le = below bits 8 le
+
 pub null_count-positive : (k : ℕ) → 8 ≤ null_count k
 null_count-positive k = omega arith
 

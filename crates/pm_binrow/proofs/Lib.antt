@@ -7,4 +7,6 @@ mod Numbers
 mod Steps
 mod Texts
 mod Slots
+mod Spelling
 mod Rows
+pub mod Facts

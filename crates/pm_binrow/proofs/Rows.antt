@@ -4,6 +4,7 @@ use Rattle.std.proofs.Common.{List, [], ◌∷◌, ◌++◌, length, get_or, tak
 use Rattle.std.proofs.lemmas.Bool.{eqb-true, eq-eqb, leb-true, le-leb, ltb-true, lt-ltb}
 use Rattle.std.proofs.lemmas.List.{drop_at, length-append, length-drop, length-map, length-replicate, length-take-le, take-append-drop, take_at}
 use Rattle.std.proofs.lemmas.Nat.{be_bytes_4, from_be_bytes-to_be_bytes_4}
+use Rattle.std.specs.Prelude.{◌↔◌}
 use Rattle.std.specs.Int.{w32, from_be_bytes, to_be_bytes}
 use Rattle.std.specs.List.{flat_map}
 use Rattle.pm_base.specs.Steps.{◌>>=◌}
@@ -14,10 +15,11 @@ use Rattle.pm_binrow.specs.Row.{IsRow, IsShort, body, bytes_of, filled, fixed_si
 use Rattle.pm_binrow.specs.Answer.{Answers}
 use Rattle.pm_binrow.specs.declared.fault.BinFault.{BinFault}
 use Rattle.pm_binrow.specs.declared.fault.BinFault.TheVariants as faults
-use Rattle.pm_binrow.specs.Reading.{YieldsNone, are_octets, body_in, cells_in, row_in, with_nulls}
+use Rattle.pm_binrow.specs.Reading.{YieldsNone, are_bytes, are_octets, body_in, cells_in, row_in, whole_in, with_nulls}
 use Rattle.pm_binrow.proofs.Bits.{null_bytes-again, null_bytes-read, null_marked}
 use Rattle.pm_binrow.proofs.Sizes.{length-bytes_of, length-octets, length-slots}
 use Rattle.pm_binrow.proofs.Slots.{cells_again, cells_read}
+use Rattle.pm_binrow.proofs.Spelling.{are_bytes-all, are_bytes-true, bytes_of-bytes}
 use Rattle.pm_binrow.proofs.Steps.{bind_some, some_if, some_then}
 use Rattle.pm_binrow.proofs.Texts.{AreBytes, all_bytes, bytes_dropped, bytes_taken, each_byte}
 
@@ -66,12 +68,11 @@ body_read kinds bytes values all e =
     let P : Values → Type 0 = λ vs. IsRow kinds vs × (bytes ≡ body kinds vs) in
     subst P c.1 (r.0, spelled)
 
-pub row_read : (kinds : List ColType) (bytes : List ℕ) (values : Values) → ((i : ℕ) → get_or bytes i 0 < 256) → row_in kinds bytes ≡ Some values
+whole_read : (kinds : List ColType) (bytes : List ℕ) (values : Values) → AreBytes bytes → whole_in kinds bytes ≡ Some values
     → IsRow kinds values × IsShort kinds values × (bytes ≡ row_bytes kinds values)
-unfolding row_in
-row_read kinds bytes values each e =
+unfolding whole_in
+whole_read kinds bytes values all e =
     let k = length kinds in
-    let all = all_bytes bytes each in
     let a = some_then (ltb (length bytes) (2 ^ 31)) _ values e in
     let b = some_then (leb 4 (length bytes)) _ values a.1 in
     let c = some_then (eqb (from_be_bytes w32 (take 4 bytes)) k) _ values b.1 in
@@ -85,6 +86,19 @@ row_read kinds bytes values each e =
     let whole : bytes ≡ row_bytes kinds values = spelled ∙ sym (row_bytes-whole kinds values r.0) in
     let P : List ℕ → Type 0 = λ t. length t < 2 ^ 31 in
     (r.0, subst P whole short, whole)
+
+-- the row that bytes are is written as they are
+pub row_read : (kinds : List ColType) (bytes : List ℕ) (values : Values) → row_in kinds bytes ≡ Some values
+    → IsRow kinds values × IsShort kinds values × (bytes ≡ row_bytes kinds values)
+unfolding row_in
+row_read kinds bytes values e =
+    let a = some_then (are_bytes bytes) (whole_in kinds bytes) values e in
+    whole_read kinds bytes values (are_bytes-true bytes a.0) a.1
+
+-- of bytes in memory nothing but bytes is known
+pub row_in-bytes : (kinds : List ColType) (bytes : List ℕ) → ((i : ℕ) → get_or bytes i 0 < 256) → row_in kinds bytes ≡ whole_in kinds bytes
+unfolding row_in
+row_in-bytes kinds bytes each = rw (are_bytes-all bytes (all_bytes bytes each)) refl
 
 -- ---- from values to bytes
 
@@ -111,8 +125,8 @@ body_again kinds values h bound =
     rw (room, first, rest, next, last, read, null_bytes-again flags) refl
 
 whole_again : (kinds : List ColType) (values : Values) → IsRow kinds values → length (bytes_of kinds values) < 2 ^ 31
-    → row_in kinds (bytes_of kinds values) ≡ Some values
-unfolding row_in
+    → whole_in kinds (bytes_of kinds values) ≡ Some values
+unfolding whole_in
 whole_again kinds values h bound =
     let k = length kinds in
     let size = length-bytes_of kinds values (length-row kinds values h) in
@@ -121,11 +135,24 @@ whole_again kinds values h bound =
     let room : leb 4 (length (bytes_of kinds values)) ≡ true = le-leb 4 (length (bytes_of kinds values)) (omega arith) in
     rw (lt-ltb (length (bytes_of kinds values)) (2 ^ 31) bound, room, from_be_bytes-to_be_bytes_4 k few, eq-eqb k k refl) (body_again kinds values h rest)
 
+bytes_again : (kinds : List ColType) (values : Values) → IsRow kinds values → length (bytes_of kinds values) < 2 ^ 31
+    → row_in kinds (bytes_of kinds values) ≡ Some values
+unfolding row_in
+bytes_again kinds values h bound =
+    rw (are_bytes-all (bytes_of kinds values) (bytes_of-bytes kinds values h)) (whole_again kinds values h bound)
+
+-- a row is what its bytes are read as
 pub row_again : (kinds : List ColType) (values : Values) → IsRow kinds values → IsShort kinds values → row_in kinds (row_bytes kinds values) ≡ Some values
 row_again kinds values h short =
     let whole = row_bytes-whole kinds values h in
     let P : List ℕ → Type 0 = λ t. length t < 2 ^ 31 in
-    ap (row_in kinds) whole ∙ whole_again kinds values h (subst P whole short)
+    ap (row_in kinds) whole ∙ bytes_again kinds values h (subst P whole short)
+
+-- both ways
+pub row_read_again : (kinds : List ColType) (bytes : List ℕ) (values : Values) → (row_in kinds bytes ≡ Some values)
+    ↔ (IsRow kinds values × IsShort kinds values × (bytes ≡ row_bytes kinds values))
+row_read_again kinds bytes values =
+    (row_read kinds bytes values, λ h. ap (row_in kinds) h.2 ∙ row_again kinds values h.0 h.1)
 
 -- where the bytes are those of a row, no fault but out of memory is answered
 pub never_bad : (e : BinFault) (reading : Option Values) (row : Values) → YieldsNone e reading → reading ≡ Some row → Answers row (Err e)

@@ -1,4 +1,4 @@
--- Private: the values that a row's bytes are, column by column.
+-- The row that bytes are, if they are one, and what a reading answers.
 use Rattle.std.specs.Prelude.{◌≡◌, ℕ, ◌+◌, ◌-◌, ◌*◌, ◌/◌, ◌%◌, ◌^◌, ◌==◌, ◌&&◌, Bool, true, false}
 use Rattle.std.specs.Prelude.{nat_lt, nat_le, ℤ, List, [], ◌∷◌, ◌++◌, length, take, drop, map, slice_index}
 use Rattle.std.specs.Prelude.{Option, Some, None, option_map, Result, Ok, Err, if◌then◌else◌, int_le}
@@ -17,12 +17,12 @@ use Rattle.pm_binrow.specs.declared.fault.BinFault.{BinFault}
 use Rattle.pm_binrow.specs.declared.fault.BinFault.TheVariants.{Memory, Bad}
 use Rattle.pm_binrow.specs.Row.{octet, null_bits, null_count, fixed_size, padded, is_null}
 
--- Private: a fault where nothing is read, or out of memory, of which nothing is said
+-- a fault where nothing is read, or out of memory, of which nothing is said
 abbrev pub YieldsNone : {Y : Type 0} → BinFault → Option Y → Type 0
 YieldsNone Memory reading = Unit {0}
 YieldsNone Bad reading = reading ≡ None
 
--- Private: what a reader gives: what is read, seen by view, or a fault where nothing is
+-- what a reading gives: what is read, seen by view, or a fault where nothing is
 abbrev pub Yields : {X Y : Type 0} → (X → Y) → Result X BinFault → Option Y → Type 0
 Yields view (Ok x) reading = reading ≡ Some (view x)
 Yields view (Err e) reading = YieldsNone e reading
@@ -122,10 +122,19 @@ body_in kinds body =
     >>= with_nulls (take (null_count (length kinds)) body)
     else None
 
+-- Private: whether each number is a byte
+unfoldable pub are_bytes : List ℕ → Bool
+are_bytes [] = true
+are_bytes (b ∷ bytes) = if nat_lt b 256 then are_bytes bytes else false
+
 -- Private: the values of a row's bytes
-unfoldable pub row_in : List ColType → List ℕ → Option Values
-row_in kinds bytes =
+unfoldable pub whole_in : List ColType → List ℕ → Option Values
+whole_in kinds bytes =
     if nat_lt (length bytes) (2 ^ 31)
     then if nat_le 4 (length bytes)
     then if from_be_bytes w32 (take 4 bytes) == length kinds then body_in kinds (drop 4 bytes)
     else None else None else None
+
+-- The row of columns of these types that bytes are, if they are one. `reading_law` says which it is.
+unfoldable pub row_in : List ColType → List ℕ → Option Values
+row_in kinds bytes = if are_bytes bytes then whole_in kinds bytes else None

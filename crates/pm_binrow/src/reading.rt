@@ -4,7 +4,7 @@ ghost use Rattle.std.specs.Prelude.{◌≡◌, ◌+◌, ◌*◌, ◌≤◌, ◌<
 ghost use Rattle.pm_values.specs.Order.{Values};
 ghost use Rattle.pm_binrow.specs.Row.{IsRow, IsShort, row_bytes};
 ghost use Rattle.pm_binrow.specs.Answer.{Answers};
-ghost use Rattle.pm_binrow.specs.Reading.{Yields, body_in, cell_in, cells_in, day_in, row_in, some_in, value_in};
+ghost use Rattle.pm_binrow.specs.Reading.{Yields, body_in, cell_in, cells_in, day_in, row_in, some_in, value_in, whole_in};
 
 use crate::fault::BinFault;
 use crate::null_bytes::{are_null_bytes, is_marked, null_count};
@@ -25,6 +25,7 @@ const LAST_DAY: i32 = 2932896;
 pub fn from_binary(alloc: Global, types: &[ColType], bytes: &[u8]) -> Result<Row, BinFault>
     ensures found { IfOk result (λ row. IsRow types.now row × IsShort types.now row
         × (bytes.now ≡ row_bytes types.now row)) }
+    ensures value { Yields (λ row. row) result (row_in types.now bytes.now) }
     ensures only { (row : Values) → IsRow types.now row → IsShort types.now row
         → bytes.now ≡ row_bytes types.now row → Answers row result }
 {
@@ -32,9 +33,9 @@ pub fn from_binary(alloc: Global, types: &[ColType], bytes: &[u8]) -> Result<Row
 }
 
 /// The values of a row's bytes.
-#[tactic(auto, unfolding(crate::specs::Reading::row_in))]
+#[tactic(auto, unfolding(crate::specs::Reading::whole_in))]
 fn read_row(alloc: Global, types: &[ColType], bytes: &[u8]) -> Result<Vec<Value>, BinFault>
-    ensures { Yields (λ v. v.items) result (row_in types.now bytes.now) }
+    ensures { Yields (λ v. v.items) result (whole_in types.now bytes.now) }
 {
     if bytes.len() >= LIMIT {
         return Err(BinFault::Bad);

@@ -3,3 +3,6 @@ mod Loops
 mod Taking
 mod Nulls
 mod Values
+mod ReadLemmas
+mod FileLemmas
+mod WriteLemmas
