@@ -25,9 +25,26 @@
 //! | `consumer` | a text | the fields of the consumer that it is; or `bad` |
 //! | `name` | `id`, `floor` or `base`, a name | the number that the name bears; or `none` |
 //! | `live` | see below | the live files, each with the number of the entry that added it; after a refusal, if any |
+//! | `manifest-list` | a draft, a path, digits | the manifests, and what is written for them; or the refusal |
+//! | `manifest` | a draft, a path, digits | the entries, and what is written for them; or the refusal |
+//! | `list-blocks` | a draft, numbers | how many records each block of a written list has, its sum; or the refusal |
+//! | `manifest-blocks` | a draft, numbers | the same of a written manifest |
 //!
 //! The argument of `live` is manifests with `;` between them. The entries of one are words: `+NAME@LEVEL/BUCKET` adds a
 //! file, and `-` in the place of `+` deletes one. Entries are numbered from 1.
+//!
+//! A file of manifests is that of the draft's table. A manifest of a list is printed as
+//! `["NAME",SIZE,ADDS,DELETES,SCHEMA]`, and an entry as
+//! `["ADD",PARTITION,BUCKET,BUCKETS,"NAME",SIZE,ROWS,KEY,KEY,SEQUENCE,SEQUENCE,SCHEMA,LEVEL,TIME]`, or with `"DELETE"`;
+//! the least key and sequence number stand first. A partition and a key are lists of values, in which bytes are `#` and
+//! their digits, a day is `day` and its number, and a moment `ms` and its number. The file that is written for these
+//! has the last 16 bytes of the one that was read as its marker. It is `same` where it is that file, else its sum: its
+//! length, and a checksum of 32 bits that begins as 0 and for each byte becomes 31 times itself and the byte.
+//!
+//! The numbers of `list-blocks` are how many manifests are written, and SIZE, ADDS, DELETES and SCHEMA of each; those
+//! of `manifest-blocks` how many entries, and SIZE, ROWS, SEQUENCE, SEQUENCE, SCHEMA and LEVEL of each. The name and
+//! the key of a file are its index, and the even ones are ADDs. The marker is 16 zero bytes. After the blocks stands
+//! `end`.
 //!
 //! Digits are hexadecimal. Any other argument is the text itself, or `0x` and the digits of its bytes.
 #![tactic(auto)]
@@ -42,8 +59,11 @@ mod date;
 mod folder;
 mod hex;
 mod live;
+mod manifest;
+mod manifest_blocks;
 mod name;
 mod record;
+mod record_text;
 mod row;
 mod schema;
 mod snapshot;
@@ -97,6 +117,10 @@ fn answer_of(alloc: Global, codec: &str, arguments: &str) -> Result<Option<Strin
         "snapshot-name" => snapshot::name_answer(alloc, arguments),
         "name" => name::answer(alloc, arguments),
         "live" => live::answer(alloc, arguments),
+        "manifest-list" => manifest::list_answer(alloc, arguments),
+        "manifest" => manifest::answer(alloc, arguments),
+        "list-blocks" => manifest_blocks::list_answer(alloc, arguments),
+        "manifest-blocks" => manifest_blocks::answer(alloc, arguments),
         _ => Ok(None),
     }
 }
