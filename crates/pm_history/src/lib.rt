@@ -1,6 +1,7 @@
-//! The flat model of a table: one list of rows, and what it merges to.
+//! The flat model of a table: its history, and what a list of rows merges to.
 //!
-//! The definitions stand in `specs/Merge.antt`. They know nothing of files, snapshots or retries.
+//! `specs/History.antt` has the history, a schema and the entries that commits made, and when it goes on as a later
+//! one; `specs/Merge.antt` the merged table of rows. They know nothing of files, snapshots or retries.
 #![tactic(auto)]
 
 mod laws;

@@ -1,5 +1,6 @@
 mod BaseLemmas
 mod Decimals
+pub mod Facts
 mod NameLemmas
 mod PartLemmas
 mod ReadLemmas

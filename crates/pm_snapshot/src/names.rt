@@ -63,8 +63,8 @@ fn base_between(prefix: &[u8], suffix: &[u8], name: &[u8]) -> Option<u64>
     base_in_middle(middle)
 }
 
-/// The number that a name has after a prefix.
-fn number_after(prefix: &[u8], name: &[u8]) -> Option<u64>
+/// The number that a name has after a prefix, and none in another name.
+pub fn number_after(prefix: &[u8], name: &[u8]) -> Option<u64>
     ensures { result ≡ number_after prefix.now name.now }
 {
     let digits = name.strip_prefix(prefix)?;

@@ -1,0 +1,37 @@
+use Rattle.std.proofs.Common.{◌≡◌, ℕ, List, [], ◌∷◌, ◌++◌, codes, sym, ap, ◌∙◌, append_assoc, arith}
+use Rattle.std.specs.Fmt.{decimal}
+use Rattle.std.proofs.lemmas.List.{append_cancel_left}
+use Rattle.uuid.specs.Text.{hyphenated_text, hyphen, lower}
+use Rattle.pm_values.specs.Names.{Naming, IsNaming, naming, name_of}
+use Rattle.pm_folder.specs.Changes.{Actor, IsActor, IsOwn, origin_name}
+use Rattle.pm_folder.proofs.laws.own_law.Goals as goal
+
+-- an actor as a maker of names
+abbrev maker : Actor → Naming
+maker me = naming me.session me.number 0
+
+abbrev actor_in : Naming → Actor
+actor_in names = record { session = names.session; number = names.actor }
+
+-- what such a name has after the actor
+abbrev tail : List ℕ
+tail = hyphen ∷ (decimal 0 ++ hyphen ∷ (decimal 0 ++ []))
+
+maker-is : (me : Actor) → IsActor me → IsNaming (maker me)
+maker-is me is = record { sixteen = is.sixteen; bytes = is.bytes; actor_bits = is.bits; base_bits = omega arith; count_bits = omega arith }
+
+longer : (me : Actor) → origin_name me ++ tail ≡ name_of (codes "ORIGIN-") [] (maker me)
+longer me =
+    append_assoc (codes "ORIGIN-") (hyphenated_text lower me.session ++ hyphen ∷ decimal me.number) tail
+    ∙ ap (λ text. codes "ORIGIN-" ++ text) (append_assoc (hyphenated_text lower me.session) (hyphen ∷ decimal me.number) tail)
+
+one_actor : ((prefix suffix : List ℕ) (m n : Naming) → IsNaming m → IsNaming n → name_of prefix suffix m ≡ name_of prefix suffix n → m ≡ n)
+    → (me other : Actor) (path : List ℕ) → IsActor me → IsActor other → IsOwn me path → IsOwn other path → me ≡ other
+one_actor names me other path is_me is_other own_me own_other =
+    let same : origin_name me ≡ origin_name other =
+    append_cancel_left (codes "snapshot/") (origin_name me) (origin_name other) (sym own_me ∙ own_other) in
+    ap actor_in (names (codes "ORIGIN-") [] (maker me) (maker other) (maker-is me is_me) (maker-is other is_other)
+    (sym (longer me) ∙ ap (λ text. text ++ tail) same ∙ longer other))
+
+pub returns : goal.returns
+returns c = one_actor c.names_law.ensures.one

@@ -1,0 +1,4 @@
+pub mod Changes
+pub mod Folder
+pub mod Meaning
+pub mod Paths

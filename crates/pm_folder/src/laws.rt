@@ -1,0 +1,35 @@
+//! Laws of folders. Each holds with no call.
+
+ghost use Rattle.std.specs.Prelude.{◌≡◌, ℕ, List, IsSome};
+ghost use Rattle.std.specs.FinMap as map;
+ghost use Rattle.pm_store.specs.Files.{Files};
+ghost use Rattle.pm_history.specs.History.{History, GoesOn};
+ghost use Rattle.pm_folder.specs.Changes.{Actor, Change, IsActor, IsOwn};
+ghost use Rattle.pm_folder.specs.Folder.{Folder};
+
+use pm_values::names_law;
+
+/// Each kind of change, whoever makes it, leads to a folder that stands for the history with that change.
+pub fn kept_law()
+    ensures { (me : Actor) (f after : Files) (h later : History) → Folder f h → Change me f h after later
+        → Folder after later }
+{}
+
+/// And the history goes on as that one.
+pub fn goes_on_law()
+    ensures { (me : Actor) (f after : Files) (h later : History) → Change me f h after later → GoesOn h later }
+{}
+
+/// What is there stays as it is: no kind of change writes a file again, or takes one away.
+pub fn stays_law()
+    ensures { (me : Actor) (f after : Files) (h later : History) (path : List ℕ) → Folder f h
+        → Change me f h after later → IsSome (map.get f path) → map.get after path ≡ map.get f path }
+{}
+
+/// A file bears the name of one actor at most.
+pub fn own_law()
+    ensures { (me other : Actor) (path : List ℕ) → IsActor me → IsActor other → IsOwn me path → IsOwn other path
+        → me ≡ other }
+{
+    names_law();
+}
