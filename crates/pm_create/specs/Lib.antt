@@ -1,0 +1,3 @@
+pub mod Creator
+pub mod Meaning
+pub mod Trace

@@ -1,0 +1,39 @@
+//! Laws of creators. Each holds with no call.
+
+ghost use Rattle.std.specs.Prelude.{◌≡◌, List, Some};
+ghost use Rattle.pm_create.specs.Creator.{CreatorView, next_call};
+ghost use Rattle.pm_create.specs.Meaning.{Begins, Knows, Makes};
+ghost use Rattle.pm_create.specs.Trace.{Shows};
+ghost use Rattle.pm_folder.specs.Changes.{Actor, Change};
+ghost use Rattle.pm_folder.specs.Folder.{Folder};
+ghost use Rattle.pm_history.specs.History.{History};
+ghost use Rattle.pm_machine.specs.Moves.{Lasts};
+ghost use Rattle.pm_machine.specs.Trace.{Event};
+ghost use Rattle.pm_store.specs.declared.call.Call.{Call};
+ghost use Rattle.pm_store.specs.Files.{Files};
+ghost use Rattle.pm_store.specs.Images.{MayLeave};
+ghost use Rattle.pm_values.specs.declared.refusal.Refusal.{Refusal};
+
+/// What a creator knows stays true through each kind of change of every other actor.
+pub fn known_law()
+    ensures { (m : CreatorView) (other : Actor) (f after : Files) (h later : History) → Folder f h
+        → Change other f h after later → Knows m f h → Knows m after later }
+{}
+
+/// Through a creator's own changes the files stand for the history that they stood for at first, or for this table
+/// where that was none.
+pub fn begins_law()
+    ensures { (m : CreatorView) (first : History) → Lasts Folder (Makes m) (λ f h. Begins m.schema first h) }
+{}
+
+/// Calls show one refusal at most. So each refusal comes exactly where the last call ended as it says.
+pub fn causes_law()
+    ensures { (own : List Event) (one other : Refusal) → Shows one own → Shows other own → one ≡ other }
+{}
+
+/// Whatever a crash leaves of a creator's next call stands for the history before it, or for the one with its table.
+pub fn images_law()
+    ensures { (m : CreatorView) (call : Call) (f image : Files) (h : History) → next_call m ≡ Some call
+        → Folder f h → Knows m f h → MayLeave call f image
+        → (later : History) × Makes m f h image later × Folder image later }
+{}

@@ -1,0 +1,23 @@
+//! The command `create` as a machine: it makes a table where there is none.
+//!
+//! A `Creator` makes two calls of a store. It creates the table's origin, an empty file that bears the actor's name,
+//! and then swaps the file of schema 0 from absent to the schema. Whatever others do between, and whatever of a call is
+//! carried out, each call changes nothing, or makes a file of the actor's own, or makes this table where there was none
+//! and the origin stands; so does each crash image of a call. Once it answers `Created`, the files stand for a table of
+//! this schema, and each refusal comes exactly where its calls show it.
+//!
+//! `specs/Creator.antt` has its phases, its calls and what each answer leads to; `specs/Meaning.antt` what it knows of
+//! the files in each phase and what a step means for them; `specs/Trace.antt` which calls it made, and which show a
+//! refusal.
+#![tactic(auto)]
+
+mod creator;
+mod laws;
+mod machine;
+mod names;
+mod phase;
+
+pub use creator::{CreateStep, Creator};
+pub use laws::{begins_law, causes_law, images_law, known_law};
+pub use names::origin_name;
+pub use phase::Phase;
