@@ -1,0 +1,5 @@
+pub mod Faults
+pub mod Meaning
+pub mod Names
+pub mod Reader
+pub mod Trace

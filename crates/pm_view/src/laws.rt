@@ -1,0 +1,47 @@
+//! Laws of readers of a schema. Each holds with no call.
+
+ghost use Rattle.std.specs.Prelude.{◌≡◌, ◌↔◌, ℕ, ◌≤◌, List, Some, Err};
+ghost use Rattle.pm_folder.specs.Changes.{Actor, Change};
+ghost use Rattle.pm_folder.specs.Folder.{Folder};
+ghost use Rattle.pm_history.specs.History.{History};
+ghost use Rattle.pm_schema.specs.Reading.{schema_of};
+ghost use Rattle.pm_snapshot.specs.Names.{greatest};
+ghost use Rattle.pm_store.specs.declared.call.Call.{Call};
+ghost use Rattle.pm_store.specs.Files.{Files};
+ghost use Rattle.pm_store.specs.Images.{MayLeave};
+ghost use Rattle.pm_values.specs.declared.refusal.Refusal.{Refusal};
+ghost use Rattle.pm_view.specs.Faults.{IsFaultOf};
+ghost use Rattle.pm_view.specs.Meaning.{AreKept, Knows};
+ghost use Rattle.pm_view.specs.Names.{schema_id_in, schema_name};
+ghost use Rattle.pm_view.specs.Reader.{next_call};
+ghost use Rattle.pm_view.specs.declared.phase.Phase.{Phase};
+
+/// A name bears one id of a schema at most, and bears it exactly where it is that schema's.
+pub fn schema_name_law()
+    ensures { (name : List ℕ) (id : ℕ)
+        → (schema_id_in name ≡ Some id) ↔ ((id ≤ greatest) × (name ≡ schema_name id)) }
+{}
+
+/// The refusals that the bytes of a schema's file show are faults of such a file.
+pub fn fault_law()
+    ensures { (path bytes : List ℕ) (refusal : Refusal) → schema_of path bytes ≡ Err refusal
+        → IsFaultOf path refusal }
+{}
+
+/// What a reader knows stays true through each kind of change of every actor.
+pub fn known_law()
+    ensures { (m : Phase) (other : Actor) (f after : Files) (h later : History) → Folder f h
+        → Change other f h after later → Knows m f h → Knows m after later }
+{}
+
+/// Where nothing changes, that is the least kind of change, whoever acts.
+pub fn nothing_law()
+    ensures { (me : Actor) (f after : Files) (h later : History) → AreKept f h after later
+        → Change me f h after later }
+{}
+
+/// Whatever a crash leaves of a reader's next call has the same content at each path.
+pub fn images_law()
+    ensures { (m : Phase) (call : Call) (f image : Files) (h : History) → next_call m ≡ Some call
+        → MayLeave call f image → AreKept f h image h }
+{}

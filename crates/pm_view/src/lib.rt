@@ -1,0 +1,21 @@
+//! The table's schema, read by a machine: what every command but `create` begins with.
+//!
+//! A `SchemaReader` lists the folder `schema` and reads the schema with the greatest id. Where that names no origin, it
+//! lists the folder `snapshot`, in which a snapshot must stand. It changes nothing. Once it is ready, there is a table
+//! of the schema that it hands out, whatever others do between its calls.
+//!
+//! `specs/Reader.antt` has its phases, its calls and what each answer leads to, `specs/Names.antt` what a listing says;
+//! `specs/Meaning.antt` what it knows of the files in each phase and what a step means for them; `specs/Trace.antt`
+//! which calls it made, and which show a refusal, and `specs/Faults.antt` which refusals a schema's file has.
+#![tactic(auto)]
+
+mod laws;
+mod machine;
+mod names;
+mod phase;
+mod reader;
+
+pub use laws::{fault_law, images_law, known_law, nothing_law, schema_name_law};
+pub use names::{lists_snapshot, newest_schema, schema_id_of_name};
+pub use phase::Phase;
+pub use reader::{SchemaReader, SchemaStep};
