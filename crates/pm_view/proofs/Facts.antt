@@ -1,6 +1,7 @@
 -- A reader of a schema keeps the laws of machines.
-use Rattle.std.proofs.Common.{◌≡◌, ◌⊎◌, inl, inr, ℕ, ◌≤◌, zero, suc, List, [], ◌∷◌, ◌++◌, Option, None, Some, IsSome, IfSome, Ok, Err, refl, sym, ap, ◌∙◌, subst, arith}
+use Rattle.std.proofs.Common.{◌≡◌, ◌⊎◌, inl, inr, ℕ, ◌≤◌, ◌<◌, zero, suc, List, [], ◌∷◌, ◌++◌, Option, None, Some, IsSome, IfSome, Ok, Err, refl, sym, ap, ◌∙◌, subst, arith}
 use Rattle.std.specs.FinMap as map
+use Rattle.std.proofs.lemmas.Option.{IfSome_then}
 use Rattle.pm_values.specs.declared.refusal.Refusal.{Refusal}
 use Rattle.pm_values.specs.declared.refusal.Refusal.TheVariants as refusals
 use Rattle.pm_store.specs.declared.answer.Answer.{Answer}
@@ -26,7 +27,7 @@ use Rattle.pm_folder.proofs.Facts.{goes_on, stays, still_there}
 use Rattle.pm_view.specs.Faults.{IsFaultOf}
 use Rattle.pm_view.specs.Meaning.{IsTableOf, AreKept, Leaves, Knows}
 use Rattle.pm_view.specs.Names.{schema_name}
-use Rattle.pm_view.specs.Reader.{schema_folder, snapshot_folder, schemas_call, next_call, with_origin, Goes, Shown, Refuses, Stops}
+use Rattle.pm_view.specs.Reader.{schema_folder, snapshot_folder, schemas_call, next_call, calls_left, with_origin, IsReady, Goes, Shown, Refuses, Stops}
 use Rattle.pm_view.specs.Trace.{listed_schemas, read_schema, listed_snapshots, Has, Misreads, MayEnd, at_first, at_schemas, at_schema, at_snapshots, in_schemas, in_schema, in_snapshots, Shows, Did}
 use Rattle.pm_view.specs.declared.phase.Phase.{Phase}
 use Rattle.pm_view.specs.declared.phase.Phase.TheVariants as phases
@@ -37,23 +38,23 @@ use Rattle.pm_view.proofs.FaultLemmas.{faults}
 pub kept_same : (f after : Files) (h : History) → after ≡ f → AreKept f h after h
 kept_same f after h same = record { files = λ q. ap (λ (g : Files). map.get g q) same; history = refl }
 
-list_effect : (folder : List ℕ) (effect : Effect) (f : Files) → after_effect (calls.List folder) effect f ≡ f
+pub list_effect : (folder : List ℕ) (effect : Effect) (f : Files) → after_effect (calls.List folder) effect f ≡ f
 list_effect folder effects.None f = refl
 list_effect folder (effects.Part found) f = refl
 list_effect folder effects.Whole f = refl
 
-read_effect : (path : List ℕ) (effect : Effect) (f : Files) → after_effect (calls.Read path) effect f ≡ f
+pub read_effect : (path : List ℕ) (effect : Effect) (f : Files) → after_effect (calls.Read path) effect f ≡ f
 read_effect path effects.None f = refl
 read_effect path (effects.Part found) f = refl
 read_effect path effects.Whole f = refl
 
 -- each effect of its next call leaves the files as they are
-pub rests : (m : Phase) (effect : Effect) (f : Files) → IfSome (next_call m) (λ call. after_effect call effect f ≡ f)
-rests phases.Schemas effect f = list_effect schema_folder effect f
-rests (phases.Schema id) effect f = read_effect (schema_path id) effect f
-rests (phases.Snapshots s) effect f = list_effect snapshot_folder effect f
-rests (phases.Ready s) effect f = tt
-rests phases.Over effect f = tt
+pub rests : (m : Phase) (f : Files) → IfSome (next_call m) (λ call. (effect : Effect) → after_effect call effect f ≡ f)
+rests phases.Schemas f = λ effect. list_effect schema_folder effect f
+rests (phases.Schema id) f = λ effect. read_effect (schema_path id) effect f
+rests (phases.Snapshots s) f = λ effect. list_effect snapshot_folder effect f
+rests (phases.Ready s) f = tt
+rests phases.Over f = tt
 
 changes_at : (m p : Phase) (f : Files) (h : History) → IfSome (next_call p) (λ call. Changes (Leaves m) call f h)
 changes_at m phases.Schemas f h = λ effect. (h, kept_same f _ h (list_effect schema_folder effect f))
@@ -114,17 +115,14 @@ failed_at m (phases.Snapshots s) new effect f h over = (h, kept_same f _ h (list
 failed_at m (phases.Ready s) new effect f h over = tt
 failed_at m phases.Over new effect f h over = tt
 
-only_if : (next : Option Call) (P Q : Call → Type 0) → ((call : Call) → P call → Q call) → IfSome next P → IfSome next Q
-only_if None P Q weaker here = tt
-only_if (Some call) P Q weaker here = weaker call here
-
 pub sound : Sound next_call Goes Refuses Stops Folder Leaves Knows
 sound = record {
   changes = λ m f h folder known. changes_at m m f h;
   went = λ m new answer f h goes folder known. went_at m m answer new f h (knows_next m answer new f h goes folder known);
-  refused = λ m new answer refusal f h refuses folder known. only_if (next_call m) _ _ (λ call leads told. leads)
-      (failed_at m m new effects.Whole f h refuses.1);
-  failed = λ m new effect f h stops folder known. only_if (next_call m) _ _ (λ call leads may. leads) (failed_at m m new effect f h stops);
+  refused = λ m new answer refusal f h refuses folder known. IfSome_then (next_call m) (failed_at m m new effects.Whole f h refuses.1)
+      (λ call leads told. leads);
+  failed = λ m new effect f h stops folder known. IfSome_then (next_call m) (failed_at m m new effect f h stops)
+      (λ call leads may. leads);
   stopped = λ m new f h called stops folder known. over_knows new f h stops;
 }
 
@@ -196,21 +194,45 @@ over_did new refusal own over shows = (subst (λ (m : Phase). Did m own) (sym ov
 pub recounts : Recounts next_call Goes Refuses Stops Did Shows
 recounts = record {
   went = λ m new answer own goes did. went_on m answer new own goes did;
-  refused = λ m new answer refusal own refuses did. only_if (next_call m) _ _
-      (λ call shows may. over_did new refusal (own ++ answered call answer ∷ []) refuses.1 (shows may))
-      (refused_on m answer refusal own refuses.0 did);
-  failed = λ m new own stops did. only_if (next_call m) _ _
-      (λ call shows. over_did new (refusals.StoreFault (path_of call)) (own ++ faulted call ∷ []) stops shows)
-      (failed_on m own did);
+  refused = λ m new answer refusal own refuses did. IfSome_then (next_call m) (refused_on m answer refusal own refuses.0 did)
+      (λ call shows may. over_did new refusal (own ++ answered call answer ∷ []) refuses.1 (shows may));
+  failed = λ m new own stops did. IfSome_then (next_call m) (failed_on m own did)
+      (λ call shows. over_did new (refusals.StoreFault (path_of call)) (own ++ faulted call ∷ []) stops shows);
   stopped = λ m new own called stops did. over_did new refusals.Memory own stops (stopped_on m own called did);
 }
+
+-- ---- how far it has come
+
+-- an answer that it goes on with leaves fewer calls
+pub goes_fewer : (m : Phase) (answer : Answer) (new : Phase) → Goes m answer new → calls_left new < calls_left m
+goes_fewer phases.Schemas (answers.Listed names) new (id, newest, is) = subst (λ (new : Phase). calls_left new < 3) (sym is) (omega arith)
+goes_fewer (phases.Schema id) (answers.Found (Some bytes)) new (s, reads, is) = subst (λ (new : Phase). calls_left new < 2) (sym is) (fewer_with s.origin s)
+  where
+    fewer_with : (o : Option (List ℕ)) (s : TableSchema) → calls_left (with_origin o s) < 2
+    fewer_with None s = omega arith
+    fewer_with (Some origin) s = omega arith
+goes_fewer (phases.Snapshots s) (answers.Listed names) new (some, is) = subst (λ (new : Phase). calls_left new < 1) (sym is) (omega arith)
+goes_fewer m answer new goes = absurd goes
+
+-- and the schema, or a call that is left
+pub goes_on_to : (m : Phase) (answer : Answer) (new : Phase) → Goes m answer new → ¬ IsReady new → 0 < calls_left new
+goes_on_to phases.Schemas (answers.Listed names) new (id, newest, is) = subst (λ (new : Phase). ¬ IsReady new → 0 < calls_left new) (sym is) (λ not. omega arith)
+goes_on_to (phases.Schema id) (answers.Found (Some bytes)) new (s, reads, is) =
+    subst (λ (new : Phase). ¬ IsReady new → 0 < calls_left new) (sym is) (left_with s.origin s)
+  where
+    left_with : (o : Option (List ℕ)) (s : TableSchema) → ¬ IsReady (with_origin o s) → 0 < calls_left (with_origin o s)
+    left_with None s not = omega arith
+    left_with (Some origin) s not = absurd (not tt)
+goes_on_to (phases.Snapshots s) (answers.Listed names) new (some, is) =
+    subst (λ (new : Phase). ¬ IsReady new → 0 < calls_left new) (sym is) (λ not. absurd (not tt))
+goes_on_to m answer new goes = absurd goes
 
 -- ---- laws
 
 pub fault : (path bytes : List ℕ) (refusal : Refusal) → schema_of path bytes ≡ Err refusal → IsFaultOf path refusal
 fault path bytes refusal is = rw is at (faults path bytes)
 
-still_table : (s : TableSchema) (h later : History) → GoesOn h later → IsTableOf s h → IsTableOf s later
+pub still_table : (s : TableSchema) (h later : History) → GoesOn h later → IsTableOf s h → IsTableOf s later
 still_table s no_table later goes is = absurd is
 still_table s (table t entries) no_table goes is = absurd goes
 still_table s (table t entries) (table u more) goes is = goes.0 ∙ is

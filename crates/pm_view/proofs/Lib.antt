@@ -1,3 +1,4 @@
 pub mod Facts
 mod FaultLemmas
+pub mod ListLemmas
 mod NameLemmas

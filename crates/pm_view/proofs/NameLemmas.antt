@@ -2,7 +2,7 @@
 use Rattle.std.proofs.Common.{◌≡◌, ◌⊎◌, inl, inr, ◌↔◌, ℕ, ◌≤◌, List, [], ◌∷◌, Contains, codes, nat_lt, Bool, true, false, IsTrue, if◌then◌else◌, ◌||◌, Option, None, Some, IfSome, IfNone, refl, sym, ap, ◌∙◌, subst, arith}
 use Rattle.std.specs.List.{list_any}
 use Rattle.std.proofs.lemmas.Bool.Decides.{nat_tests}
-use Rattle.std.proofs.lemmas.List.Elements.{Contains-append_left, Contains-append_right, Contains-append_cases, Contains-push, Contains-push_cases}
+use Rattle.pm_view.proofs.ListLemmas.{here, more, nowhere, cases}
 use Rattle.pm_snapshot.specs.Names.{greatest, id_in, snapshot_name}
 use Rattle.pm_snapshot.proofs.Facts.{number_is, id_is}
 use Rattle.pm_view.specs.Names.{schema_name, schema_id_in, IsNewest, HasNoSchema, HasSnapshot, greater, newest_from, is_after_origin, names_snapshot}
@@ -15,26 +15,6 @@ schema_id_is name id = number_is (codes "schema-") name id
 
 some_inj : {A : Type 0} (x y : A) → Some x ≡ Some y → x ≡ y
 some_inj x y e = cc
-
--- ---- one name more
-
-here : (name : List ℕ) (names : List (List ℕ)) → Contains (name ∷ names) name
-here name names = Contains-append_left (name ∷ []) names name (Contains-push [] name)
-
-more : (name : List ℕ) (names : List (List ℕ)) (q : List ℕ) → Contains names q → Contains (name ∷ names) q
-more name names q c = Contains-append_right (name ∷ []) names q c
-
-nowhere : (q : List ℕ) → ¬ Contains [] q
-nowhere q c = let below = c.1 in omega (arith, below)
-
-cases : (name : List ℕ) (names : List (List ℕ)) (q : List ℕ) → Contains (name ∷ names) q → (name ≡ q) ⊎ Contains names q
-cases name names q c = elim (Contains-append_cases (name ∷ []) names q c) as (λ _. (name ≡ q) ⊎ Contains names q) [
-  | inl first ↦ elim (Contains-push_cases [] name q first) as (λ _. (name ≡ q) ⊎ Contains names q) [
-    | inl none ↦ absurd (nowhere q none)
-    | inr same ↦ inl same
-  ]
-  | inr later ↦ inr later
-]
 
 -- ---- the newest schema
 

@@ -16,6 +16,6 @@ mod phase;
 mod reader;
 
 pub use laws::{fault_law, images_law, known_law, nothing_law, schema_name_law};
-pub use names::{lists_snapshot, newest_schema, schema_id_of_name};
+pub use names::schema_id_of_name;
 pub use phase::Phase;
 pub use reader::{SchemaReader, SchemaStep};

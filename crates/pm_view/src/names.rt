@@ -27,7 +27,7 @@ pub(crate) fn schema_path(alloc: Global, id: u64) -> Result<Txt, AllocError>
 }
 
 /// The id of the newest schema that names list, or none where they list no schema.
-pub fn newest_schema(names: &[Txt]) -> Option<u64>
+pub(crate) fn newest_schema(names: &[Txt]) -> Option<u64>
     ensures found { IfSome result (IsNewest names.now) }
     ensures other { IfNone result (HasNoSchema names.now) }
 {
@@ -57,7 +57,7 @@ fn greater(best: Option<u64>, other: Option<u64>) -> Option<u64>
 }
 
 /// Whether names list a snapshot, the origin left out.
-pub fn lists_snapshot(names: &[Txt]) -> bool
+pub(crate) fn lists_snapshot(names: &[Txt]) -> bool
     ensures { IsTrue result ↔ HasSnapshot names.now }
 {
     any_snapshot(names)

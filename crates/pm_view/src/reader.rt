@@ -1,6 +1,6 @@
 //! The reader of a table's schema.
 
-ghost use Rattle.std.specs.Prelude.{◌≡◌, ◌<◌, IfOk, OnOk, OnErr};
+ghost use Rattle.std.specs.Prelude.{◌≡◌, ◌↔◌, ◌<◌, IfOk, OnOk, OnErr, IsTrue};
 ghost use Rattle.pm_store.specs.Store.{IsLater};
 ghost use Rattle.pm_view.specs.Meaning.{ReaderMoved};
 ghost use Rattle.pm_view.specs.Reader.{calls_left, reached_at, IsReady, Reaches};
@@ -44,6 +44,13 @@ impl SchemaReader {
         SchemaReader {
             phase: Phase::Schemas,
         }
+    }
+
+    /// Whether the schema is ready.
+    pub fn is_ready(&self) -> bool
+        ensures { IsTrue result ↔ IsReady self.now }
+    {
+        matches!(self.phase, Phase::Ready { .. })
     }
 
     /// The schema, once it is ready.

@@ -1,0 +1,109 @@
+//! The lister of a table's snapshots.
+
+ghost use Rattle.std.specs.Prelude.{◌≡◌, ◌<◌, IfOk, OnOk, OnErr};
+ghost use Rattle.std.specs.Option.{option_copied};
+ghost use Rattle.pm_store.specs.Store.{IsLater};
+ghost use Rattle.pm_snapshots.specs.Lines.{snapshots_text};
+ghost use Rattle.pm_snapshots.specs.Lister.{calls_left, lines_of, reached_at, schema_at, IsDone, IsLister, Reaches};
+ghost use Rattle.pm_snapshots.specs.Meaning.{ListerMoved};
+ghost use Rattle.pm_snapshots.specs.Trace.{ListerActed};
+ghost use Rattle.pm_snapshots.specs.declared.phase.Phase.TheVariants as phases;
+ghost use Rattle.pm_view.specs.declared.phase.Phase.TheVariants as readers;
+
+use crate::line::print_lines;
+use crate::phase::Phase;
+use pm_machine::step;
+use pm_schema::TableSchema;
+use pm_store::FileStore;
+use pm_values::Refusal;
+use pm_view::SchemaReader;
+use std::alloc::{AllocError, Global};
+use std::marker::Model;
+
+/// What a step of a lister reached: it goes on, or all snapshots were read.
+#[derive(Clone, Copy)]
+pub enum ListStep {
+    More,
+    Done,
+}
+
+/// Lists the snapshots of a table, a call of the store a step.
+#[derive(Drop)]
+pub struct Lister {
+    pub(crate) phase: Phase,
+}
+
+impl Model for Lister {
+    ghost use Rattle.pm_snapshots.specs.Lister.{IsLister};
+    ghost use Rattle.pm_snapshots.specs.declared.phase.Phase.{Phase};
+
+    ghost Value = { Phase };
+
+    ghost view = { λ l. l.phase };
+
+    ghost invariant = { λ l. IsLister l.phase };
+}
+
+impl Lister {
+    /// A lister that has made no call yet.
+    pub fn new() -> Lister
+        ensures { result ≡ phases.Schema readers.Schemas }
+    {
+        Lister {
+            phase: Phase::Schema {
+                reader: SchemaReader::new(),
+            },
+        }
+    }
+
+    /// The table's schema, where it was just read.
+    pub fn schema(&self) -> Option<&TableSchema>
+        ensures { option_copied result ≡ schema_at self.now }
+    {
+        match &self.phase {
+            Phase::List { schema } => Some(schema),
+            _ => None,
+        }
+    }
+
+    /// The text of the snapshots, once all were read.
+    pub fn text(&self, alloc: Global) -> Result<Vec<u8>, AllocError>
+        requires { IsDone self.now }
+        ensures { IfOk result (λ text. text.items ≡ snapshots_text (lines_of self.now)) }
+    {
+        match &self.phase {
+            Phase::Read { reading } => print_lines(alloc, reading.lines()),
+            _ => unreachable!(),
+        }
+    }
+
+    /// Makes the next call of the store. After a refusal, and once all snapshots were read, no call is left.
+    pub fn step<F: FileStore>(&mut self, alloc: Global, store: &mut F) -> Result<ListStep, Refusal>
+        requires { 0 < calls_left self.old }
+        ensures moves { ListerMoved self.old self.new (F.seen store.old) (F.seen store.new) }
+        ensures acts { ListerActed self.old self.new (F.seen store.old) (F.seen store.new) result }
+        ensures reaches { IfOk result (λ step. Reaches step self.new) }
+        ensures fewer { OnOk result (calls_left self.new < calls_left self.old) }
+        ensures over { OnErr result (self.new ≡ phases.Over) }
+        ensures later { IsLater (F.seen store.old) (F.seen store.new) }
+    {
+        let _ = &self.phase;
+        match step(alloc, self, store) {
+            Ok(()) => Ok(self.reached()),
+            Err(refusal) => Err(refusal),
+        }
+    }
+
+    /// What a step that went on has reached.
+    fn reached(&self) -> ListStep
+        ensures { result ≡ reached_at self.now }
+    {
+        match &self.phase {
+            Phase::Read { reading } => match reading.next() {
+                Some(_) => ListStep::More,
+                None => ListStep::Done,
+            },
+            _ => ListStep::More,
+        }
+    }
+}

@@ -1,0 +1,186 @@
+//! A lister of snapshots as a machine.
+
+ghost use Rattle.std.specs.Prelude.{◌≡◌, Some, IfOk, IfErr, IsSome, IsSomeAnd};
+ghost use Rattle.pm_store.specs.Answers.{MayAnswer};
+ghost use Rattle.pm_store.specs.declared.answer.Answer.TheVariants as answers;
+ghost use Rattle.pm_values.specs.declared.refusal.Refusal.TheVariants as refusals;
+ghost use Rattle.pm_view.specs.Reader as readers;
+ghost use Rattle.pm_snapshots.specs.Lister.{next_call, after_reader, Goes, GoesToRead, IsLister, MayRefuse, Shown};
+ghost use Rattle.pm_snapshots.specs.Reading.{next_id};
+ghost use Rattle.pm_snapshots.specs.declared.phase.Phase.TheVariants as phases;
+
+use crate::ids::{ids_of, snapshot_path};
+use crate::line::line_of;
+use crate::lister::Lister;
+use crate::phase::Phase;
+use crate::reading::Reading;
+use pm_base::{Blob, Txt};
+use pm_machine::{Machine, Meaning};
+use pm_snapshot::{SnapFault, read_snapshot};
+use pm_store::{Answer, Call};
+use pm_values::Refusal;
+use pm_view::SchemaReader;
+use std::alloc::{AllocError, Global};
+use std::mem;
+
+impl Machine for Lister {
+    ghost use Rattle.pm_snapshots.specs.Lister.{next_call, Goes, Refuses, Stops};
+
+    ghost call_of = { next_call };
+
+    ghost goes = { Goes };
+
+    ghost refuses = { Refuses };
+
+    ghost stops = { Stops };
+
+    fn call(&self, alloc: Global) -> Result<Option<Call>, AllocError> {
+        match &self.phase {
+            Phase::Schema { reader } => reader.call(alloc),
+            Phase::List { .. } => Ok(Some(Call::list(alloc, "snapshot")?)),
+            Phase::Read { reading } => match reading.next() {
+                Some(id) => Ok(Some(Call::Read {
+                    path: snapshot_path(alloc, id)?,
+                })),
+                None => Ok(None),
+            },
+            Phase::Over => Ok(None),
+        }
+    }
+
+    fn take(&mut self, alloc: Global, answer: Answer) -> Result<(), Refusal> {
+        let phase = mem::replace(&mut self.phase, Phase::Over);
+        match next_phase(alloc, phase, answer) {
+            Ok(phase) => {
+                self.phase = phase;
+                Ok(())
+            }
+            Err(refusal) => Err(refusal),
+        }
+    }
+
+    fn stop(&mut self) {
+        self.phase = Phase::Over;
+    }
+}
+
+/// The phase after an answer, or the refusal that it shows.
+fn next_phase(alloc: Global, phase: Phase, answer: Answer) -> Result<Phase, Refusal>
+    requires may { IsSomeAnd (next_call phase) (λ call. MayAnswer call answer) }
+    ensures goes { IfOk result (Goes phase answer) }
+    ensures is_lister { IfOk result IsLister }
+    ensures refuses { IfErr result (Shown phase answer) }
+{
+    match (phase, answer) {
+        (Phase::Schema { reader }, answer) => after_schema(alloc, reader, answer),
+        (Phase::List { .. }, Answer::Listed(names)) => after_list(alloc, names),
+        (Phase::Read { reading }, Answer::Found(found)) => after_read(alloc, reading, found),
+        _ => unreachable!(),
+    }
+}
+
+/// The phase after an answer to a call of the schema's reader.
+fn after_schema(alloc: Global, reader: SchemaReader, answer: Answer) -> Result<Phase, Refusal>
+    requires may { IsSomeAnd (readers.next_call reader) (λ call. MayAnswer call answer) }
+    ensures goes { IfOk result (Goes (phases.Schema reader) answer) }
+    ensures is_lister { IfOk result IsLister }
+    ensures refuses { IfErr result (Shown (phases.Schema reader) answer) }
+{
+    let mut reader = reader;
+    match reader.take(alloc, answer) {
+        Ok(()) => Ok(after_reader(reader)),
+        Err(refusal) => Err(refusal),
+    }
+}
+
+/// The phase with this reader: the snapshots are to be listed once the schema is ready.
+fn after_reader(reader: SchemaReader) -> Phase
+    ensures { result ≡ after_reader reader }
+{
+    if reader.is_ready() {
+        Phase::List {
+            schema: reader.into_schema(),
+        }
+    } else {
+        Phase::Schema { reader }
+    }
+}
+
+/// The phase once the snapshots were listed.
+fn after_list(alloc: Global, names: Vec<Txt>) -> Result<Phase, Refusal>
+    ensures goes { IfOk result (GoesToRead names.items) }
+    ensures is_lister { IfOk result IsLister }
+    ensures refuses { IfErr result (λ refusal. refusal ≡ refusals.Memory) }
+{
+    match ids_of(alloc, names.as_slice()) {
+        Ok(ids) => Ok(Phase::Read {
+            reading: Reading::new(alloc, ids),
+        }),
+        Err(_) => Err(Refusal::Memory),
+    }
+}
+
+/// The phase once this was found at the path of the next snapshot.
+fn after_read(alloc: Global, reading: Reading, found: Option<Blob>) -> Result<Phase, Refusal>
+    requires next { IsSome (next_id reading) }
+    ensures goes { IfOk result (Goes (phases.Read reading) (answers.Found found)) }
+    ensures is_lister { IfOk result IsLister }
+    ensures refuses { IfErr result (Shown (phases.Read reading) (answers.Found found)) }
+{
+    match (reading.next(), found) {
+        (Some(id), Some(bytes)) => after_bytes(alloc, reading, id, bytes),
+        (Some(id), None) => Err(Refusal::Expired { id }),
+        (None, _) => unreachable!(),
+    }
+}
+
+/// The phase once these bytes were found at the path of the next snapshot.
+fn after_bytes(alloc: Global, reading: Reading, id: u64, bytes: Blob) -> Result<Phase, Refusal>
+    requires next { next_id reading ≡ Some id }
+    ensures goes { IfOk result (Goes (phases.Read reading) (answers.Found (Some bytes))) }
+    ensures is_lister { IfOk result IsLister }
+    ensures refuses { IfErr result (Shown (phases.Read reading) (answers.Found (Some bytes))) }
+{
+    match read_snapshot(alloc, id, bytes.as_bytes()) {
+        Ok(snapshot) => match reading.add(line_of(snapshot)) {
+            Ok(reading) => Ok(Phase::Read { reading }),
+            Err(_) => Err(Refusal::Memory),
+        },
+        Err(fault) => Err(damaged(alloc, id, fault)),
+    }
+}
+
+/// The refusal of a snapshot's file with a fault.
+fn damaged(alloc: Global, id: u64, fault: SnapFault) -> Refusal
+    ensures { MayRefuse id fault result }
+{
+    match fault {
+        SnapFault::Memory => Refusal::Memory,
+        SnapFault::Bad => match snapshot_path(alloc, id) {
+            Ok(path) => Refusal::Damaged { path, place: 0 },
+            Err(_) => Refusal::Memory,
+        },
+    }
+}
+
+impl Meaning for Lister {
+    ghost use Rattle.pm_snapshots.specs.Meaning.{Knows, Leaves};
+    ghost use Rattle.pm_snapshots.specs.Trace.{Did, Shows};
+    ghost use Rattle.pm_view.specs.Meaning.{Anything};
+    ghost use Rattle.pm_folder.specs.Folder as folders;
+    ghost use Rattle.pm_history.specs.History as histories;
+
+    ghost History = { histories.History };
+
+    ghost Folder = { folders.Folder };
+
+    ghost Change = { Leaves };
+
+    ghost knows = { Knows };
+
+    ghost others = { Anything };
+
+    ghost did = { Did };
+
+    ghost shows = { Shows };
+}
