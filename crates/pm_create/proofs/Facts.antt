@@ -36,11 +36,11 @@ use Rattle.pm_create.specs.Trace.{made_origin, met_origin, failed_origin, failed
 makes-same : (m : CreatorView) (f : Files) (h : History) → Makes m f h f h
 makes-same m f h = record { kind = nothing (λ q. refl); begins = inl refl }
 
-makes-own : (m : CreatorView) (path content : List ℕ) (f after : Files) (h : History) → path ≡ own_origin m.me → map.get f path ≡ None
+pub makes-own : (m : CreatorView) (path content : List ℕ) (f after : Files) (h : History) → path ≡ own_origin m.me → map.get f path ≡ None
     → Puts f path (Some content) after → Makes m f h after h
 makes-own m path content f after h own absent puts = record { kind = own_file path content own absent puts; begins = inl refl }
 
-makes-table : (m : CreatorView) (f after : Files) → IsCreator m → IsSome (map.get f (origin_path m.schema.origin))
+pub makes-table : (m : CreatorView) (f after : Files) → IsCreator m → IsSome (map.get f (origin_path m.schema.origin))
     → Puts f (schema_path 0) (Some m.bytes) after → Makes m f no_table after (table m.schema [])
 makes-table m f after is there puts = record {
   kind = schema m.schema m.bytes there puts (m.bytes, puts.here, is.reads);
@@ -53,14 +53,14 @@ origin_part : (m : CreatorView) (path content : List ℕ) (f : Files) (h : Histo
 origin_part m path content f h None absent own = (h, makes-own m path content f (map.insert f path content) h own absent (Puts-insert f path content))
 origin_part m path content f h (Some found) is own = (h, makes-same m f h)
 
-origin_changes : (m : CreatorView) (path : List ℕ) (f : Files) (h : History) → path ≡ own_origin m.me → Changes (Makes m) (origin_call path) f h
+pub origin_changes : (m : CreatorView) (path : List ℕ) (f : Files) (h : History) → path ≡ own_origin m.me → Changes (Makes m) (origin_call path) f h
 origin_changes m path f h own effects.None = (h, makes-same m f h)
 origin_changes m path f h own (effects.Part None) = (h, makes-same m f h)
 origin_changes m path f h own (effects.Part (Some found)) = origin_part m path found f h (map.get f path) refl own
 origin_changes m path f h own effects.Whole = origin_part m path [] f h (map.get f path) refl own
 
 -- where no schema is there, there is no table
-untold : (f : Files) (h : History) → Folder f h → map.get f (schema_path 0) ≡ None → h ≡ no_table
+pub untold : (f : Files) (h : History) → Folder f h → map.get f (schema_path 0) ≡ None → h ≡ no_table
 untold f no_table folder absent = refl
 untold f (table s []) folder absent =
     absurd (let first = folder.schema.first in let no : Some first.0 ≡ None = sym first.1 ∙ absent in cc)
@@ -76,7 +76,7 @@ table_whole m f h None absent folder is there =
     subst (λ (h : History). (later : History) × Makes m f h after later) (sym (untold f h folder absent))
     (table m.schema [], makes-table m f after is there (Puts-insert f (schema_path 0) m.bytes))
 
-table_changes : (m : CreatorView) (f : Files) (h : History) → Folder f h → IsCreator m → IsSome (map.get f (origin_path m.schema.origin))
+pub table_changes : (m : CreatorView) (f : Files) (h : History) → Folder f h → IsCreator m → IsSome (map.get f (origin_path m.schema.origin))
     → Changes (Makes m) (schema_call m.bytes) f h
 table_changes m f h folder is there effects.None = (h, makes-same m f h)
 table_changes m f h folder is there (effects.Part found) = (h, makes-same m f h)
@@ -97,12 +97,12 @@ moved_to m p own is = record { reads = is.reads; origin = is.origin; path = own 
 over_knows : (m new : CreatorView) (f : Files) (h : History) → new ≡ at_phase m phases.Over → IsCreator m → Knows new f h
 over_knows m new f h over is = subst (λ (new : CreatorView). Knows new f h) (sym over) (moved_to m phases.Over tt is, tt)
 
-made_absent : (at : Option (List ℕ)) → made.Created ≡ made_at at → at ≡ None
+pub made_absent : (at : Option (List ℕ)) → made.Created ≡ made_at at → at ≡ None
 made_absent None e = refl
 made_absent (Some found) e = cc
 
 -- its origin is there once it is written
-origin_stands : (m : CreatorView) (path : List ℕ) (after : Files) → IsCreator m → path ≡ own_origin m.me → map.get after path ≡ Some []
+pub origin_stands : (m : CreatorView) (path : List ℕ) (after : Files) → IsCreator m → path ≡ own_origin m.me → map.get after path ≡ Some []
     → IsSome (map.get after (origin_path m.schema.origin))
 origin_stands m path after is own here =
     let named : origin_path m.schema.origin ≡ path = ap origin_path is.origin ∙ sym own in
@@ -278,19 +278,19 @@ same_table {old = old} {new = new} (Failed call is came stop) = same_as old new 
 -- ---- laws
 
 -- the refusal that a call shows which ended so
-abbrev by_answer : Call → Option Answer → Refusal
+abbrev pub by_answer : Call → Option Answer → Refusal
 by_answer call None = refusals.StoreFault (path_of call)
 by_answer call (Some (answers.Made made.Exists)) = refusals.SessionUsed (path_of call)
 by_answer call (Some (answers.Swapped (swaps.Differs found))) = refusals.TableExists
 by_answer call (Some answer) = refusals.Memory
 
 -- and that calls show, by the last of at most two
-abbrev by_calls : List Event → Refusal
+abbrev pub by_calls : List Event → Refusal
 by_calls [] = refusals.Memory
 by_calls (one ∷ []) = by_answer one.call one.answer
 by_calls (one ∷ (two ∷ own)) = by_answer two.call two.answer
 
-shown_by : (refusal : Refusal) (own : List Event) → Shows refusal own → refusal ≡ by_calls own
+pub shown_by : (refusal : Refusal) (own : List Event) → Shows refusal own → refusal ≡ by_calls own
 shown_by refusals.Memory own (m, inl is) = sym (ap by_calls is)
 shown_by refusals.Memory own (m, inr is) = sym (ap by_calls is)
 shown_by (refusals.SessionUsed path) own is = sym (ap by_calls is)

@@ -1,3 +1,4 @@
 pub mod Creator
+pub mod Making
 pub mod Meaning
 pub mod Trace

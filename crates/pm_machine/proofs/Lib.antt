@@ -1,2 +1,3 @@
+pub mod AloneLaws
 pub mod Facts
 mod StepLemmas

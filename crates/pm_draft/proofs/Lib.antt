@@ -1,0 +1,5 @@
+mod FaultLemmas
+mod InputLemmas
+mod LineLemmas
+mod OrderLemmas
+mod TextLemmas
