@@ -16,11 +16,15 @@
 //! | `store` | `memory`, `fails` and a plan, or `folder` and a name; calls | their answers |
 //! | `command` | see below | the status, `out`, `err`; the number of operations; the same of `write` without rows |
 //! | `rivals` | how many others commit before this one, an input | as for `command`, and the plain file that is left |
+//! | `table` | see below | the making of a table, how many operations; its snapshots; the same by another session |
 //! | `refusal` | its kind and its parts | its status and its line |
 //! | `short-refusal` | the room of the sink, a refusal as before | its status, and what the sink takes of its line |
 //!
 //! A `command` has eight arguments: the call of the store that fails, or 0, and its effect; the read and the write that
 //! fail, or 0; the room of `out`; the plain file, made by call 1 where it isn't empty; the word; and the input.
+//!
+//! A `table` has four arguments: the call of the store that fails, or 0, and its effect, `none`, `absent` or `whole`;
+//! files as `PATH=TEXT` with `;` between them, made by the first calls; and the draft.
 //!
 //! Digits are hexadecimal. Any other argument is the text itself, or `0x` and the digits of its bytes.
 #![tactic(auto)]
@@ -33,6 +37,7 @@ mod plain;
 mod refusal;
 mod rivals;
 mod store;
+mod table;
 mod value;
 
 use std::alloc::{AllocError, Global};
@@ -69,6 +74,7 @@ fn answer_of(alloc: Global, codec: &str, arguments: &str) -> Result<Option<Strin
         "source" => lines::source_answer(alloc, arguments),
         "sink" => lines::sink_answer(alloc, arguments),
         "lines" => input::answer(alloc, arguments),
+        "table" => table::answer(alloc, arguments),
         "compare" => value::compare_answer(alloc, arguments),
         "merged" => value::merged_answer(alloc, arguments),
         "names" => value::names_answer(alloc, arguments),
