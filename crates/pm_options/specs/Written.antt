@@ -33,6 +33,7 @@ number_if key (Some n) = (key, decimal n) ∷ []
 abbrev pub column_settings : {A : Type 0} → List ℕ → (A → List ℕ) → Entries A → List Setting
 column_settings suffix text_of entries = map (λ e. (column_key suffix e.0, text_of e.1)) entries
 
+-- names with a comma between each two
 abbrev pub list_text : List (List ℕ) → List ℕ
 list_text names = join_with_byte 44 names
 

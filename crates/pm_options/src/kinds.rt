@@ -79,7 +79,7 @@ pub(crate) fn read_engine(text: &str) -> Option<EngineKind>
 }
 
 /// The text of an engine.
-pub(crate) fn print_engine(engine: EngineKind) -> &'static str
+pub fn print_engine(engine: EngineKind) -> &'static str
     ensures { result.now ≡ engine_text engine }
 {
     match engine {
@@ -98,7 +98,7 @@ pub(crate) fn read_producer(text: &str) -> Option<Producer>
 }
 
 /// The text of a producer.
-pub(crate) fn print_producer(producer: Producer) -> &'static str
+pub fn print_producer(producer: Producer) -> &'static str
     ensures { result.now ≡ producer_text producer }
 {
     match producer {

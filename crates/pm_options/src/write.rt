@@ -1,6 +1,6 @@
 //! Settings from options.
 
-ghost use Rattle.std.specs.Prelude.{◌≡◌, ◌==◌, ◌∷◌, [], ◌++◌, codes, true, IfOk, OnOk, decimal, string_bytes};
+ghost use Rattle.std.specs.Prelude.{◌≡◌, ◌==◌, ◌∷◌, [], ◌++◌, codes, true, IfOk, OnOk, decimal};
 ghost use Rattle.pm_options.specs.Fields.{delimiter_suffix, function_suffix, group_suffix, retract_suffix};
 ghost use Rattle.pm_options.specs.Kinds.{function_text, truth_text};
 ghost use Rattle.pm_options.specs.Pairs.{column_key};
@@ -11,6 +11,7 @@ use crate::kinds::{
     EngineKind, Function, Producer, print_engine, print_function, print_producer, print_truth,
 };
 use crate::listed::Listed;
+use crate::names::print_names;
 use crate::options::Options;
 use pm_values::Txt;
 use std::alloc::{AllocError, Global};
@@ -305,25 +306,10 @@ fn push_groups(
     ensures { OnOk result (Adds out.old.items out.new.items (column_settings group_suffix list_text groups.now)) }
 {
     for (column, names) in groups {
-        let text = joined(alloc, names.as_slice())?;
+        let text = print_names(alloc, names.as_slice())?;
         push_column(alloc, out, GROUP_SUFFIX, column, text.as_str())?;
     }
     Ok(())
-}
-
-/// The names with a comma between each two.
-fn joined(alloc: Global, names: &[Txt]) -> Result<String, AllocError>
-    ensures { IfOk result (λ s. string_bytes s ≡ list_text names.now) }
-{
-    let Some((first, rest)) = names.split_first() else {
-        return Ok(String::new(alloc));
-    };
-    let mut text = String::from_str(alloc, first.as_str())?;
-    for name in rest {
-        text.push_str(",")?;
-        text.push_str(name.as_str())?;
-    }
-    Ok(text)
 }
 
 /// Adds the settings that are kept.

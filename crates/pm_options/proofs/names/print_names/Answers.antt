@@ -2,7 +2,7 @@ use Rattle.std.proofs.Common.{sym, ap, ◌∙◌}
 use Rattle.std.proofs.lemmas.List.{take_all}
 use Rattle.pm_options.specs.Written.{list_text}
 use Rattle.pm_options.proofs.TextLemmas.{list_text-next}
-use Rattle.pm_options.proofs.write.joined.Goals as goal
+use Rattle.pm_options.proofs.names.print_names.Goals as goal
 
 pub loop-name-preserved : goal.loop-name-preserved
 loop-name-preserved c =
