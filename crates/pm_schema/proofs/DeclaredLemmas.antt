@@ -1,5 +1,5 @@
 -- What a file or a draft declares can be declared, and what is written of it declares it again.
-use Rattle.std.proofs.Common.{◌≡◌, ℕ, suc, ◌+◌, ◌-◌, ◌^◌, ◌<◌, ◌≤◌, ◌&&◌, ℤ, pos, Bool, true, false, cond, nat_lt, List, [], ◌∷◌, ◌++◌, map, length, take, drop, codes, is_some, Option, Some, None, Result, Ok, Ordering, Less, Equal, Greater, IsTrue, refl, sym, ap, subst, ◌∙◌, arith, rules, is_eq}
+use Rattle.std.proofs.Common.{◌≡◌, ℕ, suc, ◌+◌, ◌^◌, ◌<◌, ◌≤◌, ◌&&◌, ℤ, pos, Bool, true, false, cond, nat_lt, List, [], ◌∷◌, ◌++◌, map, length, take, drop, codes, is_some, Option, Some, None, Ok, Ordering, Less, Equal, Greater, IsTrue, refl, sym, ap, subst, ◌∙◌, arith, rules, is_eq}
 use Rattle.std.proofs.lemmas.Bool.Decides.{nat_tests}
 use Rattle.std.proofs.lemmas.Cmp.{nat_list_cmp_total}
 use Rattle.std.proofs.lemmas.Map.Text.{is_eq-slice_cmp}
@@ -11,21 +11,20 @@ use Rattle.std.specs.Ordering.{is_lt, match_ordering, ordering_reverse}
 use Rattle.std.specs.Prelude.{FitsSigned}
 use Rattle.std.specs.Str.{bytes_eq}
 use Rattle.serde_json.specs.Data.{Data, Num, Items, unsigned, negative, float, null, boolean, number, string, array, object, no_items, item}
-use Rattle.serde_json.specs.Find.{get, as_i64, as_number, as_u64}
+use Rattle.serde_json.specs.Find.{get, as_i64, as_number}
 use Rattle.pm_base.specs.Outcome.{◌>>=◌}
 use Rattle.pm_options.specs.Entries.{entry_at}
-use Rattle.pm_options.specs.Faults.{first_of, judged}
+use Rattle.pm_options.specs.Faults.{judged}
 use Rattle.pm_options.specs.Fields.{by_name}
 use Rattle.pm_options.specs.Options.{options_in}
 use Rattle.pm_options.specs.Pairs.{pair_fault}
 use Rattle.pm_options.specs.Reading.{options_of, setting_fault}
 use Rattle.pm_options.specs.Settings.{filled, is_below, placed}
-use Rattle.pm_options.specs.Stands.{Rises, Stands}
+use Rattle.pm_options.specs.Stands.{Rises}
 use Rattle.pm_options.specs.Table.{Setting}
 use Rattle.pm_options.specs.Written.{settings_of}
 use Rattle.pm_values.specs.declared.column.Column.{Column}
-use Rattle.pm_values.specs.declared.refusal.Refusal.{Refusal}
-use Rattle.pm_schema.specs.Again.{HasRanges, IsDeclared, field_of, stated_again}
+use Rattle.pm_schema.specs.Again.{IsDeclared, field_of, stated_again}
 use Rattle.pm_schema.specs.ColumnType.{Field}
 use Rattle.pm_schema.specs.Meaning.{Declares, DraftOf, IsColumn, SchemaOf}
 use Rattle.pm_schema.specs.Reading.{most_columns, schema_from, schema_with}

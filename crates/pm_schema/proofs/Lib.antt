@@ -1,6 +1,7 @@
 mod AgainLemmas
 mod ColumnLemmas
 mod DeclaredLemmas
+pub mod Facts
 mod FloatLemmas
 mod FolderLemmas
 mod JsonLemmas

@@ -1,5 +1,5 @@
 -- The members of an object that is read stand by rising key, and so do the settings that it has.
-use Rattle.std.proofs.Common.{◌≡◌, ◌==◌, ℕ, zero, suc, ◌^◌, ◌<◌, ◌≤◌, ◌&&◌, pos, Bool, true, false, cond, nat_lt, nat_le, List, [], ◌∷◌, drop, slice_index, codes, Float, Option, Some, None, option_map, option_and_then, Ordering, Less, Equal, Greater, refl, ap, subst, ◌∙◌, arith, rules}
+use Rattle.std.proofs.Common.{◌≡◌, ◌==◌, ℕ, zero, suc, ◌^◌, ◌<◌, ◌≤◌, ◌&&◌, pos, Bool, true, false, cond, nat_lt, nat_le, List, [], drop, slice_index, codes, Float, Option, Some, None, option_map, option_and_then, Ordering, Less, Equal, Greater, refl, ap, subst, ◌∙◌, arith, rules}
 use Rattle.std.proofs.lemmas.Bool.Decides.{nat_tests}
 use Rattle.std.proofs.lemmas.Cmp.{nat_list_cmp_total}
 use Rattle.std.specs.Cmp.Lexicographic.{slice_cmp}
@@ -13,7 +13,7 @@ use Rattle.std.specs.Ordering.{nat_cmp, match_ordering, ordering_reverse}
 use Rattle.std.specs.Prelude.{FitsSigned, neg_ℤ}
 use Rattle.json.specs.Json as json
 use Rattle.json.specs.Lex.{tokens}
-use Rattle.serde_json.specs.Data.{Data, Num, unsigned, negative, float, null, boolean, number, string, array, object, Items, Members, no_members, member, put}
+use Rattle.serde_json.specs.Data.{Data, Num, unsigned, negative, float, null, boolean, number, string, array, object, Members, no_members, member, put}
 use Rattle.serde_json.specs.Find.{get, get_member}
 use Rattle.serde_json.specs.Read.{of_json, of_members, of_items, number_of, number_from, is_integer, max_depth, read}
 use Rattle.pm_options.specs.Table.{Setting}

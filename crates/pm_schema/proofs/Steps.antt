@@ -1,5 +1,5 @@
 -- Steps of a reading that may find nothing.
-use Rattle.std.proofs.Common.{◌≡◌, ℕ, List, [], ◌∷◌, Option, Some, None, option_and_then, refl}
+use Rattle.std.proofs.Common.{◌≡◌, ℕ, List, ◌∷◌, Option, Some, None, option_and_then, refl}
 use Rattle.serde_json.specs.Data.{Data, Members, member}
 use Rattle.serde_json.specs.Find.{as_str}
 use Rattle.pm_options.specs.Table.{Setting}

@@ -4,6 +4,7 @@ pub mod Shape
 pub mod Parts
 pub mod Rules
 pub mod Reading
+pub mod Faults
 pub mod Meaning
 pub mod Written
 pub mod Folder

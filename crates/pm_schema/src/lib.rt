@@ -2,7 +2,8 @@
 //!
 //! `specs/ColumnType.antt` has the texts of column types, `specs/Stated.antt` what JSON states,
 //! `specs/Rules.antt` the rules, `specs/Meaning.antt` which text declares which schema, `specs/Reading.antt`
-//! the first fault of a text, `specs/Written.antt` the text of a schema, and `specs/Folder.antt` the folders.
+//! the first fault of a text and `specs/Faults.antt` which faults there are, `specs/Written.antt` the text of a schema,
+//! and `specs/Folder.antt` the folders.
 #![tactic(auto)]
 
 mod column_type;
@@ -16,7 +17,7 @@ mod stated;
 mod write;
 
 pub use folder::{folder_of, partition_text};
-pub use laws::{declared_law, draft_law, schema_law};
+pub use laws::{declared_law, draft_fault_law, draft_law, fault_law, schema_law};
 pub use pm_options::{EngineKind, Function, Listed, Options, Producer};
 pub use read::{read_draft, read_schema};
 pub use schema::TableSchema;
