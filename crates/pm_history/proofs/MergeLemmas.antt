@@ -2,7 +2,7 @@
 use Rattle.std.proofs.Common.{◌≡◌, ℕ, suc, ◌+◌, List, [], ◌∷◌, ◌++◌, length, map, Bool, true, false, not, cond, ◌||◌, Option, Some, None, refl, sym, ap, subst, ◌∙◌, append-nil, append_assoc, length-append}
 use Rattle.std.specs.Option.{option_map, option_map_or}
 use Rattle.std.specs.List.{filter_map, cons_option, range_with_len, list_any}
-use Rattle.std.specs.FinMap.{get, find, get-from_entries}
+use Rattle.std.specs.FinMap.{get, find, from_entries, get-from_entries}
 use Rattle.std.specs.Ordering.{eq_by_cmp, is_eq}
 use Rattle.std.specs.declared.cmp.Ordering.TheVariants.{Less, Equal, Greater}
 use Rattle.std.proofs.lemmas.List.Elements.{filter-append}
@@ -73,15 +73,14 @@ rows_of-none primary q (r ∷ rows) e =
       | false ↦ λ h. rows_of-none primary q rows h
     ] e
 
--- the entries of rows have the merged row at the keys of the rows, and nothing elsewhere
-find-entries : (columns : List Column) (primary : List ℕ) (all rows : List HistoryRow) (q : Values)
-    → find key_cmp q (filter_map (λ (r : HistoryRow). option_map (λ (row : Values). (key_of primary r.1, row)) (merged_row columns primary all (key_of primary r.1))) rows)
-    ≡ cond (list_any (λ (r : HistoryRow). eq_by_cmp key_cmp q (key_of primary r.1)) rows) (merged_row columns primary all q) None
-find-entries columns primary all [] q = refl
-find-entries columns primary all (r ∷ rows) q =
+-- the entries of rows have what is at a key at the keys of the rows, and nothing elsewhere
+pub find-entries : (primary : List ℕ) (row_at : Values → Option Values) (rows : List HistoryRow) (q : Values)
+    → find key_cmp q (filter_map (λ (r : HistoryRow). option_map (λ (row : Values). (key_of primary r.1, row)) (row_at (key_of primary r.1))) rows)
+    ≡ cond (list_any (λ (r : HistoryRow). eq_by_cmp key_cmp q (key_of primary r.1)) rows) (row_at q) None
+find-entries primary row_at [] q = refl
+find-entries primary row_at (r ∷ rows) q =
     let key = key_of primary r.1 in
-    let row_at = merged_row columns primary all in
-    let rest = find-entries columns primary all rows q in
+    let rest = find-entries primary row_at rows q in
     let entries : List (Values × Values) = filter_map (λ (r : HistoryRow). option_map (λ (row : Values). (key_of primary r.1, row)) (row_at (key_of primary r.1))) rows in
     let more : Bool = list_any (λ (r : HistoryRow). eq_by_cmp key_cmp q (key_of primary r.1)) rows in
     elim (eq_by_cmp key_cmp q key) as (λ b. eq_by_cmp key_cmp q key ≡ b → find key_cmp q (cons_option (option_map (λ (row : Values). (key, row)) (row_at key)) entries) ≡ cond (b || more) (row_at q) None) [
@@ -96,14 +95,21 @@ find-entries columns primary all (r ∷ rows) q =
       ]
     ] refl
 
+-- the map of these entries has at a key what is at it, where nothing is at a key that no row has
+pub get-rows : (primary : List ℕ) (row_at : Values → Option Values) (rows : List HistoryRow) (q : Values) → (rows_of primary q rows ≡ [] → row_at q ≡ None)
+    → get (from_entries {R = key_cmp} (filter_map (λ (r : HistoryRow). option_map (λ (row : Values). (key_of primary r.1, row)) (row_at (key_of primary r.1))) rows)) q ≡ row_at q
+get-rows primary row_at rows q none =
+    get-from_entries key_total _ q ∙ find-entries primary row_at rows q
+    ∙ elim (list_any (λ (r : HistoryRow). eq_by_cmp key_cmp q (key_of primary r.1)) rows) as (λ b. list_any (λ (r : HistoryRow). eq_by_cmp key_cmp q (key_of primary r.1)) rows ≡ b → cond b (row_at q) None ≡ row_at q) [
+      | true ↦ λ e. refl
+      | false ↦ λ e. sym (none (rows_of-none primary q rows e))
+    ] refl
+
 -- what the merged table has at a key
 pub get-merged : (columns : List Column) (primary : List ℕ) (rows : List HistoryRow) (q : Values) → get (merged columns primary rows) q ≡ merged_row columns primary rows q
 get-merged columns primary rows q =
-    get-from_entries key_total _ q ∙ find-entries columns primary rows rows q
-    ∙ elim (list_any (λ (r : HistoryRow). eq_by_cmp key_cmp q (key_of primary r.1)) rows) as (λ b. list_any (λ (r : HistoryRow). eq_by_cmp key_cmp q (key_of primary r.1)) rows ≡ b → cond b (merged_row columns primary rows q) None ≡ merged_row columns primary rows q) [
-      | true ↦ λ e. refl
-      | false ↦ λ e. sym (ap (λ own. cond (shows own) (Some (map (λ index. column_value index own) (range_with_len 0 (length columns)))) None) (rows_of-none primary q rows e))
-    ] refl
+    get-rows primary (merged_row columns primary rows) rows q
+    (λ e. ap (λ own. cond (shows own) (Some (map (λ index. column_value index own) (range_with_len 0 (length columns)))) None) e)
 
 -- what the merged table has at a key after one more row
 pub get-merged-push : (columns : List Column) (primary : List ℕ) (rows : List HistoryRow) (r : HistoryRow) (q : Values) → Fits columns r.1

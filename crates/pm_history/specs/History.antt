@@ -1,5 +1,6 @@
 -- The history of a table: its schema, and the entries that commits made, in order. It knows no file.
-use Rattle.std.specs.Prelude.{◌≡◌, ℕ, ℤ, List, ◌++◌, Bool}
+use Rattle.std.specs.Prelude.{◌≡◌, ℕ, ℤ, List, [], ◌++◌, take, Bool}
+use Rattle.std.specs.List.{flat_map}
 use Rattle.pm_values.specs.declared.group.Group.{Group}
 use Rattle.pm_history.specs.Merge.{HistoryRow}
 use Rattle.pm_schema.specs.declared.schema.TableSchema.{TableSchema}
@@ -17,8 +18,23 @@ pub data History : Type 0 where
   no_table : History
   table : TableSchema → List Entry → History
 
+-- the history is that of a table with this schema
+abbrev pub IsTableOf : TableSchema → History → Type 0
+IsTableOf s no_table = ⊥
+IsTableOf s (table t entries) = t ≡ s
+
 -- The history goes on as the later one: a table keeps its schema, and its entries are the first of the later ones.
 abbrev pub GoesOn : History → History → Type 0
 GoesOn no_table later = Unit {0}
 GoesOn (table s entries) no_table = ⊥
 GoesOn (table s entries) (table t later) = (t ≡ s) × (more : List Entry) × (later ≡ entries ++ more)
+
+-- the rows that an entry put into the table
+abbrev pub entry_rows : Entry → List HistoryRow
+entry_rows (append user identifier rows) = rows
+entry_rows (compaction base groups) = []
+entry_rows (fence number) = []
+
+-- the rows of the first so many entries, in order: those of the snapshot of that number
+abbrev pub rows_up_to : List Entry → ℕ → List HistoryRow
+rows_up_to entries count = flat_map entry_rows (take count entries)

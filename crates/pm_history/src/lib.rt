@@ -1,11 +1,16 @@
 //! The flat model of a table: its history, and what a list of rows merges to.
 //!
-//! `specs/History.antt` has the history, a schema and the entries that commits made, and when it goes on as a later
-//! one; `specs/Merge.antt` the merged table of rows. They know nothing of files, snapshots or retries.
+//! `specs/History.antt` has the history, a schema and the entries that commits made, when it is that of a table with a
+//! schema, and when it goes on as a later one; `specs/Taken.antt` which rows an engine takes; `specs/ColumnValue.antt`
+//! what a column is worth over all rows of a key, by engine and by function; `specs/Merged.antt` which keys show, the
+//! merged table of a schema and the text of a scan; `specs/Merge.antt` the merged table of the engine that keeps each
+//! key's last row. They know nothing of files, snapshots or retries.
 #![tactic(auto)]
 
 mod laws;
 mod merge;
+mod verdict;
 
-pub use laws::merged_law;
+pub use laws::{merged_law, merged_table_law};
 pub use merge::{key_of, merged_rows};
+pub use verdict::Verdict;
