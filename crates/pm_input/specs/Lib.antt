@@ -2,4 +2,5 @@ pub mod Blank
 pub mod Judge
 pub mod Limits
 pub mod Lines
+pub mod Refusals
 pub mod Rows

@@ -8,6 +8,10 @@ use Rattle.pm_input.specs.declared.limits.Limits.{Limits}
 use Rattle.pm_input.specs.declared.limits.LimitKind.{LimitKind}
 use Rattle.pm_input.specs.declared.limits.LimitKind.TheVariants.{Line, BatchRows, BatchBytes}
 
+-- the limits of every command: `LIMITS`
+abbrev pub limits : Limits
+limits = record { line = 1048576; rows = 100000; bytes = 268435456 }
+
 -- the bytes after the last newline: the line that a text ends in
 abbrev pub open_line : List ℕ → List ℕ
 open_line [] = []

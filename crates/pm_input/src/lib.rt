@@ -1,7 +1,8 @@
 //! A command's input: its lines within the limits, and its rows.
 //!
-//! The definitions stand in `specs/Limits.antt` (which limit is exceeded first), `specs/Lines.antt`
-//! (the lines that aren't blank) and `specs/Rows.antt` (the rows, or the first bad line).
+//! The definitions stand in `specs/Limits.antt` (the limits, and which is exceeded first), `specs/Lines.antt`
+//! (the lines that aren't blank), `specs/Refusals.antt` (the refusal of an input that wasn't read) and
+//! `specs/Rows.antt` (the rows, or the first bad line).
 #![tactic(auto)]
 
 mod blank;
@@ -9,9 +10,11 @@ mod judge;
 mod laws;
 mod limits;
 mod lines;
+mod refusals;
 mod rows;
 
 pub use laws::{first_bad_line_law, limits_law};
 pub use limits::{LIMITS, LimitKind, Limits};
 pub use lines::{InputFault, InputLine, read_lines};
+pub use refusals::refusal_of;
 pub use rows::read_rows;
