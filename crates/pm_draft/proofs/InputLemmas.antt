@@ -1,7 +1,7 @@
 -- What is answered of an input that was read.
 use Rattle.std.proofs.Common.{◌≡◌, ℕ, ℤ, List, [], Option, Some, Result, Ok, Err, None, IfOk, IfErr, IfSome, inr, subst}
 use Rattle.pm_base.specs.Outcome.{Fails}
-use Rattle.pm_input.specs.Limits.{IsWithin}
+use Rattle.pm_input.specs.Limits.{limits, IsWithin}
 use Rattle.pm_input.specs.Lines.{row_lines, IsRead}
 use Rattle.pm_io.specs.Source.{SourceView}
 use Rattle.pm_options.specs.Faults.{Answers, fault_of}
@@ -9,8 +9,9 @@ use Rattle.pm_schema.specs.declared.schema.TableSchema.{TableSchema}
 use Rattle.pm_values.specs.declared.refusal.Refusal.{Refusal}
 use Rattle.pm_values.specs.declared.refusal.Refusal.TheVariants as refusals
 use Rattle.pm_draft.specs.Draft.{NumberedLine, draft_in, IsFirstSchema}
-use Rattle.pm_draft.specs.Input.{Making, AnswersDraft, RefusesDraft, ReadsDraft, MayRefuseDraft, limits}
-use Rattle.pm_draft.proofs.FaultLemmas.{IsDraftFault, lines_are}
+use Rattle.pm_draft.specs.Input.{Making, AnswersDraft, RefusesDraft, ReadsDraft, MayRefuseDraft}
+use Rattle.pm_schema.specs.Faults.{IsDraftFault}
+use Rattle.pm_draft.proofs.FaultLemmas.{lines_are}
 
 -- a refusal of lines is one of a draft
 refusal_is : (making : Making) (lines : List NumberedLine) (e : Refusal) → draft_in lines making.origin making.now ≡ Err e → IsDraftFault e

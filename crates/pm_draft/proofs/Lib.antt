@@ -2,4 +2,3 @@ mod FaultLemmas
 mod InputLemmas
 mod LineLemmas
 mod OrderLemmas
-mod TextLemmas

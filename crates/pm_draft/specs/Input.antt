@@ -3,24 +3,11 @@ use Rattle.std.specs.Prelude.{◌≡◌, ◌⊎◌, ℕ, ℤ, List, [], ◌++◌
 use Rattle.pm_values.specs.declared.refusal.Refusal.{Refusal}
 use Rattle.pm_values.specs.declared.refusal.Refusal.TheVariants as refusals
 use Rattle.pm_io.specs.Source.{SourceView, SourceFailed}
-use Rattle.pm_input.specs.Limits.{IsWithin, IsFirstLimit, limit_text, limit_number}
+use Rattle.pm_input.specs.Limits.{limits, IsWithin, IsFirstLimit, limit_text, limit_number}
 use Rattle.pm_input.specs.Lines.{row_lines}
-use Rattle.pm_input.specs.declared.limits.Limits.{Limits}
 use Rattle.pm_input.specs.declared.limits.LimitKind.{LimitKind}
-use Rattle.pm_input.specs.declared.lines.InputFault.{InputFault}
-use Rattle.pm_input.specs.declared.lines.InputFault.TheVariants as faults
 use Rattle.pm_schema.specs.declared.schema.TableSchema.{TableSchema}
 use Rattle.pm_draft.specs.Draft.{NumberedLine, draft_in}
-
--- the limits of a command's input
-abbrev pub limits : Limits
-limits = record { line = 1048576; rows = 100000; bytes = 268435456 }
-
--- Private: the refusal of a fault of the input
-abbrev pub refusal_of : InputFault → Refusal
-refusal_of faults.Memory = refusals.Memory
-refusal_of faults.Read = refusals.SourceFault
-refusal_of (faults.Limit kind) = refusals.Limit (limit_text kind) (limit_number limits kind)
 
 -- what a draft is made into: a table whose origin has that name, at that moment
 pub record Making : Type 0 where

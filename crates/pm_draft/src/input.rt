@@ -3,15 +3,15 @@
 ghost use Rattle.std.specs.Prelude.{◌≡◌, IfOk, IfErr, IfSome};
 ghost use Rattle.pm_io.specs.Source.{SourceLater};
 ghost use Rattle.pm_draft.specs.Draft.{IsFirstSchema};
-ghost use Rattle.pm_draft.specs.Input.{ReadsDraft, MayRefuseDraft, refusal_of};
+ghost use Rattle.pm_draft.specs.Input.{ReadsDraft, MayRefuseDraft};
 
 use crate::draft::read_draft_lines;
 use crate::laws::first_schema_law;
-use pm_input::{InputFault, LIMITS, read_lines};
+use pm_input::{LIMITS, read_lines, refusal_of};
 use pm_io::Source;
 use pm_schema::TableSchema;
 use pm_values::{Refusal, Txt};
-use std::alloc::{AllocError, Global};
+use std::alloc::Global;
 
 /// The schema of the draft that an input is, for a table whose origin has that name, made at that moment. The input is
 /// read to its end first.
@@ -34,18 +34,4 @@ pub fn read_draft_input<S: Source>(
         Err(fault) => return Err(refusal_of(alloc, fault)?),
     };
     read_draft_lines(alloc, &lines, origin, now_millis)
-}
-
-/// The refusal of an input that wasn't read.
-fn refusal_of(alloc: Global, fault: InputFault) -> Result<Refusal, AllocError>
-    ensures { IfOk result (λ e. e ≡ refusal_of fault) }
-{
-    match fault {
-        InputFault::Memory => Err(AllocError),
-        InputFault::Read => Ok(Refusal::SourceFault),
-        InputFault::Limit(which) => Ok(Refusal::Limit {
-            which: Txt::from_str(alloc, which.text())?,
-            number: which.number(&LIMITS) as u64,
-        }),
-    }
 }
