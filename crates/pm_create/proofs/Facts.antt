@@ -1,5 +1,5 @@
 -- A creator keeps the laws of machines.
-use Rattle.std.proofs.Common.{◌≡◌, inl, inr, ℕ, List, [], ◌∷◌, ◌++◌, if◌then◌else◌, Option, None, Some, is_none, IsSome, IfSome, Result, refl, sym, ap, ◌∙◌, subst}
+use Rattle.std.proofs.Common.{◌≡◌, inl, inr, ℕ, List, [], ◌∷◌, ◌++◌, if◌then◌else◌, Option, None, Some, is_none, IsSome, IsSomeAnd, IfSome, Result, refl, sym, ap, ◌∙◌, subst}
 use Rattle.std.specs.FinMap as map
 use Rattle.pm_values.specs.declared.refusal.Refusal.{Refusal}
 use Rattle.pm_values.specs.declared.refusal.Refusal.TheVariants as refusals
@@ -19,16 +19,17 @@ use Rattle.pm_machine.specs.Moves.{Changes, Lasts, Leads, Sound}
 use Rattle.pm_machine.specs.Step.{path_of, Stepped, Rested, Went, Refused, Stopped, Failed}
 use Rattle.pm_machine.specs.Trace.{Event, Recounts, answered, faulted}
 use Rattle.pm_machine.proofs.Facts.{image_changed}
-use Rattle.pm_history.specs.History.{History, no_table, table, GoesOn}
+use Rattle.pm_history.specs.History.{History, IsTableOf, no_table, table, GoesOn}
 use Rattle.pm_folder.specs.Changes.{Actor, Change, nothing, own_file, schema}
 use Rattle.pm_folder.specs.Folder.{Folder}
-use Rattle.pm_folder.specs.Paths.{origin_path, schema_path}
-use Rattle.pm_folder.proofs.Facts.{kept, goes_on, stays, still_there}
+use Rattle.pm_folder.specs.Meaning.{HasSnapshotAt}
+use Rattle.pm_folder.specs.Paths.{schema_path, snapshot_file}
+use Rattle.pm_folder.proofs.Facts.{kept, goes_on, stays, still_there, snapshot_stays}
 use Rattle.pm_schema.specs.declared.schema.TableSchema.{TableSchema}
 use Rattle.pm_create.specs.declared.phase.Phase.{Phase}
 use Rattle.pm_create.specs.declared.phase.Phase.TheVariants as phases
 use Rattle.pm_create.specs.Creator.{CreatorView, IsCreator, IsPathOf, own_origin, origin_call, schema_call, call_at, next_call, at_phase, GoesAt, RefusesAt, Goes, Refuses, Stops, IsSameTable}
-use Rattle.pm_create.specs.Meaning.{Begins, IsTableOf, Makes, KnowsAt, Knows}
+use Rattle.pm_create.specs.Meaning.{Begins, Makes, KnowsAt, Knows}
 use Rattle.pm_create.specs.Trace.{made_origin, met_origin, failed_origin, failed_table, Ended, before_all, before_swap, session_used, origin_failed, table_exists, table_failed, DidAt, Did, Shows}
 
 -- ---- what a creator may change
@@ -40,7 +41,7 @@ pub makes-own : (m : CreatorView) (path content : List ℕ) (f after : Files) (h
     → Puts f path (Some content) after → Makes m f h after h
 makes-own m path content f after h own absent puts = record { kind = own_file path content own absent puts; begins = inl refl }
 
-pub makes-table : (m : CreatorView) (f after : Files) → IsCreator m → IsSome (map.get f (origin_path m.schema.origin))
+pub makes-table : (m : CreatorView) (f after : Files) → IsCreator m → HasSnapshotAt f m.schema 0
     → Puts f (schema_path 0) (Some m.bytes) after → Makes m f no_table after (table m.schema [])
 makes-table m f after is there puts = record {
   kind = schema m.schema m.bytes there puts (m.bytes, puts.here, is.reads);
@@ -68,7 +69,7 @@ untold f (table s (e ∷ entries)) folder absent = absurd folder
 
 -- the swap of its schema, carried out whole
 table_whole : (m : CreatorView) (f : Files) (h : History) (at : Option (List ℕ)) → map.get f (schema_path 0) ≡ at → Folder f h → IsCreator m
-    → IsSome (map.get f (origin_path m.schema.origin))
+    → HasSnapshotAt f m.schema 0
     → (later : History) × Makes m f h (if is_same at None then map.insert f (schema_path 0) m.bytes else f) later
 table_whole m f h (Some found) at folder is there = (h, makes-same m f h)
 table_whole m f h None absent folder is there =
@@ -76,7 +77,7 @@ table_whole m f h None absent folder is there =
     subst (λ (h : History). (later : History) × Makes m f h after later) (sym (untold f h folder absent))
     (table m.schema [], makes-table m f after is there (Puts-insert f (schema_path 0) m.bytes))
 
-pub table_changes : (m : CreatorView) (f : Files) (h : History) → Folder f h → IsCreator m → IsSome (map.get f (origin_path m.schema.origin))
+pub table_changes : (m : CreatorView) (f : Files) (h : History) → Folder f h → IsCreator m → HasSnapshotAt f m.schema 0
     → Changes (Makes m) (schema_call m.bytes) f h
 table_changes m f h folder is there effects.None = (h, makes-same m f h)
 table_changes m f h folder is there (effects.Part found) = (h, makes-same m f h)
@@ -103,10 +104,11 @@ made_absent (Some found) e = cc
 
 -- its origin is there once it is written
 pub origin_stands : (m : CreatorView) (path : List ℕ) (after : Files) → IsCreator m → path ≡ own_origin m.me → map.get after path ≡ Some []
-    → IsSome (map.get after (origin_path m.schema.origin))
+    → HasSnapshotAt after m.schema 0
 origin_stands m path after is own here =
-    let named : origin_path m.schema.origin ≡ path = ap origin_path is.origin ∙ sym own in
-    subst (λ (found : Option (List ℕ)). IsSome found) (sym (ap (map.get after) named ∙ here)) refl
+    let there : IsSome (map.get after (own_origin m.me)) =
+    subst (λ (found : Option (List ℕ)). IsSome found) (sym (ap (map.get after) (sym own) ∙ here)) refl in
+    subst (λ (origin : Option (List ℕ)). IsSomeAnd origin (λ origin. IsSome (map.get after (snapshot_file origin)))) (sym is.origin) there
 
 went_at : (m : CreatorView) (p : Phase) (answer : Answer) (later : Phase) (f : Files) (h : History) → GoesAt p answer later → Folder f h → IsCreator m
     → IsPathOf m.me p → KnowsAt m p f h
@@ -213,12 +215,7 @@ refused_on m phases.Schema (answers.Swapped (swaps.Differs found)) refusal own r
       subst (Ended m) (sym calls_are) (table_exists found),
       subst (λ refusal. Shows refusal (own ++ event ∷ [])) (sym refuses) (m, found, calls_are),
     )
-refused_on m (phases.Origin path) (answers.Made made.Created) refusal own refuses named did = absurd refuses
-refused_on m phases.Schema (answers.Swapped swaps.Swapped) refusal own refuses named did = absurd refuses
-refused_on m (phases.Origin path) answer refusal own refuses named did = λ may. absurd may
-refused_on m phases.Schema answer refusal own refuses named did = λ may. absurd may
-refused_on m phases.Created answer refusal own refuses named did = tt
-refused_on m phases.Over answer refusal own refuses named did = tt
+refused_on m p answer refusal own refuses named did = absurd refuses
 
 -- a call in which the store failed
 failed_on : (m : CreatorView) (p : Phase) (own : List Event) → IsPathOf m.me p → DidAt m p own → IfSome (call_at m p) (λ call.
@@ -320,8 +317,7 @@ known_at : (m : CreatorView) (p : Phase) (other : Actor) (f after : Files) (h la
     → KnowsAt m p f h → KnowsAt m p after later
 known_at m (phases.Origin path) other f after h later folder change known = tt
 known_at m phases.Schema other f after h later folder change known =
-    let origin : List ℕ = origin_path m.schema.origin in
-    still_there f after origin (stays other f after h later origin folder change known) known
+    snapshot_stays f after m.schema 0 (λ q there. still_there f after q (stays other f after h later q folder change there) there) known
 known_at m phases.Created other f after h later folder change known = still_table m.schema h later (goes_on other f after h later change) known
 known_at m phases.Over other f after h later folder change known = tt
 

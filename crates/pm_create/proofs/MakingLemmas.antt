@@ -23,7 +23,8 @@ use Rattle.pm_machine.proofs.Facts.{image_changed, HasTrace-acts, Traces-none}
 use Rattle.pm_history.specs.History.{History, no_table, table}
 use Rattle.pm_folder.specs.Changes.{nothing}
 use Rattle.pm_folder.specs.Folder.{Folder}
-use Rattle.pm_folder.specs.Paths.{origin_path, schema_path}
+use Rattle.pm_folder.specs.Meaning.{HasSnapshotAt}
+use Rattle.pm_folder.specs.Paths.{schema_path}
 use Rattle.pm_folder.proofs.Facts.{kept, some-none}
 use Rattle.pm_schema.specs.declared.schema.TableSchema.{TableSchema}
 use Rattle.pm_create.specs.Creator.{CreatorView, IsCreator, own_origin, schema_call, at_phase, calls_left, left_at, IsSameTable, Reaches}
@@ -52,7 +53,7 @@ either_images m call f h folder changes image left =
 
 -- its origin was made
 origin_made : (m : CreatorView) (f : Files) (h : History) → IsCreator m → Folder f h → Answers (first_call m) (answers.Made made.Created) f
-    → Folder (carried (first_call m) f) h × IsSome (map.get (carried (first_call m) f) (origin_path m.schema.origin))
+    → Folder (carried (first_call m) f) h × HasSnapshotAt (carried (first_call m) f) m.schema 0
 origin_made m f h is folder told =
     let path : List ℕ = own_origin m.me in
     let after : Files = carried (first_call m) f in
@@ -87,7 +88,7 @@ present_met None told = absurd (let no : made.Exists ≡ made.Created = told in 
 present_met (Some found) told = refl
 
 -- its table was made
-table_made : (m : CreatorView) (f : Files) (h : History) → IsCreator m → Folder f h → IsSome (map.get f (origin_path m.schema.origin))
+table_made : (m : CreatorView) (f : Files) (h : History) → IsCreator m → Folder f h → HasSnapshotAt f m.schema 0
     → Answers (schema_call m.bytes) (answers.Swapped swaps.Swapped) f
     → (h ≡ no_table) × Folder (carried (schema_call m.bytes) f) (table m.schema [])
 table_made m f h is folder there told =
@@ -140,7 +141,7 @@ module _ (m : CreatorView) (creator : IsCreator m) (h : History) (first after : 
   AtFirst f = Folder f h × (IsSome (map.get f (own_origin m.me)) → IsThere (own_origin m.me) first)
 
   abbrev HasOrigin : Files → Type 0
-  HasOrigin f = Folder f h × IsSome (map.get f (origin_path m.schema.origin))
+  HasOrigin f = Folder f h × HasSnapshotAt f m.schema 0
 
   at_first : (known : Option (List Op)) → first.ops ≡ known → IsSomeAnd known (λ ops. Folder (files_after ops) h)
       → IsSomeAnd known (λ ops. StandsForEither s h (files_after ops) × AtFirst (files_after ops))

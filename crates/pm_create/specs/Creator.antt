@@ -48,12 +48,9 @@ pub record IsCreator (m : CreatorView) : Type 0 where
   pub origin : m.schema.origin ≡ Some (origin_name m.me)
   pub path : IsPathOf m.me m.phase
 
--- a creator of an actor's table that has made no call yet
-pub record IsNew (me : Actor) (s : TableSchema) (m : CreatorView) : Type 0 where
-  pub me_is : m.me ≡ me
-  pub schema : m.schema ≡ s
-  pub bytes : m.bytes ≡ schema_text s
-  pub phase : m.phase ≡ phases.Origin (own_origin me)
+-- the creator of an actor's table that has made no call yet
+abbrev pub new_creator : Actor → TableSchema → CreatorView
+new_creator me s = seen_as me s (schema_text s) (phases.Origin (own_origin me))
 
 -- the same table of the same actor
 pub record IsSameTable (m new : CreatorView) : Type 0 where
@@ -102,14 +99,11 @@ GoesAt (phases.Origin path) (answers.Made made.Created) later = later ≡ phases
 GoesAt phases.Schema (answers.Swapped swaps.Swapped) later = later ≡ phases.Created
 GoesAt phase other later = ⊥
 
--- The refusal that an answer shows: the name of the origin was used before, or there is a table already. No store gives
--- an answer of another call.
+-- the refusal that an answer shows: the name of the origin was used before, or there is a table already
 abbrev pub RefusesAt : Phase → Answer → Refusal → Type 0
 RefusesAt (phases.Origin path) (answers.Made made.Exists) refusal = refusal ≡ refusals.SessionUsed path
-RefusesAt (phases.Origin path) (answers.Made made.Created) refusal = ⊥
 RefusesAt phases.Schema (answers.Swapped (swaps.Differs found)) refusal = refusal ≡ refusals.TableExists
-RefusesAt phases.Schema (answers.Swapped swaps.Swapped) refusal = ⊥
-RefusesAt phase other refusal = refusal ≡ refusals.Memory
+RefusesAt phase other refusal = ⊥
 
 abbrev pub Goes : CreatorView → Answer → CreatorView → Type 0
 Goes m answer new = (later : Phase) × GoesAt m.phase answer later × (new ≡ at_phase m later)

@@ -1,22 +1,16 @@
 -- What a creator knows of the files, and what its steps mean for them.
-use Rattle.std.specs.Prelude.{◌≡◌, ◌⊎◌, [], IsSome}
-use Rattle.std.specs.FinMap as map
+use Rattle.std.specs.Prelude.{◌≡◌, ◌⊎◌, []}
 use Rattle.pm_store.specs.Files.{Files}
 use Rattle.pm_store.specs.Store.{StoreView}
 use Rattle.pm_machine.specs.Moves.{Moves}
-use Rattle.pm_history.specs.History.{History, no_table, table}
+use Rattle.pm_history.specs.History.{History, IsTableOf, no_table, table}
 use Rattle.pm_schema.specs.declared.schema.TableSchema.{TableSchema}
 use Rattle.pm_folder.specs.Changes.{Change}
 use Rattle.pm_folder.specs.Folder.{Folder}
-use Rattle.pm_folder.specs.Paths.{origin_path}
+use Rattle.pm_folder.specs.Meaning.{HasSnapshotAt}
 use Rattle.pm_create.specs.Creator.{CreatorView, IsCreator}
 use Rattle.pm_create.specs.declared.phase.Phase.{Phase}
 use Rattle.pm_create.specs.declared.phase.Phase.TheVariants as phases
-
--- the history is that of a table with this schema
-abbrev pub IsTableOf : TableSchema → History → Type 0
-IsTableOf s no_table = ⊥
-IsTableOf s (table t entries) = t ≡ s
 
 -- the history stays, or it was no table and is now this one, without entries
 abbrev pub Begins : TableSchema → History → History → Type 0
@@ -31,7 +25,7 @@ pub record Makes (m : CreatorView) (f : Files) (h : History) (after : Files) (la
 -- its table is made, there is this table.
 abbrev pub KnowsAt : CreatorView → Phase → Files → History → Type 0
 KnowsAt m (phases.Origin path) f h = Unit {0}
-KnowsAt m phases.Schema f h = IsSome (map.get f (origin_path m.schema.origin))
+KnowsAt m phases.Schema f h = HasSnapshotAt f m.schema 0
 KnowsAt m phases.Created f h = IsTableOf m.schema h
 KnowsAt m phases.Over f h = Unit {0}
 

@@ -1,7 +1,8 @@
 //! The maker of a table.
 
 ghost use Rattle.std.specs.Prelude.{◌≡◌, ◌+◌, ◌<◌, Some, IfOk, OnOk, OnErr};
-ghost use Rattle.pm_create.specs.Creator.{actor_of, calls_left, IsCreator, IsNew, IsSameTable, Reaches, reached_at};
+ghost use Rattle.pm_create.specs.Creator.{actor_of, calls_left, new_creator, reached_at};
+ghost use Rattle.pm_create.specs.Creator.{IsCreator, IsSameTable, Reaches};
 ghost use Rattle.pm_create.specs.Meaning.{CreatorMoved};
 ghost use Rattle.pm_create.specs.Trace.{CreatorActed};
 ghost use Rattle.pm_folder.specs.Changes.{origin_name};
@@ -56,7 +57,7 @@ impl Creator {
         requires declared { IsDeclared schema }
         requires first { schema.id ≡ 0 }
         requires origin { schema.origin ≡ Some (origin_name (actor_of session actor)) }
-        ensures is_new { IfOk result (IsNew (actor_of session actor) schema) }
+        ensures is_new { IfOk result (λ c. c ≡ new_creator (actor_of session actor) schema) }
         ensures is_creator { IfOk result IsCreator }
     {
         schema_law();

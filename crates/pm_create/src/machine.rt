@@ -44,7 +44,7 @@ impl Machine for Creator {
                 Ok(())
             }
             (Phase::Schema, Answer::Swapped(Swapped::Differs(_))) => Err(Refusal::TableExists),
-            _ => Err(Refusal::Memory),
+            _ => unreachable!(),
         }
     }
 

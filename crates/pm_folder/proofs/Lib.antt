@@ -1,2 +1,3 @@
 pub mod Facts
+mod NameLemmas
 mod PathLemmas

@@ -1,11 +1,11 @@
 -- The kinds of change that commands make, whoever makes them.
-use Rattle.std.specs.Prelude.{◌≡◌, ℕ, ◌<◌, ◌^◌, List, [], ◌∷◌, ◌++◌, All, length, codes, Some, None, IsSome, decimal}
+use Rattle.std.specs.Prelude.{◌≡◌, ℕ, ◌<◌, ◌^◌, List, [], ◌∷◌, ◌++◌, All, length, codes, Some, None, decimal}
 use Rattle.std.specs.FinMap as map
 use Rattle.uuid.specs.Text.{hyphenated_text, hyphen, lower}
 use Rattle.pm_store.specs.Files.{Files, Puts}
 use Rattle.pm_history.specs.History.{History, no_table, table}
-use Rattle.pm_folder.specs.Meaning.{SchemaAt}
-use Rattle.pm_folder.specs.Paths.{origin_path, schema_path, snapshot_file}
+use Rattle.pm_folder.specs.Meaning.{SchemaAt, HasSnapshotAt}
+use Rattle.pm_folder.specs.Paths.{schema_path, snapshot_file}
 use Rattle.pm_schema.specs.declared.schema.TableSchema.{TableSchema}
 
 -- an actor: the sixteen bytes of its session, and its number in it
@@ -37,6 +37,6 @@ pub data Change (me : Actor) (f : Files) : History → Files → History → Typ
   own_file : {h : History} {after : Files} (path content : List ℕ) → IsOwn me path → map.get f path ≡ None
       → Puts f path (Some content) after → Change me f h after h
   -- the schema of a new table appears, whole, once its origin is there
-  schema : {after : Files} (s : TableSchema) (bytes : List ℕ) → IsSome (map.get f (origin_path s.origin))
+  schema : {after : Files} (s : TableSchema) (bytes : List ℕ) → HasSnapshotAt f s 0
       → Puts f (schema_path 0) (Some bytes) after → SchemaAt after 0 s
       → Change me f no_table after (table s [])

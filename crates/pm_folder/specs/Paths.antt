@@ -1,8 +1,18 @@
 -- The paths of a table's files, each below the table's folder.
-use Rattle.std.specs.Prelude.{ℕ, zero, suc, List, ◌++◌, codes, Option, Some, None, decimal}
+use Rattle.std.specs.Prelude.{ℕ, List, ◌++◌, codes, decimal}
 use Rattle.pm_snapshot.specs.Names as names
 use Rattle.pm_schema.specs.Stated as schemas
-use Rattle.pm_schema.specs.declared.schema.TableSchema.{TableSchema}
+
+-- the folders of schemas and of snapshots
+abbrev pub schema_folder : List ℕ
+schema_folder = codes "schema"
+
+abbrev pub snapshot_folder : List ℕ
+snapshot_folder = codes "snapshot"
+
+-- the name of the schema with an id
+abbrev pub schema_name : ℕ → List ℕ
+schema_name id = codes "schema-" ++ decimal id
 
 -- the schema with an id
 abbrev pub schema_path : ℕ → List ℕ
@@ -15,16 +25,6 @@ snapshot_file name = codes "snapshot/" ++ name
 -- the snapshot with an id, from 1
 abbrev pub snapshot_path : ℕ → List ℕ
 snapshot_path id = snapshot_file (names.snapshot_name id)
-
--- snapshot 0, the origin: the file that the schema names, or else the one with the id 0
-abbrev pub origin_path : Option (List ℕ) → List ℕ
-origin_path (Some origin) = snapshot_file origin
-origin_path None = snapshot_path 0
-
--- a snapshot of a table, the origin counted as 0
-abbrev pub path_of : TableSchema → ℕ → List ℕ
-path_of s zero = origin_path s.origin
-path_of s (suc id) = snapshot_path (suc id)
 
 -- the consumer of a name
 abbrev pub consumer_path : List ℕ → List ℕ

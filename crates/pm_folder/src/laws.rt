@@ -1,11 +1,14 @@
 //! Laws of folders. Each holds with no call.
 
-ghost use Rattle.std.specs.Prelude.{◌≡◌, ℕ, List, IsSome};
+ghost use Rattle.std.specs.Prelude.{◌≡◌, ◌↔◌, ℕ, ◌≤◌, List, Contains, IsSome};
 ghost use Rattle.std.specs.FinMap as map;
-ghost use Rattle.pm_store.specs.Files.{Files};
-ghost use Rattle.pm_history.specs.History.{History, GoesOn};
+ghost use Rattle.pm_store.specs.Files.{Files, IsListing};
+ghost use Rattle.pm_history.specs.History.{Entry, History, GoesOn, no_table, table};
+ghost use Rattle.pm_schema.specs.declared.schema.TableSchema.{TableSchema};
+ghost use Rattle.pm_snapshot.specs.Names.{greatest};
 ghost use Rattle.pm_folder.specs.Changes.{Actor, Change, IsActor, IsOwn};
 ghost use Rattle.pm_folder.specs.Folder.{Folder};
+ghost use Rattle.pm_folder.specs.Paths.{schema_folder, schema_name};
 
 use pm_values::names_law;
 
@@ -33,3 +36,13 @@ pub fn own_law()
 {
     names_law();
 }
+
+/// The names in the folder of schemas are those of no schema exactly where there is no table. Where there is one, they
+/// have the schema of id 0, and no other.
+pub fn listed_law()
+    ensures none { (f : Files) (h : History) (names : List (List ℕ)) → Folder f h → IsListing schema_folder names f
+        → ((id : ℕ) → id ≤ greatest → ¬ Contains names (schema_name id)) ↔ (h ≡ no_table) }
+    ensures first { (f : Files) (s : TableSchema) (entries : List Entry) (names : List (List ℕ))
+        → Folder f (table s entries) → IsListing schema_folder names f
+        → (id : ℕ) → id ≤ greatest → Contains names (schema_name id) ↔ (id ≡ 0) }
+{}

@@ -21,6 +21,7 @@ use Rattle.pm_machine.specs.Moves.{Leads, Sound}
 use Rattle.pm_machine.specs.Step.{path_of, Stepped, Rested, Went, Refused, Stopped, Failed}
 use Rattle.pm_machine.specs.Trace.{Event, Recounts, answered, faulted}
 use Rattle.pm_history.specs.History.{History}
+use Rattle.pm_schema.specs.declared.schema.TableSchema.{TableSchema}
 use Rattle.pm_snapshot.specs.Names.{greatest}
 use Rattle.pm_snapshot.specs.Snapshot.{snapshot_in}
 use Rattle.pm_snapshot.specs.declared.snapshot.Snapshot.{Snapshot}
@@ -28,12 +29,12 @@ use Rattle.pm_snapshot.proofs.Facts.{id_same}
 use Rattle.pm_folder.specs.Changes.{Actor, Change}
 use Rattle.pm_folder.specs.Folder.{Folder}
 use Rattle.pm_folder.specs.Meaning.{SnapshotAt}
-use Rattle.pm_folder.specs.Paths.{snapshot_path}
+use Rattle.pm_folder.specs.Paths.{snapshot_folder, snapshot_path}
 use Rattle.pm_folder.proofs.Facts.{goes_on, stays}
 use Rattle.pm_view.specs.Meaning as reader_meaning
-use Rattle.pm_view.specs.Meaning.{AreKept, IsTableOf}
+use Rattle.pm_view.specs.Meaning.{AreKept}
 use Rattle.pm_view.specs.Reader as reader
-use Rattle.pm_view.specs.Reader.{snapshot_folder, snapshots_call}
+use Rattle.pm_view.specs.Reader.{snapshots_call}
 use Rattle.pm_view.specs.Trace as reader_trace
 use Rattle.pm_view.specs.Trace.{Names, listed_snapshots}
 use Rattle.pm_view.specs.declared.phase.Phase as schema_phase
@@ -42,7 +43,7 @@ use Rattle.pm_view.proofs.Facts as reader_facts
 use Rattle.pm_view.proofs.Facts.{kept_same, list_effect, read_effect, still_table}
 use Rattle.pm_snapshots.specs.Ids.{AreIds}
 use Rattle.pm_snapshots.specs.Lines.{line_of}
-use Rattle.pm_snapshots.specs.Lister.{snapshot_call, next_call, IsLister, calls_left, IsDone, lines_of, after_reader, Goes, Shown, Refuses, Stops, Reaches, done_at, reached_at}
+use Rattle.pm_snapshots.specs.Lister.{snapshot_call, next_call, IsLister, calls_left, IsDone, lines_of, schema_at, KeepsSchema, after_reader, Goes, Shown, Refuses, Stops, Reaches, done_at, reached_at}
 use Rattle.pm_snapshots.specs.Meaning.{Leaves, IsLineAt, Knows}
 use Rattle.pm_snapshots.specs.Reading.{ReadingView, reading_of, next_id, add_line}
 use Rattle.pm_snapshots.specs.Trace.{read_snapshot, IsLineOf, HasRead, Meets, HasListed, MayEnd, of_reader, at_list, at_ids, at_read, at_snapshot, in_reader, in_list, in_read, Shows, Did}
@@ -50,7 +51,7 @@ use Rattle.pm_snapshots.specs.declared.line.SnapshotLine.{SnapshotLine}
 use Rattle.pm_snapshots.specs.declared.phase.Phase.{Phase}
 use Rattle.pm_snapshots.specs.declared.phase.Phase.TheVariants as phases
 use Rattle.pm_snapshots.proofs.IdLemmas.{ids_within}
-use Rattle.pm_snapshots.proofs.ReadingLemmas.{none_left, within_none}
+use Rattle.pm_snapshots.proofs.ReadingLemmas.{none_left, one_more, within_none}
 
 -- ---- its calls change nothing
 
@@ -102,10 +103,10 @@ knows_next (phases.Schema r) answer new f h (to, on, is) folder known =
     IfSome_then (reader.next_call r) (reader_facts.knows_next r answer to f h on folder known)
     (λ call knows told. subst (λ (m : Phase). Knows m f h) (sym is) (knows_reader to f h (knows told)))
 knows_next (phases.List s) (answers.Listed names) new f h (ids, are, is) folder known = λ told.
-    subst (λ (m : Phase). Knows m f h) (sym is) tt
-knows_next (phases.Read r) (answers.Found (Some bytes)) new f h (id, s, next, reads, is) folder known =
+    subst (λ (m : Phase). Knows m f h) (sym is) (known, tt)
+knows_next (phases.Read r) (answers.Found (Some bytes)) new f h (id, s, next, reads, is) folder (is_table, known) =
     IfSome_then (next_call (phases.Read r)) (knows_read r (next_id r) id bytes s f next reads known)
-    (λ call knows told. subst (λ (m : Phase). Knows m f h) (sym is) (knows told))
+    (λ call knows told. subst (λ (m : Phase). Knows m f h) (sym is) (is_table, knows told))
 knows_next m answer new f h goes folder known = absurd goes
 
 over_knows : (new : Phase) (f : Files) (h : History) → new ≡ phases.Over → Knows new f h
@@ -146,9 +147,9 @@ zip_push R (a ∷ xs) [] x y all one = absurd all
 zip_push R (a ∷ xs) (b ∷ ys) x y all one = (all.0, zip_push R xs ys x y all.1 one)
 
 -- a snapshot more was read
-read_more : (r : ReadingView) (id : ℕ) (bytes : List ℕ) (s : Snapshot) (own : List Event) → snapshot_in id bytes ≡ Ok s → HasRead r own
-    → HasRead (add_line r (line_of s)) (own ++ read_snapshot id (Some bytes) ∷ [])
-read_more r id bytes s own reads (names, earlier, events, are, lists, all, is) =
+read_more : (r : ReadingView) (id : ℕ) (bytes : List ℕ) (s : Snapshot) (own : List Event) → next_id r ≡ Some id → snapshot_in id bytes ≡ Ok s
+    → HasRead r own → HasRead (add_line r (line_of s)) (own ++ read_snapshot id (Some bytes) ∷ [])
+read_more r id bytes s own next reads (names, earlier, events, are, reading, lists, all, is) =
     let event : Event = read_snapshot id (Some bytes) in
     let same : s.id ≡ id = id_same id bytes s reads in
     let one : IsLineOf (line_of s) event =
@@ -157,18 +158,19 @@ read_more r id bytes s own reads (names, earlier, events, are, lists, all, is) =
       earlier,
       events ++ event ∷ [],
       are,
+      one_more r (line_of s) reading (next ∙ ap Some (sym same)),
       lists,
       zip_push IsLineOf r.lines events (line_of s) event all one,
       ap (λ (own : List Event). own ++ event ∷ []) is ∙ append_assoc earlier events (event ∷ []),
     )
 
-went_read : (r : ReadingView) (next : Option ℕ) (id : ℕ) (bytes : List ℕ) (s : Snapshot) (own : List Event) → next ≡ Some id
+went_read : (r : ReadingView) (next : Option ℕ) (id : ℕ) (bytes : List ℕ) (s : Snapshot) (own : List Event) → next_id r ≡ next → next ≡ Some id
     → snapshot_in id bytes ≡ Ok s → HasRead r own
     → IfSome (option_map snapshot_call next) (λ call. HasRead (add_line r (line_of s)) (own ++ answered call (answers.Found (Some bytes)) ∷ []))
-went_read r None id bytes s own is reads did = tt
-went_read r (Some other) id bytes s own is reads did =
+went_read r None id bytes s own at is reads did = tt
+went_read r (Some other) id bytes s own at is reads did =
     let same : id ≡ other = cc in
-    subst (λ id. HasRead (add_line r (line_of s)) (own ++ read_snapshot id (Some bytes) ∷ [])) same (read_more r id bytes s own reads did)
+    subst (λ id. HasRead (add_line r (line_of s)) (own ++ read_snapshot id (Some bytes) ∷ [])) same (read_more r id bytes s own (at ∙ is) reads did)
 
 went_on : (m : Phase) (answer : Answer) (new : Phase) (own : List Event) → Goes m answer new → Did m own
     → IfSome (next_call m) (λ call. MayAnswer call answer → Did new (own ++ answered call answer ∷ []))
@@ -178,9 +180,9 @@ went_on (phases.Schema r) answer new own (to, on, is) did =
     (did_reader to (own ++ answered call answer ∷ []) (done may)))
 went_on (phases.List s) (answers.Listed names) new own (ids, are, is) did = λ may.
     let now : List Event = own ++ listed_snapshots names ∷ [] in
-    subst (λ (m : Phase). Did m now) (sym is) (names, now, [], are, (s, own, did, refl), tt, sym (append-nil now))
+    subst (λ (m : Phase). Did m now) (sym is) (names, now, [], are, refl, (own, did, refl), tt, sym (append-nil now))
 went_on (phases.Read r) (answers.Found (Some bytes)) new own (id, s, next, reads, is) did =
-    IfSome_then (next_call (phases.Read r)) (went_read r (next_id r) id bytes s own next reads did)
+    IfSome_then (next_call (phases.Read r)) (went_read r (next_id r) id bytes s own refl next reads did)
     (λ call done may. subst (λ (m : Phase). Did m (own ++ answered call (answers.Found (Some bytes)) ∷ [])) (sym is) done)
 went_on m answer new own goes did = absurd goes
 
@@ -206,7 +208,7 @@ refused_on (phases.Schema r) answer refusal own shown did =
     IfSome_then (reader.next_call r) (reader_facts.recounts.refused r readers.Over answer refusal own (shown, refl) did)
     (λ call done may. from_reader refusal (own ++ answered call answer ∷ []) (done may).1)
 refused_on (phases.List s) (answers.Listed names) refusal own is did = λ may.
-    subst (λ (refusal : Refusal). Shows refusal (own ++ listed_snapshots names ∷ [])) (sym is) (at_ids names (s, own, did, refl))
+    subst (λ (refusal : Refusal). Shows refusal (own ++ listed_snapshots names ∷ [])) (sym is) (at_ids s names (own, did, refl))
 refused_on (phases.Read r) (answers.Found None) refusal own (id, next, is) did =
     IfSome_then (next_call (phases.Read r)) (met r (next_id r) id None own refl next did)
     (λ call meets may. subst (λ (refusal : Refusal). Shows refusal (own ++ answered call (answers.Found None) ∷ [])) (sym is) (r, meets))
@@ -290,11 +292,18 @@ goes_reaches : (m : Phase) (answer : Answer) (new : Phase) → Goes m answer new
 goes_reaches (phases.Schema r) answer new (to, on, is) =
     subst (λ (new : Phase). Reaches (reached_at new) new) (sym is) (reader_reaches to)
 goes_reaches (phases.List s) (answers.Listed names) new (ids, are, is) =
-    subst (λ (new : Phase). Reaches (reached_at new) new) (sym is) (read_reaches (reading_of ids []) (next_id (reading_of ids [])) refl)
+    subst (λ (new : Phase). Reaches (reached_at new) new) (sym is) (read_reaches (reading_of s ids []) (next_id (reading_of s ids [])) refl)
 goes_reaches (phases.Read r) (answers.Found (Some bytes)) new (id, s, next, reads, is) =
     subst (λ (new : Phase). Reaches (reached_at new) new) (sym is)
     (read_reaches (add_line r (line_of s)) (next_id (add_line r (line_of s))) refl)
 goes_reaches m answer new goes = absurd goes
+
+-- the schema that was read stays
+goes_kept : (m : Phase) (answer : Answer) (new : Phase) → Goes m answer new → KeepsSchema m new
+goes_kept (phases.Schema r) answer new goes = tt
+goes_kept (phases.List s) (answers.Listed names) new (ids, are, is) = ap schema_at is
+goes_kept (phases.Read r) (answers.Found (Some bytes)) new (id, s, next, reads, is) = ap schema_at is
+goes_kept m answer new goes = absurd goes
 
 reader_called : (r : schema_phase.Phase) → 0 < reader.calls_left r → IsSome (reader.next_call r)
 reader_called readers.Schemas left = refl
@@ -314,13 +323,13 @@ has_call (phases.List s) is left = refl
 has_call (phases.Read r) is left = read_called r (next_id r) refl (omega (arith, left))
 has_call phases.Over is left = absurd (omega (arith, left))
 
--- a step that goes on leaves fewer calls, and what it reached
+-- a step that goes on leaves fewer calls, what it reached, and the schema
 pub steps_on : {old new : Phase} {before after : StoreView} {result : Result (Unit {0}) Refusal}
     → Stepped next_call Goes Refuses Stops old new before after result → IsLister old → 0 < calls_left old
-    → OnOk result ((calls_left new < calls_left old) × Reaches (reached_at new) new)
+    → OnOk result ((calls_left new < calls_left old) × Reaches (reached_at new) new × KeepsSchema old new)
 steps_on {old = old} {new = new} (Rested none same still) is left =
     absurd (let called = has_call old is left in let clash = rw none at called in cc)
-steps_on {old = old} {new = new} (Went call answer at came on) is left = (goes_fewer old answer new on, goes_reaches old answer new on)
+steps_on {old = old} {new = new} (Went call answer at came on) is left = (goes_fewer old answer new on, goes_reaches old answer new on, goes_kept old answer new on)
 steps_on (Refused call answer refusal at came on) is left = tt
 steps_on (Stopped call at meanwhile stop) is left = tt
 steps_on (Failed call at came stop) is left = tt
@@ -339,7 +348,8 @@ pub knows_still : (m : Phase) (other : Actor) (f after : Files) (h later : Histo
     → Knows m f h → Knows m after later
 knows_still (phases.Schema r) other f after h later folder change known = reader_facts.knows_still r other f after h later folder change known
 knows_still (phases.List s) other f after h later folder change known = still_table s h later (goes_on other f after h later change) known
-knows_still (phases.Read r) other f after h later folder change known = lines_still r.lines other f after h later folder change known
+knows_still (phases.Read r) other f after h later folder change (is_table, known) =
+    (still_table r.schema h later (goes_on other f after h later change) is_table, lines_still r.lines other f after h later folder change known)
 knows_still phases.Over other f after h later folder change known = tt
 
 pub images : (m : Phase) (call : Call) (f image : Files) (h : History) → next_call m ≡ Some call → MayLeave call f image → AreKept f h image h
@@ -348,7 +358,10 @@ images m call f image h is left =
     let still = rw is at (rests m f) in
     kept_same f image h (had.1 ∙ still had.0)
 
-pub printed : (m : Phase) (own : List Event) → IsLister m → IsDone m → Did m own → HasListed (lines_of m) own
-printed (phases.Read r) own is done (names, earlier, reads, are, lists, all, same) =
+pub printed : (m : Phase) (s : TableSchema) (own : List Event) → IsLister m → IsDone m → schema_at m ≡ Some s → Did m own
+    → HasListed s (lines_of m) own
+printed (phases.Read r) s own is done had (names, earlier, reads, are, reading, lists, all, same) =
+    let schema : r.schema ≡ s = cc in
+    subst (λ (s : TableSchema). HasListed s r.lines own) schema
     (names, earlier, reads, subst (λ (ids : List ℕ). AreIds names.items ids) (sym (none_left r is done)) are, lists, all, same)
-printed m own is done did = absurd done
+printed m s own is done had did = absurd done

@@ -10,15 +10,15 @@ use Rattle.pm_schema.specs.declared.schema.TableSchema.{TableSchema}
 use Rattle.pm_snapshot.specs.Snapshot.{snapshot_in}
 use Rattle.pm_snapshot.specs.declared.fault.SnapFault.TheVariants as faults
 use Rattle.pm_snapshot.specs.declared.snapshot.Snapshot.{Snapshot}
-use Rattle.pm_folder.specs.Paths.{snapshot_path}
-use Rattle.pm_view.specs.Reader.{snapshot_folder, snapshots_call}
+use Rattle.pm_folder.specs.Paths.{snapshot_folder, snapshot_path}
+use Rattle.pm_view.specs.Reader.{snapshots_call}
 use Rattle.pm_view.specs.Trace as reader
 use Rattle.pm_view.specs.Trace.{Names, listed_snapshots}
 use Rattle.pm_view.specs.declared.phase.Phase.TheVariants as readers
 use Rattle.pm_snapshots.specs.Ids.{AreIds}
 use Rattle.pm_snapshots.specs.Lines.{line_of}
 use Rattle.pm_snapshots.specs.Lister.{snapshot_call}
-use Rattle.pm_snapshots.specs.Reading.{ReadingView, next_id}
+use Rattle.pm_snapshots.specs.Reading.{ReadingView, IsReading, next_id}
 use Rattle.pm_snapshots.specs.declared.line.SnapshotLine.{SnapshotLine}
 use Rattle.pm_snapshots.specs.declared.lister.ListStep.{ListStep}
 use Rattle.pm_snapshots.specs.declared.phase.Phase.{Phase}
@@ -35,9 +35,8 @@ abbrev pub Has : TableSchema → List Event → Type 0
 Has s own = reader.Did (readers.Ready s) own
 
 -- and the snapshots have these names
-abbrev pub Lists : Names → List Event → Type 0
-Lists names own =
-    (s : TableSchema) × (earlier : List Event) × Has s earlier × (own ≡ earlier ++ listed_snapshots names ∷ [])
+abbrev pub Lists : TableSchema → Names → List Event → Type 0
+Lists s names own = (earlier : List Event) × Has s earlier × (own ≡ earlier ++ listed_snapshots names ∷ [])
 
 -- the line is that of the snapshot that its read was answered
 abbrev pub IsLineOf : SnapshotLine → Event → Type 0
@@ -45,21 +44,22 @@ IsLineOf l event =
     (bytes : List ℕ) × (s : Snapshot) × (snapshot_in l.id bytes ≡ Ok s) × (l ≡ line_of s)
     × (event ≡ read_snapshot l.id (Some bytes))
 
--- snapshots were listed, these are their ids, and these lines are of the first of them
+-- the table's snapshots were listed, these are their ids, and these lines are of the first of them
 abbrev pub HasRead : ReadingView → List Event → Type 0
 HasRead r own =
-    (names : Names) × (earlier reads : List Event) × AreIds names.items r.ids × Lists names earlier
-    × AllZip IsLineOf r.lines reads × (own ≡ earlier ++ reads)
+    (names : Names) × (earlier reads : List Event) × AreIds names.items r.ids × IsReading r
+    × Lists r.schema names earlier × AllZip IsLineOf r.lines reads × (own ≡ earlier ++ reads)
 
 -- and this was found at the path of the next
 abbrev pub Meets : ReadingView → ℕ → Option (List ℕ) → List Event → Type 0
 Meets r id found own =
     (earlier : List Event) × HasRead r earlier × (next_id r ≡ Some id) × (own ≡ earlier ++ read_snapshot id found ∷ [])
 
--- snapshots were listed, and these lines are of all of them, rising, each of what its read was answered
-abbrev pub HasListed : List SnapshotLine → List Event → Type 0
-HasListed lines own =
-    (names : Names) × (earlier reads : List Event) × AreIds names.items (map (λ l. l.id) lines) × Lists names earlier
+-- the snapshots of the table with this schema were listed, and these lines are of all of them, rising, each of what its
+-- read was answered
+abbrev pub HasListed : TableSchema → List SnapshotLine → List Event → Type 0
+HasListed s lines own =
+    (names : Names) × (earlier reads : List Event) × AreIds names.items (map (λ l. l.id) lines) × Lists s names earlier
     × AllZip IsLineOf lines reads × (own ≡ earlier ++ reads)
 
 -- ---- what they show
@@ -68,7 +68,7 @@ HasListed lines own =
 pub data MayEnd (own : List Event) : Type 0 where
   of_reader : reader.Shows refusals.Memory own → MayEnd own
   at_list : (s : TableSchema) → Has s own → MayEnd own
-  at_ids : (names : Names) → Lists names own → MayEnd own
+  at_ids : (s : TableSchema) (names : Names) → Lists s names own → MayEnd own
   at_read : (r : ReadingView) → HasRead r own → MayEnd own
   at_snapshot : (r : ReadingView) (id : ℕ) (bytes : List ℕ) → Meets r id (Some bytes) own → MayEnd own
 

@@ -1,10 +1,11 @@
 //! The lister of a table's snapshots.
 
-ghost use Rattle.std.specs.Prelude.{◌≡◌, ◌<◌, IfOk, OnOk, OnErr};
+ghost use Rattle.std.specs.Prelude.{◌≡◌, ◌↔◌, ◌<◌, IfOk, OnOk, OnErr, IsTrue};
 ghost use Rattle.std.specs.Option.{option_copied};
 ghost use Rattle.pm_store.specs.Store.{IsLater};
 ghost use Rattle.pm_snapshots.specs.Lines.{snapshots_text};
-ghost use Rattle.pm_snapshots.specs.Lister.{calls_left, lines_of, reached_at, schema_at, IsDone, IsLister, Reaches};
+ghost use Rattle.pm_snapshots.specs.Lister.{calls_left, lines_of, reached_at, schema_at};
+ghost use Rattle.pm_snapshots.specs.Lister.{IsDone, IsLister, KeepsSchema, Reaches};
 ghost use Rattle.pm_snapshots.specs.Meaning.{ListerMoved};
 ghost use Rattle.pm_snapshots.specs.Trace.{ListerActed};
 ghost use Rattle.pm_snapshots.specs.declared.phase.Phase.TheVariants as phases;
@@ -56,13 +57,33 @@ impl Lister {
         }
     }
 
-    /// The table's schema, where it was just read.
+    /// A lister of the table with this schema, which was just read.
+    pub fn of_table(schema: TableSchema) -> Lister
+        ensures { result ≡ phases.List schema }
+    {
+        Lister {
+            phase: Phase::List { schema },
+        }
+    }
+
+    /// The table's schema, once it was read.
     pub fn schema(&self) -> Option<&TableSchema>
         ensures { option_copied result ≡ schema_at self.now }
     {
         match &self.phase {
             Phase::List { schema } => Some(schema),
+            Phase::Read { reading } => Some(reading.schema()),
             _ => None,
+        }
+    }
+
+    /// Whether all snapshots were read.
+    pub fn is_done(&self) -> bool
+        ensures { IsTrue result ↔ IsDone self.now }
+    {
+        match &self.phase {
+            Phase::Read { reading } => reading.next().is_none(),
+            _ => false,
         }
     }
 
@@ -83,6 +104,7 @@ impl Lister {
         ensures moves { ListerMoved self.old self.new (F.seen store.old) (F.seen store.new) }
         ensures acts { ListerActed self.old self.new (F.seen store.old) (F.seen store.new) result }
         ensures reaches { IfOk result (λ step. Reaches step self.new) }
+        ensures schema { OnOk result (KeepsSchema self.old self.new) }
         ensures fewer { OnOk result (calls_left self.new < calls_left self.old) }
         ensures over { OnErr result (self.new ≡ phases.Over) }
         ensures later { IsLater (F.seen store.old) (F.seen store.new) }

@@ -16,6 +16,7 @@ use crate::phase::Phase;
 use crate::reading::Reading;
 use pm_base::{Blob, Txt};
 use pm_machine::{Machine, Meaning};
+use pm_schema::TableSchema;
 use pm_snapshot::{SnapFault, read_snapshot};
 use pm_store::{Answer, Call};
 use pm_values::Refusal;
@@ -73,7 +74,7 @@ fn next_phase(alloc: Global, phase: Phase, answer: Answer) -> Result<Phase, Refu
 {
     match (phase, answer) {
         (Phase::Schema { reader }, answer) => after_schema(alloc, reader, answer),
-        (Phase::List { .. }, Answer::Listed(names)) => after_list(alloc, names),
+        (Phase::List { schema }, Answer::Listed(names)) => after_list(alloc, schema, names),
         (Phase::Read { reading }, Answer::Found(found)) => after_read(alloc, reading, found),
         _ => unreachable!(),
     }
@@ -107,14 +108,14 @@ fn after_reader(reader: SchemaReader) -> Phase
 }
 
 /// The phase once the snapshots were listed.
-fn after_list(alloc: Global, names: Vec<Txt>) -> Result<Phase, Refusal>
-    ensures goes { IfOk result (GoesToRead names.items) }
+fn after_list(alloc: Global, schema: TableSchema, names: Vec<Txt>) -> Result<Phase, Refusal>
+    ensures goes { IfOk result (GoesToRead schema names.items) }
     ensures is_lister { IfOk result IsLister }
     ensures refuses { IfErr result (λ refusal. refusal ≡ refusals.Memory) }
 {
     match ids_of(alloc, names.as_slice()) {
         Ok(ids) => Ok(Phase::Read {
-            reading: Reading::new(alloc, ids),
+            reading: Reading::new(alloc, schema, ids),
         }),
         Err(_) => Err(Refusal::Memory),
     }

@@ -1,5 +1,5 @@
 -- A reader of a schema keeps the laws of machines.
-use Rattle.std.proofs.Common.{◌≡◌, ◌⊎◌, inl, inr, ℕ, ◌≤◌, ◌<◌, zero, suc, List, [], ◌∷◌, ◌++◌, Option, None, Some, IsSome, IfSome, Ok, Err, refl, sym, ap, ◌∙◌, subst, arith}
+use Rattle.std.proofs.Common.{◌≡◌, ◌⊎◌, inl, inr, ℕ, ◌<◌, List, [], ◌∷◌, ◌++◌, Option, None, Some, IsSome, IfSome, Ok, Err, refl, sym, ap, ◌∙◌, subst, arith}
 use Rattle.std.specs.FinMap as map
 use Rattle.std.proofs.lemmas.Option.{IfSome_then}
 use Rattle.pm_values.specs.declared.refusal.Refusal.{Refusal}
@@ -16,22 +16,20 @@ use Rattle.pm_store.specs.Images.{MayLeave}
 use Rattle.pm_machine.specs.Moves.{Changes, Leads, Sound}
 use Rattle.pm_machine.specs.Step.{path_of}
 use Rattle.pm_machine.specs.Trace.{Event, Recounts, answered, faulted}
-use Rattle.pm_history.specs.History.{History, no_table, table, GoesOn}
+use Rattle.pm_history.specs.History.{History, IsTableOf, no_table, table, GoesOn}
 use Rattle.pm_schema.specs.Reading.{schema_of}
 use Rattle.pm_schema.specs.declared.schema.TableSchema.{TableSchema}
-use Rattle.pm_snapshot.specs.Names.{greatest}
 use Rattle.pm_folder.specs.Changes.{Actor, Change, nothing}
 use Rattle.pm_folder.specs.Folder.{Folder}
-use Rattle.pm_folder.specs.Paths.{schema_path}
-use Rattle.pm_folder.proofs.Facts.{goes_on, stays, still_there}
-use Rattle.pm_view.specs.Faults.{IsFaultOf}
-use Rattle.pm_view.specs.Meaning.{IsTableOf, AreKept, Leaves, Knows}
-use Rattle.pm_view.specs.Names.{schema_name}
-use Rattle.pm_view.specs.Reader.{schema_folder, snapshot_folder, schemas_call, next_call, calls_left, with_origin, IsReady, Goes, Shown, Refuses, Stops}
+use Rattle.pm_folder.specs.Meaning.{SchemaAt}
+use Rattle.pm_folder.specs.Paths.{schema_folder, schema_name, schema_path, snapshot_folder}
+use Rattle.pm_folder.proofs.Facts.{goes_on, stays, still_there, no-schema, only-schema, listed-none, named-origin}
+use Rattle.pm_schema.proofs.Facts.{file_faults}
+use Rattle.pm_view.specs.Meaning.{AreKept, Leaves, Knows, MayRefuse}
+use Rattle.pm_view.specs.Reader.{schemas_call, next_call, calls_left, with_origin, IsReady, Goes, Shown, Refuses, Stops}
 use Rattle.pm_view.specs.Trace.{listed_schemas, read_schema, listed_snapshots, Has, Misreads, MayEnd, at_first, at_schemas, at_schema, at_snapshots, in_schemas, in_schema, in_snapshots, Shows, Did}
 use Rattle.pm_view.specs.declared.phase.Phase.{Phase}
 use Rattle.pm_view.specs.declared.phase.Phase.TheVariants as phases
-use Rattle.pm_view.proofs.FaultLemmas.{faults}
 
 -- ---- its calls change nothing
 
@@ -65,24 +63,31 @@ changes_at m phases.Over f h = tt
 
 -- ---- what it knows
 
--- where the file of a schema is there, the history is that of a table with it
-own_schema : (f : Files) (h : History) (id : ℕ) (bytes : List ℕ) (s : TableSchema) → Folder f h → id ≤ greatest
-    → map.get f (schema_path id) ≡ Some bytes → schema_of (schema_path id) bytes ≡ Ok s → IsTableOf s h
-own_schema f no_table id bytes s folder within there reads =
-    let clash : None ≡ Some bytes = sym (folder.schemas id within) ∙ there in cc
-own_schema f (table t []) zero bytes s folder within there reads =
-    let first = folder.schema.first in
-    let same : Some first.0 ≡ Some bytes = sym first.1 ∙ there in
-    let bytes_are : first.0 ≡ bytes = cc in
-    let read : Ok t ≡ Ok s = sym first.2 ∙ ap (schema_of (schema_path 0)) bytes_are ∙ reads in
-    cc
-own_schema f (table t []) (suc id) bytes s folder within there reads =
-    let clash : None ≡ Some bytes = sym (folder.schema.only (suc id) (λ e. omega (arith, e)) within) ∙ there in cc
-own_schema f (table t (e ∷ es)) id bytes s folder within there reads = absurd folder
+-- the schema that a file leads to is there, and there is a table of it
+schema_there : (f : Files) (h : History) (id : ℕ) → Folder f h → Knows (phases.Schema id) f h → (s : TableSchema) × SchemaAt f id s × IsTableOf s h
+schema_there f no_table id folder (within, led) = absurd (no-schema f id folder within led)
+schema_there f (table s entries) id folder (within, led) = (s, (only-schema f s entries id folder within led).1, refl)
 
-knows_schema : (o : Option (List ℕ)) (s : TableSchema) (f : Files) (h : History) → IsTableOf s h → Knows (with_origin o s) f h
-knows_schema None s f h is = is
-knows_schema (Some origin) s f h is = is
+-- its bytes are those that a read answers
+schema_reads : (f : Files) (h : History) (id : ℕ) (bytes : List ℕ) → Folder f h → Knows (phases.Schema id) f h → Some bytes ≡ map.get f (schema_path id)
+    → (s : TableSchema) × (schema_of (schema_path id) bytes ≡ Ok s) × IsTableOf s h
+schema_reads f h id bytes folder known there =
+    let at = schema_there f h id folder known in
+    let same : Some bytes ≡ Some at.1.0 = there ∙ at.1.1 in
+    let bytes_are : bytes ≡ at.1.0 = cc in
+    (at.0, ap (schema_of (schema_path id)) bytes_are ∙ at.1.2, at.2)
+
+pub own_schema : (f : Files) (h : History) (id : ℕ) (bytes : List ℕ) (s : TableSchema) → Folder f h → Knows (phases.Schema id) f h
+    → Some bytes ≡ map.get f (schema_path id) → schema_of (schema_path id) bytes ≡ Ok s → IsTableOf s h
+own_schema f h id bytes s folder known there reads =
+    let at = schema_reads f h id bytes folder known there in
+    let read : Ok at.0 ≡ Ok s = sym at.1 ∙ reads in
+    let same : at.0 ≡ s = cc in
+    subst (λ (s : TableSchema). IsTableOf s h) same at.2
+
+knows_schema : (o : Option (List ℕ)) (s : TableSchema) (f : Files) (h : History) → s.origin ≡ o → IsTableOf s h → Knows (with_origin o s) f h
+knows_schema None s f h none is = (is, none)
+knows_schema (Some origin) s f h some is = is
 
 -- what an answer leads to is known of the same files
 pub knows_next : (m : Phase) (answer : Answer) (new : Phase) (f : Files) (h : History) → Goes m answer new → Folder f h → Knows m f h
@@ -90,9 +95,9 @@ pub knows_next : (m : Phase) (answer : Answer) (new : Phase) (f : Files) (h : Hi
 knows_next phases.Schemas (answers.Listed names) new f h (id, newest, is) folder known = λ told.
     subst (λ (m : Phase). Knows m f h) (sym is) (newest.within, (told.exact (schema_name id)).0 newest.listed)
 knows_next (phases.Schema id) (answers.Found (Some bytes)) new f h (s, reads, is) folder known = λ told.
-    subst (λ (m : Phase). Knows m f h) (sym is) (knows_schema s.origin s f h (own_schema f h id bytes s folder known.0 (sym told) reads))
+    subst (λ (m : Phase). Knows m f h) (sym is) (knows_schema s.origin s f h refl (own_schema f h id bytes s folder known told reads))
 knows_next (phases.Snapshots s) (answers.Listed names) new f h (some, is) folder known = λ told.
-    subst (λ (m : Phase). Knows m f h) (sym is) known
+    subst (λ (m : Phase). Knows m f h) (sym is) known.0
 knows_next m answer new f h goes folder known = absurd goes
 
 over_knows : (new : Phase) (f : Files) (h : History) → new ≡ phases.Over → Knows new f h
@@ -150,7 +155,7 @@ misread (refusals.Damaged path place) own is = inr is
 misread (refusals.Unsupported what text) own is = inr is
 misread (refusals.Limit which number) own is = is
 misread (refusals.SchemaRule rule) own is = is
-misread other own (id, bytes, reads, did) = absurd (rw reads at (faults (schema_path id) bytes))
+misread other own (id, bytes, reads, did) = absurd (rw reads at (file_faults (schema_path id) bytes))
 
 refused_on : (m : Phase) (answer : Answer) (refusal : Refusal) (own : List Event) → Shown m answer refusal → Did m own
     → IfSome (next_call m) (λ call. MayAnswer call answer → Shows refusal (own ++ answered call answer ∷ []))
@@ -227,10 +232,40 @@ goes_on_to (phases.Snapshots s) (answers.Listed names) new (some, is) =
     subst (λ (new : Phase). ¬ IsReady new → 0 < calls_left new) (sym is) (λ not. absurd (not tt))
 goes_on_to m answer new goes = absurd goes
 
+-- ---- what answers show where the files stand for a history
+
+-- a table whose schema names no origin has no such files: without entries it has one
+has_origin : (f : Files) (h : History) (s : TableSchema) → Folder f h → Knows (phases.Snapshots s) f h → ⊥
+has_origin f no_table s folder (is, none) = is
+has_origin f (table t []) s folder (is, none) =
+    let origin = named-origin f t folder in
+    let clash : None ≡ Some origin.0 = sym none ∙ ap (λ (s : TableSchema). s.origin) (sym is) ∙ origin.1 in
+    cc
+has_origin f (table t (e ∷ entries)) s folder known = folder
+
+pub cause_at : (m : Phase) (answer : Answer) (refusal : Refusal) (f : Files) (h : History) → Folder f h → Knows m f h → Shown m answer refusal
+    → IfSome (next_call m) (λ call. Answers call answer f → MayRefuse h refusal)
+cause_at phases.Schemas (answers.Listed names) refusal f h folder known (is, none) = λ told.
+    subst (MayRefuse h) (sym is) ((listed-none f h names.items folder told).0 none)
+cause_at (phases.Schema id) (answers.Found None) refusal f h folder known (inl is) = λ told. subst (MayRefuse h) (sym is) tt
+cause_at (phases.Schema id) (answers.Found None) refusal f h folder known (inr is) = λ told.
+    absurd (let at = schema_there f h id folder known in let clash : None ≡ Some at.1.0 = told ∙ at.1.1 in cc)
+cause_at (phases.Schema id) (answers.Found (Some bytes)) refusal f h folder known (inl is) = λ told. subst (MayRefuse h) (sym is) tt
+cause_at (phases.Schema id) (answers.Found (Some bytes)) refusal f h folder known (inr is) = λ told.
+    absurd (let at = schema_reads f h id bytes folder known told in let clash : Ok at.0 ≡ Err refusal = sym at.1 ∙ is in cc)
+cause_at (phases.Snapshots s) (answers.Listed names) refusal f h folder known shown = λ told. absurd (has_origin f h s folder known)
+cause_at m answer refusal f h folder known shown = absurd shown
+
 -- ---- laws
 
-pub fault : (path bytes : List ℕ) (refusal : Refusal) → schema_of path bytes ≡ Err refusal → IsFaultOf path refusal
-fault path bytes refusal is = rw is at (faults path bytes)
+pub cause : (m : Phase) (call : Call) (answer : Answer) (refusal : Refusal) (f : Files) (h : History) → Folder f h → Knows m f h
+    → next_call m ≡ Some call → Answers call answer f → Shown m answer refusal → MayRefuse h refusal
+cause m call answer refusal f h folder known is told shown = (rw is at (cause_at m answer refusal f h folder known shown)) told
+
+pub no_next : (answer : Answer) (new : Phase) (f : Files) → Folder f no_table → Answers schemas_call answer f → ¬ Goes phases.Schemas answer new
+no_next (answers.Listed names) new f folder told (id, newest, is) =
+    (listed-none f no_table names.items folder told).1 refl id newest.within newest.listed
+no_next answer new f folder told goes = absurd goes
 
 pub still_table : (s : TableSchema) (h later : History) → GoesOn h later → IsTableOf s h → IsTableOf s later
 still_table s no_table later goes is = absurd is
@@ -242,7 +277,7 @@ pub knows_still : (m : Phase) (other : Actor) (f after : Files) (h later : Histo
 knows_still phases.Schemas other f after h later folder change known = tt
 knows_still (phases.Schema id) other f after h later folder change (within, (path, there, leads)) =
     (within, (path, still_there f after path (stays other f after h later path folder change there) there, leads))
-knows_still (phases.Snapshots s) other f after h later folder change known = still_table s h later (goes_on other f after h later change) known
+knows_still (phases.Snapshots s) other f after h later folder change (known, none) = (still_table s h later (goes_on other f after h later change) known, none)
 knows_still (phases.Ready s) other f after h later folder change known = still_table s h later (goes_on other f after h later change) known
 knows_still phases.Over other f after h later folder change known = tt
 

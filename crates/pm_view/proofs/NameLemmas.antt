@@ -5,7 +5,8 @@ use Rattle.std.proofs.lemmas.Bool.Decides.{nat_tests}
 use Rattle.pm_view.proofs.ListLemmas.{here, more, nowhere, cases}
 use Rattle.pm_snapshot.specs.Names.{greatest, id_in, snapshot_name}
 use Rattle.pm_snapshot.proofs.Facts.{number_is, id_is}
-use Rattle.pm_view.specs.Names.{schema_name, schema_id_in, IsNewest, HasNoSchema, HasSnapshot, greater, newest_from, is_after_origin, names_snapshot}
+use Rattle.pm_folder.specs.Paths.{schema_name}
+use Rattle.pm_view.specs.Names.{schema_id_in, IsNewest, HasNoSchema, HasSnapshot, greater, newest_from, is_after_origin, names_snapshot}
 
 -- ---- one name
 

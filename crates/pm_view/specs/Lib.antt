@@ -1,4 +1,4 @@
-pub mod Faults
+pub mod AllCalls
 pub mod Meaning
 pub mod Names
 pub mod Reader

@@ -1,10 +1,8 @@
 -- What the names in the folders of schemas and of snapshots say.
-use Rattle.std.specs.Prelude.{ℕ, ◌≤◌, List, [], ◌∷◌, ◌++◌, Contains, codes, nat_lt, Bool}
-use Rattle.std.specs.Prelude.{false, if◌then◌else◌, Option, None, Some, decimal}
+use Rattle.std.specs.Prelude.{ℕ, ◌≤◌, List, [], ◌∷◌, Contains, codes, nat_lt, Bool}
+use Rattle.std.specs.Prelude.{false, if◌then◌else◌, Option, None, Some}
 use Rattle.pm_snapshot.specs.Names.{greatest, id_in, number_after, snapshot_name}
-
-abbrev pub schema_name : ℕ → List ℕ
-schema_name id = codes "schema-" ++ decimal id
+use Rattle.pm_folder.specs.Paths.{schema_name}
 
 -- the id in the name of a schema
 unfoldable pub schema_id_in : List ℕ → Option ℕ

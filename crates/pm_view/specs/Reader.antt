@@ -8,7 +8,7 @@ use Rattle.pm_store.specs.declared.call.Call.{Call}
 use Rattle.pm_store.specs.declared.call.Call.TheVariants as calls
 use Rattle.pm_schema.specs.Reading.{schema_of}
 use Rattle.pm_schema.specs.declared.schema.TableSchema.{TableSchema}
-use Rattle.pm_folder.specs.Paths.{schema_path}
+use Rattle.pm_folder.specs.Paths.{schema_folder, schema_path, snapshot_folder}
 use Rattle.pm_view.specs.Names.{IsNewest, HasNoSchema, HasSnapshot}
 use Rattle.pm_view.specs.declared.phase.Phase.{Phase}
 use Rattle.pm_view.specs.declared.phase.Phase.TheVariants as phases
@@ -17,14 +17,7 @@ use Rattle.pm_view.specs.declared.reader.SchemaStep.TheVariants as steps
 
 -- ---- its calls
 
--- the folders of schemas and of snapshots
-abbrev pub schema_folder : List ℕ
-schema_folder = codes "schema"
-
-abbrev pub snapshot_folder : List ℕ
-snapshot_folder = codes "snapshot"
-
--- the calls that list them, and the one that reads a schema
+-- the calls that list the folders of schemas and of snapshots, and the one that reads a schema
 abbrev pub schemas_call : Call
 schemas_call = calls.List schema_folder
 

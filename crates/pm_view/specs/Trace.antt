@@ -9,9 +9,9 @@ use Rattle.pm_store.specs.Store.{StoreView}
 use Rattle.pm_machine.specs.Trace.{Event, Acts, answered, faulted}
 use Rattle.pm_schema.specs.Reading.{schema_of}
 use Rattle.pm_schema.specs.declared.schema.TableSchema.{TableSchema}
-use Rattle.pm_folder.specs.Paths.{schema_path}
+use Rattle.pm_folder.specs.Paths.{schema_folder, schema_path, snapshot_folder}
 use Rattle.pm_view.specs.Names.{IsNewest, HasNoSchema, HasSnapshot}
-use Rattle.pm_view.specs.Reader.{schema_folder, snapshot_folder, schemas_call, schema_call, snapshots_call}
+use Rattle.pm_view.specs.Reader.{schemas_call, schema_call, snapshots_call}
 use Rattle.pm_view.specs.declared.phase.Phase.{Phase}
 use Rattle.pm_view.specs.declared.phase.Phase.TheVariants as phases
 use Rattle.pm_view.specs.declared.reader.SchemaStep.{SchemaStep}

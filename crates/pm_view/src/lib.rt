@@ -2,20 +2,25 @@
 //!
 //! A `SchemaReader` lists the folder `schema` and reads the schema with the greatest id. Where that names no origin, it
 //! lists the folder `snapshot`, in which a snapshot must stand. It changes nothing. Once it is ready, there is a table
-//! of the schema that it hands out, whatever others do between its calls.
+//! of the schema that it hands out, whatever others do between its calls. Where the files stand for a history, it is
+//! refused only for memory, for a fault of the store, or where there is no table. `read_table_schema` makes all its
+//! calls.
 //!
 //! `specs/Reader.antt` has its phases, its calls and what each answer leads to, `specs/Names.antt` what a listing says;
-//! `specs/Meaning.antt` what it knows of the files in each phase and what a step means for them; `specs/Trace.antt`
-//! which calls it made, and which show a refusal, and `specs/Faults.antt` which refusals a schema's file has.
+//! `specs/Meaning.antt` what it knows of the files in each phase, what a step means for them, and which refusals come;
+//! `specs/Trace.antt` which calls it made, and which show a refusal; `specs/AllCalls.antt` what all of them do where
+//! nobody else acts.
 #![tactic(auto)]
 
+mod all_calls;
 mod laws;
 mod machine;
 mod names;
 mod phase;
 mod reader;
 
-pub use laws::{fault_law, images_law, known_law, nothing_law, schema_name_law};
+pub use all_calls::read_table_schema;
+pub use laws::{causes_law, images_law, known_law, nothing_law, schema_name_law};
 pub use names::schema_id_of_name;
 pub use phase::Phase;
 pub use reader::{SchemaReader, SchemaStep};

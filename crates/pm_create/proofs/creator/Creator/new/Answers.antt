@@ -2,7 +2,11 @@ use Rattle.std.proofs.Common.{◌≡◌, ◌↔◌, ℕ, List, Ok, ap, ◌∙◌
 use Rattle.pm_schema.specs.Meaning.{SchemaOf}
 use Rattle.pm_schema.specs.Reading.{schema_of}
 use Rattle.pm_schema.specs.declared.schema.TableSchema.{TableSchema}
+use Rattle.pm_schema.specs.Written.{schema_text}
+use Rattle.pm_folder.specs.Changes.{Actor}
 use Rattle.pm_folder.specs.Paths.{schema_path, snapshot_file}
+use Rattle.pm_create.specs.Creator.{actor_of, new_creator, own_origin, seen_as}
+use Rattle.pm_create.specs.declared.phase.Phase.TheVariants as phases
 use Rattle.pm_create.proofs.creator.Creator.new.Goals as goal
 
 -- what is written is read as the schema, in the file of schema 0
@@ -26,3 +30,14 @@ returns-clause-is_creator c = record {
   origin = c.requires.origin;
   path = c.in_ok-path.ensures ∙ ap snapshot_file c.in_ok-name.ensures;
 }
+
+-- what is written, and the path of the origin, are those of a new creator
+is_new_one : (me : Actor) (s : TableSchema) (bytes path : List ℕ) → bytes ≡ schema_text s → path ≡ own_origin me
+    → seen_as me s bytes (phases.Origin path) ≡ new_creator me s
+is_new_one me s bytes path written named =
+    ap (λ bytes. seen_as me s bytes (phases.Origin path)) written ∙ ap (λ path. seen_as me s (schema_text s) (phases.Origin path)) named
+
+pub returns-clause-is_new : goal.returns-clause-is_new
+returns-clause-is_new c =
+    is_new_one (actor_of c.args.session c.args.actor) c.args.schema c.new-bytes.result c.in_ok-path.path
+    (c.new-bytes.ensures ∙ c.in-Ok.ensures.text) (c.in_ok-path.ensures ∙ ap snapshot_file c.in_ok-name.ensures)

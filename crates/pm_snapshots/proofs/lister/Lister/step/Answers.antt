@@ -27,3 +27,9 @@ returns-in-Ok-clause-fewer g c =
     let is = subst IsLister c.self.view_is c.self.invariant in
     let on = rw c.in-Ok.is at (steps_on c.step.ensures.stepped is c.requires) in
     on.0
+
+pub returns-in-Ok-clause-schema : goal.returns-in-Ok-clause-schema
+returns-in-Ok-clause-schema g c =
+    let is = subst IsLister c.self.view_is c.self.invariant in
+    let on = rw c.in-Ok.is at (steps_on c.step.ensures.stepped is c.requires) in
+    on.2

@@ -1,0 +1,52 @@
+//! All calls of a lister whose schema was read, one after another.
+
+ghost use Rattle.std.specs.Prelude.{◌≡◌, ◌<◌, Some, IfOk};
+ghost use Rattle.pm_machine.specs.Trace.{HasTrace};
+ghost use Rattle.pm_schema.specs.declared.schema.TableSchema.{TableSchema};
+ghost use Rattle.pm_store.specs.Store.{StoreView, IsLater};
+ghost use Rattle.pm_snapshots.specs.AllCalls.{DidList, ListsTables};
+ghost use Rattle.pm_snapshots.specs.Lister.{calls_left, schema_at, IsDone};
+ghost use Rattle.pm_snapshots.specs.Trace.{Did, Has};
+
+use crate::lister::Lister;
+use pm_schema::TableSchema;
+use pm_store::FileStore;
+use pm_values::Refusal;
+use std::alloc::Global;
+
+/// Lists the snapshots of the table whose schema was just read: all further calls of a lister, one after another. What
+/// it promises is said from whatever moment on that reading began.
+pub fn list_snapshots<F: FileStore>(
+    alloc: Global,
+    schema: TableSchema,
+    store: &mut F,
+) -> Result<Lister, Refusal>
+    ensures done { IfOk result IsDone }
+    ensures trace { (first : StoreView) → HasTrace (Has schema) first (F.seen store.old)
+        → HasTrace (DidList schema result) first (F.seen store.new) }
+    ensures history { (first : StoreView) → HasTrace (Has schema) first (F.seen store.old)
+        → ListsTables schema first (F.seen store.new) result }
+    ensures later { IsLater (F.seen store.old) (F.seen store.new) }
+{
+    make_calls(alloc, Lister::of_table(schema), store)
+}
+
+/// Makes all calls that are left, or those up to a refusal.
+fn make_calls<F: FileStore>(alloc: Global, lister: Lister, store: &mut F) -> Result<Lister, Refusal>
+    requires { 0 < calls_left lister }
+    ensures done { IfOk result IsDone }
+    ensures trace { (s : TableSchema) (first : StoreView) → schema_at lister ≡ Some s
+        → HasTrace (Did lister) first (F.seen store.old)
+        → HasTrace (DidList s result) first (F.seen store.new) }
+    ensures later { IsLater (F.seen store.old) (F.seen store.new) }
+{
+    let mut lister = lister;
+    while !lister.is_done() {
+        match lister.step(alloc, store) {
+            Ok(_) => {}
+            Err(refusal) => return Err(refusal),
+        }
+    }
+    let _ = &lister.phase;
+    Ok(lister)
+}
