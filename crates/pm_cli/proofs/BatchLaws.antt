@@ -18,8 +18,9 @@ use Rattle.pm_plain.specs.Text.{History, StandsFor}
 use Rattle.pm_plain.specs.declared.commit.Committed.{Committed}
 use Rattle.pm_plain.specs.Commit.{Stands, StandsAfter, StoreFailed, read_call, MayRefuse, IsMemoryOrFault}
 use Rattle.pm_plain.specs.Commit.{LeavesPlain, AddsTo, KeepsTo, Commits, ShowsPlain}
-use Rattle.pm_cli.specs.Run.{Outside, outside, IsEither, IsServed, LeavesBatch, SettlesBatch, WritesNothing}
-use Rattle.pm_cli.specs.Run.{WritesRows, WritesBatch, AddsBatch, AddsBatches}
+use Rattle.pm_cli.specs.Outside.{Outside, outside, IsServed}
+use Rattle.pm_cli.specs.Write.{IsEither, LeavesBatch, SettlesBatch, WritesNothing}
+use Rattle.pm_cli.specs.Write.{WritesRows, WritesBatch, AddsBatch, AddsBatches}
 
 -- a refusal isn't that the work was done
 pub refused_none : (e : Refusal) → Some e ≡ None → ⊥

@@ -1,2 +1,5 @@
 mod BatchLaws
-mod RunLaws
+mod CreateLaws
+mod SnapshotLaws
+mod Uncalled
+mod WriteLaws

@@ -4,29 +4,16 @@ use Rattle.pm_values.specs.declared.refusal.Refusal.{Refusal}
 use Rattle.pm_values.specs.declared.refusal.Refusal.TheVariants as refusals
 use Rattle.pm_history.specs.Merge.{HistoryRow}
 use Rattle.pm_io.specs.Source.{SourceView, SourceFailed}
-use Rattle.pm_input.specs.Limits.{IsWithin, IsFirstLimit, limit_text, limit_number}
+use Rattle.pm_input.specs.Limits.{limits, IsWithin, IsFirstLimit, limit_text, limit_number}
 use Rattle.pm_input.specs.Lines.{row_lines}
 use Rattle.pm_input.specs.Rows.{rows_in}
-use Rattle.pm_input.specs.declared.limits.Limits.{Limits}
 use Rattle.pm_input.specs.declared.limits.LimitKind.{LimitKind}
-use Rattle.pm_input.specs.declared.lines.InputFault.{InputFault}
-use Rattle.pm_input.specs.declared.lines.InputFault.TheVariants as faults
 use Rattle.pm_plain.specs.Columns.{plain_columns}
-
--- the limits of a command's input
-abbrev pub limits : Limits
-limits = record { line = 1048576; rows = 100000; bytes = 268435456 }
 
 -- rows are the batch of an input: it is within the limits, and they are its rows
 pub record IsBatch (rows : List HistoryRow) (bytes : List ℕ) : Type 0 where
   pub within : IsWithin limits bytes
   pub read : rows_in plain_columns (row_lines bytes) ≡ Ok rows
-
--- the refusal of a fault of the input
-abbrev pub refusal_of : InputFault → Refusal
-refusal_of faults.Memory = refusals.Memory
-refusal_of faults.Read = refusals.SourceFault
-refusal_of (faults.Limit kind) = refusals.Limit (limit_text kind) (limit_number limits kind)
 
 -- A refusal that comes from the input: its source failed after a prefix within the limits, or it exceeds a limit
 -- first, or it is within them and has a bad line; then the source has nothing left.

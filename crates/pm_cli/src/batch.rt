@@ -4,12 +4,12 @@ ghost use Rattle.std.specs.Prelude.{◌≡◌, IfOk, IfErr, IfSome};
 ghost use Rattle.pm_history.specs.Merge.{AllFit};
 ghost use Rattle.pm_io.specs.Source.{SourceLater};
 ghost use Rattle.pm_plain.specs.Columns.{plain_columns};
-ghost use Rattle.pm_cli.specs.Batch.{ReadsBatch, MayRefuseInput, refusal_of};
+ghost use Rattle.pm_cli.specs.Batch.{ReadsBatch, MayRefuseInput};
 
-use pm_input::{InputFault, LIMITS, read_lines, read_rows};
+use pm_input::{LIMITS, read_lines, read_rows, refusal_of};
 use pm_io::Source;
-use pm_values::{Column, Kind, Refusal, Row, Txt};
-use std::alloc::{AllocError, Global};
+use pm_values::{Column, Kind, Refusal, Row};
+use std::alloc::Global;
 
 /// All rows of an input, which is read to its end first.
 pub(crate) fn read_batch<S: Source>(
@@ -29,18 +29,4 @@ pub(crate) fn read_batch<S: Source>(
         Err(fault) => return Err(refusal_of(alloc, fault)?),
     };
     read_rows(alloc, columns, &lines)
-}
-
-/// The refusal of an input that wasn't read.
-fn refusal_of(alloc: Global, fault: InputFault) -> Result<Refusal, AllocError>
-    ensures { IfOk result (λ e. e ≡ refusal_of fault) }
-{
-    match fault {
-        InputFault::Memory => Err(AllocError),
-        InputFault::Read => Ok(Refusal::SourceFault),
-        InputFault::Limit(which) => Ok(Refusal::Limit {
-            which: Txt::from_str(alloc, which.text())?,
-            number: which.number(&LIMITS) as u64,
-        }),
-    }
 }

@@ -1,18 +1,20 @@
 //! A command, from its words to its answer.
 
-ghost use Rattle.std.specs.Prelude.{◌≡◌, ◌≢◌, ◌↔◌, ℕ, List, Some, IfOk, IfErr, IsTrue, OnOk};
+ghost use Rattle.std.specs.Prelude.{◌≡◌, IfOk};
 ghost use Rattle.std.specs.Result.{result_err};
-ghost use Rattle.pm_values.specs.declared.refusal.Refusal.TheVariants as refusals;
-ghost use Rattle.pm_cli.specs.Run.{outside, AllLater, write_words, first_word, Writes, IsNoCommand, IsUntouched};
-ghost use Rattle.pm_cli.specs.Run.{HasCause, ServesHistories};
+ghost use Rattle.pm_cli.specs.Outside.{outside, start_of, AllLater, IsUntouched};
+ghost use Rattle.pm_cli.specs.Run.{Acts, Answers, ServesHistories};
+ghost use Rattle.pm_cli.specs.Words.{words_of, GiveNoCommand, IsNoCommand};
+ghost use Rattle.pm_cli.specs.declared.words.Command.{Command};
 
-use crate::batch::read_batch;
-use crate::write::write_batch;
+use crate::create::run_create;
+use crate::snapshots::run_snapshots;
+use crate::words::{Command, command_in, no_command};
+use crate::write::run_write;
 use pm_io::{Sink, Source};
-use pm_plain::plain_columns;
 use pm_store::FileStore;
 use pm_values::{Refusal, Txt};
-use std::alloc::{AllocError, Global};
+use std::alloc::Global;
 
 /// Executes the command that the words give.
 pub(crate) fn execute<S: Source, W: Sink, F: FileStore>(
@@ -21,75 +23,59 @@ pub(crate) fn execute<S: Source, W: Sink, F: FileStore>(
     input: &mut S,
     out: &mut W,
     store: &mut F,
+    now_millis: i64,
+    session: [u8; 16],
 ) -> Result<(), Refusal>
-    ensures ok { OnOk result (words.now ≡ write_words) }
-    ensures no_command { words.now ≢ write_words → IsNoCommand words.now (result_err result) }
-    ensures untouched { words.now ≢ write_words → ((S.seen input.new).left ≡ (S.seen input.old).left)
+    ensures no_command { GiveNoCommand words.now → IsNoCommand words.now (result_err result)
+        × ((S.seen input.new).left ≡ (S.seen input.old).left)
         × IsUntouched (outside (S.seen input.old) (W.seen out.old) (F.seen store.old))
         (outside (S.seen input.new) (W.seen out.new) (F.seen store.new)) }
-    ensures command { words.now ≡ write_words → (bytes : List ℕ) → (S.seen input.old).left ≡ Some bytes
-        → Writes bytes (outside (S.seen input.old) (W.seen out.old) (F.seen store.old))
-        (outside (S.seen input.new) (W.seen out.new) (F.seen store.new)) (result_err result) }
-    ensures cause { IfErr result (HasCause words.now
+    ensures command { (command : Command) → words.now ≡ words_of command
+        → Answers command (start_of session now_millis)
         (outside (S.seen input.old) (W.seen out.old) (F.seen store.old))
-        (outside (S.seen input.new) (W.seen out.new) (F.seen store.new))) }
-    ensures history { words.now ≡ write_words
-        → ServesHistories (outside (S.seen input.old) (W.seen out.old) (F.seen store.old))
+        (outside (S.seen input.new) (W.seen out.new) (F.seen store.new)) (result_err result) }
+    ensures acts { (command : Command) → words.now ≡ words_of command
+        → Acts command (start_of session now_millis)
+        (outside (S.seen input.old) (W.seen out.old) (F.seen store.old))
+        (outside (S.seen input.new) (W.seen out.new) (F.seen store.new)) (result_err result) }
+    ensures history { (command : Command) → words.now ≡ words_of command
+        → ServesHistories command (start_of session now_millis)
+        (outside (S.seen input.old) (W.seen out.old) (F.seen store.old))
         (outside (S.seen input.new) (W.seen out.new) (F.seen store.new)) (result_err result) }
     ensures later { AllLater (outside (S.seen input.old) (W.seen out.old) (F.seen store.old))
         (outside (S.seen input.new) (W.seen out.new) (F.seen store.new)) }
 {
-    if !is_write(words) {
+    let Some(command) = command_in(words) else {
         return Err(no_command(alloc, words)?);
-    }
-    write(alloc, input, out, store)
+    };
+    execute_command(alloc, command, input, out, store, now_millis, session)
 }
 
-/// The command `write`.
-fn write<S: Source, W: Sink, F: FileStore>(
+/// Executes a command.
+fn execute_command<S: Source, W: Sink, F: FileStore>(
     alloc: Global,
+    command: Command,
     input: &mut S,
     out: &mut W,
     store: &mut F,
+    now_millis: i64,
+    session: [u8; 16],
 ) -> Result<(), Refusal>
-    ensures command { (bytes : List ℕ) → (S.seen input.old).left ≡ Some bytes
-        → Writes bytes (outside (S.seen input.old) (W.seen out.old) (F.seen store.old))
-        (outside (S.seen input.new) (W.seen out.new) (F.seen store.new)) (result_err result) }
-    ensures cause { IfErr result (HasCause write_words
+    ensures command { Answers command (start_of session now_millis)
         (outside (S.seen input.old) (W.seen out.old) (F.seen store.old))
-        (outside (S.seen input.new) (W.seen out.new) (F.seen store.new))) }
-    ensures history { ServesHistories (outside (S.seen input.old) (W.seen out.old) (F.seen store.old))
+        (outside (S.seen input.new) (W.seen out.new) (F.seen store.new)) (result_err result) }
+    ensures acts { Acts command (start_of session now_millis)
+        (outside (S.seen input.old) (W.seen out.old) (F.seen store.old))
+        (outside (S.seen input.new) (W.seen out.new) (F.seen store.new)) (result_err result) }
+    ensures history { ServesHistories command (start_of session now_millis)
+        (outside (S.seen input.old) (W.seen out.old) (F.seen store.old))
         (outside (S.seen input.new) (W.seen out.new) (F.seen store.new)) (result_err result) }
     ensures later { AllLater (outside (S.seen input.old) (W.seen out.old) (F.seen store.old))
         (outside (S.seen input.new) (W.seen out.new) (F.seen store.new)) }
 {
-    let columns = plain_columns(alloc)?;
-    let batch = read_batch(alloc, &columns, input)?;
-    write_batch(alloc, &columns, &batch, out, store)
-}
-
-/// Whether the words are the command `write`.
-fn is_write(words: &[Txt]) -> bool
-    ensures { IsTrue result ↔ (words.now ≡ write_words) }
-{
-    words.len() == 1 && words[0].as_str() == "write"
-}
-
-/// The refusal of words that are no command.
-fn no_command(alloc: Global, words: &[Txt]) -> Result<Refusal, AllocError>
-    ensures { IfOk result (λ e. e ≡ refusals.Words (first_word words.now)) }
-{
-    Ok(Refusal::Words {
-        command: first_word(alloc, words)?,
-    })
-}
-
-/// A copy of the first word, or nothing.
-fn first_word(alloc: Global, words: &[Txt]) -> Result<Txt, AllocError>
-    ensures { IfOk result (λ word. word ≡ first_word words.now) }
-{
-    match words.first() {
-        Some(word) => word.copy(alloc),
-        None => Txt::from_str(alloc, ""),
+    match command {
+        Command::Create => run_create(alloc, input, out, store, now_millis, session),
+        Command::Snapshots => run_snapshots(alloc, out, store),
+        Command::Write => run_write(alloc, input, out, store),
     }
 }

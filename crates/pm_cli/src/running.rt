@@ -1,10 +1,12 @@
 //! The top call.
 
-ghost use Rattle.std.specs.Prelude.{◌≡◌, ◌≢◌, ◌≤◌, ℕ, List, Some, IfSome, IfNone};
+ghost use Rattle.std.specs.Prelude.{◌≡◌, Some};
 ghost use Rattle.pm_io.specs.Sink.{SinkLater};
 ghost use Rattle.pm_report.specs.Report.{code_of};
-ghost use Rattle.pm_cli.specs.Run.{outside, AllLater, write_words, Writes, IsNoCommand, IsUntouched, HasCause};
-ghost use Rattle.pm_cli.specs.Run.{ServesHistories, exit_code, Said};
+ghost use Rattle.pm_cli.specs.Outside.{outside, start_of, AllLater, IsUntouched, exit_code, Said};
+ghost use Rattle.pm_cli.specs.Run.{Acts, Answers, ServesHistories};
+ghost use Rattle.pm_cli.specs.Words.{words_of, GiveNoCommand, IsNoCommand};
+ghost use Rattle.pm_cli.specs.declared.words.Command.{Command};
 
 use crate::execute::execute;
 use pm_io::{Sink, Source};
@@ -32,26 +34,27 @@ pub fn run<S: Source, W: Sink, V: Sink, F: FileStore>(
     now_millis: i64,
     session: [u8; 16],
 ) -> Status
-    // Only the word `write` is served; other words are refused, and no input is read and nothing printed or
-    // called for them.
+    // Words that give no command are refused, and nothing is read, printed or called for them.
     ensures code { result.code ≡ exit_code result.refusal }
-    ensures served { IfNone result.refusal (words.now ≡ write_words) }
-    ensures no_command { words.now ≢ write_words → IsNoCommand words.now result.refusal }
-    ensures untouched { words.now ≢ write_words → ((S.seen input.new).left ≡ (S.seen input.old).left)
+    ensures no_command { GiveNoCommand words.now → IsNoCommand words.now result.refusal
+        × ((S.seen input.new).left ≡ (S.seen input.old).left)
         × IsUntouched (outside (S.seen input.old) (W.seen out.old) (F.seen store.old))
         (outside (S.seen input.new) (W.seen out.new) (F.seen store.new)) }
 
-    // Each answer, with its cause: where the input is known, and whatever is known.
-    ensures command { words.now ≡ write_words → (bytes : List ℕ) → (S.seen input.old).left ≡ Some bytes
-        → Writes bytes (outside (S.seen input.old) (W.seen out.old) (F.seen store.old))
-        (outside (S.seen input.new) (W.seen out.new) (F.seen store.new)) result.refusal }
-    ensures cause { IfSome result.refusal (HasCause words.now
+    // Each answer of a command, with its cause: where the input is known, and whatever is known.
+    ensures command { (command : Command) → words.now ≡ words_of command
+        → Answers command (start_of session now_millis)
         (outside (S.seen input.old) (W.seen out.old) (F.seen store.old))
-        (outside (S.seen input.new) (W.seen out.new) (F.seen store.new))) }
+        (outside (S.seen input.new) (W.seen out.new) (F.seen store.new)) result.refusal }
+    ensures acts { (command : Command) → words.now ≡ words_of command
+        → Acts command (start_of session now_millis)
+        (outside (S.seen input.old) (W.seen out.old) (F.seen store.old))
+        (outside (S.seen input.new) (W.seen out.new) (F.seen store.new)) result.refusal }
 
     // What stands after each answer and at each moment of the call, what is printed, and that good input is served.
-    ensures history { words.now ≡ write_words
-        → ServesHistories (outside (S.seen input.old) (W.seen out.old) (F.seen store.old))
+    ensures history { (command : Command) → words.now ≡ words_of command
+        → ServesHistories command (start_of session now_millis)
+        (outside (S.seen input.old) (W.seen out.old) (F.seen store.old))
         (outside (S.seen input.new) (W.seen out.new) (F.seen store.new)) result.refusal }
 
     // What is said on the error sink, and that no count falls.
@@ -60,8 +63,7 @@ pub fn run<S: Source, W: Sink, V: Sink, F: FileStore>(
         (outside (S.seen input.new) (W.seen out.new) (F.seen store.new)) }
     ensures err_later { SinkLater (V.seen err.old) (V.seen err.new) }
 {
-    let _ = (now_millis, session);
-    match execute(alloc, words, input, out, store) {
+    match execute(alloc, words, input, out, store, now_millis, session) {
         Ok(()) => Status {
             code: 0,
             refusal: None,

@@ -1,24 +1,48 @@
 //! The command `write`: add the rows of the input as one commit, and print the merged table.
 
-ghost use Rattle.std.specs.Prelude.{◌≡◌, ◌≢◌, [], IfErr, OnOk, OnErr};
+ghost use Rattle.std.specs.Prelude.{◌≡◌, ◌≢◌, ℕ, List, [], Some, IfErr};
 ghost use Rattle.std.specs.Result.{result_err};
-ghost use Rattle.pm_base.specs.Known.{and_then};
-ghost use Rattle.pm_values.specs.declared.refusal.Refusal.TheVariants as refusals;
 ghost use Rattle.pm_history.specs.Merge.{AllFit};
-ghost use Rattle.pm_io.specs.Sink.{SinkFailed, SinkLater, TookPrefix};
+ghost use Rattle.pm_io.specs.Sink.{SinkLater};
 ghost use Rattle.pm_io.specs.Source.{SourceView};
 ghost use Rattle.pm_store.specs.Store.{IsLater};
 ghost use Rattle.pm_plain.specs.Columns.{plain_columns};
-ghost use Rattle.pm_cli.specs.Run.{outside, WritesNothing, WritesRows, WritesBatch, MayRefuseBatch, AddsBatches};
+ghost use Rattle.pm_cli.specs.Outside.{outside, AllLater};
+ghost use Rattle.pm_cli.specs.Write.{Writes, WriteCause, WritesHistories};
+ghost use Rattle.pm_cli.specs.Write.{WritesNothing, WritesRows, WritesBatch, MayRefuseBatch, AddsBatches};
 
-use pm_io::{Sink, write_all};
-use pm_plain::{commit_batch, nothing_to_commit};
+use crate::batch::read_batch;
+use crate::print::print;
+use pm_io::{Sink, Source};
+use pm_plain::{commit_batch, nothing_to_commit, plain_columns};
 use pm_store::FileStore;
 use pm_values::{Column, Kind, Refusal, Row};
 use std::alloc::Global;
 
+/// Adds the rows of the input as one commit, and prints the merged table.
+pub(crate) fn run_write<S: Source, W: Sink, F: FileStore>(
+    alloc: Global,
+    input: &mut S,
+    out: &mut W,
+    store: &mut F,
+) -> Result<(), Refusal>
+    ensures command { (bytes : List ℕ) → (S.seen input.old).left ≡ Some bytes
+        → Writes bytes (outside (S.seen input.old) (W.seen out.old) (F.seen store.old))
+        (outside (S.seen input.new) (W.seen out.new) (F.seen store.new)) (result_err result) }
+    ensures cause { IfErr result (WriteCause (outside (S.seen input.old) (W.seen out.old) (F.seen store.old))
+        (outside (S.seen input.new) (W.seen out.new) (F.seen store.new))) }
+    ensures history { WritesHistories (outside (S.seen input.old) (W.seen out.old) (F.seen store.old))
+        (outside (S.seen input.new) (W.seen out.new) (F.seen store.new)) (result_err result) }
+    ensures later { AllLater (outside (S.seen input.old) (W.seen out.old) (F.seen store.old))
+        (outside (S.seen input.new) (W.seen out.new) (F.seen store.new)) }
+{
+    let columns = plain_columns(alloc)?;
+    let batch = read_batch(alloc, &columns, input)?;
+    write_batch(alloc, &columns, &batch, out, store)
+}
+
 /// Writes a batch: commits its rows where there are any, and prints the merged table.
-pub(crate) fn write_batch<W: Sink, F: FileStore>(
+fn write_batch<W: Sink, F: FileStore>(
     alloc: Global,
     columns: &[Column],
     batch: &[(Kind, Row)],
@@ -88,18 +112,4 @@ fn write_nothing<W: Sink, F: FileStore>(
 {
     let text = nothing_to_commit(alloc, store, columns)?;
     print(out, &text, None)
-}
-
-/// Prints a text, after the commit of that snapshot where there is one.
-fn print<W: Sink>(out: &mut W, text: &[u8], snapshot: Option<u64>) -> Result<(), Refusal>
-    ensures ok { OnOk result ((W.seen out.new).taken ≡ and_then (W.seen out.old).taken text.now) }
-    ensures fault { IfErr result (λ e. e ≡ refusals.SinkFault snapshot) }
-    ensures prefix { OnErr result (TookPrefix (W.seen out.old).taken (W.seen out.new).taken text.now) }
-    ensures failed { OnErr result (SinkFailed (W.seen out.old) (W.seen out.new)) }
-    ensures later { SinkLater (W.seen out.old) (W.seen out.new) }
-{
-    match write_all(out, text) {
-        Ok(()) => Ok(()),
-        Err(_) => Err(Refusal::SinkFault { snapshot }),
-    }
 }

@@ -1,5 +1,6 @@
 use Rattle.std.specs.Result.{result_err}
-use Rattle.pm_cli.specs.Run.{outside, WritesBatch, AddsBatches}
+use Rattle.pm_cli.specs.Outside.{outside}
+use Rattle.pm_cli.specs.Write.{WritesBatch, AddsBatches}
 use Rattle.pm_cli.proofs.BatchLaws.{batch_empty, batch_written}
 use Rattle.pm_cli.proofs.write.write_batch.Goals as goal
 

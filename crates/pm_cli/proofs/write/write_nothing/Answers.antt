@@ -1,5 +1,5 @@
 use Rattle.std.proofs.lemmas.Result.{err_from_is_err_and}
-use Rattle.pm_cli.specs.Run.{outside}
+use Rattle.pm_cli.specs.Outside.{outside}
 use Rattle.pm_cli.proofs.BatchLaws.{shown_printed, nothing_refused, nothing_printed}
 use Rattle.pm_cli.proofs.write.write_nothing.Goals as goal
 

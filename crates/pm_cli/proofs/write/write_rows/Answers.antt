@@ -1,6 +1,6 @@
 use Rattle.std.proofs.lemmas.Result.{err_from_is_err_and}
 use Rattle.pm_plain.specs.Commit.{StoreFailed, WasContended}
-use Rattle.pm_cli.specs.Run.{outside}
+use Rattle.pm_cli.specs.Outside.{outside}
 use Rattle.pm_cli.proofs.BatchLaws.{commit_printed, rows_refused, rows_printed}
 use Rattle.pm_cli.proofs.write.write_rows.Goals as goal
 

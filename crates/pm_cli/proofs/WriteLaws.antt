@@ -1,39 +1,24 @@
--- Laws of a command, from what it read and wrote.
-use Rattle.std.proofs.Common.{IfErr, ◌≡◌, ℕ, length, get_or, List, [], ◌∷◌, Option, Some, IfSome, None, Result, Ok}
-use Rattle.std.proofs.Common.{Err, refl, ap, subst, sym, ◌∙◌, inl, inr, arith}
+-- Laws of `write`, from what it read and wrote.
+use Rattle.std.proofs.Common.{IfErr, ◌≡◌, ℕ, List, [], ◌∷◌, Option, Some, IfSome, None, Result, Ok}
+use Rattle.std.proofs.Common.{Err, subst, sym, ◌∙◌, inl, inr}
 use Rattle.pm_history.specs.Merge.{HistoryRow}
 use Rattle.pm_io.specs.Sink.{SinkView}
 use Rattle.pm_io.specs.Source.{SourceView, SourceFailed}
-use Rattle.pm_store.specs.declared.call.Op.{Op}
-use Rattle.pm_store.specs.Answers.{GoesOnWith, IsFirst}
 use Rattle.pm_store.specs.Files.{Files}
 use Rattle.pm_store.specs.Images.{Extends}
 use Rattle.pm_store.specs.Store.{StoreView}
 use Rattle.pm_store.proofs.ImageLaws.{Extends-refl, Extends-weaker}
-use Rattle.pm_store.proofs.StepLaws.{Meanwhile-refl}
 use Rattle.pm_values.specs.declared.refusal.Refusal.{Refusal}
 use Rattle.pm_values.specs.declared.refusal.Refusal.TheVariants as refusals
 use Rattle.pm_plain.specs.Text.{History, StandsFor}
 use Rattle.pm_plain.specs.Commit.{Stands, StandsAfter, read_call}
 use Rattle.pm_cli.specs.Batch.{IsBatch, RefusesInput}
-use Rattle.pm_cli.specs.Run.{Outside, outside, write_words, IsEither, IsEitherOf, HaveBatch, with_batch, HasRoom}
-use Rattle.pm_cli.specs.Run.{WritesBatch, Writes, IsServed, MayRefuseBatch, HasCause, LeavesBatch, LeavesInput}
-use Rattle.pm_cli.specs.Run.{SettlesBatch, SettlesInput, AddsBatch, AddsBatches, Serves, ServesHistories}
+use Rattle.pm_cli.specs.Outside.{Outside, outside, IsServed}
+use Rattle.pm_cli.specs.Write.{IsEither, IsEitherOf, HaveBatch, with_batch, HasRoom}
+use Rattle.pm_cli.specs.Write.{WritesBatch, Writes, MayRefuseBatch, WriteCause, LeavesBatch, LeavesInput}
+use Rattle.pm_cli.specs.Write.{SettlesBatch, SettlesInput, AddsBatch, AddsBatches, WritesHistory, WritesHistories}
 use Rattle.pm_cli.proofs.BatchLaws.{refused_none}
-
--- a list of one text
-pub one_text : (words : List (List ℕ)) (word : List ℕ) → length words ≡ 1 → word ≡ get_or words 0 word →
-    words ≡ word ∷ []
-one_text [] word one at = absurd (omega arith)
-one_text (first ∷ []) word one at = ap (λ word. word ∷ []) (sym at)
-one_text (first ∷ (second ∷ words)) word one at = absurd (omega arith)
-
-pub first_of_one : (word text : List ℕ) → word ∷ [] ≡ text ∷ [] → word ≡ text
-first_of_one word text is = cc
-
--- what holds of known bytes
-at_known : (P : List ℕ → Type 0) (left : Option (List ℕ)) (bytes : List ℕ) → left ≡ Some bytes → IfSome left P → P bytes
-at_known P left bytes is here = subst (λ left. IfSome left P) is here
+use Rattle.pm_cli.proofs.Uncalled.{first_uncalled, at_known}
 
 same_ok : {A E : Type 0} (x y : A) → ◌≡◌ {A = Result A E} (Ok x) (Ok y) → x ≡ y
 same_ok x y e = cc
@@ -70,19 +55,6 @@ input_settles : (e : Refusal) (bytes : List ℕ) (before after : SourceView) (h 
 input_settles (refusals.SinkFault snapshot) bytes before after h store answer = absurd answer
 input_settles e bytes before after h store answer = tt
 
--- where no call came, the store goes on with nothing
-no_call : (ops : Option (List Op)) → GoesOnWith read_call ops ops
-no_call None = tt
-no_call (Some ops) = inl refl
-
-first_uncalled : (store : StoreView) → IsFirst read_call store store store
-first_uncalled store = record {
-  meanwhile = Meanwhile-refl store;
-  faults = omega arith;
-  later = record { others = omega arith; faults = omega arith };
-  goes_on = no_call store.ops;
-}
-
 -- a command that doesn't call the store leaves what stood
 images-untouched : (bytes : List ℕ) (h : History) (store : StoreView) → Stands store h →
     Extends (IsEitherOf bytes h) store.ops store.ops
@@ -93,7 +65,7 @@ images-untouched bytes h store stands =
 input_serves : (h : History) (bytes : List ℕ) (input after : SourceView) (out : SinkView) (store : StoreView)
     (e : Refusal) →
     RefusesInput bytes input after e → Stands store h →
-    Serves h bytes store (outside input out store) (outside after out store) (Some e)
+    WritesHistory h bytes store (outside input out store) (outside after out store) (Some e)
 input_serves h bytes input after out store e answer stands = record {
   done = λ none. absurd (refused_none e none);
   leaves = input_leaves e bytes input after h store answer stands;
@@ -104,10 +76,10 @@ input_serves h bytes input after out store e answer stands = record {
 
 pub input_refused : (input after : SourceView) (out : SinkView) (store : StoreView) (e : Refusal) →
     IfSome input.left (λ bytes. RefusesInput bytes input after e) →
-    ServesHistories (outside input out store) (outside after out store) (Some e)
+    WritesHistories (outside input out store) (outside after out store) (Some e)
 input_refused input after out store e answer = (
   store,
-  first_uncalled store,
+  first_uncalled read_call store,
   λ alone h bytes stands is.
       input_serves h bytes input after out store e
       (at_known (λ bytes. RefusesInput bytes input after e) input.left bytes is answer) stands,
@@ -115,10 +87,10 @@ input_refused input after out store e answer = (
 
 -- memory that ran out before anything was read
 pub nothing_read : (input : SourceView) (out : SinkView) (store : StoreView) →
-    ServesHistories (outside input out store) (outside input out store) (Some refusals.Memory)
+    WritesHistories (outside input out store) (outside input out store) (Some refusals.Memory)
 nothing_read input out store = (
   store,
-  first_uncalled store,
+  first_uncalled read_call store,
   λ alone h bytes stands is. input_serves h bytes input input out store refusals.Memory tt stands,
 )
 
@@ -157,7 +129,7 @@ batch_served : (h : History) (bytes : List ℕ) (batch : List HistoryRow) (first
     (input input_after : SourceView) (out out_after : SinkView) (answer : Option Refusal) →
     (input_after.left ≡ Some []) × IsBatch batch bytes →
     AddsBatch h batch first (outside input out store) (outside input out_after store_after) answer →
-    Serves h bytes first (outside input out store) (outside input_after out_after store_after) answer
+    WritesHistory h bytes first (outside input out store) (outside input_after out_after store_after) answer
 batch_served h bytes batch first store store_after input input_after out out_after answer (to_end, is) adds = record {
   done = λ none. record {
     batch = batch;
@@ -178,7 +150,7 @@ pub batch_serves : (store store_after : StoreView) (input input_after : SourceVi
     (batch : List HistoryRow) (answer : Option Refusal) →
     IfSome input.left (λ bytes. (input_after.left ≡ Some []) × IsBatch batch bytes) →
     AddsBatches batch out out_after store store_after answer →
-    ServesHistories (outside input out store) (outside input_after out_after store_after) answer
+    WritesHistories (outside input out store) (outside input_after out_after store_after) answer
 batch_serves store store_after input input_after out out_after batch answer read (first, is_first, adds) = (
   first,
   is_first,
@@ -225,19 +197,19 @@ batch_command store store_after input input_after out out_after batch answer rea
 cause_of_batch : (input input_after : SourceView) (out out_after : SinkView) (store store_after : StoreView)
     (e : Refusal) →
     MayRefuseBatch (outside input out store) (outside input out_after store_after) e →
-    HasCause write_words (outside input out store) (outside input_after out_after store_after) e
+    WriteCause (outside input out store) (outside input_after out_after store_after) e
 cause_of_batch input input_after out out_after store store_after refusals.Memory may = tt
-cause_of_batch input input_after out out_after store store_after (refusals.SinkFault snapshot) may = (refl, may)
-cause_of_batch input input_after out out_after store store_after (refusals.StoreFault path) may = (refl, may.0, may.1)
-cause_of_batch input input_after out out_after store store_after (refusals.Damaged path place) may = (refl, may)
-cause_of_batch input input_after out out_after store store_after (refusals.Contended ids) may = (refl, may)
-cause_of_batch input input_after out out_after store store_after (refusals.Limit which number) may = (refl, inr may)
+cause_of_batch input input_after out out_after store store_after (refusals.SinkFault snapshot) may = may
+cause_of_batch input input_after out out_after store store_after (refusals.StoreFault path) may = may
+cause_of_batch input input_after out out_after store store_after (refusals.Damaged path place) may = may
+cause_of_batch input input_after out out_after store store_after (refusals.Contended ids) may = may
+cause_of_batch input input_after out out_after store store_after (refusals.Limit which number) may = inr may
 cause_of_batch input input_after out out_after store store_after e may = absurd may
 
 pub batch_cause : (input input_after : SourceView) (out out_after : SinkView) (store store_after : StoreView)
     (r : Result (Unit {0}) Refusal) →
     IfErr r (MayRefuseBatch (outside input out store) (outside input out_after store_after)) →
-    IfErr r (HasCause write_words (outside input out store) (outside input_after out_after store_after))
+    IfErr r (WriteCause (outside input out store) (outside input_after out_after store_after))
 batch_cause input input_after out out_after store store_after (Ok done) may = tt
 batch_cause input input_after out out_after store store_after (Err e) may = cause_of_batch input input_after out
     out_after store store_after e may

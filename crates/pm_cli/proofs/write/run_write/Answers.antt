@@ -1,9 +1,10 @@
 use Rattle.std.proofs.Common.{subst}
 use Rattle.std.specs.Result.{result_err}
 use Rattle.std.proofs.lemmas.Result.{err_from_is_err_and}
-use Rattle.pm_cli.specs.Run.{outside, WritesBatch, AddsBatches}
-use Rattle.pm_cli.proofs.RunLaws.{nothing_read, input_refused, batch_serves, batch_command, batch_cause}
-use Rattle.pm_cli.proofs.execute.write.Goals as goal
+use Rattle.pm_cli.specs.Outside.{outside}
+use Rattle.pm_cli.specs.Write.{WritesBatch, AddsBatches}
+use Rattle.pm_cli.proofs.WriteLaws.{nothing_read, input_refused, batch_serves, batch_command, batch_cause}
+use Rattle.pm_cli.proofs.write.run_write.Goals as goal
 
 pub returns-in_err-columns-clause-history : goal.returns-in_err-columns-clause-history
 returns-in_err-columns-clause-history g c =

@@ -1,0 +1,39 @@
+-- What a command promises that made no call of the store, what is so of a known input, and what a crash leaves.
+use Rattle.std.proofs.Common.{◌≡◌, ◌≤◌, ℕ, List, length, ◌++◌, Option, Some, IfSome, IsSomeAnd, None, refl, sym, subst, inl, arith}
+use Rattle.pm_store.specs.declared.call.Call.{Call}
+use Rattle.pm_store.specs.declared.call.Op.{Op}
+use Rattle.pm_store.specs.Answers.{GoesOnWith, IsFirst}
+use Rattle.pm_store.specs.Files.{Files, files_after}
+use Rattle.pm_store.specs.Images.{CrashImage, Extends}
+use Rattle.pm_store.specs.Store.{StoreView, IsLater}
+use Rattle.pm_store.proofs.StepLaws.{Meanwhile-refl}
+
+-- what holds of known bytes
+pub at_known : (P : List ℕ → Type 0) (left : Option (List ℕ)) (bytes : List ℕ) → left ≡ Some bytes → IfSome left P → P bytes
+at_known P left bytes is here = subst (λ left. IfSome left P) is here
+
+-- where no call came, the store goes on with nothing
+no_call : (call : Call) (ops : Option (List Op)) → GoesOnWith call ops ops
+no_call call None = tt
+no_call call (Some ops) = inl refl
+
+pub later_itself : (store : StoreView) → IsLater store store
+later_itself store = record { others = omega arith; faults = omega arith }
+
+pub first_uncalled : (call : Call) (store : StoreView) → IsFirst call store store store
+first_uncalled call store = record {
+  meanwhile = Meanwhile-refl store;
+  faults = omega arith;
+  later = later_itself store;
+  goes_on = no_call call store.ops;
+}
+
+same_some : (ops others : List Op) → Some ops ≡ Some others → ops ≡ others
+same_some ops others e = cc
+
+-- what a crash leaves has what each image has
+pub next_stands : (P : Files → Type 0) (old new : List Op) (i : ℕ) (image : Files) → Extends P (Some old) (Some new) → length old ≤ i → CrashImage new i image
+    → (ops : List Op) (store : StoreView) → store.ops ≡ Some ops → files_after ops ≡ image → IsSomeAnd store.ops (λ ops. P (files_after ops))
+next_stands P old new i image (more, is, images) from crash ops store told files =
+    let here : P image = images i image from (subst (λ (ops : List Op). CrashImage ops i image) (same_some new (old ++ more) is) crash) in
+    subst (λ (ops : Option (List Op)). IsSomeAnd ops (λ ops. P (files_after ops))) (sym told) (subst P (sym files) here)

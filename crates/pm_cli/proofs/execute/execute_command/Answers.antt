@@ -1,0 +1,38 @@
+use Rattle.std.proofs.Common.{refl}
+use Rattle.std.proofs.Math.Facts.{to_z-of_z}
+use Rattle.std.specs.Result.{result_err}
+use Rattle.pm_cli.specs.Outside.{outside}
+use Rattle.pm_cli.proofs.SnapshotLaws.{listed_answers, listed_serves}
+use Rattle.pm_cli.proofs.execute.execute_command.Goals as goal
+
+pub returns-in-Create-clause-command : goal.returns-in-Create-clause-command
+returns-in-Create-clause-command g c = rw c.in-Create.is (rw (to_z-of_z c.ranges.now_millis) at c.run_create.ensures.command)
+
+pub returns-in-Create-clause-acts : goal.returns-in-Create-clause-acts
+returns-in-Create-clause-acts g c = rw c.in-Create.is (rw (to_z-of_z c.ranges.now_millis) at c.run_create.ensures.acts)
+
+pub returns-in-Create-clause-history : goal.returns-in-Create-clause-history
+returns-in-Create-clause-history g c = rw c.in-Create.is (rw (to_z-of_z c.ranges.now_millis) at c.run_create.ensures.history)
+
+pub returns-in-Snapshots-clause-command : goal.returns-in-Snapshots-clause-command
+returns-in-Snapshots-clause-command g c =
+    rw c.in-Snapshots.is (
+      refl,
+      listed_answers (outside (g.S.Source.seen c.args.input.now) (g.W.Sink.seen c.args.out.now) (g.F.FileStore.seen c.args.store.now))
+          (outside (g.S.Source.seen c.args.input.now) (g.W.Sink.seen c.run_snapshots.new.out) (g.F.FileStore.seen c.run_snapshots.new.store))
+          (result_err c.run_snapshots.result) c.run_snapshots.ensures.listed,
+    )
+
+pub returns-in-Snapshots-clause-acts : goal.returns-in-Snapshots-clause-acts
+returns-in-Snapshots-clause-acts g c =
+    rw c.in-Snapshots.is
+    (listed_answers (outside (g.S.Source.seen c.args.input.now) (g.W.Sink.seen c.args.out.now) (g.F.FileStore.seen c.args.store.now))
+    (outside (g.S.Source.seen c.args.input.now) (g.W.Sink.seen c.run_snapshots.new.out) (g.F.FileStore.seen c.run_snapshots.new.store))
+    (result_err c.run_snapshots.result) c.run_snapshots.ensures.listed)
+
+pub returns-in-Snapshots-clause-history : goal.returns-in-Snapshots-clause-history
+returns-in-Snapshots-clause-history g c =
+    rw c.in-Snapshots.is
+    (listed_serves (outside (g.S.Source.seen c.args.input.now) (g.W.Sink.seen c.args.out.now) (g.F.FileStore.seen c.args.store.now))
+    (outside (g.S.Source.seen c.args.input.now) (g.W.Sink.seen c.run_snapshots.new.out) (g.F.FileStore.seen c.run_snapshots.new.store))
+    (result_err c.run_snapshots.result) c.run_snapshots.ensures.listed)

@@ -1,0 +1,76 @@
+-- What a command has to do with, what it prints and says there, and how it ends.
+use Rattle.std.specs.Prelude.{◌≡◌, ◌⊎◌, ℕ, ℤ, ◌≤◌, List, Option, None, Some}
+use Rattle.pm_base.specs.Faults.{Rose}
+use Rattle.pm_base.specs.Known.{and_then}
+use Rattle.pm_values.specs.declared.refusal.Refusal.{Refusal}
+use Rattle.pm_values.specs.declared.refusal.Refusal.TheVariants as refusals
+use Rattle.pm_io.specs.Sink.{SinkView, SinkFailed, TookPrefix}
+use Rattle.pm_io.specs.Source.{SourceView, SourceFailed}
+use Rattle.pm_store.specs.Store.{StoreView, IsLater}
+use Rattle.pm_plain.specs.Commit.{IsUncalled}
+use Rattle.pm_folder.specs.Changes.{Actor}
+use Rattle.pm_report.specs.Report.{code_of, report_text}
+
+-- what a command is given beside its words: the bytes of its session, and the moment
+pub record Start : Type 0 where
+  pub session : List ℕ
+  pub now : ℤ
+
+abbrev pub start_of : List ℕ → ℤ → Start
+start_of session now = record { session = session; now = now }
+
+-- a single command is actor 0 of its session
+abbrev pub actor : Start → Actor
+actor start = record { session = start.session; number = 0 }
+
+-- what a command has to do with: its input, where it prints, and the store
+pub record Outside : Type 0 where
+  pub input : SourceView
+  pub out : SinkView
+  pub store : StoreView
+
+abbrev pub outside : SourceView → SinkView → StoreView → Outside
+outside input out store = record { input = input; out = out; store = store }
+
+-- no count fell
+pub record AllLater (before after : Outside) : Type 0 where
+  pub input : before.input.faults ≤ after.input.faults
+  pub out : before.out.faults ≤ after.out.faults
+  pub store : IsLater before.store after.store
+
+-- nothing was printed, and the store wasn't called
+pub record IsUntouched (before after : Outside) : Type 0 where
+  pub store : IsUncalled before.store after.store
+  pub out : after.out.taken ≡ before.out.taken
+
+-- the work was done, or memory ran out
+abbrev pub IsServed : Option Refusal → Type 0
+IsServed None = Unit {0}
+IsServed (Some refusals.Memory) = Unit {0}
+IsServed (Some other) = ⊥
+
+-- No fault was counted: of the input, of the sink, and of the store since its first call.
+pub record HasNoFault (before : Outside) (first : StoreView) (after : Outside) : Type 0 where
+  pub input : SourceFailed before.input after.input → ⊥
+  pub out : SinkFailed before.out after.out → ⊥
+  pub store : Rose first.faults after.store.faults → ⊥
+
+-- What a command prints and answers, by why it made nothing, if it didn't. What it made is printed as this text; where
+-- the sink failed in it, a prefix was, and the refusal names the snapshot that it made, if it did.
+abbrev pub Prints : List ℕ → Option ℕ → Option Refusal → SinkView → SinkView → Option Refusal → Type 0
+Prints text snapshot None before after None = after.taken ≡ and_then before.taken text
+Prints text snapshot None before after (Some e) =
+    (e ≡ refusals.SinkFault snapshot) × SinkFailed before after × TookPrefix before.taken after.taken text
+Prints text snapshot (Some refusal) before after answer = (answer ≡ Some refusal) × (after.taken ≡ before.taken)
+
+-- the exit status: 0, or the number of the refusal
+abbrev pub exit_code : Option Refusal → ℕ
+exit_code None = 0
+exit_code (Some refusal) = code_of refusal
+
+-- what was said of an answer: nothing, or the line of the refusal, or a prefix of it where a fault came
+abbrev pub Said : Option Refusal → SinkView → SinkView → Type 0
+Said None before after = after.taken ≡ before.taken
+Said (Some refusal) before after =
+    (after.taken ≡ and_then before.taken (report_text refusal))
+    ⊎ (SinkFailed before after × TookPrefix before.taken after.taken (report_text refusal))
