@@ -1,0 +1,36 @@
+//! The lines of a case file.
+
+use crate::command::Command;
+use pm_store::Planned;
+use std::alloc::{AllocError, AllocFailed};
+
+/// What a line of a case file says.
+#[derive(Drop)]
+pub enum Line {
+    Case { name: String },
+    Store { plan: Vec<Planned> },
+    Put { path: String, bytes: Vec<u8> },
+    Take { path: String },
+    Run(Command),
+    Files,
+    Sum,
+}
+
+/// Why a text isn't read as a line: out of memory, or it is none.
+#[derive(Drop)]
+pub enum LineFault {
+    Memory,
+    Unknown,
+}
+
+impl From<AllocError> for LineFault {
+    fn from(_e: AllocError) -> LineFault {
+        LineFault::Memory
+    }
+}
+
+impl<T: Drop> From<AllocFailed<T>> for LineFault {
+    fn from(_e: AllocFailed<T>) -> LineFault {
+        LineFault::Memory
+    }
+}

@@ -1,0 +1,164 @@
+//! The store of a case.
+
+ghost use Rattle.std.specs.Prelude.{◌≡◌, OnOk, IfErr};
+ghost use Rattle.pm_store.specs.Store.{IsLater};
+ghost use Rattle.pm_commands.specs.Store.{case_seen, Refuses};
+
+use pm_base::{Blob, Txt};
+use pm_store::{
+    Call, Effect, FileStore, Made, MemStore, Planned, Published, Removed, StoreFail, Swapped,
+    perform,
+};
+use std::alloc::{AllocError, Global};
+
+/// Files in memory. The calls of commands are numbered from 1, and the planned ones fail; what is put and taken between
+/// commands has no number.
+#[derive(Drop)]
+pub struct CaseStore {
+    files: MemStore,
+    plan: Vec<Planned>,
+    calls: u64,
+    faults: u64,
+}
+
+impl CaseStore {
+    /// No files, and the calls that are to fail.
+    pub fn new(alloc: Global, plan: Vec<Planned>) -> CaseStore {
+        CaseStore {
+            files: MemStore::new(alloc),
+            plan,
+            calls: 0,
+            faults: 0,
+        }
+    }
+
+    /// Puts a file in place, or replaces it.
+    pub fn put(&mut self, alloc: Global, path: &str, bytes: &[u8]) -> Result<(), AllocError> {
+        self.take(alloc, path)?;
+        match self.files.create(alloc, path, bytes) {
+            Ok(_) => Ok(()),
+            Err(_) => Err(AllocError),
+        }
+    }
+
+    /// Takes a file away where it is there.
+    pub fn take(&mut self, alloc: Global, path: &str) -> Result<(), AllocError> {
+        match self.files.remove(alloc, path) {
+            Ok(_) => Ok(()),
+            Err(_) => Err(AllocError),
+        }
+    }
+
+    /// The bytes of a file, or nothing where it isn't there.
+    pub fn find(&mut self, alloc: Global, path: &str) -> Result<Option<Blob>, AllocError> {
+        self.files.read(alloc, path).map_err(|_| AllocError)
+    }
+
+    /// All paths that a file was written at, each once, rising by their bytes.
+    pub fn paths(&self, alloc: Global) -> Result<Vec<Txt>, AllocError> {
+        let mut paths = Vec::new(alloc);
+        for op in self.files.ops() {
+            match &op.call {
+                Call::Create { path, .. } | Call::Publish { path, .. } | Call::Swap { path, .. } =>
+                    {
+                        paths.push(path.copy(alloc)?)?;
+                    }
+                _ => {}
+            }
+        }
+        paths.sort()?;
+        paths.dedup();
+        Ok(paths)
+    }
+
+    /// Counts a call of a command, and fails where that is planned, after the planned effect.
+    fn begin(&mut self, alloc: Global, call: Call) -> Result<(), StoreFail>
+        ensures ok { OnOk result (self.new.faults ≡ self.old.faults) }
+        ensures err { IfErr result (Refuses call (case_seen self.old.faults) (case_seen self.new.faults)) }
+        ensures later { IsLater (case_seen self.old.faults) (case_seen self.new.faults) }
+    {
+        self.calls = self.calls.saturating_add(1);
+        let number = self.calls;
+        match self.plan.iter().find(|planned| planned.call == number) {
+            Some(planned) => {
+                carry_out(alloc, &mut self.files, &call, &planned.effect)?;
+                self.faults = self.faults.saturating_add(1);
+                Err(StoreFail::Failed)
+            }
+            None => Ok(()),
+        }
+    }
+}
+
+/// Carries out as much of a call as the effect says: a part of a create of an absent path alone.
+fn carry_out(
+    alloc: Global,
+    files: &mut MemStore,
+    call: &Call,
+    effect: &Effect,
+) -> Result<(), AllocError> {
+    let done = match (effect, call) {
+        (Effect::Whole, _) => perform(alloc, files, call).map(|_| ()),
+        (Effect::Part(Some(bytes)), Call::Create { path, .. }) => files
+            .create(alloc, path.as_str(), bytes.as_bytes())
+            .map(|_| ()),
+        _ => Ok(()),
+    };
+    done.map_err(|_| AllocError)
+}
+
+impl FileStore for CaseStore {
+    ghost seen = { λ s. case_seen s.faults };
+
+    fn list(&mut self, alloc: Global, folder: &str) -> Result<Vec<Txt>, StoreFail> {
+        self.begin(alloc, Call::list(alloc, folder)?)?;
+        self.files
+            .list(alloc, folder)
+            .map_err(|_| StoreFail::Memory)
+    }
+
+    fn read(&mut self, alloc: Global, path: &str) -> Result<Option<Blob>, StoreFail> {
+        self.begin(alloc, Call::read(alloc, path)?)?;
+        self.files.read(alloc, path).map_err(|_| StoreFail::Memory)
+    }
+
+    fn create(&mut self, alloc: Global, path: &str, bytes: &[u8]) -> Result<Made, StoreFail> {
+        self.begin(alloc, Call::create(alloc, path, bytes)?)?;
+        self.files
+            .create(alloc, path, bytes)
+            .map_err(|_| StoreFail::Memory)
+    }
+
+    fn publish(
+        &mut self,
+        alloc: Global,
+        after: &str,
+        path: &str,
+        bytes: &[u8],
+    ) -> Result<Published, StoreFail> {
+        self.begin(alloc, Call::publish(alloc, after, path, bytes)?)?;
+        self.files
+            .publish(alloc, after, path, bytes)
+            .map_err(|_| StoreFail::Memory)
+    }
+
+    fn swap(
+        &mut self,
+        alloc: Global,
+        path: &str,
+        expected: Option<&[u8]>,
+        bytes: &[u8],
+    ) -> Result<Swapped, StoreFail> {
+        self.begin(alloc, Call::swap(alloc, path, expected, bytes)?)?;
+        self.files
+            .swap(alloc, path, expected, bytes)
+            .map_err(|_| StoreFail::Memory)
+    }
+
+    fn remove(&mut self, alloc: Global, path: &str) -> Result<Removed, StoreFail> {
+        self.begin(alloc, Call::remove(alloc, path)?)?;
+        self.files
+            .remove(alloc, path)
+            .map_err(|_| StoreFail::Memory)
+    }
+}
