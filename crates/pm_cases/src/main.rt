@@ -1,4 +1,4 @@
-//! The cases of keys, streams, stores and commands, a line in and a line out: each line of standard input names what is
+//! The cases of keys, streams, stores and folders, a line in and a line out: each line of standard input names what is
 //! tried and its arguments, with a TAB between them, and the line that is printed for it is the answer. Blank lines and
 //! lines that begin with `#` are printed as they are. `pm_vectors` has the cases of codecs, in the same form.
 //!
@@ -6,6 +6,7 @@
 //! |---|---|---|
 //! | `compare` | columns, two row lines | how the rows compare as keys, and as the groups of buckets 1 and 0 |
 //! | `merged` | columns, row lines | the merged table's rows, whose key is the first column |
+//! | `engine` | a draft; the lines of an input, as they are | the merged table's rows, or the first refusal |
 //! | `names` | an actor, a base, another base | the first two names that are given, and the actor |
 //! | `kind` | a number | the kind's number, and whether it takes away; or `none` |
 //! | `source` | see `lines.rt` | the lines of a source that fails |
@@ -14,30 +15,24 @@
 //! | `batch` | a text | how many rows it has, and each as it is printed; or the refusal of its first bad line |
 //! | `plain` | a text | how many commits and rows it has as the plain file; or where it is damaged |
 //! | `store` | `memory`, `fails` and a plan, or `folder` and a name; calls | their answers |
-//! | `command` | see below | the status, `out`, `err`; the number of operations; the same of `write` without rows |
-//! | `rivals` | how many others commit before this one, an input | as for `command`, and the plain file that is left |
-//! | `table` | see below | the making of a table, how many operations; its snapshots; the same by another session |
+//! | `rivals` | how many others commit before this write, an input | its outcome, how many operations, the plain file |
+//! | `folder` | a name, a draft | `create` through one store of that folder and through another, then `snapshots` |
 //! | `refusal` | its kind and its parts | its status and its line |
 //! | `short-refusal` | the room of the sink, a refusal as before | its status, and what the sink takes of its line |
-//!
-//! A `command` has eight arguments: the call of the store that fails, or 0, and its effect; the read and the write that
-//! fail, or 0; the room of `out`; the plain file, made by call 1 where it isn't empty; the word; and the input.
-//!
-//! A `table` has four arguments: the call of the store that fails, or 0, and its effect, `none`, `absent` or `whole`;
-//! files as `PATH=TEXT` with `;` between them, made by the first calls; and the draft.
 //!
 //! Digits are hexadecimal. Any other argument is the text itself, or `0x` and the digits of its bytes.
 #![tactic(auto)]
 
 mod batch;
 mod command;
+mod engine;
+mod folder;
 mod input;
 mod lines;
 mod plain;
 mod refusal;
 mod rivals;
 mod store;
-mod table;
 mod value;
 
 use std::alloc::{AllocError, Global};
@@ -60,6 +55,7 @@ fn answer(rt: &HostRuntime, alloc: Global, line: &str) -> io::Result<String> {
     let (codec, arguments) = line.split_once('\t').unwrap_or((line, ""));
     let found = match codec {
         "store" => store::answer(rt, alloc, arguments)?,
+        "folder" => folder::answer(rt, alloc, arguments)?,
         _ => answer_of(alloc, codec, arguments)?,
     };
     match found {
@@ -74,14 +70,13 @@ fn answer_of(alloc: Global, codec: &str, arguments: &str) -> Result<Option<Strin
         "source" => lines::source_answer(alloc, arguments),
         "sink" => lines::sink_answer(alloc, arguments),
         "lines" => input::answer(alloc, arguments),
-        "table" => table::answer(alloc, arguments),
         "compare" => value::compare_answer(alloc, arguments),
         "merged" => value::merged_answer(alloc, arguments),
+        "engine" => engine::answer(alloc, arguments),
         "names" => value::names_answer(alloc, arguments),
         "kind" => value::kind_answer(alloc, arguments),
         "batch" => batch::answer(alloc, arguments),
         "plain" => plain::answer(alloc, arguments),
-        "command" => command::answer(alloc, arguments),
         "rivals" => rivals::answer(alloc, arguments),
         "refusal" => refusal::answer(alloc, arguments),
         "short-refusal" => refusal::short_answer(alloc, arguments),

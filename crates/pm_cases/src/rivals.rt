@@ -2,7 +2,7 @@
 
 ghost use Rattle.std.specs.Prelude.{None};
 
-use crate::command::{Command, ROOM, run_one};
+use crate::command::run_command;
 use pm_base::{Blob, Txt};
 use pm_case::read_bytes;
 use pm_store::{FileStore, Made, MemStore, Published, Removed, StoreFail, Swapped};
@@ -99,13 +99,7 @@ pub fn answer(alloc: Global, arguments: &str) -> Result<Option<String>, AllocErr
         commits: 0,
         left: rivals.parse::<u64>().unwrap_or(0),
     };
-    let command = Command {
-        read: 0,
-        write: 0,
-        room: ROOM,
-        word: "write",
-    };
-    let first = run_one(alloc, &mut store, &command, input)?;
+    let first = run_command(alloc, &mut store, 0, "write", input)?;
     let made = store.store.ops().len();
     let file = match store.read(alloc, PATH) {
         Ok(Some(file)) => file.into_vec(),
