@@ -1,0 +1,4 @@
+mod CoverLemmas
+pub mod Facts
+mod ReduceLemmas
+mod Rising

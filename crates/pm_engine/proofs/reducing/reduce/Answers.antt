@@ -1,0 +1,31 @@
+use Rattle.std.proofs.Common.{◌≡◌}
+use Rattle.std.proofs.lemmas.List.Sorted.{All-permutation}
+use Rattle.std.proofs.lemmas.Result.{IfOk-weaker}
+use Rattle.pm_history.specs.declared.verdict.Verdict.TheVariants.{Take}
+use Rattle.pm_engine.specs.Covers.{IsKeyed}
+use Rattle.pm_engine.proofs.ReduceLemmas.{covers_all, gathers-all, numbers_all}
+use Rattle.pm_engine.proofs.reducing.reduce.Goals as goal
+
+-- the kind of each row is taken, in whichever order
+pub gathered-requires : goal.gathered-requires
+gathered-requires g c =
+    All-permutation (λ s. (g.E.MergeEngine.meaning c.args.engine.now).verdict s.kind ≡ Take) c.args.rows.items c.in_ok-rows.rows.items c.in_ok-rows.ensures.same c.requires
+
+pub returns-clause-rising : goal.returns-clause-rising
+returns-clause-rising g c =
+    let m = g.E.MergeEngine.meaning c.args.engine.now in
+    IfOk-weaker c.gathered.result _ _ (λ run folds. (gathers-all m c.in_ok-rows.rows.items run.items c.in_ok-rows.ensures.sorted folds).rising) c.gathered.ensures
+
+pub returns-clause-numbers : goal.returns-clause-numbers
+returns-clause-numbers g c =
+    let m = g.E.MergeEngine.meaning c.args.engine.now in
+    let sorted = c.in_ok-rows.rows.items in
+    IfOk-weaker c.gathered.result _ _ (λ run folds. numbers_all m c.args.rows.items sorted run.items (gathers-all m sorted run.items c.in_ok-rows.ensures.sorted folds) c.in_ok-rows.ensures.stable) c.gathered.ensures
+
+pub returns-clause-covers : goal.returns-clause-covers
+returns-clause-covers g c =
+    let m = g.E.MergeEngine.meaning c.args.engine.now in
+    let rows = c.args.rows.items in
+    let sorted = c.in_ok-rows.rows.items in
+    IfOk-weaker c.gathered.result _ _ (λ run folds keyed. covers_all m rows sorted run.items (gathers-all m sorted run.items c.in_ok-rows.ensures.sorted folds) c.in_ok-rows.ensures.stable
+    (All-permutation (IsKeyed m) rows sorted c.in_ok-rows.ensures.same keyed) keyed) c.gathered.ensures

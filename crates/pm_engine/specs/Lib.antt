@@ -1,0 +1,5 @@
+pub mod Covers
+pub mod Meaning
+pub mod OfSchema
+pub mod Reducing
+pub mod Stored

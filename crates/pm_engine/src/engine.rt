@@ -1,0 +1,49 @@
+//! The trait of a merge engine, with its four laws.
+
+ghost use Rattle.std.specs.Prelude.{◌≡◌, ◌∷◌, [], ◌++◌, true, List, IfOk};
+ghost use Rattle.pm_values.specs.Fits.{Fits};
+ghost use Rattle.pm_values.specs.Order.{Values};
+ghost use Rattle.pm_history.specs.Merge.{HistoryRow, key_of};
+ghost use Rattle.pm_history.specs.declared.verdict.Verdict.TheVariants.{Take};
+ghost use Rattle.pm_engine.specs.Meaning.{Meaning, IsTaken, SpeaksFor, HasNoEffect};
+ghost use Rattle.pm_engine.specs.Stored.{as_row};
+
+use crate::stored::Stored;
+use pm_history::Verdict;
+use pm_values::{Kind, Row};
+use std::alloc::{AllocError, Global};
+
+/// How the rows of a key become one stored row. The layers above rest on these laws alone.
+pub trait MergeEngine {
+    /// What the engine means.
+    ghost meaning: { Self → Meaning };
+
+    /// What becomes of a row of the kind.
+    fn accepts(&self, kind: Kind) -> Verdict
+        ensures { result ≡ (meaning self.now).verdict kind };
+
+    /// The stored row of one row: it speaks for it.
+    fn lift(&self, alloc: Global, kind: Kind, row: Row) -> Result<Stored, AllocError>
+        requires taken { (meaning self.now).verdict kind ≡ Take }
+        ensures lifts { Fits (meaning self.now).columns row → IfOk result (λ stored.
+            SpeaksFor (meaning self.now) (key_of (meaning self.now).primary row) (as_row stored) ((kind, row) ∷ [])) };
+
+    /// The stored row of two: it speaks for what both speak for, joined.
+    fn combine(&self, alloc: Global, older: Stored, newer: Stored) -> Result<Stored, AllocError>
+        ensures combines { (key : Values) (before after : List HistoryRow) →
+            SpeaksFor (meaning self.now) key (as_row older) before →
+            SpeaksFor (meaning self.now) key (as_row newer) after → IfOk result (λ stored.
+            SpeaksFor (meaning self.now) key (as_row stored) (before ++ after)) };
+
+    /// Whether the key of the stored row shows.
+    fn shows(&self, stored: &Stored) -> bool
+        ensures alone { result ≡ (meaning self.now).shows (as_row stored.now ∷ []) }
+        ensures shows { (key : Values) (rows : List HistoryRow) →
+            SpeaksFor (meaning self.now) key (as_row stored.now) rows → result ≡ (meaning self.now).shows rows };
+
+    /// Whether the stored row is left out where nothing older is left.
+    fn droppable(&self, stored: &Stored) -> bool
+        ensures drops { result ≡ (meaning self.now).drops (as_row stored.now) }
+        ensures no_effect { (key : Values) → IsTaken (meaning self.now) key (as_row stored.now) → result ≡ true →
+            HasNoEffect (meaning self.now) key (as_row stored.now ∷ []) };
+}
