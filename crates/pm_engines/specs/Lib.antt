@@ -1,0 +1,2 @@
+pub mod TableEngine
+pub mod Verdict
