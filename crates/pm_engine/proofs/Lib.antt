@@ -1,4 +1,4 @@
 mod CoverLemmas
 pub mod Facts
 mod ReduceLemmas
-mod Rising
+pub mod Rising

@@ -23,7 +23,7 @@ pub record IsLifted (m : Meaning) (row stored : Stamped) : Type 0 where
   pub number : stored.seq ≡ row.seq
   pub speaks : IsKeyed m row → SpeaksFor m row.key (row_of stored) (row_of row ∷ [])
 
--- Private: two stored rows of a key became one
+-- two stored rows of a key became one: it has the greater number, and speaks for what both speak for
 pub record IsCombined (m : Meaning) (older newer stored : Stamped) : Type 0 where
   pub same_key : stored.key ≡ older.key
   pub number : stored.seq ≡ max older.seq newer.seq

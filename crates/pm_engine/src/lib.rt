@@ -9,7 +9,7 @@
 //! Runs cover rows (`specs/Covers.antt`) where each run has one stored row for its part of each key's rows, and at most
 //! the first rows of a key are missing, which then have no effect: the rows are worth what the runs have
 //! (`covers_law`), and a run may be put after others (`added_law`). `reduce` makes one such run of rows, and none is
-//! missing. What the engine of a schema means is in `specs/OfSchema.antt`.
+//! missing; `combined` makes one stored row of two. What the engine of a schema means is in `specs/OfSchema.antt`.
 #![tactic(auto)]
 
 mod engine;
@@ -20,5 +20,5 @@ mod stored;
 pub use engine::MergeEngine;
 pub use laws::{added_law, covers_law};
 pub use pm_history::Verdict;
-pub use reducing::reduce;
+pub use reducing::{combined, reduce};
 pub use stored::Stored;

@@ -96,8 +96,8 @@ fn lifted<E: MergeEngine>(alloc: Global, engine: &E, row: Stamped) -> Result<Sta
     })
 }
 
-/// Two stored rows of a key as one.
-fn combined<E: MergeEngine>(
+/// Two stored rows of a key as one, with the greater number. It speaks for what both speak for.
+pub fn combined<E: MergeEngine>(
     alloc: Global,
     engine: &E,
     older: Stamped,

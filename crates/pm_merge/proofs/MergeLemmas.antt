@@ -1,0 +1,297 @@
+-- A run that is made of runs covers what they cover.
+use Rattle.std.proofs.Common.{Result, Ok, Err, IfOk, ◌≡◌, ◌≢◌, ◌↔◌, ℕ, zero, List, [], ◌∷◌, ◌++◌, take, drop, max, All, Vec, Bool, true, false, not, cond, refl, sym, ap, subst, ◌∙◌, arith, append_assoc, append-nil, inl, inr}
+use Rattle.std.specs.List.{AllByRecursion, AllZip, flat_map, filter}
+use Rattle.std.specs.Ordering.{eq_by_cmp}
+use Rattle.std.specs.declared.cmp.Ordering.TheVariants.{Less}
+use Rattle.std.specs.declared.alloc.Global.{Global}
+use Rattle.std.proofs.lemmas.Grind.{flat_map-append}
+use Rattle.std.proofs.lemmas.List.{drop-map, map-append, take-append-drop, take-map}
+use Rattle.std.proofs.lemmas.List.Elements.{All-drop, All-take, filter-append}
+use Rattle.pm_values.specs.Order.{Values, key_cmp}
+use Rattle.pm_values.specs.declared.record.Stamped.{Stamped}
+use Rattle.pm_history.specs.Merge.{HistoryRow, rows_of}
+use Rattle.pm_engine.specs.Covers.{Covers, CoversAll, CoversKey, Holds, IsRising, MayBeMissing, Run, of_key, row_of}
+use Rattle.pm_engine.specs.Meaning.{AreTaken, HasNoEffect, Meaning, SameWorth, SpeaksFor}
+use Rattle.pm_engine.specs.Reducing.{HasGreatestNumbers, greatest_number}
+use Rattle.pm_engine.proofs.Facts.{SameWorth-same, SameWorth-trans, AreTaken-append, shows_for, some_after}
+use Rattle.pm_engine.proofs.Rising.{apart_back, ties_itself}
+use Rattle.pm_merge.specs.Merge.{CoversTheSame, IsMerge, Replaces, ReplacesOldest, all_rows, runs_of, without_droppable}
+use Rattle.pm_merge.specs.Pairs.{DropsNoEffect, HasNumber, Joins, Merges}
+use Rattle.pm_merge.proofs.PairLemmas.{at-holds, at-kept, at-number, merges-at, merges-rising, of_key-first, of_key-other, rising-cons, rising-nil, rising-parts}
+
+-- ---- runs that are made of runs
+
+pub joins-none : (m : Meaning) → Joins m [] []
+joins-none m = record { rising = rising-nil; numbers = λ key. refl; kept = λ key s e. e; holds = none }
+  where
+    none : (key : Values) (parts : List (List HistoryRow)) → AllZip (λ (run : Run) (part : List HistoryRow). Holds m key (of_key key run) part) [] parts → flat_map (λ part. part) parts ≡ []
+    none key [] holds = refl
+    none key (p ∷ ps) holds = absurd holds
+
+pub joins-empty : (m : Meaning) (runs : List (Vec Stamped Global)) (run : Run) → runs ≡ [] → run ≡ [] → Joins m (runs_of runs) run
+joins-empty m runs run none empty = subst (λ rs. Joins m (runs_of rs) run) (sym none) (subst (Joins m []) (sym empty) (joins-none m))
+
+-- a rising run has each key once
+own-number : (key : Values) (run : Run) → IsRising run → HasNumber (of_key key run) (of_key key run)
+own-number key [] rising = refl
+own-number key (s ∷ run) rising =
+    let parts = rising-parts s run rising in
+    elim (eq_by_cmp key_cmp key s.key) as (λ t. eq_by_cmp key_cmp key s.key ≡ t → HasNumber (of_key key (s ∷ run)) (of_key key (s ∷ run))) [
+      | true ↦ λ e. subst (λ own. HasNumber own own) (sym (of_key-first key s run e parts.0)) ((λ none. cc), only s.seq)
+      | false ↦ λ e. subst (λ own. HasNumber own own) (sym (of_key-other key s run e)) (own-number key run parts.1)
+    ] refl
+  where
+    only : (n : ℕ) → n ≡ max n 0
+    only n = omega arith
+
+pub joins-one : (m : Meaning) (run : Run) → IsRising run → Joins m (run ∷ []) run
+joins-one m run rising = record {
+  rising = rising;
+  numbers = λ key. subst (λ rows. HasNumber (of_key key run) (of_key key rows)) (sym (append-nil run)) (own-number key run rising);
+  kept = λ key s e. ap (of_key key) (sym (append-nil run)) ∙ e;
+  holds = λ key parts holds. one key parts holds;
+}
+  where
+    one : (key : Values) (parts : List (List HistoryRow)) → AllZip (λ (run : Run) (part : List HistoryRow). Holds m key (of_key key run) part) (run ∷ []) parts
+        → Holds m key (of_key key run) (flat_map (λ part. part) parts)
+    one key [] holds = absurd holds
+    one key (p ∷ []) holds = subst (Holds m key (of_key key run)) (sym (append-nil p)) holds.0
+    one key (p ∷ q ∷ ps) holds = absurd holds.1
+
+AllZip-parts : {A B : Type 0} (R : A → B → Type 0) (xs us : List A) (zs : List B) → AllZip R (xs ++ us) zs → (ys : List B) × (vs : List B) × (zs ≡ ys ++ vs) × AllZip R xs ys × AllZip R us vs
+AllZip-parts R [] us zs all = ([], zs, refl, tt, all)
+AllZip-parts R (x ∷ xs) us [] all = absurd all
+AllZip-parts R (x ∷ xs) us (z ∷ zs) all =
+    let rest = AllZip-parts R xs us zs all.1 in
+    (z ∷ rest.0, rest.1, ap (λ ws. z ∷ ws) rest.2, (all.0, rest.3), rest.4)
+
+of_key-rows : (key : Values) (older newer : List Run) → of_key key (all_rows (older ++ newer)) ≡ of_key key (all_rows older) ++ of_key key (all_rows newer)
+of_key-rows key older newer = ap (of_key key) (flat_map-append (λ (run : Run). run) older newer) ∙ filter-append (λ (s : Stamped). eq_by_cmp key_cmp key s.key) (all_rows older) (all_rows newer)
+
+pub joins-two : (m : Meaning) (olders newers : List Run) (older newer run : Run) → Joins m olders older → Joins m newers newer → Merges m older newer run → Joins m (olders ++ newers) run
+joins-two m olders newers older newer run one two made = record {
+  rising = merges-rising m older newer run made one.rising two.rising;
+  numbers = λ key. subst (HasNumber (of_key key run)) (sym (of_key-rows key olders newers))
+      (at-number m (of_key key older) (of_key key newer) (of_key key run) _ _ (merges-at m older newer run made one.rising two.rising key) (one.numbers key) (two.numbers key));
+  kept = λ key s e.
+      at-kept m (of_key key older) (of_key key newer) (of_key key run) (of_key key (all_rows olders)) (of_key key (all_rows newers)) s (merges-at m older newer run made one.rising two.rising key)
+      (one.numbers key) (two.numbers key) (one.kept key s) (two.kept key s) (sym (of_key-rows key olders newers) ∙ e);
+  holds = λ key parts holds.
+      let split = AllZip-parts (λ (run : Run) (part : List HistoryRow). Holds m key (of_key key run) part) olders newers parts holds in
+      subst (Holds m key (of_key key run)) (sym (ap (flat_map (λ part. part)) split.2 ∙ flat_map-append (λ part. part) split.0 split.1))
+      (at-holds m key (of_key key older) (of_key key newer) (of_key key run) _ _ (merges-at m older newer run made one.rising two.rising key) (one.holds key split.0 split.3) (two.holds key split.1 split.4));
+}
+
+-- ---- halves
+
+pub rising-take : (n : ℕ) (runs half : List (Vec Stamped Global)) → half ≡ take n runs → All IsRising (runs_of runs) → All IsRising (runs_of half)
+rising-take n runs half is all = subst (All IsRising) (take-map (λ (run : Vec Stamped Global). run.items) n runs ∙ ap runs_of (sym is)) (All-take IsRising n (runs_of runs) all)
+
+pub rising-drop : (n : ℕ) (runs half : List (Vec Stamped Global)) → half ≡ drop n runs → All IsRising (runs_of runs) → All IsRising (runs_of half)
+rising-drop n runs half is all = subst (All IsRising) (drop-map (λ (run : Vec Stamped Global). run.items) n runs ∙ ap runs_of (sym is)) (All-drop IsRising n (runs_of runs) all)
+
+pub joins-halves : (m : Meaning) (n : ℕ) (runs olders newers : List (Vec Stamped Global)) (older newer run : Run) → olders ≡ take n runs → newers ≡ drop n runs
+    → Joins m (runs_of olders) older → Joins m (runs_of newers) newer → Merges m older newer run → Joins m (runs_of runs) run
+joins-halves m n runs olders newers older newer run before after one two made =
+    subst (λ rs. Joins m rs run) whole (joins-two m (runs_of olders) (runs_of newers) older newer run one two made)
+  where
+    whole : runs_of olders ++ runs_of newers ≡ runs_of runs
+    whole = sym (map-append (λ (run : Vec Stamped Global). run.items) olders newers) ∙ ap (λ rs. runs_of (rs ++ newers)) before ∙ ap (λ rs. runs_of (take n runs ++ rs)) after ∙ ap runs_of (take-append-drop n runs)
+
+pub joins-last : (m : Meaning) (runs : List (Vec Stamped Global)) (run : Vec Stamped Global) → runs ≡ run ∷ [] → All IsRising (runs_of runs) → Joins m (runs_of runs) run.items
+joins-last m runs run is all =
+    let rising : All IsRising (run.items ∷ []) = subst (λ rs. All IsRising (runs_of rs)) is all in
+    subst (λ rs. Joins m (runs_of rs) run.items) (sym is) (joins-one m run.items (rising zero run.items (omega arith)))
+
+-- ---- what that says of them
+
+both_of : {A : Type 0} (P Q R : A → Type 0) → ((x : A) → P x → Q x → R x) → (xs : List A) → AllByRecursion P xs → AllByRecursion Q xs → AllByRecursion R xs
+both_of P Q R f [] p q = tt
+both_of P Q R f (x ∷ xs) p q = (f x p.0 q.0, both_of P Q R f xs p.1 q.1)
+
+each_of : {A : Type 0} (P Q : A → Type 0) → ((x : A) → P x → Q x) → (xs : List A) → AllByRecursion P xs → AllByRecursion Q xs
+each_of P Q f [] p = tt
+each_of P Q f (x ∷ xs) p = (f x p.0, each_of P Q f xs p.1)
+
+-- each row of a rising run is the only one of its key
+alone : (run : Run) → IsRising run → AllByRecursion (λ (s : Stamped). of_key s.key run ≡ s ∷ []) run
+alone [] rising = tt
+alone (x ∷ xs) rising =
+    let parts = rising-parts x xs rising in (
+      of_key-first x.key x xs (ties_itself x.key) parts.0,
+      both_of (λ (s : Stamped). key_cmp x.key s.key ≡ Less) (λ (s : Stamped). of_key s.key xs ≡ s ∷ []) (λ (s : Stamped). of_key s.key (x ∷ xs) ≡ s ∷ [])
+          (λ s less is. of_key-other s.key x xs (apart_back x.key s.key less) ∙ is) xs parts.0 (alone xs parts.1),
+    )
+
+greatest_numbers : (run rows : Run) → IsRising run → ((key : Values) → HasNumber (of_key key run) (of_key key rows)) → HasGreatestNumbers run rows
+greatest_numbers run rows rising numbers =
+    each_of (λ (s : Stamped). of_key s.key run ≡ s ∷ []) (λ (s : Stamped). s.seq ≡ greatest_number (of_key s.key rows))
+    (λ s is. let number : HasNumber (s ∷ []) (of_key s.key rows) = subst (λ own. HasNumber own (of_key s.key rows)) is (numbers s.key) in number.1) run (alone run rising)
+
+same_keys : (own rows : Run) → HasNumber own rows → (own ≡ []) ↔ (rows ≡ [])
+same_keys [] rows number = ((λ e. number), (λ e. refl))
+same_keys (s ∷ []) rows number = ((λ e. cc), (λ e. absurd (number.0 e)))
+same_keys (s ∷ t ∷ more) rows number = absurd number
+
+covers_same : (m : Meaning) (runs : List Run) (run : Run) → Joins m runs run → CoversTheSame m runs run
+covers_same m runs run joins = λ key missing rows covers. record {
+  parts = flat_map (λ part. part) covers.parts ∷ [];
+  split = covers.split ∙ ap (λ xs. missing ++ xs) (sym (append-nil (flat_map (λ part. part) covers.parts)));
+  holds = (joins.holds key covers.parts covers.holds, tt);
+}
+
+pub is_merge : (m : Meaning) (runs : List Run) (run : Run) → Joins m runs run → IsMerge m runs run
+is_merge m runs run joins = record {
+  rising = joins.rising;
+  keys = λ key. same_keys (of_key key run) (of_key key (all_rows runs)) (joins.numbers key);
+  numbers = greatest_numbers run (all_rows runs) joins.rising joins.numbers;
+  kept = joins.kept;
+  covers = covers_same m runs run joins;
+}
+
+-- where the runs cover rows, the run does
+pub merge-covers : (m : Meaning) (runs : List Run) (run : Run) (rows : List HistoryRow) → IsMerge m runs run → Covers m runs rows → Covers m (run ∷ []) rows
+merge-covers m runs run rows is covers = λ key.
+    let at = covers key in
+    (at.0, at.1, is.covers key at.0 (rows_of m.primary key rows) at.2)
+
+pub merge-covers_all : (m : Meaning) (runs : List Run) (run : Run) (rows : List HistoryRow) → IsMerge m runs run → CoversAll m runs rows → CoversAll m (run ∷ []) rows
+merge-covers_all m runs run rows is covers = λ key. is.covers key [] (rows_of m.primary key rows) (covers key)
+
+-- ---- in the place of the runs
+
+-- each run has one stored row for its part of the key's rows
+abbrev HaveParts : Meaning → Values → List Run → List (List HistoryRow) → Type 0
+HaveParts m key runs parts = AllZip (λ (run : Run) (part : List HistoryRow). Holds m key (of_key key run) part) runs parts
+
+abbrev joined : List (List HistoryRow) → List HistoryRow
+joined parts = flat_map (λ part. part) parts
+
+parts-append : (m : Meaning) (key : Values) (xs : List Run) (ys : List (List HistoryRow)) (us : List Run) (vs : List (List HistoryRow)) → HaveParts m key xs ys → HaveParts m key us vs
+    → HaveParts m key (xs ++ us) (ys ++ vs)
+parts-append m key [] [] us vs one two = two
+parts-append m key [] (y ∷ ys) us vs one two = absurd one
+parts-append m key (x ∷ xs) [] us vs one two = absurd one
+parts-append m key (x ∷ xs) (y ∷ ys) us vs one two = (one.0, parts-append m key xs ys us vs one.1 two)
+
+joined-append : (xs ys : List (List HistoryRow)) → joined (xs ++ ys) ≡ joined xs ++ joined ys
+joined-append xs ys = flat_map-append (λ part. part) xs ys
+
+joined-place : (all before rest middle after new : List (List HistoryRow)) → all ≡ before ++ rest → rest ≡ middle ++ after → joined middle ≡ joined new → joined all ≡ joined (before ++ (new ++ after))
+joined-place all before rest middle after new one two same =
+    ap joined one ∙ joined-append before rest
+    ∙ ap (λ xs. joined before ++ xs) (ap joined two ∙ joined-append middle after ∙ ap (λ xs. xs ++ joined after) same ∙ sym (joined-append new after))
+    ∙ sym (joined-append before (new ++ after))
+
+place-key : (m : Meaning) (key : Values) (older runs newer : List Run) (run : Run) (missing rows : List HistoryRow) → CoversTheSame m runs run → CoversKey m key (older ++ (runs ++ newer)) missing rows
+    → CoversKey m key (older ++ run ∷ newer) missing rows
+place-key m key older runs newer run missing rows same covers =
+    let one = AllZip-parts (λ (run : Run) (part : List HistoryRow). Holds m key (of_key key run) part) older (runs ++ newer) covers.parts covers.holds in
+    let two = AllZip-parts (λ (run : Run) (part : List HistoryRow). Holds m key (of_key key run) part) runs newer one.1 one.4 in
+    let at : CoversKey m key (run ∷ []) [] (joined two.0) = same key [] (joined two.0) (record { parts = two.0; split = refl; holds = two.3 }) in
+    record {
+      parts = one.0 ++ (at.parts ++ two.1);
+      split = covers.split ∙ ap (λ xs. missing ++ xs) (joined-place covers.parts one.0 one.1 two.0 two.1 at.parts one.2 two.2 at.split);
+      holds = parts-append m key older one.0 (run ∷ newer) (at.parts ++ two.1) one.3 (parts-append m key (run ∷ []) at.parts newer two.1 at.holds two.4);
+    }
+
+pub merge-replaces : (m : Meaning) (runs : List Run) (run : Run) → IsMerge m runs run → Replaces m runs run
+merge-replaces m runs run is = record {
+  some = λ older newer rows covers key.
+      let at = covers key in
+      (at.0, at.1, place-key m key older runs newer run at.0 (rows_of m.primary key rows) is.covers at.2);
+  all = λ older newer rows covers key. place-key m key older runs newer run [] (rows_of m.primary key rows) is.covers (covers key);
+}
+
+-- ---- without the droppable rows
+
+all-filter : {A : Type 0} (P : A → Type 0) (p : A → Bool) (xs : List A) → AllByRecursion P xs → AllByRecursion P (filter p xs)
+all-filter P p [] all = tt
+all-filter P p (x ∷ xs) all =
+    elim (p x) as (λ b. AllByRecursion P (cond b (x ∷ filter p xs) (filter p xs))) [
+      | true ↦ (all.0, all-filter P p xs all.1)
+      | false ↦ all-filter P p xs all.1
+    ]
+
+rising-filter : (p : Stamped → Bool) (run : Run) → IsRising run → IsRising (filter p run)
+rising-filter p [] rising = rising-nil
+rising-filter p (s ∷ run) rising =
+    let parts = rising-parts s run rising in
+    elim (p s) as (λ b. IsRising (cond b (s ∷ filter p run) (filter p run))) [
+      | true ↦ rising-cons s (filter p run) (all-filter (λ (t : Stamped). key_cmp s.key t.key ≡ Less) p run parts.0) (rising-filter p run parts.1)
+      | false ↦ rising-filter p run parts.1
+    ]
+
+filter-swap : {A : Type 0} (p q : A → Bool) (xs : List A) → filter p (filter q xs) ≡ filter q (filter p xs)
+filter-swap p q [] = refl
+filter-swap p q (x ∷ xs) =
+    elim (p x) as (λ b. p x ≡ b → filter p (cond (q x) (x ∷ filter q xs) (filter q xs)) ≡ filter q (cond b (x ∷ filter p xs) (filter p xs))) [
+      | true ↦ λ e. elim (q x) as (λ c. filter p (cond c (x ∷ filter q xs) (filter q xs)) ≡ cond c (x ∷ filter q (filter p xs)) (filter q (filter p xs))) [
+        | true ↦ ap (λ b. cond b (x ∷ filter p (filter q xs)) (filter p (filter q xs))) e ∙ ap (λ ys. x ∷ ys) (filter-swap p q xs)
+        | false ↦ filter-swap p q xs
+      ]
+      | false ↦ λ e. elim (q x) as (λ c. filter p (cond c (x ∷ filter q xs) (filter q xs)) ≡ filter q (filter p xs)) [
+        | true ↦ ap (λ b. cond b (x ∷ filter p (filter q xs)) (filter p (filter q xs))) e ∙ filter-swap p q xs
+        | false ↦ filter-swap p q xs
+      ]
+    ] refl
+
+pub kept-rising : (m : Meaning) (run : Run) → IsRising run → IsRising (without_droppable m run)
+kept-rising m run rising = rising-filter (λ (s : Stamped). not (m.drops (row_of s))) run rising
+
+pub kept-numbers : (m : Meaning) (run rows : Run) → HasGreatestNumbers run rows → HasGreatestNumbers (without_droppable m run) rows
+kept-numbers m run rows numbers = all-filter (λ (s : Stamped). s.seq ≡ greatest_number (of_key s.key rows)) (λ (s : Stamped). not (m.drops (row_of s))) run numbers
+
+-- rows that may be missing, and rows for which a stored row speaks that has no effect, have none together
+no_effect : (m : Meaning) (key : Values) (missing part : List HistoryRow) (stored : HistoryRow) → MayBeMissing m key missing → SpeaksFor m key stored part → HasNoEffect m key (stored ∷ [])
+    → HasNoEffect m key (missing ++ part)
+no_effect m key missing part stored may speaks none = record {
+  hidden = (before part speaks.some speaks.all_taken may).shows ∙ shows_for m key stored part speaks ∙ none.hidden;
+  worth = λ after some taken.
+      SameWorth-trans m _ _ _ (SameWorth-same m _ _ (append_assoc missing part after))
+      (SameWorth-trans m _ _ _ (before (part ++ after) (some_after part after some) (AreTaken-append m key part after speaks.all_taken taken) may)
+      (SameWorth-trans m _ _ _ (speaks.worth [] after tt taken) (none.worth after some taken)));
+}
+  where
+    before : (rest : List HistoryRow) → rest ≢ [] → AreTaken m key rest → MayBeMissing m key missing → SameWorth m (missing ++ rest) rest
+    before rest some taken (inl e) = SameWorth-same m _ _ (ap (λ xs. xs ++ rest) e)
+    before rest some taken (inr effect) = effect.worth rest some taken
+
+-- of a key the run without them covers what the run does, but more may be missing
+kept-key : (m : Meaning) (key : Values) (own : Run) (missing part : List HistoryRow) → MayBeMissing m key missing → Holds m key own part → AllByRecursion (DropsNoEffect m) own
+    → (more : List HistoryRow) × (rest : List HistoryRow) × (missing ++ part ≡ more ++ rest) × MayBeMissing m key more × Holds m key (without_droppable m own) rest
+kept-key m key [] missing part may holds drops = (missing, part, refl, may, holds)
+kept-key m key (s ∷ []) missing part may holds drops =
+    elim (m.drops (row_of s)) as (λ b. m.drops (row_of s) ≡ b → (more : List HistoryRow) × (rest : List HistoryRow) × (missing ++ part ≡ more ++ rest) × MayBeMissing m key more × Holds m key (cond (not b) (s ∷ []) []) rest) [
+      | true ↦ λ e. (missing ++ part, [], sym (append-nil (missing ++ part)), inr (no_effect m key missing part (row_of s) may holds (drops.0 e key holds.taken)), refl)
+      | false ↦ λ e. (missing, part, refl, may, holds)
+    ] refl
+kept-key m key (s ∷ t ∷ more) missing part may holds drops = absurd holds
+
+pub kept-replaces : (m : Meaning) (runs : List Run) (run : Run) → Joins m runs run → AllByRecursion (DropsNoEffect m) run → ReplacesOldest m runs (without_droppable m run)
+kept-replaces m runs run joins drops newer rows covers key =
+    let at = covers key in
+    let two = AllZip-parts (λ (run : Run) (part : List HistoryRow). Holds m key (of_key key run) part) runs newer at.2.parts at.2.holds in
+    let part : List HistoryRow = joined two.0 in
+    let own : Run = of_key key run in
+    let kept = kept-key m key own at.0 part at.1 (joins.holds key two.0 two.3) (all-filter (DropsNoEffect m) (λ (s : Stamped). eq_by_cmp key_cmp key s.key) run drops) in
+    let is : of_key key (without_droppable m run) ≡ without_droppable m own = filter-swap (λ (s : Stamped). eq_by_cmp key_cmp key s.key) (λ (s : Stamped). not (m.drops (row_of s))) run in (
+      kept.0,
+      kept.3,
+      record {
+        parts = kept.1 ∷ two.1;
+        split = at.2.split ∙ ap (λ xs. at.0 ++ xs) (ap joined two.2 ∙ joined-append two.0 two.1) ∙ sym (append_assoc at.0 part (joined two.1)) ∙ ap (λ xs. xs ++ joined two.1) kept.2
+            ∙ append_assoc kept.0 kept.1 (joined two.1);
+        holds = (subst (λ o. Holds m key o kept.1) (sym is) kept.4, two.4);
+      },
+    )
+
+-- the same with no newer run
+pub oldest-covers : (m : Meaning) (runs : List Run) (run : Run) (rows : List HistoryRow) → ReplacesOldest m runs run → Covers m runs rows → Covers m (run ∷ []) rows
+oldest-covers m runs run rows replaces covers = replaces [] rows (subst (λ rs. Covers m rs rows) (sym (append-nil runs)) covers)
+
+-- what an answer without the droppable rows replaces
+pub answer-replaces : (m : Meaning) (runs : List Run) (run : Run) {E : Type 0} (r : Result (Vec Stamped Global) E) → Joins m runs run → IfOk r (λ new. new.items ≡ without_droppable m run)
+    → IfOk r (λ new. AllByRecursion (DropsNoEffect m) run) → IfOk r (λ new. ReplacesOldest m runs new.items)
+answer-replaces m runs run (Ok new) joins items drops = subst (ReplacesOldest m runs) (sym items) (kept-replaces m runs run joins drops)
+answer-replaces m runs run (Err e) joins items drops = tt

@@ -1,0 +1,49 @@
+-- What merging makes of runs.
+use Rattle.std.specs.Prelude.{◌↔◌, ◌≡◌, List, [], ◌∷◌, ◌++◌, filter, map, not, Vec}
+use Rattle.std.specs.List.{flat_map}
+use Rattle.std.specs.declared.alloc.Global.{Global}
+use Rattle.pm_values.specs.Order.{Values}
+use Rattle.pm_values.specs.declared.record.Stamped.{Stamped}
+use Rattle.pm_history.specs.Merge.{HistoryRow}
+use Rattle.pm_engine.specs.Covers.{Covers, CoversAll, CoversKey, IsRising, Run, of_key, row_of}
+use Rattle.pm_engine.specs.Meaning.{Meaning}
+use Rattle.pm_engine.specs.Reducing.{HasGreatestNumbers}
+
+-- the runs without where they lie in memory
+abbrev pub runs_of : List (Vec Stamped Global) → List Run
+runs_of = map (λ (run : Vec Stamped Global). run.items)
+
+-- the stored rows of all runs, from the oldest run on
+abbrev pub all_rows : List Run → List Stamped
+all_rows runs = flat_map (λ (run : Run). run) runs
+
+-- the run without its droppable rows
+abbrev pub without_droppable : Meaning → Run → Run
+without_droppable m run = filter (λ (s : Stamped). not (m.drops (row_of s))) run
+
+-- of each key the run covers what the runs cover, and the same first rows are missing
+abbrev pub CoversTheSame : Meaning → List Run → Run → Type 0
+CoversTheSame m runs run =
+    (key : Values) (missing rows : List HistoryRow) → CoversKey m key runs missing rows
+    → CoversKey m key (run ∷ []) missing rows
+
+-- a run in which nothing of the runs is lost: it rises, has the keys that they have, each stored row has the greatest
+-- number of its key, one that is alone of its key stays as it is, and of each key the run covers what they cover
+pub record IsMerge (m : Meaning) (runs : List Run) (run : Run) : Type 0 where
+  pub rising : IsRising run
+  pub keys : (key : Values) → (of_key key run ≡ []) ↔ (of_key key (all_rows runs) ≡ [])
+  pub numbers : HasGreatestNumbers run (all_rows runs)
+  pub kept : (key : Values) (s : Stamped) → of_key key (all_rows runs) ≡ s ∷ [] → of_key key run ≡ s ∷ []
+  pub covers : CoversTheSame m runs run
+
+-- the run in the place of the runs, between whatever others: all of them cover the rows that were covered
+pub record Replaces (m : Meaning) (runs : List Run) (run : Run) : Type 0 where
+  pub some : (older newer : List Run) (rows : List HistoryRow) → Covers m (older ++ (runs ++ newer)) rows
+      → Covers m (older ++ run ∷ newer) rows
+  pub all : (older newer : List Run) (rows : List HistoryRow) → CoversAll m (older ++ (runs ++ newer)) rows
+      → CoversAll m (older ++ run ∷ newer) rows
+
+-- the run in the place of the runs, of which none is older: with the newer ones it covers the rows that were covered
+abbrev pub ReplacesOldest : Meaning → List Run → Run → Type 0
+ReplacesOldest m runs run =
+    (newer : List Run) (rows : List HistoryRow) → Covers m (runs ++ newer) rows → Covers m (run ∷ newer) rows

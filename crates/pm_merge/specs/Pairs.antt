@@ -1,0 +1,96 @@
+-- Private: the single steps of merging.
+use Rattle.std.specs.Prelude.{◌≡◌, ◌≢◌, List, [], ◌∷◌, ◌++◌, ⊤, true, Option, Some, None}
+use Rattle.std.specs.List.{AllByRecursion, AllZip, flat_map}
+use Rattle.std.specs.declared.cmp.Ordering.{Ordering}
+use Rattle.std.specs.declared.cmp.Ordering.TheVariants.{Less, Equal, Greater}
+use Rattle.pm_values.specs.Order.{Values, key_cmp}
+use Rattle.pm_values.specs.declared.record.Stamped.{Stamped}
+use Rattle.pm_history.specs.Merge.{HistoryRow}
+use Rattle.pm_engine.specs.Covers.{Holds, IsRising, Run, of_key, row_of}
+use Rattle.pm_engine.specs.Meaning.{HasNoEffect, IsTaken, Meaning}
+use Rattle.pm_engine.specs.Reducing.{IsCombined, greatest_number}
+use Rattle.pm_merge.specs.Merge.{all_rows}
+use Rattle.pm_merge.specs.declared.pairs.Pair.{Pair}
+
+-- Private: the key is below the first one of the run, if there is one
+abbrev pub IsBefore : Values → Run → Type 0
+IsBefore key [] = ⊤
+IsBefore key (s ∷ ss) = key_cmp key s.key ≡ Less
+
+-- Private: two runs, read from their beginnings, become one
+pub data Merges (m : Meaning) : Run → Run → Run → Type 0 where
+  -- no newer row is left
+  ends : (older : Run) → Merges m older [] older
+  -- the older one's first key is below
+  older_first : (a b : Stamped) (older newer run : Run) → key_cmp a.key b.key ≡ Less → Merges m older (b ∷ newer) run
+      → Merges m (a ∷ older) (b ∷ newer) (a ∷ run)
+  -- the newer one's first key is below
+  newer_first : (b : Stamped) (older newer run : Run) → IsBefore b.key older → Merges m older newer run
+      → Merges m older (b ∷ newer) (b ∷ run)
+  -- both begin with one key
+  both_first : (a b s : Stamped) (older newer run : Run) → a.key ≡ b.key → IsCombined m a b s → Merges m older newer run
+      → Merges m (a ∷ older) (b ∷ newer) (s ∷ run)
+
+-- Private: what a run has of a key has the greatest number of the rows of the key, of which there are some
+abbrev pub HasNumber : Run → Run → Type 0
+HasNumber [] rows = rows ≡ []
+HasNumber (s ∷ []) rows = (rows ≢ []) × (s.seq ≡ greatest_number rows)
+HasNumber own rows = ⊥
+
+-- Private: the run is made of the runs
+pub record Joins (m : Meaning) (runs : List Run) (run : Run) : Type 0 where
+  pub rising : IsRising run
+  pub numbers : (key : Values) → HasNumber (of_key key run) (of_key key (all_rows runs))
+  pub kept : (key : Values) (s : Stamped) → of_key key (all_rows runs) ≡ s ∷ [] → of_key key run ≡ s ∷ []
+  pub holds : (key : Values) (parts : List (List HistoryRow))
+      → AllZip (λ (run : Run) (part : List HistoryRow). Holds m key (of_key key run) part) runs parts
+      → Holds m key (of_key key run) (flat_map (λ part. part) parts)
+
+-- Private: where the stored row is droppable, it has no effect
+abbrev pub DropsNoEffect : Meaning → Stamped → Type 0
+DropsNoEffect m s =
+    m.drops (row_of s) ≡ true → (key : Values) → IsTaken m key (row_of s) → HasNoEffect m key (row_of s ∷ [])
+
+-- Private: the order in which the first row and the key stand; where there is no row, it is as if one were above
+abbrev pub ComparesFirst : Values → Run → Ordering → Type 0
+ComparesFirst key [] order = order ≡ Greater
+ComparesFirst key (s ∷ ss) order = order ≡ key_cmp s.key key
+
+-- Private: the first of the older rows is taken, unless it is above the key
+abbrev pub TakesFirst : Values → Pair → Option (Ordering × Stamped) → Pair → Type 0
+TakesFirst key old (Some taken) new =
+    (old.older.items ≡ taken.1 ∷ new.older.items) × (new.run.items ≡ old.run.items)
+    × (key_cmp taken.1.key key ≡ taken.0) × (taken.0 ≢ Greater)
+TakesFirst key old None new =
+    (new.older.items ≡ old.older.items) × (new.run.items ≡ old.run.items) × IsBefore key old.older.items
+
+-- Private: the row is as it was, or was combined with the older one of its key
+abbrev pub TakesOlder : Meaning → Option Stamped → Stamped → Stamped → Type 0
+TakesOlder m None row s = s ≡ row
+TakesOlder m (Some older) row s = IsCombined m older row s
+
+-- Private: older rows that are below the key went into the run
+pub record MovesBelow (key : Values) (old new : Pair) : Type 0 where
+  pub below : Run
+  pub taken : old.older.items ≡ below ++ new.older.items
+  pub put : new.run.items ≡ old.run.items ++ below
+  pub are_below : AllByRecursion (λ (s : Stamped). key_cmp s.key key ≡ Less) below
+
+-- Private: of rows none of which is below the key, the one that has it was taken, if there is one
+abbrev pub TakesTied : Values → Run → Option Stamped → Run → Type 0
+TakesTied key older (Some s) left = (older ≡ s ∷ left) × (key_cmp s.key key ≡ Equal)
+TakesTied key older None left = (older ≡ left) × IsBefore key left
+
+-- Private: older rows that are below the key went into the run, and then the one that has it was taken
+pub record TakesUpTo (key : Values) (old new : Pair) (tied : Option Stamped) : Type 0 where
+  pub middle : Pair
+  pub moves : MovesBelow key old middle
+  pub takes : TakesTied key middle.older.items tied new.older.items
+  pub same : new.run.items ≡ middle.run.items
+
+-- Private: a newer row and the older ones up to its key went into the run
+pub record Puts (m : Meaning) (row : Stamped) (old new : Pair) : Type 0 where
+  pub added : Run
+  pub put : new.run.items ≡ old.run.items ++ added
+  pub merges : (newer rest : Run) → Merges m new.older.items newer rest
+      → Merges m old.older.items (row ∷ newer) (added ++ rest)

@@ -1,0 +1,84 @@
+//! Several runs made into one.
+
+ghost use Rattle.std.specs.Prelude.{◌≡◌, ◌≤◌, ◌∷◌, [], List, All, IfOk, true, false};
+ghost use Rattle.std.specs.Vec.{vec_len};
+ghost use Rattle.pm_history.specs.Merge.{HistoryRow};
+ghost use Rattle.pm_engine.specs.Covers.{Run, IsRising, Covers, CoversAll};
+ghost use Rattle.pm_engine.specs.Meaning.{Meaning};
+ghost use Rattle.pm_engine.specs.Reducing.{HasGreatestNumbers};
+ghost use Rattle.pm_merge.specs.Merge.{runs_of, all_rows, IsMerge, Replaces, ReplacesOldest, without_droppable};
+ghost use Rattle.pm_merge.specs.Pairs.{Joins};
+
+use crate::drops::without_droppable;
+use crate::pairs::merge_two;
+use pm_engine::MergeEngine;
+use pm_values::Stamped;
+use std::alloc::{AllocError, Global};
+
+/// One run of several, the oldest first. With `drop` it lacks the droppable rows, which is right where no older run is
+/// left.
+pub fn merge_runs<E: MergeEngine>(
+    alloc: Global,
+    engine: &E,
+    older_first: Vec<Vec<Stamped>>,
+    drop: bool,
+) -> Result<Vec<Stamped>, AllocError>
+    requires { All IsRising (runs_of older_first.items) }
+    ensures rising { IfOk result (λ run. IsRising run.items) }
+    ensures numbers { IfOk result (λ run. HasGreatestNumbers run.items (all_rows (runs_of older_first.items))) }
+    ensures covers { IfOk result (λ run. (rows : List HistoryRow) →
+        Covers (E.meaning engine.now) (runs_of older_first.items) rows →
+        Covers (E.meaning engine.now) (run.items ∷ []) rows) }
+    ensures covers_all { IfOk result (λ run. (rows : List HistoryRow) → drop ≡ false →
+        CoversAll (E.meaning engine.now) (runs_of older_first.items) rows →
+        CoversAll (E.meaning engine.now) (run.items ∷ []) rows) }
+    ensures replaces { IfOk result (λ run. drop ≡ false →
+        Replaces (E.meaning engine.now) (runs_of older_first.items) run.items) }
+    ensures replaces_oldest { IfOk result (λ run.
+        ReplacesOldest (E.meaning engine.now) (runs_of older_first.items) run.items) }
+    ensures keeps { IfOk result (λ run. drop ≡ false →
+        IsMerge (E.meaning engine.now) (runs_of older_first.items) run.items) }
+    ensures drops { IfOk result (λ run. drop ≡ true → (merged : Run)
+        × IsMerge (E.meaning engine.now) (runs_of older_first.items) merged
+        × (run.items ≡ without_droppable (E.meaning engine.now) merged)) }
+{
+    let merged = joined(alloc, engine, older_first)?;
+    if drop {
+        without_droppable(alloc, engine, merged)
+    } else {
+        Ok(merged)
+    }
+}
+
+/// One run of several, by halves.
+fn joined<E: MergeEngine>(
+    alloc: Global,
+    engine: &E,
+    older_first: Vec<Vec<Stamped>>,
+) -> Result<Vec<Stamped>, AllocError>
+    requires { All IsRising (runs_of older_first.items) }
+    ensures { IfOk result (λ run. Joins (E.meaning engine.now) (runs_of older_first.items) run.items) }
+{
+    let mut runs = older_first;
+    let half = runs.len() / 2;
+    if half == 0 {
+        return Ok(only(alloc, runs));
+    }
+    let newer = runs.split_off(half)?;
+    let older = joined(alloc, engine, runs)?;
+    let newer = joined(alloc, engine, newer)?;
+    merge_two(alloc, engine, older, newer)
+}
+
+/// The only run, or one without a row.
+fn only(alloc: Global, runs: Vec<Vec<Stamped>>) -> Vec<Stamped>
+    requires one { vec_len runs ≤ 1 }
+    requires rising { All IsRising (runs_of runs.items) }
+    ensures { (m : Meaning) → Joins m (runs_of runs.items) result.items }
+{
+    let mut runs = runs;
+    match runs.pop() {
+        Some(run) => run,
+        None => Vec::new(alloc),
+    }
+}
