@@ -1,0 +1,5 @@
+pub mod Facts
+mod OrderLemmas
+mod OverlapLemmas
+mod PairLemmas
+mod RunLemmas

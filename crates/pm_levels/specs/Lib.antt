@@ -1,0 +1,4 @@
+pub mod Order
+pub mod Overlap
+pub mod Runs
+pub mod Sizes
