@@ -1,0 +1,13 @@
+mod FollowLemmas
+mod ReadRowsLemmas
+mod TakingLemmas
+mod CellLemmas
+mod ValueLemmas
+mod OrderLemmas
+mod TypeLemmas
+mod LoopLemmas
+mod AgainLemmas
+mod RangeLemmas
+mod FileRowLemmas
+mod FindLemmas
+mod OneLemmas

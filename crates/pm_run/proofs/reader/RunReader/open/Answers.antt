@@ -1,0 +1,32 @@
+use Rattle.std.proofs.Common.{subst}
+use Rattle.pm_avro_schema.specs.View as types
+use Rattle.pm_run.specs.Rows.{AreBytes}
+use Rattle.pm_run.proofs.FindLemmas.{lacking_refused}
+use Rattle.pm_run.proofs.ReadRowsLemmas.{no_reader, reader_again, reader_of}
+use Rattle.pm_run.proofs.reader.RunReader.open.Goals as goal
+
+pub before_first-requires : goal.before_first-requires
+before_first-requires c =
+    let found = rw c.in-Some.is at c.in_ok-rows.ensures in
+    reader_again c.in-Some.rows c.in_ok-form.form c.args.changes (types.view c.kind.result.now) c.in_ok-file.file.kind found c.kind.ensures.kind
+
+pub returns-in_ok-before_first-in-Some-clause-opens : goal.returns-in_ok-before_first-in-Some-clause-opens
+returns-in_ok-before_first-in-Some-clause-opens c =
+    let found = rw c.in-Some.is at c.in_ok-rows.ensures in
+    let p = reader_of c.in-Some.rows c.in_ok-form.form c.args.changes (types.view c.kind.result.now) found in (
+      c.if-schema_id-schema.false,
+      c.in_ok-file.file,
+      c.in_ok-file.ensures,
+      rw (c.in_ok-form.ensures, c.kind.ensures.kind) at p.has,
+      rw (p.form, c.in_ok-form.ensures, p.changed) at c.in_ok-before_first-in-Some.ensures,
+    )
+
+pub returns-in_ok-before_first-in-Some-clause-bytes : goal.returns-in_ok-before_first-in-Some-clause-bytes
+returns-in_ok-before_first-in-Some-clause-bytes c = subst AreBytes c.as_bytes.ensures c.known_bytes.ensures
+
+pub returns-in-None-clause-opens : goal.returns-in-None-clause-opens
+returns-in-None-clause-opens c =
+    let found = rw c.in-None.is at c.in_ok-rows.ensures in
+    let lacks = no_reader c.in_ok-form.form c.args.changes (types.view c.kind.result.now) found in
+    lacking_refused c.args.schema.now c.args.schema_id c.args.path.now c.args.bytes c.damaged.result c.in_ok-file.file c.damaged.ensures c.if-schema_id-schema.false c.in_ok-file.ensures
+    (rw (c.in_ok-form.ensures, c.kind.ensures.kind) at lacks)

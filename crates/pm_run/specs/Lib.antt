@@ -1,0 +1,11 @@
+pub mod Finding
+pub mod Form
+pub mod Kinds
+pub mod Order
+pub mod Reader
+pub mod Row
+pub mod RowReader
+pub mod Rows
+pub mod Taking
+pub mod Typed
+pub mod Writing

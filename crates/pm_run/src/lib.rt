@@ -1,0 +1,32 @@
+//! The files of runs and of changelogs: rows with their keys, kinds and sequence numbers, written and read.
+//!
+//! A data file is an Avro container file with one record for each row: the columns of the primary key that are none of
+//! the partition's, the sequence number, the kind, and all columns (`specs/Kinds.antt` has its type). Which row a
+//! record is, its first misfit, and what is written of a row stand in `specs/Row.antt`, and how rows follow each other
+//! in `specs/Order.antt`. `specs/Rows.antt` says which rows a file has, and the first refusal in the order of bytes;
+//! `specs/Reader.antt` what a reader gives, row by row and block by block; `specs/Writing.antt` which files are written
+//! for rows, what is known of each, and which rows a run of files has. `src/laws.rt` has what holds of the rows of
+//! files: they are one list, in order, of rows that fit, and reading gives them.
+//!
+//! Reading holds one decoded block. Values are moved out of its data; of a row only the key is copied. Field names are
+//! looked up once for each file. All calls take time linear in the bytes but for the test that names of fields differ,
+//! which takes the square of how many there are, once for a file.
+//!
+//! The names of a schema's columns differ by its rules. Where those of some other schema don't, calls answer that
+//! memory ran out.
+#![tactic(auto)]
+
+mod form;
+mod kinds;
+mod laws;
+mod reader;
+mod row_reader;
+mod row_writer;
+mod run;
+mod slot;
+mod writer;
+
+pub use laws::{one_list_law, order_law, reading_law, rows_law};
+pub use reader::RunReader;
+pub use run::{RunBytes, RunFile};
+pub use writer::{write_changes, write_run};
