@@ -1,0 +1,3 @@
+mod FollowingLemmas
+mod GrowthLemmas
+mod ReplayLemmas
