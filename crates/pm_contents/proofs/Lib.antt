@@ -1,0 +1,4 @@
+mod ContentLemmas
+mod FileLemmas
+mod FolderLemmas
+mod GroupLemmas

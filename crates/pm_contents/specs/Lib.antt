@@ -1,0 +1,4 @@
+pub mod Groups
+pub mod Lists
+pub mod Named
+pub mod Runs
