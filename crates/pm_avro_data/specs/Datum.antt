@@ -1,5 +1,7 @@
 -- A datum without where it lies in memory.
 use Rattle.std.specs.Prelude.{ℕ, ℤ, Bool, List, [], ◌∷◌}
+use Rattle.pm_avro_data.specs.declared.datum.Leaf.{Leaf}
+use Rattle.pm_avro_data.specs.declared.datum.Leaf.TheVariants as leaves
 use Rattle.pm_avro_data.specs.declared.datum.Datum.{Datum, fold-Datum}
 use Rattle.pm_avro_data.specs.declared.datum.Datum.TheOpen.{Datum-F}
 
@@ -47,6 +49,15 @@ abbrev pub entries : Entries → List (List ℕ × Data)
 entries no_entries = []
 entries (entry key d es) = (key, d) ∷ entries es
 
+-- a datum that holds no other, as a datum
+abbrev pub leaf_data : Leaf → Data
+leaf_data leaves.Null = null
+leaf_data (leaves.Bool b) = boolean b
+leaf_data (leaves.Int z) = int z
+leaf_data (leaves.Long z) = long z
+leaf_data (leaves.Bytes v) = bytes v.items
+leaf_data (leaves.Text t) = text t
+
 -- one level, with each datum inside already seen
 abbrev pub view_step : Datum-F Data → Data
 view_step Datum-F.Null = null
@@ -58,6 +69,7 @@ view_step (Datum-F.Text t) = text t
 view_step (Datum-F.Record v) = record_of (items_of v.items)
 view_step (Datum-F.Array v) = array_of (items_of v.items)
 view_step (Datum-F.Map v) = map_of (entries_of v.items)
+view_step (Datum-F.Branch k l) = union_of k (leaf_data l)
 view_step (Datum-F.Union k d) = union_of k d.value
 
 -- the datum that contracts see

@@ -21,7 +21,7 @@ mod reading;
 mod room;
 mod writing;
 
-pub use datum::Datum;
+pub use datum::{Datum, Leaf};
 pub use laws::{one_datum_law, one_prefix_law, one_type_law, shortest_law};
 pub use reading::{decode, decode_in};
 pub use room::Room;

@@ -41,7 +41,7 @@ pub(crate) fn read_datum<'a>(
         AvroType::Union(branches) => {
             let (index, rest) = read_index(bytes).ok_or(AvroFault::Bad(0))?;
             let (datum, rest) = read_branch(room, branches, index, rest)?;
-            Ok((Datum::Union(index, Box::new(room.alloc, datum)?), rest))
+            Ok((Datum::branch(room.alloc, index, datum)?, rest))
         }
         AvroType::Array(kind) => {
             let (items, rest) = read_array(room, kind, bytes)?;

@@ -5,12 +5,13 @@ ghost use Rattle.pm_avro_schema.specs.View as types;
 ghost use Rattle.pm_avro_schema.specs.Readable.{IsReadable};
 ghost use Rattle.pm_avro_data.specs.HasType.{HasType};
 ghost use Rattle.pm_avro_data.specs.IsDatum.{IsDatum};
-ghost use Rattle.pm_avro_data.specs.Datum.{view, array_of, map_of, items_of, entry_view, entries_of};
+ghost use Rattle.pm_avro_data.specs.Datum.{view, leaf_data, array_of, map_of, items_of};
+ghost use Rattle.pm_avro_data.specs.Datum.{entry_view, entries_of};
 ghost use Rattle.pm_avro_data.specs.Number.{zigzag};
 ghost use Rattle.pm_avro_data.specs.Writing.{groups, integer, sized, encoding, items_encoding};
 ghost use Rattle.pm_avro_data.specs.Writing.{entries_encoding, Fits, ItemsFit, EntriesFit};
 
-use crate::datum::Datum;
+use crate::datum::{Datum, Leaf};
 use pm_avro_schema::{AvroFault, AvroType};
 use pm_base::Txt;
 use std::alloc::{AllocError, Global};
@@ -66,6 +67,21 @@ fn push_text(out: &mut Vec<u8>, text: &Txt) -> Result<(), AllocError>
     push_sized(out, text.as_bytes())
 }
 
+/// Writes a datum that holds no other.
+fn push_leaf(out: &mut Vec<u8>, leaf: &Leaf) -> Result<(), AllocError>
+    ensures written { OnOk result (out.new.items ≡ out.old.items ++ encoding (leaf_data leaf.now)) }
+    ensures fits { OnOk result (Fits (leaf_data leaf.now)) }
+{
+    match leaf {
+        Leaf::Null => Ok(()),
+        Leaf::Bool(flag) => Ok(out.push(u8::from(*flag))?),
+        Leaf::Int(number) => push_integer(out, i64::from(*number)),
+        Leaf::Long(number) => push_integer(out, *number),
+        Leaf::Bytes(content) => push_sized(out, content),
+        Leaf::Text(text) => push_text(out, text),
+    }
+}
+
 /// Writes a datum.
 #[cycle(encode)]
 pub(crate) fn push_datum(out: &mut Vec<u8>, datum: &Datum) -> Result<(), AllocError>
@@ -80,6 +96,10 @@ pub(crate) fn push_datum(out: &mut Vec<u8>, datum: &Datum) -> Result<(), AllocEr
         Datum::Bytes(content) => push_sized(out, content),
         Datum::Text(text) => push_text(out, text),
         Datum::Record(values) => push_items(out, values),
+        Datum::Branch(index, leaf) => {
+            push_integer(out, i64::from(*index))?;
+            push_leaf(out, leaf)
+        }
         Datum::Union(index, datum) => {
             push_integer(out, i64::from(*index))?;
             push_datum(out, datum)
