@@ -59,6 +59,7 @@ fn inner(datum: Datum) -> Datum
     ensures { view result ≡ inner (view datum) }
 {
     match datum {
+        Datum::Branch(_, leaf) => leaf.into_datum(),
         Datum::Union(_, inner) => Box::into_inner(inner),
         other => other,
     }
