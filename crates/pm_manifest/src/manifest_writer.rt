@@ -16,7 +16,7 @@ use crate::kind::entry_kind;
 use crate::number::{MOST_COUNTED, MOST_ID, MOST_SEQUENCE, write_count, write_natural};
 use crate::shape::TableShape;
 use crate::statistics::{MOST_IN_BLOCK, unknown_statistics};
-use pm_avro_data::Datum;
+use pm_avro_data::{Datum, Leaf};
 use pm_binrow::to_binary;
 use pm_record::{write_records, written_law};
 use pm_schema::TableSchema;
@@ -105,7 +105,7 @@ fn file_datum(alloc: Global, shape: &TableShape, file: &FileMeta) -> Result<Datu
     values.push(write_count(file.max_seq, MOST_SEQUENCE)?)?;
     values.push(write_count(file.schema_id, MOST_ID)?)?;
     values.push(write_natural(file.level)?)?;
-    values.push(time_datum(alloc, file.created)?)?;
+    values.push(time_datum(file.created))?;
     Ok(Datum::Record(values))
 }
 
@@ -119,11 +119,11 @@ fn key_datum(alloc: Global, shape: &TableShape, key: &Key) -> Result<Datum, Allo
 }
 
 /// The datum of a moment, or of null.
-fn time_datum(alloc: Global, time: Option<i64>) -> Result<Datum, AllocError>
-    ensures { IfOk result (λ d. view d ≡ time_data time) }
+fn time_datum(time: Option<i64>) -> Datum
+    ensures { view result ≡ time_data time }
 {
     match time {
-        Some(millis) => Ok(Datum::Union(1, Box::new(alloc, Datum::Long(millis))?)),
-        None => Ok(Datum::Union(0, Box::new(alloc, Datum::Null)?)),
+        Some(millis) => Datum::Branch(1, Leaf::Long(millis)),
+        None => Datum::Branch(0, Leaf::Null),
     }
 }

@@ -4,7 +4,7 @@ ghost use Rattle.std.specs.Prelude.{◌≡◌, IfOk};
 ghost use Rattle.pm_avro_data.specs.Datum.{view};
 ghost use Rattle.pm_manifest.specs.Listed.{unknown_statistics};
 
-use pm_avro_data::Datum;
+use pm_avro_data::{Datum, Leaf};
 use pm_binrow::to_binary;
 use pm_values::{ColType, Row};
 use std::alloc::{AllocError, Global};
@@ -20,6 +20,6 @@ pub(crate) fn unknown_statistics(alloc: Global, types: &[ColType]) -> Result<Dat
     let mut values = Vec::with_capacity(alloc, 3)?;
     values.push(Datum::Bytes(Vec::from_slice(alloc, &nulls)?))?;
     values.push(Datum::Bytes(nulls))?;
-    values.push(Datum::Union(0, Box::new(alloc, Datum::Null)?))?;
+    values.push(Datum::Branch(0, Leaf::Null))?;
     Ok(Datum::Record(values))
 }
