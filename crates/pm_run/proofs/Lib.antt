@@ -7,6 +7,7 @@ mod OrderLemmas
 mod TypeLemmas
 mod LoopLemmas
 mod AgainLemmas
+mod AppendLemmas
 mod RangeLemmas
 mod FileRowLemmas
 mod FindLemmas

@@ -12,6 +12,7 @@ use Rattle.pm_avro_file.specs.Reader.{Reader, Opens, HasBlock, HasNoBlock}
 use Rattle.pm_record.specs.File.{OpensFile}
 use Rattle.pm_run.specs.Form.{form_of}
 use Rattle.pm_run.specs.Kinds.{has_row_fields}
+use Rattle.pm_run.specs.Order.{last_key}
 use Rattle.pm_run.specs.Rows.{Opened, Follow, all_judged, judged, opened_with, placed}
 
 -- an opened file, the rows of the block in hand that are still to be given, the refusal after them, the key of the
@@ -86,3 +87,13 @@ GivesBlock view o offset (Ok (Some found)) = (ds : List Data)
     × HasBlock o.file.kind o.file.marker o.file.bytes offset ds found.1
     × (judged o None (placed offset ds) ≡ all_judged (view found.0))
 GivesBlock view o offset (Err e) = UnlessMemory e (FailsAt o offset e)
+
+-- all rows of an opened file were put to those before them in a run, and the first of them follows the last of these
+abbrev pub Appends : Opened → List Stamped → List Stamped → Type 0
+Appends o before after = (more : List Stamped) × (after ≡ before ++ more)
+    × Follow o o.file.first (last_key None before) more None
+
+-- why they weren't: this refusal comes after some of them
+abbrev pub MayNotAppend : Opened → List Stamped → Refusal → Type 0
+MayNotAppend o before e =
+    UnlessMemory e ((more : List Stamped) × Follow o o.file.first (last_key None before) more (Some e))

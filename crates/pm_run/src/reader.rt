@@ -1,12 +1,12 @@
 //! Files of runs and changelogs that are read row by row or block by block.
 
-ghost use Rattle.std.specs.Prelude.{◌≡◌, ◌≤◌, [], None, Some, IfOk, OnOk, false, length};
+ghost use Rattle.std.specs.Prelude.{◌≡◌, ◌≤◌, [], None, Some, IfErr, IfOk, OnOk, false, length};
 ghost use Rattle.pm_record.specs.File.{IsMemoryOr};
 ghost use Rattle.pm_values.specs.declared.refusal.Refusal.TheVariants.{Damaged};
 ghost use Rattle.pm_schema.specs.Stated.{schema_path};
 ghost use Rattle.pm_run.specs.Order.{last_key};
 ghost use Rattle.pm_run.specs.Finding.{FindsRows, ReadsBlock};
-ghost use Rattle.pm_run.specs.Reader.{GivesBlock, GivesNext, OpensRun, before_first};
+ghost use Rattle.pm_run.specs.Reader.{Appends, GivesBlock, GivesNext, MayNotAppend, OpensRun, before_first};
 ghost use Rattle.pm_run.specs.RowReader.{reader_in};
 ghost use Rattle.pm_run.specs.Rows.{AreBytes, opened_as};
 
@@ -173,6 +173,15 @@ impl RunReader {
         }
     }
 
+    /// Adds all rows of the file to those of the files before it in its run, the last of which the first has to follow.
+    /// Refusals are those of `next`; nothing is said of the rows after one.
+    pub fn append_rows(&self, alloc: Global, rows: &mut Vec<Stamped>) -> Result<(), Refusal>
+        ensures appends { OnOk result (Appends self.now.opened rows.old.items rows.new.items) }
+        ensures refuses { IfErr result (MayNotAppend self.now.opened rows.old.items) }
+    {
+        append_rows(alloc, self.path.as_str(), &self.rows, &self.file, rows)
+    }
+
     /// The offset of the first block, or of the end.
     pub fn first(&self) -> usize
         ensures first { result ≡ self.now.opened.file.first }
@@ -263,6 +272,51 @@ fn find_rows(
         offset = next;
     }
     Ok(None)
+}
+
+/// Adds the rows of a file to those before them in a run.
+fn append_rows(
+    alloc: Global,
+    path: &str,
+    reader: &RowReader,
+    file: &FileReader,
+    rows: &mut Vec<Stamped>,
+) -> Result<(), Refusal>
+    requires { Some reader.now ≡ reader_in reader.now.form reader.now.changes file.now.kind }
+    ensures appends { OnOk result
+        (Appends (opened_as path.now reader.now.form reader.now.changes file.now) rows.old.items rows.new.items) }
+    ensures refuses { IfErr result
+        (MayNotAppend (opened_as path.now reader.now.form reader.now.changes file.now) rows.old.items) }
+{
+    let mut offset = file.first();
+    while let Some((read, after)) = read_after(alloc, path, reader, file, offset, rows)? {
+        let RowsRead { rows: own, refusal } = read;
+        let mut own = own;
+        rows.append(&mut own)?;
+        if let Some(refusal) = refusal {
+            return Err(refusal);
+        }
+        offset = after;
+    }
+    Ok(())
+}
+
+/// The rows of the block at an offset, after these rows, and the offset after it; none at the end.
+fn read_after(
+    alloc: Global,
+    path: &str,
+    reader: &RowReader,
+    file: &FileReader,
+    offset: usize,
+    rows: &[Stamped],
+) -> Result<Option<(RowsRead, usize)>, Refusal>
+    requires within { offset ≤ length file.now.bytes }
+    requires of_kind { Some reader.now ≡ reader_in reader.now.form reader.now.changes file.now.kind }
+    ensures { ReadsBlock (opened_as path.now reader.now.form reader.now.changes file.now) offset
+        (last_key None rows.now) result }
+{
+    let before = copied_last(alloc, rows)?;
+    read_block(alloc, path, reader, file, offset, &before)
 }
 
 /// The key of the last row.

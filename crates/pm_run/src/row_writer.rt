@@ -2,7 +2,7 @@
 
 ghost use Rattle.std.specs.Prelude.{◌≡◌, ◌≤◌, ◌++◌, IfOk, OnOk, length, map, pos};
 ghost use Rattle.std.specs.List.{AllByRecursion};
-ghost use Rattle.pm_avro_data.specs.Datum.{int, items_of, long, record_of, view};
+ghost use Rattle.pm_avro_data.specs.Datum.{int, items_of, leaf_data, long, record_of, view};
 ghost use Rattle.pm_avro_data.specs.HasType.{HasType};
 ghost use Rattle.pm_history.specs.Merge.{key_of, value_at};
 ghost use Rattle.pm_values.specs.Kind.{code_of};
@@ -11,7 +11,7 @@ ghost use Rattle.pm_run.specs.Row.{most_sequence, optional_data, row_data, scala
 ghost use Rattle.pm_run.specs.Typed.{HaveFields, IsWritable};
 
 use crate::form::{Field, TableForm};
-use pm_avro_data::Datum;
+use pm_avro_data::{Datum, Leaf};
 use pm_values::{ColType, Kind, Stamped, Value};
 use std::alloc::{AllocError, Global};
 
@@ -134,7 +134,7 @@ fn value_datum(alloc: Global, field: &Field, value: &Value) -> Result<Datum, All
     if field.nullable {
         optional_datum(alloc, field.kind, value)
     } else {
-        scalar_datum(alloc, field.kind, value)
+        Ok(scalar_leaf(alloc, field.kind, value)?.into_datum())
     }
 }
 
@@ -144,34 +144,31 @@ fn optional_datum(alloc: Global, kind: ColType, value: &Value) -> Result<Datum, 
     ensures typed { IfOk result (λ d. HasType (or_null (value_type kind)) (view d)) }
 {
     match value {
-        Value::Null => Ok(Datum::Union(0, Box::new(alloc, Datum::Null)?)),
-        other => {
-            let inner = scalar_datum(alloc, kind, other)?;
-            Ok(Datum::Union(1, Box::new(alloc, inner)?))
-        }
+        Value::Null => Ok(Datum::Branch(0, Leaf::Null)),
+        other => Ok(Datum::Branch(1, scalar_leaf(alloc, kind, other)?)),
     }
 }
 
 /// The datum of a value that isn't null.
-fn scalar_datum(alloc: Global, kind: ColType, value: &Value) -> Result<Datum, AllocError>
-    ensures datum { IfOk result (λ d. view d ≡ scalar_data kind value.now) }
-    ensures typed { IfOk result (λ d. HasType (value_type kind) (view d)) }
+fn scalar_leaf(alloc: Global, kind: ColType, value: &Value) -> Result<Leaf, AllocError>
+    ensures datum { IfOk result (λ l. leaf_data l ≡ scalar_data kind value.now) }
+    ensures typed { IfOk result (λ l. HasType (value_type kind) (leaf_data l)) }
 {
     match (kind, value) {
-        (ColType::Boolean, Value::Bool(truth)) => Ok(Datum::Bool(*truth)),
+        (ColType::Boolean, Value::Bool(truth)) => Ok(Leaf::Bool(*truth)),
         (ColType::TinyInt | ColType::SmallInt | ColType::Int, Value::Int(number)) => {
             match i32::try_from(*number) {
-                Ok(number) => Ok(Datum::Int(number)),
+                Ok(number) => Ok(Leaf::Int(number)),
                 Err(_) => Err(AllocError),
             }
         }
-        (ColType::BigInt, Value::Int(number)) => Ok(Datum::Long(*number)),
-        (ColType::Text, Value::Text(text)) => Ok(Datum::Text(text.copy(alloc)?)),
+        (ColType::BigInt, Value::Int(number)) => Ok(Leaf::Long(*number)),
+        (ColType::Text, Value::Text(text)) => Ok(Leaf::Text(text.copy(alloc)?)),
         (ColType::Bytes, Value::Bytes(bytes)) => {
-            Ok(Datum::Bytes(Vec::from_slice(alloc, bytes.as_bytes())?))
+            Ok(Leaf::Bytes(Vec::from_slice(alloc, bytes.as_bytes())?))
         }
-        (ColType::Date, Value::Day(day)) => Ok(Datum::Int(*day)),
-        (ColType::Timestamp, Value::Millis(millis)) => Ok(Datum::Long(*millis)),
+        (ColType::Date, Value::Day(day)) => Ok(Leaf::Int(*day)),
+        (ColType::Timestamp, Value::Millis(millis)) => Ok(Leaf::Long(*millis)),
         _ => Err(AllocError),
     }
 }

@@ -161,6 +161,7 @@ fn read_branch(slot: Slot, datum: Datum) -> Result<Value, Misfit>
     ensures { result ≡ value_in slot (view datum) }
 {
     match datum {
+        Datum::Branch(_, leaf) => read_optional(slot, leaf.into_datum()),
         Datum::Union(_, inner) => read_optional(slot, Box::into_inner(inner)),
         _ => Err(Misfit::Bad),
     }
