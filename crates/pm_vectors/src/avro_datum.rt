@@ -1,7 +1,7 @@
 //! Avro's data: bytes, read as a datum of a type and written again.
 
 use crate::avro_fault::print_fault;
-use pm_avro_data::{Datum, decode, encode};
+use pm_avro_data::{Datum, Leaf, decode, encode};
 use pm_avro_schema::{AvroFault, parse};
 use pm_base::Txt;
 use pm_case::read_bytes;
@@ -51,11 +51,28 @@ pub fn push_datum(alloc: Global, text: &mut String, datum: &Datum) -> Result<(),
         Datum::Record(values) => push_data(alloc, text, "(record", values),
         Datum::Array(items) => push_data(alloc, text, "(array", items),
         Datum::Map(entries) => push_entries(alloc, text, entries),
+        Datum::Branch(index, leaf) => {
+            push(text, &format!(in alloc; "(union {index} ")?)?;
+            push_leaf(alloc, text, leaf)?;
+            text.push_str(")")
+        }
         Datum::Union(index, datum) => {
             push(text, &format!(in alloc; "(union {index} ")?)?;
             push_datum(alloc, text, datum)?;
             text.push_str(")")
         }
+    }
+}
+
+/// Adds a datum that holds no other.
+fn push_leaf(alloc: Global, text: &mut String, leaf: &Leaf) -> Result<(), AllocError> {
+    match leaf {
+        Leaf::Null => text.push_str("null"),
+        Leaf::Bool(flag) => push(text, &format!(in alloc; "{flag}")?),
+        Leaf::Int(number) => push(text, &format!(in alloc; "{number}")?),
+        Leaf::Long(number) => push(text, &format!(in alloc; "{number}")?),
+        Leaf::Bytes(bytes) => push(text, &format!(in alloc; "#{}", print_hex(alloc, bytes)?)?),
+        Leaf::Text(content) => push_quoted(alloc, text, content),
     }
 }
 
