@@ -37,6 +37,8 @@ pub fn group_levels(
     requires folders { HaveFolders schema.now (get id_eq live) }
     ensures runs { IfOk result (λ groups. (g : GroupView) →
         GroupRuns (get id_eq live) g (get_by (group_cmp g) groups)) }
+    ensures folders { IfOk result (λ groups. (g : GroupView) →
+        IsSome (get_by (group_cmp g) groups) → FitsPartition schema.now g) }
     ensures refused { IfErr result (Overlaps schema.now (get id_eq live)) }
 {
     let groups = files_by_group(alloc, live)?;
@@ -112,8 +114,8 @@ fn levels_of(
     }
 }
 
-/// The path of a data file of a group.
-fn data_path(
+/// The path of a data file of a group, or of a changelog file.
+pub fn data_path(
     alloc: Global,
     schema: &TableSchema,
     group: &Group,

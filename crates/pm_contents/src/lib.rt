@@ -5,13 +5,13 @@
 //! paths to bytes: of a table's folder, or of what a reader has read so far. A snapshot has one meaning at most
 //! (`one_contents_law`, `one_runs_law`), and keeps it where its files stay (`kept_law`).
 //!
-//! `group_levels` puts the live files into groups, and makes runs of each group's files (`specs/Groups.antt`). It moves
-//! each file once, in about n log g comparisons of groups. What it asks of the live files holds of those that entries
-//! of the table were folded into (`live_law`, `folder_law`).
+//! `data_path` gives the path of a group's file. `group_levels` puts the live files into groups, and makes runs of each
+//! group's files (`specs/Groups.antt`). It moves each file once, in about n log g comparisons of groups. What it asks
+//! of the live files holds of those that entries of the table were folded into (`live_law`, `folder_law`).
 #![tactic(auto)]
 
 mod groups;
 mod laws;
 
-pub use groups::group_levels;
+pub use groups::{data_path, group_levels};
 pub use laws::{folder_law, kept_law, live_law, one_contents_law, one_runs_law};
