@@ -1,17 +1,19 @@
 -- The groups of a table: in which partition and bucket a row lies.
 use Rattle.std.specs.Prelude.{ℕ, List, map, filter, not, slice_get}
 use Rattle.std.specs.Option.{option_map_or}
+use Rattle.std.specs.Ordering.{eq_by_cmp}
 use Rattle.pm_binrow.specs.Hashing.{bucket_of, hash_of}
 use Rattle.pm_binrow.specs.Row.{body}
 use Rattle.pm_schema.specs.Rules.{is_among}
 use Rattle.pm_schema.specs.declared.schema.TableSchema.{TableSchema}
+use Rattle.pm_values.specs.GroupOrder.{group_cmp}
 use Rattle.pm_values.specs.Order.{Values}
 use Rattle.pm_values.specs.declared.column.Column.{Column}
 use Rattle.pm_values.specs.declared.column.ColType.{ColType}
 use Rattle.pm_values.specs.declared.column.ColType.TheVariants.{Text}
 use Rattle.pm_values.specs.declared.group.Group.{Group}
 use Rattle.pm_history.specs.ColumnValue.{index_of}
-use Rattle.pm_history.specs.Merge.{key_of}
+use Rattle.pm_history.specs.Merge.{HistoryRow, key_of}
 
 -- the indexes of the partition columns, in the order in which their folders nest
 abbrev pub partition_of : TableSchema → List ℕ
@@ -33,3 +35,7 @@ bucket_in s row =
 -- the group of a row
 abbrev pub group_of : TableSchema → Values → Group
 group_of s row = record { partition = key_of (partition_of s) row; bucket = bucket_in s row }
+
+-- the rows of a group, in their order
+abbrev pub rows_in : TableSchema → Group → List HistoryRow → List HistoryRow
+rows_in s g rows = filter (λ (r : HistoryRow). eq_by_cmp group_cmp (group_of s r.1) g) rows
