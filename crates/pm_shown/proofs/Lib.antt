@@ -1,0 +1,4 @@
+mod GroupLemmas
+mod ShownLemmas
+mod ScanLemmas
+mod TextLemmas
