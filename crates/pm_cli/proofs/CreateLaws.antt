@@ -14,6 +14,7 @@ use Rattle.pm_machine.specs.Trace.{HasTrace}
 use Rattle.pm_machine.proofs.Facts.{Traces-none}
 use Rattle.pm_history.specs.History.{History, no_table, table}
 use Rattle.pm_schema.specs.declared.schema.TableSchema.{TableSchema}
+use Rattle.pm_folder.specs.Changes.{Actor}
 use Rattle.pm_folder.specs.Folder.{Folder}
 use Rattle.pm_create.specs.Creator.{CreatorView}
 use Rattle.pm_create.specs.Trace.{before_all}
@@ -21,7 +22,7 @@ use Rattle.pm_create.specs.Making as making
 use Rattle.pm_create.specs.Making.{DidMake, first_call, LeavesFiles, LeavesHistory, IsThere, IsAbsent, IsCaused, IsMadeOrMemory, MakesTables}
 use Rattle.pm_draft.specs.Input.{AnswersDraft, ReadsDraft, RefusesDraft}
 use Rattle.pm_cli.specs.Create.{created_text, creator, making as draft_making, IsMade, MakesAndPrints, IsDraftOf, StandsForDraft, LeavesTable, SettlesTable, StandsForEither, HadCause, CreatesTable, CreatesTables}
-use Rattle.pm_cli.specs.Outside.{Start, Outside, outside, IsServed, Prints}
+use Rattle.pm_cli.specs.Outside.{Start, Outside, outside, IsServed, Prints, actor}
 use Rattle.pm_cli.proofs.Uncalled.{first_uncalled, at_known}
 
 -- what is left of files, said of more
@@ -40,6 +41,10 @@ images_left P Q weaker store is =
 some_none : {A : Type 0} (x : A) → Some x ≡ None → ⊥
 some_none x e = cc
 
+-- files from which a table may be made stand for the history
+start_stands : (me : Actor) (h : History) (store : StoreView) → LeavesFiles (making.MayStart me h) store → LeavesFiles (λ f. Folder f h) store
+start_stands me h store start = leaves_weaker (making.MayStart me h) (λ f. Folder f h) (λ f is. is.0) store start
+
 -- ---- the making of a table
 
 -- memory ran out before the first call
@@ -47,9 +52,9 @@ makes_nothing : (m : CreatorView) (store : StoreView) → MakesTables m store st
 makes_nothing m store = (
   store,
   first_uncalled (first_call m) store,
-  λ alone h folder. record {
-    leaves = folder;
-    images = images_left (λ f. Folder f h) (making.StandsForEither m.schema h) (λ f is. inl is) store folder;
+  λ alone h start. record {
+    leaves = start_stands m.me h store start;
+    images = images_left (making.MayStart m.me h) (making.StandsForEither m.schema h) (λ f is. inl is.0) store start;
     settles = tt;
     cause = tt;
     complete = λ none absent no_fault. tt;
@@ -130,8 +135,12 @@ refused_table start h bytes before after out store e refuses folder = record {
 -- memory ran out before anything was read
 pub nothing_made : (start : Start) (input : SourceView) (out : SinkView) (store : StoreView)
     → CreatesTables start (outside input out store) (outside input out store) (Some refusals.Memory)
-nothing_made start input out store =
-    (store, first_uncalled _ store, λ alone h bytes folder is. refused_table start h bytes input input out store refusals.Memory tt folder)
+nothing_made start input out store = (
+  store,
+  first_uncalled _ store,
+  λ alone h bytes stands is.
+      refused_table start h bytes input input out store refusals.Memory tt (start_stands (actor start) h store stands),
+)
 
 refused_tables : (start : Start) (before after : SourceView) (out : SinkView) (store : StoreView) (e : Refusal)
     → IfSome before.left (λ bytes. RefusesDraft (draft_making start) bytes before after e)
@@ -139,8 +148,8 @@ refused_tables : (start : Start) (before after : SourceView) (out : SinkView) (s
 refused_tables start before after out store e refuses = (
   store,
   first_uncalled _ store,
-  λ alone h bytes folder is. refused_table start h bytes before after out store e
-      (at_known (λ bytes. RefusesDraft (draft_making start) bytes before after e) before.left bytes is refuses) folder,
+  λ alone h bytes stands is. refused_table start h bytes before after out store e
+      (at_known (λ bytes. RefusesDraft (draft_making start) bytes before after e) before.left bytes is refuses) (start_stands (actor start) h store stands),
 )
 
 -- the draft was read for the name of this command's origin

@@ -19,7 +19,7 @@ use Rattle.pm_folder.specs.Changes.{origin_name}
 use Rattle.pm_folder.specs.Folder.{Folder}
 use Rattle.pm_folder.specs.Paths.{schema_path}
 use Rattle.pm_create.specs.Creator.{CreatorView, new_creator, own_origin, origin_call}
-use Rattle.pm_create.specs.Making.{DidMake, LeavesFiles, IsThere, IsAbsent, MakesTables}
+use Rattle.pm_create.specs.Making.{DidMake, LeavesFiles, IsThere, IsAbsent, MakesTables, MayStart}
 use Rattle.pm_draft.specs.Draft.{draft_in, IsFirstSchema}
 use Rattle.pm_draft.specs.Input.{Making, AnswersDraft, RefusesDraft, MayRefuseDraft}
 use Rattle.pm_cli.specs.Outside.{Start, actor, Outside, IsUntouched, IsServed, HasNoFault, Prints}
@@ -117,9 +117,10 @@ pub record CreatesTable (start : Start) (h : History) (bytes : List ℕ) (first 
   pub complete : (s : TableSchema) → IsDraftOf start bytes s → h ≡ no_table → IsAbsent (own_origin (actor start)) first
       → HasNoFault before first after → IsServed answer
 
--- what it promises of histories, from its first call of the store on
+-- what it promises of histories, from its first call of the store on: where no other table was made by an actor of its
+-- name
 abbrev pub CreatesTables : Start → Outside → Outside → Option Refusal → Type 0
 CreatesTables start before after answer =
     (first : StoreView) × IsFirst (origin_call (own_origin (actor start))) before.store first after.store
-    × (IsAlone first after.store → (h : History) (bytes : List ℕ) → LeavesFiles (λ f. Folder f h) first
+    × (IsAlone first after.store → (h : History) (bytes : List ℕ) → LeavesFiles (MayStart (actor start) h) first
     → before.input.left ≡ Some bytes → CreatesTable start h bytes first before after answer)

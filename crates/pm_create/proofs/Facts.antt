@@ -1,5 +1,5 @@
 -- A creator keeps the laws of machines.
-use Rattle.std.proofs.Common.{◌≡◌, inl, inr, ℕ, List, [], ◌∷◌, ◌++◌, if◌then◌else◌, Option, None, Some, is_none, IsSome, IsSomeAnd, IfSome, Result, refl, sym, ap, ◌∙◌, subst}
+use Rattle.std.proofs.Common.{◌≡◌, ◌≢◌, inl, inr, ℕ, List, [], ◌∷◌, ◌++◌, if◌then◌else◌, Option, None, Some, is_none, IsSome, IsSomeAnd, IfSome, Result, refl, sym, ap, ◌∙◌, subst}
 use Rattle.std.specs.FinMap as map
 use Rattle.pm_values.specs.declared.refusal.Refusal.{Refusal}
 use Rattle.pm_values.specs.declared.refusal.Refusal.TheVariants as refusals
@@ -20,16 +20,16 @@ use Rattle.pm_machine.specs.Step.{path_of, Stepped, Rested, Went, Refused, Stopp
 use Rattle.pm_machine.specs.Trace.{Event, Recounts, answered, faulted}
 use Rattle.pm_machine.proofs.Facts.{image_changed}
 use Rattle.pm_history.specs.History.{History, IsTableOf, no_table, table, GoesOn}
-use Rattle.pm_folder.specs.Changes.{Actor, Change, nothing, own_file, schema}
+use Rattle.pm_folder.specs.Changes.{Actor, Change, IsNoOrigin, nothing, own_file, schema, appended}
 use Rattle.pm_folder.specs.Folder.{Folder}
 use Rattle.pm_folder.specs.Meaning.{HasSnapshotAt}
 use Rattle.pm_folder.specs.Paths.{schema_path, snapshot_file}
-use Rattle.pm_folder.proofs.Facts.{kept, goes_on, stays, still_there, snapshot_stays}
+use Rattle.pm_folder.proofs.Facts.{goes_on, some-none, stays, still_there, snapshot_stays}
 use Rattle.pm_schema.specs.declared.schema.TableSchema.{TableSchema}
 use Rattle.pm_create.specs.declared.phase.Phase.{Phase}
 use Rattle.pm_create.specs.declared.phase.Phase.TheVariants as phases
 use Rattle.pm_create.specs.Creator.{CreatorView, IsCreator, IsPathOf, own_origin, origin_call, schema_call, call_at, next_call, at_phase, GoesAt, RefusesAt, Goes, Refuses, Stops, IsSameTable}
-use Rattle.pm_create.specs.Meaning.{Begins, Makes, KnowsAt, Knows}
+use Rattle.pm_create.specs.Meaning.{Begins, IsFreeOrigin, Makes, KnowsAt, Knows}
 use Rattle.pm_create.specs.Trace.{made_origin, met_origin, failed_origin, failed_table, Ended, before_all, before_swap, session_used, origin_failed, table_exists, table_failed, DidAt, Did, Shows}
 
 -- ---- what a creator may change
@@ -37,9 +37,9 @@ use Rattle.pm_create.specs.Trace.{made_origin, met_origin, failed_origin, failed
 makes-same : (m : CreatorView) (f : Files) (h : History) → Makes m f h f h
 makes-same m f h = record { kind = nothing (λ q. refl); begins = inl refl }
 
-pub makes-own : (m : CreatorView) (path content : List ℕ) (f after : Files) (h : History) → path ≡ own_origin m.me → map.get f path ≡ None
-    → Puts f path (Some content) after → Makes m f h after h
-makes-own m path content f after h own absent puts = record { kind = own_file path content own absent puts; begins = inl refl }
+pub makes-own : (m : CreatorView) (path content : List ℕ) (f after : Files) (h : History) → path ≡ own_origin m.me → IsFreeOrigin path f h
+    → map.get f path ≡ None → Puts f path (Some content) after → Makes m f h after h
+makes-own m path content f after h own free absent puts = record { kind = own_file path content own (free absent) absent puts; begins = inl refl }
 
 pub makes-table : (m : CreatorView) (f after : Files) → IsCreator m → HasSnapshotAt f m.schema 0
     → Puts f (schema_path 0) (Some m.bytes) after → Makes m f no_table after (table m.schema [])
@@ -50,22 +50,22 @@ makes-table m f after is there puts = record {
 
 -- a part of the create of its origin
 origin_part : (m : CreatorView) (path content : List ℕ) (f : Files) (h : History) (at : Option (List ℕ)) → map.get f path ≡ at
-    → path ≡ own_origin m.me → (later : History) × Makes m f h (if is_none at then map.insert f path content else f) later
-origin_part m path content f h None absent own = (h, makes-own m path content f (map.insert f path content) h own absent (Puts-insert f path content))
-origin_part m path content f h (Some found) is own = (h, makes-same m f h)
+    → path ≡ own_origin m.me → IsFreeOrigin path f h → (later : History) × Makes m f h (if is_none at then map.insert f path content else f) later
+origin_part m path content f h None absent own free = (h, makes-own m path content f (map.insert f path content) h own free absent (Puts-insert f path content))
+origin_part m path content f h (Some found) is own free = (h, makes-same m f h)
 
-pub origin_changes : (m : CreatorView) (path : List ℕ) (f : Files) (h : History) → path ≡ own_origin m.me → Changes (Makes m) (origin_call path) f h
-origin_changes m path f h own effects.None = (h, makes-same m f h)
-origin_changes m path f h own (effects.Part None) = (h, makes-same m f h)
-origin_changes m path f h own (effects.Part (Some found)) = origin_part m path found f h (map.get f path) refl own
-origin_changes m path f h own effects.Whole = origin_part m path [] f h (map.get f path) refl own
+pub origin_changes : (m : CreatorView) (path : List ℕ) (f : Files) (h : History) → path ≡ own_origin m.me → IsFreeOrigin path f h
+    → Changes (Makes m) (origin_call path) f h
+origin_changes m path f h own free effects.None = (h, makes-same m f h)
+origin_changes m path f h own free (effects.Part None) = (h, makes-same m f h)
+origin_changes m path f h own free (effects.Part (Some found)) = origin_part m path found f h (map.get f path) refl own free
+origin_changes m path f h own free effects.Whole = origin_part m path [] f h (map.get f path) refl own free
 
 -- where no schema is there, there is no table
 pub untold : (f : Files) (h : History) → Folder f h → map.get f (schema_path 0) ≡ None → h ≡ no_table
 untold f no_table folder absent = refl
-untold f (table s []) folder absent =
+untold f (table s entries) folder absent =
     absurd (let first = folder.schema.first in let no : Some first.0 ≡ None = sym first.1 ∙ absent in cc)
-untold f (table s (e ∷ entries)) folder absent = absurd folder
 
 -- the swap of its schema, carried out whole
 table_whole : (m : CreatorView) (f : Files) (h : History) (at : Option (List ℕ)) → map.get f (schema_path 0) ≡ at → Folder f h → IsCreator m
@@ -85,7 +85,7 @@ table_changes m f h folder is there effects.Whole = table_whole m f h (map.get f
 
 changes_at : (m : CreatorView) (p : Phase) (f : Files) (h : History) → Folder f h → IsCreator m → IsPathOf m.me p → KnowsAt m p f h
     → IfSome (call_at m p) (λ call. Changes (Makes m) call f h)
-changes_at m (phases.Origin path) f h folder is own known = origin_changes m path f h own
+changes_at m (phases.Origin path) f h folder is own known = origin_changes m path f h own known
 changes_at m phases.Schema f h folder is own known = table_changes m f h folder is known
 changes_at m phases.Created f h folder is own known = tt
 changes_at m phases.Over f h folder is own known = tt
@@ -118,7 +118,7 @@ went_at m (phases.Origin path) (answers.Made made.Created) later f h goes folder
     let puts : Puts f path (Some []) (carried call f) = Answers-Changed call (answers.Made made.Created) f told in
     subst (λ (p : Phase). Leads (Makes m) (Knows (at_phase m p)) f h (carried call f)) (sym goes) (
       h,
-      makes-own m path [] f (carried call f) h own (made_absent (map.get f path) told) puts,
+      makes-own m path [] f (carried call f) h own known (made_absent (map.get f path) told) puts,
       (moved_to m phases.Schema tt is, origin_stands m path (carried call f) is own puts.here),
     )
 went_at m phases.Schema (answers.Swapped swaps.Swapped) later f h goes folder is own known = λ told.
@@ -134,7 +134,7 @@ failed_at : (m : CreatorView) (p : Phase) (new : CreatorView) (effect : Effect) 
     → IsCreator m → IsPathOf m.me p → KnowsAt m p f h
     → IfSome (call_at m p) (λ call. Leads (Makes m) (Knows new) f h (after_effect call effect f))
 failed_at m (phases.Origin path) new effect f h over folder is own known =
-    let leads = origin_changes m path f h own effect in
+    let leads = origin_changes m path f h own known effect in
     (leads.0, leads.1, over_knows m new (after_effect (origin_call path) effect f) leads.0 over is)
 failed_at m phases.Schema new effect f h over folder is own known =
     let leads = table_changes m f h folder is known effect in
@@ -304,8 +304,12 @@ begins_more s first h later begun (inl same) = subst (Begins s first) (sym same)
 begins_more s first h later (inl same) (inr (none, begins)) = inr (sym same ∙ none, begins)
 begins_more s first h later (inr (none, begun)) (inr (again, begins)) = inr (none, begins)
 
-pub lasts : (m : CreatorView) (first : History) → Lasts Folder (Makes m) (λ f h. Begins m.schema first h)
-lasts m first f after h later folder begun change =
+-- what the law of kinds of change says
+abbrev pub Kept : Type 0
+Kept = (me : Actor) (f after : Files) (h later : History) → Folder f h → Change me f h after later → Folder after later
+
+pub lasts : Kept → (m : CreatorView) (first : History) → Lasts Folder (Makes m) (λ f h. Begins m.schema first h)
+lasts kept m first f after h later folder begun change =
     (kept m.me f after h later folder change.kind, begins_more m.schema first h later begun change.begins)
 
 still_table : (s : TableSchema) (h later : History) → GoesOn h later → IsTableOf s h → IsTableOf s later
@@ -313,9 +317,37 @@ still_table s no_table later goes is = absurd is
 still_table s (table t entries) no_table goes is = absurd goes
 still_table s (table t entries) (table u more) goes is = goes.0 ∙ is
 
+-- what is absent was absent
+absent_before : (path : List ℕ) (other : Actor) (f after : Files) (h later : History) → Folder f h → Change other f h after later
+    → map.get after path ≡ None → map.get f path ≡ None
+absent_before path other f after h later folder change absent = at (map.get f path) refl
+  where
+    at : (found : Option (List ℕ)) → map.get f path ≡ found → map.get f path ≡ None
+    at None is = is
+    at (Some bytes) is = absurd (let there : IsSome (map.get f path) = subst (λ (o : Option (List ℕ)). IsSome o) (sym is) refl in
+        let same = stays other f after h later path folder change there in
+        some-none (map.get f path) there (sym same ∙ absent))
+
+-- no other actor makes a table whose origin has this path, while it is absent
+free_still : (path : List ℕ) (other : Actor) (f after : Files) (h later : History) → Change other f h after later → IsFreeOrigin path f h
+    → map.get f path ≡ None → IsNoOrigin later path
+free_still path other f after h later (nothing same) free absent = free absent
+free_still path other f after h later (own_file own content is apart none puts) free absent = free absent
+free_still path other f after h later (schema s bytes there puts reads) free absent =
+    λ name is at. origin_there s.origin there name is at
+  where
+    origin_there : (o : Option (List ℕ)) → IsSomeAnd o (λ origin. IsSome (map.get f (snapshot_file origin))) → (name : List ℕ) → o ≡ Some name
+        → snapshot_file name ≢ path
+    origin_there None there name is at = absurd there
+    origin_there (Some origin) there name is at =
+        let same : origin ≡ name = cc in
+        some-none (map.get f (snapshot_file origin)) there (ap (λ (n : List ℕ). map.get f (snapshot_file n)) same ∙ ap (map.get f) at ∙ absent)
+free_still path other f after h later (appended s entries user identifier rows bytes newest bound none puts fit commit own) free absent = free absent
+
 known_at : (m : CreatorView) (p : Phase) (other : Actor) (f after : Files) (h later : History) → Folder f h → Change other f h after later
     → KnowsAt m p f h → KnowsAt m p after later
-known_at m (phases.Origin path) other f after h later folder change known = tt
+known_at m (phases.Origin path) other f after h later folder change known = λ absent.
+    free_still path other f after h later change known (absent_before path other f after h later folder change absent)
 known_at m phases.Schema other f after h later folder change known =
     snapshot_stays f after m.schema 0 (λ q there. still_there f after q (stays other f after h later q folder change there) there) known
 known_at m phases.Created other f after h later folder change known = still_table m.schema h later (goes_on other f after h later change) known
@@ -325,9 +357,9 @@ pub knows_still : (m : CreatorView) (other : Actor) (f after : Files) (h later :
     → Knows m f h → Knows m after later
 knows_still m other f after h later folder change known = (known.0, known_at m m.phase other f after h later folder change known.1)
 
-pub images : (m : CreatorView) (call : Call) (f image : Files) (h : History) → next_call m ≡ Some call → Folder f h → Knows m f h
+pub images : Kept → (m : CreatorView) (call : Call) (f image : Files) (h : History) → next_call m ≡ Some call → Folder f h → Knows m f h
     → MayLeave call f image → (later : History) × Makes m f h image later × Folder image later
-images m call f image h is folder known left =
+images kept m call f image h is folder known left =
     let changes : Changes (Makes m) call f h = rw is at (sound.changes m f h folder known) in
     let led = image_changed (Makes m) call f h changes image left in
     (led.0, led.1, kept m.me f image h led.0 folder led.1.kind)

@@ -25,17 +25,17 @@ use Rattle.pm_folder.specs.Changes.{nothing}
 use Rattle.pm_folder.specs.Folder.{Folder}
 use Rattle.pm_folder.specs.Meaning.{HasSnapshotAt}
 use Rattle.pm_folder.specs.Paths.{schema_path}
-use Rattle.pm_folder.proofs.Facts.{kept, some-none}
+use Rattle.pm_folder.proofs.Facts.{some-none}
 use Rattle.pm_schema.specs.declared.schema.TableSchema.{TableSchema}
 use Rattle.pm_create.specs.Creator.{CreatorView, IsCreator, own_origin, schema_call, at_phase, calls_left, left_at, IsSameTable, Reaches}
-use Rattle.pm_create.specs.Meaning.{Begins, Makes}
+use Rattle.pm_create.specs.Meaning.{Begins, IsFreeOrigin, Makes}
 use Rattle.pm_create.specs.Trace.{made_origin, made_table, Ended, before_all, before_swap, session_used, origin_failed, table_exists, table_failed, DidAt, Did, Shows, CreatorActed}
 use Rattle.pm_create.specs.declared.creator.CreateStep.{CreateStep}
 use Rattle.pm_create.specs.declared.creator.CreateStep.TheVariants as steps
 use Rattle.pm_create.specs.declared.phase.Phase.{Phase}
 use Rattle.pm_create.specs.declared.phase.Phase.TheVariants as phases
-use Rattle.pm_create.specs.Making.{DidMake, first_call, LeavesFiles, StandsForEither, LeavesHistory, IsThere, IsAbsent, IsCaused, IsMadeOrMemory, MakesTable, MakesTables}
-use Rattle.pm_create.proofs.Facts.{makes-own, makes-table, origin_changes, table_changes, untold, made_absent, origin_stands, by_calls, shown_by}
+use Rattle.pm_create.specs.Making.{DidMake, first_call, LeavesFiles, StandsForEither, LeavesHistory, IsThere, IsAbsent, IsCaused, IsMadeOrMemory, MakesTable, MakesTables, MayStart}
+use Rattle.pm_create.proofs.Facts.{Kept, makes-own, makes-table, origin_changes, table_changes, untold, made_absent, origin_stands, by_calls, shown_by}
 use Rattle.pm_machine.proofs.AloneLaws.{StartsWith, Traces-first, Follows, Follows-first, Follows-meanwhile, Follows-steps, Extends-end}
 
 -- ---- single calls
@@ -45,53 +45,54 @@ either_by : (m : CreatorView) (f image : Files) (h later : History) → Folder i
 either_by m f image h later folder (inl same) = inl (subst (Folder image) same folder)
 either_by m f image h later folder (inr (none, is)) = inr (none, subst (Folder image) is folder)
 
-either_images : (m : CreatorView) (call : Call) (f : Files) (h : History) → Folder f h → Changes (Makes m) call f h
+either_images : Kept → (m : CreatorView) (call : Call) (f : Files) (h : History) → Folder f h → Changes (Makes m) call f h
     → (image : Files) → MayLeave call f image → StandsForEither m.schema h image
-either_images m call f h folder changes image left =
+either_images kept m call f h folder changes image left =
     let led = image_changed (Makes m) call f h changes image left in
     either_by m f image h led.0 (kept m.me f image h led.0 folder led.1.kind) led.1.begins
 
 -- its origin was made
-origin_made : (m : CreatorView) (f : Files) (h : History) → IsCreator m → Folder f h → Answers (first_call m) (answers.Made made.Created) f
+origin_made : Kept → (m : CreatorView) (f : Files) (h : History) → IsCreator m → Folder f h → IsFreeOrigin (own_origin m.me) f h → Answers (first_call m) (answers.Made made.Created) f
     → Folder (carried (first_call m) f) h × HasSnapshotAt (carried (first_call m) f) m.schema 0
-origin_made m f h is folder told =
+origin_made kept m f h is folder free told =
     let path : List ℕ = own_origin m.me in
     let after : Files = carried (first_call m) f in
     let puts : Puts f path (Some []) after = Answers-Changed (first_call m) (answers.Made made.Created) f told in
-    let makes : Makes m f h after h = makes-own m path [] f after h refl (made_absent (map.get f path) told) puts in
+    let makes : Makes m f h after h = makes-own m path [] f after h refl free (made_absent (map.get f path) told) puts in
     (kept m.me f after h h folder makes.kind, origin_stands m path after is refl puts.here)
 
 -- a call that was answered so changed nothing
-origin_met : (m : CreatorView) (f : Files) (h : History) → Folder f h → Answers (first_call m) (answers.Made made.Exists) f
+origin_met : Kept → (m : CreatorView) (f : Files) (h : History) → Folder f h → Answers (first_call m) (answers.Made made.Exists) f
     → Folder (carried (first_call m) f) h
-origin_met m f h folder told =
+origin_met kept m f h folder told =
     kept m.me f (carried (first_call m) f) h h folder (nothing (Answers-Changed (first_call m) (answers.Made made.Exists) f told))
 
 -- and whatever of it was carried out left the history
-origin_part : (m : CreatorView) (content : List ℕ) (f : Files) (h : History) (at : Option (List ℕ)) → map.get f (own_origin m.me) ≡ at → Folder f h
-    → Folder (if is_none at then map.insert f (own_origin m.me) content else f) h
-origin_part m content f h None absent folder =
+origin_part : Kept → (m : CreatorView) (content : List ℕ) (f : Files) (h : History) (at : Option (List ℕ)) → map.get f (own_origin m.me) ≡ at → Folder f h
+    → IsFreeOrigin (own_origin m.me) f h → Folder (if is_none at then map.insert f (own_origin m.me) content else f) h
+origin_part kept m content f h None absent folder free =
     let path : List ℕ = own_origin m.me in
     let after : Files = map.insert f path content in
-    let makes : Makes m f h after h = makes-own m path content f after h refl absent (Puts-insert f path content) in
+    let makes : Makes m f h after h = makes-own m path content f after h refl free absent (Puts-insert f path content) in
     kept m.me f after h h folder makes.kind
-origin_part m content f h (Some found) is folder = folder
+origin_part kept m content f h (Some found) is folder free = folder
 
-origin_failed_in : (m : CreatorView) (effect : Effect) (f : Files) (h : History) → Folder f h → Folder (after_effect (first_call m) effect f) h
-origin_failed_in m effects.None f h folder = folder
-origin_failed_in m (effects.Part None) f h folder = folder
-origin_failed_in m (effects.Part (Some found)) f h folder = origin_part m found f h (map.get f (own_origin m.me)) refl folder
-origin_failed_in m effects.Whole f h folder = origin_part m [] f h (map.get f (own_origin m.me)) refl folder
+origin_failed_in : Kept → (m : CreatorView) (effect : Effect) (f : Files) (h : History) → Folder f h → IsFreeOrigin (own_origin m.me) f h
+    → Folder (after_effect (first_call m) effect f) h
+origin_failed_in kept m effects.None f h folder free = folder
+origin_failed_in kept m (effects.Part None) f h folder free = folder
+origin_failed_in kept m (effects.Part (Some found)) f h folder free = origin_part kept m found f h (map.get f (own_origin m.me)) refl folder free
+origin_failed_in kept m effects.Whole f h folder free = origin_part kept m [] f h (map.get f (own_origin m.me)) refl folder free
 
 present_met : (at : Option (List ℕ)) → made.Exists ≡ made_at at → IsSome at
 present_met None told = absurd (let no : made.Exists ≡ made.Created = told in cc)
 present_met (Some found) told = refl
 
 -- its table was made
-table_made : (m : CreatorView) (f : Files) (h : History) → IsCreator m → Folder f h → HasSnapshotAt f m.schema 0
+table_made : Kept → (m : CreatorView) (f : Files) (h : History) → IsCreator m → Folder f h → HasSnapshotAt f m.schema 0
     → Answers (schema_call m.bytes) (answers.Swapped swaps.Swapped) f
     → (h ≡ no_table) × Folder (carried (schema_call m.bytes) f) (table m.schema [])
-table_made m f h is folder there told =
+table_made kept m f h is folder there told =
     let call : Call = schema_call m.bytes in
     let none : h ≡ no_table = untold f h folder told in
     let puts : Puts f (schema_path 0) (Some m.bytes) (carried call f) = Answers-Changed call (answers.Swapped swaps.Swapped) f told in
@@ -99,9 +100,9 @@ table_made m f h is folder there told =
     (none, kept m.me f (carried call f) no_table (table m.schema []) (subst (Folder f) none folder) makes.kind)
 
 -- there is a table already
-table_met : (m : CreatorView) (found : Option (List ℕ)) (f : Files) (h : History) → Folder f h
+table_met : Kept → (m : CreatorView) (found : Option (List ℕ)) (f : Files) (h : History) → Folder f h
     → Answers (schema_call m.bytes) (answers.Swapped (swaps.Differs found)) f → (h ≢ no_table) × Folder (carried (schema_call m.bytes) f) h
-table_met m found f h folder told =
+table_met kept m found f h folder told =
     let call : Call = schema_call m.bytes in
     let is_there : map.get f (schema_path 0) ≢ None = λ absent. told.1 (sym told.0 ∙ absent) in (
       λ none. is_there (absent_schema f (subst (Folder f) none folder)),
@@ -131,23 +132,23 @@ done_by m h first after (Err refusals.TableExists) caused none absent no_fault =
 done_by m h first after (Err (refusals.StoreFault path)) caused none absent no_fault = no_fault caused
 done_by m h first after (Err refusal) caused none absent no_fault = absurd caused
 
-module _ (m : CreatorView) (creator : IsCreator m) (h : History) (first after : StoreView) (alone : IsAlone first after)
-    (stands : LeavesFiles (λ f. Folder f h) first) where
+module _ (kept : Kept) (m : CreatorView) (creator : IsCreator m) (h : History) (first after : StoreView) (alone : IsAlone first after)
+    (stands : LeavesFiles (MayStart m.me h) first) where
   abbrev s : TableSchema
   s = m.schema
 
   -- the history, and where a file is at the origin's path it was there at first
   abbrev AtFirst : Files → Type 0
-  AtFirst f = Folder f h × (IsSome (map.get f (own_origin m.me)) → IsThere (own_origin m.me) first)
+  AtFirst f = MayStart m.me h f × (IsSome (map.get f (own_origin m.me)) → IsThere (own_origin m.me) first)
 
   abbrev HasOrigin : Files → Type 0
   HasOrigin f = Folder f h × HasSnapshotAt f m.schema 0
 
-  at_first : (known : Option (List Op)) → first.ops ≡ known → IsSomeAnd known (λ ops. Folder (files_after ops) h)
+  at_first : (known : Option (List Op)) → first.ops ≡ known → IsSomeAnd known (λ ops. MayStart m.me h (files_after ops))
       → IsSomeAnd known (λ ops. StandsForEither s h (files_after ops) × AtFirst (files_after ops))
   at_first None is here = here
   at_first (Some ops) is here = (
-    inl here,
+    inl here.0,
     (
       here,
       λ there.
@@ -158,11 +159,11 @@ module _ (m : CreatorView) (creator : IsCreator m) (h : History) (first after : 
   started : Follows (StandsForEither s h) first.ops first AtFirst
   started = Follows-first (StandsForEither s h) AtFirst first first.ops refl (at_first first.ops refl stands)
 
-  origin_images : (f : Files) → Folder f h → (image : Files) → MayLeave (first_call m) f image → StandsForEither s h image
-  origin_images f folder = either_images m (first_call m) f h folder (origin_changes m (own_origin m.me) f h refl)
+  origin_images : (f : Files) → MayStart m.me h f → (image : Files) → MayLeave (first_call m) f image → StandsForEither s h image
+  origin_images f start = either_images kept m (first_call m) f h start.0 (origin_changes m (own_origin m.me) f h refl start.1)
 
   table_images : (f : Files) → HasOrigin f → (image : Files) → MayLeave (schema_call m.bytes) f image → StandsForEither s h image
-  table_images f both = either_images m (schema_call m.bytes) f h both.0 (table_changes m f h both.0 creator both.1)
+  table_images f both = either_images kept m (schema_call m.bytes) f h both.0 (table_changes m f h both.0 creator both.1)
 
   -- the end of the calls
   ended_as : (result : Result (Unit {0}) Refusal) (P : Files → Type 0) → (so : Follows (StandsForEither s h) first.ops after P)
@@ -180,14 +181,14 @@ module _ (m : CreatorView) (creator : IsCreator m) (h : History) (first after : 
   after_origin : (middle : StoreView) → Steps (whole (first_call m)) (λ ops. Answers (first_call m) (answers.Made made.Created) (files_after ops)) first middle
       → middle.others ≤ first.others → Follows (StandsForEither s h) first.ops middle HasOrigin
   after_origin middle steps within = Follows-steps (StandsForEither s h) AtFirst HasOrigin first.ops (whole (first_call m)) _ first middle started steps within
-      (λ ops here told. (origin_made m (files_after ops) h creator here.0 told, origin_images (files_after ops) here.0))
+      (λ ops here told. (origin_made kept m (files_after ops) h creator here.0.0 here.0.1 told, origin_images (files_after ops) here.0))
 
   served : Traces (made_origin m ∷ made_table m ∷ []) first after → MakesTable m h first after (Ok tt)
   served (middle, (steps, may), early, (next, (swap, may_swap), late, (still, last))) =
       let Made : Files → Type 0 = λ f. (h ≡ no_table) × Folder f (table s []) in
       let origin = after_origin middle steps (omega (arith, alone, early.others, late.others, last.others)) in
       let swapped = Follows-steps (StandsForEither s h) HasOrigin Made first.ops (whole (schema_call m.bytes)) _ middle next origin swap (omega (arith, alone, early.others, late.others, last.others))
-      (λ ops here told. (table_made m (files_after ops) h creator here.0 here.1 told, table_images (files_after ops) here)) in
+      (λ ops here told. (table_made kept m (files_after ops) h creator here.0 here.1 told, table_images (files_after ops) here)) in
       let so = Follows-meanwhile (StandsForEither s h) Made first.ops next after swapped still (omega (arith, alone, early.others, late.others, last.others)) in
       ended_as (Ok tt) Made so (λ f here. here) (Extends-end (λ f. Folder f (table s [])) after.ops so.ops so.is so.here.1) tt
 
@@ -198,7 +199,7 @@ module _ (m : CreatorView) (creator : IsCreator m) (h : History) (first after : 
   refused : (own : List Event) → Ended m own → Traces own first after → MakesTable m h first after (Err (by_calls own))
   refused own before_all (still, last) =
       let so = Follows-meanwhile (StandsForEither s h) AtFirst first.ops first after started still (omega (arith, alone)) in
-      ended_as (Err refusals.Memory) AtFirst so (λ f here. here.0) tt tt
+      ended_as (Err refusals.Memory) AtFirst so (λ f here. here.0.0) tt tt
   refused own before_swap (middle, (steps, may), early, (still, last)) =
       let origin = after_origin middle steps (omega (arith, alone, early.others, last.others)) in
       let so = Follows-meanwhile (StandsForEither s h) HasOrigin first.ops middle after origin still (omega (arith, alone, early.others, last.others)) in
@@ -207,7 +208,7 @@ module _ (m : CreatorView) (creator : IsCreator m) (h : History) (first after : 
       let Met : Files → Type 0 = λ f. Folder f h × IsThere (own_origin m.me) first in
       let met = Follows-steps (StandsForEither s h) AtFirst Met first.ops (whole (first_call m)) (λ ops. Answers (first_call m) (answers.Made made.Exists) (files_after ops)) first middle started steps (omega (arith, alone, early.others, last.others))
       (λ ops here told. (
-        (origin_met m (files_after ops) h here.0 told, here.1 (present_met (map.get (files_after ops) (own_origin m.me)) told)),
+        (origin_met kept m (files_after ops) h here.0.0 told, here.1 (present_met (map.get (files_after ops) (own_origin m.me)) told)),
         origin_images (files_after ops) here.0,
       )) in
       let so = Follows-meanwhile (StandsForEither s h) Met first.ops middle after met still (omega (arith, alone, early.others, last.others)) in
@@ -216,14 +217,14 @@ module _ (m : CreatorView) (creator : IsCreator m) (h : History) (first after : 
       let op : Op = record { call = first_call m; effect = effect } in
       let Kept : Files → Type 0 = λ f. Folder f h in
       let failed = Follows-steps (StandsForEither s h) AtFirst Kept first.ops op (λ ops. MayHave (first_call m) effect (files_after ops)) first middle started steps (omega (arith, alone, early.others, last.others))
-      (λ ops here may. (origin_failed_in m effect (files_after ops) h here.0, origin_images (files_after ops) here.0)) in
+      (λ ops here may. (origin_failed_in kept m effect (files_after ops) h here.0.0 here.0.1, origin_images (files_after ops) here.0)) in
       let so = Follows-meanwhile (StandsForEither s h) Kept first.ops middle after failed still (omega (arith, alone, early.others, last.others)) in
       ended_as (Err (refusals.StoreFault (own_origin m.me))) Kept so (λ f here. inl here) tt (omega (arith, rose, last.faults))
   refused own (table_exists found) (middle, (steps, may), early, (next, (swap, may_swap), late, (still, last))) =
       let Met : Files → Type 0 = λ f. (h ≢ no_table) × Folder f h in
       let origin = after_origin middle steps (omega (arith, alone, early.others, late.others, last.others)) in
       let met = Follows-steps (StandsForEither s h) HasOrigin Met first.ops (whole (schema_call m.bytes)) _ middle next origin swap (omega (arith, alone, early.others, late.others, last.others))
-      (λ ops here told. (table_met m found (files_after ops) h here.0 told, table_images (files_after ops) here)) in
+      (λ ops here told. (table_met kept m found (files_after ops) h here.0 told, table_images (files_after ops) here)) in
       let so = Follows-meanwhile (StandsForEither s h) Met first.ops next after met still (omega (arith, alone, early.others, late.others, last.others)) in
       ended_as (Err refusals.TableExists) Met so (λ f here. here.1) tt so.here.0
   refused own table_failed (middle, (steps, may), early, (next, ((effect, swap), rose), late, (still, last))) =
@@ -248,17 +249,17 @@ starts_ended m own origin_failed = refl
 starts_ended m own (table_exists found) = refl
 starts_ended m own table_failed = refl
 
-pub made_history : (m : CreatorView) → IsCreator m → (result : Result (Unit {0}) Refusal) (before after : StoreView)
+pub made_history : Kept → (m : CreatorView) → IsCreator m → (result : Result (Unit {0}) Refusal) (before after : StoreView)
     → HasTrace (DidMake m result) before after → MakesTables m before after result
-made_history m creator (Ok x) before after (own, did, trace) =
+made_history kept m creator (Ok x) before after (own, did, trace) =
     let moment = Traces-first (first_call m) (made_origin m ∷ made_table m ∷ []) before after refl (subst (λ (own : List Event). Traces own before after) did trace) in
-    (moment.0, moment.1, λ alone h stands. served m creator h moment.0 after alone stands moment.2)
-made_history m creator (Err refusal) before after (own, (ended, shows), trace) =
+    (moment.0, moment.1, λ alone h stands. served kept m creator h moment.0 after alone stands moment.2)
+made_history kept m creator (Err refusal) before after (own, (ended, shows), trace) =
     let moment = Traces-first (first_call m) own before after (starts_ended m own ended) trace in (
       moment.0,
       moment.1,
       λ alone h stands. subst (λ (refusal : Refusal). MakesTable m h moment.0 after (Err refusal)) (sym (shown_by refusal own shows))
-          (refused m creator h moment.0 after alone stands own ended moment.2),
+          (refused kept m creator h moment.0 after alone stands own ended moment.2),
     )
 
 -- ---- which calls were made

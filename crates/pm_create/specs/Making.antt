@@ -13,9 +13,11 @@ use Rattle.pm_store.specs.Store.{StoreView, IsAlone}
 use Rattle.pm_machine.specs.Trace.{Event}
 use Rattle.pm_history.specs.History.{History, no_table, table}
 use Rattle.pm_schema.specs.declared.schema.TableSchema.{TableSchema}
+use Rattle.pm_folder.specs.Changes.{Actor}
 use Rattle.pm_folder.specs.Folder.{Folder}
 use Rattle.pm_folder.specs.Paths.{schema_path}
 use Rattle.pm_create.specs.Creator.{CreatorView, own_origin, origin_call}
+use Rattle.pm_create.specs.Meaning.{IsFreeOrigin}
 use Rattle.pm_create.specs.Trace.{made_origin, made_table, Ended, Shows}
 
 -- The calls of the making of a table, by its answer: the origin was made and then the schema swapped in; or they are
@@ -79,8 +81,13 @@ pub record MakesTable (m : CreatorView) (h : History) (first after : StoreView) 
   pub complete : h ≡ no_table → IsAbsent (own_origin m.me) first → (Rose first.faults after.faults → ⊥)
       → IsMadeOrMemory result
 
+-- The files stand for the history, and the actor's origin isn't one that went with an old snapshot of its table: no
+-- other table was made by an actor of this name.
+abbrev pub MayStart : Actor → History → Files → Type 0
+MayStart me h f = Folder f h × IsFreeOrigin (own_origin me) f h
+
 -- what it promises of histories, from its first call on
 abbrev pub MakesTables : CreatorView → StoreView → StoreView → Result (Unit {0}) Refusal → Type 0
 MakesTables m before after result =
     (first : StoreView) × IsFirst (first_call m) before first after
-    × (IsAlone first after → (h : History) → LeavesFiles (λ f. Folder f h) first → MakesTable m h first after result)
+    × (IsAlone first after → (h : History) → LeavesFiles (MayStart m.me h) first → MakesTable m h first after result)

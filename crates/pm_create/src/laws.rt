@@ -1,4 +1,4 @@
-//! Laws of creators. Each holds with no call.
+//! Laws of creators. Each holds with no call but of pm_folder's law.
 
 ghost use Rattle.std.specs.Prelude.{◌≡◌, List, Some};
 ghost use Rattle.pm_create.specs.Creator.{CreatorView, next_call};
@@ -14,6 +14,8 @@ ghost use Rattle.pm_store.specs.Files.{Files};
 ghost use Rattle.pm_store.specs.Images.{MayLeave};
 ghost use Rattle.pm_values.specs.declared.refusal.Refusal.{Refusal};
 
+use pm_folder::kept_law;
+
 /// What a creator knows stays true through each kind of change of every other actor.
 pub fn known_law()
     ensures { (m : CreatorView) (other : Actor) (f after : Files) (h later : History) → Folder f h
@@ -24,7 +26,9 @@ pub fn known_law()
 /// where that was none.
 pub fn begins_law()
     ensures { (m : CreatorView) (first : History) → Lasts Folder (Makes m) (λ f h. Begins m.schema first h) }
-{}
+{
+    kept_law();
+}
 
 /// Calls show one refusal at most. So each refusal comes exactly where the last call ended as it says.
 pub fn causes_law()
@@ -36,4 +40,6 @@ pub fn images_law()
     ensures { (m : CreatorView) (call : Call) (f image : Files) (h : History) → next_call m ≡ Some call
         → Folder f h → Knows m f h → MayLeave call f image
         → (later : History) × Makes m f h image later × Folder image later }
-{}
+{
+    kept_law();
+}

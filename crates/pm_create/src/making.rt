@@ -7,6 +7,7 @@ ghost use Rattle.pm_machine.specs.Trace.{HasTrace};
 ghost use Rattle.pm_store.specs.Store.{IsLater};
 
 use crate::creator::Creator;
+use pm_folder::kept_law;
 use pm_store::FileStore;
 use pm_values::Refusal;
 use std::alloc::Global;
@@ -22,6 +23,7 @@ pub fn create_table<F: FileStore>(
     ensures history { MakesTables creator (F.seen store.old) (F.seen store.new) result }
     ensures later { IsLater (F.seen store.old) (F.seen store.new) }
 {
+    kept_law();
     let mut creator = creator;
     make_calls(alloc, &mut creator, store)
 }

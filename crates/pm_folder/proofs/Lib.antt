@@ -1,3 +1,5 @@
 pub mod Facts
+mod HoldLemmas
+pub mod LedgerFacts
 mod NameLemmas
 mod PathLemmas

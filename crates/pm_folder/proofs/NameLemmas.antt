@@ -73,6 +73,14 @@ first-other id within other e =
     other (decimal_injective id 0 (omega (arith, within)) (omega arith)
     (sym (append_cancel_left (codes "schema-") (decimal 0) (decimal id) names)))
 
+-- a snapshot leads to the name of no other
+pub other-led : (id other : ℕ) → id ≤ greatest → other ≤ greatest → id ≢ other → name_in snapshot_folder (snapshot_path id) ≢ Some (snapshot_name other)
+other-led id other within bound apart e =
+    let same : Some (snapshot_name id) ≡ Some (snapshot_name other) = sym (snapshot-leads id within) ∙ e in
+    let names : snapshot_name id ≡ snapshot_name other = cc in
+    apart (decimal_injective id other (omega (arith, within)) (omega (arith, bound))
+    (append_cancel_left (codes "snapshot-") (decimal id) (decimal other) names))
+
 -- ---- an actor's own files
 
 -- an own file leads to no name of a schema, and to none of a snapshot

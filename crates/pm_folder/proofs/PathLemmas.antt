@@ -3,7 +3,7 @@ use Rattle.std.proofs.Common.{◌≡◌, ◌≢◌, ℕ, ◌≤◌, List, get_or
 use Rattle.std.specs.Fmt.{decimal}
 use Rattle.std.proofs.lemmas.Fmt.{decimal_injective}
 use Rattle.std.proofs.lemmas.List.{append_cancel_left}
-use Rattle.pm_snapshot.specs.Names.{greatest}
+use Rattle.pm_snapshot.specs.Names.{greatest, snapshot_name}
 use Rattle.pm_folder.specs.Changes.{Actor, IsOwn}
 use Rattle.pm_folder.specs.Paths.{schema_path, snapshot_file, snapshot_path, consumer_path, tag_path, changelog_path}
 
@@ -34,6 +34,15 @@ consumer-schema name id = apart 0 (consumer_path name) (schema_path id) (λ (e :
 pub other-schema : (id : ℕ) → id ≤ greatest → id ≢ 0 → schema_path id ≢ schema_path 0
 other-schema id within other e =
     other (decimal_injective id 0 (omega (arith, within)) (omega arith) (append_cancel_left (codes "schema/schema-") (decimal id) (decimal 0) e))
+
+-- two snapshots
+pub other-snapshot : (a b : ℕ) → a ≤ greatest → b ≤ greatest → a ≢ b → snapshot_path a ≢ snapshot_path b
+other-snapshot a b within bound other e =
+    other (decimal_injective a b (omega (arith, within)) (omega (arith, bound)) (append_cancel_left (codes "snapshot/snapshot-") (decimal a) (decimal b) e))
+
+-- an origin whose name is that of no snapshot
+pub origin-other : (name : List ℕ) (id : ℕ) → name ≢ snapshot_name id → snapshot_file name ≢ snapshot_path id
+origin-other name id other e = other (append_cancel_left (codes "snapshot/") name (snapshot_name id) e)
 
 -- ---- an actor's own files
 

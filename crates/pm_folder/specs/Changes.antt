@@ -1,11 +1,18 @@
 -- The kinds of change that commands make, whoever makes them.
-use Rattle.std.specs.Prelude.{◌≡◌, ℕ, ◌<◌, ◌^◌, List, [], ◌∷◌, ◌++◌, All, length, codes, Some, None, decimal}
+use Rattle.std.specs.Prelude.{◌≡◌, ◌≢◌, ℕ, suc, ◌<◌, ◌≤◌, ◌^◌, ℤ, List, [], ◌∷◌, ◌++◌, All, length, codes, Some, None}
+use Rattle.std.specs.Prelude.{decimal}
 use Rattle.std.specs.FinMap as map
+use Rattle.std.specs.List.{AllByRecursion}
 use Rattle.uuid.specs.Text.{hyphenated_text, hyphen, lower}
+use Rattle.pm_values.specs.Names.{Naming, name_of}
 use Rattle.pm_store.specs.Files.{Files, Puts}
-use Rattle.pm_history.specs.History.{History, no_table, table}
+use Rattle.pm_history.specs.History.{Entry, History, append, no_table, table}
+use Rattle.pm_history.specs.Merge.{HistoryRow}
+use Rattle.pm_snapshot.specs.Names.{BasedFile, MayName, greatest, prefix_of, suffix_of}
+use Rattle.pm_folder.specs.Commits.{IsAppend, Names}
+use Rattle.pm_folder.specs.Folder.{IsRowOf}
 use Rattle.pm_folder.specs.Meaning.{SchemaAt, HasSnapshotAt}
-use Rattle.pm_folder.specs.Paths.{schema_path, snapshot_file}
+use Rattle.pm_folder.specs.Paths.{schema_path, snapshot_file, snapshot_path}
 use Rattle.pm_schema.specs.declared.schema.TableSchema.{TableSchema}
 
 -- an actor: the sixteen bytes of its session, and its number in it
@@ -28,15 +35,43 @@ origin_name me =
 abbrev pub IsOwn : Actor → List ℕ → Type 0
 IsOwn me path = path ≡ snapshot_file (origin_name me)
 
+-- the file's name is one that a maker of names with the actor's session and number gives
+pub record IsNamedBy (me : Actor) (path : List ℕ) : Type 0 where
+  pub folder : List ℕ
+  pub file : BasedFile
+  pub names : Naming
+  pub may : MayName names
+  pub session : names.session ≡ me.session
+  pub actor : names.actor ≡ me.number
+  pub is : path ≡ folder ++ 47 ∷ name_of (prefix_of file) (suffix_of file) names
+
+-- what the snapshot after the newest names and that doesn't was named by the actor
+abbrev pub NamesOwn : Actor → Files → Files → TableSchema → ℕ → Type 0
+NamesOwn me f after s newest =
+    (path : List ℕ) → Names after s (suc newest) path → (Names f s newest path → ⊥) → IsNamedBy me path
+
+-- the path isn't that of the origin that the table's schema names
+abbrev pub IsNoOrigin : History → List ℕ → Type 0
+IsNoOrigin no_table path = Unit {0}
+IsNoOrigin (table s entries) path = (name : List ℕ) → s.origin ≡ Some name → snapshot_file name ≢ path
+
 -- What an actor may change of a folder that stands for a history, and the history that it stands for then.
 pub data Change (me : Actor) (f : Files) : History → Files → History → Type 0 where
   -- no path has another content
   nothing : {h : History} {after : Files} → ((path : List ℕ) → map.get after path ≡ map.get f path)
       → Change me f h after h
-  -- a file of the actor's own appears where there was none, whole or in part
-  own_file : {h : History} {after : Files} (path content : List ℕ) → IsOwn me path → map.get f path ≡ None
-      → Puts f path (Some content) after → Change me f h after h
+  -- a file of the actor's own appears where there was none, whole or in part; the table's origin doesn't come again
+  own_file : {h : History} {after : Files} (path content : List ℕ) → IsOwn me path → IsNoOrigin h path
+      → map.get f path ≡ None → Puts f path (Some content) after → Change me f h after h
   -- the schema of a new table appears, whole, once its origin is there
   schema : {after : Files} (s : TableSchema) (bytes : List ℕ) → HasSnapshotAt f s 0
       → Puts f (schema_path 0) (Some bytes) after → SchemaAt after 0 s
       → Change me f no_table after (table s [])
+  -- the snapshot after the newest appears, whole, while that stands, and appends rows to the history; its new files are
+  -- the actor's own
+  appended : {after : Files} (s : TableSchema) (entries : List Entry) (user : List ℕ) (identifier : ℤ)
+      (rows : List HistoryRow) (bytes : List ℕ) → HasSnapshotAt f s (length entries) → suc (length entries) ≤ greatest
+      → map.get f (snapshot_path (suc (length entries))) ≡ None
+      → Puts f (snapshot_path (suc (length entries))) (Some bytes) after → AllByRecursion (IsRowOf s) rows
+      → IsAppend f after s entries (append user identifier rows) → NamesOwn me f after s (length entries)
+      → Change me f (table s entries) after (table s (entries ++ append user identifier rows ∷ []))

@@ -36,3 +36,7 @@ tag_path name = codes "tag/tag-" ++ name
 
 abbrev pub changelog_path : ℕ → List ℕ
 changelog_path id = codes "changelog/changelog-" ++ decimal id
+
+-- the floor with a number: an expiry of the snapshots below it was announced
+abbrev pub floor_path : ℕ → List ℕ
+floor_path n = codes "floor/" ++ names.floor_name n

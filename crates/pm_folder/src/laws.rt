@@ -8,15 +8,20 @@ ghost use Rattle.pm_schema.specs.declared.schema.TableSchema.{TableSchema};
 ghost use Rattle.pm_snapshot.specs.Names.{greatest};
 ghost use Rattle.pm_folder.specs.Changes.{Actor, Change, IsActor, IsOwn};
 ghost use Rattle.pm_folder.specs.Folder.{Folder};
+ghost use Rattle.pm_folder.specs.Ledger.{Advances, Past, Stands};
 ghost use Rattle.pm_folder.specs.Paths.{schema_folder, schema_name};
 
+use pm_contents::one_contents_law;
 use pm_values::names_law;
 
 /// Each kind of change, whoever makes it, leads to a folder that stands for the history with that change.
 pub fn kept_law()
     ensures { (me : Actor) (f after : Files) (h later : History) → Folder f h → Change me f h after later
         → Folder after later }
-{}
+{
+    pm_contents::kept_law();
+    one_contents_law();
+}
 
 /// And the history goes on as that one.
 pub fn goes_on_law()
@@ -46,3 +51,17 @@ pub fn listed_law()
         → Folder f (table s entries) → IsListing schema_folder names f
         → (id : ℕ) → id ≤ greatest → Contains names (schema_name id) ↔ (id ≡ 0) }
 {}
+
+/// A folder that is found has a past, in which each snapshot that is there stands as it is. What stands for a past
+/// stands for its history.
+pub fn found_law()
+    ensures { (f : Files) (h : History) → Folder f h → (p : Past) × (p.history ≡ h) × Stands f p }
+{}
+
+/// Each kind of change keeps what is known of the snapshots, those that are gone among them.
+pub fn past_law()
+    ensures { (me : Actor) (f after : Files) (p q : Past) → Stands f p → Advances me f p after q → Stands after q }
+{
+    pm_contents::kept_law();
+    one_contents_law();
+}

@@ -11,7 +11,7 @@ use Rattle.pm_store.specs.declared.call.Call.TheVariants as calls
 use Rattle.pm_store.specs.declared.call.Effect.{Effect}
 use Rattle.pm_store.specs.declared.call.Effect.TheVariants as effects
 use Rattle.pm_store.specs.Answers.{Answers, MayAnswer}
-use Rattle.pm_store.specs.Files.{Files, after_effect, carried}
+use Rattle.pm_store.specs.Files.{Files, IsListing, after_effect, carried}
 use Rattle.pm_store.specs.Images.{MayLeave}
 use Rattle.pm_machine.specs.Moves.{Changes, Leads, Sound}
 use Rattle.pm_machine.specs.Step.{path_of}
@@ -23,8 +23,10 @@ use Rattle.pm_folder.specs.Changes.{Actor, Change, nothing}
 use Rattle.pm_folder.specs.Folder.{Folder}
 use Rattle.pm_folder.specs.Meaning.{SchemaAt}
 use Rattle.pm_folder.specs.Paths.{schema_folder, schema_name, schema_path, snapshot_folder}
-use Rattle.pm_folder.proofs.Facts.{goes_on, stays, still_there, no-schema, only-schema, listed-none, named-origin}
+use Rattle.pm_folder.proofs.Facts.{goes_on, stays, still_there, no-schema, only-schema, listed-none, snapshot-led, unnamed-origin}
 use Rattle.pm_schema.proofs.Facts.{file_faults}
+use Rattle.pm_snapshot.specs.Names.{snapshot_name}
+use Rattle.pm_view.specs.Names.{HasSnapshot}
 use Rattle.pm_view.specs.Meaning.{AreKept, Leaves, Knows, MayRefuse}
 use Rattle.pm_view.specs.Reader.{schemas_call, next_call, calls_left, with_origin, IsReady, Goes, Shown, Refuses, Stops}
 use Rattle.pm_view.specs.Trace.{listed_schemas, read_schema, listed_snapshots, Has, Misreads, MayEnd, at_first, at_schemas, at_schema, at_snapshots, in_schemas, in_schema, in_snapshots, Shows, Did}
@@ -234,14 +236,13 @@ goes_on_to m answer new goes = absurd goes
 
 -- ---- what answers show where the files stand for a history
 
--- a table whose schema names no origin has no such files: without entries it has one
-has_origin : (f : Files) (h : History) (s : TableSchema) → Folder f h → Knows (phases.Snapshots s) f h → ⊥
-has_origin f no_table s folder (is, none) = is
-has_origin f (table t []) s folder (is, none) =
-    let origin = named-origin f t folder in
-    let clash : None ≡ Some origin.0 = sym none ∙ ap (λ (s : TableSchema). s.origin) (sym is) ∙ origin.1 in
-    cc
-has_origin f (table t (e ∷ entries)) s folder known = folder
+-- where a table's schema names no origin, a listing has a snapshot
+lists_some : (f : Files) (h : History) (s : TableSchema) (names : List (List ℕ)) → Folder f h → Knows (phases.Snapshots s) f h
+    → IsListing snapshot_folder names f → HasSnapshot names
+lists_some f no_table s names folder (is, none) listing = absurd is
+lists_some f (table t entries) s names folder (is, none) listing =
+    let at = unnamed-origin f t entries folder (ap (λ (s : TableSchema). s.origin) is ∙ none) in
+    (at.0, at.1, at.2, (listing.exact (snapshot_name at.0)).1 (snapshot-led f at.0 at.2 at.3))
 
 pub cause_at : (m : Phase) (answer : Answer) (refusal : Refusal) (f : Files) (h : History) → Folder f h → Knows m f h → Shown m answer refusal
     → IfSome (next_call m) (λ call. Answers call answer f → MayRefuse h refusal)
@@ -253,7 +254,7 @@ cause_at (phases.Schema id) (answers.Found None) refusal f h folder known (inr i
 cause_at (phases.Schema id) (answers.Found (Some bytes)) refusal f h folder known (inl is) = λ told. subst (MayRefuse h) (sym is) tt
 cause_at (phases.Schema id) (answers.Found (Some bytes)) refusal f h folder known (inr is) = λ told.
     absurd (let at = schema_reads f h id bytes folder known told in let clash : Ok at.0 ≡ Err refusal = sym at.1 ∙ is in cc)
-cause_at (phases.Snapshots s) (answers.Listed names) refusal f h folder known shown = λ told. absurd (has_origin f h s folder known)
+cause_at (phases.Snapshots s) (answers.Listed names) refusal f h folder known (is, none) = λ told. absurd (none (lists_some f h s names.items folder known told))
 cause_at m answer refusal f h folder known shown = absurd shown
 
 -- ---- laws

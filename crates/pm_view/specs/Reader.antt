@@ -6,6 +6,7 @@ use Rattle.pm_store.specs.declared.answer.Answer.{Answer}
 use Rattle.pm_store.specs.declared.answer.Answer.TheVariants as answers
 use Rattle.pm_store.specs.declared.call.Call.{Call}
 use Rattle.pm_store.specs.declared.call.Call.TheVariants as calls
+use Rattle.pm_schema.specs.Again.{IsDeclared}
 use Rattle.pm_schema.specs.Reading.{schema_of}
 use Rattle.pm_schema.specs.declared.schema.TableSchema.{TableSchema}
 use Rattle.pm_folder.specs.Paths.{schema_folder, schema_path, snapshot_folder}
@@ -47,6 +48,12 @@ calls_left phases.Over = 0
 abbrev pub IsReady : Phase → Type 0
 IsReady (phases.Ready s) = Unit {0}
 IsReady other = ⊥
+
+-- a schema that was read is one that a file declares
+abbrev pub HasDeclared : Phase → Type 0
+HasDeclared (phases.Snapshots s) = IsDeclared s
+HasDeclared (phases.Ready s) = IsDeclared s
+HasDeclared other = Unit {0}
 
 -- ---- what answers lead to
 

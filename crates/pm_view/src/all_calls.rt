@@ -1,6 +1,8 @@
 //! All calls of a reader, one after another.
 
+ghost use Rattle.std.specs.Prelude.{IfOk};
 ghost use Rattle.pm_machine.specs.Trace.{HasTrace};
+ghost use Rattle.pm_schema.specs.Again.{IsDeclared};
 ghost use Rattle.pm_store.specs.Store.{IsLater};
 ghost use Rattle.pm_view.specs.AllCalls.{DidRead, ReadsTables};
 
@@ -14,6 +16,7 @@ use std::alloc::Global;
 pub fn read_table_schema<F: FileStore>(alloc: Global, store: &mut F) -> Result<TableSchema, Refusal>
     ensures trace { HasTrace (DidRead result) (F.seen store.old) (F.seen store.new) }
     ensures history { ReadsTables (F.seen store.old) (F.seen store.new) result }
+    ensures declared { IfOk result IsDeclared }
     ensures later { IsLater (F.seen store.old) (F.seen store.new) }
 {
     make_calls(alloc, store)
@@ -22,6 +25,7 @@ pub fn read_table_schema<F: FileStore>(alloc: Global, store: &mut F) -> Result<T
 /// Makes the calls up to the schema, or those up to a refusal.
 fn make_calls<F: FileStore>(alloc: Global, store: &mut F) -> Result<TableSchema, Refusal>
     ensures trace { HasTrace (DidRead result) (F.seen store.old) (F.seen store.new) }
+    ensures declared { IfOk result IsDeclared }
     ensures later { IsLater (F.seen store.old) (F.seen store.new) }
 {
     let mut reader = SchemaReader::new();

@@ -2,10 +2,11 @@
 
 ghost use Rattle.std.specs.Prelude.{◌≡◌, ◌⊎◌, [], codes, IfOk, IfErr, IsSomeAnd};
 ghost use Rattle.pm_folder.specs.Paths.{schema_path};
+ghost use Rattle.pm_schema.specs.Again.{IsDeclared};
 ghost use Rattle.pm_store.specs.Answers.{MayAnswer};
 ghost use Rattle.pm_store.specs.declared.answer.Answer.TheVariants as answers;
 ghost use Rattle.pm_values.specs.declared.refusal.Refusal.TheVariants as refusals;
-ghost use Rattle.pm_view.specs.Reader.{next_call, with_origin, Goes, Shown};
+ghost use Rattle.pm_view.specs.Reader.{next_call, with_origin, Goes, HasDeclared, Shown};
 ghost use Rattle.pm_view.specs.declared.phase.Phase.TheVariants as phases;
 
 use crate::names::{lists_snapshot, newest_schema, schema_path};
@@ -13,7 +14,7 @@ use crate::phase::Phase;
 use crate::reader::SchemaReader;
 use pm_base::{Blob, Txt};
 use pm_machine::{Machine, Meaning};
-use pm_schema::{TableSchema, read_schema};
+use pm_schema::{TableSchema, declared_law, read_schema, schema_law};
 use pm_store::{Answer, Call};
 use pm_values::Refusal;
 use std::alloc::{AllocError, Global};
@@ -60,7 +61,9 @@ impl Machine for SchemaReader {
 /// The phase after an answer, or the refusal that it shows.
 fn next_phase(alloc: Global, phase: Phase, answer: Answer) -> Result<Phase, Refusal>
     requires may { IsSomeAnd (next_call phase) (λ call. MayAnswer call answer) }
+    requires declared { HasDeclared phase }
     ensures goes { IfOk result (Goes phase answer) }
+    ensures declared { IfOk result HasDeclared }
     ensures refuses { IfErr result (Shown phase answer) }
 {
     match (phase, answer) {
@@ -76,6 +79,7 @@ fn next_phase(alloc: Global, phase: Phase, answer: Answer) -> Result<Phase, Refu
 /// The phase once the schemas were listed.
 fn after_schemas(names: Vec<Txt>) -> Result<Phase, Refusal>
     ensures goes { IfOk result (Goes phases.Schemas (answers.Listed names)) }
+    ensures declared { IfOk result HasDeclared }
     ensures refuses { IfErr result (Shown phases.Schemas (answers.Listed names)) }
 {
     match newest_schema(names.as_slice()) {
@@ -87,8 +91,11 @@ fn after_schemas(names: Vec<Txt>) -> Result<Phase, Refusal>
 /// The phase once this was found at the path of the schema with an id.
 fn after_schema(alloc: Global, id: u64, found: Option<Blob>) -> Result<Phase, Refusal>
     ensures goes { IfOk result (Goes (phases.Schema id) (answers.Found found)) }
+    ensures declared { IfOk result HasDeclared }
     ensures refuses { IfErr result (Shown (phases.Schema id) (answers.Found found)) }
 {
+    schema_law();
+    declared_law();
     let path = match schema_path(alloc, id) {
         Ok(path) => path,
         Err(_) => return Err(Refusal::Memory),
@@ -104,7 +111,9 @@ fn after_schema(alloc: Global, id: u64, found: Option<Blob>) -> Result<Phase, Re
 
 /// The phase once this schema was read.
 fn with_origin(schema: TableSchema) -> Phase
-    ensures { result ≡ with_origin schema.origin schema }
+    requires { IsDeclared schema }
+    ensures phase { result ≡ with_origin schema.origin schema }
+    ensures declared { HasDeclared result }
 {
     match schema.origin {
         Some(_) => Phase::Ready { schema },
@@ -114,7 +123,9 @@ fn with_origin(schema: TableSchema) -> Phase
 
 /// The phase once the snapshots of a table were listed whose schema names no origin.
 fn after_snapshots(alloc: Global, schema: TableSchema, names: Vec<Txt>) -> Result<Phase, Refusal>
+    requires { IsDeclared schema }
     ensures goes { IfOk result (Goes (phases.Snapshots schema) (answers.Listed names)) }
+    ensures declared { IfOk result HasDeclared }
     ensures refuses { IfErr result (Shown (phases.Snapshots schema) (answers.Listed names)) }
 {
     if lists_snapshot(names.as_slice()) {

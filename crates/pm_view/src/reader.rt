@@ -1,6 +1,7 @@
 //! The reader of a table's schema.
 
 ghost use Rattle.std.specs.Prelude.{◌≡◌, ◌↔◌, ◌<◌, IfOk, OnOk, OnErr, IsTrue};
+ghost use Rattle.pm_schema.specs.Again.{IsDeclared};
 ghost use Rattle.pm_store.specs.Store.{IsLater};
 ghost use Rattle.pm_view.specs.Meaning.{ReaderMoved};
 ghost use Rattle.pm_view.specs.Reader.{calls_left, reached_at, IsReady, Reaches};
@@ -29,11 +30,14 @@ pub struct SchemaReader {
 }
 
 impl Model for SchemaReader {
+    ghost use Rattle.pm_view.specs.Reader.{HasDeclared};
     ghost use Rattle.pm_view.specs.declared.phase.Phase.{Phase};
 
     ghost Value = { Phase };
 
     ghost view = { λ r. r.phase };
+
+    ghost invariant = { λ r. HasDeclared r.phase };
 }
 
 impl SchemaReader {
@@ -56,7 +60,8 @@ impl SchemaReader {
     /// The schema, once it is ready.
     pub fn into_schema(self) -> TableSchema
         requires { IsReady self }
-        ensures { self ≡ phases.Ready result }
+        ensures schema { self ≡ phases.Ready result }
+        ensures declared { IsDeclared result }
     {
         let SchemaReader { phase } = self;
         match phase {

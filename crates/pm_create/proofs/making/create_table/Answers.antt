@@ -4,4 +4,4 @@ use Rattle.pm_create.proofs.making.create_table.Goals as goal
 pub returns-clause-history : goal.returns-clause-history
 returns-clause-history g c =
     let seen = g.F.FileStore.seen in
-    made_history c.args.creator c.make_calls.ensures.is_creator c.make_calls.result (seen c.args.store.now) (seen c.make_calls.new.store) c.make_calls.ensures.trace
+    made_history c.kept_law.ensures c.args.creator c.make_calls.ensures.is_creator c.make_calls.result (seen c.args.store.now) (seen c.make_calls.new.store) c.make_calls.ensures.trace
