@@ -6,7 +6,7 @@ use Rattle.pm_values.specs.declared.refusal.Refusal.{Refusal}
 use Rattle.pm_run.specs.declared.row_reader.RowsRead.{RowsRead}
 use Rattle.pm_run.specs.Finding.{ReadsBlock}
 use Rattle.pm_run.specs.Order.{last_key}
-use Rattle.pm_run.specs.Reader.{Appends, MayNotAppend, UnlessMemory}
+use Rattle.pm_run.specs.Reader.{Appends, MayNotAppend}
 use Rattle.pm_run.specs.Rows.{Follow, Judged, Opened, all_judged, judged, placed, then_refused}
 use Rattle.pm_run.proofs.FollowLemmas.{follow_block, follow_end, follow_none, follow_refused, unless_memory, unless_then}
 
@@ -41,26 +41,35 @@ module _ (o : Opened) (offset : ℕ) (old rows : List Stamped) (put : IsPut o of
             (subst (λ (key : Option Values). Follow o found.1 key later end) (last-joined None rows own) f)));
       }
 
+  -- what was put so far, and nothing more
+  put-all : rows ≡ old ++ (put.middle ++ [])
+  put-all = put.joined ∙ ap (λ (xs : List Stamped). old ++ xs) (sym (append-nil put.middle))
+
   -- a block of which a row is refused
-  pub put-refused : (found : RowsRead × ℕ) (e : Refusal) → ReadsBlock o offset (last_key None rows) (Ok (Some found)) → found.0.refusal ≡ Some e
-      → MayNotAppend o old e
-  put-refused found e (ds, block, is) refused =
+  pub put-refused : (found : RowsRead × ℕ) (after : List Stamped) (e : Refusal) → ReadsBlock o offset (last_key None rows) (Ok (Some found))
+      → found.0.refusal ≡ Some e → after ≡ rows ++ found.0.rows.items → MayNotAppend o old after e
+  put-refused found after e (ds, block, is) refused joined =
       let own : List Stamped = found.0.rows.items in
-      let part : judged o (last_key None rows) (placed offset ds) ≡ then_refused own e = is ∙ judged-as own found.0.refusal (Some e) refused in
-      unless_memory e _ (put.middle ++ own, put.follow own (Some e) (follow_refused o offset (last_key None rows) ds found.1 block own e part))
+      let part : judged o (last_key None rows) (placed offset ds) ≡ then_refused own e = is ∙ judged-as own found.0.refusal (Some e) refused in (
+        put.middle ++ own,
+        joined ∙ ap (λ (xs : List Stamped). xs ++ own) put.joined ∙ append_assoc old put.middle own,
+        unless_memory e _ (put.follow own (Some e) (follow_refused o offset (last_key None rows) ds found.1 block own e part)),
+      )
 
   -- no block
-  pub put-stopped : (e : Refusal) → ReadsBlock o offset (last_key None rows) (Err e) → MayNotAppend o old e
-  put-stopped e read = unless_then e _ _ (λ stops. (
+  pub put-stopped : (e : Refusal) → ReadsBlock o offset (last_key None rows) (Err e) → MayNotAppend o old rows e
+  put-stopped e read = (
     put.middle ++ [],
-    put.follow [] (Some e)
-        (subst (λ (e : Refusal). Follow o offset (last_key None rows) [] (Some e)) (sym stops.0) (follow_none o offset (last_key None rows) stops.1)),
-  )) read
+    put-all,
+    unless_then e _ _ (λ stops.
+        put.follow [] (Some e)
+        (subst (λ (e : Refusal). Follow o offset (last_key None rows) [] (Some e)) (sym stops.0) (follow_none o offset (last_key None rows) stops.1))) read,
+  )
 
   -- the end of the file
   pub put-end : offset ≡ length o.file.bytes → Appends o old rows
   put-end end = (
     put.middle ++ [],
-    put.joined ∙ ap (λ (xs : List Stamped). old ++ xs) (sym (append-nil put.middle)),
+    put-all,
     put.follow [] None (follow_end o offset (last_key None rows) end),
   )

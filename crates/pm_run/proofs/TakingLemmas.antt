@@ -1,11 +1,14 @@
 -- Values that are taken one after another.
-use Rattle.std.proofs.Common.{◌≡◌, ℕ, suc, ◌&&◌, List, [], ◌∷◌, ◌++◌, length, Option, None, Some, Bool, true, false, Result, Ok, Err, refl, sym, ap, append_assoc}
+use Rattle.std.proofs.Common.{◌≡◌, ℕ, suc, ◌&&◌, List, [], ◌∷◌, ◌++◌, length, Option, None, Some, Bool, true, false, Result, Ok, Err, refl, sym, ap, append_assoc, ◌∙◌}
 use Rattle.std.specs.Ordering.{is_eq}
+use Rattle.std.specs.Cmp.{Equal-is}
+use Rattle.std.proofs.lemmas.Bool.{and_parts}
 use Rattle.pm_base.specs.Outcome.{◌>>=◌, Fails}
 use Rattle.pm_avro_data.specs.Datum.{Data}
 use Rattle.pm_values.specs.Order.{Values, value_cmp}
 use Rattle.pm_values.specs.declared.value.Value.{Value}
-use Rattle.pm_history.specs.Merge.{value_at}
+use Rattle.pm_values.proofs.Lemmas.{value_cmp-IsAntisymmetric}
+use Rattle.pm_history.specs.Merge.{key_of, value_at}
 use Rattle.pm_record.specs.declared.misfit.Misfit.{Misfit}
 use Rattle.pm_run.specs.declared.slot.Slot.{Slot}
 use Rattle.pm_run.specs.Row.{agree, value_in, values_in}
@@ -45,3 +48,18 @@ agree-many (i ∷ places) row (value ∷ values) many = by_first (is_eq (value_c
     by_first : (b : Bool) → false ≡ agree places row values → false ≡ (b && agree places row values)
     by_first true e = e
     by_first false e = refl
+
+-- values that agree with the row's are the key of the row
+pub agreed_keys : (places : List ℕ) (row values : Values) → agree places row values ≡ true → values ≡ key_of places row
+agreed_keys [] row [] e = refl
+agreed_keys [] row (value ∷ values) e = cc
+agreed_keys (i ∷ places) row [] e = cc
+agreed_keys (i ∷ places) row (value ∷ values) e =
+    let both = and_parts (is_eq (value_cmp value (value_at row i))) (agree places row values) e in
+    let first = value_cmp-IsAntisymmetric value (value_at row i) ((Equal-is (value_cmp value (value_at row i))).0 both.0) in
+    let later = agreed_keys places row values both.1 in
+    ap (λ (v : Value). v ∷ values) first ∙ ap (λ (vs : Values). value_at row i ∷ vs) later
+
+-- so values that agree at the indexes of the whole key are the key
+pub whole_key : (places primary : List ℕ) (row values : Values) → places ≡ primary → agree places row values ≡ true → values ≡ key_of primary row
+whole_key places primary row values same e = rw (sym same) (agreed_keys places row values e)

@@ -93,7 +93,7 @@ abbrev pub Appends : Opened → List Stamped → List Stamped → Type 0
 Appends o before after = (more : List Stamped) × (after ≡ before ++ more)
     × Follow o o.file.first (last_key None before) more None
 
--- why they weren't: this refusal comes after some of them
-abbrev pub MayNotAppend : Opened → List Stamped → Refusal → Type 0
-MayNotAppend o before e =
-    UnlessMemory e ((more : List Stamped) × Follow o o.file.first (last_key None before) more (Some e))
+-- why not all were: some of them were put to those before, and this refusal comes after these
+abbrev pub MayNotAppend : Opened → List Stamped → List Stamped → Refusal → Type 0
+MayNotAppend o before after e = (more : List Stamped) × (after ≡ before ++ more)
+    × UnlessMemory e (Follow o o.file.first (last_key None before) more (Some e))

@@ -174,10 +174,10 @@ impl RunReader {
     }
 
     /// Adds all rows of the file to those of the files before it in its run, the last of which the first has to follow.
-    /// Refusals are those of `next`; nothing is said of the rows after one.
+    /// Refusals are those of `next`; the rows that come before one were added.
     pub fn append_rows(&self, alloc: Global, rows: &mut Vec<Stamped>) -> Result<(), Refusal>
         ensures appends { OnOk result (Appends self.now.opened rows.old.items rows.new.items) }
-        ensures refuses { IfErr result (MayNotAppend self.now.opened rows.old.items) }
+        ensures refuses { IfErr result (MayNotAppend self.now.opened rows.old.items rows.new.items) }
     {
         append_rows(alloc, self.path.as_str(), &self.rows, &self.file, rows)
     }
@@ -286,7 +286,8 @@ fn append_rows(
     ensures appends { OnOk result
         (Appends (opened_as path.now reader.now.form reader.now.changes file.now) rows.old.items rows.new.items) }
     ensures refuses { IfErr result
-        (MayNotAppend (opened_as path.now reader.now.form reader.now.changes file.now) rows.old.items) }
+        (MayNotAppend (opened_as path.now reader.now.form reader.now.changes file.now) rows.old.items
+        rows.new.items) }
 {
     let mut offset = file.first();
     while let Some((read, after)) = read_after(alloc, path, reader, file, offset, rows)? {

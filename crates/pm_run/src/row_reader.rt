@@ -1,6 +1,6 @@
 //! Rows that are read of the records of a file.
 
-ghost use Rattle.std.specs.Prelude.{◌≡◌, Some, IfOk, map};
+ghost use Rattle.std.specs.Prelude.{◌≡◌, Some, IfOk, map, true};
 ghost use Rattle.std.specs.Option.{option_copied};
 ghost use Rattle.std.specs.List.{AllByRecursion};
 ghost use Rattle.std.specs.Ordering.{is_eq};
@@ -164,11 +164,29 @@ impl RowReader {
         let kind = row_kind(alloc, self.changes, self.form.engine, kind)?;
         let row = Row::new(row);
         Ok(Stamped {
-            key: key_of(alloc, &self.form.primary, &row)?,
+            key: own_key(alloc, &self.form, &row, keys)?,
             seq,
             kind,
             row,
         })
+    }
+}
+
+/// The key of a row that has these values at the indexes of the key's own columns. Where the key has no other columns
+/// they are moved.
+fn own_key(
+    alloc: Global,
+    form: &TableForm,
+    row: &Row,
+    values: Vec<Value>,
+) -> Result<Key, AllocError>
+    requires { agree form.now.places row.now values.items ≡ true }
+    ensures { IfOk result (λ key. key ≡ key_of form.now.primary row.now) }
+{
+    if form.places.as_slice() == form.primary.as_slice() {
+        Ok(Key::new(values))
+    } else {
+        key_of(alloc, &form.primary, row)
     }
 }
 

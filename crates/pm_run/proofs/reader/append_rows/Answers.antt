@@ -24,8 +24,8 @@ pub returns-in-Some-refusal-clause-refuses : goal.returns-in-Some-refusal-clause
 returns-in-Some-refusal-clause-refuses c =
     let o = opened_as c.args.path.now c.args.reader.now.form c.args.reader.now.changes c.args.file.now in
     let got = rw (c.in-Some.is, c.deref.ensures.value) at c.in_ok-read.ensures in
-    put-refused o c.loop-read.offset c.args.rows.now.items c.loop-read.rows.items c.loop-read.invariant.put (c.in-Some.read, c.in-Some.after) c.in-Some-refusal.refusal got
-    c.in-Some-refusal.is
+    put-refused o c.loop-read.offset c.args.rows.now.items c.loop-read.rows.items c.loop-read.invariant.put (c.in-Some.read, c.in-Some.after) _ c.in-Some-refusal.refusal got
+    c.in-Some-refusal.is c.in_ok-append.ensures.items
 
 pub loop-read-smaller : goal.loop-read-smaller
 loop-read-smaller c =
