@@ -1,0 +1,60 @@
+-- The rows that are taken of lines, one line after another.
+use Rattle.std.proofs.Common.{◌≡◌, ◌≢◌, ℕ, ◌+◌, ◌-◌, ◌<◌, ◌==◌, List, [], ◌∷◌, ◌++◌, length, map, drop, get_or, Bool, false, cond, Option, Some, None, Result, Ok, Err, refl, sym, ap, ◌∙◌, append_assoc, arith}
+use Rattle.std.proofs.lemmas.Bool.Decides.{nat_tests}
+use Rattle.std.proofs.lemmas.List.{at_drop_more}
+use Rattle.pm_base.specs.Outcome.{◌>>=◌, Fails}
+use Rattle.pm_values.specs.declared.record.Stamped.{Stamped}
+use Rattle.pm_values.specs.declared.refusal.Refusal.{Refusal}
+use Rattle.pm_history.specs.Merge.{HistoryRow}
+use Rattle.pm_schema.specs.declared.schema.TableSchema.{TableSchema}
+use Rattle.pm_input.specs.Lines.{line_view}
+use Rattle.pm_input.specs.declared.lines.InputLine.{InputLine}
+use Rattle.pm_run.specs.Writing.{CountFrom}
+use Rattle.pm_write.specs.Taken.{no_room, refusal_in, taken_at, taken_in, taken_of, with_taken}
+
+-- what is taken of a line, and then of the later ones
+abbrev and_later : Result (List HistoryRow) Refusal → Result (List HistoryRow) Refusal → Result (List HistoryRow) Refusal
+and_later first later = first >>= (λ (f : List HistoryRow). later >>= (λ (l : List HistoryRow). Ok (f ++ l)))
+
+-- a line that is refused ends the reading
+refused : (fault : Option Refusal) (before : List HistoryRow) (first later all : Result (List HistoryRow) Refusal) → Fails fault (with_taken before first) → with_taken before (and_later first later) ≡ all → Fails fault all
+refused None before first later all fails same = tt
+refused (Some e) before (Ok f) later all fails same = cc
+refused (Some e) before (Err r) later all fails same = sym same ∙ fails
+
+-- what is taken from a line on, where there is room
+taken_here : (s : TableSchema) (room : ℕ) (lines : List InputLine) (i : ℕ) (line : InputLine) → i < length lines → line ≡ get_or lines i line → room ≢ 0
+    → taken_in s room (map line_view (drop i lines)) ≡ and_later (taken_of s (line_view line)) (taken_in s (room - 1) (map line_view (drop (i + 1) lines)))
+taken_here s room lines i line inside is some =
+    let later = taken_in s (room - 1) (map line_view (drop (i + 1) lines)) in
+    let test : (room == 0) ≡ false = grind (arith, nat_tests) in
+    at_drop_more (λ (ls : List InputLine). taken_in s room (map line_view ls)) lines i line inside
+    ∙ ap (λ (l : InputLine). and_later (taken_at s room (line_view l)) later) (sym is)
+    ∙ ap (λ (b : Bool). and_later (cond b (Err no_room) (taken_of s (line_view line))) later) test
+
+pub refused_here : (s : TableSchema) (room : ℕ) (lines : List InputLine) (i : ℕ) (line : InputLine) (before : List HistoryRow) (all : Result (List HistoryRow) Refusal) (e : Refusal)
+    → i < length lines → line ≡ get_or lines i line → room ≢ 0 → Fails (refusal_in e) (with_taken before (taken_of s (line_view line)))
+    → with_taken before (taken_in s room (map line_view (drop i lines))) ≡ all → Fails (refusal_in e) all
+refused_here s room lines i line before all e inside is some fails same =
+    refused (refusal_in e) before (taken_of s (line_view line)) (taken_in s (room - 1) (map line_view (drop (i + 1) lines))) all fails
+    (ap (with_taken before) (sym (taken_here s room lines i line inside is some)) ∙ same)
+
+-- a line that isn't, and then the later ones
+with_taken-step : (before now : List HistoryRow) (first later : Result (List HistoryRow) Refusal) → with_taken before first ≡ Ok now → with_taken before (and_later first later) ≡ with_taken now later
+with_taken-step before now (Ok f) (Ok l) e =
+    let same : before ++ f ≡ now = cc in
+    ap Ok (sym (append_assoc before f l) ∙ ap (λ (xs : List HistoryRow). xs ++ l) same)
+with_taken-step before now (Ok f) (Err r) e = refl
+with_taken-step before now (Err r) later e = cc
+
+pub taken_more : (s : TableSchema) (room : ℕ) (lines : List InputLine) (i : ℕ) (line : InputLine) (before now : List HistoryRow) (all : Result (List HistoryRow) Refusal)
+    → i < length lines → line ≡ get_or lines i line → room ≢ 0 → with_taken before (taken_of s (line_view line)) ≡ Ok now
+    → with_taken before (taken_in s room (map line_view (drop i lines))) ≡ all → with_taken now (taken_in s (room - 1) (map line_view (drop (i + 1) lines))) ≡ all
+taken_more s room lines i line before now all inside is some step same =
+    let later = taken_in s (room - 1) (map line_view (drop (i + 1) lines)) in
+    sym (with_taken-step before now (taken_of s (line_view line)) later step) ∙ ap (with_taken before) (sym (taken_here s room lines i line inside is some)) ∙ same
+
+-- the numbers count on
+pub CountFrom-push : (n : ℕ) (xs : List Stamped) (x : Stamped) → CountFrom n xs → x.seq ≡ n + length xs → CountFrom n (xs ++ x ∷ [])
+CountFrom-push n [] x counts e = (omega arith, tt)
+CountFrom-push n (y ∷ ys) x counts e = (counts.0, CountFrom-push (n + 1) ys x counts.1 (omega arith))

@@ -1,0 +1,4 @@
+pub mod Batch
+pub mod Files
+pub mod Held
+pub mod Taken

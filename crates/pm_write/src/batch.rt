@@ -1,0 +1,148 @@
+//! The rows of a batch.
+
+ghost use Rattle.std.specs.Prelude.{◌≡◌, ◌↔◌, ◌+◌, ◌≤◌, ◌^◌, [], length, map, false, true, IfErr, IfOk, IsTrue, OnOk};
+ghost use Rattle.std.specs.List.{AllByRecursion};
+ghost use Rattle.pm_values.specs.declared.refusal.Refusal.TheVariants.{Memory};
+ghost use Rattle.pm_options.specs.declared.kinds.Producer.TheVariants as producers;
+ghost use Rattle.pm_engine.specs.Covers.{row_of};
+ghost use Rattle.pm_engines.specs.TableEngine.{schema_of};
+ghost use Rattle.pm_input.specs.Lines.{line_view};
+ghost use Rattle.pm_run.specs.Writing.{CountFrom};
+ghost use Rattle.pm_write.specs.Batch.{AreRowsOf, IsBatchOf, ReadsBatch};
+ghost use Rattle.pm_write.specs.Files.{exceeds, AreNewFiles, RefusesFiles};
+ghost use Rattle.pm_write.specs.Held.{group_rows, only_group, IsHeld};
+ghost use Rattle.pm_write.specs.Taken.{all_taken, IsTakenRow};
+
+use crate::files::{NewFile, exceeds, no_sequence, write_groups};
+use crate::held::HeldRows;
+use crate::taken::taken_rows;
+use pm_engine::reduce;
+use pm_engines::TableEngine;
+use pm_input::InputLine;
+use pm_schema::TableSchema;
+use pm_values::{Group, Names, Refusal, Row, Stamped};
+use std::alloc::{AllocError, Global};
+use std::collections::BTreeMap;
+use std::marker::Model;
+
+/// The rows that a table took of a batch, by rising group. They are seen with numbers that count each group's rows from
+/// 0, whatever numbers the last try gave them.
+#[derive(Drop)]
+pub struct Batch {
+    groups: Vec<HeldRows>,
+}
+
+impl Model for Batch {
+    ghost use Rattle.pm_write.specs.Batch.{Groups};
+    ghost use Rattle.pm_write.specs.Held.{all_groups, AreHeld};
+
+    ghost Value = { Groups };
+
+    ghost view = { λ b. all_groups b.groups.items };
+
+    ghost invariant = { λ b. AreHeld b.groups.items };
+}
+
+impl Batch {
+    /// The rows that the table takes of lines that aren't blank, or the first refusal: a bad line, a row that the
+    /// engine refuses, or a line for which a batch has no room. It takes time linear in the lines, but for the sort by
+    /// key.
+    pub fn read(
+        alloc: Global,
+        schema: &TableSchema,
+        engine: &TableEngine,
+        lines: &[InputLine],
+    ) -> Result<Batch, Refusal>
+        requires bucket { schema.now.options.bucket ≡ 1 }
+        requires partition { schema.now.partition ≡ [] }
+        requires own { schema_of engine.now ≡ schema.now }
+        ensures { ReadsBatch schema.now result (all_taken schema.now (map line_view lines.now)) }
+    {
+        let rows = taken_rows(alloc, schema, engine, lines)?;
+        Ok(of_rows(alloc, engine, rows)?)
+    }
+
+    /// Whether the table took no row.
+    pub fn is_empty(&self) -> bool
+        ensures { IsTrue result ↔ (self.now ≡ []) }
+    {
+        self.groups.is_empty()
+    }
+
+    /// The files of the groups, in their order, whose rows are counted from the groups' next numbers, 0 where a group
+    /// has none. Where this needs a number above the greatest, no file is made and no name is taken.
+    pub fn files(
+        &mut self,
+        alloc: Global,
+        schema: &TableSchema,
+        next: &BTreeMap<Group, u64>,
+        names: &mut Names,
+    ) -> Result<Vec<NewFile>, Refusal>
+        requires producer { schema.now.options.producer ≡ producers.None }
+        requires count { names.old.count + length self.old ≤ 2 ^ 62 }
+        ensures files { IfOk result (λ files.
+            AreNewFiles schema.now next.now names.old self.old files.items) }
+        ensures within { OnOk result (exceeds next.now self.old ≡ false) }
+        ensures refused { IfErr result (RefusesFiles next.now self.old) }
+        ensures kept { self.new ≡ self.old }
+        ensures names { names.new ≡ record names.old { count = names.new.count } }
+        ensures counted { names.old.count ≤ names.new.count }
+        ensures taken { IfOk result (λ files. names.new.count ≡ names.old.count + length files.items) }
+        ensures untaken { exceeds next.now self.old ≡ true → names.new ≡ names.old }
+    {
+        if exceeds(&self.groups, next) {
+            return Err(no_sequence(alloc)?);
+        }
+        write_groups(alloc, schema, &mut self.groups, next, names)
+    }
+}
+
+/// The batch of rows, which are all of one group.
+fn of_rows(alloc: Global, engine: &TableEngine, rows: Vec<Stamped>) -> Result<Batch, AllocError>
+    requires bucket { (schema_of engine.now).options.bucket ≡ 1 }
+    requires partition { (schema_of engine.now).partition ≡ [] }
+    requires taken { AllByRecursion (IsTakenRow (schema_of engine.now)) rows.items }
+    requires numbers { CountFrom 0 rows.items }
+    ensures { IfOk result (IsBatchOf (schema_of engine.now) (map row_of rows.items)) }
+{
+    let mut groups = Vec::new(alloc);
+    if rows.is_empty() {
+        return Ok(Batch { groups });
+    }
+    groups.push(held_rows(alloc, engine, rows)?)?;
+    Ok(Batch { groups })
+}
+
+/// The rows of the one group, of which there are some.
+fn held_rows(
+    alloc: Global,
+    engine: &TableEngine,
+    rows: Vec<Stamped>,
+) -> Result<HeldRows, AllocError>
+    requires some { 1 ≤ length rows.items }
+    requires taken { AllByRecursion (IsTakenRow (schema_of engine.now)) rows.items }
+    requires numbers { CountFrom 0 rows.items }
+    ensures group { IfOk result (λ held. held.group ≡ only_group) }
+    ensures rows { IfOk result (λ held.
+        AreRowsOf (schema_of engine.now) (map row_of rows.items) (group_rows held).1) }
+    ensures held { IfOk result IsHeld }
+{
+    let count = rows.len() as u64;
+    let run = reduce(alloc, engine, rows)?;
+    Ok(HeldRows {
+        group: only_group(alloc),
+        count,
+        first: 0,
+        run,
+    })
+}
+
+/// The group of all rows of a table without partition columns that has one bucket.
+fn only_group(alloc: Global) -> Group
+    ensures { result ≡ only_group }
+{
+    Group {
+        partition: Row::new(Vec::new(alloc)),
+        bucket: 0,
+    }
+}

@@ -1,0 +1,142 @@
+//! The files that the groups of a batch become.
+
+ghost use Rattle.std.specs.Prelude.{◌≡◌, ◌+◌, ◌<◌, ◌≤◌, ◌^◌, false, length, map, All, IfOk, IfErr, OnOk};
+ghost use Rattle.pm_values.specs.Names.{counted, name_of};
+ghost use Rattle.pm_values.specs.declared.refusal.Refusal.TheVariants.{Memory};
+ghost use Rattle.pm_engine.specs.Covers.{IsRising};
+ghost use Rattle.pm_run.specs.Row.{most_sequence};
+ghost use Rattle.pm_write.specs.Batch.{numbered};
+ghost use Rattle.pm_write.specs.Files.{next_of, exceeds, no_sequence, AreNewFiles, IsFileOfRun, IsNewFile};
+ghost use Rattle.pm_write.specs.Held.{all_groups, group_rows, IsHeld};
+
+use crate::held::{HeldRows, count_from};
+use pm_run::{RunFile, write_run};
+use pm_schema::TableSchema;
+use pm_values::{Blob, FileMeta, Group, Names, Refusal, Stamped, Txt};
+use std::alloc::{AllocError, Global};
+use std::collections::BTreeMap;
+
+/// The greatest sequence number.
+const MOST_SEQUENCE: u64 = 4_611_686_018_427_387_903;
+
+/// A file that isn't in the store yet.
+#[derive(Drop)]
+pub struct NewFile {
+    /// The group of its rows.
+    pub group: Group,
+    pub meta: FileMeta,
+    /// Whether it is a changelog file.
+    pub changelog: bool,
+    pub bytes: Blob,
+}
+
+/// The number from which a group's next rows are counted.
+fn next_of(next: &BTreeMap<Group, u64>, group: &Group) -> u64
+    ensures { result ≡ next_of next.now group.now }
+{
+    next.get(group).copied().unwrap_or(0)
+}
+
+/// Whether a group's rows, counted from its next number, need one above the greatest.
+pub(crate) fn exceeds(groups: &[HeldRows], next: &BTreeMap<Group, u64>) -> bool
+    ensures { result ≡ exceeds next.now (all_groups groups.now) }
+{
+    for held in groups {
+        if next_of(next, &held.group).saturating_add(held.count) > MOST_SEQUENCE + 1 {
+            return true;
+        }
+    }
+    false
+}
+
+/// The refusal of rows that need such a number.
+pub(crate) fn no_sequence(alloc: Global) -> Result<Refusal, AllocError>
+    ensures { IfOk result (λ e. e ≡ no_sequence) }
+{
+    Ok(Refusal::Limit {
+        which: Txt::from_str(alloc, "sequence")?,
+        number: MOST_SEQUENCE,
+    })
+}
+
+/// The files of groups, in their order, whose rows are counted from the groups' next numbers.
+pub(crate) fn write_groups(
+    alloc: Global,
+    schema: &TableSchema,
+    groups: &mut [HeldRows],
+    next: &BTreeMap<Group, u64>,
+    names: &mut Names,
+) -> Result<Vec<NewFile>, Refusal>
+    requires held { All IsHeld groups.old }
+    requires within { exceeds next.now (all_groups groups.old) ≡ false }
+    requires count { names.old.count + length groups.old ≤ 2 ^ 62 }
+    ensures files { IfOk result (λ files.
+        AreNewFiles schema.now next.now names.old (all_groups groups.old) files.items) }
+    ensures kept { all_groups groups.new ≡ all_groups groups.old }
+    ensures held { All IsHeld groups.new }
+    ensures names { names.new ≡ record names.old { count = names.new.count } }
+    ensures counted { names.old.count ≤ names.new.count }
+    ensures taken { IfOk result (λ files. names.new.count ≡ names.old.count + length files.items) }
+    ensures memory { IfErr result (λ e. e ≡ Memory) }
+{
+    let mut files = Vec::with_capacity(alloc, groups.len())?;
+    for held in groups.iter_mut() {
+        let first = next_of(next, &held.group);
+        files.push(write_group(alloc, schema, held, first, names)?)?;
+    }
+    Ok(files)
+}
+
+/// The file of a group, whose rows are counted from this number.
+fn write_group(
+    alloc: Global,
+    schema: &TableSchema,
+    held: &mut HeldRows,
+    first: u64,
+    names: &mut Names,
+) -> Result<NewFile, Refusal>
+    requires held { IsHeld held.old }
+    requires within { first + held.old.count ≤ most_sequence + 1 }
+    requires count { names.old.count < 2 ^ 62 }
+    ensures file { IfOk result (IsNewFile schema.now names.old held.old.group
+        (numbered first (group_rows held.old).1.run)) }
+    ensures kept { group_rows held.new ≡ group_rows held.old }
+    ensures held { IsHeld held.new }
+    ensures names { names.new ≡ record names.old { count = names.new.count } }
+    ensures counted { names.old.count ≤ names.new.count }
+    ensures taken { OnOk result (names.new ≡ counted names.old) }
+    ensures memory { IfErr result (λ e. e ≡ Memory) }
+{
+    count_from(held, first);
+    let group = held.group.copy(alloc)?;
+    let RunFile { meta, bytes } = write_file(alloc, schema, &held.run, names)?;
+    Ok(NewFile {
+        group,
+        meta,
+        changelog: false,
+        bytes,
+    })
+}
+
+/// The file of a run.
+fn write_file(
+    alloc: Global,
+    schema: &TableSchema,
+    rows: &[Stamped],
+    names: &mut Names,
+) -> Result<RunFile, Refusal>
+    requires some { 1 ≤ length rows.now }
+    requires rising { IsRising rows.now }
+    requires count { names.old.count < 2 ^ 62 }
+    ensures file { IfOk result (IsFileOfRun schema.now names.old rows.now) }
+    ensures names { names.new ≡ record names.old { count = names.new.count } }
+    ensures counted { names.old.count ≤ names.new.count }
+    ensures taken { OnOk result (names.new ≡ counted names.old) }
+    ensures memory { IfErr result (λ e. e ≡ Memory) }
+{
+    let mut files = write_run(alloc, schema, rows, rows.len(), 0, names)?;
+    match files.pop() {
+        Some(file) => Ok(file),
+        None => unreachable!(),
+    }
+}

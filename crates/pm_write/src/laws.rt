@@ -1,0 +1,37 @@
+//! What holds of all batches and of the files that they become.
+
+ghost use Rattle.std.specs.Prelude.{◌≡◌, ◌↔◌, ℕ, ◌+◌, ◌≤◌, List, [], ◌∷◌, Some, false};
+ghost use Rattle.std.specs.BTreeMap.{BTreeMap};
+ghost use Rattle.pm_values.specs.Names.{Naming};
+ghost use Rattle.pm_values.specs.declared.group.Group.{Group};
+ghost use Rattle.pm_schema.specs.declared.schema.TableSchema.{TableSchema};
+ghost use Rattle.pm_history.specs.Merge.{HistoryRow};
+ghost use Rattle.pm_engine.specs.Covers.{CoversAll};
+ghost use Rattle.pm_engine.specs.OfSchema.{meaning_of};
+ghost use Rattle.pm_following.specs.Groups.{rows_in};
+ghost use Rattle.pm_run.specs.Row.{most_sequence};
+ghost use Rattle.pm_write.specs.Batch.{GroupRows, Groups, IsBatchOf, held_of, numbered};
+ghost use Rattle.pm_write.specs.Files.{exceeds, AreNewFiles, AreWritten, IsNewFile, IsWritten};
+ghost use Rattle.pm_write.specs.declared.files.NewFile.{NewFile as FileView};
+
+/// No rows have the batch without groups, and only they. The run of a group covers the group's rows, whatever number
+/// they are counted from.
+pub fn batch_law()
+    ensures none { (s : TableSchema) → IsBatchOf s [] [] }
+    ensures empty { (s : TableSchema) (rows : List HistoryRow) (batch : Groups) → IsBatchOf s rows batch →
+        (batch ≡ []) ↔ (rows ≡ []) }
+    ensures covers { (s : TableSchema) (rows : List HistoryRow) (batch : Groups) (g : Group) (x : GroupRows) (n : ℕ) →
+        IsBatchOf s rows batch → held_of g batch ≡ Some x →
+        CoversAll (meaning_of s) (numbered n x.run ∷ []) (rows_in s g rows) }
+{}
+
+/// The new file of a group of a batch, whose rows are counted from a number that is small enough, is read as these rows
+/// and tells of them; so are the new files of a batch, where no group's rows need a number above the greatest.
+pub fn written_law()
+    ensures one { (s : TableSchema) (rows : List HistoryRow) (batch : Groups) (g : Group) (x : GroupRows) (n : ℕ)
+        (names : Naming) (file : FileView) → IsBatchOf s rows batch → held_of g batch ≡ Some x →
+        n + x.count ≤ most_sequence + 1 → IsNewFile s names g (numbered n x.run) file → IsWritten s n x file }
+    ensures all { (s : TableSchema) (rows : List HistoryRow) (batch : Groups) (next : BTreeMap Group ℕ)
+        (names : Naming) (files : List FileView) → IsBatchOf s rows batch → exceeds next batch ≡ false →
+        AreNewFiles s next names batch files → AreWritten s next batch files }
+{}

@@ -1,0 +1,121 @@
+//! The rows that a table takes of the lines of a batch.
+
+ghost use Rattle.std.specs.Prelude.{◌≡◌, [], ◌∷◌, ◌++◌, length, map, IfOk, OnOk, Ok};
+ghost use Rattle.std.specs.List.{AllByRecursion};
+ghost use Rattle.pm_base.specs.Outcome.{Gives};
+ghost use Rattle.pm_values.specs.Fits.{Fits};
+ghost use Rattle.pm_history.specs.Merged.{primary_of};
+ghost use Rattle.pm_input.specs.Lines.{line_view};
+ghost use Rattle.pm_engine.specs.Covers.{row_of};
+ghost use Rattle.pm_engines.specs.TableEngine.{schema_of};
+ghost use Rattle.pm_run.specs.Writing.{CountFrom};
+ghost use Rattle.pm_write.specs.Taken.{all_taken, no_room, refusal_in, row_at, taken_by, taken_of};
+ghost use Rattle.pm_write.specs.Taken.{IsTakenRow, stamped, with_taken};
+
+use crate::columns::primary_of;
+use pm_engines::{TableEngine, Verdict};
+use pm_history::key_of;
+use pm_input::{InputLine, LIMITS, LimitKind, read_rows};
+use pm_schema::TableSchema;
+use pm_values::{Column, Kind, Refusal, Row, Stamped, Txt};
+use std::alloc::{AllocError, Global};
+use std::slice;
+
+/// The rows that the table takes of the lines, with their keys, their numbers counted from 0.
+pub(crate) fn taken_rows(
+    alloc: Global,
+    schema: &TableSchema,
+    engine: &TableEngine,
+    lines: &[InputLine],
+) -> Result<Vec<Stamped>, Refusal>
+    requires { schema_of engine.now ≡ schema.now }
+    ensures exact { Gives (λ rows. map row_of rows.items) refusal_in result
+        (all_taken schema.now (map line_view lines.now)) }
+    ensures taken { IfOk result (λ rows. AllByRecursion (IsTakenRow schema.now) rows.items) }
+    ensures numbers { IfOk result (λ rows. CountFrom 0 rows.items) }
+{
+    let primary = primary_of(alloc, schema)?;
+    let mut rows = Vec::new(alloc);
+    let mut room = LIMITS.rows;
+    for line in lines {
+        if room == 0 {
+            return Err(no_room(alloc)?);
+        }
+        take_line(alloc, schema, engine, &primary, line, &mut rows)?;
+        room -= 1;
+    }
+    Ok(rows)
+}
+
+/// The refusal of a line for which a batch has no room.
+fn no_room(alloc: Global) -> Result<Refusal, AllocError>
+    ensures { IfOk result (λ e. e ≡ no_room) }
+{
+    let limit = LimitKind::BatchRows;
+    Ok(Refusal::Limit {
+        which: Txt::from_str(alloc, limit.text())?,
+        number: limit.number(&LIMITS) as u64,
+    })
+}
+
+/// Takes the row of a line, where the table does.
+fn take_line(
+    alloc: Global,
+    schema: &TableSchema,
+    engine: &TableEngine,
+    primary: &[usize],
+    line: &InputLine,
+    rows: &mut Vec<Stamped>,
+) -> Result<(), Refusal>
+    requires own { schema_of engine.now ≡ schema.now }
+    requires primary { primary.now ≡ primary_of schema.now }
+    ensures exact { Gives (λ _. map row_of rows.new.items) refusal_in result
+        (with_taken (map row_of rows.old.items) (taken_of schema.now (line_view line.now))) }
+    ensures taken { OnOk result (AllByRecursion (IsTakenRow schema.now) rows.old.items
+        → AllByRecursion (IsTakenRow schema.now) rows.new.items) }
+    ensures numbers { OnOk result (CountFrom 0 rows.old.items → CountFrom 0 rows.new.items) }
+{
+    let (kind, row) = read_line(alloc, schema.columns.as_slice(), line)?;
+    match engine.verdict(alloc, kind)? {
+        Verdict::Take => Ok(keep(alloc, primary, rows, kind, row)?),
+        Verdict::Ignore => Ok(()),
+        Verdict::Refuse(column) => Err(Refusal::Retraction {
+            line: line.number,
+            column,
+        }),
+    }
+}
+
+/// The kind and the row of a line.
+fn read_line(alloc: Global, columns: &[Column], line: &InputLine) -> Result<(Kind, Row), Refusal>
+    ensures exact { Gives (λ row. row) refusal_in result (row_at columns.now (line_view line.now)) }
+    ensures fits { IfOk result (λ row. Fits columns.now row.1) }
+{
+    let mut rows = read_rows(alloc, columns, slice::from_ref(line))?;
+    match rows.pop() {
+        Some(row) => Ok(row),
+        None => unreachable!(),
+    }
+}
+
+/// Adds a row with its key and the next number.
+fn keep(
+    alloc: Global,
+    primary: &[usize],
+    rows: &mut Vec<Stamped>,
+    kind: Kind,
+    row: Row,
+) -> Result<(), AllocError>
+    ensures { OnOk result (rows.new.items
+        ≡ rows.old.items ++ stamped primary.now (length rows.old.items) (kind, row) ∷ []) }
+{
+    let key = key_of(alloc, primary, &row)?;
+    let seq = rows.len() as u64;
+    rows.push(Stamped {
+        key,
+        seq,
+        kind,
+        row,
+    })?;
+    Ok(())
+}
