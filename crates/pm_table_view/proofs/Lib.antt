@@ -1,0 +1,4 @@
+mod AfterLemmas
+pub mod Facts
+mod FaultLemmas
+mod NameLemmas

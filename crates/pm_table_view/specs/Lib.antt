@@ -1,0 +1,7 @@
+pub mod Asked
+pub mod Meaning
+pub mod Names
+pub mod Reader
+pub mod Reading
+pub mod Trace
+pub mod View

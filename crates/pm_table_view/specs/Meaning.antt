@@ -1,0 +1,83 @@
+-- What a reader of a view knows of the snapshots, and what its steps mean for the files.
+use Rattle.std.specs.Prelude.{◌≡◌, ℕ, ◌≤◌, List, ◌∷◌, ◌++◌, None}
+use Rattle.std.specs.FinMap as map
+use Rattle.pm_store.specs.Files.{Files}
+use Rattle.pm_store.specs.Store.{StoreView}
+use Rattle.pm_machine.specs.Moves.{Moves}
+use Rattle.pm_history.specs.History.{IsTableOf}
+use Rattle.pm_schema.specs.declared.schema.TableSchema.{TableSchema}
+use Rattle.pm_snapshot.specs.Names.{greatest}
+use Rattle.pm_snapshot.specs.declared.snapshot.Snapshot.{Snapshot}
+use Rattle.pm_folder.specs.Ledger.{IsKnown, Past, Stands}
+use Rattle.pm_folder.specs.Meaning.{SnapshotAt}
+use Rattle.pm_folder.specs.Paths.{snapshot_path}
+use Rattle.pm_manifest.specs.Live.{AreInOrder, Leaves, Live}
+use Rattle.pm_manifest.specs.declared.entry.Entry.{Entry}
+use Rattle.pm_manifest.specs.declared.entry.ManifestMeta.{ManifestMeta}
+use Rattle.pm_contents.specs.Lists.{HasEntries, HaveEntries, IsList, none_live}
+use Rattle.pm_table_view.specs.Reading.{ReadingView, live_of}
+use Rattle.pm_table_view.specs.View.{IsOriginView, IsViewOf}
+use Rattle.pm_table_view.specs.declared.phase.Phase.{Phase}
+use Rattle.pm_table_view.specs.declared.phase.Phase.TheVariants as phases
+use Rattle.pm_table_view.specs.declared.view.View.{View}
+
+-- no path has another content, and what is known stays
+pub record IsKept (f : Files) (p : Past) (after : Files) (later : Past) : Type 0 where
+  pub files : (path : List ℕ) → map.get after path ≡ map.get f path
+  pub past : later ≡ p
+
+-- what a reader changes: nothing
+abbrev pub LeavesFiles : Phase → Files → Past → Files → Past → Type 0
+LeavesFiles phase f p after later = IsKept f p after later
+
+-- the snapshot is one of the table's, and names its schema: it stood so when it was committed, whether or not it has
+-- gone since
+pub record Stood (p : Past) (s : TableSchema) (x : Snapshot) : Type 0 where
+  pub table : IsTableOf s p.history
+  pub known : IsKnown p x.id
+  pub was : SnapshotAt (p.stood x.id) x.id x
+  pub schema : x.schema_id ≡ s.id
+
+-- In these files a snapshot's lists have the manifests of a reading in their order; those that were read have entries
+-- in their order, after which its files are live.
+abbrev pub IsReadingOf : Files → ReadingView → Type 0
+IsReadingOf f r =
+    (base delta : List ManifestMeta) × (entries : List Entry) × IsList f r.snapshot.base_list base
+    × IsList f r.snapshot.delta_list delta × (base ++ delta ≡ r.done ++ r.next ∷ r.rest)
+    × HaveEntries f r.asked.schema r.done entries × AreInOrder none_live entries
+    × Leaves none_live entries (live_of r.files)
+
+-- The view is that of the table at a snapshot as it stood: its groups have the runs of the files that are live after
+-- the entries of the snapshot's lists. Or the snapshot is the origin, and no group has files.
+pub data IsViewIn (p : Past) (v : View) : Type 0 where
+  view_origin : IsOriginView v.schema v → IsViewIn p v
+  view_snapshot : (x : Snapshot) (base delta : List ManifestMeta) (entries : List Entry) (live : Live)
+      → Stood p v.schema x → HasEntries (p.stood x.id) v.schema x base delta entries → Leaves none_live entries live
+      → IsViewOf v.schema x (base ++ delta) live v → IsViewIn p v
+
+-- the snapshot with the id is one of the table's, and has gone
+pub record HasGone (f : Files) (p : Past) (s : TableSchema) (id : ℕ) : Type 0 where
+  pub table : IsTableOf s p.history
+  pub known : IsKnown p id
+  pub absent : map.get f (snapshot_path id) ≡ None
+
+-- What it knows in each phase, whatever others do: that there is a table of the schema; that what was read is what
+-- stood at the snapshot; and once a file that the snapshot names is absent, that the snapshot has gone.
+abbrev pub Knows : Phase → Files → Past → Type 0
+Knows (phases.List a) f p = IsTableOf a.schema p.history
+Knows (phases.Origin a) f p = IsTableOf a.schema p.history
+Knows (phases.Snapshot a id) f p = IsTableOf a.schema p.history × (1 ≤ id) × (id ≤ greatest)
+Knows (phases.Base a x) f p = Stood p a.schema x
+Knows (phases.Delta a x base) f p = Stood p a.schema x × IsList (p.stood x.id) x.base_list base.items
+Knows (phases.Manifests r) f p = Stood p r.asked.schema r.snapshot × IsReadingOf (p.stood r.snapshot.id) r
+Knows (phases.Again a id path) f p = HasGone f p a.schema id
+Knows (phases.Ready v) f p = IsTableOf v.schema p.history × IsViewIn p v
+Knows phases.Over f p = Unit {0}
+
+-- no fact of others' is of concern to it
+abbrev pub Anything : Files → Past → Type 0
+Anything f p = Unit {0}
+
+-- a step changes nothing, and what the reader knows holds after it
+abbrev pub ViewerMoved : Phase → Phase → StoreView → StoreView → Type 0
+ViewerMoved old new before after = Moves Stands (LeavesFiles old) (Knows old) (Knows new) before after

@@ -1,0 +1,37 @@
+-- A snapshot whose manifests are read one after another.
+use Rattle.std.specs.Prelude.{List}
+use Rattle.std.specs.Map.{lookup}
+use Rattle.pm_snapshot.specs.declared.snapshot.Snapshot.{Snapshot}
+use Rattle.pm_manifest.specs.FileId.{id_eq}
+use Rattle.pm_manifest.specs.Live.{Live}
+use Rattle.pm_manifest.specs.declared.entry.Entry.{Entry}
+use Rattle.pm_manifest.specs.declared.entry.ManifestMeta.{ManifestMeta}
+use Rattle.pm_manifest.specs.declared.file_id.FileId.{FileId}
+use Rattle.pm_contents.specs.Groups.{AreNamed, HaveFolders}
+use Rattle.pm_table_view.specs.Asked.{Asked}
+
+-- files, each with its entry
+abbrev pub Filed : Type 0
+Filed = List (FileId × Entry)
+
+-- what is live of each file
+abbrev pub live_of : Filed → Live
+live_of files id = lookup (id_eq id) files
+
+-- What was asked, the snapshot, the manifests that were read, the one to be read next, those after it, and the live
+-- files after the entries of the first.
+pub record ReadingView : Type 0 where
+  pub asked : Asked
+  pub snapshot : Snapshot
+  pub done : List ManifestMeta
+  pub next : ManifestMeta
+  pub rest : List ManifestMeta
+  pub files : Filed
+
+abbrev pub reading_of : Asked → Snapshot → List ManifestMeta → ManifestMeta → List ManifestMeta → Filed → ReadingView
+reading_of a x done next rest files =
+    record { asked = a; snapshot = x; done = done; next = next; rest = rest; files = files }
+
+-- the live files can be put into groups: each has its own entry, and is of a group of the table
+abbrev pub IsReading : ReadingView → Type 0
+IsReading r = AreNamed (live_of r.files) × HaveFolders r.asked.schema (live_of r.files)

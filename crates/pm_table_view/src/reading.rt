@@ -1,0 +1,31 @@
+//! A snapshot whose manifests are read one after another.
+
+use crate::asked::Asked;
+use indexmap::IndexMap;
+use pm_manifest::{Entry, FileId, ManifestMeta};
+use pm_snapshot::Snapshot;
+use std::collections::VecDeque;
+use std::marker::Model;
+
+/// What was asked, the snapshot, the manifests that were read, the one to be read next, those after it, and the live
+/// files after the entries of the first.
+#[derive(Drop)]
+pub struct Reading {
+    pub(crate) asked: Asked,
+    pub(crate) snapshot: Snapshot,
+    pub(crate) done: Vec<ManifestMeta>,
+    pub(crate) next: ManifestMeta,
+    pub(crate) rest: VecDeque<ManifestMeta>,
+    pub(crate) live: IndexMap<FileId, Entry>,
+}
+
+impl Model for Reading {
+    ghost use Rattle.pm_table_view.specs.Reading.{reading_of, IsReading, ReadingView};
+
+    ghost Value = { ReadingView };
+
+    ghost view = { λ r. reading_of r.asked r.snapshot r.done.items r.next r.rest.items r.live.entries };
+
+    ghost invariant = { λ r. IsReading
+        (reading_of r.asked r.snapshot r.done.items r.next r.rest.items r.live.entries) };
+}
