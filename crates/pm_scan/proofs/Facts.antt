@@ -1,0 +1,405 @@
+-- A scanner keeps the laws of machines.
+use Rattle.std.proofs.Common.{◌≡◌, inl, inr, ℕ, ◌<◌, ◌+◌, suc, List, [], ◌∷◌, ◌++◌, length, None, Some, IsSome, IfSome, Result, Ok, OnOk, OnErr, refl, sym, ap, ◌∙◌, subst, arith, append_assoc}
+use Rattle.std.specs.BTreeMap.{IsOrdered}
+use Rattle.std.specs.FinMap as map
+use Rattle.std.proofs.lemmas.List.{append-nil}
+use Rattle.std.proofs.lemmas.Option.{IfSome_then}
+use Rattle.pm_values.specs.GroupOrder.{group_cmp}
+use Rattle.pm_values.specs.declared.refusal.Refusal.{Refusal}
+use Rattle.pm_values.specs.declared.refusal.Refusal.TheVariants as refusals
+use Rattle.pm_store.specs.declared.answer.Answer.{Answer}
+use Rattle.pm_store.specs.declared.answer.Answer.TheVariants as answers
+use Rattle.pm_store.specs.declared.call.Call.{Call}
+use Rattle.pm_store.specs.declared.call.Call.TheVariants as calls
+use Rattle.pm_store.specs.declared.call.Effect.{Effect}
+use Rattle.pm_store.specs.declared.call.Effect.TheVariants as effects
+use Rattle.pm_store.specs.Answers.{Answers, MayAnswer}
+use Rattle.pm_store.specs.Files.{Files, after_effect, carried}
+use Rattle.pm_store.specs.Images.{MayLeave}
+use Rattle.pm_store.specs.Store.{StoreView}
+use Rattle.pm_store.proofs.FileLaws.{effect_left}
+use Rattle.pm_machine.specs.Moves.{Changes, Leads, Sound}
+use Rattle.pm_machine.specs.Step.{path_of, Answered, Stepped, Rested, Went, Refused, Stopped, Failed}
+use Rattle.pm_machine.specs.Trace.{Event, Recounts, answered, faulted}
+use Rattle.pm_history.specs.History.{IsTableOf}
+use Rattle.pm_schema.specs.declared.schema.TableSchema.{TableSchema}
+use Rattle.pm_engine.specs.Covers.{Run}
+use Rattle.pm_engine.specs.OfSchema.{meaning_of}
+use Rattle.pm_merge.specs.Merge.{IsMerge}
+use Rattle.pm_folder.specs.Changes.{Actor}
+use Rattle.pm_folder.specs.Ledger.{Advances, Past, Stands}
+use Rattle.pm_folder.specs.Paths.{snapshot_path}
+use Rattle.pm_folder.proofs.Facts.{goes_on}
+use Rattle.pm_folder.proofs.LedgerFacts.{gone-still, known-still}
+use Rattle.pm_view.proofs.Facts.{read_effect, still_table}
+use Rattle.pm_table_view.specs.Asked.{Asked}
+use Rattle.pm_table_view.specs.Meaning as reader_meaning
+use Rattle.pm_table_view.specs.Meaning.{HasGone, IsKept, IsViewIn}
+use Rattle.pm_table_view.specs.Reader as reader
+use Rattle.pm_table_view.specs.Reader.{most}
+use Rattle.pm_table_view.specs.Trace as reader_trace
+use Rattle.pm_table_view.specs.Trace.{HasView, read_file}
+use Rattle.pm_table_view.specs.declared.phase.Phase as view_phase
+use Rattle.pm_table_view.specs.declared.phase.Phase.TheVariants as readers
+use Rattle.pm_table_view.specs.declared.view.View.{View}
+use Rattle.pm_table_view.proofs.Facts as reader_facts
+use Rattle.pm_table_view.proofs.Facts.{Joined, OneList}
+use Rattle.pm_scan.specs.Collected.{Collected, Takes, nothing_of}
+use Rattle.pm_scan.specs.Jobs.{all_jobs}
+use Rattle.pm_scan.specs.Meaning.{HaveTaken, IsReadingOf, IsScan, Knows, LeavesFiles}
+use Rattle.pm_scan.specs.Reading.{ReadingView, reading_of}
+use Rattle.pm_scan.specs.Scanner.{next_call, calls_left, IsScanner, GoesOn, AfterReader, Goes, Shown, Refuses, Stops, Reaches, reached_at}
+use Rattle.pm_scan.specs.Trace.{HaveRead, HasPart, MayEnd, at_part, at_file, at_lack, in_file, in_again, Misreads, ShowsOfFiles, Shows, Did}
+use Rattle.pm_scan.specs.declared.job.Job.{Job}
+use Rattle.pm_scan.specs.declared.phase.Phase.{Phase}
+use Rattle.pm_scan.specs.declared.phase.Phase.TheVariants as phases
+use Rattle.pm_scan.proofs.FaultLemmas.{IsFileFault, refuses_fault}
+use Rattle.pm_scan.proofs.KeptLemmas.{reading-kept, scan-kept}
+
+-- what the law of a view's files says
+pub record FileLaws : Type 0 where
+  pub first : (p : Past) (v : View) (job : Job) (jobs : List Job) → IsTableOf v.schema p.history → IsViewIn p v → IsOrdered group_cmp v.groups
+      → all_jobs v.schema v.groups.entries ≡ job ∷ jobs → IsReadingOf p (reading_of v.id (nothing_of v.schema) job jobs)
+  pub all : (f : Files) (p : Past) (v : View) → Stands f p → IsTableOf v.schema p.history → IsViewIn p v → IsOrdered group_cmp v.groups → (c : Collected) (rows : Run)
+      → HaveTaken (p.stood v.id) (all_jobs v.schema v.groups.entries) (nothing_of v.schema) c → IsMerge (meaning_of c.schema) c.shown rows → IsScan p v.id rows
+  pub more : (f : Files) (p : Past) → Stands f p → (r : ReadingView) → IsReadingOf p r → (bytes : List ℕ) (c : Collected) (job : Job) (jobs : List Job)
+      → map.get f r.next.path ≡ Some bytes → Takes r.next bytes r.collected c → r.rest ≡ job ∷ jobs → IsReadingOf p (reading_of r.id c job jobs)
+  pub last : (f : Files) (p : Past) → Stands f p → (r : ReadingView) → IsReadingOf p r → (bytes : List ℕ) (c : Collected) (rows : Run)
+      → map.get f r.next.path ≡ Some bytes → Takes r.next bytes r.collected c → r.rest ≡ [] → IsMerge (meaning_of c.schema) c.shown rows → IsScan p r.id rows
+  pub gone : (f : Files) (p : Past) → Stands f p → (r : ReadingView) → IsReadingOf p r → map.get f r.next.path ≡ None → (s : TableSchema) × HasGone f p s r.id
+
+-- ---- its calls change nothing
+
+kept : (f after : Files) (p : Past) → after ≡ f → IsKept f p after p
+kept f after p same = record { files = λ q. ap (λ (g : Files). map.get g q) same; past = refl }
+
+changes_on : Joined → OneList → (m : Phase) (f : Files) (p : Past) → Stands f p → Knows m f p → IfSome (next_call m) (λ call. Changes (LeavesFiles m) call f p)
+changes_on law one (phases.View r) f p stands known = (reader_facts.sound law one).changes r f p stands known
+changes_on law one (phases.Files r) f p stands known = λ effect. (p, kept f _ p (read_effect r.next.path effect f))
+changes_on law one (phases.Again id path) f p stands known = λ effect. (p, kept f _ p (read_effect (snapshot_path id) effect f))
+changes_on law one (phases.Ready id rows) f p stands known = tt
+changes_on law one phases.Over f p stands known = tt
+
+-- ---- what it knows
+
+-- once the view is ready
+start_known : FileLaws → (v : View) (jobs : List Job) (new : Phase) (f g : Files) (p : Past) → Stands f p → IsOrdered group_cmp v.groups → IsTableOf v.schema p.history
+    → IsViewIn p v → all_jobs v.schema v.groups.entries ≡ jobs → GoesOn v.id (nothing_of v.schema) jobs new → Knows new g p
+start_known laws v [] new f g p stands order table is_view parts (rows, merge, is) =
+    let none : HaveTaken (p.stood v.id) (all_jobs v.schema v.groups.entries) (nothing_of v.schema) (nothing_of v.schema) =
+    subst (λ (jobs : List Job). HaveTaken (p.stood v.id) jobs (nothing_of v.schema) (nothing_of v.schema)) (sym parts) refl in
+    subst (λ (m : Phase). Knows m g p) (sym is) (laws.all f p v stands table is_view order (nothing_of v.schema) rows.items none merge)
+start_known laws v (job ∷ jobs) new f g p stands order table is_view parts is =
+    subst (λ (m : Phase). Knows m g p) (sym is) (laws.first p v job jobs table is_view order parts)
+
+as_known : (to : view_phase.Phase) (new : Phase) (g : Files) (p : Past) → new ≡ phases.View to → reader_meaning.Knows to g p → Knows new g p
+as_known to new g p is known = subst (λ (m : Phase). Knows m g p) (sym is) known
+
+after_known : FileLaws → (to : view_phase.Phase) (new : Phase) (f g : Files) (p : Past) → Stands f p → AfterReader to new → reader_meaning.Knows to g p → Knows new g p
+after_known laws (readers.List a) new f g p stands is known = as_known (readers.List a) new g p is known
+after_known laws (readers.Origin a) new f g p stands is known = as_known (readers.Origin a) new g p is known
+after_known laws (readers.Snapshot a id) new f g p stands is known = as_known (readers.Snapshot a id) new g p is known
+after_known laws (readers.Base a x) new f g p stands is known = as_known (readers.Base a x) new g p is known
+after_known laws (readers.Delta a x base) new f g p stands is known = as_known (readers.Delta a x base) new g p is known
+after_known laws (readers.Manifests r) new f g p stands is known = as_known (readers.Manifests r) new g p is known
+after_known laws (readers.Again a id path) new f g p stands is known = as_known (readers.Again a id path) new g p is known
+after_known laws (readers.Ready v) new f g p stands (order, within, on) (table, is_view) =
+    start_known laws v (all_jobs v.schema v.groups.entries) new f g p stands order table is_view refl on
+after_known laws readers.Over new f g p stands is known = as_known readers.Over new g p is known
+
+reader_leads : FileLaws → (r to : view_phase.Phase) (new : Phase) (f g : Files) (p : Past) → Stands f p → AfterReader to new
+    → Leads (reader_meaning.LeavesFiles r) (reader_meaning.Knows to) f p g → Leads (LeavesFiles (phases.View r)) (Knows new) f p g
+reader_leads laws r to new f g p stands after (later, stays, known) =
+    (later, stays, after_known laws to new f g later (subst (λ (q : Past). Stands f q) (sym stays.past) stands) after known)
+
+-- once the next file was read
+file_known : FileLaws → (f : Files) (p : Past) → Stands f p → (r : ReadingView) → IsReadingOf p r → (bytes : List ℕ) (c : Collected) (jobs : List Job) (new : Phase)
+    → map.get f r.next.path ≡ Some bytes → Takes r.next bytes r.collected c → r.rest ≡ jobs → GoesOn r.id c jobs new → Knows new f p
+file_known laws f p stands r known bytes c [] new there takes rest (rows, merge, is) =
+    subst (λ (m : Phase). Knows m f p) (sym is) (laws.last f p stands r known bytes c rows.items there takes rest merge)
+file_known laws f p stands r known bytes c (job ∷ jobs) new there takes rest is =
+    subst (λ (m : Phase). Knows m f p) (sym is) (laws.more f p stands r known bytes c job jobs there takes rest)
+
+leads_still : (m new : Phase) (f after : Files) (p : Past) → after ≡ f → Knows new f p → Leads (LeavesFiles m) (Knows new) f p after
+leads_still m new f after p same known =
+    (p, kept f after p same, subst (λ (g : Files). Knows new g p) (sym same) known)
+
+-- what an answer leads to is known
+leads_on : Joined → OneList → FileLaws → (m : Phase) (answer : Answer) (new : Phase) (f : Files) (p : Past) → Goes m answer new → Stands f p → Knows m f p
+    → IfSome (next_call m) (λ call. Answers call answer f → Leads (LeavesFiles m) (Knows new) f p (carried call f))
+leads_on law one laws (phases.View r) answer new f p (to, on, after) stands known =
+    IfSome_then (reader.next_call r) ((reader_facts.sound law one).went r to answer f p on stands known)
+    (λ call leads told. reader_leads laws r to new f (carried call f) p stands after (leads told))
+leads_on law one laws (phases.Files r) (answers.Found None) new f p is stands known = λ told.
+    leads_still (phases.Files r) new f (carried (calls.Read r.next.path) f) p (read_effect r.next.path effects.Whole f)
+    (subst (λ (m : Phase). Knows m f p) (sym is) (laws.gone f p stands r known (sym told)))
+leads_on law one laws (phases.Files r) (answers.Found (Some bytes)) new f p (c, takes, on) stands known = λ told.
+    leads_still (phases.Files r) new f (carried (calls.Read r.next.path) f) p (read_effect r.next.path effects.Whole f)
+    (file_known laws f p stands r known bytes c r.rest new (sym told) takes refl on)
+leads_on law one laws m answer new f p goes stands known = absurd goes
+
+over_knows : (new : Phase) (f : Files) (p : Past) → new ≡ phases.Over → Knows new f p
+over_knows new f p over = subst (λ (m : Phase). Knows m f p) (sym over) tt
+
+over_leads : (m new : Phase) (call : Call) (f : Files) (p : Past) (effect : Effect) → new ≡ phases.Over → Changes (LeavesFiles m) call f p
+    → Leads (LeavesFiles m) (Knows new) f p (after_effect call effect f)
+over_leads m new call f p effect over changes =
+    let change = changes effect in
+    (change.0, change.1, over_knows new (after_effect call effect f) change.0 over)
+
+pub sound : Joined → OneList → FileLaws → Sound next_call Goes Refuses Stops Stands LeavesFiles Knows
+sound law one laws = record {
+  changes = λ m f p stands known. changes_on law one m f p stands known;
+  went = λ m new answer f p goes stands known. leads_on law one laws m answer new f p goes stands known;
+  refused = λ m new answer refusal f p refuses stands known. IfSome_then (next_call m) (changes_on law one m f p stands known)
+      (λ call changes told. over_leads m new call f p effects.Whole refuses.1 changes);
+  failed = λ m new effect f p stops stands known. IfSome_then (next_call m) (changes_on law one m f p stands known)
+      (λ call changes may. over_leads m new call f p effect stops changes);
+  stopped = λ m new f p called stops stands known. over_knows new f p stops;
+}
+
+-- ---- its calls
+
+read_push : (jobs : List Job) (job : Job) (old middle new : Collected) (bytes : List ℕ) (events : List Event) → HaveRead jobs old middle events → Takes job bytes middle new
+    → HaveRead (jobs ++ job ∷ []) old new (events ++ read_file job.path (Some bytes) ∷ [])
+read_push [] job old middle new bytes events (same, quiet) takes =
+    let event : Event = read_file job.path (Some bytes) in
+    (bytes, new, [], subst (λ (c : Collected). Takes job bytes c new) same takes, ap (λ (own : List Event). own ++ event ∷ []) quiet, (refl, refl))
+read_push (first ∷ jobs) job old middle new bytes events (own, here, rest, took, comes, more) takes =
+    let event : Event = read_file job.path (Some bytes) in
+    (own, here, rest ++ event ∷ [], took, ap (λ (own : List Event). own ++ event ∷ []) comes, read_push jobs job here middle new bytes rest more takes)
+
+-- one file more was read
+part_more : (a : Asked) (v : View) (c new : Collected) (job : Job) (rest : List Job) (bytes : List ℕ) (own : List Event) → HasPart a v c (job ∷ rest) own
+    → Takes job bytes c new → HasPart a v new rest (own ++ read_file job.path (Some bytes) ∷ [])
+part_more a v c new job rest bytes own part takes =
+    let event : Event = read_file job.path (Some bytes) in record {
+      first = part.first;
+      viewed = part.viewed;
+      done = part.done ++ job ∷ [];
+      parts = part.parts ∙ sym (append_assoc part.done (job ∷ []) rest);
+      reads = part.reads ++ event ∷ [];
+      read = read_push part.done job (nothing_of v.schema) c new bytes part.reads part.read takes;
+      is = ap (λ (own : List Event). own ++ event ∷ []) part.is ∙ append_assoc part.first part.reads (event ∷ []);
+    }
+
+-- none was read yet
+part_none : (a : Asked) (v : View) (own : List Event) → HasView a v own → HasPart a v (nothing_of v.schema) (all_jobs v.schema v.groups.entries) own
+part_none a v own viewed = record {
+  first = own;
+  viewed = viewed;
+  done = [];
+  parts = refl;
+  reads = [];
+  read = (refl, refl);
+  is = sym (append-nil own);
+}
+
+did_on : (a : Asked) (v : View) (id : ℕ) (c : Collected) (jobs : List Job) (new : Phase) (own : List Event) → id ≡ v.id → GoesOn id c jobs new
+    → HasPart a v c jobs own → Did a new own
+did_on a v id c [] new own same (rows, merge, is) part =
+    subst (λ (m : Phase). Did a m own) (sym is) (record { view = v; collected = c; is_id = same; all_read = part; merged = merge })
+did_on a v id c (job ∷ jobs) new own same is part = subst (λ (m : Phase). Did a m own) (sym is) (v, same, part)
+
+as_did : (a : Asked) (to : view_phase.Phase) (new : Phase) (own : List Event) → new ≡ phases.View to → reader_trace.Did a to own → Did a new own
+as_did a to new own is did = subst (λ (m : Phase). Did a m own) (sym is) did
+
+did_after : (a : Asked) (to : view_phase.Phase) (new : Phase) (own : List Event) → AfterReader to new → reader_trace.Did a to own → Did a new own
+did_after a (readers.List b) new own is did = as_did a (readers.List b) new own is did
+did_after a (readers.Origin b) new own is did = as_did a (readers.Origin b) new own is did
+did_after a (readers.Snapshot b id) new own is did = as_did a (readers.Snapshot b id) new own is did
+did_after a (readers.Base b x) new own is did = as_did a (readers.Base b x) new own is did
+did_after a (readers.Delta b x base) new own is did = as_did a (readers.Delta b x base) new own is did
+did_after a (readers.Manifests r) new own is did = as_did a (readers.Manifests r) new own is did
+did_after a (readers.Again b id path) new own is did = as_did a (readers.Again b id path) new own is did
+did_after a (readers.Ready v) new own (order, within, on) viewed =
+    did_on a v v.id (nothing_of v.schema) (all_jobs v.schema v.groups.entries) new own refl on (part_none a v own viewed)
+did_after a readers.Over new own is did = as_did a readers.Over new own is did
+
+went_on : Joined → (a : Asked) (m : Phase) (answer : Answer) (new : Phase) (own : List Event) → Goes m answer new → Did a m own
+    → IfSome (next_call m) (λ call. MayAnswer call answer → Did a new (own ++ answered call answer ∷ []))
+went_on law a (phases.View r) answer new own (to, on, after) did =
+    IfSome_then (reader.next_call r) ((reader_facts.recounts law a).went r to answer own on did)
+    (λ call did may. did_after a to new (own ++ answered call answer ∷ []) after (did may))
+went_on law a (phases.Files r) (answers.Found None) new own is (v, same, part) = λ may.
+    subst (λ (m : Phase). Did a m (own ++ read_file r.next.path None ∷ [])) (sym is)
+    (record { view = v; collected = r.collected; job = r.next; rest = r.rest; is_id = same; is_path = refl; absent = (own, part, refl) })
+went_on law a (phases.Files r) (answers.Found (Some bytes)) new own (c, takes, on) (v, same, part) = λ may.
+    did_on a v r.id c r.rest new (own ++ read_file r.next.path (Some bytes) ∷ []) same on (part_more a v r.collected c r.next r.rest bytes own part takes)
+went_on law a m answer new own goes did = absurd goes
+
+shows_as : (a : Asked) (refusal defined : Refusal) (own : List Event) → refusal ≡ defined → ShowsOfFiles a defined own → Shows a refusal own
+shows_as a refusal defined own is shows = inr (subst (λ (e : Refusal). ShowsOfFiles a e own) (sym is) shows)
+
+-- a file was refused so
+misread_as : (a : Asked) (refusal : Refusal) (own : List Event) → IsFileFault refusal → MayEnd a own → Misreads a refusal own → ShowsOfFiles a refusal own
+misread_as a refusals.Memory own fault ends bad = ends
+misread_as a (refusals.Damaged path place) own fault ends bad = inr bad
+misread_as a (refusals.Unsupported what text) own fault ends bad = bad
+misread_as a other own fault ends bad = absurd fault
+
+refused_on : Joined → (a : Asked) (m : Phase) (answer : Answer) (refusal : Refusal) (own : List Event) → Shown m answer refusal → Did a m own
+    → IfSome (next_call m) (λ call. MayAnswer call answer → Shows a refusal (own ++ answered call answer ∷ []))
+refused_on law a (phases.View r) answer refusal own (inl (is, v, on)) did =
+    IfSome_then (reader.next_call r) ((reader_facts.recounts law a).went r (readers.Ready v) answer own on did)
+    (λ call did may. shows_as a refusal refusals.Memory (own ++ answered call answer ∷ []) is
+    (at_part v (nothing_of v.schema) (all_jobs v.schema v.groups.entries) (part_none a v (own ++ answered call answer ∷ []) (did may))))
+refused_on law a (phases.View r) answer refusal own (inr shown) did =
+    IfSome_then (reader.next_call r) ((reader_facts.recounts law a).refused r readers.Over answer refusal own (shown, refl) did)
+    (λ call shows may. inl (shows may).1)
+refused_on law a (phases.Files r) (answers.Found (Some bytes)) refusal own (inl is) (v, same, part) = λ may.
+    shows_as a refusal refusals.Memory _ is (at_file v r.collected r.next r.rest (Some bytes) (own, part, refl))
+refused_on law a (phases.Files r) (answers.Found (Some bytes)) refusal own (inr bad) (v, same, part) = λ may.
+    inr (misread_as a refusal _ (refuses_fault r.collected.schema r.next bytes r.collected.rows refusal bad)
+    (at_file v r.collected r.next r.rest (Some bytes) (own, part, refl)) (v, r.collected, r.next, r.rest, bytes, bad, (own, part, refl)))
+refused_on law a (phases.Again id path) (answers.Found None) refusal own is lacks = λ may.
+    shows_as a refusal (refusals.Expired id) _ is (path, (own, lacks, refl))
+refused_on law a (phases.Again id path) (answers.Found (Some bytes)) refusal own is lacks = λ may.
+    shows_as a refusal (refusals.Damaged path 0) _ is (inl (refl, id, bytes, (own, lacks, refl)))
+refused_on law a m answer refusal own shown did = absurd shown
+
+failed_on : Joined → (a : Asked) (m : Phase) (own : List Event) → Did a m own
+    → IfSome (next_call m) (λ call. Shows a (refusals.StoreFault (path_of call)) (own ++ faulted call ∷ []))
+failed_on law a (phases.View r) own did =
+    IfSome_then (reader.next_call r) ((reader_facts.recounts law a).failed r readers.Over own refl did) (λ call shows. inl shows.1)
+failed_on law a (phases.Files r) own (v, same, part) = inr (in_file v r.collected r.next r.rest own part refl refl)
+failed_on law a (phases.Again id path) own lacks = inr (in_again id path own lacks refl refl)
+failed_on law a (phases.Ready id rows) own did = tt
+failed_on law a phases.Over own did = tt
+
+stopped_on : Joined → (a : Asked) (m : Phase) (own : List Event) → IsSome (next_call m) → Did a m own → Shows a refusals.Memory own
+stopped_on law a (phases.View r) own called did = inl ((reader_facts.recounts law a).stopped r readers.Over own called refl did).1
+stopped_on law a (phases.Files r) own called (v, same, part) = inr (at_part v r.collected (r.next ∷ r.rest) part)
+stopped_on law a (phases.Again id path) own called lacks = inr (at_lack id path lacks)
+stopped_on law a (phases.Ready id rows) own called did = absurd (let clash = called in cc)
+stopped_on law a phases.Over own called did = absurd (let clash = called in cc)
+
+over_did : (a : Asked) (new : Phase) (refusal : Refusal) (own : List Event) → new ≡ phases.Over → Shows a refusal own → Did a new own × Shows a refusal own
+over_did a new refusal own over shows = (subst (λ (m : Phase). Did a m own) (sym over) (refusal, shows), shows)
+
+pub recounts : Joined → (a : Asked) → Recounts next_call Goes Refuses Stops (Did a) (Shows a)
+recounts law a = record {
+  went = λ m new answer own goes did. went_on law a m answer new own goes did;
+  refused = λ m new answer refusal own refuses did. IfSome_then (next_call m) (refused_on law a m answer refusal own refuses.0 did)
+      (λ call shows may. over_did a new refusal (own ++ answered call answer ∷ []) refuses.1 (shows may));
+  failed = λ m new own stops did. IfSome_then (next_call m) (failed_on law a m own did)
+      (λ call shows. over_did a new (refusals.StoreFault (path_of call)) (own ++ faulted call ∷ []) stops shows);
+  stopped = λ m new own called stops did. over_did a new refusals.Memory own stops (stopped_on law a m own called did);
+}
+
+-- ---- how far it has come
+
+-- fewer calls than that are left, and what was reached
+abbrev IsAhead : ℕ → Phase → Type 0
+IsAhead n m = (calls_left m < n) × Reaches (reached_at m) m
+
+on_ahead : (id : ℕ) (c : Collected) (jobs : List Job) (new : Phase) (n : ℕ) → length jobs + 1 < n → GoesOn id c jobs new → IsAhead n new
+on_ahead id c [] new n below (rows, merge, is) =
+    let one : 0 + 1 < n = below in
+    let less : 0 < n = omega (arith, one) in
+    subst (IsAhead n) (sym is) (less, tt)
+on_ahead id c (job ∷ jobs) new n below is =
+    let one : suc (length jobs) + 1 < n = below in
+    let less : length jobs + 2 < n = omega (arith, one) in
+    let some : 0 < length jobs + 2 = omega arith in
+    subst (IsAhead n) (sym is) (less, some)
+
+view_ahead : (r to : view_phase.Phase) (new : Phase) → reader.calls_left to < reader.calls_left r → new ≡ phases.View to → IsAhead (reader.calls_left r + (most + 2)) new
+view_ahead r to new fewer is =
+    let less : reader.calls_left to + (most + 2) < reader.calls_left r + (most + 2) = omega (arith, fewer) in
+    let some : 0 < reader.calls_left to + (most + 2) = omega arith in
+    subst (IsAhead (reader.calls_left r + (most + 2))) (sym is) (less, some)
+
+after_ahead : (r to : view_phase.Phase) (new : Phase) → reader.calls_left to < reader.calls_left r → AfterReader to new → IsAhead (reader.calls_left r + (most + 2)) new
+after_ahead r (readers.List a) new fewer is = view_ahead r (readers.List a) new fewer is
+after_ahead r (readers.Origin a) new fewer is = view_ahead r (readers.Origin a) new fewer is
+after_ahead r (readers.Snapshot a id) new fewer is = view_ahead r (readers.Snapshot a id) new fewer is
+after_ahead r (readers.Base a x) new fewer is = view_ahead r (readers.Base a x) new fewer is
+after_ahead r (readers.Delta a x base) new fewer is = view_ahead r (readers.Delta a x base) new fewer is
+after_ahead r (readers.Manifests s) new fewer is = view_ahead r (readers.Manifests s) new fewer is
+after_ahead r (readers.Again a id path) new fewer is = view_ahead r (readers.Again a id path) new fewer is
+after_ahead r (readers.Ready v) new fewer (order, within, on) =
+    on_ahead v.id (nothing_of v.schema) (all_jobs v.schema v.groups.entries) new (reader.calls_left r + (most + 2)) (omega (arith, within)) on
+after_ahead r readers.Over new fewer is = view_ahead r readers.Over new fewer is
+
+goes_ahead : (m : Phase) (answer : Answer) (new : Phase) (call : Call) (before after : StoreView) → next_call m ≡ Some call → Answered call answer before after → Goes m answer new
+    → IsScanner m → IsAhead (calls_left m) new
+goes_ahead (phases.View r) answer new call before after at came (to, on, then) (left, engine) =
+    let ahead = reader_facts.steps_on {old = r} {new = to} {before = before} {after = after} {result = Ok tt} (Went call answer at came on) left in
+    after_ahead r to new ahead.0 then
+goes_ahead (phases.Files r) (answers.Found None) new call before after at came is known =
+    let less : 1 < length r.rest + 2 = omega arith in
+    let some : 0 < 1 = omega arith in
+    subst (IsAhead (length r.rest + 2)) (sym is) (less, some)
+goes_ahead (phases.Files r) (answers.Found (Some bytes)) new call before after at came (c, takes, on) known =
+    on_ahead r.id c r.rest new (length r.rest + 2) (omega arith) on
+goes_ahead m answer new call before after at came goes known = absurd goes
+
+reader_call : (r : view_phase.Phase) → 0 < reader.calls_left r → IsSome (reader.next_call r)
+reader_call (readers.List a) left = refl
+reader_call (readers.Origin a) left = refl
+reader_call (readers.Snapshot a id) left = refl
+reader_call (readers.Base a x) left = refl
+reader_call (readers.Delta a x base) left = refl
+reader_call (readers.Manifests r) left = refl
+reader_call (readers.Again a id path) left = refl
+reader_call (readers.Ready v) left = absurd (let none : 0 < 0 = left in omega (arith, none))
+reader_call readers.Over left = absurd (let none : 0 < 0 = left in omega (arith, none))
+
+-- a scanner with calls left has a next one
+has_call : (m : Phase) → IsScanner m → 0 < calls_left m → IsSome (next_call m)
+has_call (phases.View r) (has, engine) left = reader_call r has
+has_call (phases.Files r) is left = refl
+has_call (phases.Again id path) is left = refl
+has_call (phases.Ready id rows) is left = absurd (let none : 0 < 0 = left in omega (arith, none))
+has_call phases.Over is left = absurd (let none : 0 < 0 = left in omega (arith, none))
+
+-- a step that goes on leaves fewer calls, and what it reached
+pub steps_on : {old new : Phase} {before after : StoreView} {result : Result (Unit {0}) Refusal}
+    → Stepped next_call Goes Refuses Stops old new before after result → IsScanner old → 0 < calls_left old
+    → OnOk result ((calls_left new < calls_left old) × Reaches (reached_at new) new)
+steps_on {old = old} {new = new} (Rested none same still) is left =
+    absurd (let called = has_call old is left in let clash = rw none at called in cc)
+steps_on {old = old} {new = new} {before = before} {after = after} (Went call answer at came on) is left = goes_ahead old answer new call before after at came on is
+steps_on (Refused call answer refusal at came on) is left = tt
+steps_on (Stopped call at meanwhile stop) is left = tt
+steps_on (Failed call at came stop) is left = tt
+
+-- a step with a refusal ends it
+pub over_on : {old new : Phase} {before after : StoreView} {result : Result (Unit {0}) Refusal}
+    → Stepped next_call Goes Refuses Stops old new before after result → OnErr result (new ≡ phases.Over)
+over_on (Rested none same still) = tt
+over_on (Went call answer at came on) = tt
+over_on (Refused call answer refusal at came on) = on.1
+over_on (Stopped call at meanwhile stop) = stop
+over_on (Failed call at came stop) = stop
+
+-- ---- laws
+
+gone_kept : (other : Actor) (f after : Files) (p q : Past) (s : TableSchema) (id : ℕ) → Stands f p → Advances other f p after q → HasGone f p s id → HasGone after q s id
+gone_kept other f after p q s id stands advances gone = record {
+  table = still_table s p.history q.history (goes_on other f after p.history q.history advances.change) gone.table;
+  known = known-still other f after p q id advances gone.known;
+  absent = gone-still other f after p q s id stands advances gone.table gone.known gone.absent;
+}
+
+pub knows_still : (m : Phase) (other : Actor) (f after : Files) (p q : Past) → Stands f p → Advances other f p after q → Knows m f p → Knows m after q
+knows_still (phases.View r) other f after p q stands advances known = reader_facts.knows_still r other f after p q stands advances known
+knows_still (phases.Files r) other f after p q stands advances known = reading-kept goes_on other f after p q advances r known
+knows_still (phases.Again id path) other f after p q stands advances (s, gone) = (s, gone_kept other f after p q s id stands advances gone)
+knows_still (phases.Ready id rows) other f after p q stands advances known = scan-kept goes_on other f after p q advances id rows.items known
+knows_still phases.Over other f after p q stands advances known = tt
+
+read_image : (path : List ℕ) (call : Call) (f image : Files) (p : Past) → Some (calls.Read path) ≡ Some call → MayLeave call f image → IsKept f p image p
+read_image path call f image p is left =
+    let same : calls.Read path ≡ call = cc in
+    let had = effect_left call f image left in
+    let still : after_effect call had.0 f ≡ f = subst (λ (call : Call). after_effect call had.0 f ≡ f) same (read_effect path had.0 f) in
+    kept f image p (had.1 ∙ still)
+
+pub images : (m : Phase) (call : Call) (f image : Files) (p : Past) → next_call m ≡ Some call → MayLeave call f image → IsKept f p image p
+images (phases.View r) call f image p is left = reader_facts.images r call f image p is left
+images (phases.Files r) call f image p is left = read_image r.next.path call f image p is left
+images (phases.Again id path) call f image p is left = read_image (snapshot_path id) call f image p is left
+images (phases.Ready id rows) call f image p is left = absurd (let clash : None ≡ Some call = is in cc)
+images phases.Over call f image p is left = absurd (let clash : None ≡ Some call = is in cc)

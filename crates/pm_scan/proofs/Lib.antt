@@ -1,0 +1,13 @@
+pub mod Facts
+mod AfterLemmas
+mod FaultLemmas
+mod JobLemmas
+mod RowLemmas
+mod KeptLemmas
+mod KnownLemmas
+mod ScanLemmas
+mod TakenLemmas
+mod ViewLemmas
+mod AllCallsLemmas
+mod NextLemmas
+mod ViewCallsLemmas

@@ -1,0 +1,178 @@
+-- What a scanner has collected of the files of a view is the merged table.
+use Rattle.std.proofs.Common.{◌≡◌, ◌≢◌, ℕ, ◌<◌, List, [], ◌∷◌, ◌++◌, length, map, filter, reverse, true, false, cond, Contains, Some, None, Less, refl, sym, ap, subst, ◌∙◌, append_assoc, append-nil, arith}
+use Rattle.std.specs.BTreeMap.{is_at}
+use Rattle.std.specs.Cmp.{tied_itself}
+use Rattle.std.specs.List.{AllByRecursion, AllZip}
+use Rattle.std.specs.List.Sorted.{IsStrictlySortedBy}
+use Rattle.std.specs.Map.{keys_of, lookup}
+use Rattle.std.specs.Ordering.{is_eq}
+use Rattle.std.specs.declared.cmp.Ordering.TheVariants as orders
+use Rattle.std.proofs.lemmas.List.Elements.{Contains-get_or}
+use Rattle.std.proofs.lemmas.List.Sorted.{Contains-permutation, IsPermutation-sym}
+use Rattle.pm_store.specs.Files.{Files}
+use Rattle.pm_values.specs.GroupOrder.{group_cmp, group_total}
+use Rattle.pm_values.specs.declared.file_meta.FileMeta.{FileMeta}
+use Rattle.pm_values.specs.declared.group.Group.{Group}
+use Rattle.pm_values.proofs.Lemmas.{group_cmp-IsAntisymmetric}
+use Rattle.pm_schema.specs.Again.{IsDeclared}
+use Rattle.pm_schema.specs.declared.schema.TableSchema.{TableSchema}
+use Rattle.pm_history.specs.History.{Entry, rows_up_to}
+use Rattle.pm_history.specs.Merged.{scan_text}
+use Rattle.pm_engine.specs.Covers.{Covers, Run}
+use Rattle.pm_engine.specs.OfSchema.{meaning_of}
+use Rattle.pm_merge.specs.Merge.{IsMerge}
+use Rattle.pm_following.specs.Groups.{rows_in}
+use Rattle.pm_shown.specs.Shown.{GroupRuns as Covered, GroupsCover, IsShown, lines_of}
+use Rattle.pm_levels.specs.Runs.{IsRun, RunView, files_of}
+use Rattle.pm_manifest.specs.Live.{Live}
+use Rattle.pm_manifest.specs.declared.entry.Entry as files
+use Rattle.pm_contents.specs.Groups.{GroupRuns}
+use Rattle.pm_contents.specs.Runs.{AreRunsOf, IsLive}
+use Rattle.pm_folder.specs.Stored.{HasGroup, HasRun, StoredRun, oldest_first}
+use Rattle.pm_scan.specs.Collected.{Collected, collected_of, nothing_of}
+use Rattle.pm_scan.specs.Jobs.{Grouped, all_jobs, run_jobs}
+use Rattle.pm_scan.specs.Meaning.{HaveTaken}
+use Rattle.pm_scan.proofs.TakenLemmas.{Laws, ShowsGroup, group-taken, taken-split}
+
+-- ---- the groups of a view
+
+-- groups at which a query stands are one
+at-one : (g h : Group) → is_at (group_cmp g) h ≡ true → g ≡ h
+at-one g h e =
+    elim (group_cmp g h) as (λ o. group_cmp g h ≡ o → is_eq o ≡ true → g ≡ h) [
+      | orders.Less ↦ λ p q. cc
+      | orders.Equal ↦ λ p q. group_cmp-IsAntisymmetric g h p
+      | orders.Greater ↦ λ p q. cc
+    ] refl e
+
+-- a group below all others isn't among them
+below-none : (g : Group) (groups : List Grouped) → AllByRecursion (λ h. group_cmp g h ≡ Less) (keys_of groups) → lookup (is_at (group_cmp g)) groups ≡ None
+below-none g [] below = refl
+below-none g (e ∷ groups) below = ap (λ o. cond (is_eq o) (Some e.1) (lookup (is_at (group_cmp g)) groups)) below.0 ∙ below-none g groups below.1
+
+-- what is found of a group among the later ones is found among all
+found-later : (g : Group) (e : Grouped) (groups : List Grouped) (runs : List RunView) → AllByRecursion (λ h. group_cmp e.0 h ≡ Less) (keys_of groups) → lookup (is_at (group_cmp g)) groups ≡ Some runs
+    → lookup (is_at (group_cmp g)) (e ∷ groups) ≡ Some runs
+found-later g e groups runs below found =
+    elim (is_at (group_cmp g) e.0) as (λ b. is_at (group_cmp g) e.0 ≡ b → cond b (Some e.1) (lookup (is_at (group_cmp g)) groups) ≡ Some runs) [
+      | true ↦ λ at.
+          let none : lookup (is_at (group_cmp g)) groups ≡ None = subst (λ h. lookup (is_at (group_cmp h)) groups ≡ None) (sym (at-one g e.0 at)) (below-none e.0 groups below) in
+          cc
+      | false ↦ λ at. found
+    ] refl
+
+-- each of them has its runs, at least one
+abbrev pub HasOwn : Live → Grouped → Type 0
+HasOwn live e = AreRunsOf live e.0 e.1 × (e.1 ≢ [])
+
+pub each-own : (live : Live) (groups : List Grouped) → IsStrictlySortedBy group_cmp (keys_of groups)
+    → ((g : Group) (runs : List RunView) → lookup (is_at (group_cmp g)) groups ≡ Some runs → HasOwn live (g, runs)) → AllByRecursion (HasOwn live) groups
+unfolding IsStrictlySortedBy
+each-own live [] rising own = tt
+each-own live (e ∷ groups) rising own = (
+  own e.0 e.1 (ap (λ o. cond (is_eq o) (Some e.1) (lookup (is_at (group_cmp e.0)) groups)) (tied_itself group_total e.0)),
+  each-own live groups rising.1 (λ g runs found. own g runs (found-later g e groups runs rising.0 found)),
+)
+
+-- a group that is none of them isn't found
+none-found : (g : Group) (groups : List Grouped) → AllByRecursion (λ (e : Grouped). e.0 ≢ g) groups → lookup (is_at (group_cmp g)) groups ≡ None
+none-found g [] others = refl
+none-found g (e ∷ groups) others =
+    elim (is_at (group_cmp g) e.0) as (λ b. is_at (group_cmp g) e.0 ≡ b → cond b (Some e.1) (lookup (is_at (group_cmp g)) groups) ≡ None) [
+      | true ↦ λ at. absurd (others.0 (sym (at-one g e.0 at)))
+      | false ↦ λ at. none-found g groups others.1
+    ] refl
+
+-- a group without a live file has no runs
+no-runs : (live : Live) (g : Group) (runs : List RunView) → AreRunsOf live g runs → ((e : files.Entry) → IsLive live e → e.group ≡ g → ⊥) → runs ≡ []
+no-runs live g [] are none = refl
+no-runs live g (run ∷ runs) are none = absurd (by_files run.files are.made.each.0.some (λ m here. are-none m (Contains-permutation (files_of (run ∷ runs)) are.files m (IsPermutation-sym are.files (files_of (run ∷ runs)) are.made.whole) here)))
+  where
+    are-none : (m : FileMeta) → Contains are.files m → ⊥
+    are-none m has = let live-one = (are.own.exact m).0 has in none live-one.0 live-one.1 live-one.2
+
+    by_files : (ms : List FileMeta) → 0 < length ms → ((m : FileMeta) → Contains (ms ++ files_of runs) m → ⊥) → ⊥
+    by_files [] some none-in = let no : 0 < 0 = some in omega arith
+    by_files (m ∷ ms) some none-in = none-in m (Contains-get_or (m ∷ (ms ++ files_of runs)) 0 m (omega arith))
+
+-- ---- all groups
+
+filter-every : {X : Type 0} (xs : List X) → filter (λ x. true) xs ≡ xs
+filter-every [] = refl
+filter-every (x ∷ xs) = ap (λ ys. x ∷ ys) (filter-every xs)
+
+module _ (laws : Laws) (f : Files) (s : TableSchema) (entries : List Entry) (id : ℕ) (live : Live) (has : (g : Group) → HasGroup f s entries id live g) where
+  -- the stored runs of a group, the oldest first
+  abbrev stored_runs : Group → List Run
+  stored_runs g = reverse (map (λ (r : StoredRun). r.rows) (has g).stored)
+
+  all_stored : (g : Group) → oldest_first (λ level. true) (has g).stored ≡ stored_runs g
+  all_stored g = ap (λ stored. reverse (map (λ (r : StoredRun). r.rows) stored)) (filter-every (has g).stored)
+
+  abbrev covered : List Grouped → List Covered
+  covered groups = map (λ (e : Grouped). (e.0, stored_runs e.0)) groups
+
+  by_runs : (g : Group) (runs : List RunView) (shown : List Run) (new : Collected) → runs ≢ [] → AllByRecursion IsRun runs → AllZip (HasRun f s g) runs (has g).stored
+      → HaveTaken f (run_jobs s g runs) (collected_of s shown [] []) new → ShowsGroup laws.rows f s g shown (map (λ (r : StoredRun). r.rows) (has g).stored) new
+  by_runs g [] shown new some each read taken = absurd (some refl)
+  by_runs g (run ∷ older) shown new some each read taken = group-taken laws.rows f s g run older (has g).stored shown [] new each read taken
+
+  pub one-group : (e : Grouped) (shown : List Run) (new : Collected) → HasOwn live e → HaveTaken f (run_jobs s e.0 e.1) (collected_of s shown [] []) new
+      → (own : Run) × IsShown (meaning_of s) (stored_runs e.0) own × (new ≡ collected_of s (shown ++ own ∷ []) [] [])
+  one-group e shown new own taken =
+      let same : (has e.0).runs ≡ e.1 = laws.one_runs live e.0 (has e.0).runs e.1 (has e.0).own own.0 in
+      by_runs e.0 e.1 shown new own.1 own.0.made.each (subst (λ runs. AllZip (HasRun f s e.0) runs (has e.0).stored) same (has e.0).read) taken
+
+  groups-taken : (groups : List Grouped) (shown : List Run) (final : Collected) → AllByRecursion (HasOwn live) groups → HaveTaken f (all_jobs s groups) (collected_of s shown [] []) final
+      → (own : List Run) × (final ≡ collected_of s (shown ++ own) [] []) × AllZip (λ (p : Covered) (r : Run). IsShown (meaning_of s) p.1 r) (covered groups) own
+  groups-taken [] shown final each taken = ([], taken ∙ ap (λ l. collected_of s l [] []) (sym (append-nil shown)), tt)
+  groups-taken (e ∷ groups) shown final each taken =
+      let parts = taken-split f (run_jobs s e.0 e.1) (all_jobs s groups) (collected_of s shown [] []) final taken in
+      let one = one-group e shown parts.0 each.0 parts.1 in
+      let rest : HaveTaken f (all_jobs s groups) (collected_of s (shown ++ one.0 ∷ []) [] []) final = subst (λ c. HaveTaken f (all_jobs s groups) c final) one.2 parts.2 in
+      let later = groups-taken groups (shown ++ one.0 ∷ []) final each.1 rest in
+      (one.0 ∷ later.0, later.1 ∙ ap (λ l. collected_of s l [] []) (append_assoc shown (one.0 ∷ []) later.0), (one.1, later.2))
+
+  -- ---- the groups cover the rows
+
+  covered-keys : (groups : List Grouped) → keys_of groups ≡ map (λ (p : Covered). p.0) (covered groups)
+  covered-keys [] = refl
+  covered-keys (e ∷ groups) = ap (λ gs. e.0 ∷ gs) (covered-keys groups)
+
+  covered-each : (groups : List Grouped) → AllByRecursion (λ (p : Covered). Covers (meaning_of s) p.1 (rows_in s p.0 (rows_up_to entries id))) (covered groups)
+  covered-each [] = tt
+  covered-each (e ∷ groups) = (subst (λ runs. Covers (meaning_of s) runs (rows_in s e.0 (rows_up_to entries id))) (all_stored e.0) (has e.0).stand.all, covered-each groups)
+
+  others-covered : (g : Group) (groups : List Grouped) → AllByRecursion (λ (p : Covered). p.0 ≢ g) (covered groups) → AllByRecursion (λ (e : Grouped). e.0 ≢ g) groups
+  others-covered g [] others = tt
+  others-covered g (e ∷ groups) others = (others.0, others-covered g groups others.1)
+
+  none-stored : (g : Group) (runs : List RunView) (stored : List StoredRun) → runs ≡ [] → AllZip (HasRun f s g) runs stored → stored ≡ []
+  none-stored g [] [] none read = refl
+  none-stored g [] (x ∷ xs) none read = absurd read
+  none-stored g (run ∷ runs) stored none read = cc
+
+  none-covered : (g : Group) → ((e : files.Entry) → IsLive live e → e.group ≡ g → ⊥) → Covers (meaning_of s) [] (rows_in s g (rows_up_to entries id))
+  none-covered g none =
+      let empty : (has g).stored ≡ [] = none-stored g (has g).runs (has g).stored (no-runs live g (has g).runs (has g).own none) (has g).read in
+      subst (λ stored. Covers (meaning_of s) (oldest_first (λ level. true) stored) (rows_in s g (rows_up_to entries id))) empty (has g).stand.all
+
+  groups-cover : (groups : List Grouped) → IsStrictlySortedBy group_cmp (keys_of groups) → ((g : Group) → GroupRuns live g (lookup (is_at (group_cmp g)) groups)) → GroupsCover s (covered groups) (rows_up_to entries id)
+  groups-cover groups rising runs = record {
+    rising = subst (IsStrictlySortedBy group_cmp) (covered-keys groups) rising;
+    each = covered-each groups;
+    others = λ g others. none-covered g (subst (GroupRuns live g) (none-found g groups (others-covered g groups others)) (runs g));
+  }
+
+  -- ---- the scan
+
+  -- once the files of all groups were read, in their order, the rows that the groups show, merged to one run, print the
+  -- scan of the table
+  pub scanned : (groups : List Grouped) (final : Collected) (all : Run) → IsDeclared s → IsStrictlySortedBy group_cmp (keys_of groups)
+      → ((g : Group) → GroupRuns live g (lookup (is_at (group_cmp g)) groups)) → HaveTaken f (all_jobs s groups) (nothing_of s) final → IsMerge (meaning_of s) final.shown all
+      → lines_of all ≡ scan_text s (rows_up_to entries id)
+  scanned groups final all declared rising runs taken merge =
+      let each = each-own live groups rising (λ g own found. subst (GroupRuns live g) found (runs g)) in
+      let parts = groups-taken groups [] final each taken in
+      let shown : final.shown ≡ parts.0 = ap (λ (c : Collected). c.shown) parts.1 in
+      laws.scan s (rows_up_to entries id) (covered groups) parts.0 all declared (groups-cover groups rising runs) parts.2 (subst (λ l. IsMerge (meaning_of s) l all) shown merge)

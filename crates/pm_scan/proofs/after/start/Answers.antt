@@ -1,0 +1,10 @@
+use Rattle.pm_scan.specs.declared.phase.Phase.{Phase}
+use Rattle.pm_scan.proofs.AfterLemmas.{if_ok, start_on}
+use Rattle.pm_scan.proofs.after.start.Goals as goal
+
+pub returns-in-Ok-clause-goes : goal.returns-in-Ok-clause-goes
+returns-in-Ok-clause-goes c =
+    if_ok c.go_on.result _ _
+    (λ (later : Phase) on. start_on c.args.view c.in-Ok.collected c.in-Ok.jobs.items later c.in-Ok.ensures.nothing c.in-Ok.ensures.jobs
+    c.in-Ok.ensures.within c.in-Ok.ensures.ordered on)
+    c.go_on.ensures.goes

@@ -1,0 +1,97 @@
+-- All calls of a scanner of a table whose schema was read, one after another: what they are, and what they say of a
+-- history that stands at the first call of that reading, where nobody else acts from then on.
+use Rattle.std.specs.Prelude.{◌≡◌, ◌⊎◌, ℕ, ◌<◌, ◌≤◌, List, ◌++◌, length, Option, None, Some, Result, Ok, Err, IfOk}
+use Rattle.std.specs.Prelude.{IfErr, Vec}
+use Rattle.std.specs.Global.{Global}
+use Rattle.pm_base.specs.Faults.{Rose}
+use Rattle.pm_values.specs.declared.record.Stamped.{Stamped}
+use Rattle.pm_values.specs.declared.refusal.Refusal.{Refusal}
+use Rattle.pm_values.specs.declared.refusal.Refusal.TheVariants as refusals
+use Rattle.pm_store.specs.Answers.{IsFirst}
+use Rattle.pm_store.specs.Files.{Files}
+use Rattle.pm_store.specs.Store.{StoreView, IsAlone}
+use Rattle.pm_machine.specs.Trace.{Event}
+use Rattle.pm_history.specs.History.{History, IsTableOf, no_table, rows_up_to, table}
+use Rattle.pm_history.specs.Merged.{scan_text}
+use Rattle.pm_schema.specs.declared.schema.TableSchema.{TableSchema}
+use Rattle.pm_folder.specs.Folder.{Folder}
+use Rattle.pm_folder.specs.Ledger.{count_of}
+use Rattle.pm_folder.specs.Meaning.{HasSnapshotAt}
+use Rattle.pm_shown.specs.Shown.{lines_of}
+use Rattle.pm_view.specs.AllCalls.{HasFiles, Stay}
+use Rattle.pm_view.specs.Reader.{schemas_call}
+use Rattle.pm_view.specs.Trace as schema
+use Rattle.pm_view.specs.declared.phase.Phase.TheVariants as readers
+use Rattle.pm_table_view.specs.Asked.{Asked, asked_of}
+use Rattle.pm_table_view.specs.declared.asked.Wanted.{Wanted}
+use Rattle.pm_table_view.specs.declared.asked.Wanted.TheVariants as wants
+use Rattle.pm_scan.specs.Trace.{HasScan, Shows}
+
+-- the schema was read
+abbrev pub Has : TableSchema → List Event → Type 0
+Has s own = schema.Did (readers.Ready s) own
+
+-- the latest snapshot is asked for, or the one with an id
+abbrev pub wanted_of : Option ℕ → Wanted
+wanted_of None = wants.Newest
+wanted_of (Some id) = wants.At id
+
+-- the rows of an answer, wherever they lie in memory
+abbrev pub rows_in : Result (Vec Stamped Global) Refusal → Result (List Stamped) Refusal
+rows_in (Ok rows) = Ok rows.items
+rows_in (Err refusal) = Err refusal
+
+-- what is asked of a scanner
+abbrev pub asked_at : TableSchema → Option ℕ → Asked
+asked_at s at = asked_of s (wanted_of at)
+
+-- The calls of a scan by its answer: from those that read the schema they go on to those of the scan, which has these
+-- rows, or which show the refusal.
+abbrev pub Ends : Asked → Result (List Stamped) Refusal → List Event → Type 0
+Ends a (Ok rows) own = (id : ℕ) × HasScan a id rows own
+Ends a (Err refusal) own = Shows a refusal own
+
+abbrev pub DidScan : TableSchema → Option ℕ → Result (List Stamped) Refusal → List Event → Type 0
+DidScan s at result own = (earlier later : List Event) × Has s earlier × (own ≡ earlier ++ later)
+    × Ends (asked_at s at) result later
+
+-- the id that is asked for, where this is the latest
+abbrev pub id_of : Option ℕ → ℕ → ℕ
+id_of None latest = latest
+id_of (Some id) latest = id
+
+-- the snapshot is one of the history's, and is there, or is the origin
+abbrev pub IsThere : Files → TableSchema → History → ℕ → Type 0
+IsThere f s h id = (id ≤ count_of h) × ((id ≡ 0) ⊎ HasSnapshotAt f s id)
+
+-- the rows print the scan of the history's table at the snapshot that is asked for
+abbrev pub PrintsScan : History → Option ℕ → List Stamped → Type 0
+PrintsScan no_table at rows = ⊥
+PrintsScan (table s entries) at rows = lines_of rows ≡ scan_text s (rows_up_to entries (id_of at (length entries)))
+
+-- What a refusal needs where the files stand for this history: the snapshot that is asked for is above the latest, or
+-- has gone; a fault of the store was counted; or memory ran out.
+abbrev pub IsCaused : Files → TableSchema → History → Option ℕ → StoreView → StoreView → Refusal → Type 0
+IsCaused f s h at first after refusals.Memory = Unit {0}
+IsCaused f s h at first after (refusals.StoreFault path) = Rose first.faults after.faults
+IsCaused f s h at first after (refusals.NoSnapshot id latest) = (at ≡ Some id) × (latest ≡ count_of h) × (latest < id)
+IsCaused f s h at first after (refusals.Expired id) =
+    (at ≡ Some id) × (id ≤ count_of h) × (HasSnapshotAt f s id → ⊥)
+IsCaused f s h at first after other = ⊥
+
+-- What a scan is where the files stand for a history at the first call, and nobody else acts from then on: the files
+-- stay, the rows are those of the table at the snapshot, which is there, and a refusal has its cause.
+pub record ScansTable (f : Files) (h : History) (s : TableSchema) (at : Option ℕ) (first after : StoreView)
+    (result : Result (List Stamped) Refusal) : Type 0 where
+  pub files : Stay f first after
+  pub schema : IsTableOf s h
+  pub there : IfOk result (λ rows. IsThere f s h (id_of at (count_of h)))
+  pub rows : IfOk result (PrintsScan h at)
+  pub cause : IfErr result (IsCaused f s h at first after)
+
+-- what it promises of histories, from the first call on
+abbrev pub ScansTables : TableSchema → Option ℕ → StoreView → StoreView → Result (List Stamped) Refusal → Type 0
+ScansTables s at before after result =
+    (first : StoreView) × IsFirst schemas_call before first after
+    × (IsAlone first after → (f : Files) (h : History) → HasFiles f first → Folder f h
+    → ScansTable f h s at first after result)

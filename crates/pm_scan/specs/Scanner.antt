@@ -1,0 +1,123 @@
+-- A scanner: its phases, its calls, and what each answer leads to.
+use Rattle.std.specs.Prelude.{◌≡◌, ◌⊎◌, ℕ, ◌+◌, ◌<◌, ◌≤◌, List, [], ◌∷◌, length, Option, None, Some, Vec}
+use Rattle.std.specs.BTreeMap.{IsOrdered}
+use Rattle.std.specs.Global.{Global}
+use Rattle.pm_values.specs.GroupOrder.{group_cmp}
+use Rattle.pm_values.specs.declared.record.Stamped.{Stamped}
+use Rattle.pm_values.specs.declared.refusal.Refusal.{Refusal}
+use Rattle.pm_values.specs.declared.refusal.Refusal.TheVariants as refusals
+use Rattle.pm_store.specs.declared.answer.Answer.{Answer}
+use Rattle.pm_store.specs.declared.answer.Answer.TheVariants as answers
+use Rattle.pm_store.specs.declared.call.Call.{Call}
+use Rattle.pm_store.specs.declared.call.Call.TheVariants as calls
+use Rattle.pm_engine.specs.OfSchema.{meaning_of}
+use Rattle.pm_options.specs.declared.kinds.EngineKind.TheVariants as engines
+use Rattle.pm_merge.specs.Merge.{IsMerge}
+use Rattle.pm_folder.specs.Paths.{snapshot_path}
+use Rattle.pm_table_view.specs.Reader as reader
+use Rattle.pm_table_view.specs.Reader.{most}
+use Rattle.pm_table_view.specs.declared.phase.Phase as view_phase
+use Rattle.pm_table_view.specs.declared.phase.Phase.TheVariants as readers
+use Rattle.pm_table_view.specs.declared.view.View.{View}
+use Rattle.pm_scan.specs.Collected.{Collected, RefusesFile, Takes, nothing_of}
+use Rattle.pm_scan.specs.Jobs.{all_jobs}
+use Rattle.pm_scan.specs.Reading.{reading_of}
+use Rattle.pm_scan.specs.declared.job.Job.{Job}
+use Rattle.pm_scan.specs.declared.phase.Phase.{Phase}
+use Rattle.pm_scan.specs.declared.phase.Phase.TheVariants as phases
+use Rattle.pm_scan.specs.declared.scanner.ScanStep.{ScanStep}
+use Rattle.pm_scan.specs.declared.scanner.ScanStep.TheVariants as steps
+
+-- ---- its calls
+
+-- its next call, or none at its end
+abbrev pub next_call : Phase → Option Call
+next_call (phases.View m) = reader.next_call m
+next_call (phases.Files r) = Some (calls.Read r.next.path)
+next_call (phases.Again id path) = Some (calls.Read (snapshot_path id))
+next_call (phases.Ready id rows) = None
+next_call phases.Over = None
+
+-- how many calls are left at most, where no refusal comes
+abbrev pub calls_left : Phase → ℕ
+calls_left (phases.View m) = reader.calls_left m + (most + 2)
+calls_left (phases.Files r) = length r.rest + 2
+calls_left (phases.Again id path) = 1
+calls_left (phases.Ready id rows) = 0
+calls_left phases.Over = 0
+
+-- the engine of the table that a reader of a view reads is one that is built
+abbrev pub IsEngineOf : view_phase.Phase → Type 0
+IsEngineOf (readers.List a) = a.schema.options.engine ≡ engines.Deduplicate
+IsEngineOf (readers.Origin a) = a.schema.options.engine ≡ engines.Deduplicate
+IsEngineOf (readers.Snapshot a id) = a.schema.options.engine ≡ engines.Deduplicate
+IsEngineOf (readers.Base a x) = a.schema.options.engine ≡ engines.Deduplicate
+IsEngineOf (readers.Delta a x base) = a.schema.options.engine ≡ engines.Deduplicate
+IsEngineOf (readers.Manifests r) = r.asked.schema.options.engine ≡ engines.Deduplicate
+IsEngineOf (readers.Again a id path) = a.schema.options.engine ≡ engines.Deduplicate
+IsEngineOf (readers.Ready v) = v.schema.options.engine ≡ engines.Deduplicate
+IsEngineOf readers.Over = Unit {0}
+
+-- a scanner: the reader of its view has a call left, and the table's engine is built
+abbrev pub IsScanner : Phase → Type 0
+IsScanner (phases.View m) = (0 < reader.calls_left m) × IsEngineOf m
+IsScanner other = Unit {0}
+
+-- the rows are there to be taken
+abbrev pub IsReady : Phase → Type 0
+IsReady (phases.Ready id rows) = Unit {0}
+IsReady other = ⊥
+
+-- ---- what answers lead to
+
+-- with this collected these files are left: the next of them is to be read, or the rows that each group shows are
+-- merged to those that the scan shows
+abbrev pub GoesOn : ℕ → Collected → List Job → Phase → Type 0
+GoesOn id c [] later =
+    (all : Vec Stamped Global) × IsMerge (meaning_of c.schema) c.shown all.items × (later ≡ phases.Ready id all)
+GoesOn id c (job ∷ jobs) later = later ≡ phases.Files (reading_of id c job jobs)
+
+-- the phase with a reader of the view: its files are to be read once it is ready
+abbrev pub AfterReader : view_phase.Phase → Phase → Type 0
+AfterReader (readers.Ready v) later =
+    IsOrdered group_cmp v.groups × (length (all_jobs v.schema v.groups.entries) ≤ most)
+    × GoesOn v.id (nothing_of v.schema) (all_jobs v.schema v.groups.entries) later
+AfterReader m later = later ≡ phases.View m
+
+-- the phase after an answer that it goes on with
+abbrev pub Goes : Phase → Answer → Phase → Type 0
+Goes (phases.View m) answer later = (new : view_phase.Phase) × reader.Goes m answer new × AfterReader new later
+Goes (phases.Files r) (answers.Found None) later = later ≡ phases.Again r.id r.next.path
+Goes (phases.Files r) (answers.Found (Some bytes)) later =
+    (c : Collected) × Takes r.next bytes r.collected c × GoesOn r.id c r.rest later
+Goes phase other later = ⊥
+
+-- the view is ready with the answer, and memory runs out before its files are to be read
+abbrev pub FailsToStart : view_phase.Phase → Answer → Refusal → Type 0
+FailsToStart m answer refusal = (refusal ≡ refusals.Memory) × (v : View) × reader.Goes m answer (readers.Ready v)
+
+-- The refusal that an answer shows, but for memory, which may run out too where more is read: one of the view's reader;
+-- a data file has none of the rows that it should have; or it is absent, and the snapshot read again is absent, or
+-- stands.
+abbrev pub Shown : Phase → Answer → Refusal → Type 0
+Shown (phases.View m) answer refusal = FailsToStart m answer refusal ⊎ reader.Shown m answer refusal
+Shown (phases.Files r) (answers.Found (Some bytes)) refusal =
+    (refusal ≡ refusals.Memory) ⊎ RefusesFile r.collected.schema r.next bytes r.collected.rows refusal
+Shown (phases.Again id path) (answers.Found None) refusal = refusal ≡ refusals.Expired id
+Shown (phases.Again id path) (answers.Found (Some bytes)) refusal = refusal ≡ refusals.Damaged path 0
+Shown phase other refusal = ⊥
+
+abbrev pub Refuses : Phase → Answer → Refusal → Phase → Type 0
+Refuses phase answer refusal later = Shown phase answer refusal × (later ≡ phases.Over)
+
+abbrev pub Stops : Phase → Phase → Type 0
+Stops phase later = later ≡ phases.Over
+
+-- what a step that goes on has reached
+abbrev pub Reaches : ScanStep → Phase → Type 0
+Reaches steps.More phase = 0 < calls_left phase
+Reaches steps.Ready phase = IsReady phase
+
+abbrev pub reached_at : Phase → ScanStep
+reached_at (phases.Ready id rows) = steps.Ready
+reached_at other = steps.More

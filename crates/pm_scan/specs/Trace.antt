@@ -1,0 +1,130 @@
+-- The own calls of a scanner, and what they show.
+use Rattle.std.specs.Prelude.{◌≡◌, ◌⊎◌, ℕ, List, [], ◌∷◌, ◌++◌, Option, None, Some, Result, IfErr}
+use Rattle.pm_values.specs.declared.record.Stamped.{Stamped}
+use Rattle.pm_values.specs.declared.refusal.Refusal.{Refusal}
+use Rattle.pm_values.specs.declared.refusal.Refusal.TheVariants as refusals
+use Rattle.pm_store.specs.declared.call.Call.TheVariants as calls
+use Rattle.pm_store.specs.Store.{StoreView}
+use Rattle.pm_machine.specs.Trace.{Acts, Event, faulted}
+use Rattle.pm_engine.specs.OfSchema.{meaning_of}
+use Rattle.pm_merge.specs.Merge.{IsMerge}
+use Rattle.pm_folder.specs.Paths.{snapshot_path}
+use Rattle.pm_table_view.specs.Asked.{Asked}
+use Rattle.pm_table_view.specs.Trace as reader
+use Rattle.pm_table_view.specs.Trace.{HasView, read_file}
+use Rattle.pm_table_view.specs.declared.view.View.{View}
+use Rattle.pm_scan.specs.Collected.{Collected, RefusesFile, Takes, nothing_of}
+use Rattle.pm_scan.specs.Jobs.{all_jobs}
+use Rattle.pm_scan.specs.declared.job.Job.{Job}
+use Rattle.pm_scan.specs.declared.phase.Phase.{Phase}
+use Rattle.pm_scan.specs.declared.phase.Phase.TheVariants as phases
+use Rattle.pm_scan.specs.declared.scanner.ScanStep.{ScanStep}
+
+-- ---- how far the calls have come
+
+-- each of the files was read, in their order, and this is what they made of what was collected
+abbrev pub HaveRead : List Job → Collected → Collected → List Event → Type 0
+HaveRead [] old new own = (new ≡ old) × (own ≡ [])
+HaveRead (job ∷ jobs) old new own = (bytes : List ℕ) × (middle : Collected) × (events : List Event)
+    × Takes job bytes old middle × (own ≡ read_file job.path (Some bytes) ∷ events) × HaveRead jobs middle new events
+
+-- the view was read, its files are those that were read and those that are left, and this is what the first have
+pub record HasPart (a : Asked) (v : View) (c : Collected) (rest : List Job) (own : List Event) : Type 0 where
+  pub first : List Event
+  pub viewed : HasView a v first
+  pub done : List Job
+  pub parts : all_jobs v.schema v.groups.entries ≡ done ++ rest
+  pub reads : List Event
+  pub read : HaveRead done (nothing_of v.schema) c reads
+  pub is : own ≡ first ++ reads
+
+-- and this was found at the path of the next file
+abbrev pub FindsNext : Asked → View → Collected → Job → List Job → Option (List ℕ) → List Event → Type 0
+FindsNext a v c job rest found own = (earlier : List Event) × HasPart a v c (job ∷ rest) earlier
+    × (own ≡ earlier ++ read_file job.path found ∷ [])
+
+-- a data file of the view was found absent at the path
+pub record LacksFile (a : Asked) (id : ℕ) (path : List ℕ) (own : List Event) : Type 0 where
+  pub view : View
+  pub collected : Collected
+  pub job : Job
+  pub rest : List Job
+  pub is_id : id ≡ view.id
+  pub is_path : path ≡ job.path
+  pub absent : FindsNext a view collected job rest None own
+
+-- and then this was found at the path of the snapshot
+abbrev pub ReadsAgain : Asked → ℕ → List ℕ → Option (List ℕ) → List Event → Type 0
+ReadsAgain a id path found own =
+    (earlier : List Event) × LacksFile a id path earlier × (own ≡ earlier ++ read_file (snapshot_path id) found ∷ [])
+
+-- all files of the view were read, and the rows are those that its groups show
+pub record HasScan (a : Asked) (id : ℕ) (rows : List Stamped) (own : List Event) : Type 0 where
+  pub view : View
+  pub collected : Collected
+  pub is_id : id ≡ view.id
+  pub all_read : HasPart a view collected [] own
+  pub merged : IsMerge (meaning_of collected.schema) collected.shown rows
+
+-- ---- what they show
+
+-- calls after which memory may have run out, once the view was read
+pub data MayEnd (a : Asked) (own : List Event) : Type 0 where
+  at_part : (v : View) (c : Collected) (rest : List Job) → HasPart a v c rest own → MayEnd a own
+  at_file : (v : View) (c : Collected) (job : Job) (rest : List Job) (found : Option (List ℕ))
+      → FindsNext a v c job rest found own → MayEnd a own
+  at_lack : (id : ℕ) (path : List ℕ) → LacksFile a id path own → MayEnd a own
+
+-- the last call failed, and names its path
+pub data IsFailed (a : Asked) (path : List ℕ) (own : List Event) : Type 0 where
+  in_file : (v : View) (c : Collected) (job : Job) (rest : List Job) (earlier : List Event)
+      → HasPart a v c (job ∷ rest) earlier → path ≡ job.path → own ≡ earlier ++ faulted (calls.Read path) ∷ []
+      → IsFailed a path own
+  in_again : (id : ℕ) (absent : List ℕ) (earlier : List Event) → LacksFile a id absent earlier → path ≡ snapshot_path id
+      → own ≡ earlier ++ faulted (calls.Read path) ∷ [] → IsFailed a path own
+
+-- a data file was found with bytes that are refused so
+abbrev pub Misreads : Asked → Refusal → List Event → Type 0
+Misreads a refusal own = (v : View) × (c : Collected) × (job : Job) × (rest : List Job) × (bytes : List ℕ)
+    × RefusesFile c.schema job bytes c.rows refusal × FindsNext a v c job rest (Some bytes) own
+
+-- a data file is damaged: it was absent though the snapshot stands, or its bytes are refused so
+abbrev pub IsDamaged : Asked → List ℕ → ℕ → List Event → Type 0
+IsDamaged a path place own =
+    ((place ≡ 0) × (id : ℕ) × (bytes : List ℕ) × ReadsAgain a id path (Some bytes) own)
+    ⊎ Misreads a (refusals.Damaged path place) own
+
+-- which calls that came after the view was read show a refusal
+abbrev pub ShowsOfFiles : Asked → Refusal → List Event → Type 0
+ShowsOfFiles a refusals.Memory own = MayEnd a own
+ShowsOfFiles a (refusals.StoreFault path) own = IsFailed a path own
+ShowsOfFiles a (refusals.Expired id) own = (path : List ℕ) × ReadsAgain a id path None own
+ShowsOfFiles a (refusals.Damaged path place) own = IsDamaged a path place own
+ShowsOfFiles a (refusals.Unsupported what text) own = Misreads a (refusals.Unsupported what text) own
+ShowsOfFiles a other own = ⊥
+
+-- which calls show a refusal: those of the view's reader, or those that came after it was ready
+abbrev pub Shows : Asked → Refusal → List Event → Type 0
+Shows a refusal own = reader.Shows a refusal own ⊎ ShowsOfFiles a refusal own
+
+-- its calls so far, by its phase, where this was asked: at its end they show a refusal
+abbrev pub Did : Asked → Phase → List Event → Type 0
+Did a (phases.View m) own = reader.Did a m own
+Did a (phases.Files r) own =
+    (v : View) × (r.id ≡ v.id) × HasPart a v r.collected (r.next ∷ r.rest) own
+Did a (phases.Again id path) own = LacksFile a id path own
+Did a (phases.Ready id rows) own = HasScan a id rows.items own
+Did a phases.Over own = (refusal : Refusal) × Shows a refusal own
+
+-- Whatever was asked, its next call is the next event of its calls so far, or none was made; and a refusal is shown by
+-- the calls up to it.
+abbrev pub ScannerActed : Phase → Phase → StoreView → StoreView → Result ScanStep Refusal → Type 0
+ScannerActed old new before after result = (a : Asked)
+    → Acts (Did a old) (λ own. Did a new own × IfErr result (λ refusal. Shows a refusal own)) before after
+
+-- something was asked, and these are the calls so far, or those that show a refusal
+abbrev pub DidSome : Phase → List Event → Type 0
+DidSome phase own = (a : Asked) × Did a phase own
+
+abbrev pub SomeShows : Refusal → List Event → Type 0
+SomeShows refusal own = (a : Asked) × Shows a refusal own

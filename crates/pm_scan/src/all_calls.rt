@@ -1,0 +1,76 @@
+//! All calls of a scanner of a table whose schema was read, one after another.
+
+ghost use Rattle.std.specs.Prelude.{◌≡◌, ◌<◌, IfOk};
+ghost use Rattle.pm_machine.specs.Trace.{HasTrace};
+ghost use Rattle.pm_options.specs.declared.kinds.EngineKind.TheVariants as engines;
+ghost use Rattle.pm_schema.specs.Again.{IsDeclared};
+ghost use Rattle.pm_store.specs.Store.{StoreView, IsLater};
+ghost use Rattle.pm_table_view.specs.Asked.{Asked as AskedView};
+ghost use Rattle.pm_table_view.specs.declared.phase.Phase.TheVariants as readers;
+ghost use Rattle.pm_scan.specs.AllCalls.{asked_at, rows_in, DidScan, Ends, Has, ScansTables};
+ghost use Rattle.pm_scan.specs.Scanner.{calls_left};
+ghost use Rattle.pm_scan.specs.Trace.{Did};
+ghost use Rattle.pm_scan.specs.declared.phase.Phase.TheVariants as phases;
+
+use crate::laws::all_calls_law;
+use crate::scanner::Scanner;
+use pm_schema::TableSchema;
+use pm_store::FileStore;
+use pm_values::{Refusal, Stamped};
+use std::alloc::Global;
+
+/// Scans the table whose schema was just read, at its latest snapshot or the one with that id: all further calls, one
+/// after another. What it promises is said from whatever moment on that reading began.
+pub fn scan_table<F: FileStore>(
+    alloc: Global,
+    schema: TableSchema,
+    at: Option<u64>,
+    store: &mut F,
+) -> Result<Vec<Stamped>, Refusal>
+    requires declared { IsDeclared schema }
+    requires built { schema.options.engine ≡ engines.Deduplicate }
+    ensures trace { (first : StoreView) → HasTrace (Has schema) first (F.seen store.old)
+        → HasTrace (DidScan schema at (rows_in result)) first (F.seen store.new) }
+    ensures history { (first : StoreView) → HasTrace (Has schema) first (F.seen store.old)
+        → ScansTables schema at first (F.seen store.new) (rows_in result) }
+    ensures later { IsLater (F.seen store.old) (F.seen store.new) }
+{
+    all_calls_law();
+    make_calls(alloc, scanner_of(schema, at), store)
+}
+
+/// A scanner of the table at its latest snapshot, or the one with that id.
+fn scanner_of(schema: TableSchema, at: Option<u64>) -> Scanner
+    requires declared { IsDeclared schema }
+    requires built { schema.options.engine ≡ engines.Deduplicate }
+    ensures { result ≡ phases.View (readers.List (asked_at schema at)) }
+{
+    match at {
+        Some(id) => Scanner::at(schema, id),
+        None => Scanner::newest(schema),
+    }
+}
+
+/// Makes all calls that are left, or those up to a refusal.
+fn make_calls<F: FileStore>(
+    alloc: Global,
+    scanner: Scanner,
+    store: &mut F,
+) -> Result<Vec<Stamped>, Refusal>
+    requires { 0 < calls_left scanner }
+    ensures trace { (a : AskedView) (first : StoreView) → HasTrace (Did a scanner) first (F.seen store.old)
+        → HasTrace (Ends a (rows_in result)) first (F.seen store.new) }
+    ensures later { IsLater (F.seen store.old) (F.seen store.new) }
+{
+    let mut scanner = scanner;
+    while !scanner.is_ready() {
+        match scanner.step(alloc, store) {
+            Ok(_) => {}
+            Err(refusal) => {
+                drop(scanner);
+                return Err(refusal);
+            }
+        }
+    }
+    Ok(scanner.into_rows())
+}

@@ -1,0 +1,96 @@
+//! Laws of scanners.
+
+ghost use Rattle.std.specs.Prelude.{◌≡◌, List, [], ◌∷◌, ℕ, Option, None, Some, Result};
+ghost use Rattle.std.specs.BTreeMap.{IsOrdered};
+ghost use Rattle.std.specs.FinMap as map;
+ghost use Rattle.pm_values.specs.GroupOrder.{group_cmp};
+ghost use Rattle.pm_engine.specs.Covers.{Run};
+ghost use Rattle.pm_engine.specs.OfSchema.{meaning_of};
+ghost use Rattle.pm_history.specs.History.{IsTableOf};
+ghost use Rattle.pm_merge.specs.Merge.{IsMerge};
+ghost use Rattle.pm_schema.specs.declared.schema.TableSchema.{TableSchema};
+ghost use Rattle.pm_folder.specs.Changes.{Actor};
+ghost use Rattle.pm_folder.specs.Ledger.{Advances, Past, Stands};
+ghost use Rattle.pm_store.specs.declared.call.Call.{Call};
+ghost use Rattle.pm_store.specs.Files.{Files};
+ghost use Rattle.pm_store.specs.Images.{MayLeave};
+ghost use Rattle.pm_table_view.specs.Meaning.{HasGone, IsKept, IsViewIn};
+ghost use Rattle.pm_table_view.specs.declared.view.View.{View};
+ghost use Rattle.pm_machine.specs.Trace.{HasTrace};
+ghost use Rattle.pm_schema.specs.Again.{IsDeclared};
+ghost use Rattle.pm_store.specs.Store.{StoreView};
+ghost use Rattle.pm_values.specs.declared.record.Stamped.{Stamped};
+ghost use Rattle.pm_values.specs.declared.refusal.Refusal.{Refusal};
+ghost use Rattle.pm_scan.specs.AllCalls.{DidScan, ScansTables};
+ghost use Rattle.pm_scan.specs.Collected.{Collected, Takes, nothing_of};
+ghost use Rattle.pm_scan.specs.Jobs.{all_jobs};
+ghost use Rattle.pm_scan.specs.Meaning.{HaveTaken, IsReadingOf, IsScan, Knows};
+ghost use Rattle.pm_scan.specs.Reading.{ReadingView, reading_of};
+ghost use Rattle.pm_scan.specs.Scanner.{next_call};
+ghost use Rattle.pm_scan.specs.declared.job.Job.{Job};
+ghost use Rattle.pm_scan.specs.declared.phase.Phase.{Phase};
+
+use pm_contents::{one_contents_law, one_runs_law};
+use pm_manifest::{Entry, ManifestMeta, joined_law};
+use pm_record::one_reading_law;
+use pm_run::{one_list_law, order_law};
+use pm_schema::{declared_law, schema_law};
+use pm_shown::scan_law;
+
+/// What a scanner knows stays true through each kind of change of every actor.
+pub fn known_law()
+    ensures { (m : Phase) (other : Actor) (f after : Files) (p q : Past) → Stands f p → Advances other f p after q
+        → Knows m f p → Knows m after q }
+{}
+
+/// Whatever a crash leaves of a scanner's next call has the same content at each path.
+pub fn images_law()
+    ensures { (m : Phase) (call : Call) (f image : Files) (p : Past) → next_call m ≡ Some call
+        → MayLeave call f image → IsKept f p image p }
+{}
+
+/// What is known of a view and of its files, whatever others do: once the view was read; once its next file was; once
+/// that is absent, so that the snapshot has gone; and once all were read, so that the rows are those of the table.
+pub(crate) fn files_law()
+    ensures first { (p : Past) (v : View) (job : Job) (jobs : List Job) → IsTableOf v.schema p.history → IsViewIn p v
+        → IsOrdered group_cmp v.groups → all_jobs v.schema v.groups.entries ≡ job ∷ jobs
+        → IsReadingOf p (reading_of v.id (nothing_of v.schema) job jobs) }
+    ensures all { (f : Files) (p : Past) (v : View) → Stands f p → IsTableOf v.schema p.history → IsViewIn p v
+        → IsOrdered group_cmp v.groups → (c : Collected) (rows : Run)
+        → HaveTaken (p.stood v.id) (all_jobs v.schema v.groups.entries) (nothing_of v.schema) c
+        → IsMerge (meaning_of c.schema) c.shown rows → IsScan p v.id rows }
+    ensures more { (f : Files) (p : Past) → Stands f p → (r : ReadingView) → IsReadingOf p r
+        → (bytes : List ℕ) (c : Collected) (job : Job) (jobs : List Job) → map.get f r.next.path ≡ Some bytes
+        → Takes r.next bytes r.collected c → r.rest ≡ job ∷ jobs → IsReadingOf p (reading_of r.id c job jobs) }
+    ensures last { (f : Files) (p : Past) → Stands f p → (r : ReadingView) → IsReadingOf p r
+        → (bytes : List ℕ) (c : Collected) (rows : Run) → map.get f r.next.path ≡ Some bytes
+        → Takes r.next bytes r.collected c → r.rest ≡ [] → IsMerge (meaning_of c.schema) c.shown rows
+        → IsScan p r.id rows }
+    ensures gone { (f : Files) (p : Past) → Stands f p → (r : ReadingView) → IsReadingOf p r
+        → map.get f r.next.path ≡ None → (s : TableSchema) × HasGone f p s r.id }
+{
+    declared_law();
+    schema_law();
+    one_contents_law();
+    one_runs_law();
+    one_list_law();
+    order_law();
+    pm_run::reading_law();
+    scan_law();
+}
+
+/// What all calls of a scan show of a history that stands at the first of them, where nobody else acts from then on.
+pub(crate) fn all_calls_law()
+    ensures { (s : TableSchema) (at : Option ℕ) (result : Result (List Stamped) Refusal) (before after : StoreView)
+        → IsDeclared s → HasTrace (DidScan s at result) before after → ScansTables s at before after result }
+{
+    joined_law();
+    one_reading_law::<ManifestMeta>();
+    one_reading_law::<Entry>();
+    one_contents_law();
+    one_runs_law();
+    one_list_law();
+    order_law();
+    pm_run::reading_law();
+    scan_law();
+}

@@ -1,0 +1,137 @@
+//! The scanner of a table.
+
+ghost use Rattle.std.specs.Prelude.{◌≡◌, ◌↔◌, ◌<◌, ℕ, IfOk, OnOk, OnErr, IsTrue};
+ghost use Rattle.pm_options.specs.declared.kinds.EngineKind.TheVariants as engines;
+ghost use Rattle.pm_schema.specs.Again.{IsDeclared};
+ghost use Rattle.pm_store.specs.Store.{IsLater};
+ghost use Rattle.pm_table_view.specs.Asked.{asked_of};
+ghost use Rattle.pm_table_view.specs.declared.asked.Wanted.TheVariants as wants;
+ghost use Rattle.pm_table_view.specs.declared.phase.Phase.TheVariants as readers;
+ghost use Rattle.pm_scan.specs.Meaning.{ScannerMoved};
+ghost use Rattle.pm_scan.specs.Scanner.{calls_left, reached_at, IsReady, IsScanner, Reaches};
+ghost use Rattle.pm_scan.specs.Trace.{ScannerActed};
+ghost use Rattle.pm_scan.specs.declared.phase.Phase.TheVariants as phases;
+
+use crate::laws::files_law;
+use crate::phase::Phase;
+use pm_machine::step;
+use pm_manifest::{ManifestMeta, joined_law};
+use pm_record::one_reading_law;
+use pm_schema::TableSchema;
+use pm_store::FileStore;
+use pm_table_view::ViewReader;
+use pm_values::{Refusal, Stamped};
+use std::alloc::Global;
+use std::marker::Model;
+
+/// What a step of a scanner reached: it goes on, or the rows are ready.
+#[derive(Clone, Copy)]
+pub enum ScanStep {
+    More,
+    Ready,
+}
+
+/// Reads the rows of a table at a snapshot, a call of the store a step.
+#[derive(Drop)]
+pub struct Scanner {
+    pub(crate) phase: Phase,
+}
+
+impl Model for Scanner {
+    ghost use Rattle.pm_scan.specs.Scanner.{IsScanner};
+    ghost use Rattle.pm_scan.specs.contracts.phase.Phase as phases;
+    ghost use Rattle.pm_scan.specs.declared.phase.Phase.{Phase};
+
+    ghost Value = { Phase };
+
+    ghost coded = { phases.the_row.coded };
+
+    ghost view = { λ s. s.phase };
+
+    ghost invariant = { λ s. IsScanner s.phase };
+}
+
+impl Scanner {
+    /// A scanner of the table with this schema, which was just read, at its latest snapshot. The table's engine has to
+    /// be one that is built.
+    pub fn newest(schema: TableSchema) -> Scanner
+        requires declared { IsDeclared schema }
+        requires built { schema.options.engine ≡ engines.Deduplicate }
+        ensures { result ≡ phases.View (readers.List (asked_of schema wants.Newest)) }
+    {
+        Scanner {
+            phase: Phase::View {
+                reader: ViewReader::newest(schema),
+            },
+        }
+    }
+
+    /// The same at the snapshot with this id.
+    pub fn at(schema: TableSchema, id: u64) -> Scanner
+        requires declared { IsDeclared schema }
+        requires built { schema.options.engine ≡ engines.Deduplicate }
+        ensures { result ≡ phases.View (readers.List (asked_of schema (wants.At id))) }
+    {
+        Scanner {
+            phase: Phase::View {
+                reader: ViewReader::at(schema, id),
+            },
+        }
+    }
+
+    /// Whether the rows are ready.
+    pub fn is_ready(&self) -> bool
+        ensures { IsTrue result ↔ IsReady self.now }
+    {
+        matches!(self.phase, Phase::Ready { .. })
+    }
+
+    /// The rows by rising key, once they are ready.
+    pub fn into_rows(self) -> Vec<Stamped>
+        requires { IsReady self }
+        ensures { (id : ℕ) × (self ≡ phases.Ready id result) }
+    {
+        let Scanner { phase } = self;
+        match phase {
+            Phase::Ready { rows, .. } => rows,
+            _ => unreachable!(),
+        }
+    }
+
+    /// Makes the next call of the store. After a refusal, and once the rows are ready, no call is left.
+    pub fn step<F: FileStore>(&mut self, alloc: Global, store: &mut F) -> Result<ScanStep, Refusal>
+        requires { 0 < calls_left self.old }
+        ensures moves { ScannerMoved self.old self.new (F.seen store.old) (F.seen store.new) }
+        ensures acts { ScannerActed self.old self.new (F.seen store.old) (F.seen store.new) result }
+        ensures reaches { IfOk result (λ step. Reaches step self.new) }
+        ensures fewer { OnOk result (calls_left self.new < calls_left self.old) }
+        ensures over { OnErr result (self.new ≡ phases.Over) }
+        ensures later { IsLater (F.seen store.old) (F.seen store.new) }
+    {
+        joined_law();
+        one_reading_law::<ManifestMeta>();
+        files_law();
+        self.known();
+        match step(alloc, self, store) {
+            Ok(()) => Ok(self.reached()),
+            Err(refusal) => Err(refusal),
+        }
+    }
+
+    /// States for clauses what each scanner is.
+    fn known(&self)
+        ensures { IsScanner self.now }
+    {
+        let _ = &self.phase;
+    }
+
+    /// What a step that went on has reached.
+    fn reached(&self) -> ScanStep
+        ensures { result ≡ reached_at self.now }
+    {
+        match self.phase {
+            Phase::Ready { .. } => ScanStep::Ready,
+            _ => ScanStep::More,
+        }
+    }
+}
