@@ -1,5 +1,7 @@
 mod BatchLaws
 mod CreateLaws
+mod ScanLaws
 mod SnapshotLaws
 mod Uncalled
+mod WordLaws
 mod WriteLaws

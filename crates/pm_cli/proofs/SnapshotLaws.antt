@@ -35,7 +35,7 @@ use Rattle.pm_cli.specs.Snapshots.{DidSnapshots, text_of, ListsSnapshots, MayRef
 
 -- ---- its calls
 
-trace_weaker : (P Q : List Event → Type 0) → ((own : List Event) → P own → Q own) → (before after : StoreView) → HasTrace P before after → HasTrace Q before after
+pub trace_weaker : (P Q : List Event → Type 0) → ((own : List Event) → P own → Q own) → (before after : StoreView) → HasTrace P before after → HasTrace Q before after
 trace_weaker P Q weaker before after (own, did, traces) = (own, weaker own did, traces)
 
 pub read_refused : (e : Refusal) (before after : StoreView) → HasTrace (DidRead (Err e)) before after → HasTrace (DidSnapshots (made_of (Err e))) before after
@@ -82,21 +82,21 @@ memory_trace lines before after =
 
 -- ---- files that stay
 
-files_of : (P : Files → Type 0) (store : StoreView) → LeavesFiles P store → (f : Files) × HasFiles f store × P f
+pub files_of : (P : Files → Type 0) (store : StoreView) → LeavesFiles P store → (f : Files) × HasFiles f store × P f
 files_of P store = at_ops store.ops
   where
     at_ops : (ops : Option (List Op)) → IsSomeAnd ops (λ ops. P (files_after ops)) → (f : Files) × IsSomeAnd ops (λ ops. files_after ops ≡ f) × P f
     at_ops None is = absurd is
     at_ops (Some ops) is = (files_after ops, refl, is)
 
-leaves_of : (P : Files → Type 0) (f : Files) (store : StoreView) → HasFiles f store → P f → LeavesFiles P store
+pub leaves_of : (P : Files → Type 0) (f : Files) (store : StoreView) → HasFiles f store → P f → LeavesFiles P store
 leaves_of P f store = at_ops store.ops
   where
     at_ops : (ops : Option (List Op)) → IsSomeAnd ops (λ ops. files_after ops ≡ f) → P f → IsSomeAnd ops (λ ops. P (files_after ops))
     at_ops None is p = is
     at_ops (Some ops) is p = subst P (sym is) p
 
-images_of : (P : Files → Type 0) (f : Files) (first after : Option (List Op)) → Extends (λ image. image ≡ f) first after → P f → Extends P first after
+pub images_of : (P : Files → Type 0) (f : Files) (first after : Option (List Op)) → Extends (λ image. image ≡ f) first after → P f → Extends P first after
 images_of P f first after images p = Extends-weaker (λ image. image ≡ f) P first after (λ image is. subst P (sym is) p) images
 
 -- files that stay go on to stand for a history
@@ -110,7 +110,7 @@ keeps h f first after made folder stay makes = record {
 
 -- ---- what a history may be refused for
 
-caused : (h : History) (first after : StoreView) (e : Refusal) → IsCaused h first after e → MayRefuse h first after e
+pub caused : (h : History) (first after : StoreView) (e : Refusal) → IsCaused h first after e → MayRefuse h first after e
 caused h first after refusals.Memory is = tt
 caused h first after refusals.NoTable is = is
 caused h first after (refusals.StoreFault path) is = is
@@ -157,7 +157,7 @@ unbuilt_caused h first after s e is why = at_refusal e why (subst (λ (o : Optio
     at_refusal (refusals.Unsupported what text) why text_is = (s, is, why)
     at_refusal other why text_is = absurd text_is
 
-judged_caused : (h : History) (first after : StoreView) (s : TableSchema) (e : Refusal) → IsTableOf s h
+pub judged_caused : (h : History) (first after : StoreView) (s : TableSchema) (e : Refusal) → IsTableOf s h
     → (e ≡ refusals.Memory) ⊎ (unbuilt s ≡ Some e) → MayRefuse h first after e
 judged_caused h first after s e is (inl memory) = subst (MayRefuse h first after) (sym memory) tt
 judged_caused h first after s e is (inr why) = unbuilt_caused h first after s e is why
@@ -238,8 +238,8 @@ refusal_answers h first before after e may = may
 made_answers : (h : History) (first : StoreView) (before after : Outside) (made : Result (List SnapshotLine) Refusal) (answer : Option Refusal)
     → MakesLines h first after.store made → Prints (text_of made) None (result_err made) before.out after.out answer → AnswersHistory h first before after answer
 made_answers h first before after (Ok lines) None (some, at) prints = (some, (lines, at, prints))
-made_answers h first before after (Ok lines) (Some e) makes (fault, failed, prefix) =
-    subst (λ (e : Refusal). AnswersHistory h first before after (Some e)) (sym fault) failed
+made_answers h first before after (Ok lines) (Some e) (some, at) (fault, failed, prefix) =
+    subst (λ (e : Refusal). AnswersHistory h first before after (Some e)) (sym fault) (failed, some, (lines, at, prefix))
 made_answers h first before after (Err e) answer makes (is, untaken) =
     subst (AnswersHistory h first before after) (sym is) (refusal_answers h first before after e makes)
 

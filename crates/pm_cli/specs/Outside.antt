@@ -38,10 +38,10 @@ pub record AllLater (before after : Outside) : Type 0 where
   pub out : before.out.faults ≤ after.out.faults
   pub store : IsLater before.store after.store
 
--- nothing was printed, and the store wasn't called
+-- the sink and the store weren't called
 pub record IsUntouched (before after : Outside) : Type 0 where
   pub store : IsUncalled before.store after.store
-  pub out : after.out.taken ≡ before.out.taken
+  pub out : after.out ≡ before.out
 
 -- the work was done, or memory ran out
 abbrev pub IsServed : Option Refusal → Type 0
@@ -55,22 +55,24 @@ pub record HasNoFault (before : Outside) (first : StoreView) (after : Outside) :
   pub out : SinkFailed before.out after.out → ⊥
   pub store : Rose first.faults after.store.faults → ⊥
 
--- What a command prints and answers, by why it made nothing, if it didn't. What it made is printed as this text; where
--- the sink failed in it, a prefix was, and the refusal names the snapshot that it made, if it did.
+-- What a command prints and answers, by why it made nothing, if it didn't: then the sink wasn't called. What it made is
+-- printed as this text; where the sink failed in it, a prefix was, and the refusal names the snapshot that it made, if
+-- it did.
 abbrev pub Prints : List ℕ → Option ℕ → Option Refusal → SinkView → SinkView → Option Refusal → Type 0
 Prints text snapshot None before after None = after.taken ≡ and_then before.taken text
 Prints text snapshot None before after (Some e) =
     (e ≡ refusals.SinkFault snapshot) × SinkFailed before after × TookPrefix before.taken after.taken text
-Prints text snapshot (Some refusal) before after answer = (answer ≡ Some refusal) × (after.taken ≡ before.taken)
+Prints text snapshot (Some refusal) before after answer = (answer ≡ Some refusal) × (after ≡ before)
 
 -- the exit status: 0, or the number of the refusal
 abbrev pub exit_code : Option Refusal → ℕ
 exit_code None = 0
 exit_code (Some refusal) = code_of refusal
 
--- what was said of an answer: nothing, or the line of the refusal, or a prefix of it where a fault came
+-- what was said of an answer: nothing, and the sink wasn't called; or the line of the refusal, or a prefix of it where
+-- a fault came
 abbrev pub Said : Option Refusal → SinkView → SinkView → Type 0
-Said None before after = after.taken ≡ before.taken
+Said None before after = after ≡ before
 Said (Some refusal) before after =
     (after.taken ≡ and_then before.taken (report_text refusal))
     ⊎ (SinkFailed before after × TookPrefix before.taken after.taken (report_text refusal))

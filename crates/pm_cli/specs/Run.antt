@@ -3,6 +3,7 @@ use Rattle.std.specs.Prelude.{◌≡◌, ℕ, List, Option, Some, IfSome}
 use Rattle.pm_values.specs.declared.refusal.Refusal.{Refusal}
 use Rattle.pm_cli.specs.Create.{AnswersCreate, ActsCreate, CreatesTables}
 use Rattle.pm_cli.specs.Outside.{Start, Outside}
+use Rattle.pm_cli.specs.Scan.{Scans, ScansTables}
 use Rattle.pm_cli.specs.Snapshots.{ListsSnapshots, ListsTables}
 use Rattle.pm_cli.specs.Write.{Writes, WriteCause, WritesHistories}
 use Rattle.pm_cli.specs.declared.words.Command.{Command}
@@ -12,19 +13,23 @@ use Rattle.pm_cli.specs.declared.words.Command.TheVariants as commands
 abbrev pub Answers : Command → Start → Outside → Outside → Option Refusal → Type 0
 Answers commands.Create start before after answer =
     (bytes : List ℕ) → before.input.left ≡ Some bytes → AnswersCreate start bytes before after answer
+Answers (commands.Scan snapshot) start before after answer =
+    (after.input ≡ before.input) × Scans snapshot before after answer
 Answers commands.Snapshots start before after answer =
-    (after.input.left ≡ before.input.left) × ListsSnapshots before after answer
+    (after.input ≡ before.input) × ListsSnapshots before after answer
 Answers commands.Write start before after answer =
     (bytes : List ℕ) → before.input.left ≡ Some bytes → Writes bytes before after answer
 
 -- what it does, and why it refuses, whatever is known
 abbrev pub Acts : Command → Start → Outside → Outside → Option Refusal → Type 0
 Acts commands.Create start before after answer = ActsCreate start before after answer
+Acts (commands.Scan snapshot) start before after answer = Scans snapshot before after answer
 Acts commands.Snapshots start before after answer = ListsSnapshots before after answer
 Acts commands.Write start before after answer = IfSome answer (WriteCause before after)
 
 -- what it promises of histories
 abbrev pub ServesHistories : Command → Start → Outside → Outside → Option Refusal → Type 0
 ServesHistories commands.Create start before after answer = CreatesTables start before after answer
+ServesHistories (commands.Scan snapshot) start before after answer = ScansTables snapshot before after answer
 ServesHistories commands.Snapshots start before after answer = ListsTables before after answer
 ServesHistories commands.Write start before after answer = WritesHistories before after answer

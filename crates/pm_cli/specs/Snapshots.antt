@@ -5,7 +5,7 @@ use Rattle.pm_base.specs.Faults.{Rose}
 use Rattle.pm_base.specs.Known.{and_then}
 use Rattle.pm_values.specs.declared.refusal.Refusal.{Refusal}
 use Rattle.pm_values.specs.declared.refusal.Refusal.TheVariants as refusals
-use Rattle.pm_io.specs.Sink.{SinkView, SinkFailed}
+use Rattle.pm_io.specs.Sink.{SinkView, SinkFailed, TookPrefix}
 use Rattle.pm_store.specs.Answers.{IsFirst}
 use Rattle.pm_store.specs.Images.{Extends}
 use Rattle.pm_store.specs.Store.{StoreView, IsAlone}
@@ -62,14 +62,17 @@ MayRefuse h first after (refusals.Unsupported what text) =
 MayRefuse h first after (refusals.StoreFault path) = Rose first.faults after.faults
 MayRefuse h first after other = ⊥
 
--- The answer to a history: the lines of exactly the snapshots that the folder of the table has were printed; a fault of
--- the sink; or what it may be refused for.
+-- The answer to a history: the lines of exactly the snapshots that the folder of the table has were printed; or a
+-- prefix of them, where the sink failed; or what it may be refused for.
 abbrev pub AnswersHistory : History → StoreView → Outside → Outside → Option Refusal → Type 0
 AnswersHistory h first before after None =
     (h ≢ no_table)
     × ((lines : List SnapshotLine) × LeavesFiles (λ f. AreLinesOf f lines) first
     × (after.out.taken ≡ and_then before.out.taken (snapshots_text lines)))
-AnswersHistory h first before after (Some (refusals.SinkFault snapshot)) = SinkFailed before.out after.out
+AnswersHistory h first before after (Some (refusals.SinkFault snapshot)) =
+    SinkFailed before.out after.out × (h ≢ no_table)
+    × ((lines : List SnapshotLine) × LeavesFiles (λ f. AreLinesOf f lines) first
+    × TookPrefix before.out.taken after.out.taken (snapshots_text lines))
 AnswersHistory h first before after (Some e) = MayRefuse h first after.store e
 
 -- what `snapshots` does to a history: the folder goes on to stand for it, and each image does

@@ -4,10 +4,11 @@ ghost use Rattle.std.specs.Prelude.{◌≡◌, IfOk};
 ghost use Rattle.std.specs.Result.{result_err};
 ghost use Rattle.pm_cli.specs.Outside.{outside, start_of, AllLater, IsUntouched};
 ghost use Rattle.pm_cli.specs.Run.{Acts, Answers, ServesHistories};
-ghost use Rattle.pm_cli.specs.Words.{words_of, GiveNoCommand, IsNoCommand};
+ghost use Rattle.pm_cli.specs.Words.{Give, GiveNoCommand, IsNoCommand};
 ghost use Rattle.pm_cli.specs.declared.words.Command.{Command};
 
 use crate::create::run_create;
+use crate::scan::run_scan;
 use crate::snapshots::run_snapshots;
 use crate::words::{Command, command_in, no_command};
 use crate::write::run_write;
@@ -27,18 +28,18 @@ pub(crate) fn execute<S: Source, W: Sink, F: FileStore>(
     session: [u8; 16],
 ) -> Result<(), Refusal>
     ensures no_command { GiveNoCommand words.now → IsNoCommand words.now (result_err result)
-        × ((S.seen input.new).left ≡ (S.seen input.old).left)
+        × (S.seen input.new ≡ S.seen input.old)
         × IsUntouched (outside (S.seen input.old) (W.seen out.old) (F.seen store.old))
         (outside (S.seen input.new) (W.seen out.new) (F.seen store.new)) }
-    ensures command { (command : Command) → words.now ≡ words_of command
+    ensures command { (command : Command) → Give words.now command
         → Answers command (start_of session now_millis)
         (outside (S.seen input.old) (W.seen out.old) (F.seen store.old))
         (outside (S.seen input.new) (W.seen out.new) (F.seen store.new)) (result_err result) }
-    ensures acts { (command : Command) → words.now ≡ words_of command
+    ensures acts { (command : Command) → Give words.now command
         → Acts command (start_of session now_millis)
         (outside (S.seen input.old) (W.seen out.old) (F.seen store.old))
         (outside (S.seen input.new) (W.seen out.new) (F.seen store.new)) (result_err result) }
-    ensures history { (command : Command) → words.now ≡ words_of command
+    ensures history { (command : Command) → Give words.now command
         → ServesHistories command (start_of session now_millis)
         (outside (S.seen input.old) (W.seen out.old) (F.seen store.old))
         (outside (S.seen input.new) (W.seen out.new) (F.seen store.new)) (result_err result) }
@@ -75,6 +76,7 @@ fn execute_command<S: Source, W: Sink, F: FileStore>(
 {
     match command {
         Command::Create => run_create(alloc, input, out, store, now_millis, session),
+        Command::Scan { snapshot } => run_scan(alloc, snapshot, out, store),
         Command::Snapshots => run_snapshots(alloc, out, store),
         Command::Write => run_write(alloc, input, out, store),
     }

@@ -5,7 +5,7 @@ ghost use Rattle.pm_io.specs.Sink.{SinkLater};
 ghost use Rattle.pm_report.specs.Report.{code_of};
 ghost use Rattle.pm_cli.specs.Outside.{outside, start_of, AllLater, IsUntouched, exit_code, Said};
 ghost use Rattle.pm_cli.specs.Run.{Acts, Answers, ServesHistories};
-ghost use Rattle.pm_cli.specs.Words.{words_of, GiveNoCommand, IsNoCommand};
+ghost use Rattle.pm_cli.specs.Words.{Give, GiveNoCommand, IsNoCommand};
 ghost use Rattle.pm_cli.specs.declared.words.Command.{Command};
 
 use crate::execute::execute;
@@ -37,22 +37,22 @@ pub fn run<S: Source, W: Sink, V: Sink, F: FileStore>(
     // Words that give no command are refused, and nothing is read, printed or called for them.
     ensures code { result.code ≡ exit_code result.refusal }
     ensures no_command { GiveNoCommand words.now → IsNoCommand words.now result.refusal
-        × ((S.seen input.new).left ≡ (S.seen input.old).left)
+        × (S.seen input.new ≡ S.seen input.old)
         × IsUntouched (outside (S.seen input.old) (W.seen out.old) (F.seen store.old))
         (outside (S.seen input.new) (W.seen out.new) (F.seen store.new)) }
 
     // Each answer of a command, with its cause: where the input is known, and whatever is known.
-    ensures command { (command : Command) → words.now ≡ words_of command
+    ensures command { (command : Command) → Give words.now command
         → Answers command (start_of session now_millis)
         (outside (S.seen input.old) (W.seen out.old) (F.seen store.old))
         (outside (S.seen input.new) (W.seen out.new) (F.seen store.new)) result.refusal }
-    ensures acts { (command : Command) → words.now ≡ words_of command
+    ensures acts { (command : Command) → Give words.now command
         → Acts command (start_of session now_millis)
         (outside (S.seen input.old) (W.seen out.old) (F.seen store.old))
         (outside (S.seen input.new) (W.seen out.new) (F.seen store.new)) result.refusal }
 
     // What stands after each answer and at each moment of the call, what is printed, and that good input is served.
-    ensures history { (command : Command) → words.now ≡ words_of command
+    ensures history { (command : Command) → Give words.now command
         → ServesHistories command (start_of session now_millis)
         (outside (S.seen input.old) (W.seen out.old) (F.seen store.old))
         (outside (S.seen input.new) (W.seen out.new) (F.seen store.new)) result.refusal }

@@ -49,7 +49,7 @@ fn list_built<F: FileStore>(alloc: Global, store: &mut F) -> Result<Lister, Refu
 }
 
 /// Refuses a schema of a table that isn't built.
-fn judge(alloc: Global, schema: &TableSchema) -> Result<(), Refusal>
+pub(crate) fn judge(alloc: Global, schema: &TableSchema) -> Result<(), Refusal>
     ensures built { OnOk result (IsBuilt schema.now) }
     ensures unbuilt { IfErr result (λ e. (e ≡ refusals.Memory) ⊎ (unbuilt schema.now ≡ Some e)) }
 {

@@ -2,6 +2,7 @@ use Rattle.std.proofs.Common.{refl}
 use Rattle.std.proofs.Math.Facts.{to_z-of_z}
 use Rattle.std.specs.Result.{result_err}
 use Rattle.pm_cli.specs.Outside.{outside}
+use Rattle.pm_cli.proofs.ScanLaws.{scanned_serves}
 use Rattle.pm_cli.proofs.SnapshotLaws.{listed_answers, listed_serves}
 use Rattle.pm_cli.proofs.execute.execute_command.Goals as goal
 
@@ -13,6 +14,13 @@ returns-in-Create-clause-acts g c = rw c.in-Create.is (rw (to_z-of_z c.ranges.no
 
 pub returns-in-Create-clause-history : goal.returns-in-Create-clause-history
 returns-in-Create-clause-history g c = rw c.in-Create.is (rw (to_z-of_z c.ranges.now_millis) at c.run_create.ensures.history)
+
+pub returns-in-Scan-clause-history : goal.returns-in-Scan-clause-history
+returns-in-Scan-clause-history g c =
+    rw c.in-Scan.is
+    (scanned_serves c.in-Scan.snapshot (outside (g.S.Source.seen c.args.input.now) (g.W.Sink.seen c.args.out.now) (g.F.FileStore.seen c.args.store.now))
+    (outside (g.S.Source.seen c.args.input.now) (g.W.Sink.seen c.run_scan.new.out) (g.F.FileStore.seen c.run_scan.new.store))
+    (result_err c.run_scan.result) c.run_scan.ensures.scanned)
 
 pub returns-in-Snapshots-clause-command : goal.returns-in-Snapshots-clause-command
 returns-in-Snapshots-clause-command g c =
