@@ -5,11 +5,15 @@ use Rattle.std.specs.Int.Signed.{le_z_yes}
 use Rattle.std.proofs.lemmas.Bool.{and_parts}
 use Rattle.std.proofs.lemmas.Float.{T_from_true}
 use Rattle.std.proofs.lemmas.Int.{ints}
+use Rattle.json.specs.Print.{print}
+use Rattle.json.specs.Token.{Token}
+use Rattle.json.specs.Tree.{items_tokens}
 use Rattle.json.proofs.Printed.Utf8.{IsUtf8-are_ascii}
 use Rattle.serde_json.specs.Data.{Data, null, number, string}
-use Rattle.serde_json.specs.Find.{of_integer, is_float}
+use Rattle.serde_json.specs.Find.{of_integer}
 use Rattle.serde_json.specs.View.{items_of}
-use Rattle.serde_json.specs.Written.{has_float, items_have_float, compact_text}
+use Rattle.serde_json.specs.Written.{items_outline, compact_text}
+use Rattle.serde_json.proofs.Texts.{print-outline}
 use Rattle.pm_base.specs.Newline.{IsUnbroken}
 use Rattle.pm_values.specs.Fits.{first_day, last_day, IsInType, FitsColumn, Fits}
 use Rattle.pm_values.specs.Order.{Values}
@@ -21,7 +25,7 @@ use Rattle.pm_values.specs.declared.kind.Kind.TheVariants.{Insert, UpdateBefore,
 use Rattle.pm_values.specs.declared.value.Value.{Value}
 use Rattle.pm_values.specs.declared.value.Value.TheVariants.{Null, Bool as Truth, Int, Text, Bytes, Day, Millis}
 use Rattle.pm_rows.specs.Reading.{kind_in, number_at, least, greatest, integer_at, whole_at, value_at, item_at, values_at, row_of_items, row_of}
-use Rattle.pm_rows.specs.RowText.{kind_text, item_data, row_data, row_text}
+use Rattle.pm_rows.specs.RowText.{data_tokens, kind_text, item_data, row_data, row_text}
 use Rattle.pm_value_text.specs.Date.{IsDay, date_text}
 use Rattle.pm_value_text.specs.Hexadecimal.{hex_text}
 use Rattle.pm_value_text.proofs.Lemmas.{bytes_in-hex_text, IsUtf8-hex_text}
@@ -212,23 +216,11 @@ row_text-begins kind row = (_, refl)
 
 -- ---- what the printer writes
 
-is_float-of_integer : (z : ℤ) → is_float (of_integer z) ≡ false
-is_float-of_integer (pos n) = refl
-is_float-of_integer (negsuc n) = refl
+-- the tokens of the items, with the closing bracket
+abbrev pub tokens_from : Values → List Token
+tokens_from values = items_tokens (items_outline (items_of (map item_data values)))
 
-has_float-item_data : (v : Value) → has_float (item_data v) ≡ false
-has_float-item_data Null = refl
-has_float-item_data (Truth b) = refl
-has_float-item_data (Int n) = is_float-of_integer n
-has_float-item_data (Text text) = refl
-has_float-item_data (Bytes bytes) = refl
-has_float-item_data (Day day) = each_day (λ d. has_float d ≡ false) day (λ _. refl) refl
-has_float-item_data (Millis millis) = is_float-of_integer millis
-
-items_have_float-row : (row : Values) → items_have_float (items_of (map item_data row)) ≡ false
-items_have_float-row [] = refl
-items_have_float-row (v ∷ row) = rw (has_float-item_data v, items_have_float-row row) refl
-
-pub row_text-printed : (kind : Kind) (row : Values) (d : Data) (line : List ℕ) → d ≡ row_data kind row → (has_float d ≡ false → line ≡ compact_text d) → line ≡ row_text kind row
+-- the tokens of a flat array print as its compact text
+pub print-row_data : (kind : Kind) (row : Values) → print (data_tokens (row_data kind row)) ≡ row_text kind row
 unfolding row_text
-row_text-printed kind row d line is prints = prints (rw is (items_have_float-row row)) ∙ ap compact_text is
+print-row_data kind row = print-outline (row_data kind row)

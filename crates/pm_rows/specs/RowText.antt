@@ -1,9 +1,11 @@
 -- The line of a row: a JSON array of the kind and one item for each value.
 use Rattle.std.specs.Prelude.{ℕ, List, ◌∷◌, map, codes, ◌&&◌, int_le, if◌then◌else◌}
+use Rattle.json.specs.Token.{Token}
+use Rattle.json.specs.Tree.{json_tokens}
 use Rattle.serde_json.specs.Data.{Data, null, boolean, number, string, array}
 use Rattle.serde_json.specs.Find.{of_integer}
 use Rattle.serde_json.specs.View.{items_of}
-use Rattle.serde_json.specs.Written.{compact_text}
+use Rattle.serde_json.specs.Written.{compact_text, outline}
 use Rattle.pm_values.specs.Fits.{first_day, last_day}
 use Rattle.pm_values.specs.Order.{Values}
 use Rattle.pm_values.specs.declared.kind.Kind.{Kind}
@@ -37,3 +39,7 @@ row_data kind values = array (items_of (string (kind_text kind) ∷ map item_dat
 -- the line of a row, without its newline: compact JSON
 unfoldable pub row_text : Kind → Values → List ℕ
 row_text kind values = compact_text (row_data kind values)
+
+-- Private: the tokens of JSON that has no float
+abbrev pub data_tokens : Data → List Token
+data_tokens d = json_tokens (outline d)

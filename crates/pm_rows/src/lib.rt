@@ -14,5 +14,5 @@ mod read;
 
 pub use fault::RowFault;
 pub use laws::{fit_law, line_law, round_trip_law};
-pub use print::print_row;
+pub use print::{print_row, push_row};
 pub use read::read_row;

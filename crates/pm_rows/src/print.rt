@@ -1,21 +1,22 @@
 //! From a row to its line.
 
-ghost use Rattle.std.specs.Prelude.{◌≡◌, [], ◌∷◌, ◌++◌, IfOk, Ok, map};
-ghost use Rattle.serde_json.specs.Data.{string};
-ghost use Rattle.serde_json.specs.View.{view};
+ghost use Rattle.std.specs.Prelude.{◌≡◌, ◌++◌, IfOk, Ok, OnErr, OnOk};
 ghost use Rattle.pm_values.specs.Fits.{Fits};
 ghost use Rattle.pm_values.specs.declared.value.Value.TheVariants.{Day};
-ghost use Rattle.pm_rows.specs.RowText.{kind_text, item_data, row_data, row_text};
+ghost use Rattle.pm_rows.specs.RowText.{data_tokens, item_data, kind_text, row_data, row_text};
 ghost use Rattle.pm_rows.specs.Reading.{row_of};
 
+use json::Writer;
 use pm_value_text::{is_day, print_date, print_hex};
 use pm_values::{Column, Kind, Row, Value};
-use serde_json::Value as Json;
 use std::alloc::{AllocError, Global};
+use std::mem;
+
+/// The bytes that a line by itself is given room for at once.
+const LINE_ROOM: usize = 128;
 
 /// The line of a row, without its newline: compact JSON, with hexadecimal digits in lower case. A day
 /// before the year 1 or after 9999, which fits no column, is null.
-#[tactic(auto, unfolding(crate::specs::RowText::row_text))]
 pub fn print_row(
     alloc: Global,
     columns: &[Column],
@@ -26,19 +27,44 @@ pub fn print_row(
     ensures again { IfOk result (λ line. Fits columns.now row.now
         → row_of columns.now line.items ≡ Ok (kind, row.now)) }
 {
-    json_of_row(alloc, kind, row.values())?.to_vec(alloc)
+    let mut line = Vec::with_capacity(alloc, LINE_ROOM)?;
+    push_row(alloc, &mut line, kind, row)?;
+    Ok(line)
 }
 
-/// The array of a row.
-fn json_of_row(alloc: Global, kind: Kind, values: &[Value]) -> Result<Json, AllocError>
-    ensures { IfOk result (λ json. view json ≡ row_data kind values.now) }
+/// Adds the line of a row, as `print_row` has it, to the text, which stays as it was where the line can't be had.
+/// Memory beside the text's own is taken for the digits of bytes and for dates alone. In a long text the writer clears
+/// up to 16 kB ahead at each call, so many lines are quicker made in a short one.
+pub fn push_row(alloc: Global, text: &mut Vec<u8>, kind: Kind, row: &Row) -> Result<(), AllocError>
+    ensures ok { OnOk result (text.new.items ≡ text.old.items ++ row_text kind row.now) }
+    ensures err { OnErr result (text.new.items ≡ text.old.items) }
 {
-    let mut items = Vec::with_capacity(alloc, values.len())?;
-    items.push(Json::try_from_str(alloc, name_of(kind))?)?;
-    for value in values {
-        items.push(json_of(alloc, value)?)?;
+    let before = text.len();
+    let mut out = Writer::new(mem::replace(text, Vec::new(alloc)));
+    let written = write_row(alloc, &mut out, kind, row.values());
+    *text = out.into_inner();
+    if written.is_err() {
+        text.truncate(before);
     }
-    Ok(Json::Array(items))
+    written
+}
+
+/// Writes the array of a row.
+fn write_row(
+    alloc: Global,
+    out: &mut Writer,
+    kind: Kind,
+    values: &[Value],
+) -> Result<(), AllocError>
+    ensures ok { OnOk result (out.new.tokens ≡ out.old.tokens ++ data_tokens (row_data kind values.now)) }
+    ensures before { out.new.before ≡ out.old.before }
+{
+    out.begin_array()?;
+    out.string(name_of(kind))?;
+    for value in values {
+        write_value(alloc, out, value)?;
+    }
+    out.end_array()
 }
 
 /// The text that names a kind.
@@ -53,27 +79,29 @@ fn name_of(kind: Kind) -> &'static str
     }
 }
 
-/// The item of a value.
-fn json_of(alloc: Global, value: &Value) -> Result<Json, AllocError>
-    ensures { IfOk result (λ json. view json ≡ item_data value.now) }
+/// Writes the item of a value.
+fn write_value(alloc: Global, out: &mut Writer, value: &Value) -> Result<(), AllocError>
+    ensures ok { OnOk result (out.new.tokens ≡ out.old.tokens ++ data_tokens (item_data value.now)) }
+    ensures before { out.new.before ≡ out.old.before }
 {
     match value {
-        Value::Null => Ok(Json::Null),
-        Value::Bool(b) => Ok(Json::Bool(*b)),
-        Value::Int(n) | Value::Millis(n) => Ok(Json::from(*n)),
-        Value::Text(text) => Json::try_from_str(alloc, text.as_str()),
-        Value::Bytes(bytes) => Ok(Json::String(print_hex(alloc, bytes.as_bytes())?)),
-        Value::Day(day) => json_of_day(alloc, *day),
+        Value::Null => out.null(),
+        Value::Bool(b) => out.boolean(*b),
+        Value::Int(n) | Value::Millis(n) => out.i64(*n),
+        Value::Text(text) => out.string(text.as_str()),
+        Value::Bytes(bytes) => out.string(print_hex(alloc, bytes.as_bytes())?.as_str()),
+        Value::Day(day) => write_day(alloc, out, *day),
     }
 }
 
-/// The item of a day.
-fn json_of_day(alloc: Global, day: i32) -> Result<Json, AllocError>
-    ensures { IfOk result (λ json. view json ≡ item_data (Day day)) }
+/// Writes the item of a day.
+fn write_day(alloc: Global, out: &mut Writer, day: i32) -> Result<(), AllocError>
+    ensures ok { OnOk result (out.new.tokens ≡ out.old.tokens ++ data_tokens (item_data (Day day))) }
+    ensures before { out.new.before ≡ out.old.before }
 {
     if is_day(day) {
-        Ok(Json::String(print_date(alloc, day)?))
+        out.string(print_date(alloc, day)?.as_str())
     } else {
-        Ok(Json::Null)
+        out.null()
     }
 }
