@@ -7,10 +7,12 @@
 //! key's last row. They know nothing of files, snapshots or retries.
 #![tactic(auto)]
 
+mod columns;
 mod laws;
 mod merge;
 mod verdict;
 
+pub use columns::{index_of, indexes_of, primary_of};
 pub use laws::{merged_law, merged_table_law};
 pub use merge::{key_of, merged_rows};
 pub use verdict::Verdict;

@@ -1,16 +1,14 @@
 //! What a schema says of its columns.
 
-ghost use Rattle.std.specs.Prelude.{◌≡◌, IfOk};
+ghost use Rattle.std.specs.Prelude.{◌≡◌};
 ghost use Rattle.std.specs.Option.{option_copied};
 ghost use Rattle.pm_options.specs.Entries.{entry_at};
 ghost use Rattle.pm_schema.specs.Rules.{is_among};
 ghost use Rattle.pm_history.specs.Taken.{is_key, function_of, skips_retractions};
-ghost use Rattle.pm_history.specs.ColumnValue.{index_of, is_in_group, group_of};
-ghost use Rattle.pm_history.specs.Merged.{primary_of};
+ghost use Rattle.pm_history.specs.ColumnValue.{is_in_group, group_of};
 
 use pm_schema::{Function, Listed, TableSchema};
 use pm_values::{Column, Txt};
-use std::alloc::{AllocError, Global};
 
 /// What stands for a name first.
 pub(crate) fn entry_at<'a, T>(entries: &'a [(Txt, T)], name: &str) -> Option<&'a T>
@@ -86,29 +84,4 @@ fn is_in_group(column: &Column, group: &(Txt, Listed<Txt>)) -> bool
     ensures { result ≡ is_in_group column.now group.now }
 {
     group.0.as_str() == column.name.as_str() || is_among(group.1.as_slice(), column.name.as_str())
-}
-
-/// The index of the column of that name, the number of the columns where there is none.
-pub(crate) fn index_of(schema: &TableSchema, name: &str) -> usize
-    ensures { result ≡ index_of schema.now name.now }
-{
-    let columns = schema.columns.as_slice();
-    for (index, column) in columns.iter().enumerate() {
-        if column.name.as_str() == name {
-            return index;
-        }
-    }
-    columns.len()
-}
-
-/// The indexes of the primary key's columns, in the order of the key.
-pub(crate) fn primary_of(alloc: Global, schema: &TableSchema) -> Result<Vec<usize>, AllocError>
-    ensures { IfOk result (λ primary. primary.items ≡ primary_of schema.now) }
-{
-    let names = schema.primary.as_slice();
-    let mut primary = Vec::with_capacity(alloc, names.len())?;
-    for name in names {
-        primary.push(index_of(schema, name.as_str()))?;
-    }
-    Ok(primary)
 }

@@ -8,8 +8,8 @@ ghost use Rattle.pm_values.specs.Order.{value_cmp};
 ghost use Rattle.pm_history.specs.ColumnValue.{is_leading, leading_row, left_by, group_value, updated_value};
 ghost use Rattle.pm_history.specs.Merge.{value_at};
 
-use crate::columns::index_of;
 use crate::values::{adding, is_null, last_value, non_null, value_at, values_at};
+use pm_history::index_of;
 use pm_schema::{Listed, TableSchema};
 use pm_values::{Kind, Row, Txt, Value};
 use std::alloc::{AllocError, Global};

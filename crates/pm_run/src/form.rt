@@ -8,6 +8,7 @@ ghost use Rattle.pm_run.specs.Form.{apart_from, field_of, form_of, key_field, ke
 ghost use Rattle.pm_run.specs.Form.{row_fields, stray_field, written_fields};
 
 use pm_base::Txt;
+use pm_history::{index_of, indexes_of};
 use pm_schema::{EngineKind, TableSchema};
 use pm_values::{ColType, Column};
 use std::alloc::{AllocError, Global};
@@ -61,7 +62,7 @@ impl TableForm {
             columns: fields_of(alloc, columns)?,
             keys: key_fields(alloc, columns, partition, primary)?,
             places: key_places(alloc, schema, partition, primary)?,
-            primary: all_places(alloc, schema, primary)?,
+            primary: indexes_of(alloc, schema, primary)?,
             engine: schema.options.engine,
         })
     }
@@ -204,28 +205,4 @@ fn key_places(
         }
     }
     Ok(places)
-}
-
-/// The indexes of the columns with these names.
-fn all_places(alloc: Global, schema: &TableSchema, names: &[Txt]) -> Result<Vec<usize>, AllocError>
-    ensures { IfOk result (λ v. v.items ≡ map (index_of schema.now) names.now) }
-{
-    let mut places = Vec::with_capacity(alloc, names.len())?;
-    for name in names {
-        places.push(index_of(schema, name.as_str()))?;
-    }
-    Ok(places)
-}
-
-/// The index of the column with a name, the number of the columns where there is none.
-fn index_of(schema: &TableSchema, name: &str) -> usize
-    ensures { result ≡ index_of schema.now name.now }
-{
-    let columns = schema.columns.as_slice();
-    for (index, column) in columns.iter().enumerate() {
-        if column.name.as_str() == name {
-            return index;
-        }
-    }
-    columns.len()
 }

@@ -8,9 +8,9 @@
 //! for rows, what is known of each, and which rows a run of files has. `src/laws.rt` has what holds of the rows of
 //! files: they are one list, in order, of rows that fit, and reading gives them.
 //!
-//! Reading holds one decoded block. Values are moved out of its data; of a row only the key is copied. Field names are
-//! looked up once for each file. All calls take time linear in the bytes but for the test that names of fields differ,
-//! which takes the square of how many there are, once for a file.
+//! Reading holds one decoded block. Values are moved out of its data; only where the table has partition columns is a
+//! key copied from its row. Field names are looked up once for each file. All calls take time linear in the bytes but
+//! for the test that names of fields differ, which takes the square of how many there are, once for a file.
 //!
 //! The names of a schema's columns differ by its rules. Where those of some other schema don't, calls answer that
 //! memory ran out.

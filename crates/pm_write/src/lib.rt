@@ -12,7 +12,6 @@
 #![tactic(auto)]
 
 mod batch;
-mod columns;
 mod files;
 mod held;
 mod laws;

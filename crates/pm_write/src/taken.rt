@@ -12,9 +12,8 @@ ghost use Rattle.pm_run.specs.Writing.{CountFrom};
 ghost use Rattle.pm_write.specs.Taken.{all_taken, no_room, refusal_in, row_at, taken_by, taken_of};
 ghost use Rattle.pm_write.specs.Taken.{IsTakenRow, stamped, with_taken};
 
-use crate::columns::primary_of;
 use pm_engines::{TableEngine, Verdict};
-use pm_history::key_of;
+use pm_history::{key_of, primary_of};
 use pm_input::{InputLine, LIMITS, LimitKind, read_rows};
 use pm_schema::TableSchema;
 use pm_values::{Column, Kind, Refusal, Row, Stamped, Txt};

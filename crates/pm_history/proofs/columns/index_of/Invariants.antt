@@ -1,7 +1,7 @@
 use Rattle.std.proofs.Common.{◌≡◌, ◌+◌, drop}
 use Rattle.std.specs.List.{position_or_len}
 use Rattle.std.specs.Str.{bytes_eq}
-use Rattle.pm_run.proofs.form.index_of.Given as goal
+use Rattle.pm_history.proofs.columns.index_of.Given as goal
 
 -- no column so far has the name
 abbrev pub invariant-loop-index : goal.invariant-loop-index
