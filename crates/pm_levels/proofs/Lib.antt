@@ -1,4 +1,5 @@
 pub mod Facts
+mod NewestLemmas
 mod OrderLemmas
 mod OverlapLemmas
 mod PairLemmas

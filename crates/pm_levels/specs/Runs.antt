@@ -1,6 +1,6 @@
 -- The runs of a group's files, newest first.
 use Rattle.std.specs.Prelude.{◌≡◌, ◌≢◌, ℕ, ◌<◌, ◌⊎◌, Bool, ◌&&◌, ◌==◌, nat_lt, None, IfSome}
-use Rattle.std.specs.Prelude.{List, [], ◌∷◌, ◌++◌, length}
+use Rattle.std.specs.Prelude.{List, [], ◌∷◌, ◌++◌, length, Contains}
 use Rattle.std.specs.List.{AllByRecursion, flat_map, last_or}
 use Rattle.std.specs.List.Sorted.{IsPermutation, IsSorted}
 use Rattle.pm_values.specs.declared.file_meta.FileMeta.{FileMeta}
@@ -48,6 +48,15 @@ AreTwoOf {X} a b items = (rest : List X) × IsPermutation items (a ∷ b ∷ res
 abbrev pub AreNamedApart : List FileMeta → Type 0
 AreNamedApart files = (a b : FileMeta) → AreTwoOf a b files → a.level ≡ b.level → a.name ≢ b.name
 
+-- the run of one file
+abbrev pub lone : FileMeta → RunView
+lone file = record { level = file.level; files = file ∷ [] }
+
+-- the file is at level 0, and its greatest sequence number is above those of the other files there
+pub record IsNewerThan (file : FileMeta) (files : List FileMeta) : Type 0 where
+  pub level : file.level ≡ 0
+  pub above : (other : FileMeta) → Contains files other → other.level ≡ 0 → other.max_seq < file.max_seq
+
 -- Private: the last run, if there is one, is of another level than the file, or both are at level 0
 abbrev pub EndsApart : List RunView → FileMeta → Type 0
 EndsApart runs file = IfSome (last_or None runs) (λ (run : RunView). run.level ≡ file.level → file.level ≡ 0)
@@ -55,10 +64,6 @@ EndsApart runs file = IfSome (last_or None runs) (λ (run : RunView). run.level 
 -- Private: the file goes to the run: both are of one level above 0
 abbrev pub goes_on : RunView → FileMeta → Bool
 goes_on run file = (run.level == file.level) && nat_lt 0 file.level
-
--- Private: a run of one file
-abbrev pub lone : FileMeta → RunView
-lone file = record { level = file.level; files = file ∷ [] }
 
 -- Private: a run with one file more
 abbrev pub longer : RunView → FileMeta → RunView

@@ -1,11 +1,11 @@
 //! What holds of the runs of any files.
 
-ghost use Rattle.std.specs.Prelude.{◌≡◌, List};
+ghost use Rattle.std.specs.Prelude.{◌≡◌, ◌≢◌, ◌⊎◌, List, ◌∷◌, Contains};
 ghost use Rattle.std.specs.List.{AllByRecursion};
 ghost use Rattle.std.specs.List.Sorted.{IsPermutation};
 ghost use Rattle.pm_values.specs.declared.file_meta.FileMeta.{FileMeta};
 ghost use Rattle.pm_levels.specs.Overlap.{AreDisjoint, IsFirstOverlap, IsOverlap, RangesRise};
-ghost use Rattle.pm_levels.specs.Runs.{AreNamedApart, AreRuns, RunView};
+ghost use Rattle.pm_levels.specs.Runs.{AreNamedApart, AreRuns, AreTwoOf, IsNewerThan, RunView, lone};
 
 /// Where no two files of one level have one name, the same files have the same runs, in whichever order they come.
 pub fn runs_law()
@@ -25,4 +25,18 @@ pub fn overlap_law()
     ensures either { (files : List FileMeta) (file : FileMeta) → IsOverlap files file → AreDisjoint files → ⊥ }
     ensures same { (files more : List FileMeta) (file : FileMeta) → IsPermutation files more →
         IsFirstOverlap files file → IsFirstOverlap more file }
+{}
+
+/// A file that is newer than all others at level 0 is their newest run, by itself. It shares its keys with none where
+/// these don't, and its name with none of its level where it is another one. Two of all files are that one and another,
+/// or two others.
+pub fn newest_law()
+    ensures runs { (file : FileMeta) (files : List FileMeta) (runs : List RunView) → IsNewerThan file files →
+        AreRuns files runs → AreRuns (file ∷ files) (lone file ∷ runs) }
+    ensures named { (file : FileMeta) (files : List FileMeta) → ((other : FileMeta) → Contains files other →
+        other.level ≡ file.level → other.name ≢ file.name) → AreNamedApart files → AreNamedApart (file ∷ files) }
+    ensures two { (file : FileMeta) (files : List FileMeta) (a b : FileMeta) → AreTwoOf a b (file ∷ files) →
+        ((a ≡ file) × Contains files b) ⊎ ((b ≡ file) × Contains files a) ⊎ AreTwoOf a b files }
+    ensures disjoint { (file : FileMeta) (files : List FileMeta) → file.level ≡ 0 → AreDisjoint files →
+        AreDisjoint (file ∷ files) }
 {}

@@ -15,7 +15,7 @@ mod overlap;
 mod runs;
 
 pub use fault::LevelFault;
-pub use laws::{overlap_law, ranges_law, runs_law};
+pub use laws::{newest_law, overlap_law, ranges_law, runs_law};
 pub use levels::Levels;
 pub use pm_values::FileMeta;
 pub use runs::{RunFiles, RunSize};
