@@ -1,6 +1,6 @@
 //! What holds of all files and of all names.
 
-ghost use Rattle.std.specs.Prelude.{◌≡◌, ℕ, ℤ, ◌^◌, ◌<◌, ◌≤◌, ◌↔◌, List, Some, Ok, decimal, FitsSigned};
+ghost use Rattle.std.specs.Prelude.{◌≡◌, ℕ, ℤ, ◌^◌, ◌<◌, ◌≤◌, ◌↔◌, List, ◌∷◌, ◌++◌, Some, Ok, decimal, FitsSigned};
 ghost use Rattle.std.specs.Fmt.{signed_decimal};
 ghost use Rattle.std.specs.Int.{w64};
 ghost use Rattle.pm_values.specs.Names.{Naming, name_of};
@@ -59,6 +59,17 @@ pub fn base_law()
     ensures made { (file : BasedFile) (maker : Naming) → MayName maker
         → HasBase (name_of (prefix_of file) (suffix_of file) maker) maker.base }
     ensures one { (name : List ℕ) (a b : ℕ) → HasBase name a → HasBase name b → a ≡ b }
+{
+    names_law();
+}
+
+/// The path of a file that a maker of names names tells the folder, which kind of file it is, and the maker with its
+/// count.
+pub fn path_law()
+    ensures { (folder other : List ℕ) (file more : BasedFile) (m n : Naming) → MayName m → MayName n
+        → folder ++ 47 ∷ name_of (prefix_of file) (suffix_of file) m
+        ≡ other ++ 47 ∷ name_of (prefix_of more) (suffix_of more) n
+        → (folder ≡ other) × (file ≡ more) × (m ≡ n) }
 {
     names_law();
 }

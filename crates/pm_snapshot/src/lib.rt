@@ -20,7 +20,7 @@ mod write;
 pub use commit_kind::CommitKind;
 pub use consumer::{Consumer, read_consumer, write_consumer};
 pub use fault::SnapFault;
-pub use laws::{base_law, consumer_law, decimal_law, name_law, snapshot_law};
+pub use laws::{base_law, consumer_law, decimal_law, name_law, path_law, snapshot_law};
 pub use names::{base_of_name, floor_of_name, id_of_name, number_after, snapshot_name};
 pub use snapshot::{Snapshot, read_snapshot};
 pub use write::write_snapshot;
