@@ -1,5 +1,5 @@
 -- What a snapshot's files are: that it is one thing at most, and stays where the files stay; and live files that entries leave.
-use Rattle.std.proofs.Common.{◌≡◌, ◌≢◌, ℕ, Bool, true, false, cond, List, [], ◌∷◌, ◌++◌, filter, Option, None, Some, IfSome, IsSome, Result, Ok, Err, refl, sym, ap, subst, ◌∙◌, ◌⊎◌, inl, inr, if◌then◌else◌}
+use Rattle.std.proofs.Common.{◌≡◌, ◌≢◌, ℕ, Bool, true, false, cond, List, [], ◌∷◌, ◌++◌, filter, Contains, Option, None, Some, IfSome, IsSome, Result, Ok, Err, refl, sym, ap, subst, ◌∙◌, ◌⊎◌, inl, inr, if◌then◌else◌}
 use Rattle.std.specs.FinMap as finite
 use Rattle.std.specs.List.{AllByRecursion, last_or}
 use Rattle.std.specs.Option.{option_map_or}
@@ -21,7 +21,8 @@ use Rattle.pm_manifest.specs.declared.entry.ManifestMeta.{ManifestMeta}
 use Rattle.pm_manifest.specs.declared.file_id.FileId.{FileId}
 use Rattle.pm_contents.specs.Groups.{AreNamed, HaveFolders}
 use Rattle.pm_contents.specs.Lists.{HasChangelog, HaveEntries, IsList, IsManifest, manifest_path}
-use Rattle.pm_contents.specs.Named.{Contents, HasContents}
+use Rattle.pm_contents.specs.Named.{Contents, HasContents, IsNamed, base_list, changelog_list, delta_list, manifest}
+use Rattle.pm_contents.proofs.FileLemmas.{in-head, in-tail}
 
 -- ---- one reading
 
@@ -83,35 +84,51 @@ module _ (lists : OneReading ManifestMeta) (manifests : OneReading Entry) (f : F
 
 -- ---- files that stay
 
-module _ (f g : Files) (kept : (path : List ℕ) → IsSome (finite.get f path) → finite.get g path ≡ finite.get f path) where
-  still-there : (path bytes : List ℕ) → finite.get f path ≡ Some bytes → finite.get g path ≡ Some bytes
-  still-there path bytes there = kept path (subst IsSome (sym there) refl) ∙ there
+module _ (f g : Files) where
+  -- what is at a path stays there
+  abbrev Stays : List ℕ → Type 0
+  Stays path = (bytes : List ℕ) → finite.get f path ≡ Some bytes → finite.get g path ≡ Some bytes
 
-  kept-list : (name : List ℕ) (metas : List ManifestMeta) → IsList f name metas → IsList g name metas
-  kept-list name metas a = record { bytes = a.bytes; there = still-there (manifest_path name) a.bytes a.there; read = a.read }
+  stay-list : (name : List ℕ) (metas : List ManifestMeta) → Stays (manifest_path name) → IsList f name metas → IsList g name metas
+  stay-list name metas stays a = record { bytes = a.bytes; there = stays a.bytes a.there; read = a.read }
 
   module _ (s : TableSchema) where
-    kept-manifest : (name : List ℕ) (es : List Entry) → IsManifest f s name es → IsManifest g s name es
-    kept-manifest name es a = record { bytes = a.bytes; there = still-there (manifest_path name) a.bytes a.there; read = a.read }
+    stay-entries : (metas : List ManifestMeta) (es : List Entry) → ((meta : ManifestMeta) → Contains metas meta → Stays (manifest_path meta.name))
+        → HaveEntries f s metas es → HaveEntries g s metas es
+    stay-entries [] es stay a = a
+    stay-entries (meta ∷ metas) es stay a = (
+      a.0,
+      a.1,
+      a.2,
+      record { bytes = a.3.bytes; there = stay meta (in-head meta metas) a.3.bytes a.3.there; read = a.3.read },
+      stay-entries metas a.1 (λ other there. stay other (in-tail meta metas other there)) a.4,
+    )
 
-    kept-entries : (metas : List ManifestMeta) (es : List Entry) → HaveEntries f s metas es → HaveEntries g s metas es
-    kept-entries [] es a = a
-    kept-entries (meta ∷ metas) es a = (a.0, a.1, a.2, kept-manifest meta.name a.0 a.3, kept-entries metas a.1 a.4)
+    stay-changelog : (o : Option (List ℕ)) (metas : List ManifestMeta) (es : List Entry) → ((name : List ℕ) → o ≡ Some name → Stays (manifest_path name))
+        → ((meta : ManifestMeta) → Contains metas meta → Stays (manifest_path meta.name)) → HasChangelog f s o metas es → HasChangelog g s o metas es
+    stay-changelog None metas es lists stay a = a
+    stay-changelog (Some name) metas es lists stay a = (stay-list name metas (lists name refl) a.0, stay-entries metas es stay a.1, a.2)
 
-    kept-changelog : (name : Option (List ℕ)) (metas : List ManifestMeta) (es : List Entry) → HasChangelog f s name metas es → HasChangelog g s name metas es
-    kept-changelog None metas es a = a
-    kept-changelog (Some name) metas es a = (kept-list name metas a.0, kept-entries metas es a.1, a.2)
-
-    pub kept-contents : (x : Snapshot) (c : Contents) → HasContents f s x c → HasContents g s x c
-    kept-contents x c a = record {
+    -- where what is at the paths that a snapshot names stays, so does what they are
+    stay-contents : (x : Snapshot) (c : Contents) → ((path : List ℕ) → IsNamed s x c path → Stays path) → HasContents f s x c → HasContents g s x c
+    stay-contents x c stay a = record {
       table = record {
-        base_list = kept-list x.base_list c.base a.table.base_list;
-        delta_list = kept-list x.delta_list c.delta a.table.delta_list;
-        have = kept-entries (c.base ++ c.delta) c.entries a.table.have;
+        base_list = stay-list x.base_list c.base (stay (manifest_path x.base_list) base_list) a.table.base_list;
+        delta_list = stay-list x.delta_list c.delta (stay (manifest_path x.delta_list) delta_list) a.table.delta_list;
+        have = stay-entries (c.base ++ c.delta) c.entries (λ meta there. stay (manifest_path meta.name) (manifest meta (inl there))) a.table.have;
         order = a.table.order;
       };
-      changelog = kept-changelog x.changelog_list c.changelog c.changes a.changelog;
+      changelog = stay-changelog x.changelog_list c.changelog c.changes (λ name is. stay (manifest_path name) (changelog_list name is))
+          (λ meta there. stay (manifest_path meta.name) (manifest meta (inr there))) a.changelog;
     }
+
+    pub named-contents : (x : Snapshot) (c : Contents) → ((path : List ℕ) → IsNamed s x c path → finite.get g path ≡ finite.get f path)
+        → HasContents f s x c → HasContents g s x c
+    named-contents x c same a = stay-contents x c (λ path named bytes there. same path named ∙ there) a
+
+    pub kept-contents : (x : Snapshot) (c : Contents) → ((path : List ℕ) → IsSome (finite.get f path) → finite.get g path ≡ finite.get f path)
+        → HasContents f s x c → HasContents g s x c
+    kept-contents x c kept a = stay-contents x c (λ path named bytes there. kept path (subst IsSome (sym there) refl) ∙ there) a
 
 -- ---- live files that entries leave
 

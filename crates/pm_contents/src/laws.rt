@@ -16,7 +16,7 @@ ghost use Rattle.pm_manifest.specs.Live.{Leaves, Live};
 ghost use Rattle.pm_manifest.specs.Shape.{shape_of};
 ghost use Rattle.pm_contents.specs.Groups.{AreNamed, HaveFolders};
 ghost use Rattle.pm_contents.specs.Lists.{none_live};
-ghost use Rattle.pm_contents.specs.Named.{Contents, HasContents};
+ghost use Rattle.pm_contents.specs.Named.{Contents, HasContents, IsNamed};
 ghost use Rattle.pm_contents.specs.Runs.{AreRunsOf};
 
 use pm_levels::runs_law;
@@ -44,6 +44,13 @@ pub fn one_runs_law()
 pub fn kept_law()
     ensures { (f g : Files) (s : TableSchema) (x : Snapshot) (c : Contents) →
         ((path : List ℕ) → IsSome (finite.get f path) → finite.get g path ≡ finite.get f path) →
+        HasContents f s x c → HasContents g s x c }
+{}
+
+/// So it does where the files that it names are the same.
+pub fn same_law()
+    ensures { (f g : Files) (s : TableSchema) (x : Snapshot) (c : Contents) →
+        ((path : List ℕ) → IsNamed s x c path → finite.get g path ≡ finite.get f path) →
         HasContents f s x c → HasContents g s x c }
 {}
 

@@ -14,4 +14,4 @@ mod groups;
 mod laws;
 
 pub use groups::{data_path, group_levels};
-pub use laws::{folder_law, kept_law, live_law, one_contents_law, one_runs_law};
+pub use laws::{folder_law, kept_law, live_law, one_contents_law, one_runs_law, same_law};
