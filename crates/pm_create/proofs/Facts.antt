@@ -20,7 +20,7 @@ use Rattle.pm_machine.specs.Step.{path_of, Stepped, Rested, Went, Refused, Stopp
 use Rattle.pm_machine.specs.Trace.{Event, Recounts, answered, faulted}
 use Rattle.pm_machine.proofs.Facts.{image_changed}
 use Rattle.pm_history.specs.History.{History, IsTableOf, no_table, table, GoesOn}
-use Rattle.pm_folder.specs.Changes.{Actor, Change, IsNoOrigin, nothing, own_file, schema, appended}
+use Rattle.pm_folder.specs.Changes.{Actor, Change, IsNoOrigin, appended, its_origin, nothing, own_file, schema}
 use Rattle.pm_folder.specs.Folder.{Folder}
 use Rattle.pm_folder.specs.Meaning.{HasSnapshotAt}
 use Rattle.pm_folder.specs.Paths.{schema_path, snapshot_file}
@@ -39,7 +39,7 @@ makes-same m f h = record { kind = nothing (λ q. refl); begins = inl refl }
 
 pub makes-own : (m : CreatorView) (path content : List ℕ) (f after : Files) (h : History) → path ≡ own_origin m.me → IsFreeOrigin path f h
     → map.get f path ≡ None → Puts f path (Some content) after → Makes m f h after h
-makes-own m path content f after h own free absent puts = record { kind = own_file path content own (free absent) absent puts; begins = inl refl }
+makes-own m path content f after h own free absent puts = record { kind = own_file path content (its_origin own) (free absent) absent puts; begins = inl refl }
 
 pub makes-table : (m : CreatorView) (f after : Files) → IsCreator m → HasSnapshotAt f m.schema 0
     → Puts f (schema_path 0) (Some m.bytes) after → Makes m f no_table after (table m.schema [])

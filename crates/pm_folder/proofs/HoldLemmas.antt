@@ -68,7 +68,7 @@ module _ (f after : Files) (holds : Holds f after) where
     runs-held g (run ∷ runs) [] all = all
     runs-held g (run ∷ runs) (r ∷ stored) (first, rest) = (run-held g run r first, runs-held g runs stored rest)
 
-    group-held : (entries : List Entry) (id : ℕ) (live : Live) (g : Group) → HasGroup f s entries id live g → HasGroup after s entries id live g
+    pub group-held : (entries : List Entry) (id : ℕ) (live : Live) (g : Group) → HasGroup f s entries id live g → HasGroup after s entries id live g
     group-held entries id live g has = record {
       runs = has.runs;
       own = has.own;
@@ -98,7 +98,7 @@ module _ (f after : Files) (holds : Holds f after) where
     manifest-held : (name : List ℕ) (es : List files.Entry) → IsManifest f s name es → IsManifest after s name es
     manifest-held name es is = record { bytes = is.bytes; there = there (manifest_path name) is.bytes is.there; read = is.read }
 
-    entries-held : (metas : List ManifestMeta) (es : List files.Entry) → HaveEntries f s metas es → HaveEntries after s metas es
+    pub entries-held : (metas : List ManifestMeta) (es : List files.Entry) → HaveEntries f s metas es → HaveEntries after s metas es
     entries-held [] es have = have
     entries-held (meta ∷ metas) es (own, later, split, is, have) = (own, later, split, manifest-held meta.name own is, entries-held metas later have)
 

@@ -67,7 +67,7 @@ at-table f p s stands is = at p.history refl is stands.folder stands.past
       subst (λ (t : TableSchema). KnowsTable f t entries p) is past,
     )
 
-count-is : (p : Past) (s : TableSchema) (entries : List Entry) → p.history ≡ table s entries → count_of p.history ≡ length entries
+pub count-is : (p : Past) (s : TableSchema) (entries : List Entry) → p.history ≡ table s entries → count_of p.history ≡ length entries
 count-is p s entries is = ap count_of is
 
 -- ---- what reading shows
@@ -209,7 +209,7 @@ module _ (me : Actor) (f after : Files) (p q : Past) (s : TableSchema) (entries 
       (past.gone early middle late path first low high last (subst (λ (g : Files). Names g s early path) (advances.same early first) here)
       (subst (λ (g : Files). Names g s late path) (advances.same late last) there))
 
-is-table : (p : Past) (s : TableSchema) (entries : List Entry) → p.history ≡ table s entries → IsTableOf s p.history
+pub is-table : (p : Past) (s : TableSchema) (entries : List Entry) → p.history ≡ table s entries → IsTableOf s p.history
 is-table p s entries same = subst (λ (h : History). IsTableOf s h) (sym same) refl
 
 -- the history stays

@@ -1,5 +1,6 @@
 pub mod Facts
-mod HoldLemmas
+pub mod HoldLemmas
 pub mod LedgerFacts
 mod NameLemmas
+mod OwnFacts
 mod PathLemmas

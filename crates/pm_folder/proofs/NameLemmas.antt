@@ -1,17 +1,20 @@
 -- The names in the folders of schemas and of snapshots that paths lead to.
-use Rattle.std.proofs.Common.{◌≡◌, ◌≢◌, ℕ, ◌+◌, ◌<◌, ◌≤◌, suc, List, [], ◌∷◌, ◌++◌, take, get_or, codes, ◌==◌, Bool, true, false, not, cond, Option, None, Some, refl, sym, ap, ◌∙◌, eqb-true, arith}
+use Rattle.std.proofs.Common.{◌≡◌, ◌≢◌, ℕ, ◌+◌, ◌<◌, ◌≤◌, suc, List, [], ◌∷◌, ◌++◌, take, drop, length, get_or, codes, ◌==◌, nat_eq, Bool, true, false, not, cond, Option, None, Some, refl, sym, ap, ◌∙◌, eqb-true, arith}
 use Rattle.std.specs.Char.{digit_value}
+use Rattle.std.specs.Cmp.{unsigned_Decides}
 use Rattle.std.specs.Fmt.{decimal}
-use Rattle.std.specs.List.{AllByRecursion, before_first, position_or_len}
+use Rattle.std.specs.List.{AllByRecursion, before_first, position_or_len, starts_with}
 use Rattle.std.specs.Option.{option_map_or}
 use Rattle.std.specs.Str.Parse.{AllDigits}
 use Rattle.std.proofs.lemmas.Fmt.{decimal_injective, decimal_is_IsNumeral}
 use Rattle.std.proofs.lemmas.List.{append_cancel_left}
+use Rattle.std.proofs.lemmas.Slice.Eq.{starts_is}
 use Rattle.std.proofs.lemmas.Str.Parse.{digit_from_value}
 use Rattle.uuid.specs.Text.{hyphenated_text, hyphen, lower}
-use Rattle.pm_store.specs.Files.{slash, some_name, name_in}
+use Rattle.pm_store.specs.Files.{slash, some_name, name_after, name_in}
 use Rattle.pm_snapshot.specs.Names.{greatest, snapshot_name}
-use Rattle.pm_folder.specs.Changes.{Actor, IsOwn, origin_name}
+use Rattle.pm_folder.specs.Changes.{Actor, IsOwn, its_file, its_origin, origin_name}
+use Rattle.pm_folder.proofs.PathLemmas.{named-apart, other-schemas, other-snapshots}
 use Rattle.pm_folder.specs.Paths.{schema_folder, schema_name, schema_path, snapshot_file, snapshot_folder, snapshot_path}
 
 -- ---- what stands before a slash
@@ -83,15 +86,35 @@ other-led id other within bound apart e =
 
 -- ---- an actor's own files
 
+-- a path that leads to a name after a prefix begins with it
+after-begins : (prefix path name : List ℕ) → name_after prefix path ≡ Some name → path ≡ prefix ++ drop (length prefix) path
+after-begins prefix path name is = at (starts_with nat_eq path prefix) refl is
+  where
+    at : (t : Bool) → starts_with nat_eq path prefix ≡ t
+        → cond t (some_name (before_slash (drop (length prefix) path))) None ≡ Some name → path ≡ prefix ++ drop (length prefix) path
+    at true starts leads = (starts_is unsigned_Decides path prefix (starts_with nat_eq path prefix) refl).0 starts
+    at false starts leads = absurd (none-some name leads)
+
+-- a path of the folder of schemas, and of that of snapshots
+leads-schema : (path name : List ℕ) → name_in schema_folder path ≡ Some name → path ≡ codes "schema" ++ 47 ∷ drop 7 path
+leads-schema path name is = after-begins (codes "schema/") path name is
+
+leads-snapshot : (path name : List ℕ) → name_in snapshot_folder path ≡ Some name → path ≡ codes "snapshot" ++ 47 ∷ drop 9 path
+leads-snapshot path name is = after-begins (codes "snapshot/") path name is
+
 -- an own file leads to no name of a schema, and to none of a snapshot
 pub own-no_schema : (me : Actor) (path : List ℕ) (id : ℕ) → IsOwn me path → name_in schema_folder path ≢ Some (schema_name id)
-own-no_schema me path id own e =
+own-no_schema me path id (its_origin own) e =
     none-some (schema_name id) (sym (snapshot-none (origin_name me)) ∙ ap (name_in schema_folder) (sym own) ∙ e)
+own-no_schema me path id (its_file by in_table) e =
+    named-apart me path (codes "schema") (drop 7 path) by in_table other-schemas (leads-schema path (schema_name id) e)
 
 pub own-no_snapshot : (me : Actor) (path : List ℕ) (id : ℕ) → IsOwn me path → name_in snapshot_folder path ≢ Some (snapshot_name id)
-own-no_snapshot me path id own e =
+own-no_snapshot me path id (its_origin own) e =
     let rest : List ℕ = codes "RIGIN-" ++ (hyphenated_text lower me.session ++ hyphen ∷ decimal me.number) in
     let begins : Some (79 ∷ before_slash rest) ≡ Some (snapshot_name id) =
     sym (ap some_name (before-cons 79 rest refl)) ∙ ap (name_in snapshot_folder) (sym own) ∙ e in
     let first : 79 ≡ 115 = ap (λ (o : Option (List ℕ)). option_map_or (λ name. get_or name 0 0) o 0) begins in
     omega (arith, first)
+own-no_snapshot me path id (its_file by in_table) e =
+    named-apart me path (codes "snapshot") (drop 9 path) by in_table other-snapshots (leads-snapshot path (snapshot_name id) e)

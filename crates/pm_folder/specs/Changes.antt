@@ -5,6 +5,7 @@ use Rattle.std.specs.FinMap as map
 use Rattle.std.specs.List.{AllByRecursion}
 use Rattle.uuid.specs.Text.{hyphenated_text, hyphen, lower}
 use Rattle.pm_values.specs.Names.{Naming, name_of}
+use Rattle.pm_values.specs.declared.group.Group.{Group}
 use Rattle.pm_store.specs.Files.{Files, Puts}
 use Rattle.pm_history.specs.History.{Entry, History, append, no_table, table}
 use Rattle.pm_history.specs.Merge.{HistoryRow}
@@ -13,6 +14,7 @@ use Rattle.pm_folder.specs.Commits.{IsAppend, Names}
 use Rattle.pm_folder.specs.Folder.{IsRowOf}
 use Rattle.pm_folder.specs.Meaning.{SchemaAt, HasSnapshotAt}
 use Rattle.pm_folder.specs.Paths.{schema_path, snapshot_file, snapshot_path}
+use Rattle.pm_schema.specs.Folder.{folder_text}
 use Rattle.pm_schema.specs.declared.schema.TableSchema.{TableSchema}
 
 -- an actor: the sixteen bytes of its session, and its number in it
@@ -31,10 +33,6 @@ abbrev pub origin_name : Actor → List ℕ
 origin_name me =
     codes "ORIGIN-" ++ (hyphenated_text lower me.session ++ hyphen ∷ decimal me.number)
 
--- the file bears the actor's name: only this actor makes a file there
-abbrev pub IsOwn : Actor → List ℕ → Type 0
-IsOwn me path = path ≡ snapshot_file (origin_name me)
-
 -- the file's name is one that a maker of names with the actor's session and number gives
 pub record IsNamedBy (me : Actor) (path : List ℕ) : Type 0 where
   pub folder : List ℕ
@@ -44,6 +42,21 @@ pub record IsNamedBy (me : Actor) (path : List ℕ) : Type 0 where
   pub session : names.session ≡ me.session
   pub actor : names.actor ≡ me.number
   pub is : path ≡ folder ++ 47 ∷ name_of (prefix_of file) (suffix_of file) names
+
+-- the names of the partition columns have no slash
+abbrev pub HavePlainNames : TableSchema → Type 0
+HavePlainNames s = AllByRecursion (AllByRecursion (λ b. b ≢ 47)) s.partition
+
+-- a folder of files that snapshots name: that of manifests, and those of buckets
+pub data IsTableFolder : List ℕ → Type 0 where
+  manifests : IsTableFolder (codes "manifest")
+  bucket : (s : TableSchema) (g : Group) → HavePlainNames s → IsTableFolder (folder_text s g)
+
+-- The file bears the actor's name: only this actor makes a file there. It is the origin that the actor makes, or one
+-- among those that snapshots name.
+pub data IsOwn (me : Actor) (path : List ℕ) : Type 0 where
+  its_origin : path ≡ snapshot_file (origin_name me) → IsOwn me path
+  its_file : (by : IsNamedBy me path) → IsTableFolder by.folder → IsOwn me path
 
 -- what the snapshot after the newest names and that doesn't was named by the actor
 abbrev pub NamesOwn : Actor → Files → Files → TableSchema → ℕ → Type 0

@@ -4,7 +4,7 @@ use Rattle.std.specs.FinMap as map
 use Rattle.pm_store.specs.Files.{Files}
 use Rattle.pm_history.specs.History.{Entry, History, IsTableOf, no_table, table}
 use Rattle.pm_schema.specs.declared.schema.TableSchema.{TableSchema}
-use Rattle.pm_folder.specs.Changes.{Actor, Change}
+use Rattle.pm_folder.specs.Changes.{Actor, Change, IsNamedBy}
 use Rattle.pm_folder.specs.Commits.{IsCommitted, Names, Needs}
 use Rattle.pm_folder.specs.Folder.{Folder}
 use Rattle.pm_folder.specs.Meaning.{HasSnapshotAt}
@@ -76,3 +76,10 @@ pub record Advances (me : Actor) (f : Files) (p : Past) (after : Files) (q : Pas
   pub stood : (id : ℕ) → IsKnown q id → (IsKnown p id → ⊥) → q.stood id ≡ after
   pub new : (s : TableSchema) (id : ℕ) (path : List ℕ) → IsTableOf s q.history → IsKnown q id → (IsKnown p id → ⊥)
       → Names after s id path → IsOldOrUnnamed p s id path
+
+-- ---- an actor's names
+
+-- no known snapshot names a file that the actor named
+abbrev pub HasNamedNone : Actor → Past → Type 0
+HasNamedNone me p = (s : TableSchema) (id : ℕ) (path : List ℕ) → IsTableOf s p.history → IsKnown p id
+    → Names (p.stood id) s id path → IsNamedBy me path → ⊥

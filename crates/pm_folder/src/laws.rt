@@ -1,17 +1,20 @@
 //! Laws of folders. Each holds with no call.
 
-ghost use Rattle.std.specs.Prelude.{◌≡◌, ◌↔◌, ℕ, ◌≤◌, List, Contains, IsSome};
+ghost use Rattle.std.specs.Prelude.{◌≡◌, ◌≢◌, ◌↔◌, ℕ, ◌+◌, ◌≤◌, List, length, Contains, None, IsSome};
 ghost use Rattle.std.specs.FinMap as map;
 ghost use Rattle.pm_store.specs.Files.{Files, IsListing};
-ghost use Rattle.pm_history.specs.History.{Entry, History, GoesOn, no_table, table};
+ghost use Rattle.pm_history.specs.History.{Entry, History, GoesOn, IsTableOf, no_table, table};
 ghost use Rattle.pm_schema.specs.declared.schema.TableSchema.{TableSchema};
 ghost use Rattle.pm_snapshot.specs.Names.{greatest};
-ghost use Rattle.pm_folder.specs.Changes.{Actor, Change, IsActor, IsOwn};
+ghost use Rattle.pm_folder.specs.Changes.{Actor, Change, IsActor, IsNamedBy, IsOwn};
+ghost use Rattle.pm_folder.specs.Commits.{Names};
 ghost use Rattle.pm_folder.specs.Folder.{Folder};
-ghost use Rattle.pm_folder.specs.Ledger.{Advances, Past, Stands};
-ghost use Rattle.pm_folder.specs.Paths.{schema_folder, schema_name};
+ghost use Rattle.pm_folder.specs.Ledger.{Advances, HasNamedNone, Past, Stands, count_of};
+ghost use Rattle.pm_folder.specs.Meaning.{HasSnapshotAt};
+ghost use Rattle.pm_folder.specs.Paths.{schema_folder, schema_name, snapshot_path};
 
-use pm_contents::one_contents_law;
+use pm_contents::{one_contents_law, same_law};
+use pm_snapshot::{path_law, snapshot_law};
 use pm_values::names_law;
 
 /// Each kind of change, whoever makes it, leads to a folder that stands for the history with that change.
@@ -36,10 +39,12 @@ pub fn stays_law()
 
 /// A file bears the name of one actor at most.
 pub fn own_law()
-    ensures { (me other : Actor) (path : List ℕ) → IsActor me → IsActor other → IsOwn me path → IsOwn other path
+    ensures own { (me other : Actor) (path : List ℕ) → IsActor me → IsActor other → IsOwn me path → IsOwn other path
         → me ≡ other }
+    ensures named { (me other : Actor) (path : List ℕ) → IsNamedBy me path → IsNamedBy other path → me ≡ other }
 {
     names_law();
+    path_law();
 }
 
 /// The names in the folder of schemas are those of no schema exactly where there is no table. Where there is one, they
@@ -64,4 +69,27 @@ pub fn past_law()
 {
     pm_contents::kept_law();
     one_contents_law();
+}
+
+/// Where a snapshot is there and the one after it isn't, it is the newest.
+pub fn newest_law()
+    ensures { (f : Files) (s : TableSchema) (entries : List Entry) (id : ℕ) → Folder f (table s entries)
+        → HasSnapshotAt f s id → id + 1 ≤ greatest → map.get f (snapshot_path (id + 1)) ≡ None
+        → id ≡ length entries }
+{}
+
+/// That no snapshot names a file of an actor stays so, whatever other actors do, and where it commits nothing itself.
+pub fn unnamed_law()
+    ensures others { (me other : Actor) (f after : Files) (p q : Past) → Stands f p → Advances other f p after q
+        → me ≢ other → HasNamedNone me p → HasNamedNone me q }
+    ensures own { (me : Actor) (f after : Files) (p q : Past) → Stands f p → Advances me f p after q
+        → count_of q.history ≡ count_of p.history → HasNamedNone me p → HasNamedNone me q }
+    // So no snapshot of the folder does.
+    ensures here { (me : Actor) (f : Files) (p : Past) (s : TableSchema) (id : ℕ) (path : List ℕ) → Stands f p
+        → IsTableOf s p.history → id ≤ greatest → HasNamedNone me p → Names f s id path → IsNamedBy me path → ⊥ }
+{
+    one_contents_law();
+    path_law();
+    same_law();
+    snapshot_law();
 }

@@ -19,4 +19,7 @@
 
 mod laws;
 
-pub use laws::{found_law, goes_on_law, kept_law, listed_law, own_law, past_law, stays_law};
+pub use laws::{
+    found_law, goes_on_law, kept_law, listed_law, newest_law, own_law, past_law, stays_law,
+    unnamed_law,
+};
