@@ -1,17 +1,21 @@
 -- What holds of batches and of their files.
-use Rattle.std.proofs.Common.{◌≡◌, ◌↔◌, ℕ, ◌+◌, ◌≤◌, List, [], ◌∷◌, length, Bool, true, Some, None, false, cond, refl, sym, ap, subst, ◌∙◌, arith}
+use Rattle.std.proofs.Common.{◌≡◌, ◌≢◌, ◌↔◌, ℕ, ◌+◌, ◌≤◌, List, [], ◌∷◌, length, map, Bool, true, Some, None, false, cond, refl, sym, ap, subst, ◌∙◌, arith}
 use Rattle.std.specs.BTreeMap.{BTreeMap}
-use Rattle.std.specs.Cmp.{tied_itself}
-use Rattle.std.specs.List.{AllByRecursion}
+use Rattle.std.specs.Cmp.{Equal-is, tied_itself}
+use Rattle.std.specs.List.{AllByRecursion, AllZip}
 use Rattle.std.specs.List.Sorted.{IsStrictlySortedBy}
 use Rattle.std.specs.Map.{keys_of}
-use Rattle.std.specs.Ordering.{is_eq}
+use Rattle.std.specs.Ordering.{eq_by_cmp, is_eq}
 use Rattle.std.specs.declared.cmp.Ordering.TheVariants.{Less}
 use Rattle.pm_values.specs.GroupOrder.{group_cmp, group_total}
 use Rattle.pm_values.specs.Names.{Naming, counted}
+use Rattle.pm_values.specs.Order.{Values}
 use Rattle.pm_values.specs.declared.group.Group.{Group}
+use Rattle.pm_values.proofs.Lemmas.{group_cmp-IsAntisymmetric}
+use Rattle.pm_schema.specs.Folder.{FitsPart, FitsPartition}
 use Rattle.pm_schema.specs.declared.schema.TableSchema.{TableSchema}
-use Rattle.pm_history.specs.Merge.{HistoryRow}
+use Rattle.pm_history.specs.ColumnValue.{index_of}
+use Rattle.pm_history.specs.Merge.{HistoryRow, key_of}
 use Rattle.pm_engine.specs.Covers.{CoversAll, Run}
 use Rattle.pm_engine.specs.OfSchema.{meaning_of}
 use Rattle.pm_following.specs.Groups.{group_of, rows_in}
@@ -91,6 +95,45 @@ each_held (e ∷ es) ordered = (
       (λ f less found. ap (λ (b : Bool). cond b (Some e.1) (held_of f.0 es)) (tie-back f.0 e.0 ∙ ap is_eq less) ∙ found)
       es (from_map (λ (f : Group × GroupRows). f.0) (λ (g : Group). group_cmp e.0 g ≡ Less) es ordered.0) (each_held es ordered.1),
 )
+
+-- what each group of a batch has, it holds
+pub all_held : (s : TableSchema) (rows : List HistoryRow) (batch : Groups) → IsBatchOf s rows batch → AllByRecursion (λ (e : Group × GroupRows). held_of e.0 batch ≡ Some e.1) batch
+all_held s rows batch is = each_held batch is.ordered
+
+-- ---- the folders of groups
+
+-- some row is of a group that has rows
+row-of : (s : TableSchema) (g : Group) (rows : List HistoryRow) → rows_in s g rows ≢ [] → (q : HistoryRow) × (group_of s q.1 ≡ g)
+row-of s g [] some = absurd (some refl)
+row-of s g (r ∷ rows) some = at (λ others. row-of s g rows others) (eq_by_cmp group_cmp (group_of s r.1) g) refl
+  where
+    at : (rows_in s g rows ≢ [] → (q : HistoryRow) × (group_of s q.1 ≡ g)) → (t : Bool) → eq_by_cmp group_cmp (group_of s r.1) g ≡ t
+        → (q : HistoryRow) × (group_of s q.1 ≡ g)
+    at rest true is = (r, group_cmp-IsAntisymmetric (group_of s r.1) g ((Equal-is (group_cmp (group_of s r.1) g)).0 is))
+    at rest false is = rest (λ none. some (ap (λ (b : Bool). cond b (r ∷ rows_in s g rows) (rows_in s g rows)) is ∙ none))
+
+-- a held group has rows
+some_held : (s : TableSchema) (rows : List HistoryRow) (x : GroupRows) → HoldsRows s rows (Some x) → rows ≢ []
+some_held s [] x held none = let no : Some x ≡ None = held in cc
+some_held s (row ∷ rows) x held none = cc
+
+no_folders : (s : TableSchema) (g : Group) → s.partition ≡ [] → g.partition ≡ [] → FitsPartition s g
+no_folders s g no_names no_values =
+    subst (λ (names : List (List ℕ)). AllZip (FitsPart s.columns) names g.partition) (sym no_names)
+    (subst (λ (values : Values). AllZip (FitsPart s.columns) [] values) (sym no_values) tt)
+
+pub folders : (s : TableSchema) (rows : List HistoryRow) (batch : Groups) → s.partition ≡ [] → IsBatchOf s rows batch
+    → AllByRecursion (λ (e : Group × GroupRows). FitsPartition s e.0) batch
+folders s rows batch no_names is = by_groups batch (all_held s rows batch is)
+  where
+    by_groups : (es : Groups) → AllByRecursion (λ (e : Group × GroupRows). held_of e.0 batch ≡ Some e.1) es
+        → AllByRecursion (λ (e : Group × GroupRows). FitsPartition s e.0) es
+    by_groups [] held = tt
+    by_groups (e ∷ es) held =
+        let own : HoldsRows s (rows_in s e.0 rows) (Some e.1) = subst (HoldsRows s (rows_in s e.0 rows)) held.0 (is.held e.0) in
+        let q = row-of s e.0 rows (some_held s (rows_in s e.0 rows) e.1 own) in
+        let none : e.0.partition ≡ [] = ap (λ (g : Group). g.partition) (sym q.1) ∙ ap (λ (names : List (List ℕ)). key_of (map (index_of s) names) q.0.1) no_names in
+        (no_folders s e.0 no_names none, by_groups es held.1)
 
 pub all_written : (s : TableSchema) (rows : List HistoryRow) (batch : Groups) (next : BTreeMap Group ℕ) (names : Naming) (files : List NewFile) → IsBatchOf s rows batch → exceeds next batch ≡ false
     → AreNewFiles s next names batch files → AreWritten s next batch files

@@ -69,6 +69,13 @@ impl Batch {
         self.groups.is_empty()
     }
 
+    /// How many groups have rows, and so how many files they become.
+    pub fn group_count(&self) -> usize
+        ensures { result ≡ length self.now }
+    {
+        self.groups.len()
+    }
+
     /// The files of the groups, in their order, whose rows are counted from the groups' next numbers, 0 where a group
     /// has none. Where this needs a number above the greatest, no file is made and no name is taken.
     pub fn files(

@@ -1,9 +1,11 @@
 //! What holds of all batches and of the files that they become.
 
 ghost use Rattle.std.specs.Prelude.{◌≡◌, ◌↔◌, ℕ, ◌+◌, ◌≤◌, List, [], ◌∷◌, Some, false};
+ghost use Rattle.std.specs.List.{AllByRecursion};
 ghost use Rattle.std.specs.BTreeMap.{BTreeMap};
 ghost use Rattle.pm_values.specs.Names.{Naming};
 ghost use Rattle.pm_values.specs.declared.group.Group.{Group};
+ghost use Rattle.pm_schema.specs.Folder.{FitsPartition};
 ghost use Rattle.pm_schema.specs.declared.schema.TableSchema.{TableSchema};
 ghost use Rattle.pm_history.specs.Merge.{HistoryRow};
 ghost use Rattle.pm_engine.specs.Covers.{CoversAll};
@@ -15,7 +17,8 @@ ghost use Rattle.pm_write.specs.Files.{exceeds, AreNewFiles, AreWritten, IsNewFi
 ghost use Rattle.pm_write.specs.declared.files.NewFile.{NewFile as FileView};
 
 /// No rows have the batch without groups, and only they. The run of a group covers the group's rows, whatever number
-/// they are counted from.
+/// they are counted from. A batch holds each of its groups once, and where the table has no partition columns each has
+/// a folder.
 pub fn batch_law()
     ensures none { (s : TableSchema) → IsBatchOf s [] [] }
     ensures empty { (s : TableSchema) (rows : List HistoryRow) (batch : Groups) → IsBatchOf s rows batch →
@@ -23,6 +26,10 @@ pub fn batch_law()
     ensures covers { (s : TableSchema) (rows : List HistoryRow) (batch : Groups) (g : Group) (x : GroupRows) (n : ℕ) →
         IsBatchOf s rows batch → held_of g batch ≡ Some x →
         CoversAll (meaning_of s) (numbered n x.run ∷ []) (rows_in s g rows) }
+    ensures held { (s : TableSchema) (rows : List HistoryRow) (batch : Groups) → IsBatchOf s rows batch →
+        AllByRecursion (λ (e : Group × GroupRows). held_of e.0 batch ≡ Some e.1) batch }
+    ensures folders { (s : TableSchema) (rows : List HistoryRow) (batch : Groups) → s.partition ≡ [] →
+        IsBatchOf s rows batch → AllByRecursion (λ (e : Group × GroupRows). FitsPartition s e.0) batch }
 {}
 
 /// The new file of a group of a batch, whose rows are counted from a number that is small enough, is read as these rows
