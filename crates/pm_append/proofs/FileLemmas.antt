@@ -1,0 +1,230 @@
+-- The new files of a batch, and the entries that add them.
+use Rattle.std.proofs.Common.{◌≡◌, ◌≢◌, ℕ, suc, ◌+◌, ◌<◌, ◌≤◌, max, Bool, true, false, true≢false, cond, List, [], ◌∷◌, length, map, Option, None, Some, inl, inr, Contains, refl, sym, ap, subst, ◌∙◌, is_eq, arith}
+use Rattle.std.specs.BTreeMap.{BTreeMap, is_at}
+use Rattle.std.specs.Cmp.{Equal-is, tied_itself}
+use Rattle.std.specs.List.{AllByRecursion}
+use Rattle.std.specs.List.Sorted.{IsStrictlySortedBy}
+use Rattle.std.specs.Map.{keys_of}
+use Rattle.std.specs.Ordering.{eq_by_cmp}
+use Rattle.std.specs.declared.cmp.Ordering.TheVariants.{Less, Equal}
+use Rattle.std.proofs.lemmas.Bool.Decides.{nat_tests}
+use Rattle.pm_values.specs.GroupOrder.{group_cmp, group_total}
+use Rattle.pm_values.specs.Names.{Naming, counted, name_of}
+use Rattle.pm_values.specs.declared.group.Group.{Group}
+use Rattle.pm_values.proofs.Lemmas.{group_cmp-IsAntisymmetric}
+use Rattle.pm_schema.specs.declared.schema.TableSchema.{TableSchema}
+use Rattle.pm_history.specs.Merge.{HistoryRow}
+use Rattle.pm_following.specs.Groups.{rows_in}
+use Rattle.pm_manifest.specs.Live.{id_of}
+use Rattle.pm_manifest.specs.declared.entry.Entry.{Entry}
+use Rattle.pm_manifest.specs.declared.file_id.FileId.{FileId}
+use Rattle.pm_run.specs.Writing.{data_prefix, suffix}
+use Rattle.pm_write.specs.Batch.{GroupRows, Groups, HoldsRows, IsBatchOf, held_of}
+use Rattle.pm_write.specs.Files.{AreNewFiles, AreWritten, IsWritten, next_of}
+use Rattle.pm_write.specs.declared.files.NewFile.{NewFile}
+use Rattle.pm_append.specs.Files.{after_names}
+use Rattle.pm_append.specs.Refusals.{next_number}
+use Rattle.pm_append.specs.Snapshot.{added_entry}
+use Rattle.pm_append.proofs.ListLemmas.{Pairs, in-head, in-or, in-tail, none-in}
+use Rattle.pm_append.proofs.LiveLemmas.{AreAdds}
+
+-- ---- groups
+
+pub group-is : (a b : Group) → is_at (group_cmp a) b ≡ true → a ≡ b
+group-is a b e = group_cmp-IsAntisymmetric a b ((Equal-is (group_cmp a b)).0 e)
+
+group-ties : (a b : Group) → a ≡ b → is_at (group_cmp a) b ≡ true
+group-ties a b e = subst (λ x. is_at (group_cmp a) x ≡ true) e (ap is_eq (tied_itself group_total a))
+
+less-apart : (a b : Group) → group_cmp a b ≡ Less → a ≢ b
+less-apart a b less same =
+    let tied : group_cmp a b ≡ Equal = (Equal-is (group_cmp a b)).0 (group-ties a b same) in
+    let no : Less ≡ Equal = sym less ∙ tied in
+    cc
+
+-- ---- the files of a batch
+
+-- files of groups are those of their groups, with names in order
+pub record IsFileOf (s : TableSchema) (names : Naming) (total : ℕ) (x : NewFile) : Type 0 where
+  pub index : ℕ
+  pub within : index < total
+  pub name : x.meta.name ≡ name_of data_prefix suffix (after_names index names)
+
+after-next : (n : ℕ) (names : Naming) → after_names n (counted names) ≡ after_names (suc n) names
+after-next n names = let more : names.count + 1 + n ≡ names.count + suc n = omega arith in λ i. record names { count = more i }
+
+after-none : (names : Naming) → after_names 0 names ≡ names
+after-none names = let same : names.count + 0 ≡ names.count = omega arith in λ i. record names { count = same i }
+
+module _ (s : TableSchema) (next : BTreeMap Group ℕ) where
+  -- each has one of the names
+  pub named-file : (names : Naming) (batch : Groups) (xs : List NewFile) (x : NewFile) → AreNewFiles s next names batch xs → Contains xs x
+      → IsFileOf s names (length xs) x
+  named-file names [] [] x new h = absurd (none-in x h)
+  named-file names [] (y ∷ xs) x new h = absurd new
+  named-file names (e ∷ es) [] x new h = absurd new
+  named-file names (e ∷ es) (y ∷ xs) x new h = elim (in-or y xs x h) as (λ _. IsFileOf s names (suc (length xs)) x) [
+    | inl is ↦ record {
+      index = 0;
+      within = omega arith;
+      name = ap (λ (z : NewFile). z.meta.name) (sym is) ∙ new.0.file.made.meta.named ∙ ap (name_of data_prefix suffix) (sym (after-none names));
+    }
+    | inr more ↦ (let later = named-file (counted names) es xs x new.1 more in let w = later.within in record {
+      index = suc later.index;
+      within = omega (arith, w);
+      name = later.name ∙ ap (name_of data_prefix suffix) (after-next later.index names);
+    })
+  ]
+
+  -- there is one for each group
+  pub files-many : (names : Naming) (batch : Groups) (xs : List NewFile) → AreNewFiles s next names batch xs → length xs ≡ length batch
+  files-many names [] [] new = refl
+  files-many names [] (x ∷ xs) new = absurd new
+  files-many names (e ∷ es) [] new = absurd new
+  files-many names (e ∷ es) (x ∷ xs) new = ap suc (files-many (counted names) es xs new.1)
+
+  -- those of later groups are of greater ones
+  later-groups : (g : Group) (names : Naming) (es : Groups) (xs : List NewFile) (y : NewFile) → AreNewFiles s next names es xs
+      → AllByRecursion (λ (k : Group). group_cmp g k ≡ Less) (keys_of es) → Contains xs y → group_cmp g y.group ≡ Less
+  later-groups g names [] [] y new above h = absurd (none-in y h)
+  later-groups g names [] (x ∷ xs) y new above h = absurd new
+  later-groups g names (e ∷ es) [] y new above h = absurd new
+  later-groups g names (e ∷ es) (x ∷ xs) y new above h = elim (in-or x xs y h) as (λ _. group_cmp g y.group ≡ Less) [
+    | inl is ↦ subst (λ (z : NewFile). group_cmp g z.group ≡ Less) is (subst (λ (k : Group). group_cmp g k ≡ Less) (sym new.0.own) above.0)
+    | inr more ↦ later-groups g (counted names) es xs y new.1 above.1 more
+  ]
+
+  -- so they are of different groups
+  pub apart-files : (names : Naming) (batch : Groups) (xs : List NewFile) → AreNewFiles s next names batch xs → IsStrictlySortedBy group_cmp (keys_of batch)
+      → Pairs (λ (a b : NewFile). a.group ≢ b.group) xs
+  unfolding IsStrictlySortedBy
+  apart-files names [] [] new ordered = tt
+  apart-files names [] (x ∷ xs) new ordered = absurd new
+  apart-files names (e ∷ es) [] new ordered = tt
+  apart-files names (e ∷ es) (x ∷ xs) new ordered = (
+    λ y h. less-apart x.group y.group (subst (λ (k : Group). group_cmp k y.group ≡ Less) (sym new.0.own) (later-groups e.0 (counted names) es xs y new.1 ordered.0 h)),
+    apart-files (counted names) es xs new.1 ordered.1,
+  )
+
+  -- what a batch's files have of a group: one file, where the batch has the group, else none
+  abbrev pub OwnFile : Group → Option GroupRows → List NewFile → Type 0
+  OwnFile g None xs = (x : NewFile) → Contains xs x → x.group ≢ g
+  OwnFile g (Some r) xs = (x : NewFile) × Contains xs x × (x.group ≡ g) × IsWritten s (next_of next g) r x
+      × ((y : NewFile) → Contains xs y → y.group ≡ g → y ≡ x)
+
+  pub own-file : (g : Group) (names : Naming) (batch : Groups) (xs : List NewFile) → AreNewFiles s next names batch xs → AreWritten s next batch xs
+      → IsStrictlySortedBy group_cmp (keys_of batch) → OwnFile g (held_of g batch) xs
+  unfolding IsStrictlySortedBy
+  own-file g names [] [] new written ordered = λ x h. absurd (none-in x h)
+  own-file g names [] (x ∷ xs) new written ordered = absurd new
+  own-file g names (e ∷ es) [] new written ordered = absurd new
+  own-file g names (e ∷ es) (x ∷ xs) new written ordered =
+      at (own-file g (counted names) es xs new.1 written.1 ordered.1) (is_at (group_cmp g) e.0) refl
+    where
+      later : Group → Type 0
+      later k = (y : NewFile) → Contains xs y → group_cmp k y.group ≡ Less
+
+      above : later e.0
+      above y h = later-groups e.0 (counted names) es xs y new.1 ordered.0 h
+
+      more-file : (o : Option GroupRows) → x.group ≢ g → OwnFile g o xs → OwnFile g o (x ∷ xs)
+      more-file None other own = λ y h same. elim (in-or x xs y h) as (λ _. ⊥) [
+        | inl is ↦ other (ap (λ (z : NewFile). z.group) is ∙ same)
+        | inr rest ↦ own y rest same
+      ]
+      more-file (Some r) other (y, there, same, is, one) = (
+        y,
+        in-tail x xs y there,
+        same,
+        is,
+        λ z h of_g. elim (in-or x xs z h) as (λ _. z ≡ y) [
+          | inl first ↦ absurd (other (ap (λ (z : NewFile). z.group) first ∙ of_g))
+          | inr rest ↦ one z rest of_g
+        ],
+      )
+
+      at : OwnFile g (held_of g es) xs → (t : Bool) → is_at (group_cmp g) e.0 ≡ t → OwnFile g (cond t (Some e.1) (held_of g es)) (x ∷ xs)
+      at rest true is =
+          let same : g ≡ e.0 = group-is g e.0 is in (
+            x,
+            in-head x xs,
+            new.0.own ∙ sym same,
+            subst (λ (k : Group). IsWritten s (next_of next k) e.1 x) (sym same) written.0,
+            λ z h of_g. elim (in-or x xs z h) as (λ _. z ≡ x) [
+              | inl first ↦ sym first
+              | inr rest ↦ absurd (less-apart e.0 z.group (above z rest) (sym same ∙ sym of_g))
+            ],
+          )
+      at rest false is = more-file (held_of g es) (λ of_g. true≢false (sym (group-ties g e.0 (sym of_g ∙ new.0.own)) ∙ is)) rest
+
+-- ---- the entries that add them
+
+-- an entry is that of a file
+pub entry-file : (s : TableSchema) (xs : List NewFile) (e : Entry) → Contains (map (added_entry s) xs) e → (x : NewFile) × Contains xs x × (added_entry s x ≡ e)
+entry-file s [] e h = absurd (none-in e h)
+entry-file s (x ∷ xs) e h = elim (in-or (added_entry s x) (map (added_entry s) xs) e h) as (λ _. (y : NewFile) × Contains (x ∷ xs) y × (added_entry s y ≡ e)) [
+  | inl is ↦ (x, in-head x xs, is)
+  | inr more ↦ (let found = entry-file s xs e more in (found.0, in-tail x xs found.0 found.1, found.2))
+]
+
+pub file-entry : (s : TableSchema) (xs : List NewFile) (x : NewFile) → Contains xs x → Contains (map (added_entry s) xs) (added_entry s x)
+file-entry s [] x h = absurd (none-in x h)
+file-entry s (y ∷ xs) x h = elim (in-or y xs x h) as (λ _. Contains (map (added_entry s) (y ∷ xs)) (added_entry s x)) [
+  | inl is ↦ subst (λ (z : NewFile). Contains (map (added_entry s) (y ∷ xs)) (added_entry s z)) is (in-head (added_entry s y) (map (added_entry s) xs))
+  | inr more ↦ in-tail (added_entry s y) (map (added_entry s) xs) (added_entry s x) (file-entry s xs x more)
+]
+
+-- they are adds, of different files
+pub are-adds : (s : TableSchema) (xs : List NewFile) → Pairs (λ (a b : NewFile). a.group ≢ b.group) xs → AreAdds (map (added_entry s) xs)
+are-adds s xs apart = record {
+  add = λ e h. (let found = entry-file s xs e h in ap (λ (z : Entry). z.add) (sym found.2));
+  apart = all-apart xs apart;
+}
+  where
+    all-apart : (xs : List NewFile) → Pairs (λ (a b : NewFile). a.group ≢ b.group) xs → Pairs (λ (a b : Entry). id_of a ≢ id_of b) (map (added_entry s) xs)
+    all-apart [] apart = tt
+    all-apart (x ∷ xs) apart = (
+      λ e h same. (let found = entry-file s xs e h in
+          apart.0 found.0 found.1 (ap (λ (i : FileId). i.group) same ∙ ap (λ (z : Entry). z.group) (sym found.2))),
+      all-apart xs apart.1,
+    )
+
+-- ---- numbers
+
+-- the next number of a group is above those of its live files
+pub next-above : (live : List Entry) (g : Group) (e : Entry) → Contains live e → e.group ≡ g → e.file.max_seq + 1 ≤ next_number live g
+next-above [] g e h same = absurd (none-in e h)
+next-above (x ∷ live) g e h same = elim (in-or x live e h) as (λ _. e.file.max_seq + 1 ≤ next_number (x ∷ live) g) [
+  | inl is ↦ (let here : eq_by_cmp group_cmp x.group g ≡ true = group-ties x.group g (ap (λ (z : Entry). z.group) is ∙ same) in
+      subst (λ (t : Bool). e.file.max_seq + 1 ≤ cond t (max (x.file.max_seq + 1) (next_number live g)) (next_number live g)) (sym here)
+      (subst (λ (z : Entry). z.file.max_seq + 1 ≤ max (x.file.max_seq + 1) (next_number live g)) is (left-max (x.file.max_seq + 1) (next_number live g))))
+  | inr more ↦ at (eq_by_cmp group_cmp x.group g) (next-above live g e more same)
+]
+  where
+    left-max : (a b : ℕ) → a ≤ max a b
+    left-max a b = grind (arith, nat_tests)
+
+    at : (t : Bool) → e.file.max_seq + 1 ≤ next_number live g
+        → e.file.max_seq + 1 ≤ cond t (max (x.file.max_seq + 1) (next_number live g)) (next_number live g)
+    at true low = right-max (x.file.max_seq + 1) (next_number live g) low
+      where
+        right-max : (a b : ℕ) → e.file.max_seq + 1 ≤ b → e.file.max_seq + 1 ≤ max a b
+        right-max a b low = grind (arith, nat_tests)
+    at false low = low
+
+-- a group that a batch holds has rows, and so many are counted
+pub some-count : (s : TableSchema) (rows : List HistoryRow) (batch : Groups) (g : Group) (r : GroupRows) → IsBatchOf s rows batch → held_of g batch ≡ Some r
+    → (1 ≤ r.count) × (rows_in s g rows ≢ [])
+some-count s rows batch g r is found = at (rows_in s g rows) refl (subst (HoldsRows s (rows_in s g rows)) found (is.held g))
+  where
+    at : (own : List HistoryRow) → rows_in s g rows ≡ own → HoldsRows s own (Some r) → (1 ≤ r.count) × (rows_in s g rows ≢ [])
+    at [] none held = absurd (let no : Some r ≡ None = held in cc)
+    at (row ∷ more) some held = ((let last = held.last in omega (arith, last)), λ none. (let no : row ∷ more ≡ [] = sym some ∙ none in cc))
+
+-- and one that it doesn't hold has none
+pub none-rows : (s : TableSchema) (rows : List HistoryRow) (batch : Groups) (g : Group) → IsBatchOf s rows batch → held_of g batch ≡ None → rows_in s g rows ≡ []
+none-rows s rows batch g is found = at (rows_in s g rows) (subst (HoldsRows s (rows_in s g rows)) found (is.held g))
+  where
+    at : (own : List HistoryRow) → HoldsRows s own None → own ≡ []
+    at [] held = refl
+    at (row ∷ more) held = absurd held

@@ -1,0 +1,11 @@
+mod CommitLemmas
+mod CountLemmas
+mod EntryLemmas
+mod FileLemmas
+mod GroupLemmas
+mod ListLemmas
+mod LiveLemmas
+mod MadeLemmas
+mod ManifestLemmas
+mod NumberLemmas
+mod RowLemmas

@@ -1,0 +1,75 @@
+-- When what was made of a batch adds its entry to the history, once it is published.
+use Rattle.std.specs.Prelude.{◌≡◌, ℕ, ◌+◌, ◌<◌, ◌≤◌, ◌^◌, List, [], ◌++◌, length, Option, Some, None}
+use Rattle.std.specs.FinMap as map
+use Rattle.std.specs.List.{AllByRecursion}
+use Rattle.pm_store.specs.Files.{Files}
+use Rattle.pm_values.specs.Names.{Naming}
+use Rattle.pm_history.specs.History.{Entry}
+use Rattle.pm_history.specs.Merge.{HistoryRow}
+use Rattle.pm_options.specs.declared.kinds.Producer.TheVariants as producers
+use Rattle.pm_schema.specs.Again.{IsDeclared}
+use Rattle.pm_schema.specs.declared.schema.TableSchema.{TableSchema}
+use Rattle.pm_snapshot.specs.Names.{MayName}
+use Rattle.pm_snapshot.specs.declared.snapshot.Snapshot.{Snapshot}
+use Rattle.pm_contents.specs.Named.{Contents}
+use Rattle.pm_folder.specs.Changes.{Actor, IsNamedBy}
+use Rattle.pm_folder.specs.Commits.{HasCommit, Names, live_in}
+use Rattle.pm_folder.specs.Entries.{AreLive}
+use Rattle.pm_folder.specs.Folder.{HasTable}
+use Rattle.pm_write.specs.Batch.{Groups, IsBatchOf}
+use Rattle.pm_append.specs.Files.{IsAppendOf}
+use Rattle.pm_append.specs.Refusals.{refusal_of}
+use Rattle.pm_append.specs.declared.newest.Append.{Append}
+use Rattle.pm_append.specs.declared.newest.Author.{Author}
+use Rattle.pm_append.specs.declared.newest.CommitFile.{CommitFile}
+use Rattle.pm_append.specs.declared.newest.Newest.{Newest}
+
+-- one try to commit: the rows and their batch, who commits them, the newest snapshot as it was found, the maker of names
+-- before it named the files, and what was made
+pub record Attempt : Type 0 where
+  pub rows : List HistoryRow
+  pub batch : Groups
+  pub author : Author
+  pub newest : Newest
+  pub names : Naming
+  pub made : Append
+
+-- the snapshot has these manifests and live entries; the origin has none
+abbrev pub IsFoundAs : Files → TableSchema → Newest → Option Snapshot → Type 0
+IsFoundAs f s newest None = (newest.id ≡ 0) × (newest.manifests.items ≡ []) × (newest.live.items ≡ [])
+IsFoundAs f s newest (Some x) = (c : Contents) × HasCommit f s newest.id x c × (newest.manifests.items ≡ c.base ++ c.delta)
+    × AreLive (live_in c) newest.live.items
+
+-- the newest snapshot of a table with these entries is as it was found
+pub record IsNewestOf (f : Files) (s : TableSchema) (entries : List Entry) (newest : Newest) : Type 0 where
+  pub id : newest.id ≡ length entries
+  pub found : IsFoundAs f s newest newest.snapshot
+
+-- the table is one that is built: it has one bucket, no partition columns and no changelog producer
+pub record IsBuilt (s : TableSchema) : Type 0 where
+  pub declared : IsDeclared s
+  pub no_partition : s.partition ≡ []
+  pub one_bucket : s.options.bucket ≡ 1
+  pub no_producer : s.options.producer ≡ producers.None
+
+-- the actor makes the names, whose base is that of the commit; there are enough of them
+pub record MakesNames (me : Actor) (t : Attempt) : Type 0 where
+  pub session : t.names.session ≡ me.session
+  pub actor : t.names.actor ≡ me.number
+  pub based : t.names.base ≡ t.author.base
+  pub may : MayName t.names
+  pub room : t.names.count + length t.batch + 4 < 2 ^ 64
+
+-- The try can be published by an actor while the newest snapshot stands: its files are in place, and no snapshot names a
+-- file that the actor named.
+pub record IsReady (me : Actor) (f : Files) (s : TableSchema) (entries : List Entry) (t : Attempt) : Type 0 where
+  pub folder : HasTable f s entries
+  pub built : IsBuilt s
+  pub newest : IsNewestOf f s entries t.newest
+  pub batch : IsBatchOf s t.rows t.batch
+  pub made : IsAppendOf s t.newest t.author t.batch t.names t.made
+  pub allowed : refusal_of t.newest t.author t.batch ≡ None
+  pub base : t.author.base ≤ t.newest.id
+  pub maker : MakesNames me t
+  pub there : AllByRecursion (λ (file : CommitFile). map.get f file.path ≡ Some file.bytes) t.made.files.items
+  pub unnamed : (id : ℕ) (path : List ℕ) → 1 ≤ id → id ≤ length entries → Names f s id path → IsNamedBy me path → ⊥

@@ -1,0 +1,4 @@
+pub mod Commit
+pub mod Files
+pub mod Refusals
+pub mod Snapshot

@@ -1,0 +1,45 @@
+//! What a commit that was made becomes once it is published.
+
+ghost use Rattle.std.specs.Prelude.{◌≡◌, suc, List, length, None, Some};
+ghost use Rattle.std.specs.FinMap as map;
+ghost use Rattle.pm_store.specs.Files.{Files, Puts};
+ghost use Rattle.pm_history.specs.History.{Entry, append as append_entry};
+ghost use Rattle.pm_schema.specs.declared.schema.TableSchema.{TableSchema};
+ghost use Rattle.pm_folder.specs.Changes.{Actor, NamesOwn};
+ghost use Rattle.pm_folder.specs.Commits.{IsAppend};
+ghost use Rattle.pm_folder.specs.Paths.{snapshot_path};
+ghost use Rattle.pm_append.specs.Commit.{Attempt, IsReady};
+
+use pm_contents::{kept_law, one_contents_law, one_runs_law};
+use pm_engine::added_law;
+use pm_levels::newest_law;
+use pm_manifest::{id_law, joined_law, last_law, live_law, read_entry_law};
+use pm_run::order_law;
+use pm_snapshot::{path_law, snapshot_law};
+use pm_write::{batch_law, written_law};
+
+/// A try that is ready, whose snapshot appears after the newest, appends its rows to the history; what the snapshot
+/// names and the one before it doesn't was named by the actor.
+pub fn append_law()
+    ensures { (me : Actor) (f after : Files) (s : TableSchema) (entries : List Entry) (t : Attempt) →
+        IsReady me f s entries t → map.get f (snapshot_path (suc (length entries))) ≡ None →
+        Puts f (snapshot_path (suc (length entries))) (Some t.made.text) after →
+        IsAppend f after s entries (append_entry t.author.user t.author.identifier t.rows)
+        × NamesOwn me f after s (length entries) }
+{
+    added_law();
+    kept_law();
+    one_contents_law();
+    one_runs_law();
+    newest_law();
+    id_law();
+    joined_law();
+    last_law();
+    read_entry_law();
+    live_law();
+    order_law();
+    path_law();
+    snapshot_law();
+    batch_law();
+    written_law();
+}
