@@ -11,11 +11,13 @@ use Rattle.pm_store.specs.declared.answer.Answer.TheVariants as answers
 use Rattle.pm_options.specs.declared.kinds.EngineKind.TheVariants as engines
 use Rattle.pm_schema.specs.declared.schema.TableSchema.{TableSchema}
 use Rattle.pm_snapshot.specs.declared.snapshot.Snapshot.{Snapshot}
+use Rattle.pm_manifest.specs.declared.entry.Entry.{Entry}
 use Rattle.pm_manifest.specs.declared.entry.ManifestMeta.{ManifestMeta}
-use Rattle.pm_table_view.specs.Asked.{Asked}
+use Rattle.pm_table_view.specs.Asked.{SoughtView, sought_of}
 use Rattle.pm_table_view.specs.Reader as reader
 use Rattle.pm_table_view.specs.Reader.{most, opening}
 use Rattle.pm_table_view.specs.Reading.{Filed}
+use Rattle.pm_table_view.specs.View.{kept_for}
 use Rattle.pm_table_view.specs.declared.phase.Phase as view_phase
 use Rattle.pm_table_view.specs.declared.phase.Phase.TheVariants as readers
 use Rattle.pm_table_view.specs.declared.view.View.{View}
@@ -45,30 +47,30 @@ ready_at m v is engine = subst IsOn (sym is) (record { engine = engine; left = i
 engine_at : (v : View) (s : TableSchema) → v.schema ≡ s → s.options.engine ≡ engines.Deduplicate → v.schema.options.engine ≡ engines.Deduplicate
 engine_at v s same engine = ap (λ (s : TableSchema). s.options.engine) same ∙ engine
 
-opening_on : (a : Asked) (id : ℕ) (m : view_phase.Phase) → a.schema.options.engine ≡ engines.Deduplicate → m ≡ opening a id → IsOn m
-opening_on a id m engine is = at (id == 0) is
+opening_on : (q : SoughtView) (id : ℕ) (m : view_phase.Phase) → q.asked.schema.options.engine ≡ engines.Deduplicate → m ≡ opening q id → IsOn m
+opening_on q id m engine is = at (id == 0) is
   where
-    at : (t : Bool) → m ≡ (if t then readers.Origin a else readers.Snapshot a id) → IsOn m
-    at true is = on_at m (readers.Origin a) is engine (omega arith)
-    at false is = on_at m (readers.Snapshot a id) is engine (omega arith)
+    at : (t : Bool) → m ≡ (if t then readers.Origin q else readers.Snapshot q id) → IsOn m
+    at true is = on_at m (readers.Origin q) is engine (omega arith)
+    at false is = on_at m (readers.Snapshot q id) is engine (omega arith)
 
-manifests_on : (a : Asked) (x : Snapshot) (done rest : List ManifestMeta) (files : Filed) (m : view_phase.Phase) → a.schema.options.engine ≡ engines.Deduplicate
-    → reader.GoesOn a x done rest files m → IsOn m
-manifests_on a x done [] files m engine (v, view, is) = ready_at m v is (engine_at v a.schema view.schema engine)
-manifests_on a x done (meta ∷ rest) files m engine is = on_at m _ is engine (omega arith)
+manifests_on : (q : SoughtView) (x : Snapshot) (done rest : List ManifestMeta) (files : Filed) (kept : List Entry) (m : view_phase.Phase)
+    → q.asked.schema.options.engine ≡ engines.Deduplicate → reader.GoesOn q x done rest files kept m → IsOn m
+manifests_on q x done [] files kept m engine (v, view, sought, is) = ready_at m v is (engine_at v q.asked.schema view.schema engine)
+manifests_on q x done (meta ∷ rest) files kept m engine is = on_at m _ is engine (omega arith)
 
 reader_on : (r : view_phase.Phase) (answer : Answer) (to : view_phase.Phase) → IsEngineOf r → reader.Goes r answer to → IsOn to
-reader_on (readers.List a) (answers.Listed names) to engine (latest, id, newest, is_asked, is) = opening_on a id to engine is
-reader_on (readers.Origin a) (answers.Found (Some bytes)) to engine (v, view, is) = ready_at to v is (engine_at v a.schema view.schema engine)
-reader_on (readers.Snapshot a id) (answers.Found (Some bytes)) to engine (x, reads, schema, is) = on_at to (readers.Base a x) is engine (omega arith)
-reader_on (readers.Base a x) (answers.Found None) to engine is = on_at to _ is engine (omega arith)
-reader_on (readers.Base a x) (answers.Found (Some bytes)) to engine (base, reads, is) = on_at to (readers.Delta a x base) is engine (omega arith)
-reader_on (readers.Delta a x base) (answers.Found None) to engine is = on_at to _ is engine (omega arith)
-reader_on (readers.Delta a x base) (answers.Found (Some bytes)) to engine (delta, reads, (files, left, within, on)) =
-    manifests_on a x [] (base.items ++ delta) files to engine on
+reader_on (readers.List a) (answers.Listed names) to engine (ids, latest, id, are, newest, is_asked, is) = opening_on (sought_of a ids) id to engine is
+reader_on (readers.Origin q) (answers.Found (Some bytes)) to engine (v, view, sought, is) = ready_at to v is (engine_at v q.asked.schema view.schema engine)
+reader_on (readers.Snapshot q id) (answers.Found (Some bytes)) to engine (x, reads, schema, is) = on_at to (readers.Base q x) is engine (omega arith)
+reader_on (readers.Base q x) (answers.Found None) to engine is = on_at to _ is engine (omega arith)
+reader_on (readers.Base q x) (answers.Found (Some bytes)) to engine (base, reads, is) = on_at to (readers.Delta q x base) is engine (omega arith)
+reader_on (readers.Delta q x base) (answers.Found None) to engine is = on_at to _ is engine (omega arith)
+reader_on (readers.Delta q x base) (answers.Found (Some bytes)) to engine (delta, reads, (files, left, within, on)) =
+    manifests_on q x [] (base.items ++ delta) files [] to engine on
 reader_on (readers.Manifests r) (answers.Found None) to engine is = on_at to _ is engine (omega arith)
 reader_on (readers.Manifests r) (answers.Found (Some bytes)) to engine (own, reads, (files, order, left, on)) =
-    manifests_on r.asked r.snapshot (r.done ++ r.next ∷ []) r.rest files to engine on
+    manifests_on r.sought r.snapshot (r.done ++ r.next ∷ []) r.rest files (r.kept ++ kept_for r.sought.asked.wanted own) to engine on
 reader_on r answer to engine goes = absurd goes
 
 pub still_left : (r : view_phase.Phase) (answer : Answer) (to : view_phase.Phase) → IsEngineOf r → reader.Goes r answer to

@@ -213,7 +213,7 @@ did_after a (readers.Delta b x base) new own is did = as_did a (readers.Delta b 
 did_after a (readers.Manifests r) new own is did = as_did a (readers.Manifests r) new own is did
 did_after a (readers.Again b id path) new own is did = as_did a (readers.Again b id path) new own is did
 did_after a (readers.Ready v) new own (order, within, on) viewed =
-    did_on a v v.id (nothing_of v.schema) (all_jobs v.schema v.groups.entries) new own refl on (part_none a v own viewed)
+    did_on a v v.id (nothing_of v.schema) (all_jobs v.schema v.groups.entries) new own refl on (part_none a v own viewed.0)
 did_after a readers.Over new own is did = as_did a readers.Over new own is did
 
 went_on : Joined → (a : Asked) (m : Phase) (answer : Answer) (new : Phase) (own : List Event) → Goes m answer new → Did a m own
@@ -243,7 +243,7 @@ refused_on : Joined → (a : Asked) (m : Phase) (answer : Answer) (refusal : Ref
 refused_on law a (phases.View r) answer refusal own (inl (is, v, on)) did =
     IfSome_then (reader.next_call r) ((reader_facts.recounts law a).went r (readers.Ready v) answer own on did)
     (λ call did may. shows_as a refusal refusals.Memory (own ++ answered call answer ∷ []) is
-    (at_part v (nothing_of v.schema) (all_jobs v.schema v.groups.entries) (part_none a v (own ++ answered call answer ∷ []) (did may))))
+    (at_part v (nothing_of v.schema) (all_jobs v.schema v.groups.entries) (part_none a v (own ++ answered call answer ∷ []) (did may).0)))
 refused_on law a (phases.View r) answer refusal own (inr shown) did =
     IfSome_then (reader.next_call r) ((reader_facts.recounts law a).refused r readers.Over answer refusal own (shown, refl) did)
     (λ call shows may. inl (shows may).1)

@@ -36,7 +36,7 @@ use Rattle.pm_scan.specs.Collected.{Closes, Collected, Takes, collected_of, noth
 use Rattle.pm_scan.specs.Jobs.{Grouped, all_jobs, file_jobs, run_jobs}
 use Rattle.pm_scan.specs.Meaning.{HaveTaken, IsReadingOf, IsScan}
 use Rattle.pm_scan.specs.Reading.{ReadingView, reading_of}
-use Rattle.pm_table_view.specs.View.{IsViewOf}
+use Rattle.pm_table_view.specs.View.{IsViewOf, kept_for}
 use Rattle.pm_table_view.specs.Meaning.{HasGone, IsViewIn, Stood, view_origin, view_snapshot}
 use Rattle.pm_scan.specs.declared.job.Ends.{Ends}
 use Rattle.pm_scan.specs.declared.job.Ends.TheVariants as ends
@@ -65,12 +65,12 @@ pub record Tells : Type 0 where
   pub declared : (path text : List ℕ) (s : TableSchema) → SchemaOf path text s → IsDeclared s
 
 -- a table with this schema, and the snapshot with the id as it was committed
-record IsOfTable (f : Files) (p : Past) (s : TableSchema) : Type 0 where
-  declared : IsDeclared s
-  entries : List Entry
-  is_table : p.history ≡ table s entries
-  committed : (id : ℕ) → IsKnown p id → IsCommitted (p.stood id) s (take id entries) id
-  kept : (id : ℕ) → IsKnown p id → KeepsFiles f s (p.stood id) id
+pub record IsOfTable (f : Files) (p : Past) (s : TableSchema) : Type 0 where
+  pub declared : IsDeclared s
+  pub entries : List Entry
+  pub is_table : p.history ≡ table s entries
+  pub committed : (id : ℕ) → IsKnown p id → IsCommitted (p.stood id) s (take id entries) id
+  pub kept : (id : ℕ) → IsKnown p id → KeepsFiles f s (p.stood id) id
 
 of-table : Tells → (f : Files) (p : Past) (s : TableSchema) → Stands f p → IsTableOf s p.history → IsOfTable f p s
 of-table tells f p s stands is = by_history p.history refl stands.folder stands.past is
@@ -90,20 +90,20 @@ of-table tells f p s stands is = by_history p.history refl stands.folder stands.
 -- ---- what is known of a view
 
 -- the view is that of a snapshot as it was committed
-record IsOfSnapshot (p : Past) (v : View) : Type 0 where
-  snapshot : Snapshot
-  base : List ManifestMeta
-  delta : List ManifestMeta
-  es : List files.Entry
-  live : Live
-  known : IsKnown p v.id
-  there : SnapshotAt (p.stood v.id) v.id snapshot
-  has : HasEntries (p.stood v.id) v.schema snapshot base delta es
-  left : Leaves none_live es live
-  groups : (g : Group) → GroupRuns live g (lookup (is_at (group_cmp g)) v.groups.entries)
+pub record IsOfSnapshot (p : Past) (v : View) : Type 0 where
+  pub snapshot : Snapshot
+  pub base : List ManifestMeta
+  pub delta : List ManifestMeta
+  pub es : List files.Entry
+  pub live : Live
+  pub known : IsKnown p v.id
+  pub there : SnapshotAt (p.stood v.id) v.id snapshot
+  pub has : HasEntries (p.stood v.id) v.schema snapshot base delta es
+  pub left : Leaves none_live es live
+  pub groups : (g : Group) → GroupRuns live g (lookup (is_at (group_cmp g)) v.groups.entries)
 
 of-snapshot : (p : Past) (v : View) (x : Snapshot) (base delta : List ManifestMeta) (es : List files.Entry) (live : Live) → Stood p v.schema x → HasEntries (p.stood x.id) v.schema x base delta es → Leaves none_live es live
-    → IsViewOf v.schema x (base ++ delta) live v → IsOfSnapshot p v
+    → IsViewOf v.schema x (base ++ delta) (kept_for v.wanted es) live v → IsOfSnapshot p v
 of-snapshot p v x base delta es live stood has left of =
     let id : x.id ≡ v.id = sym of.id in
     record {
@@ -162,10 +162,10 @@ module _ (laws : Laws) (one : OneContents) (tells : Tells) (f : Files) (p : Past
   abbrev v : View
   v = reading.view
 
-  own-table : IsOfTable f p v.schema
+  pub own-table : IsOfTable f p v.schema
   own-table = of-table tells f p v.schema stands reading.table
 
-  own-view : IsOfSnapshot p v
+  pub own-view : IsOfSnapshot p v
   own-view = is-snapshot p v reading.is_view reading.known.after_origin
 
   next-needed : Needs (p.stood v.id) v.schema v.id r.next.path
@@ -183,7 +183,7 @@ module _ (laws : Laws) (one : OneContents) (tells : Tells) (f : Files) (p : Past
       (all-parts (IsThere (p.stood v.id) v.schema) reading.done (r.next ∷ r.rest) all).1.0
 
   -- what is found of it is what stood
-  next-stood : (bytes : List ℕ) → paths.get f r.next.path ≡ Some bytes → paths.get (p.stood v.id) r.next.path ≡ Some bytes
+  pub next-stood : (bytes : List ℕ) → paths.get f r.next.path ≡ Some bytes → paths.get (p.stood v.id) r.next.path ≡ Some bytes
   next-stood bytes found = by_kept ((own-table.kept v.id reading.known).same r.next.path next-needed)
     where
       by_kept : (paths.get f r.next.path ≡ None) ⊎ (paths.get f r.next.path ≡ paths.get (p.stood v.id) r.next.path) → paths.get (p.stood v.id) r.next.path ≡ Some bytes

@@ -1,5 +1,6 @@
 pub mod Facts
 mod AfterLemmas
+mod CauseLemmas
 mod FaultLemmas
 mod JobLemmas
 mod RowLemmas

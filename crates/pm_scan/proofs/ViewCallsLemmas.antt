@@ -112,7 +112,7 @@ misreads_still a refusal own (misreads_manifest x done meta rest entries bytes f
 
 ended_still : (a : Asked) (own : List Event) → MayEnd a own → AreStill own
 ended_still a own (at_first is) = subst AreStill (sym is) tt
-ended_still a own (at_listing id lists) = lists_still a id own lists
+ended_still a own (at_listing names is) = subst AreStill (sym is) (list_still snapshot_folder, tt)
 ended_still a own (at_snapshot id bytes least reads) = reads_still a id (snapshot_path id) (Some bytes) own reads
 ended_still a own (at_base x found finds) = base_still a x found own finds
 ended_still a own (at_delta x base found finds) = delta_still a x base found own finds
@@ -183,6 +183,7 @@ pub record ViewLaws : Type 0 where
 
 pub asked_up_to : (w : Wanted) (latest id : ℕ) → IsAsked w latest id → id ≤ latest
 asked_up_to wants.Newest latest id is = omega (arith, is)
+asked_up_to wants.Entries latest id is = omega (arith, is)
 asked_up_to (wants.At asked) latest id (is, within) = omega (arith, is, within)
 
 bytes_same : (one other : List ℕ) → Some one ≡ Some other → one ≡ other

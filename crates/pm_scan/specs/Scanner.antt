@@ -49,11 +49,11 @@ calls_left phases.Over = 0
 -- the engine of the table that a reader of a view reads is one that is built
 abbrev pub IsEngineOf : view_phase.Phase → Type 0
 IsEngineOf (readers.List a) = a.schema.options.engine ≡ engines.Deduplicate
-IsEngineOf (readers.Origin a) = a.schema.options.engine ≡ engines.Deduplicate
-IsEngineOf (readers.Snapshot a id) = a.schema.options.engine ≡ engines.Deduplicate
-IsEngineOf (readers.Base a x) = a.schema.options.engine ≡ engines.Deduplicate
-IsEngineOf (readers.Delta a x base) = a.schema.options.engine ≡ engines.Deduplicate
-IsEngineOf (readers.Manifests r) = r.asked.schema.options.engine ≡ engines.Deduplicate
+IsEngineOf (readers.Origin q) = q.asked.schema.options.engine ≡ engines.Deduplicate
+IsEngineOf (readers.Snapshot q id) = q.asked.schema.options.engine ≡ engines.Deduplicate
+IsEngineOf (readers.Base q x) = q.asked.schema.options.engine ≡ engines.Deduplicate
+IsEngineOf (readers.Delta q x base) = q.asked.schema.options.engine ≡ engines.Deduplicate
+IsEngineOf (readers.Manifests r) = r.sought.asked.schema.options.engine ≡ engines.Deduplicate
 IsEngineOf (readers.Again a id path) = a.schema.options.engine ≡ engines.Deduplicate
 IsEngineOf (readers.Ready v) = v.schema.options.engine ≡ engines.Deduplicate
 IsEngineOf readers.Over = Unit {0}

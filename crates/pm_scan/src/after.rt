@@ -84,11 +84,16 @@ fn start(alloc: Global, view: View) -> Result<Phase, Refusal>
         id,
         snapshot,
         schema,
+        listed,
         groups,
         manifests,
+        live,
+        ..
     } = view;
     drop(snapshot);
+    drop(listed);
     drop(manifests);
+    drop(live);
     let begun = begin(alloc, &schema, groups);
     drop(schema);
     match begun {

@@ -11,10 +11,12 @@ ghost use Rattle.pm_merge.specs.Merge.{IsMerge};
 ghost use Rattle.pm_schema.specs.declared.schema.TableSchema.{TableSchema};
 ghost use Rattle.pm_folder.specs.Changes.{Actor};
 ghost use Rattle.pm_folder.specs.Ledger.{Advances, Past, Stands};
+ghost use Rattle.pm_store.specs.Answers.{Answers};
+ghost use Rattle.pm_store.specs.declared.answer.Answer.{Answer};
 ghost use Rattle.pm_store.specs.declared.call.Call.{Call};
 ghost use Rattle.pm_store.specs.Files.{Files};
 ghost use Rattle.pm_store.specs.Images.{MayLeave};
-ghost use Rattle.pm_table_view.specs.Meaning.{HasGone, IsKept, IsViewIn};
+ghost use Rattle.pm_table_view.specs.Meaning.{HasGone, IsKept, IsViewIn, MayRefuse};
 ghost use Rattle.pm_table_view.specs.declared.view.View.{View};
 ghost use Rattle.pm_machine.specs.Trace.{HasTrace};
 ghost use Rattle.pm_schema.specs.Again.{IsDeclared};
@@ -26,7 +28,7 @@ ghost use Rattle.pm_scan.specs.Collected.{Collected, Takes, nothing_of};
 ghost use Rattle.pm_scan.specs.Jobs.{all_jobs};
 ghost use Rattle.pm_scan.specs.Meaning.{HaveTaken, IsReadingOf, IsScan, Knows};
 ghost use Rattle.pm_scan.specs.Reading.{ReadingView, reading_of};
-ghost use Rattle.pm_scan.specs.Scanner.{next_call};
+ghost use Rattle.pm_scan.specs.Scanner.{next_call, Shown};
 ghost use Rattle.pm_scan.specs.declared.job.Job.{Job};
 ghost use Rattle.pm_scan.specs.declared.phase.Phase.{Phase};
 
@@ -48,6 +50,24 @@ pub fn images_law()
     ensures { (m : Phase) (call : Call) (f image : Files) (p : Past) → next_call m ≡ Some call
         → MayLeave call f image → IsKept f p image p }
 {}
+
+/// Whatever others do between its calls, a folder that stands shows a scanner no refusal but that memory ran out, that
+/// the snapshot that is asked for is above the newest, or that it has gone. So E10 and E11 never come of such a folder.
+pub fn causes_law()
+    ensures { (m : Phase) (call : Call) (answer : Answer) (refusal : Refusal) (f : Files) (p : Past) → Stands f p
+        → Knows m f p → next_call m ≡ Some call → Answers call answer f → Shown m answer refusal
+        → MayRefuse f p refusal }
+{
+    pm_table_view::causes_law();
+    declared_law();
+    schema_law();
+    one_contents_law();
+    one_runs_law();
+    one_list_law();
+    order_law();
+    pm_run::reading_law();
+    scan_law();
+}
 
 /// What is known of a view and of its files, whatever others do: once the view was read; once its next file was; once
 /// that is absent, so that the snapshot has gone; and once all were read, so that the rows are those of the table.

@@ -14,7 +14,7 @@ use Rattle.pm_store.specs.declared.call.Call.TheVariants as calls
 use Rattle.pm_store.specs.declared.call.Effect.{Effect}
 use Rattle.pm_store.specs.declared.call.Effect.TheVariants as effects
 use Rattle.pm_store.specs.Answers.{Answers, MayAnswer}
-use Rattle.pm_store.specs.Files.{Files, after_effect, carried}
+use Rattle.pm_store.specs.Files.{Files, IsListing, after_effect, carried}
 use Rattle.pm_store.specs.Images.{MayLeave}
 use Rattle.pm_store.specs.Store.{StoreView}
 use Rattle.pm_store.proofs.FileLaws.{effect_left}
@@ -30,7 +30,7 @@ use Rattle.pm_snapshot.specs.declared.snapshot.Snapshot.{Snapshot}
 use Rattle.pm_snapshot.proofs.Facts.{id_same}
 use Rattle.pm_folder.specs.Changes.{Actor}
 use Rattle.pm_folder.specs.Commits.{Needs}
-use Rattle.pm_folder.specs.Ledger.{Advances, IsKnown, Past, Stands}
+use Rattle.pm_folder.specs.Ledger.{Advances, IsKnown, Past, Stands, count_of}
 use Rattle.pm_folder.specs.Meaning.{SnapshotAt}
 use Rattle.pm_folder.specs.Paths.{schema_path, snapshot_folder, snapshot_path}
 use Rattle.pm_folder.proofs.Facts.{goes_on}
@@ -54,13 +54,16 @@ use Rattle.pm_table_view.specs.Reading.{Filed, ReadingView, live_of}
 use Rattle.pm_table_view.specs.Meaning.{HasGone, IsKept, IsReadingOf, IsViewIn, view_origin, view_snapshot, Knows, LeavesFiles, Stood}
 use Rattle.pm_table_view.specs.declared.asked.Wanted.{Wanted}
 use Rattle.pm_table_view.specs.declared.asked.Wanted.TheVariants as wants
-use Rattle.pm_table_view.specs.Trace.{read_file, Lists, Reads, Has, HaveRead, HasPart, HasView, of_origin, of_snapshot, LacksFile, lacks_base, lacks_delta, lacks_manifest, Misreads, misreads_base, misreads_delta, misreads_manifest, MayEnd, at_first, at_listing, at_snapshot, at_base, at_delta, at_part, at_manifest, IsFailed, in_listing, in_origin, in_snapshot, in_base, in_delta, in_manifest, in_again, gone_origin, gone_snapshot, gone_again, IsDamaged, bad_snapshot, bad_schema, is_absent, is_misread, is_disordered, is_overlap, Shows, Did}
-use Rattle.pm_table_view.specs.View.{IsOriginView, IsViewOf}
-use Rattle.pm_table_view.specs.Asked.{Asked}
+use Rattle.pm_table_view.specs.Trace.{read_file, HasListed, HasSought, IsSought, Lists, Reads, Has, HaveRead, HasPart, HasView, of_origin, of_snapshot, LacksFile, lacks_base, lacks_delta, lacks_manifest, Misreads, misreads_base, misreads_delta, misreads_manifest, MayEnd, at_first, at_listing, at_snapshot, at_base, at_delta, at_part, at_manifest, IsFailed, in_listing, in_origin, in_snapshot, in_base, in_delta, in_manifest, in_again, gone_origin, gone_snapshot, gone_again, IsDamaged, bad_snapshot, bad_schema, is_absent, is_misread, is_disordered, is_overlap, Shows, Did}
+use Rattle.pm_table_view.specs.View.{IsOriginView, IsSoughtBy, IsViewOf, kept_for}
+use Rattle.pm_table_view.specs.Asked.{Asked, SoughtView, sought_of}
 use Rattle.pm_table_view.specs.declared.phase.Phase.{Phase}
 use Rattle.pm_table_view.specs.declared.phase.Phase.TheVariants as phases
 use Rattle.pm_table_view.specs.declared.view.View.{View}
+use Rattle.pm_table_view.specs.Names.{IsLatest}
 use Rattle.pm_table_view.proofs.FaultLemmas.{IsFileFault, file_fault}
+use Rattle.pm_table_view.proofs.ListedLemmas.{count_grows, latest_is}
+use Rattle.pm_table_view.proofs.LiveLemmas.{kept_join, kept_none}
 
 -- ---- its calls change nothing
 
@@ -74,10 +77,10 @@ IsStill f call = (effect : Effect) → after_effect call effect f ≡ f
 
 rests : (m : Phase) (f : Files) → IfSome (next_call m) (IsStill f)
 rests (phases.List a) f = λ effect. list_effect snapshot_folder effect f
-rests (phases.Origin a) f = λ effect. read_effect (origin_path a.schema) effect f
-rests (phases.Snapshot a id) f = λ effect. read_effect (snapshot_path id) effect f
-rests (phases.Base a x) f = λ effect. read_effect (manifest_path x.base_list) effect f
-rests (phases.Delta a x base) f = λ effect. read_effect (manifest_path x.delta_list) effect f
+rests (phases.Origin q) f = λ effect. read_effect (origin_path q.asked.schema) effect f
+rests (phases.Snapshot q id) f = λ effect. read_effect (snapshot_path id) effect f
+rests (phases.Base q x) f = λ effect. read_effect (manifest_path x.base_list) effect f
+rests (phases.Delta q x base) f = λ effect. read_effect (manifest_path x.delta_list) effect f
 rests (phases.Manifests r) f = λ effect. read_effect (manifest_path r.next.name) effect f
 rests (phases.Again a id path) f = λ effect. read_effect (snapshot_path id) effect f
 rests (phases.Ready v) f = tt
@@ -95,7 +98,7 @@ Joined =
     × ((before : Live) (first later : List Entry) → AreInOrder before (first ++ later) ↔ (AreInOrder before first × AreInOrder (live_after before first) later))
 
 -- the order depends on what is live of each file alone
-order_same : (one other : Live) (own : List Entry) → ((id : FileId) → one id ≡ other id) → AreInOrder one own → AreInOrder other own
+pub order_same : (one other : Live) (own : List Entry) → ((id : FileId) → one id ≡ other id) → AreInOrder one own → AreInOrder other own
 order_same one other own same order = λ i e is.
     subst (λ (o : Option Entry). is_some (live_at o (id_of e) (take i own)) ≡ not e.add) (same (id_of e)) (order i e is)
 
@@ -105,7 +108,7 @@ order_more : Joined → (entries later : List Entry) (live : Live) → AreInOrde
 order_more law entries later live before left order =
     (law.1 none_live entries later).1 (before, order_same live (live_after none_live entries) later left order)
 
-leaves_more : Joined → (entries later : List Entry) (mid after : Live) → Leaves none_live entries mid → Leaves mid later after → Leaves none_live (entries ++ later) after
+pub leaves_more : Joined → (entries later : List Entry) (mid after : Live) → Leaves none_live entries mid → Leaves mid later after → Leaves none_live (entries ++ later) after
 leaves_more law entries later mid after first then_left id =
     then_left id ∙ ap (λ (o : Option Entry). live_at o id later) (first id) ∙ sym (law.0 (none_live id) id entries later)
 
@@ -119,17 +122,23 @@ entries_push f s (first ∷ metas) meta entries own (here, later, split, read, r
 -- ---- what it knows
 
 -- the phase in which a snapshot is to be read, by whether it is the origin
-opened : (P : Phase → Type 0) (a : Asked) (id : ℕ) → (id ≡ 0 → P (phases.Origin a)) → (1 ≤ id → P (phases.Snapshot a id)) → P (opening a id)
-opened P a id first later = at (id == 0) refl
+opened : (P : Phase → Type 0) (q : SoughtView) (id : ℕ) → (id ≡ 0 → P (phases.Origin q)) → (1 ≤ id → P (phases.Snapshot q id)) → P (opening q id)
+opened P q id first later = at (id == 0) refl
   where
-    at : (t : Bool) → (id == 0) ≡ t → P (if t then phases.Origin a else phases.Snapshot a id)
+    at : (t : Bool) → (id == 0) ≡ t → P (if t then phases.Origin q else phases.Snapshot q id)
     at true is = first (grind (arith, nat_tests))
     at false is = later (grind (arith, nat_tests))
 
 -- an id that is asked for may stand in a name, where the latest does
 asked_within : (wanted : Wanted) (latest id : ℕ) → IsAsked wanted latest id → latest ≤ greatest → id ≤ greatest
 asked_within wants.Newest latest id is within = subst (λ (n : ℕ). n ≤ greatest) (sym is) within
+asked_within wants.Entries latest id is within = subst (λ (n : ℕ). n ≤ greatest) (sym is) within
 asked_within (wants.At asked) latest id (is, below) within = omega (arith, is, below, within)
+
+asked_below : (wanted : Wanted) (latest id : ℕ) → IsAsked wanted latest id → id ≤ latest
+asked_below wants.Newest latest id is = omega (arith, is)
+asked_below wants.Entries latest id is = omega (arith, is)
+asked_below (wants.At asked) latest id (is, below) = omega (arith, is, below)
 
 -- what the law of one reading says of lists
 abbrev pub OneList : Type 0
@@ -148,25 +157,25 @@ metas_same xs ys e = cc
 metas_there : (xs : List ManifestMeta) → some_metas xs ≢ no_memory
 metas_there xs e = cc
 
-bytes_same : (one other : List ℕ) → Some one ≡ Some other → one ≡ other
+pub bytes_same : (one other : List ℕ) → Some one ≡ Some other → one ≡ other
 bytes_same one other e = cc
 
 snapshot_same : (x y : Snapshot) → ◌≡◌ {A = Result Snapshot SnapFault} (Ok x) (Ok y) → x ≡ y
 snapshot_same x y e = cc
 
 -- a list is read as one list of manifests at most
-one_list : OneList → (f : Files) (name : List ℕ) (xs ys : List ManifestMeta) → IsList f name xs → IsList f name ys → xs ≡ ys
+pub one_list : OneList → (f : Files) (name : List ℕ) (xs ys : List ManifestMeta) → IsList f name xs → IsList f name ys → xs ≡ ys
 one_list law f name xs ys a b =
     let same : b.bytes ≡ a.bytes = bytes_same b.bytes a.bytes (sym b.there ∙ a.there) in
     metas_same xs ys (law has_meta_fields meta_in (manifest_path name) a.bytes (Ok xs) (Ok ys) a.read
     (subst (λ (bytes : List ℕ). IsListOf (manifest_path name) bytes ys) same b.read) (metas_there xs) (metas_there ys))
 
-one_snapshot : (f : Files) (id : ℕ) (x y : Snapshot) → SnapshotAt f id x → SnapshotAt f id y → x ≡ y
+pub one_snapshot : (f : Files) (id : ℕ) (x y : Snapshot) → SnapshotAt f id x → SnapshotAt f id y → x ≡ y
 one_snapshot f id x y (bytes, there, reads) (more, here, again) =
     let same : bytes ≡ more = bytes_same bytes more (sym there ∙ here) in
     snapshot_same x y (sym reads ∙ ap (snapshot_in id) same ∙ again)
 
-some_there : (f : Files) (path bytes : List ℕ) → map.get f path ≡ Some bytes → IsSome (map.get f path)
+pub some_there : (f : Files) (path bytes : List ℕ) → map.get f path ≡ Some bytes → IsSome (map.get f path)
 some_there f path bytes there = subst (λ (o : Option (List ℕ)). IsSome o) (sym there) refl
 
 -- a manifest of a snapshot's lists is there
@@ -188,7 +197,7 @@ stood_new f p s id bytes x stands table least within told reads schema =
     }
 
 -- what its files were
-stood_contents : (f : Files) (p : Past) (s : TableSchema) (x : Snapshot) → Stands f p → Stood p s x → (c : Contents) × HasContents (p.stood x.id) s x c
+pub stood_contents : (f : Files) (p : Past) (s : TableSchema) (x : Snapshot) → Stands f p → Stood p s x → (c : Contents) × HasContents (p.stood x.id) s x c
 stood_contents f p s x stands stood =
     let own = at-table f p s stands stood.table in
     let commit = own.3.committed x.id stood.known in
@@ -201,7 +210,7 @@ module _ (f : Files) (p : Past) (s : TableSchema) (x : Snapshot) (stands : Stand
   needed = inr (inr (x, c, (stood.was, has), named))
 
   -- what is found at a path that it names stood there
-  found_stood : (bytes : List ℕ) → Some bytes ≡ map.get f path → map.get (p.stood x.id) path ≡ Some bytes
+  pub found_stood : (bytes : List ℕ) → Some bytes ≡ map.get f path → map.get (p.stood x.id) path ≡ Some bytes
   found_stood bytes told = stood-same f p s x.id path bytes stands stood.table stood.known needed (sym told)
 
   -- where one is absent at which a file stood, it has gone
@@ -219,30 +228,35 @@ origin_known f p s v view table =
     (all.0, view_origin all.1)
 
 -- what is known once manifests were read
-knows_on : (f : Files) (p : Past) (a : Asked) (x : Snapshot) (done rest : List ManifestMeta) (files : Filed) (new : Phase) (base delta : List ManifestMeta) (entries : List Entry)
-    → GoesOn a x done rest files new → Stood p a.schema x → IsList (p.stood x.id) x.base_list base → IsList (p.stood x.id) x.delta_list delta
-    → base ++ delta ≡ done ++ rest → HaveEntries (p.stood x.id) a.schema done entries → AreInOrder none_live entries → Leaves none_live entries (live_of files) → Knows new f p
-knows_on f p a x done [] files new base delta entries (v, view, is) stood one two parts have order left =
+knows_on : (f : Files) (p : Past) (q : SoughtView) (x : Snapshot) (done rest : List ManifestMeta) (files : Filed) (kept : List Entry) (new : Phase) (base delta : List ManifestMeta) (entries : List Entry)
+    → GoesOn q x done rest files kept new → Stood p q.asked.schema x → IsList (p.stood x.id) x.base_list base → IsList (p.stood x.id) x.delta_list delta
+    → base ++ delta ≡ done ++ rest → HaveEntries (p.stood x.id) q.asked.schema done entries → AreInOrder none_live entries → Leaves none_live entries (live_of files)
+    → kept ≡ kept_for q.asked.wanted entries → Knows new f p
+knows_on f p q x done [] files kept new base delta entries (v, view, sought, is) stood one two parts have order left keeps =
     let g : Files = p.stood x.id in
     let whole : base ++ delta ≡ done = parts ∙ append-nil done in
-    let contents : HasEntries g a.schema x base delta entries = record {
+    let contents : HasEntries g q.asked.schema x base delta entries = record {
       base_list = one;
       delta_list = two;
-      have = subst (λ (metas : List ManifestMeta). HaveEntries g a.schema metas entries) (sym whole) have;
+      have = subst (λ (metas : List ManifestMeta). HaveEntries g q.asked.schema metas entries) (sym whole) have;
       order = order;
     } in
-    let seen : IsViewOf a.schema x (base ++ delta) (live_of files) v = subst (λ (metas : List ManifestMeta). IsViewOf a.schema x metas (live_of files) v) (sym whole) view in
-    let all : IsTableOf v.schema p.history × Stood p v.schema x × HasEntries g v.schema x base delta entries × IsViewOf v.schema x (base ++ delta) (live_of files) v =
-    subst (λ (s : TableSchema). IsTableOf s p.history × Stood p s x × HasEntries g s x base delta entries × IsViewOf s x (base ++ delta) (live_of files) v)
+    let own : kept ≡ kept_for v.wanted entries = keeps ∙ ap (λ (w : Wanted). kept_for w entries) (sym sought.wanted) in
+    let seen : IsViewOf q.asked.schema x (base ++ delta) (kept_for v.wanted entries) (live_of files) v =
+    subst (λ (metas : List ManifestMeta). IsViewOf q.asked.schema x metas (kept_for v.wanted entries) (live_of files) v) (sym whole)
+    (subst (λ (kept : List Entry). IsViewOf q.asked.schema x done kept (live_of files) v) own view) in
+    let all : IsTableOf v.schema p.history × Stood p v.schema x × HasEntries g v.schema x base delta entries
+    × IsViewOf v.schema x (base ++ delta) (kept_for v.wanted entries) (live_of files) v =
+    subst (λ (s : TableSchema). IsTableOf s p.history × Stood p s x × HasEntries g s x base delta entries × IsViewOf s x (base ++ delta) (kept_for v.wanted entries) (live_of files) v)
     (sym view.schema) (stood.table, stood, contents, seen) in
     subst (λ (m : Phase). Knows m f p) (sym is) (all.0, view_snapshot x base delta entries (live_of files) all.1 all.2 left all.3)
-knows_on f p a x done (meta ∷ rest) files new base delta entries is stood one two parts have order left =
-    subst (λ (m : Phase). Knows m f p) (sym is) (stood, (base, delta, entries, one, two, parts, have, order, left))
+knows_on f p q x done (meta ∷ rest) files kept new base delta entries is stood one two parts have order left keeps =
+    subst (λ (m : Phase). Knows m f p) (sym is) (stood, (base, delta, entries, one, two, parts, have, order, left, keeps))
 
 -- the next manifest is one of the snapshot's
-next_named : OneList → (p : Past) (r : ReadingView) (base delta : List ManifestMeta) (c : Contents) → HasContents (p.stood r.snapshot.id) r.asked.schema r.snapshot c
+pub next_named : OneList → (p : Past) (r : ReadingView) (base delta : List ManifestMeta) (c : Contents) → HasContents (p.stood r.snapshot.id) r.sought.asked.schema r.snapshot c
     → IsList (p.stood r.snapshot.id) r.snapshot.base_list base → IsList (p.stood r.snapshot.id) r.snapshot.delta_list delta → base ++ delta ≡ r.done ++ r.next ∷ r.rest
-    → IsNamed r.asked.schema r.snapshot c (manifest_path r.next.name) × IsSome (map.get (p.stood r.snapshot.id) (manifest_path r.next.name))
+    → IsNamed r.sought.asked.schema r.snapshot c (manifest_path r.next.name) × IsSome (map.get (p.stood r.snapshot.id) (manifest_path r.next.name))
 next_named law p r base delta c has one two parts =
     let g : Files = p.stood r.snapshot.id in
     let first : c.base ≡ base = one_list law g r.snapshot.base_list c.base base has.table.base_list one in
@@ -252,54 +266,72 @@ next_named law p r base delta c has one two parts =
     let lists : Contains (c.base ++ c.delta) r.next = subst (λ (metas : List ManifestMeta). Contains metas r.next) (sym whole)
     (Contains-append_right r.done (r.next ∷ r.rest) r.next (here r.next r.rest)) in (
       manifest r.next (inl lists),
-      have_at g r.asked.schema r.done r.next r.rest c.entries (subst (λ (metas : List ManifestMeta). HaveEntries g r.asked.schema metas c.entries) whole has.table.have),
+      have_at g r.sought.asked.schema r.done r.next r.rest c.entries (subst (λ (metas : List ManifestMeta). HaveEntries g r.sought.asked.schema metas c.entries) whole has.table.have),
     )
+
+-- what is kept once one manifest more was read
+kept_more : (r : ReadingView) (entries own : List Entry) → r.kept ≡ kept_for r.sought.asked.wanted entries
+    → r.kept ++ kept_for r.sought.asked.wanted own ≡ kept_for r.sought.asked.wanted (entries ++ own)
+kept_more r entries own keeps =
+    ap (λ (es : List Entry). es ++ kept_for r.sought.asked.wanted own) keeps ∙ sym (kept_join r.sought.asked.wanted entries own)
+
+-- the id that is asked for is at most the newest
+listed_within : (f : Files) (p : Past) (a : Asked) (latest id : ℕ) (names : List (List ℕ)) → Stands f p → IsTableOf a.schema p.history → IsLatest names latest
+    → IsListing snapshot_folder names f → IsAsked a.wanted latest id → id ≤ count_of p.history
+listed_within f p a latest id names stands table newest listing asked =
+    let own = at-table f p a.schema stands table in
+    let count : count_of p.history ≡ length own.0 = ap count_of own.1 in
+    let is : latest ≡ length own.0 = latest_is f a.schema own.0 own.2 latest names newest listing in
+    let below = asked_below a.wanted latest id asked in
+    omega (arith, count, is, below)
 
 -- what an answer leads to is known of the same files
 knows_next : Joined → OneList → (m : Phase) (answer : Answer) (new : Phase) (f : Files) (p : Past) → Goes m answer new → Stands f p → Knows m f p
     → IfSome (next_call m) (λ call. Answers call answer f → Knows new f p)
-knows_next law one_law (phases.List a) (answers.Listed names) new f p (latest, id, newest, is_asked, is) stands known = λ told.
+knows_next law one_law (phases.List a) (answers.Listed names) new f p (ids, latest, id, are, newest, is_asked, is) stands known = λ told.
     subst (λ (m : Phase). Knows m f p) (sym is)
-    (opened (λ (m : Phase). Knows m f p) a id (λ first. known) (λ least. (known, least, asked_within a.wanted latest id is_asked newest.within)))
-knows_next law one_law (phases.Origin a) (answers.Found (Some bytes)) new f p (v, view, is) stands known = λ told.
-    subst (λ (m : Phase). Knows m f p) (sym is) (origin_known f p a.schema v view known)
-knows_next law one_law (phases.Snapshot a id) (answers.Found (Some bytes)) new f p (x, reads, schema, is) stands (table, least, within) = λ told.
-    subst (λ (m : Phase). Knows m f p) (sym is) (stood_new f p a.schema id bytes x stands table least within told reads schema)
-knows_next law one_law (phases.Base a x) (answers.Found None) new f p is stands stood = λ told.
-    let c = stood_contents f p a.schema x stands stood in
+    (opened (λ (m : Phase). Knows m f p) (sought_of a ids) id (λ first. known)
+    (λ least. (known, least, asked_within a.wanted latest id is_asked newest.within, listed_within f p a latest id names.items stands known newest told is_asked)))
+knows_next law one_law (phases.Origin q) (answers.Found (Some bytes)) new f p (v, view, sought, is) stands known = λ told.
+    subst (λ (m : Phase). Knows m f p) (sym is) (origin_known f p q.asked.schema v view known)
+knows_next law one_law (phases.Snapshot q id) (answers.Found (Some bytes)) new f p (x, reads, schema, is) stands (table, least, within, bound) = λ told.
+    subst (λ (m : Phase). Knows m f p) (sym is) (stood_new f p q.asked.schema id bytes x stands table least within told reads schema)
+knows_next law one_law (phases.Base q x) (answers.Found None) new f p is stands stood = λ told.
+    let c = stood_contents f p q.asked.schema x stands stood in
     let list = c.1.table.base_list in
     subst (λ (m : Phase). Knows m f p) (sym is)
-    (gone_now f p a.schema x stands stood c.0 c.1 (manifest_path x.base_list) base_list (some_there (p.stood x.id) (manifest_path x.base_list) list.bytes list.there) told)
-knows_next law one_law (phases.Base a x) (answers.Found (Some bytes)) new f p (base, reads, is) stands stood = λ told.
-    let c = stood_contents f p a.schema x stands stood in
+    (gone_now f p q.asked.schema x stands stood c.0 c.1 (manifest_path x.base_list) base_list (some_there (p.stood x.id) (manifest_path x.base_list) list.bytes list.there) told)
+knows_next law one_law (phases.Base q x) (answers.Found (Some bytes)) new f p (base, reads, is) stands stood = λ told.
+    let c = stood_contents f p q.asked.schema x stands stood in
     subst (λ (m : Phase). Knows m f p) (sym is)
-    (stood, record { bytes = bytes; there = found_stood f p a.schema x stands stood c.0 c.1 (manifest_path x.base_list) base_list bytes told; read = reads })
-knows_next law one_law (phases.Delta a x base) (answers.Found None) new f p is stands (stood, one) = λ told.
-    let c = stood_contents f p a.schema x stands stood in
+    (stood, record { bytes = bytes; there = found_stood f p q.asked.schema x stands stood c.0 c.1 (manifest_path x.base_list) base_list bytes told; read = reads })
+knows_next law one_law (phases.Delta q x base) (answers.Found None) new f p is stands (stood, one) = λ told.
+    let c = stood_contents f p q.asked.schema x stands stood in
     let list = c.1.table.delta_list in
     subst (λ (m : Phase). Knows m f p) (sym is)
-    (gone_now f p a.schema x stands stood c.0 c.1 (manifest_path x.delta_list) delta_list (some_there (p.stood x.id) (manifest_path x.delta_list) list.bytes list.there) told)
-knows_next law one_law (phases.Delta a x base) (answers.Found (Some bytes)) new f p (delta, reads, (files, left, within, on)) stands (stood, one) = λ told.
-    let c = stood_contents f p a.schema x stands stood in
+    (gone_now f p q.asked.schema x stands stood c.0 c.1 (manifest_path x.delta_list) delta_list (some_there (p.stood x.id) (manifest_path x.delta_list) list.bytes list.there) told)
+knows_next law one_law (phases.Delta q x base) (answers.Found (Some bytes)) new f p (delta, reads, (files, left, within, on)) stands (stood, one) = λ told.
+    let c = stood_contents f p q.asked.schema x stands stood in
     let two : IsList (p.stood x.id) x.delta_list delta =
-    record { bytes = bytes; there = found_stood f p a.schema x stands stood c.0 c.1 (manifest_path x.delta_list) delta_list bytes told; read = reads } in
-    knows_on f p a x [] (base.items ++ delta) files new base.items delta [] on stood one two refl refl order_none left
+    record { bytes = bytes; there = found_stood f p q.asked.schema x stands stood c.0 c.1 (manifest_path x.delta_list) delta_list bytes told; read = reads } in
+    knows_on f p q x [] (base.items ++ delta) files [] new base.items delta [] on stood one two refl refl order_none left (kept_none q.asked.wanted)
 knows_next law one_law (phases.Manifests r) (answers.Found None) new f p is stands
-    (stood, (base, delta, entries, one, two, parts, have, before, was)) = λ told.
-    let c = stood_contents f p r.asked.schema r.snapshot stands stood in
+    (stood, (base, delta, entries, one, two, parts, have, before, was, keeps)) = λ told.
+    let c = stood_contents f p r.sought.asked.schema r.snapshot stands stood in
     let named = next_named one_law p r base delta c.0 c.1 one two parts in
     subst (λ (m : Phase). Knows m f p) (sym is)
-    (gone_now f p r.asked.schema r.snapshot stands stood c.0 c.1 (manifest_path r.next.name) named.0 named.1 told)
+    (gone_now f p r.sought.asked.schema r.snapshot stands stood c.0 c.1 (manifest_path r.next.name) named.0 named.1 told)
 knows_next law one_law (phases.Manifests r) (answers.Found (Some bytes)) new f p (own, reads, (files, order, left, on)) stands
-    (stood, (base, delta, entries, one, two, parts, have, before, was)) = λ told.
-    let c = stood_contents f p r.asked.schema r.snapshot stands stood in
+    (stood, (base, delta, entries, one, two, parts, have, before, was, keeps)) = λ told.
+    let c = stood_contents f p r.sought.asked.schema r.snapshot stands stood in
     let named = next_named one_law p r base delta c.0 c.1 one two parts in
-    let file : IsManifest (p.stood r.snapshot.id) r.asked.schema r.next.name own =
-    record { bytes = bytes; there = found_stood f p r.asked.schema r.snapshot stands stood c.0 c.1 (manifest_path r.next.name) named.0 bytes told; read = reads } in
-    knows_on f p r.asked r.snapshot (r.done ++ r.next ∷ []) r.rest files new base delta (entries ++ own) on stood one two
+    let file : IsManifest (p.stood r.snapshot.id) r.sought.asked.schema r.next.name own =
+    record { bytes = bytes; there = found_stood f p r.sought.asked.schema r.snapshot stands stood c.0 c.1 (manifest_path r.next.name) named.0 bytes told; read = reads } in
+    knows_on f p r.sought r.snapshot (r.done ++ r.next ∷ []) r.rest files (r.kept ++ kept_for r.sought.asked.wanted own) new base delta (entries ++ own) on stood one two
     (parts ∙ sym (append_assoc r.done (r.next ∷ []) r.rest))
-    (entries_push (p.stood r.snapshot.id) r.asked.schema r.done r.next entries own have file)
+    (entries_push (p.stood r.snapshot.id) r.sought.asked.schema r.done r.next entries own have file)
     (order_more law entries own (live_of r.files) before was order) (leaves_more law entries own (live_of r.files) (live_of files) was left)
+    (kept_more r entries own keeps)
 knows_next law one_law m answer new f p goes stands known = absurd goes
 
 over_knows : (new : Phase) (f : Files) (p : Past) → new ≡ phases.Over → Knows new f p
@@ -372,38 +404,59 @@ has_snapshot a id bytes x own least reads schema did =
     let same : id ≡ x.id = sym (id_same id bytes x reads) in
     (bytes, subst (λ n. 1 ≤ n) same least, subst (λ n. snapshot_in n bytes ≡ Ok x) same reads, schema, subst (λ n. Reads a n (snapshot_path n) (Some bytes) own) same did)
 
-did_on : (a b : Asked) (x : Snapshot) (done rest : List ManifestMeta) (files : Filed) (new : Phase) (entries : List Entry) (own : List Event) → b ≡ a
-    → GoesOn b x done rest files new → HasPart b x done rest entries own → Leaves none_live entries (live_of files) → Did a new own
-did_on a b x done [] files new entries own same (v, view, is) part left =
-    subst (λ (m : Phase). Did a m own) (sym is) (subst (λ (a : Asked). HasView a v own) same (of_snapshot x done entries (live_of files) part left view))
-did_on a b x done (meta ∷ rest) files new entries own same is part left =
-    subst (λ (m : Phase). Did a m own) (sym is) (same, entries, part, left)
+-- what was listed first was so too with a call more
+listed_more : (ids : List ℕ) (own : List Event) (event : Event) → HasListed ids own → HasListed ids (own ++ event ∷ [])
+listed_more ids own event (names, later, are, is) = (names, later ++ event ∷ [], are, ap (λ (own : List Event). own ++ event ∷ []) is)
+
+-- a view of what was sought
+has_sought : (a : Asked) (q : SoughtView) (v : View) (own : List Event) → q.asked ≡ a → HasListed q.listed own → IsSoughtBy q v → HasSought a v own
+has_sought a q v own same ids by =
+    (q.listed, ids, record { wanted = by.wanted ∙ ap (λ (a : Asked). a.wanted) same; listed = by.listed })
+
+did_on : (a : Asked) (q : SoughtView) (x : Snapshot) (done rest : List ManifestMeta) (files : Filed) (kept : List Entry) (new : Phase) (entries : List Entry) (own : List Event)
+    → q.asked ≡ a → HasListed q.listed own → GoesOn q x done rest files kept new → HasPart q.asked x done rest entries own → Leaves none_live entries (live_of files)
+    → kept ≡ kept_for q.asked.wanted entries → Did a new own
+did_on a q x done [] files kept new entries own same ids (v, view, sought, is) part left keeps =
+    let seen : IsViewOf q.asked.schema x done (kept_for q.asked.wanted entries) (live_of files) v =
+    subst (λ (kept : List Entry). IsViewOf q.asked.schema x done kept (live_of files) v) keeps view in
+    subst (λ (m : Phase). Did a m own) (sym is)
+    (subst (λ (a : Asked). HasView a v own) same (of_snapshot x done entries (live_of files) part left seen), has_sought a q v own same ids sought)
+did_on a q x done (meta ∷ rest) files kept new entries own same ids is part left keeps =
+    subst (λ (m : Phase). Did a m own) (sym is) ((same, ids), entries, part, left, keeps)
 
 went_on : Joined → (a : Asked) (m : Phase) (answer : Answer) (new : Phase) (own : List Event) → Goes m answer new → Did a m own
     → IfSome (next_call m) (λ call. MayAnswer call answer → Did a new (own ++ answered call answer ∷ []))
-went_on law a (phases.List b) (answers.Listed names) new own (latest, id, newest, is_asked, is) (same, none) = λ may.
+went_on law a (phases.List b) (answers.Listed names) new own (ids, latest, id, are, newest, is_asked, is) (same, none) = λ may.
     let now : List Event = own ++ listed_snapshots names ∷ [] in
-    let lists : Lists b id now = (names, latest, newest, is_asked, ap (λ (own : List Event). own ++ listed_snapshots names ∷ []) none) in
+    let first : now ≡ listed_snapshots names ∷ [] = ap (λ (own : List Event). own ++ listed_snapshots names ∷ []) none in
+    let lists : Lists b id now = (names, latest, newest, is_asked, first) in
+    let sought : IsSought a (sought_of b ids) now = (same, (names, [], are, first)) in
     subst (λ (m : Phase). Did a m now) (sym is)
-    (opened (λ (m : Phase). Did a m now) b id (λ first. (same, subst (λ n. Lists b n now) first lists)) (λ least. (same, least, lists)))
-went_on law a (phases.Origin b) (answers.Found (Some bytes)) new own (v, view, is) (same, lists) = λ may.
-    let now : List Event = own ++ read_file (origin_path b.schema) (Some bytes) ∷ [] in
-    subst (λ (m : Phase). Did a m now) (sym is) (subst (λ (a : Asked). HasView a v now) same (of_origin bytes view (own, lists, refl)))
-went_on law a (phases.Snapshot b id) (answers.Found (Some bytes)) new own (x, reads, schema, is) (same, least, lists) = λ may.
-    let now : List Event = own ++ read_file (snapshot_path id) (Some bytes) ∷ [] in
-    subst (λ (m : Phase). Did a m now) (sym is) (same, has_snapshot b id bytes x now least reads schema (own, lists, refl))
-went_on law a (phases.Base b x) (answers.Found None) new own is (same, has) = λ may.
+    (opened (λ (m : Phase). Did a m now) (sought_of b ids) id (λ first. (sought, subst (λ n. Lists b n now) first lists)) (λ least. (sought, least, lists)))
+went_on law a (phases.Origin q) (answers.Found (Some bytes)) new own (v, view, sought, is) ((same, ids), lists) = λ may.
+    let event : Event = read_file (origin_path q.asked.schema) (Some bytes) in
+    let now : List Event = own ++ event ∷ [] in
+    subst (λ (m : Phase). Did a m now) (sym is)
+    (subst (λ (a : Asked). HasView a v now) same (of_origin bytes view (own, lists, refl)), has_sought a q v now same (listed_more q.listed own event ids) sought)
+went_on law a (phases.Snapshot q id) (answers.Found (Some bytes)) new own (x, reads, schema, is) ((same, ids), least, lists) = λ may.
+    let event : Event = read_file (snapshot_path id) (Some bytes) in
+    let now : List Event = own ++ event ∷ [] in
+    subst (λ (m : Phase). Did a m now) (sym is)
+    ((same, listed_more q.listed own event ids), has_snapshot q.asked id bytes x now least reads schema (own, lists, refl))
+went_on law a (phases.Base q x) (answers.Found None) new own is ((same, ids), has) = λ may.
     let now : List Event = own ++ read_file (manifest_path x.base_list) None ∷ [] in
     subst (λ (m : Phase). Did a m now) (sym is) (same, lacks_base x refl refl (own, has, refl))
-went_on law a (phases.Base b x) (answers.Found (Some bytes)) new own (base, reads, is) (same, has) = λ may.
-    let now : List Event = own ++ read_file (manifest_path x.base_list) (Some bytes) ∷ [] in
-    subst (λ (m : Phase). Did a m now) (sym is) (same, (bytes, reads, (own, has, refl)))
-went_on law a (phases.Delta b x base) (answers.Found None) new own is (same, has) = λ may.
+went_on law a (phases.Base q x) (answers.Found (Some bytes)) new own (base, reads, is) ((same, ids), has) = λ may.
+    let event : Event = read_file (manifest_path x.base_list) (Some bytes) in
+    let now : List Event = own ++ event ∷ [] in
+    subst (λ (m : Phase). Did a m now) (sym is) ((same, listed_more q.listed own event ids), (bytes, reads, (own, has, refl)))
+went_on law a (phases.Delta q x base) (answers.Found None) new own is ((same, ids), has) = λ may.
     let now : List Event = own ++ read_file (manifest_path x.delta_list) None ∷ [] in
     subst (λ (m : Phase). Did a m now) (sym is) (same, lacks_delta x base.items refl refl (own, has, refl))
-went_on law a (phases.Delta b x base) (answers.Found (Some bytes)) new own (delta, reads, (files, left, within, on)) (same, has) = λ may.
-    let now : List Event = own ++ read_file (manifest_path x.delta_list) (Some bytes) ∷ [] in
-    did_on a b x [] (base.items ++ delta) files new [] now same on (record {
+went_on law a (phases.Delta q x base) (answers.Found (Some bytes)) new own (delta, reads, (files, left, within, on)) ((same, ids), has) = λ may.
+    let event : Event = read_file (manifest_path x.delta_list) (Some bytes) in
+    let now : List Event = own ++ event ∷ [] in
+    did_on a q x [] (base.items ++ delta) files [] new [] now same (listed_more q.listed own event ids) on (record {
       base = base.items;
       delta = delta;
       lists = now;
@@ -413,15 +466,17 @@ went_on law a (phases.Delta b x base) (answers.Found (Some bytes)) new own (delt
       read = (refl, refl);
       order = order_none;
       is = sym (append-nil now);
-    }) left
-went_on law a (phases.Manifests r) (answers.Found None) new own is (same, entries, part, left) = λ may.
+    }) left (kept_none q.asked.wanted)
+went_on law a (phases.Manifests r) (answers.Found None) new own is ((same, ids), entries, part, left, keeps) = λ may.
     let now : List Event = own ++ read_file (manifest_path r.next.name) None ∷ [] in
     subst (λ (m : Phase). Did a m now) (sym is) (same, lacks_manifest r.snapshot r.done r.next r.rest entries refl refl (own, part, refl))
-went_on law a (phases.Manifests r) (answers.Found (Some bytes)) new own (later, reads, (files, order, left, on)) (same, entries, part, was) = λ may.
-    let now : List Event = own ++ read_file (manifest_path r.next.name) (Some bytes) ∷ [] in
-    did_on a r.asked r.snapshot (r.done ++ r.next ∷ []) r.rest files new (entries ++ later) now same on
-    (part_more law r.asked r.snapshot r.done r.next r.rest entries later (live_of r.files) bytes own part reads was order)
-    (leaves_more law entries later (live_of r.files) (live_of files) was left)
+went_on law a (phases.Manifests r) (answers.Found (Some bytes)) new own (later, reads, (files, order, left, on)) ((same, ids), entries, part, was, keeps) = λ may.
+    let event : Event = read_file (manifest_path r.next.name) (Some bytes) in
+    let now : List Event = own ++ event ∷ [] in
+    did_on a r.sought r.snapshot (r.done ++ r.next ∷ []) r.rest files (r.kept ++ kept_for r.sought.asked.wanted later) new (entries ++ later) now same
+    (listed_more r.sought.listed own event ids) on
+    (part_more law r.sought.asked r.snapshot r.done r.next r.rest entries later (live_of r.files) bytes own part reads was order)
+    (leaves_more law entries later (live_of r.files) (live_of files) was left) (kept_more r entries later keeps)
 went_on law a m answer new own goes did = absurd goes
 
 -- where bytes have a fault, memory may have run out
@@ -457,56 +512,45 @@ shown_as a b refusal defined own same is shows =
 
 refused_on : Joined → (a : Asked) (m : Phase) (answer : Answer) (refusal : Refusal) (own : List Event) → Shown m answer refusal → Did a m own
     → IfSome (next_call m) (λ call. MayAnswer call answer → Shows a refusal (own ++ answered call answer ∷ []))
-refused_on law a (phases.List b) (answers.Listed names) refusal own (latest, id, newest, above, is) (same, none) = λ may.
+refused_on law a (phases.List b) (answers.Listed names) refusal own (inl is) (same, none) = λ may.
+    shown_as a b refusal refusals.Memory _ same is (at_listing names (ap (λ (own : List Event). own ++ listed_snapshots names ∷ []) none))
+refused_on law a (phases.List b) (answers.Listed names) refusal own (inr (latest, id, newest, above, is)) (same, none) = λ may.
     shown_as a b refusal (refusals.NoSnapshot id latest) _ same is
     (names, newest, above, ap (λ (own : List Event). own ++ listed_snapshots names ∷ []) none)
-refused_on law a (phases.Origin b) (answers.Found None) refusal own is (same, lists) = λ may.
-    shown_as a b refusal (refusals.Expired 0) _ same is (gone_origin refl (own, lists, refl))
-refused_on law a (phases.Snapshot b id) (answers.Found None) refusal own is (same, least, lists) = λ may.
-    shown_as a b refusal (refusals.Expired id) _ same is (gone_snapshot least (own, lists, refl))
-refused_on law a (phases.Snapshot b id) (answers.Found (Some bytes)) refusal own (inl is) (same, least, lists) = λ may.
-    shown_as a b refusal refusals.Memory _ same is (at_snapshot id bytes least (own, lists, refl))
-refused_on law a (phases.Snapshot b id) (answers.Found (Some bytes)) refusal own (inr (inl (is, bad))) (same, least, lists) = λ may.
-    shown_as a b refusal (refusals.Damaged (snapshot_path id) 0) _ same is (bad_snapshot id bytes least refl refl bad (own, lists, refl))
-refused_on law a (phases.Snapshot b id) (answers.Found (Some bytes)) refusal own (inr (inr (x, is, reads, other))) (same, least, lists) = λ may.
-    shown_as a b refusal (refusals.Damaged (schema_path x.schema_id) 0) _ same is (bad_schema x id bytes least refl refl reads other (own, lists, refl))
-refused_on law a (phases.Base b x) (answers.Found found) refusal own (inl is) (same, has) = λ may.
-    shown_as a b refusal refusals.Memory _ same is (at_base x found (own, has, refl))
-refused_on law a (phases.Base b x) (answers.Found None) refusal own (inr none) did = absurd none
-refused_on law a (phases.Base b x) (answers.Found (Some bytes)) refusal own (inr bad) (same, has) = λ may.
-    shown_as a b refusal refusal _ same refl (misread b refusal _ (misreads_base x bytes bad (own, has, refl)))
-refused_on law a (phases.Delta b x base) (answers.Found found) refusal own (inl is) (same, has) = λ may.
-    shown_as a b refusal refusals.Memory _ same is (at_delta x base.items found (own, has, refl))
-refused_on law a (phases.Delta b x base) (answers.Found None) refusal own (inr none) did = absurd none
-refused_on law a (phases.Delta b x base) (answers.Found (Some bytes)) refusal own (inr (inl bad)) (same, has) = λ may.
-    shown_as a b refusal refusal _ same refl (misread b refusal _ (misreads_delta x base.items bytes bad (own, has, refl)))
-refused_on law a (phases.Delta b x base) (answers.Found (Some bytes)) refusal own (inr (inr (delta, reads, (live, left, none, over)))) (same, has) = λ may.
-    let now : List Event = own ++ read_file (manifest_path x.delta_list) (Some bytes) ∷ [] in
-    overlapped a b x [] [] live refusal now same (record {
-      base = base.items;
-      delta = delta;
-      lists = now;
-      reads = [];
-      listed = (bytes, reads, (own, has, refl));
-      parts = none;
-      read = (refl, refl);
-      order = order_none;
-      is = sym (append-nil now);
-    }) left over
-refused_on law a (phases.Manifests r) (answers.Found found) refusal own (inl is) (same, entries, part, was) = λ may.
-    shown_as a r.asked refusal refusals.Memory _ same is (at_manifest r.snapshot r.done r.next r.rest entries found (own, part, refl))
+refused_on law a (phases.Origin q) (answers.Found None) refusal own is ((same, ids), lists) = λ may.
+    shown_as a q.asked refusal (refusals.Expired 0) _ same is (gone_origin refl (own, lists, refl))
+refused_on law a (phases.Snapshot q id) (answers.Found None) refusal own is ((same, ids), least, lists) = λ may.
+    shown_as a q.asked refusal (refusals.Expired id) _ same is (gone_snapshot least (own, lists, refl))
+refused_on law a (phases.Snapshot q id) (answers.Found (Some bytes)) refusal own (inl is) ((same, ids), least, lists) = λ may.
+    shown_as a q.asked refusal refusals.Memory _ same is (at_snapshot id bytes least (own, lists, refl))
+refused_on law a (phases.Snapshot q id) (answers.Found (Some bytes)) refusal own (inr (inl (is, bad))) ((same, ids), least, lists) = λ may.
+    shown_as a q.asked refusal (refusals.Damaged (snapshot_path id) 0) _ same is (bad_snapshot id bytes least refl refl bad (own, lists, refl))
+refused_on law a (phases.Snapshot q id) (answers.Found (Some bytes)) refusal own (inr (inr (x, is, reads, other))) ((same, ids), least, lists) = λ may.
+    shown_as a q.asked refusal (refusals.Damaged (schema_path x.schema_id) 0) _ same is (bad_schema x id bytes least refl refl reads other (own, lists, refl))
+refused_on law a (phases.Base q x) (answers.Found found) refusal own (inl is) ((same, ids), has) = λ may.
+    shown_as a q.asked refusal refusals.Memory _ same is (at_base x found (own, has, refl))
+refused_on law a (phases.Base q x) (answers.Found None) refusal own (inr none) did = absurd none
+refused_on law a (phases.Base q x) (answers.Found (Some bytes)) refusal own (inr bad) ((same, ids), has) = λ may.
+    shown_as a q.asked refusal refusal _ same refl (misread q.asked refusal _ (misreads_base x bytes bad (own, has, refl)))
+refused_on law a (phases.Delta q x base) (answers.Found found) refusal own (inl is) ((same, ids), has) = λ may.
+    shown_as a q.asked refusal refusals.Memory _ same is (at_delta x base.items found (own, has, refl))
+refused_on law a (phases.Delta q x base) (answers.Found None) refusal own (inr none) did = absurd none
+refused_on law a (phases.Delta q x base) (answers.Found (Some bytes)) refusal own (inr bad) ((same, ids), has) = λ may.
+    shown_as a q.asked refusal refusal _ same refl (misread q.asked refusal _ (misreads_delta x base.items bytes bad (own, has, refl)))
+refused_on law a (phases.Manifests r) (answers.Found found) refusal own (inl is) ((same, ids), entries, part, was, keeps) = λ may.
+    shown_as a r.sought.asked refusal refusals.Memory _ same is (at_manifest r.snapshot r.done r.next r.rest entries found (own, part, refl))
 refused_on law a (phases.Manifests r) (answers.Found None) refusal own (inr none) did = absurd none
-refused_on law a (phases.Manifests r) (answers.Found (Some bytes)) refusal own (inr (inl bad)) (same, entries, part, was) = λ may.
-    shown_as a r.asked refusal refusal _ same refl
-    (misread r.asked refusal _ (misreads_manifest r.snapshot r.done r.next r.rest entries bytes bad (own, part, refl)))
-refused_on law a (phases.Manifests r) (answers.Found (Some bytes)) refusal own (inr (inr (later, reads, disorder i out is))) (same, entries, part, was) = λ may.
-    shown_as a r.asked refusal (refusals.Damaged (manifest_path r.next.name) 0) _ same is
+refused_on law a (phases.Manifests r) (answers.Found (Some bytes)) refusal own (inr (inl bad)) ((same, ids), entries, part, was, keeps) = λ may.
+    shown_as a r.sought.asked refusal refusal _ same refl
+    (misread r.sought.asked refusal _ (misreads_manifest r.snapshot r.done r.next r.rest entries bytes bad (own, part, refl)))
+refused_on law a (phases.Manifests r) (answers.Found (Some bytes)) refusal own (inr (inr (later, reads, disorder i out is))) ((same, ids), entries, part, was, keeps) = λ may.
+    shown_as a r.sought.asked refusal (refusals.Damaged (manifest_path r.next.name) 0) _ same is
     (is_disordered r.snapshot r.done r.next r.rest entries (live_of r.files) bytes later i refl refl was reads out (own, part, refl))
-refused_on law a (phases.Manifests r) (answers.Found (Some bytes)) refusal own (inr (inr (later, reads, overlap live order left none over))) (same, entries, part, was) = λ may.
+refused_on law a (phases.Manifests r) (answers.Found (Some bytes)) refusal own (inr (inr (later, reads, overlap live order left none over))) ((same, ids), entries, part, was, keeps) = λ may.
     let now : List Event = own ++ read_file (manifest_path r.next.name) (Some bytes) ∷ [] in
-    overlapped a r.asked r.snapshot (r.done ++ r.next ∷ []) (entries ++ later) live refusal now same
-    (subst (λ (rest : List ManifestMeta). HasPart r.asked r.snapshot (r.done ++ r.next ∷ []) rest (entries ++ later) now) none
-    (part_more law r.asked r.snapshot r.done r.next r.rest entries later (live_of r.files) bytes own part reads was order))
+    overlapped a r.sought.asked r.snapshot (r.done ++ r.next ∷ []) (entries ++ later) live refusal now same
+    (subst (λ (rest : List ManifestMeta). HasPart r.sought.asked r.snapshot (r.done ++ r.next ∷ []) rest (entries ++ later) now) none
+    (part_more law r.sought.asked r.snapshot r.done r.next r.rest entries later (live_of r.files) bytes own part reads was order))
     (leaves_more law entries later (live_of r.files) live was left) over
 refused_on law a (phases.Again b id path) (answers.Found None) refusal own is (same, lacks) = λ may.
     shown_as a b refusal (refusals.Expired id) _ same is (gone_again path (own, lacks, refl))
@@ -520,12 +564,12 @@ failed_as a b path own same failed = subst (λ (a : Asked). IsFailed a path own)
 failed_on : (a : Asked) (m : Phase) (own : List Event) → Did a m own
     → IfSome (next_call m) (λ call. Shows a (refusals.StoreFault (path_of call)) (own ++ faulted call ∷ []))
 failed_on a (phases.List b) own (same, none) = in_listing refl (ap (λ (own : List Event). own ++ faulted snapshots_call ∷ []) none)
-failed_on a (phases.Origin b) own (same, lists) = failed_as a b (origin_path b.schema) _ same (in_origin own lists refl refl)
-failed_on a (phases.Snapshot b id) own (same, least, lists) = failed_as a b (snapshot_path id) _ same (in_snapshot id own least lists refl refl)
-failed_on a (phases.Base b x) own (same, has) = failed_as a b (manifest_path x.base_list) _ same (in_base x own has refl refl)
-failed_on a (phases.Delta b x base) own (same, has) = failed_as a b (manifest_path x.delta_list) _ same (in_delta x base.items own has refl refl)
-failed_on a (phases.Manifests r) own (same, entries, part, was) =
-    failed_as a r.asked (manifest_path r.next.name) _ same (in_manifest r.snapshot r.done r.next r.rest entries own part refl refl)
+failed_on a (phases.Origin q) own ((same, ids), lists) = failed_as a q.asked (origin_path q.asked.schema) _ same (in_origin own lists refl refl)
+failed_on a (phases.Snapshot q id) own ((same, ids), least, lists) = failed_as a q.asked (snapshot_path id) _ same (in_snapshot id own least lists refl refl)
+failed_on a (phases.Base q x) own ((same, ids), has) = failed_as a q.asked (manifest_path x.base_list) _ same (in_base x own has refl refl)
+failed_on a (phases.Delta q x base) own ((same, ids), has) = failed_as a q.asked (manifest_path x.delta_list) _ same (in_delta x base.items own has refl refl)
+failed_on a (phases.Manifests r) own ((same, ids), entries, part, was, keeps) =
+    failed_as a r.sought.asked (manifest_path r.next.name) _ same (in_manifest r.snapshot r.done r.next r.rest entries own part refl refl)
 failed_on a (phases.Again b id path) own (same, lacks) = failed_as a b (snapshot_path id) _ same (in_again id path own lacks refl refl)
 failed_on a (phases.Ready v) own did = tt
 failed_on a phases.Over own did = tt
@@ -535,16 +579,19 @@ lacks_end a id path own (lacks_base x bears at finds) = at_base x None finds
 lacks_end a id path own (lacks_delta x base bears at finds) = at_delta x base None finds
 lacks_end a id path own (lacks_manifest x done meta rest entries bears at finds) = at_manifest x done meta rest entries None finds
 
+lists_end : (a : Asked) (id : ℕ) (own : List Event) → Lists a id own → MayEnd a own
+lists_end a id own (names, latest, newest, asked, is) = at_listing names is
+
 ends_as : (a b : Asked) (own : List Event) → b ≡ a → MayEnd b own → MayEnd a own
 ends_as a b own same ends = subst (λ (a : Asked). MayEnd a own) same ends
 
 stopped_on : (a : Asked) (m : Phase) (own : List Event) → IsSome (next_call m) → Did a m own → MayEnd a own
 stopped_on a (phases.List b) own called (same, none) = at_first none
-stopped_on a (phases.Origin b) own called (same, lists) = ends_as a b own same (at_listing 0 lists)
-stopped_on a (phases.Snapshot b id) own called (same, least, lists) = ends_as a b own same (at_listing id lists)
-stopped_on a (phases.Base b x) own called (same, (bytes, least, reads, schema, did)) = ends_as a b own same (at_snapshot x.id bytes least did)
-stopped_on a (phases.Delta b x base) own called (same, (bytes, reads, finds)) = ends_as a b own same (at_base x (Some bytes) finds)
-stopped_on a (phases.Manifests r) own called (same, entries, part, was) = ends_as a r.asked own same (at_part r.snapshot r.done (r.next ∷ r.rest) entries part)
+stopped_on a (phases.Origin q) own called ((same, ids), lists) = ends_as a q.asked own same (lists_end q.asked 0 own lists)
+stopped_on a (phases.Snapshot q id) own called ((same, ids), least, lists) = ends_as a q.asked own same (lists_end q.asked id own lists)
+stopped_on a (phases.Base q x) own called ((same, ids), (bytes, least, reads, schema, did)) = ends_as a q.asked own same (at_snapshot x.id bytes least did)
+stopped_on a (phases.Delta q x base) own called ((same, ids), (bytes, reads, finds)) = ends_as a q.asked own same (at_base x (Some bytes) finds)
+stopped_on a (phases.Manifests r) own called ((same, ids), entries, part, was, keeps) = ends_as a r.sought.asked own same (at_part r.snapshot r.done (r.next ∷ r.rest) entries part)
 stopped_on a (phases.Again b id path) own called (same, lacks) = ends_as a b own same (lacks_end b id path own lacks)
 stopped_on a (phases.Ready v) own called did = absurd (let clash = called in cc)
 stopped_on a phases.Over own called did = absurd (let clash = called in cc)
@@ -568,13 +615,13 @@ recounts law a = record {
 abbrev IsAhead : ℕ → Phase → Type 0
 IsAhead n m = (calls_left m < n) × Reaches (reached_at m) m
 
-on_ahead : (a : Asked) (x : Snapshot) (done rest : List ManifestMeta) (files : Filed) (new : Phase) (n : ℕ) → length rest + 1 < n → GoesOn a x done rest files new
-    → IsAhead n new
-on_ahead a x done [] files new n below (v, view, is) =
+on_ahead : (q : SoughtView) (x : Snapshot) (done rest : List ManifestMeta) (files : Filed) (kept : List Entry) (new : Phase) (n : ℕ) → length rest + 1 < n
+    → GoesOn q x done rest files kept new → IsAhead n new
+on_ahead q x done [] files kept new n below (v, view, sought, is) =
     let one : 0 + 1 < n = below in
     let less : 0 < n = omega (arith, one) in
     subst (IsAhead n) (sym is) (less, tt)
-on_ahead a x done (meta ∷ rest) files new n below is =
+on_ahead q x done (meta ∷ rest) files kept new n below is =
     let one : suc (length rest) + 1 < n = below in
     let less : length rest + 2 < n = omega (arith, one) in
     let some : 0 < length rest + 2 = omega arith in
@@ -587,40 +634,40 @@ again_ahead a id path new n below is =
     subst (IsAhead n) (sym is) (below, some)
 
 goes_ahead : (m : Phase) (answer : Answer) (new : Phase) → Goes m answer new → IsAhead (calls_left m) new
-goes_ahead (phases.List a) (answers.Listed names) new (latest, id, newest, is_asked, is) =
+goes_ahead (phases.List a) (answers.Listed names) new (ids, latest, id, are, newest, is_asked, is) =
     let one : 1 < most + 5 = omega arith in
     let less : most + 4 < most + 5 = omega arith in
     let some : 0 < 1 = omega arith in
     let more : 0 < most + 4 = omega arith in
-    subst (IsAhead (most + 5)) (sym is) (opened (IsAhead (most + 5)) a id (λ first. (one, some)) (λ least. (less, more)))
-goes_ahead (phases.Origin a) (answers.Found (Some bytes)) new (v, view, is) =
+    subst (IsAhead (most + 5)) (sym is) (opened (IsAhead (most + 5)) (sought_of a ids) id (λ first. (one, some)) (λ least. (less, more)))
+goes_ahead (phases.Origin q) (answers.Found (Some bytes)) new (v, view, sought, is) =
     let less : 0 < 1 = omega arith in
     subst (IsAhead 1) (sym is) (less, tt)
-goes_ahead (phases.Snapshot a id) (answers.Found (Some bytes)) new (x, reads, schema, is) =
+goes_ahead (phases.Snapshot q id) (answers.Found (Some bytes)) new (x, reads, schema, is) =
     let less : most + 3 < most + 4 = omega arith in
     let some : 0 < most + 3 = omega arith in
     subst (IsAhead (most + 4)) (sym is) (less, some)
-goes_ahead (phases.Base a x) (answers.Found None) new is = again_ahead a x.id (manifest_path x.base_list) new (most + 3) (omega arith) is
-goes_ahead (phases.Base a x) (answers.Found (Some bytes)) new (base, reads, is) =
+goes_ahead (phases.Base q x) (answers.Found None) new is = again_ahead q.asked x.id (manifest_path x.base_list) new (most + 3) (omega arith) is
+goes_ahead (phases.Base q x) (answers.Found (Some bytes)) new (base, reads, is) =
     let less : most + 2 < most + 3 = omega arith in
     let some : 0 < most + 2 = omega arith in
     subst (IsAhead (most + 3)) (sym is) (less, some)
-goes_ahead (phases.Delta a x base) (answers.Found None) new is = again_ahead a x.id (manifest_path x.delta_list) new (most + 2) (omega arith) is
-goes_ahead (phases.Delta a x base) (answers.Found (Some bytes)) new (delta, reads, (files, left, within, on)) =
-    on_ahead a x [] (base.items ++ delta) files new (most + 2) (omega (arith, within)) on
+goes_ahead (phases.Delta q x base) (answers.Found None) new is = again_ahead q.asked x.id (manifest_path x.delta_list) new (most + 2) (omega arith) is
+goes_ahead (phases.Delta q x base) (answers.Found (Some bytes)) new (delta, reads, (files, left, within, on)) =
+    on_ahead q x [] (base.items ++ delta) files [] new (most + 2) (omega (arith, within)) on
 goes_ahead (phases.Manifests r) (answers.Found None) new is =
-    again_ahead r.asked r.snapshot.id (manifest_path r.next.name) new (length r.rest + 2) (omega arith) is
+    again_ahead r.sought.asked r.snapshot.id (manifest_path r.next.name) new (length r.rest + 2) (omega arith) is
 goes_ahead (phases.Manifests r) (answers.Found (Some bytes)) new (own, reads, (files, order, left, on)) =
-    on_ahead r.asked r.snapshot (r.done ++ r.next ∷ []) r.rest files new (length r.rest + 2) (omega arith) on
+    on_ahead r.sought r.snapshot (r.done ++ r.next ∷ []) r.rest files (r.kept ++ kept_for r.sought.asked.wanted own) new (length r.rest + 2) (omega arith) on
 goes_ahead m answer new goes = absurd goes
 
 -- a reader with calls left has a next one
 has_call : (m : Phase) → 0 < calls_left m → IsSome (next_call m)
 has_call (phases.List a) left = refl
-has_call (phases.Origin a) left = refl
-has_call (phases.Snapshot a id) left = refl
-has_call (phases.Base a x) left = refl
-has_call (phases.Delta a x base) left = refl
+has_call (phases.Origin q) left = refl
+has_call (phases.Snapshot q id) left = refl
+has_call (phases.Base q x) left = refl
+has_call (phases.Delta q x base) left = refl
 has_call (phases.Manifests r) left = refl
 has_call (phases.Again a id path) left = refl
 has_call (phases.Ready v) left = absurd (let none : 0 < 0 = left in omega (arith, none))
@@ -660,16 +707,17 @@ view_still other f after p q v advances (view_snapshot x base delta entries live
 
 pub knows_still : (m : Phase) (other : Actor) (f after : Files) (p q : Past) → Stands f p → Advances other f p after q → Knows m f p → Knows m after q
 knows_still (phases.List a) other f after p q stands advances known = table_still other f after p q a.schema advances known
-knows_still (phases.Origin a) other f after p q stands advances known = table_still other f after p q a.schema advances known
-knows_still (phases.Snapshot a id) other f after p q stands advances (known, least, within) =
-    (table_still other f after p q a.schema advances known, least, within)
-knows_still (phases.Base a x) other f after p q stands advances stood = stood_still other f after p q a.schema x advances stood
-knows_still (phases.Delta a x base) other f after p q stands advances (stood, one) = (
-  stood_still other f after p q a.schema x advances stood,
+knows_still (phases.Origin s) other f after p q stands advances known = table_still other f after p q s.asked.schema advances known
+knows_still (phases.Snapshot s id) other f after p q stands advances (known, least, within, bound) =
+    let more = count_grows p.history q.history (goes_on other f after p.history q.history advances.change) in
+    (table_still other f after p q s.asked.schema advances known, least, within, omega (arith, bound, more))
+knows_still (phases.Base s x) other f after p q stands advances stood = stood_still other f after p q s.asked.schema x advances stood
+knows_still (phases.Delta s x base) other f after p q stands advances (stood, one) = (
+  stood_still other f after p q s.asked.schema x advances stood,
   subst (λ (g : Files). IsList g x.base_list base.items) (sym (advances.same x.id stood.known)) one,
 )
 knows_still (phases.Manifests r) other f after p q stands advances (stood, reading) = (
-  stood_still other f after p q r.asked.schema r.snapshot advances stood,
+  stood_still other f after p q r.sought.asked.schema r.snapshot advances stood,
   subst (λ (g : Files). IsReadingOf g r) (sym (advances.same r.snapshot.id stood.known)) reading,
 )
 knows_still (phases.Again a id path) other f after p q stands advances gone = record {

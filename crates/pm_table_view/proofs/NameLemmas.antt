@@ -1,11 +1,20 @@
--- The latest snapshot that names list.
-use Rattle.std.proofs.Common.{◌≡◌, ◌⊎◌, inl, inr, ℕ, ◌<◌, ◌≤◌, nat_lt, Bool, true, false, List, [], ◌∷◌, Contains, max, Option, None, Some, refl, sym, ap, ◌∙◌, subst, arith}
+-- The ids of the snapshots that names list, and the latest of them.
+use Rattle.std.proofs.Common.{◌≡◌, ◌⊎◌, inl, inr, ◌↔◌, ℕ, ◌<◌, ◌≤◌, nat_lt, Bool, true, false, if◌then◌else◌, List, [], ◌∷◌, Contains, max, Option, None, Some, option_and_then, refl, sym, ap, ◌∙◌, subst, arith}
+use Rattle.std.specs.List.{filter_map, cons_option, dedup}
+use Rattle.std.specs.List.Sorted.{IsPermutation, IsSorted}
 use Rattle.std.specs.Option.{unwrap_or}
+use Rattle.std.specs.Ordering.{nat_cmp}
+use Rattle.std.proofs.Math.Dec.{eqb}
 use Rattle.std.proofs.lemmas.Bool.Decides.{nat_tests}
+use Rattle.std.proofs.lemmas.List.Kept.{Contains-dedup_nat, Contains-from_dedup}
+use Rattle.std.proofs.lemmas.List.Sorted.{Contains-permutation}
+use Rattle.std.proofs.lemmas.Map.Keys.{IsStrictlyIncreasing-dedup}
 use Rattle.pm_view.proofs.ListLemmas.{here, more, nowhere, cases}
 use Rattle.pm_snapshot.specs.Names.{greatest, id_in, snapshot_name}
 use Rattle.pm_snapshot.proofs.Facts.{id_is}
-use Rattle.pm_table_view.specs.Names.{IsLatest, id_or_none, latest_from}
+use Rattle.pm_table_view.specs.Names.{AreIds, IsLatest, after_origin, id_or_none, latest_from, listed_id}
+
+-- ---- the latest
 
 max_of : (a b : ℕ) → (a ≤ max a b) × (b ≤ max a b) × ((max a b ≡ a) ⊎ (max a b ≡ b))
 max_of a b = (omega arith, omega arith, at (nat_lt a b) refl)
@@ -69,3 +78,72 @@ latest_is names =
       ];
       most = best.most;
     }
+
+-- ---- a name's id
+
+after_some : (o : Option ℕ) (id : ℕ) → option_and_then after_origin o ≡ Some id → (1 ≤ id) × (o ≡ Some id)
+after_some None id e = cc
+after_some (Some x) id e = at (nat_lt 0 x) refl e
+  where
+    at : (b : Bool) → nat_lt 0 x ≡ b → (if b then Some x else None) ≡ Some id → (1 ≤ id) × (Some x ≡ Some id)
+    at true test e =
+        let same : x ≡ id = cc in
+        (subst (λ n. 1 ≤ n) same (grind (arith, nat_tests)), e)
+    at false test e = cc
+
+some_after : (o : Option ℕ) (id : ℕ) → 1 ≤ id → o ≡ Some id → option_and_then after_origin o ≡ Some id
+some_after o id least is = ap (option_and_then after_origin) is ∙ rw above refl
+  where
+    above : nat_lt 0 id ≡ true
+    above = grind (arith, nat_tests)
+
+listed_is : (name : List ℕ) (id : ℕ) → (listed_id name ≡ Some id) ↔ ((1 ≤ id) × (id ≤ greatest) × (name ≡ snapshot_name id))
+listed_is name id = (
+  λ e. (let parts = after_some (id_in name) id e in let bears = (id_is name id).0 parts.1 in (parts.0, bears.0, bears.1)),
+  λ is. some_after (id_in name) id is.0 ((id_is name id).1 (is.1, is.2)),
+)
+
+-- ---- all names
+
+found_at : (o : Option ℕ) (ids : List ℕ) (id : ℕ) → Contains (cons_option o ids) id → (o ≡ Some id) ⊎ Contains ids id
+found_at None ids id c = inr c
+found_at (Some x) ids id c = elim (cases x ids id c) as (λ _. (Some x ≡ Some id) ⊎ Contains ids id) [
+  | inl same ↦ inl (ap Some same)
+  | inr later ↦ inr later
+]
+
+found : (names : List (List ℕ)) (id : ℕ) → Contains (filter_map listed_id names) id
+    → (1 ≤ id) × (id ≤ greatest) × Contains names (snapshot_name id)
+found [] id c = absurd (nowhere id c)
+found (name ∷ names) id c = elim (found_at (listed_id name) (filter_map listed_id names) id c) as (λ _. (1 ≤ id) × (id ≤ greatest) × Contains (name ∷ names) (snapshot_name id)) [
+  | inl e ↦ (let bears = (listed_is name id).0 e in
+      (bears.0, bears.1, subst (λ (q : List ℕ). Contains (name ∷ names) q) bears.2 (here name names)))
+  | inr later ↦ (let is = found names id later in (is.0, is.1, more name names (snapshot_name id) is.2))
+]
+
+at_first : (o : Option ℕ) (ids : List ℕ) (id : ℕ) → o ≡ Some id → Contains (cons_option o ids) id
+at_first o ids id e = subst (λ (o : Option ℕ). Contains (cons_option o ids) id) (sym e) (here id ids)
+
+at_later : (o : Option ℕ) (ids : List ℕ) (id : ℕ) → Contains ids id → Contains (cons_option o ids) id
+at_later None ids id c = c
+at_later (Some x) ids id c = more x ids id c
+
+all_found : (names : List (List ℕ)) (id : ℕ) → 1 ≤ id → id ≤ greatest → Contains names (snapshot_name id)
+    → Contains (filter_map listed_id names) id
+all_found [] id least within c = absurd (nowhere (snapshot_name id) c)
+all_found (name ∷ names) id least within c = elim (cases name names (snapshot_name id) c) as (λ _. Contains (filter_map listed_id (name ∷ names)) id) [
+  | inl same ↦ at_first (listed_id name) (filter_map listed_id names) id ((listed_is name id).1 (least, within, same))
+  | inr later ↦ at_later (listed_id name) (filter_map listed_id names) id (all_found names id least within later)
+]
+
+-- sorted, and each once
+pub ids_are : (names : List (List ℕ)) (listed sorted : List ℕ) → listed ≡ filter_map listed_id names → IsPermutation listed sorted
+    → IsPermutation sorted listed → IsSorted nat_cmp sorted → AreIds names (dedup eqb sorted)
+ids_are names listed sorted is there back rising = record {
+  rising = IsStrictlyIncreasing-dedup sorted rising;
+  exact = λ id. (
+    λ c. found names id (subst (λ (ids : List ℕ). Contains ids id) is (Contains-permutation sorted listed id back (Contains-from_dedup eqb sorted id c))),
+    λ bears. Contains-dedup_nat sorted id (Contains-permutation listed sorted id there
+        (subst (λ (ids : List ℕ). Contains ids id) (sym is) (all_found names id bears.0 bears.1 bears.2))),
+  );
+}

@@ -1,6 +1,8 @@
 -- What a reader of a view knows of the snapshots, and what its steps mean for the files.
-use Rattle.std.specs.Prelude.{◌≡◌, ℕ, ◌≤◌, List, ◌∷◌, ◌++◌, None}
+use Rattle.std.specs.Prelude.{◌≡◌, ℕ, ◌≤◌, ◌<◌, List, ◌∷◌, ◌++◌, None}
 use Rattle.std.specs.FinMap as map
+use Rattle.pm_values.specs.declared.refusal.Refusal.{Refusal}
+use Rattle.pm_values.specs.declared.refusal.Refusal.TheVariants as refusals
 use Rattle.pm_store.specs.Files.{Files}
 use Rattle.pm_store.specs.Store.{StoreView}
 use Rattle.pm_machine.specs.Moves.{Moves}
@@ -8,15 +10,15 @@ use Rattle.pm_history.specs.History.{IsTableOf}
 use Rattle.pm_schema.specs.declared.schema.TableSchema.{TableSchema}
 use Rattle.pm_snapshot.specs.Names.{greatest}
 use Rattle.pm_snapshot.specs.declared.snapshot.Snapshot.{Snapshot}
-use Rattle.pm_folder.specs.Ledger.{IsKnown, Past, Stands}
-use Rattle.pm_folder.specs.Meaning.{SnapshotAt}
+use Rattle.pm_folder.specs.Ledger.{IsKnown, Past, Stands, count_of}
+use Rattle.pm_folder.specs.Meaning.{HasSnapshotAt, SnapshotAt}
 use Rattle.pm_folder.specs.Paths.{snapshot_path}
 use Rattle.pm_manifest.specs.Live.{AreInOrder, Leaves, Live}
 use Rattle.pm_manifest.specs.declared.entry.Entry.{Entry}
 use Rattle.pm_manifest.specs.declared.entry.ManifestMeta.{ManifestMeta}
 use Rattle.pm_contents.specs.Lists.{HasEntries, HaveEntries, IsList, none_live}
 use Rattle.pm_table_view.specs.Reading.{ReadingView, live_of}
-use Rattle.pm_table_view.specs.View.{IsOriginView, IsViewOf}
+use Rattle.pm_table_view.specs.View.{IsOriginView, IsViewOf, kept_for}
 use Rattle.pm_table_view.specs.declared.phase.Phase.{Phase}
 use Rattle.pm_table_view.specs.declared.phase.Phase.TheVariants as phases
 use Rattle.pm_table_view.specs.declared.view.View.{View}
@@ -39,21 +41,22 @@ pub record Stood (p : Past) (s : TableSchema) (x : Snapshot) : Type 0 where
   pub schema : x.schema_id ≡ s.id
 
 -- In these files a snapshot's lists have the manifests of a reading in their order; those that were read have entries
--- in their order, after which its files are live.
+-- in their order, after which its files are live, and which are kept where the live ones are asked for.
 abbrev pub IsReadingOf : Files → ReadingView → Type 0
 IsReadingOf f r =
     (base delta : List ManifestMeta) × (entries : List Entry) × IsList f r.snapshot.base_list base
     × IsList f r.snapshot.delta_list delta × (base ++ delta ≡ r.done ++ r.next ∷ r.rest)
-    × HaveEntries f r.asked.schema r.done entries × AreInOrder none_live entries
-    × Leaves none_live entries (live_of r.files)
+    × HaveEntries f r.sought.asked.schema r.done entries × AreInOrder none_live entries
+    × Leaves none_live entries (live_of r.files) × (r.kept ≡ kept_for r.sought.asked.wanted entries)
 
 -- The view is that of the table at a snapshot as it stood: its groups have the runs of the files that are live after
--- the entries of the snapshot's lists. Or the snapshot is the origin, and no group has files.
+-- the entries of the snapshot's lists, and it has these files' entries where they are asked for. Or the snapshot is the
+-- origin, and no group has files.
 pub data IsViewIn (p : Past) (v : View) : Type 0 where
   view_origin : IsOriginView v.schema v → IsViewIn p v
   view_snapshot : (x : Snapshot) (base delta : List ManifestMeta) (entries : List Entry) (live : Live)
       → Stood p v.schema x → HasEntries (p.stood x.id) v.schema x base delta entries → Leaves none_live entries live
-      → IsViewOf v.schema x (base ++ delta) live v → IsViewIn p v
+      → IsViewOf v.schema x (base ++ delta) (kept_for v.wanted entries) live v → IsViewIn p v
 
 -- the snapshot with the id is one of the table's, and has gone
 pub record HasGone (f : Files) (p : Past) (s : TableSchema) (id : ℕ) : Type 0 where
@@ -61,18 +64,34 @@ pub record HasGone (f : Files) (p : Past) (s : TableSchema) (id : ℕ) : Type 0 
   pub known : IsKnown p id
   pub absent : map.get f (snapshot_path id) ≡ None
 
--- What it knows in each phase, whatever others do: that there is a table of the schema; that what was read is what
--- stood at the snapshot; and once a file that the snapshot names is absent, that the snapshot has gone.
+-- What it knows in each phase, whatever others do: that there is a table of the schema; that the snapshot to be read is
+-- at most the newest; that what was read is what stood at the snapshot; and once a file that the snapshot names is absent, that the snapshot has gone.
 abbrev pub Knows : Phase → Files → Past → Type 0
 Knows (phases.List a) f p = IsTableOf a.schema p.history
-Knows (phases.Origin a) f p = IsTableOf a.schema p.history
-Knows (phases.Snapshot a id) f p = IsTableOf a.schema p.history × (1 ≤ id) × (id ≤ greatest)
-Knows (phases.Base a x) f p = Stood p a.schema x
-Knows (phases.Delta a x base) f p = Stood p a.schema x × IsList (p.stood x.id) x.base_list base.items
-Knows (phases.Manifests r) f p = Stood p r.asked.schema r.snapshot × IsReadingOf (p.stood r.snapshot.id) r
+Knows (phases.Origin q) f p = IsTableOf q.asked.schema p.history
+Knows (phases.Snapshot q id) f p =
+    IsTableOf q.asked.schema p.history × (1 ≤ id) × (id ≤ greatest) × (id ≤ count_of p.history)
+Knows (phases.Base q x) f p = Stood p q.asked.schema x
+Knows (phases.Delta q x base) f p = Stood p q.asked.schema x × IsList (p.stood x.id) x.base_list base.items
+Knows (phases.Manifests r) f p = Stood p r.sought.asked.schema r.snapshot × IsReadingOf (p.stood r.snapshot.id) r
 Knows (phases.Again a id path) f p = HasGone f p a.schema id
 Knows (phases.Ready v) f p = IsTableOf v.schema p.history × IsViewIn p v
 Knows phases.Over f p = Unit {0}
+
+-- the snapshot with the id was committed, or is the origin, and isn't there
+pub record IsExpired (f : Files) (p : Past) (id : ℕ) : Type 0 where
+  pub schema : TableSchema
+  pub table : IsTableOf schema p.history
+  pub within : id ≤ count_of p.history
+  pub absent : HasSnapshotAt f schema id → ⊥
+
+-- The refusals that answers show where the files stand, whatever others do: the snapshot that is asked for is above the
+-- newest, or has gone, or memory ran out. No file is damaged.
+abbrev pub MayRefuse : Files → Past → Refusal → Type 0
+MayRefuse f p refusals.Memory = Unit {0}
+MayRefuse f p (refusals.NoSnapshot id latest) = (latest ≡ count_of p.history) × (latest < id)
+MayRefuse f p (refusals.Expired id) = IsExpired f p id
+MayRefuse f p other = ⊥
 
 -- no fact of others' is of concern to it
 abbrev pub Anything : Files → Past → Type 0

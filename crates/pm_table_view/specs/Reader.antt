@@ -24,10 +24,10 @@ use Rattle.pm_manifest.specs.declared.entry.Entry.{Entry}
 use Rattle.pm_manifest.specs.declared.entry.ManifestMeta.{ManifestMeta}
 use Rattle.pm_contents.specs.Groups.{Overlaps}
 use Rattle.pm_contents.specs.Lists.{manifest_path, none_live}
-use Rattle.pm_table_view.specs.Names.{IsLatest}
+use Rattle.pm_table_view.specs.Names.{AreIds, IsLatest}
 use Rattle.pm_table_view.specs.Reading.{Filed, ReadingView, live_of, reading_of}
-use Rattle.pm_table_view.specs.View.{HasFolders, IsOriginView, IsViewOf}
-use Rattle.pm_table_view.specs.Asked.{Asked}
+use Rattle.pm_table_view.specs.View.{HasFolders, IsOriginView, IsSoughtBy, IsViewOf, kept_for}
+use Rattle.pm_table_view.specs.Asked.{Asked, SoughtView, sought_of}
 use Rattle.pm_table_view.specs.declared.asked.Wanted.{Wanted}
 use Rattle.pm_table_view.specs.declared.asked.Wanted.TheVariants as wants
 use Rattle.pm_table_view.specs.declared.phase.Phase.{Phase}
@@ -49,10 +49,10 @@ origin_path s = snapshot_file (origin_name s.origin)
 -- its next call, or none at its end
 abbrev pub next_call : Phase → Option Call
 next_call (phases.List a) = Some snapshots_call
-next_call (phases.Origin a) = Some (calls.Read (origin_path a.schema))
-next_call (phases.Snapshot a id) = Some (calls.Read (snapshot_path id))
-next_call (phases.Base a x) = Some (calls.Read (manifest_path x.base_list))
-next_call (phases.Delta a x base) = Some (calls.Read (manifest_path x.delta_list))
+next_call (phases.Origin q) = Some (calls.Read (origin_path q.asked.schema))
+next_call (phases.Snapshot q id) = Some (calls.Read (snapshot_path id))
+next_call (phases.Base q x) = Some (calls.Read (manifest_path x.base_list))
+next_call (phases.Delta q x base) = Some (calls.Read (manifest_path x.delta_list))
 next_call (phases.Manifests r) = Some (calls.Read (manifest_path r.next.name))
 next_call (phases.Again a id path) = Some (calls.Read (snapshot_path id))
 next_call (phases.Ready v) = None
@@ -65,10 +65,10 @@ most = 18446744073709551616
 -- how many calls are left at most, where no refusal comes
 abbrev pub calls_left : Phase → ℕ
 calls_left (phases.List a) = most + 5
-calls_left (phases.Origin a) = 1
-calls_left (phases.Snapshot a id) = most + 4
-calls_left (phases.Base a x) = most + 3
-calls_left (phases.Delta a x base) = most + 2
+calls_left (phases.Origin q) = 1
+calls_left (phases.Snapshot q id) = most + 4
+calls_left (phases.Base q x) = most + 3
+calls_left (phases.Delta q x base) = most + 2
 calls_left (phases.Manifests r) = length r.rest + 2
 calls_left (phases.Again a id path) = 1
 calls_left (phases.Ready v) = 0
@@ -87,18 +87,18 @@ IsReady other = ⊥
 -- ---- what answers lead to
 
 -- the snapshot with this id is to be read, which is the origin where it is 0
-abbrev pub opening : Asked → ℕ → Phase
-opening a id = if id == 0 then phases.Origin a else phases.Snapshot a id
+abbrev pub opening : SoughtView → ℕ → Phase
+opening q id = if id == 0 then phases.Origin q else phases.Snapshot q id
 
 -- the id that is asked for, where this is the latest
 abbrev pub IsAsked : Wanted → ℕ → ℕ → Type 0
-IsAsked wants.Newest latest id = id ≡ latest
 IsAsked (wants.At asked) latest id = (id ≡ asked) × (asked ≤ latest)
+IsAsked other latest id = id ≡ latest
 
 -- the id that is asked for is above the latest
 abbrev pub IsAbove : Wanted → ℕ → ℕ → Type 0
-IsAbove wants.Newest latest id = ⊥
 IsAbove (wants.At asked) latest id = (id ≡ asked) × (latest < asked)
+IsAbove other latest id = ⊥
 
 -- the bytes are read as a list of manifests, or have this fault
 abbrev pub IsListOf : List ℕ → List ℕ → List ManifestMeta → Type 0
@@ -115,42 +115,49 @@ abbrev pub MisreadsManifest : TableSchema → List ℕ → List ℕ → Refusal 
 MisreadsManifest s path bytes refusal =
     ReadsFile has_entry_fields (entry_in (shape_of s)) path bytes (Err refusal)
 
--- the manifests that were read, and those that are left: the next of these is to be read, or the view is ready
-abbrev pub GoesOn : Asked → Snapshot → List ManifestMeta → List ManifestMeta → Filed → Phase → Type 0
-GoesOn a x done [] files later = (v : View) × IsViewOf a.schema x done (live_of files) v × (later ≡ phases.Ready v)
-GoesOn a x done (meta ∷ rest) files later = later ≡ phases.Manifests (reading_of a x done meta rest files)
+-- the view is there, which is one of what was asked
+abbrev pub IsReadyWith : SoughtView → (View → Type 0) → Phase → Type 0
+IsReadyWith q P later = (v : View) × P v × IsSoughtBy q v × (later ≡ phases.Ready v)
+
+-- the manifests that were read, with the live files after their entries and those that were kept of these, and the
+-- manifests that are left: the next of these is to be read, or the view is ready
+abbrev pub GoesOn : SoughtView → Snapshot → List ManifestMeta → List ManifestMeta → Filed → List Entry → Phase → Type 0
+GoesOn q x done [] files kept later = IsReadyWith q (IsViewOf q.asked.schema x done kept (live_of files)) later
+GoesOn q x done (meta ∷ rest) files kept later =
+    later ≡ phases.Manifests (reading_of q x done meta rest files kept)
 
 -- the two lists have these manifests, none of which was read
-abbrev pub Starts : Asked → Snapshot → List ManifestMeta → Phase → Type 0
-Starts a x metas later =
-    (files : Filed) × Leaves none_live [] (live_of files) × (length metas ≤ most) × GoesOn a x [] metas files later
+abbrev pub Starts : SoughtView → Snapshot → List ManifestMeta → Phase → Type 0
+Starts q x metas later =
+    (files : Filed) × Leaves none_live [] (live_of files) × (length metas ≤ most) × GoesOn q x [] metas files [] later
 
 -- the next manifest has these entries, each of which can follow those before it
 abbrev pub Takes : ReadingView → List Entry → Phase → Type 0
 Takes r own later =
     (files : Filed) × AreInOrder (live_of r.files) own × Leaves (live_of r.files) own (live_of files)
-    × GoesOn r.asked r.snapshot (r.done ++ r.next ∷ []) r.rest files later
+    × GoesOn r.sought r.snapshot (r.done ++ r.next ∷ []) r.rest files (r.kept ++ kept_for r.sought.asked.wanted own) later
 
 -- the phase after an answer that it goes on with
 abbrev pub Goes : Phase → Answer → Phase → Type 0
 Goes (phases.List a) (answers.Listed names) later =
-    (latest : ℕ) × (id : ℕ) × IsLatest names.items latest × IsAsked a.wanted latest id × (later ≡ opening a id)
-Goes (phases.Origin a) (answers.Found (Some bytes)) later =
-    (v : View) × IsOriginView a.schema v × (later ≡ phases.Ready v)
-Goes (phases.Snapshot a id) (answers.Found (Some bytes)) later =
-    (x : Snapshot) × (snapshot_in id bytes ≡ Ok x) × (x.schema_id ≡ a.schema.id) × (later ≡ phases.Base a x)
-Goes (phases.Base a x) (answers.Found None) later = later ≡ phases.Again a x.id (manifest_path x.base_list)
-Goes (phases.Base a x) (answers.Found (Some bytes)) later =
+    (ids : List ℕ) × (latest : ℕ) × (id : ℕ) × AreIds names.items ids × IsLatest names.items latest
+    × IsAsked a.wanted latest id × (later ≡ opening (sought_of a ids) id)
+Goes (phases.Origin q) (answers.Found (Some bytes)) later = IsReadyWith q (IsOriginView q.asked.schema) later
+Goes (phases.Snapshot q id) (answers.Found (Some bytes)) later =
+    (x : Snapshot) × (snapshot_in id bytes ≡ Ok x) × (x.schema_id ≡ q.asked.schema.id) × (later ≡ phases.Base q x)
+Goes (phases.Base q x) (answers.Found None) later = later ≡ phases.Again q.asked x.id (manifest_path x.base_list)
+Goes (phases.Base q x) (answers.Found (Some bytes)) later =
     (base : Vec ManifestMeta Global) × IsListOf (manifest_path x.base_list) bytes base.items
-    × (later ≡ phases.Delta a x base)
-Goes (phases.Delta a x base) (answers.Found None) later = later ≡ phases.Again a x.id (manifest_path x.delta_list)
-Goes (phases.Delta a x base) (answers.Found (Some bytes)) later =
+    × (later ≡ phases.Delta q x base)
+Goes (phases.Delta q x base) (answers.Found None) later =
+    later ≡ phases.Again q.asked x.id (manifest_path x.delta_list)
+Goes (phases.Delta q x base) (answers.Found (Some bytes)) later =
     (delta : List ManifestMeta) × IsListOf (manifest_path x.delta_list) bytes delta
-    × Starts a x (base.items ++ delta) later
+    × Starts q x (base.items ++ delta) later
 Goes (phases.Manifests r) (answers.Found None) later =
-    later ≡ phases.Again r.asked r.snapshot.id (manifest_path r.next.name)
+    later ≡ phases.Again r.sought.asked r.snapshot.id (manifest_path r.next.name)
 Goes (phases.Manifests r) (answers.Found (Some bytes)) later =
-    (own : List Entry) × IsManifestOf r.asked.schema (manifest_path r.next.name) bytes own × Takes r own later
+    (own : List Entry) × IsManifestOf r.sought.asked.schema (manifest_path r.next.name) bytes own × Takes r own later
 Goes phase other later = ⊥
 
 -- why a snapshot's bytes are refused: they are none, or those of one of another schema
@@ -160,49 +167,46 @@ IsBad s id bytes refusal =
     ⊎ ((x : Snapshot) × (refusal ≡ refusals.Damaged (schema_path x.schema_id) 0) × (snapshot_in id bytes ≡ Ok x)
     × (x.schema_id ≢ s.id))
 
--- the two lists have no manifest, and files that are live overlap
-abbrev pub RefusesStart : TableSchema → List ManifestMeta → Refusal → Type 0
-RefusesStart s metas refusal = (live : Live) × Leaves none_live [] live × (metas ≡ []) × Overlaps s live refusal
-
 -- why the entries of the next manifest are refused: one can't follow those before it, or the manifest is the last one,
 -- and files that are live after it overlap
 pub data RefusesEntries (r : ReadingView) (path : List ℕ) (own : List Entry) (refusal : Refusal) : Type 0 where
   disorder : (i : ℕ) → IsOutOfOrder (live_of r.files) own i → refusal ≡ refusals.Damaged path 0
       → RefusesEntries r path own refusal
   overlap : (live : Live) → AreInOrder (live_of r.files) own → Leaves (live_of r.files) own live → r.rest ≡ []
-      → Overlaps r.asked.schema live refusal → RefusesEntries r path own refusal
+      → Overlaps r.sought.asked.schema live refusal → RefusesEntries r path own refusal
 
--- The refusal that an answer shows, but for memory, which may run out too: the snapshot that is asked for is above the
--- latest, or it is absent, or its file, a list or a manifest is refused.
+-- what the bytes of a file that was there reveal: that they are refused, those of the snapshot, of a list or of a
+-- manifest
 abbrev pub Reveals : Phase → Answer → Refusal → Type 0
-Reveals (phases.Snapshot a id) (answers.Found (Some bytes)) refusal = IsBad a.schema id bytes refusal
-Reveals (phases.Base a x) (answers.Found (Some bytes)) refusal =
+Reveals (phases.Snapshot q id) (answers.Found (Some bytes)) refusal = IsBad q.asked.schema id bytes refusal
+Reveals (phases.Base q x) (answers.Found (Some bytes)) refusal =
     MisreadsList (manifest_path x.base_list) bytes refusal
-Reveals (phases.Delta a x base) (answers.Found (Some bytes)) refusal =
+Reveals (phases.Delta q x base) (answers.Found (Some bytes)) refusal =
     MisreadsList (manifest_path x.delta_list) bytes refusal
-    ⊎ ((delta : List ManifestMeta) × IsListOf (manifest_path x.delta_list) bytes delta
-    × RefusesStart a.schema (base.items ++ delta) refusal)
 Reveals (phases.Manifests r) (answers.Found (Some bytes)) refusal =
-    MisreadsManifest r.asked.schema (manifest_path r.next.name) bytes refusal
-    ⊎ ((own : List Entry) × IsManifestOf r.asked.schema (manifest_path r.next.name) bytes own
+    MisreadsManifest r.sought.asked.schema (manifest_path r.next.name) bytes refusal
+    ⊎ ((own : List Entry) × IsManifestOf r.sought.asked.schema (manifest_path r.next.name) bytes own
     × RefusesEntries r (manifest_path r.next.name) own refusal)
 Reveals phase other refusal = ⊥
 
--- The refusal that an answer shows. Memory may run out where a file was there, or where it is told which one wasn't.
+-- The refusal that an answer shows: the snapshot that is asked for is above the latest, or it is absent, or a file that
+-- was there is refused. Memory may run out where names were listed, where a file was there, or where it is told which
+-- one wasn't.
 abbrev pub Shown : Phase → Answer → Refusal → Type 0
 Shown (phases.List a) (answers.Listed names) refusal =
-    (latest : ℕ) × (id : ℕ) × IsLatest names.items latest × IsAbove a.wanted latest id
-    × (refusal ≡ refusals.NoSnapshot id latest)
-Shown (phases.Origin a) (answers.Found None) refusal = refusal ≡ refusals.Expired 0
-Shown (phases.Snapshot a id) (answers.Found None) refusal = refusal ≡ refusals.Expired id
+    (refusal ≡ refusals.Memory)
+    ⊎ ((latest : ℕ) × (id : ℕ) × IsLatest names.items latest × IsAbove a.wanted latest id
+    × (refusal ≡ refusals.NoSnapshot id latest))
+Shown (phases.Origin q) (answers.Found None) refusal = refusal ≡ refusals.Expired 0
+Shown (phases.Snapshot q id) (answers.Found None) refusal = refusal ≡ refusals.Expired id
 Shown (phases.Again a id path) (answers.Found None) refusal = refusal ≡ refusals.Expired id
 Shown (phases.Again a id path) (answers.Found (Some bytes)) refusal = refusal ≡ refusals.Damaged path 0
-Shown (phases.Snapshot a id) (answers.Found (Some bytes)) refusal =
-    (refusal ≡ refusals.Memory) ⊎ Reveals (phases.Snapshot a id) (answers.Found (Some bytes)) refusal
-Shown (phases.Base a x) (answers.Found found) refusal =
-    (refusal ≡ refusals.Memory) ⊎ Reveals (phases.Base a x) (answers.Found found) refusal
-Shown (phases.Delta a x base) (answers.Found found) refusal =
-    (refusal ≡ refusals.Memory) ⊎ Reveals (phases.Delta a x base) (answers.Found found) refusal
+Shown (phases.Snapshot q id) (answers.Found (Some bytes)) refusal =
+    (refusal ≡ refusals.Memory) ⊎ Reveals (phases.Snapshot q id) (answers.Found (Some bytes)) refusal
+Shown (phases.Base q x) (answers.Found found) refusal =
+    (refusal ≡ refusals.Memory) ⊎ Reveals (phases.Base q x) (answers.Found found) refusal
+Shown (phases.Delta q x base) (answers.Found found) refusal =
+    (refusal ≡ refusals.Memory) ⊎ Reveals (phases.Delta q x base) (answers.Found found) refusal
 Shown (phases.Manifests r) (answers.Found found) refusal =
     (refusal ≡ refusals.Memory) ⊎ Reveals (phases.Manifests r) (answers.Found found) refusal
 Shown phase other refusal = ⊥

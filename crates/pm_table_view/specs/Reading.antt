@@ -8,7 +8,7 @@ use Rattle.pm_manifest.specs.declared.entry.Entry.{Entry}
 use Rattle.pm_manifest.specs.declared.entry.ManifestMeta.{ManifestMeta}
 use Rattle.pm_manifest.specs.declared.file_id.FileId.{FileId}
 use Rattle.pm_contents.specs.Groups.{AreNamed, HaveFolders}
-use Rattle.pm_table_view.specs.Asked.{Asked}
+use Rattle.pm_table_view.specs.Asked.{SoughtView}
 
 -- files, each with its entry
 abbrev pub Filed : Type 0
@@ -18,20 +18,22 @@ Filed = List (FileId × Entry)
 abbrev pub live_of : Filed → Live
 live_of files id = lookup (id_eq id) files
 
--- What was asked, the snapshot, the manifests that were read, the one to be read next, those after it, and the live
--- files after the entries of the first.
+-- What was asked, the snapshot, the manifests that were read, the one to be read next, those after it, the live files
+-- after the entries of the first, and which of these entries are kept.
 pub record ReadingView : Type 0 where
-  pub asked : Asked
+  pub sought : SoughtView
   pub snapshot : Snapshot
   pub done : List ManifestMeta
   pub next : ManifestMeta
   pub rest : List ManifestMeta
   pub files : Filed
+  pub kept : List Entry
 
-abbrev pub reading_of : Asked → Snapshot → List ManifestMeta → ManifestMeta → List ManifestMeta → Filed → ReadingView
-reading_of a x done next rest files =
-    record { asked = a; snapshot = x; done = done; next = next; rest = rest; files = files }
+abbrev pub reading_of : SoughtView → Snapshot → List ManifestMeta → ManifestMeta → List ManifestMeta → Filed → List Entry
+    → ReadingView
+reading_of q x done next rest files kept =
+    record { sought = q; snapshot = x; done = done; next = next; rest = rest; files = files; kept = kept }
 
 -- the live files can be put into groups: each has its own entry, and is of a group of the table
 abbrev pub IsReading : ReadingView → Type 0
-IsReading r = AreNamed (live_of r.files) × HaveFolders r.asked.schema (live_of r.files)
+IsReading r = AreNamed (live_of r.files) × HaveFolders r.sought.asked.schema (live_of r.files)

@@ -18,12 +18,12 @@ use Rattle.pm_manifest.specs.declared.entry.Entry.{Entry}
 use Rattle.pm_manifest.specs.declared.entry.ManifestMeta.{ManifestMeta}
 use Rattle.pm_contents.specs.Groups.{Overlaps}
 use Rattle.pm_contents.specs.Lists.{manifest_path, none_live}
-use Rattle.pm_table_view.specs.Names.{IsLatest}
+use Rattle.pm_table_view.specs.Names.{AreIds, IsLatest}
 use Rattle.pm_table_view.specs.Reader.{origin_path, IsAsked, IsAbove, IsListOf, MisreadsList}
 use Rattle.pm_table_view.specs.Reader.{IsManifestOf, MisreadsManifest}
 use Rattle.pm_table_view.specs.Reading.{live_of}
-use Rattle.pm_table_view.specs.View.{IsOriginView, IsViewOf}
-use Rattle.pm_table_view.specs.Asked.{Asked}
+use Rattle.pm_table_view.specs.View.{IsOriginView, IsSoughtBy, IsViewOf, kept_for}
+use Rattle.pm_table_view.specs.Asked.{Asked, SoughtView, sought_of}
 use Rattle.pm_table_view.specs.declared.phase.Phase.{Phase}
 use Rattle.pm_table_view.specs.declared.phase.Phase.TheVariants as phases
 use Rattle.pm_table_view.specs.declared.reader.ViewStep.{ViewStep}
@@ -40,6 +40,11 @@ abbrev pub Lists : Asked → ℕ → List Event → Type 0
 Lists a id own =
     (names : Names) × (latest : ℕ) × IsLatest names.items latest × IsAsked a.wanted latest id
     × (own ≡ listed_snapshots names ∷ [])
+
+-- the first of the calls listed the snapshots, and these are the ids of all of them
+abbrev pub HasListed : List ℕ → List Event → Type 0
+HasListed ids own =
+    (names : Names) × (later : List Event) × AreIds names.items ids × (own ≡ listed_snapshots names ∷ later)
 
 -- and this was found at the path of its file
 abbrev pub Reads : Asked → ℕ → List ℕ → Option (List ℕ) → List Event → Type 0
@@ -106,8 +111,12 @@ pub data HasView (a : Asked) (v : View) (own : List Event) : Type 0 where
   of_origin : (bytes : List ℕ) → IsOriginView a.schema v → Reads a 0 (origin_path a.schema) (Some bytes) own
       → HasView a v own
   of_snapshot : (x : Snapshot) (metas : List ManifestMeta) (entries : List Entry) (live : Live)
-      → HasPart a x metas [] entries own → Leaves none_live entries live → IsViewOf a.schema x metas live v
-      → HasView a v own
+      → HasPart a x metas [] entries own → Leaves none_live entries live
+      → IsViewOf a.schema x metas (kept_for a.wanted entries) live v → HasView a v own
+
+-- it is the view of what was asked, and has the ids of the snapshots that were listed
+abbrev pub HasSought : Asked → View → List Event → Type 0
+HasSought a v own = (ids : List ℕ) × HasListed ids own × IsSoughtBy (sought_of a ids) v
 
 -- a file that the snapshot names was found absent at the path: a list, or a manifest
 pub data LacksFile (a : Asked) (id : ℕ) (path : List ℕ) (own : List Event) : Type 0 where
@@ -141,7 +150,7 @@ pub data Misreads (a : Asked) (refusal : Refusal) (own : List Event) : Type 0 wh
 -- file was, read again
 pub data MayEnd (a : Asked) (own : List Event) : Type 0 where
   at_first : own ≡ [] → MayEnd a own
-  at_listing : (id : ℕ) → Lists a id own → MayEnd a own
+  at_listing : (names : Names) → own ≡ listed_snapshots names ∷ [] → MayEnd a own
   at_snapshot : (id : ℕ) (bytes : List ℕ) → 1 ≤ id → Reads a id (snapshot_path id) (Some bytes) own → MayEnd a own
   at_base : (x : Snapshot) (found : Option (List ℕ)) → FindsBase a x found own → MayEnd a own
   at_delta : (x : Snapshot) (base : List ManifestMeta) (found : Option (List ℕ)) → FindsDelta a x base found own
@@ -207,18 +216,23 @@ Shows a (refusals.Damaged path place) own = IsDamaged a path place own
 Shows a (refusals.Unsupported what text) own = Misreads a (refusals.Unsupported what text) own
 Shows a other own = ⊥
 
+-- this was asked, and these are the ids of the snapshots that were listed
+abbrev pub IsSought : Asked → SoughtView → List Event → Type 0
+IsSought a q own = (q.asked ≡ a) × HasListed q.listed own
+
 -- its calls so far, by its phase, where this was asked: at its end they show a refusal
 abbrev pub Did : Asked → Phase → List Event → Type 0
 Did a (phases.List b) own = (b ≡ a) × (own ≡ [])
-Did a (phases.Origin b) own = (b ≡ a) × Lists b 0 own
-Did a (phases.Snapshot b id) own = (b ≡ a) × (1 ≤ id) × Lists b id own
-Did a (phases.Base b x) own = (b ≡ a) × Has b x own
-Did a (phases.Delta b x base) own = (b ≡ a) × HasBase b x base.items own
+Did a (phases.Origin q) own = IsSought a q own × Lists q.asked 0 own
+Did a (phases.Snapshot q id) own = IsSought a q own × (1 ≤ id) × Lists q.asked id own
+Did a (phases.Base q x) own = IsSought a q own × Has q.asked x own
+Did a (phases.Delta q x base) own = IsSought a q own × HasBase q.asked x base.items own
 Did a (phases.Manifests r) own =
-    (r.asked ≡ a) × (entries : List Entry) × HasPart r.asked r.snapshot r.done (r.next ∷ r.rest) entries own
-    × Leaves none_live entries (live_of r.files)
+    IsSought a r.sought own × (entries : List Entry)
+    × HasPart r.sought.asked r.snapshot r.done (r.next ∷ r.rest) entries own
+    × Leaves none_live entries (live_of r.files) × (r.kept ≡ kept_for r.sought.asked.wanted entries)
 Did a (phases.Again b id path) own = (b ≡ a) × LacksFile b id path own
-Did a (phases.Ready v) own = HasView a v own
+Did a (phases.Ready v) own = HasView a v own × HasSought a v own
 Did a phases.Over own = (refusal : Refusal) × Shows a refusal own
 
 -- Whatever was asked, its next call is the next event of its calls so far, or none was made; and a refusal is shown by

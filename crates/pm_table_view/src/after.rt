@@ -3,26 +3,28 @@
 //! What isn't handed on is dropped by name. Left to the end of its scope it would be taken apart there, and each of its
 //! variants proved at each such place.
 
-ghost use Rattle.std.specs.Prelude.{◌≡◌, ◌⊎◌, ◌++◌, [], ◌≤◌, length, Some, IfOk, IfErr};
+ghost use Rattle.std.specs.Prelude.{◌≡◌, ◌⊎◌, ◌++◌, ℕ, [], ◌≤◌, length, Some, IfOk, IfErr, OnOk};
 ghost use Rattle.std.specs.List.{AllByRecursion};
 ghost use Rattle.indexmap.specs.IndexMap.{get};
 ghost use Rattle.pm_contents.specs.Groups.{AreNamed, HaveFolders, Overlaps};
 ghost use Rattle.pm_contents.specs.Lists.{manifest_path};
 ghost use Rattle.pm_folder.specs.Paths.{schema_path, snapshot_path};
 ghost use Rattle.pm_manifest.specs.FileId.{id_eq};
+ghost use Rattle.pm_manifest.specs.Live.{AreInOrder, Leaves, Refuses};
 ghost use Rattle.pm_manifest.specs.declared.entry.Entry.{Entry as EntryView};
 ghost use Rattle.pm_record.specs.File.{IsMemoryOr};
 ghost use Rattle.pm_schema.specs.Folder.{FitsPartition};
 ghost use Rattle.pm_store.specs.declared.answer.Answer.TheVariants as answers;
-ghost use Rattle.pm_table_view.specs.Reader.{most, opening, Goes, GoesOn, IsViewer, Shown};
-ghost use Rattle.pm_table_view.specs.Reader.{RefusesEntries, RefusesStart, Starts, Takes};
-ghost use Rattle.pm_table_view.specs.View.{HasFolders, IsOriginView, IsViewOf};
+ghost use Rattle.pm_table_view.specs.Reader.{most, opening, Goes, GoesOn, IsAbove, IsAsked, IsViewer, Shown};
+ghost use Rattle.pm_table_view.specs.Reader.{RefusesEntries, Starts, Takes};
+ghost use Rattle.pm_table_view.specs.View.{kept_for, HasFolders, IsOriginView, IsSoughtBy, IsViewOf};
 ghost use Rattle.pm_table_view.specs.Asked.{Asked as AskedView};
 ghost use Rattle.pm_table_view.specs.declared.phase.Phase.TheVariants as phases;
 ghost use Rattle.pm_values.specs.declared.refusal.Refusal.TheVariants as refusals;
 
-use crate::asked::{Asked, Wanted};
-use crate::names::latest_of;
+use crate::asked::{Asked, Sought, Wanted};
+use crate::live::{keep, live_entries};
+use crate::names::{ids_of, latest_of};
 use crate::paths::{manifest_path, schema_path, snapshot_path};
 use crate::phase::Phase;
 use crate::reading::Reading;
@@ -30,129 +32,151 @@ use crate::view::View;
 use indexmap::IndexMap;
 use pm_base::{Blob, Txt};
 use pm_contents::{folder_law, group_levels, live_law};
+use pm_levels::Levels;
 use pm_manifest::{
     Entry, FileId, ManifestMeta, fold_entries, read_entry_law, read_list, read_manifest,
 };
 use pm_snapshot::{SnapFault, Snapshot, read_snapshot};
-use pm_values::Refusal;
+use pm_values::{Group, Refusal};
 use std::alloc::{AllocError, Global};
 use std::collections::{BTreeMap, VecDeque};
 
 /// The phase once the snapshots were listed.
-pub(crate) fn after_list(asked: Asked, names: Vec<Txt>) -> Result<Phase, Refusal>
+pub(crate) fn after_list(alloc: Global, asked: Asked, names: Vec<Txt>) -> Result<Phase, Refusal>
     ensures goes { IfOk result (Goes (phases.List asked) (answers.Listed names)) }
     ensures is_viewer { IfOk result IsViewer }
     ensures refuses { IfErr result (Shown (phases.List asked) (answers.Listed names)) }
 {
     let latest = latest_of(names.as_slice());
-    match asked.wanted {
-        Wanted::Newest => Ok(opening(asked, latest)),
+    match ids_of(alloc, names.as_slice()) {
+        Ok(listed) => after_latest(Sought::new(asked, listed), latest),
+        Err(_) => {
+            drop(asked);
+            Err(Refusal::Memory)
+        }
+    }
+}
+
+/// The phase once this is known to be the latest snapshot.
+fn after_latest(sought: Sought, latest: u64) -> Result<Phase, Refusal>
+    ensures goes { IfOk result (λ later. (id : ℕ) × IsAsked sought.asked.wanted latest id × (later ≡ opening sought id)) }
+    ensures is_viewer { IfOk result IsViewer }
+    ensures refuses { IfErr result (λ refusal. (id : ℕ) × IsAbove sought.asked.wanted latest id
+        × (refusal ≡ refusals.NoSnapshot id latest)) }
+{
+    match sought.wanted() {
+        Wanted::Newest | Wanted::Entries => Ok(opening(sought, latest)),
         Wanted::At { id } => {
             if latest < id {
-                drop(asked);
+                drop(sought);
                 Err(Refusal::NoSnapshot { id, latest })
             } else {
-                Ok(opening(asked, id))
+                Ok(opening(sought, id))
             }
         }
     }
 }
 
 /// The phase in which the snapshot with this id is to be read.
-fn opening(asked: Asked, id: u64) -> Phase
-    ensures { result ≡ opening asked id }
+fn opening(sought: Sought, id: u64) -> Phase
+    ensures { result ≡ opening sought id }
 {
     if id == 0 {
-        Phase::Origin { asked }
+        Phase::Origin { sought }
     } else {
-        Phase::Snapshot { asked, id }
+        Phase::Snapshot { sought, id }
     }
 }
 
 /// The phase once this was found at the path of the origin.
 pub(crate) fn after_origin(
     alloc: Global,
-    asked: Asked,
+    sought: Sought,
     found: Option<Blob>,
 ) -> Result<Phase, Refusal>
-    ensures goes { IfOk result (Goes (phases.Origin asked) (answers.Found found)) }
+    ensures goes { IfOk result (Goes (phases.Origin sought) (answers.Found found)) }
     ensures is_viewer { IfOk result IsViewer }
-    ensures refuses { IfErr result (Shown (phases.Origin asked) (answers.Found found)) }
+    ensures refuses { IfErr result (Shown (phases.Origin sought) (answers.Found found)) }
 {
     match found {
         Some(bytes) => {
             drop(bytes);
             Ok(Phase::Ready {
-                view: origin_view(alloc, asked),
+                view: origin_view(alloc, sought),
             })
         }
-        None => Err(expired(asked, 0)),
+        None => Err(expired(sought, 0)),
     }
 }
 
 /// The refusal of a snapshot whose file is absent.
-fn expired(asked: Asked, id: u64) -> Refusal
+fn expired(sought: Sought, id: u64) -> Refusal
     ensures { result ≡ refusals.Expired id }
 {
-    drop(asked);
+    drop(sought);
     Refusal::Expired { id }
 }
 
 /// The view of a table at its origin.
-fn origin_view(alloc: Global, asked: Asked) -> View
-    ensures view { IsOriginView asked.schema result }
+fn origin_view(alloc: Global, sought: Sought) -> View
+    ensures view { IsOriginView sought.asked.schema result }
+    ensures sought { IsSoughtBy sought result }
     ensures folders { HasFolders result }
 {
-    let Asked { schema, .. } = asked;
+    let Sought { asked, listed } = sought;
+    let Asked { schema, wanted } = asked;
     View {
+        wanted,
         id: 0,
         snapshot: None,
         schema,
+        listed,
         groups: BTreeMap::new(alloc),
         manifests: Vec::new(alloc),
+        live: Vec::new(alloc),
     }
 }
 
 /// The phase once this was found at the path of the snapshot with an id.
 pub(crate) fn after_snapshot(
     alloc: Global,
-    asked: Asked,
+    sought: Sought,
     id: u64,
     found: Option<Blob>,
 ) -> Result<Phase, Refusal>
-    ensures goes { IfOk result (Goes (phases.Snapshot asked id) (answers.Found found)) }
+    ensures goes { IfOk result (Goes (phases.Snapshot sought id) (answers.Found found)) }
     ensures is_viewer { IfOk result IsViewer }
-    ensures refuses { IfErr result (Shown (phases.Snapshot asked id) (answers.Found found)) }
+    ensures refuses { IfErr result (Shown (phases.Snapshot sought id) (answers.Found found)) }
 {
     match found {
-        Some(bytes) => after_bytes(alloc, asked, id, bytes),
-        None => Err(expired(asked, id)),
+        Some(bytes) => after_bytes(alloc, sought, id, bytes),
+        None => Err(expired(sought, id)),
     }
 }
 
 /// The phase once these bytes were found at the path of the snapshot with an id.
-fn after_bytes(alloc: Global, asked: Asked, id: u64, bytes: Blob) -> Result<Phase, Refusal>
-    ensures goes { IfOk result (Goes (phases.Snapshot asked id) (answers.Found (Some bytes))) }
+fn after_bytes(alloc: Global, sought: Sought, id: u64, bytes: Blob) -> Result<Phase, Refusal>
+    ensures goes { IfOk result (Goes (phases.Snapshot sought id) (answers.Found (Some bytes))) }
     ensures is_viewer { IfOk result IsViewer }
-    ensures refuses { IfErr result (Shown (phases.Snapshot asked id) (answers.Found (Some bytes))) }
+    ensures refuses { IfErr result (Shown (phases.Snapshot sought id) (answers.Found (Some bytes))) }
 {
     match read_snapshot(alloc, id, bytes.as_bytes()) {
         Ok(snapshot) => {
-            if snapshot.schema_id == asked.schema.id {
-                Ok(Phase::Base { asked, snapshot })
+            if snapshot.schema_id == sought.schema().id {
+                Ok(Phase::Base { sought, snapshot })
             } else {
                 let other = snapshot.schema_id;
-                drop(asked);
+                drop(sought);
                 drop(snapshot);
                 Err(damaged_schema(alloc, other))
             }
         }
         Err(SnapFault::Memory) => {
-            drop(asked);
+            drop(sought);
             Err(Refusal::Memory)
         }
         Err(SnapFault::Bad) => {
-            drop(asked);
+            drop(sought);
             Err(damaged_snapshot(alloc, id))
         }
     }
@@ -181,18 +205,18 @@ fn damaged_schema(alloc: Global, id: u64) -> Refusal
 /// The phase once this was found at the path of the base list.
 pub(crate) fn after_base(
     alloc: Global,
-    asked: Asked,
+    sought: Sought,
     snapshot: Snapshot,
     found: Option<Blob>,
 ) -> Result<Phase, Refusal>
-    ensures goes { IfOk result (Goes (phases.Base asked snapshot) (answers.Found found)) }
+    ensures goes { IfOk result (Goes (phases.Base sought snapshot) (answers.Found found)) }
     ensures is_viewer { IfOk result IsViewer }
-    ensures refuses { IfErr result (Shown (phases.Base asked snapshot) (answers.Found found)) }
+    ensures refuses { IfErr result (Shown (phases.Base sought snapshot) (answers.Found found)) }
 {
     let path = match manifest_path(alloc, &snapshot.base_list) {
         Ok(path) => path,
         Err(_) => {
-            drop(asked);
+            drop(sought);
             drop(snapshot);
             return Err(Refusal::Memory);
         }
@@ -201,19 +225,23 @@ pub(crate) fn after_base(
     match found {
         Some(bytes) => match read_list(alloc, path.as_str(), bytes) {
             Ok(base) => Ok(Phase::Delta {
-                asked,
+                sought,
                 snapshot,
                 base,
             }),
             Err(refusal) => {
-                drop(asked);
+                drop(sought);
                 drop(snapshot);
                 Err(refusal)
             }
         },
         None => {
             drop(snapshot);
-            Ok(Phase::Again { asked, id, path })
+            Ok(Phase::Again {
+                asked: sought.into_asked(),
+                id,
+                path,
+            })
         }
     }
 }
@@ -221,19 +249,19 @@ pub(crate) fn after_base(
 /// The phase once this was found at the path of the delta list.
 pub(crate) fn after_delta(
     alloc: Global,
-    asked: Asked,
+    sought: Sought,
     snapshot: Snapshot,
     base: Vec<ManifestMeta>,
     found: Option<Blob>,
 ) -> Result<Phase, Refusal>
-    ensures goes { IfOk result (Goes (phases.Delta asked snapshot base) (answers.Found found)) }
+    ensures goes { IfOk result (Goes (phases.Delta sought snapshot base) (answers.Found found)) }
     ensures is_viewer { IfOk result IsViewer }
-    ensures refuses { IfErr result (Shown (phases.Delta asked snapshot base) (answers.Found found)) }
+    ensures refuses { IfErr result (Shown (phases.Delta sought snapshot base) (answers.Found found)) }
 {
     let path = match manifest_path(alloc, &snapshot.delta_list) {
         Ok(path) => path,
         Err(_) => {
-            drop(asked);
+            drop(sought);
             drop(snapshot);
             drop(base);
             return Err(Refusal::Memory);
@@ -242,9 +270,9 @@ pub(crate) fn after_delta(
     let id = snapshot.id;
     match found {
         Some(bytes) => match read_list(alloc, path.as_str(), bytes) {
-            Ok(delta) => after_lists(alloc, asked, snapshot, base, delta),
+            Ok(delta) => after_lists(alloc, sought, snapshot, base, delta),
             Err(refusal) => {
-                drop(asked);
+                drop(sought);
                 drop(snapshot);
                 drop(base);
                 Err(refusal)
@@ -253,7 +281,11 @@ pub(crate) fn after_delta(
         None => {
             drop(snapshot);
             drop(base);
-            Ok(Phase::Again { asked, id, path })
+            Ok(Phase::Again {
+                asked: sought.into_asked(),
+                id,
+                path,
+            })
         }
     }
 }
@@ -261,28 +293,28 @@ pub(crate) fn after_delta(
 /// The phase once both lists were read.
 fn after_lists(
     alloc: Global,
-    asked: Asked,
+    sought: Sought,
     snapshot: Snapshot,
     base: Vec<ManifestMeta>,
     delta: Vec<ManifestMeta>,
 ) -> Result<Phase, Refusal>
-    ensures goes { IfOk result (Starts asked snapshot (base.items ++ delta.items)) }
+    ensures goes { IfOk result (Starts sought snapshot (base.items ++ delta.items)) }
     ensures is_viewer { IfOk result IsViewer }
-    ensures refuses { IfErr result (λ refusal. (refusal ≡ refusals.Memory)
-        ⊎ RefusesStart asked.schema (base.items ++ delta.items) refusal) }
+    ensures memory { IfErr result (λ refusal. refusal ≡ refusals.Memory) }
 {
     live_law();
     match joined(base, delta) {
         Ok(manifests) => go_on(
             alloc,
-            asked,
+            sought,
             snapshot,
             Vec::new(alloc),
             VecDeque::from(manifests),
             IndexMap::new(alloc),
+            Vec::new(alloc),
         ),
         Err(_) => {
-            drop(asked);
+            drop(sought);
             drop(snapshot);
             Err(Refusal::Memory)
         }
@@ -309,36 +341,38 @@ fn joined(
     }
 }
 
-/// The phase with these manifests read and those left, and these live files.
+/// The phase with these manifests read and those left, these live files and the entries that were kept.
 fn go_on(
     alloc: Global,
-    asked: Asked,
+    sought: Sought,
     snapshot: Snapshot,
     done: Vec<ManifestMeta>,
     left: VecDeque<ManifestMeta>,
     live: IndexMap<FileId, Entry>,
+    kept: Vec<Entry>,
 ) -> Result<Phase, Refusal>
     requires named { AreNamed (get id_eq live) }
-    requires folders { HaveFolders asked.schema (get id_eq live) }
-    ensures goes { IfOk result (GoesOn asked snapshot done.items left.items live.entries) }
+    requires folders { HaveFolders sought.asked.schema (get id_eq live) }
+    ensures goes { IfOk result (GoesOn sought snapshot done.items left.items live.entries kept.items) }
     ensures is_viewer { IfOk result IsViewer }
-    ensures refuses { IfErr result (λ refusal. (left.items ≡ []) × Overlaps asked.schema (get id_eq live) refusal) }
+    ensures refuses { IfErr result (λ refusal. (left.items ≡ []) × Overlaps sought.asked.schema (get id_eq live) refusal) }
 {
     let mut rest = left;
     match rest.pop_front() {
         Some(next) => Ok(Phase::Manifests {
             reading: Reading {
-                asked,
+                sought,
                 snapshot,
                 done,
                 next,
                 rest,
                 live,
+                kept,
             },
         }),
         None => {
             drop(rest);
-            match view_of(alloc, asked, snapshot, done, live) {
+            match view_of(alloc, sought, snapshot, done, live, kept) {
                 Ok(view) => Ok(Phase::Ready { view }),
                 Err(refusal) => Err(refusal),
             }
@@ -346,35 +380,64 @@ fn go_on(
     }
 }
 
-/// The view of a table at a snapshot with these manifests and live files.
+/// The view of a table at a snapshot with these manifests, live files and kept entries.
 fn view_of(
     alloc: Global,
-    asked: Asked,
+    sought: Sought,
     snapshot: Snapshot,
     manifests: Vec<ManifestMeta>,
     live: IndexMap<FileId, Entry>,
+    kept: Vec<Entry>,
 ) -> Result<View, Refusal>
     requires named { AreNamed (get id_eq live) }
-    requires folders { HaveFolders asked.schema (get id_eq live) }
-    ensures view { IfOk result (IsViewOf asked.schema snapshot manifests.items (get id_eq live)) }
+    requires folders { HaveFolders sought.asked.schema (get id_eq live) }
+    ensures view { IfOk result (IsViewOf sought.asked.schema snapshot manifests.items kept.items (get id_eq live)) }
+    ensures sought { IfOk result (IsSoughtBy sought) }
     ensures folders { IfOk result HasFolders }
-    ensures refuses { IfErr result (Overlaps asked.schema (get id_eq live)) }
+    ensures refuses { IfErr result (Overlaps sought.asked.schema (get id_eq live)) }
 {
-    let Asked { schema, .. } = asked;
-    match group_levels(alloc, &schema, live) {
-        Ok(groups) => Ok(View {
-            id: snapshot.id,
-            snapshot: Some(snapshot),
-            schema,
-            groups,
-            manifests,
-        }),
+    let Ok(entries) = live_entries(alloc, kept) else {
+        drop(sought);
+        drop(snapshot);
+        drop(manifests);
+        drop(live);
+        return Err(Refusal::Memory);
+    };
+    match group_levels(alloc, sought.schema(), live) {
+        Ok(groups) => Ok(view_with(sought, snapshot, manifests, groups, entries)),
         Err(refusal) => {
-            drop(schema);
+            drop(sought);
             drop(snapshot);
             drop(manifests);
+            drop(entries);
             Err(refusal)
         }
+    }
+}
+
+/// The view of a table at a snapshot with these manifests, groups and live entries.
+fn view_with(
+    sought: Sought,
+    snapshot: Snapshot,
+    manifests: Vec<ManifestMeta>,
+    groups: BTreeMap<Group, Levels>,
+    live: Vec<Entry>,
+) -> View
+    ensures table { (result.id ≡ snapshot.id) × (result.snapshot ≡ Some snapshot) × (result.schema ≡ sought.asked.schema) }
+    ensures parts { (result.groups ≡ groups) × (result.manifests ≡ manifests) × (result.live ≡ live) }
+    ensures sought { IsSoughtBy sought result }
+{
+    let Sought { asked, listed } = sought;
+    let Asked { schema, wanted } = asked;
+    View {
+        wanted,
+        id: snapshot.id,
+        snapshot: Some(snapshot),
+        schema,
+        listed,
+        groups,
+        manifests,
+        live,
     }
 }
 
@@ -403,15 +466,16 @@ pub(crate) fn after_manifest(
 
 /// The phase in which the snapshot is to be read again, since the next manifest, which is at this path, is absent.
 fn again(reading: Reading, path: Txt) -> Phase
-    ensures { result ≡ phases.Again reading.asked reading.snapshot.id path }
+    ensures { result ≡ phases.Again reading.sought.asked reading.snapshot.id path }
 {
     let Reading {
-        asked,
+        sought,
         snapshot,
         done,
         next,
         rest,
         live,
+        kept,
     } = reading;
     let id = snapshot.id;
     drop(snapshot);
@@ -419,7 +483,12 @@ fn again(reading: Reading, path: Txt) -> Phase
     drop(next);
     drop(rest);
     drop(live);
-    Phase::Again { asked, id, path }
+    drop(kept);
+    Phase::Again {
+        asked: sought.into_asked(),
+        id,
+        path,
+    }
 }
 
 /// The phase once these bytes were found at the path of the next manifest.
@@ -431,7 +500,7 @@ fn after_file(alloc: Global, reading: Reading, path: Txt, bytes: Blob) -> Result
 {
     read_entry_law();
     folder_law();
-    match read_manifest(alloc, path.as_str(), &reading.asked.schema, bytes) {
+    match read_manifest(alloc, path.as_str(), reading.sought.schema(), bytes) {
         Ok(entries) => after_entries(alloc, reading, path, entries),
         Err(refusal) => {
             drop(reading);
@@ -447,40 +516,69 @@ fn after_entries(
     path: Txt,
     entries: Vec<Entry>,
 ) -> Result<Phase, Refusal>
-    requires fit { AllByRecursion (λ (e : EntryView). FitsPartition reading.asked.schema e.group) entries.items }
+    requires fit { AllByRecursion (λ (e : EntryView). FitsPartition reading.sought.asked.schema e.group) entries.items }
     ensures goes { IfOk result (Takes reading entries.items) }
     ensures is_viewer { IfOk result IsViewer }
     ensures refuses { IfErr result (λ refusal. (refusal ≡ refusals.Memory)
         ⊎ RefusesEntries reading path entries.items refusal) }
 {
     let Reading {
-        asked,
+        sought,
         snapshot,
         done,
         next,
         rest,
         live,
+        kept,
     } = reading;
-    let (mut done, mut live) = (done, live);
+    let (mut done, mut live, mut kept) = (done, live, kept);
     live_law();
-    if let Err(refusal) = fold_entries(alloc, &mut live, path.as_str(), entries) {
-        drop(asked);
+    let wanted = sought.wanted();
+    if let Err(refusal) = take_in(alloc, wanted, path.as_str(), entries, &mut live, &mut kept) {
+        drop(sought);
         drop(snapshot);
         drop(done);
         drop(next);
         drop(rest);
         drop(live);
+        drop(kept);
         return Err(refusal);
     }
     if done.push(next).is_err() {
-        drop(asked);
+        drop(sought);
         drop(snapshot);
         drop(done);
         drop(rest);
         drop(live);
+        drop(kept);
         return Err(Refusal::Memory);
     }
-    go_on(alloc, asked, snapshot, done, rest, live)
+    go_on(alloc, sought, snapshot, done, rest, live, kept)
+}
+
+/// Takes the entries of the manifest at a path into the live files, and into those that are kept, where they are asked
+/// for.
+fn take_in(
+    alloc: Global,
+    wanted: Wanted,
+    path: &str,
+    entries: Vec<Entry>,
+    live: &mut IndexMap<FileId, Entry>,
+    kept: &mut Vec<Entry>,
+) -> Result<(), Refusal>
+    ensures order { OnOk result (AreInOrder (get id_eq live.old) entries.items) }
+    ensures left { OnOk result (Leaves (get id_eq live.old) entries.items (get id_eq live.new)) }
+    ensures kept { OnOk result (kept.new.items ≡ kept.old.items ++ kept_for wanted entries.items) }
+    ensures refused { IfErr result (λ refusal. (refusal ≡ refusals.Memory)
+        ⊎ Refuses path.now entries.items (get id_eq live.old) (get id_eq live.new) refusal) }
+{
+    match keep(alloc, wanted, kept, entries.as_slice()) {
+        Ok(()) => fold_entries(alloc, live, path, entries),
+        Err(_) => {
+            drop(entries);
+            Err(Refusal::Memory)
+        }
+    }
 }
 
 /// The refusal once this was found at the path of the snapshot, after the file at a path that it names was absent.

@@ -14,6 +14,7 @@
 mod after;
 mod asked;
 mod laws;
+mod live;
 mod machine;
 mod names;
 mod paths;
@@ -22,8 +23,8 @@ mod reader;
 mod reading;
 mod view;
 
-pub use asked::{Asked, Wanted};
-pub use laws::{absent_law, images_law, known_law};
+pub use asked::{Asked, Sought, Wanted};
+pub use laws::{absent_law, causes_law, entries_law, images_law, known_law, listed_law};
 pub use phase::Phase;
 pub use reader::{ViewReader, ViewStep};
 pub use reading::Reading;

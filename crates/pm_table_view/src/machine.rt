@@ -31,8 +31,8 @@ impl Machine for ViewReader {
     fn call(&self, alloc: Global) -> Result<Option<Call>, AllocError> {
         match &self.phase {
             Phase::List { .. } => Ok(Some(Call::list(alloc, "snapshot")?)),
-            Phase::Origin { asked } => Ok(Some(Call::Read {
-                path: origin_path(alloc, &asked.schema)?,
+            Phase::Origin { sought } => Ok(Some(Call::Read {
+                path: origin_path(alloc, sought.schema())?,
             })),
             Phase::Snapshot { id, .. } | Phase::Again { id, .. } => Ok(Some(Call::Read {
                 path: snapshot_path(alloc, *id)?,
@@ -91,22 +91,22 @@ fn next_phase(alloc: Global, phase: Phase, answer: Answer) -> Result<Phase, Refu
     ensures refuses { IfErr result (Shown phase answer) }
 {
     match (phase, answer) {
-        (Phase::List { asked }, Answer::Listed(names)) => after_list(asked, names),
-        (Phase::Origin { asked }, Answer::Found(found)) => after_origin(alloc, asked, found),
-        (Phase::Snapshot { asked, id }, Answer::Found(found)) => {
-            after_snapshot(alloc, asked, id, found)
+        (Phase::List { asked }, Answer::Listed(names)) => after_list(alloc, asked, names),
+        (Phase::Origin { sought }, Answer::Found(found)) => after_origin(alloc, sought, found),
+        (Phase::Snapshot { sought, id }, Answer::Found(found)) => {
+            after_snapshot(alloc, sought, id, found)
         }
-        (Phase::Base { asked, snapshot }, Answer::Found(found)) => {
-            after_base(alloc, asked, snapshot, found)
+        (Phase::Base { sought, snapshot }, Answer::Found(found)) => {
+            after_base(alloc, sought, snapshot, found)
         }
         (
             Phase::Delta {
-                asked,
+                sought,
                 snapshot,
                 base,
             },
             Answer::Found(found),
-        ) => after_delta(alloc, asked, snapshot, base, found),
+        ) => after_delta(alloc, sought, snapshot, base, found),
         (Phase::Manifests { reading }, Answer::Found(found)) => {
             after_manifest(alloc, reading, found)
         }

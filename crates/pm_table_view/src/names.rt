@@ -1,10 +1,45 @@
-//! The latest snapshot that names list.
+//! The ids of the snapshots that names list, and the latest of them.
 
-ghost use Rattle.std.specs.Prelude.{◌≡◌, max};
-ghost use Rattle.pm_table_view.specs.Names.{id_or_none, latest_from, IsLatest};
+ghost use Rattle.std.specs.Prelude.{◌≡◌, max, IfOk};
+ghost use Rattle.std.specs.List.{filter_map};
+ghost use Rattle.pm_table_view.specs.Names.{id_or_none, latest_from, listed_id, AreIds, IsLatest};
 
 use pm_base::Txt;
 use pm_snapshot::id_of_name;
+use std::alloc::{AllocError, Global};
+
+/// The ids of the snapshots that names list, the origin left out, rising.
+pub(crate) fn ids_of(alloc: Global, names: &[Txt]) -> Result<Vec<u64>, AllocError>
+    ensures { IfOk result (λ ids. AreIds names.now ids.items) }
+{
+    let mut ids = listed_ids(alloc, names)?;
+    ids.sort()?;
+    ids.dedup();
+    Ok(ids)
+}
+
+/// These ids in the order of the names.
+fn listed_ids(alloc: Global, names: &[Txt]) -> Result<Vec<u64>, AllocError>
+    ensures { IfOk result (λ ids. ids.items ≡ filter_map listed_id names.now) }
+{
+    let mut ids = Vec::new(alloc);
+    for name in names {
+        if let Some(id) = listed_id(name.as_bytes()) {
+            ids.push(id)?;
+        }
+    }
+    Ok(ids)
+}
+
+/// The id in the name of a snapshot, not of the origin.
+fn listed_id(name: &[u8]) -> Option<u64>
+    ensures { result ≡ listed_id name.now }
+{
+    match id_of_name(name) {
+        Some(id) if 0 < id => Some(id),
+        _ => None,
+    }
+}
 
 /// The id of the latest snapshot that names list, 0 where they list no greater one.
 pub(crate) fn latest_of(names: &[Txt]) -> u64

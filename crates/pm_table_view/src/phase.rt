@@ -1,6 +1,6 @@
 //! How far the reading of a view has come.
 
-use crate::asked::Asked;
+use crate::asked::{Asked, Sought};
 use crate::reading::Reading;
 use crate::view::View;
 use pm_base::Txt;
@@ -16,18 +16,18 @@ pub enum Phase {
         asked: Asked,
     },
     Origin {
-        asked: Asked,
+        sought: Sought,
     },
     Snapshot {
-        asked: Asked,
+        sought: Sought,
         id: u64,
     },
     Base {
-        asked: Asked,
+        sought: Sought,
         snapshot: Snapshot,
     },
     Delta {
-        asked: Asked,
+        sought: Sought,
         snapshot: Snapshot,
         base: Vec<ManifestMeta>,
     },

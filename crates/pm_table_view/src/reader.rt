@@ -75,6 +75,19 @@ impl ViewReader {
         }
     }
 
+    /// A reader of the table with this schema, which was just read, at its latest snapshot, that keeps the entries of the
+    /// live files.
+    pub fn entries(schema: TableSchema) -> ViewReader
+        requires { IsDeclared schema }
+        ensures { result ≡ phases.List (asked_of schema wants.Entries) }
+    {
+        ViewReader {
+            phase: Phase::List {
+                asked: Asked::new(schema, Wanted::Entries),
+            },
+        }
+    }
+
     /// Whether the view is ready.
     pub fn is_ready(&self) -> bool
         ensures { IsTrue result ↔ IsReady self.now }

@@ -10,15 +10,12 @@ returns-in-Ok-read_list-clause-goes c =
     let at : c.as_str.result.now ≡ manifest_path c.args.snapshot.delta_list = search rules in
     let is : c.args.found ≡ Some c.in-Some.bytes = search rules in
     if_ok c.after_lists.result _ _
-    (λ (later : Phase) starts. delta_goes c.args.asked c.args.snapshot c.args.base c.args.found c.as_str.result.now c.in-Some.bytes
+    (λ (later : Phase) starts. delta_goes c.args.sought c.args.snapshot c.args.base c.args.found c.as_str.result.now c.in-Some.bytes
     c.in-Ok-read_list.delta.items later at is c.in-Ok-read_list.ensures starts)
     c.after_lists.ensures.goes
 
 pub returns-in-Ok-read_list-clause-refuses : goal.returns-in-Ok-read_list-clause-refuses
 returns-in-Ok-read_list-clause-refuses c =
-    let at : c.as_str.result.now ≡ manifest_path c.args.snapshot.delta_list = search rules in
-    let is : c.args.found ≡ Some c.in-Some.bytes = search rules in
     if_err c.after_lists.result _ _
-    (λ (refusal : Refusal) refuses. delta_shown c.args.asked c.args.snapshot c.args.base c.args.found c.as_str.result.now c.in-Some.bytes
-    c.in-Ok-read_list.delta.items refusal at is c.in-Ok-read_list.ensures refuses)
-    c.after_lists.ensures.refuses
+    (λ (refusal : Refusal) memory. delta_shown c.args.sought c.args.snapshot c.args.base c.args.found refusal memory)
+    c.after_lists.ensures.memory

@@ -12,38 +12,38 @@ use Rattle.pm_table_view.proofs.after.after_entries.Goals as goal
 
 pub returns-in-Err-clause-refuses : goal.returns-in-Err-clause-refuses
 returns-in-Err-clause-refuses c =
-    let r : ReadingView = reading_of c.reading.inside.asked c.reading.inside.snapshot c.reading.inside.done.items c.reading.inside.next
-    c.reading.inside.rest.items c.reading.inside.live.entries in
-    entries_refused c.args.reading r c.args.path c.args.entries.items (get id_eq c.fold_entries.new.live) c.in-Err.refusal
+    let r : ReadingView = reading_of c.reading.inside.sought c.reading.inside.snapshot c.reading.inside.done.items c.reading.inside.next
+    c.reading.inside.rest.items c.reading.inside.live.entries c.reading.inside.kept.items in
+    entries_refused c.args.reading r c.args.path c.args.entries.items (get id_eq c.take_in.new.live) c.in-Err.refusal
     c.reading.view_is (rw c.as_str.ensures at c.in-Err.ensures.refused)
 
 pub go_on-requires-clause-named : goal.go_on-requires-clause-named
 go_on-requires-clause-named c =
-    c.live_law.ensures.named (get id_eq c.reading.inside.live) (get id_eq c.fold_entries.new.live) c.args.entries.items c.reading.invariant.0
+    c.live_law.ensures.named (get id_eq c.reading.inside.live) (get id_eq c.take_in.new.live) c.args.entries.items c.reading.invariant.0
     c.in_default.ensures.left
 
 pub go_on-requires-clause-folders : goal.go_on-requires-clause-folders
 go_on-requires-clause-folders c =
-    c.live_law.ensures.folders c.reading.inside.asked.schema (get id_eq c.reading.inside.live) (get id_eq c.fold_entries.new.live) c.args.entries.items
+    c.live_law.ensures.folders c.reading.inside.sought.asked.schema (get id_eq c.reading.inside.live) (get id_eq c.take_in.new.live) c.args.entries.items
     c.reading.invariant.1
-    (subst (λ (r : ReadingView). AllByRecursion (λ (e : Entry). FitsPartition r.asked.schema e.group) c.args.entries.items) (sym c.reading.view_is) c.requires.fit)
+    (subst (λ (r : ReadingView). AllByRecursion (λ (e : Entry). FitsPartition r.sought.asked.schema e.group) c.args.entries.items) (sym c.reading.view_is) c.requires.fit)
     c.in_default.ensures.left
 
 pub returns-clause-goes : goal.returns-clause-goes
 returns-clause-goes c =
-    let r : ReadingView = reading_of c.reading.inside.asked c.reading.inside.snapshot c.reading.inside.done.items c.reading.inside.next
-    c.reading.inside.rest.items c.reading.inside.live.entries in
+    let r : ReadingView = reading_of c.reading.inside.sought c.reading.inside.snapshot c.reading.inside.done.items c.reading.inside.next
+    c.reading.inside.rest.items c.reading.inside.live.entries c.reading.inside.kept.items in
     let more : c.push.new.self.items ≡ c.reading.inside.done.items ++ c.reading.inside.next ∷ [] = search rules in
     if_ok c.go_on.result _ _
-    (λ (later : Phase) on. entries_taken c.args.reading r c.args.entries.items c.fold_entries.new.live.entries c.push.new.self.items later c.reading.view_is
-    c.in_default.ensures.order c.in_default.ensures.left more on)
+    (λ (later : Phase) on. entries_taken c.args.reading r c.args.entries.items c.take_in.new.live.entries c.push.new.self.items c.take_in.new.kept.items later
+    c.reading.view_is c.in_default.ensures.order c.in_default.ensures.left more (search rules) on)
     c.go_on.ensures.goes
 
 pub returns-clause-refuses : goal.returns-clause-refuses
 returns-clause-refuses c =
-    let r : ReadingView = reading_of c.reading.inside.asked c.reading.inside.snapshot c.reading.inside.done.items c.reading.inside.next
-    c.reading.inside.rest.items c.reading.inside.live.entries in
+    let r : ReadingView = reading_of c.reading.inside.sought c.reading.inside.snapshot c.reading.inside.done.items c.reading.inside.next
+    c.reading.inside.rest.items c.reading.inside.live.entries c.reading.inside.kept.items in
     if_err c.go_on.result _ _
-    (λ (refusal : Refusal) over. entries_overlap c.args.reading r c.args.path c.args.entries.items c.fold_entries.new.live.entries refusal c.reading.view_is
+    (λ (refusal : Refusal) over. entries_overlap c.args.reading r c.args.path c.args.entries.items c.take_in.new.live.entries refusal c.reading.view_is
     c.in_default.ensures.order c.in_default.ensures.left over)
     c.go_on.ensures.refuses
