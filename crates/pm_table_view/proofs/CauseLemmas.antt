@@ -66,7 +66,7 @@ pub record ReaderLaws : Type 0 where
   pub contents : OneContents
 
 -- a fault of bytes that have none can only be that memory ran out
-only_memory : (f : Files) (p : Past) (e : Refusal) → IsFileFault e → (e ≢ refusals.Memory → ⊥) → MayRefuse f p e
+pub only_memory : (f : Files) (p : Past) (e : Refusal) → IsFileFault e → (e ≢ refusals.Memory → ⊥) → MayRefuse f p e
 only_memory f p refusals.Memory fault never = tt
 only_memory f p (refusals.Damaged path place) fault never = absurd (never (λ e. cc))
 only_memory f p (refusals.Unsupported what text) fault never = absurd (never (λ e. cc))
@@ -80,14 +80,14 @@ fault_clash xs e same = cc
 err_other : {X : Type 0} (e : Refusal) → e ≢ refusals.Memory → ◌≢◌ {A = Result (List X) Refusal} (Err e) (Err refusals.Memory)
 err_other e other same = other (let it : e ≡ refusals.Memory = cc in it)
 
-list_reads : OneList → (g : Files) (name bytes : List ℕ) (xs : List ManifestMeta) (e : Refusal) → IsList g name xs → map.get g (manifest_path name) ≡ Some bytes
+pub list_reads : OneList → (g : Files) (name bytes : List ℕ) (xs : List ManifestMeta) (e : Refusal) → IsList g name xs → map.get g (manifest_path name) ≡ Some bytes
     → MisreadsList (manifest_path name) bytes e → e ≢ refusals.Memory → ⊥
 list_reads law g name bytes xs e list found fault other =
     let same : bytes ≡ list.bytes = bytes_same bytes list.bytes (sym found ∙ list.there) in
     fault_clash xs e (law has_meta_fields meta_in (manifest_path name) list.bytes (Ok xs) (Err e) list.read
     (subst (λ (bytes : List ℕ). MisreadsList (manifest_path name) bytes e) same fault) (fault_clash xs refusals.Memory) (err_other e other))
 
-manifest_reads : OneManifest → (g : Files) (s : TableSchema) (name bytes : List ℕ) (xs : List Entry) (e : Refusal) → IsManifest g s name xs
+pub manifest_reads : OneManifest → (g : Files) (s : TableSchema) (name bytes : List ℕ) (xs : List Entry) (e : Refusal) → IsManifest g s name xs
     → map.get g (manifest_path name) ≡ Some bytes → MisreadsManifest s (manifest_path name) bytes e → e ≢ refusals.Memory → ⊥
 manifest_reads law g s name bytes xs e is found fault other =
     let same : bytes ≡ is.bytes = bytes_same bytes is.bytes (sym found ∙ is.there) in
@@ -97,7 +97,7 @@ manifest_reads law g s name bytes xs e is found fault other =
 entries_same : (xs ys : List Entry) → ◌≡◌ {A = Result (List Entry) Refusal} (Ok xs) (Ok ys) → xs ≡ ys
 entries_same xs ys e = cc
 
-one_manifest : OneManifest → (g : Files) (s : TableSchema) (name : List ℕ) (xs ys : List Entry) → IsManifest g s name xs → IsManifest g s name ys → xs ≡ ys
+pub one_manifest : OneManifest → (g : Files) (s : TableSchema) (name : List ℕ) (xs ys : List Entry) → IsManifest g s name xs → IsManifest g s name ys → xs ≡ ys
 one_manifest law g s name xs ys one two =
     let same : two.bytes ≡ one.bytes = bytes_same two.bytes one.bytes (sym two.there ∙ one.there) in
     entries_same xs ys (law has_entry_fields (entry_in (shape_of s)) (manifest_path name) one.bytes (Ok xs) (Ok ys) one.read
@@ -121,7 +121,7 @@ pub record Next (g : Files) (s : TableSchema) (done : List ManifestMeta) (meta :
   pub have : HaveEntries g s done before
   pub is : IsManifest g s meta.name own
 
-next_of : (g : Files) (s : TableSchema) (done : List ManifestMeta) (meta : ManifestMeta) (rest : List ManifestMeta) (es : List Entry)
+pub next_of : (g : Files) (s : TableSchema) (done : List ManifestMeta) (meta : ManifestMeta) (rest : List ManifestMeta) (es : List Entry)
     → HaveEntries g s (done ++ meta ∷ rest) es → Next g s done meta es
 next_of g s [] meta rest es (own, later, split, is, have) = record { before = []; own = own; after = later; split = split; have = refl; is = is }
 next_of g s (first ∷ done) meta rest es (own, later, split, is, have) =
@@ -224,17 +224,17 @@ gone_origin : (f : Files) (o : Option (List ℕ)) → None ≡ map.get f (snapsh
 gone_origin f None none there = there
 gone_origin f (Some name) none there = some-none (map.get f (snapshot_file name)) there (sym none)
 
-gone_snapshot : (f : Files) (s : TableSchema) (id : ℕ) → 1 ≤ id → None ≡ map.get f (snapshot_path id) → HasSnapshotAt f s id → ⊥
+pub gone_snapshot : (f : Files) (s : TableSchema) (id : ℕ) → 1 ≤ id → None ≡ map.get f (snapshot_path id) → HasSnapshotAt f s id → ⊥
 gone_snapshot f s zero least none there = omega (arith, least)
 gone_snapshot f s (suc id) least none there = some-none (map.get f (snapshot_path (suc id))) there (sym none)
 
-expired : (f : Files) (p : Past) (s : TableSchema) (id : ℕ) (refusal : Refusal) → IsTableOf s p.history → id ≤ count_of p.history → (HasSnapshotAt f s id → ⊥)
+pub expired : (f : Files) (p : Past) (s : TableSchema) (id : ℕ) (refusal : Refusal) → IsTableOf s p.history → id ≤ count_of p.history → (HasSnapshotAt f s id → ⊥)
     → refusal ≡ refusals.Expired id → MayRefuse f p refusal
 expired f p s id refusal table within absent is =
     subst (MayRefuse f p) (sym is) (record { schema = s; table = table; within = within; absent = absent })
 
 -- the bytes of a snapshot that is there are those of one of the table
-bad_not : (f : Files) (p : Past) (s : TableSchema) (id : ℕ) (bytes : List ℕ) (refusal : Refusal) → Stands f p → IsTableOf s p.history → 1 ≤ id → id ≤ greatest
+pub bad_not : (f : Files) (p : Past) (s : TableSchema) (id : ℕ) (bytes : List ℕ) (refusal : Refusal) → Stands f p → IsTableOf s p.history → 1 ≤ id → id ≤ greatest
     → Some bytes ≡ map.get f (snapshot_path id) → IsBad s id bytes refusal → ⊥
 bad_not f p s id bytes refusal stands table least within found bad =
     let own = at-table f p s stands table in
@@ -311,7 +311,7 @@ cause_at laws (phases.Again a id path) (answers.Found (Some bytes)) refusal f p 
     absurd (let clash : Some bytes ≡ None = told ∙ gone.absent in cc)
 cause_at laws m answer refusal f p shown stands known = absurd shown
 
-at_call : (o : Option Call) (call : Call) (P : Call → Type 0) → o ≡ Some call → IfSome o P → P call
+pub at_call : (o : Option Call) (call : Call) (P : Call → Type 0) → o ≡ Some call → IfSome o P → P call
 at_call None call P is if = cc
 at_call (Some own) call P is if = let same : own ≡ call = cc in subst P same if
 

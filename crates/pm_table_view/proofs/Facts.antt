@@ -67,12 +67,12 @@ use Rattle.pm_table_view.proofs.LiveLemmas.{kept_join, kept_none}
 
 -- ---- its calls change nothing
 
-both_if : (next : Option Call) (P Q R : Call → Type 0) → ((call : Call) → P call → Q call → R call) → IfSome next P → IfSome next Q → IfSome next R
+pub both_if : (next : Option Call) (P Q R : Call → Type 0) → ((call : Call) → P call → Q call → R call) → IfSome next P → IfSome next Q → IfSome next R
 both_if None P Q R weaker one two = tt
 both_if (Some call) P Q R weaker one two = weaker call one two
 
 -- each effect leaves the files as they are
-abbrev IsStill : Files → Call → Type 0
+abbrev pub IsStill : Files → Call → Type 0
 IsStill f call = (effect : Effect) → after_effect call effect f ≡ f
 
 rests : (m : Phase) (f : Files) → IfSome (next_call m) (IsStill f)
@@ -112,7 +112,7 @@ pub leaves_more : Joined → (entries later : List Entry) (mid after : Live) →
 leaves_more law entries later mid after first then_left id =
     then_left id ∙ ap (λ (o : Option Entry). live_at o id later) (first id) ∙ sym (law.0 (none_live id) id entries later)
 
-entries_push : (f : Files) (s : TableSchema) (metas : List ManifestMeta) (meta : ManifestMeta) (entries own : List Entry) → HaveEntries f s metas entries
+pub entries_push : (f : Files) (s : TableSchema) (metas : List ManifestMeta) (meta : ManifestMeta) (entries own : List Entry) → HaveEntries f s metas entries
     → IsManifest f s meta.name own → HaveEntries f s (metas ++ meta ∷ []) (entries ++ own)
 entries_push f s [] meta entries own none is =
     subst (λ (es : List Entry). HaveEntries f s (meta ∷ []) (es ++ own)) (sym none) (own, [], sym (append-nil own), is, refl)
@@ -179,13 +179,13 @@ pub some_there : (f : Files) (path bytes : List ℕ) → map.get f path ≡ Some
 some_there f path bytes there = subst (λ (o : Option (List ℕ)). IsSome o) (sym there) refl
 
 -- a manifest of a snapshot's lists is there
-have_at : (f : Files) (s : TableSchema) (done : List ManifestMeta) (next : ManifestMeta) (rest : List ManifestMeta) (entries : List Entry)
+pub have_at : (f : Files) (s : TableSchema) (done : List ManifestMeta) (next : ManifestMeta) (rest : List ManifestMeta) (entries : List Entry)
     → HaveEntries f s (done ++ next ∷ rest) entries → IsSome (map.get f (manifest_path next.name))
 have_at f s [] next rest entries (own, later, split, read, have) = some_there f (manifest_path next.name) read.bytes read.there
 have_at f s (meta ∷ done) next rest entries (own, later, split, read, have) = have_at f s done next rest later have
 
 -- a snapshot that was read stood so
-stood_new : (f : Files) (p : Past) (s : TableSchema) (id : ℕ) (bytes : List ℕ) (x : Snapshot) → Stands f p → IsTableOf s p.history → 1 ≤ id → id ≤ greatest
+pub stood_new : (f : Files) (p : Past) (s : TableSchema) (id : ℕ) (bytes : List ℕ) (x : Snapshot) → Stands f p → IsTableOf s p.history → 1 ≤ id → id ≤ greatest
     → Some bytes ≡ map.get f (snapshot_path id) → snapshot_in id bytes ≡ Ok x → x.schema_id ≡ s.id → Stood p s x
 stood_new f p s id bytes x stands table least within told reads schema =
     let same : id ≡ x.id = sym (id_same id bytes x reads) in
@@ -214,7 +214,7 @@ module _ (f : Files) (p : Past) (s : TableSchema) (x : Snapshot) (stands : Stand
   found_stood bytes told = stood-same f p s x.id path bytes stands stood.table stood.known needed (sym told)
 
   -- where one is absent at which a file stood, it has gone
-  gone_now : IsSome (map.get (p.stood x.id) path) → None ≡ map.get f path → HasGone f p s x.id
+  pub gone_now : IsSome (map.get (p.stood x.id) path) → None ≡ map.get f path → HasGone f p s x.id
   gone_now there told = record {
     table = stood.table;
     known = stood.known;
@@ -337,7 +337,7 @@ knows_next law one_law m answer new f p goes stands known = absurd goes
 over_knows : (new : Phase) (f : Files) (p : Past) → new ≡ phases.Over → Knows new f p
 over_knows new f p over = subst (λ (m : Phase). Knows m f p) (sym over) tt
 
-kept_same : (f after : Files) (p : Past) → after ≡ f → IsKept f p after p
+pub kept_same : (f after : Files) (p : Past) → after ≡ f → IsKept f p after p
 kept_same f after p same = record { files = λ q. ap (λ (g : Files). map.get g q) same; past = refl }
 
 leads_still : (m new : Phase) (f after : Files) (p : Past) → after ≡ f → Knows new f p → Leads (LeavesFiles m) (Knows new) f p after
@@ -361,7 +361,7 @@ sound law one_law = record {
 
 -- ---- its calls
 
-read_push : (s : TableSchema) (metas : List ManifestMeta) (meta : ManifestMeta) (entries own : List Entry) (bytes : List ℕ) (events : List Event)
+pub read_push : (s : TableSchema) (metas : List ManifestMeta) (meta : ManifestMeta) (entries own : List Entry) (bytes : List ℕ) (events : List Event)
     → HaveRead s metas entries events → IsManifestOf s (manifest_path meta.name) bytes own
     → HaveRead s (metas ++ meta ∷ []) (entries ++ own) (events ++ read_file (manifest_path meta.name) (Some bytes) ∷ [])
 read_push s [] meta entries own bytes events (none, quiet) is =
@@ -687,11 +687,11 @@ steps_on (Failed call at came stop) left = tt
 -- ---- laws
 
 -- there is a table of the schema
-table_still : (other : Actor) (f after : Files) (p q : Past) (s : TableSchema) → Advances other f p after q → IsTableOf s p.history → IsTableOf s q.history
+pub table_still : (other : Actor) (f after : Files) (p q : Past) (s : TableSchema) → Advances other f p after q → IsTableOf s p.history → IsTableOf s q.history
 table_still other f after p q s advances is = still_table s p.history q.history (goes_on other f after p.history q.history advances.change) is
 
 -- the snapshot stood so
-stood_still : (other : Actor) (f after : Files) (p q : Past) (s : TableSchema) (x : Snapshot) → Advances other f p after q → Stood p s x → Stood q s x
+pub stood_still : (other : Actor) (f after : Files) (p q : Past) (s : TableSchema) (x : Snapshot) → Advances other f p after q → Stood p s x → Stood q s x
 stood_still other f after p q s x advances stood = record {
   table = table_still other f after p q s advances stood.table;
   known = known-still other f after p q x.id advances stood.known;

@@ -5,5 +5,8 @@ pub mod Facts
 mod FaultLemmas
 mod ListedLemmas
 mod LiveLemmas
+mod LogAfterLemmas
+mod LogCauseLemmas
+pub mod LogFacts
 mod NameLemmas
 mod TwoLemmas

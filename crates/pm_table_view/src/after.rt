@@ -183,7 +183,7 @@ fn after_bytes(alloc: Global, sought: Sought, id: u64, bytes: Blob) -> Result<Ph
 }
 
 /// The refusal of the snapshot's file with an id, whose path may take memory.
-fn damaged_snapshot(alloc: Global, id: u64) -> Refusal
+pub(crate) fn damaged_snapshot(alloc: Global, id: u64) -> Refusal
     ensures { IsMemoryOr (refusals.Damaged (snapshot_path id) 0) result }
 {
     match snapshot_path(alloc, id) {
@@ -193,7 +193,7 @@ fn damaged_snapshot(alloc: Global, id: u64) -> Refusal
 }
 
 /// The refusal of the schema's file with an id, whose path may take memory.
-fn damaged_schema(alloc: Global, id: u64) -> Refusal
+pub(crate) fn damaged_schema(alloc: Global, id: u64) -> Refusal
     ensures { IsMemoryOr (refusals.Damaged (schema_path id) 0) result }
 {
     match schema_path(alloc, id) {
