@@ -9,4 +9,5 @@ mod LogAfterLemmas
 mod LogCauseLemmas
 pub mod LogFacts
 mod NameLemmas
+mod NamedLemmas
 mod TwoLemmas

@@ -21,10 +21,11 @@ use Rattle.pm_table_view.specs.Reader.{most, IsListOf, IsManifestOf, MisreadsMan
 use Rattle.pm_table_view.specs.declared.log_phase.LogPhase.{LogPhase}
 use Rattle.pm_table_view.specs.declared.log_phase.LogPhase.TheVariants as phases
 
-pub opens_none : (a : LogAskedView) (x : Snapshot) (o : Option (List ℕ)) (changes : List Entry) (later : LogPhase) → o ≡ None → changes ≡ []
-    → GoesOn a x [] [] changes later → Opens a x o later
-opens_none a x o changes later none empty on =
-    subst (λ (o : Option (List ℕ)). Opens a x o later) (sym none) (subst (λ (es : List Entry). GoesOn a x [] [] es later) empty on)
+pub opens_none : (a : LogAskedView) (x : Snapshot) (o : Option (List ℕ)) (done : List ManifestMeta) (changes : List Entry) (later : LogPhase) → o ≡ None → done ≡ []
+    → changes ≡ [] → GoesOn a x done [] changes later → Opens a x o later
+opens_none a x o done changes later none first empty on =
+    subst (λ (o : Option (List ℕ)). Opens a x o later) (sym none)
+    (subst (λ (es : List Entry). GoesOn a x [] [] es later) empty (subst (λ (ms : List ManifestMeta). GoesOn a x ms [] changes later) first on))
 
 pub list_goes : (a : LogAskedView) (x : Snapshot) (list : List ℕ) (found : Option (List ℕ)) (path bytes : List ℕ) (metas : List ManifestMeta) (later : LogPhase)
     → path ≡ manifest_path list → found ≡ Some bytes → ReadsFile has_meta_fields meta_in path bytes (Ok metas) → length metas ≤ most → GoesOn a x [] metas [] later

@@ -65,14 +65,13 @@ rests phases.Over f = tt
 
 -- ---- what it knows
 
-log_in : (p : Past) (s : TableSchema) (x : Snapshot) (changes : List Entry) (l : Log) (metas : List ManifestMeta) → IsLogOf s x changes l → Stood p s x
+log_in : (p : Past) (s : TableSchema) (x : Snapshot) (changes : List Entry) (l : Log) (metas : List ManifestMeta) → IsLogOf s x metas changes l → Stood p s x
     → HasChangelog (p.stood x.id) s x.changelog_list metas changes → IsLogIn p l
 log_in p s x changes l metas is stood has =
-    let both : Stood p l.schema l.snapshot × HasChangelog (p.stood l.snapshot.id) l.schema l.snapshot.changelog_list metas l.changes.items =
-    subst (λ (s : TableSchema). Stood p s l.snapshot × HasChangelog (p.stood l.snapshot.id) s l.snapshot.changelog_list metas l.changes.items) (sym is.schema)
-    (subst (λ (y : Snapshot). Stood p s y × HasChangelog (p.stood y.id) s y.changelog_list metas l.changes.items) (sym is.snapshot)
-    (subst (λ (es : List Entry). Stood p s x × HasChangelog (p.stood x.id) s x.changelog_list metas es) (sym is.entries) (stood, has))) in
-    (metas, both.0, both.1)
+    subst (λ (s : TableSchema). Stood p s l.snapshot × HasChangelog (p.stood l.snapshot.id) s l.snapshot.changelog_list l.manifests.items l.changes.items) (sym is.schema)
+    (subst (λ (y : Snapshot). Stood p s y × HasChangelog (p.stood y.id) s y.changelog_list l.manifests.items l.changes.items) (sym is.snapshot)
+    (subst (λ (ms : List ManifestMeta). Stood p s x × HasChangelog (p.stood x.id) s x.changelog_list ms l.changes.items) (sym is.manifests)
+    (subst (λ (es : List Entry). Stood p s x × HasChangelog (p.stood x.id) s x.changelog_list metas es) (sym is.entries) (stood, has))))
 
 -- the changelog list that a snapshot names is known with what it named
 pub changelog_of : (p : Past) (s : TableSchema) (x : Snapshot) (c : Contents) (list : List ℕ) → HasContents (p.stood x.id) s x c → x.changelog_list ≡ Some list
@@ -85,9 +84,9 @@ knows_on : (f : Files) (p : Past) (a : LogAskedView) (x : Snapshot) (done rest :
     → HaveEntries (p.stood x.id) a.schema done changes → AllByRecursion IsChangelogEntry changes → Knows new f p
 knows_on f p a x done [] changes new list metas (l, log, is) stood id named listed parts have each =
     let whole : metas ≡ done = parts ∙ append-nil done in
-    let all : HaveEntries (p.stood x.id) a.schema metas changes = subst (λ (ms : List ManifestMeta). HaveEntries (p.stood x.id) a.schema ms changes) (sym whole) have in
-    subst (λ (m : LogPhase). Knows m f p) (sym is) (log_in p a.schema x changes l metas log stood
-    (subst (λ (o : Option (List ℕ)). HasChangelog (p.stood x.id) a.schema o metas changes) (sym named) (listed, all, each)))
+    let own : IsList (p.stood x.id) list done = subst (IsList (p.stood x.id) list) whole listed in
+    subst (λ (m : LogPhase). Knows m f p) (sym is) (log_in p a.schema x changes l done log stood
+    (subst (λ (o : Option (List ℕ)). HasChangelog (p.stood x.id) a.schema o done changes) (sym named) (own, have, each)))
 knows_on f p a x done (meta ∷ rest) changes new list metas is stood id named listed parts have each =
     subst (λ (m : LogPhase). Knows m f p) (sym is) (stood, id, (list, metas, named, listed, parts, have, each))
 
@@ -381,10 +380,9 @@ steps_on (Failed call at came stop) left = tt
 -- ---- laws
 
 log_still : (other : Actor) (f after : Files) (p q : Past) (l : Log) → Advances other f p after q → IsLogIn p l → IsLogIn q l
-log_still other f after p q l advances (metas, stood, has) = (
-  metas,
+log_still other f after p q l advances (stood, has) = (
   stood_still other f after p q l.schema l.snapshot advances stood,
-  subst (λ (g : Files). HasChangelog g l.schema l.snapshot.changelog_list metas l.changes.items) (sym (advances.same l.snapshot.id stood.known)) has,
+  subst (λ (g : Files). HasChangelog g l.schema l.snapshot.changelog_list l.manifests.items l.changes.items) (sym (advances.same l.snapshot.id stood.known)) has,
 )
 
 pub knows_still : (m : LogPhase) (other : Actor) (f after : Files) (p q : Past) → Stands f p → Advances other f p after q → Knows m f p → Knows m after q

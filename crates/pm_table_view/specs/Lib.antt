@@ -5,6 +5,7 @@ pub mod LogReader
 pub mod LogTrace
 pub mod Meaning
 pub mod Names
+pub mod Named
 pub mod Reader
 pub mod Reading
 pub mod Trace

@@ -35,8 +35,10 @@ abbrev pub log_reading_of : LogAskedView → Snapshot → List ManifestMeta → 
 log_reading_of a x done next rest changes =
     record { asked = a; snapshot = x; done = done; next = next; rest = rest; changes = changes }
 
--- the changelog of a table's snapshot, with these entries
-pub record IsLogOf (s : TableSchema) (x : Snapshot) (changes : List Entry) (l : Log) : Type 0 where
+-- the changelog of a table's snapshot, with these manifests and entries
+pub record IsLogOf (s : TableSchema) (x : Snapshot) (metas : List ManifestMeta) (changes : List Entry) (l : Log)
+    : Type 0 where
   pub schema : l.schema ≡ s
   pub snapshot : l.snapshot ≡ x
+  pub manifests : l.manifests.items ≡ metas
   pub entries : l.changes.items ≡ changes

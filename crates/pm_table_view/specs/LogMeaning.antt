@@ -30,8 +30,8 @@ IsReadingOf f r =
 -- the changelog is that of the table's snapshot as it stood
 abbrev pub IsLogIn : Past → Log → Type 0
 IsLogIn p l =
-    (metas : List ManifestMeta) × Stood p l.schema l.snapshot
-    × HasChangelog (p.stood l.snapshot.id) l.schema l.snapshot.changelog_list metas l.changes.items
+    Stood p l.schema l.snapshot
+    × HasChangelog (p.stood l.snapshot.id) l.schema l.snapshot.changelog_list l.manifests.items l.changes.items
 
 -- What it knows in each phase, whatever others do: that the snapshot to be read is one of the table's; that what was
 -- read is what stood at the snapshot; and once a file that the snapshot names is absent, that the snapshot has gone.

@@ -56,7 +56,7 @@ IsReady other = ⊥
 -- the manifests that were read, with the entries of these, and those that are left: the next of these is to be read, or
 -- the changelog is ready
 abbrev pub GoesOn : LogAskedView → Snapshot → List ManifestMeta → List ManifestMeta → List Entry → LogPhase → Type 0
-GoesOn a x done [] changes later = (l : Log) × IsLogOf a.schema x changes l × (later ≡ phases.Ready l)
+GoesOn a x done [] changes later = (l : Log) × IsLogOf a.schema x done changes l × (later ≡ phases.Ready l)
 GoesOn a x done (meta ∷ rest) changes later = later ≡ phases.Manifests (log_reading_of a x done meta rest changes)
 
 -- the snapshot was read, which has this changelog list, or none, and then no changelog

@@ -64,9 +64,9 @@ FindsNext a x done meta rest changes found own =
 
 -- all manifests of the changelog were read, and these are its entries; or the snapshot has none
 pub data HasLog (a : LogAskedView) (l : Log) (own : List Event) : Type 0 where
-  without : (x : Snapshot) → x.changelog_list ≡ None → Has a x own → IsLogOf a.schema x [] l → HasLog a l own
+  without : (x : Snapshot) → x.changelog_list ≡ None → Has a x own → IsLogOf a.schema x [] [] l → HasLog a l own
   of_list : (x : Snapshot) (metas : List ManifestMeta) (changes : List Entry) → HasPart a x metas [] changes own
-      → IsLogOf a.schema x changes l → HasLog a l own
+      → IsLogOf a.schema x metas changes l → HasLog a l own
 
 -- a file that the snapshot names was found absent at the path: the list, or a manifest
 pub data LacksFile (a : LogAskedView) (path : List ℕ) (own : List Event) : Type 0 where
@@ -117,14 +117,15 @@ pub data IsGone (a : LogAskedView) (own : List Event) : Type 0 where
   gone_first : Reads a None own → IsGone a own
   gone_again : (path : List ℕ) → ReadsAgain a path None own → IsGone a own
 
--- A file is damaged, at the offset: the snapshot's, whose bytes are none; the schema's, where the snapshot names another
--- one than the table's; one that the snapshot names and that is absent, and the snapshot still stands; the list or a
+-- A file is damaged, at the offset: the snapshot's, whose bytes are none; the schema's, where the snapshot names
+-- another one than the table's; one that the snapshot names and that is absent, and the snapshot still stands; the list or a
 -- manifest, whose bytes have this fault; or a manifest with an entry that no changelog has.
 pub data IsDamaged (a : LogAskedView) (path : List ℕ) (place : ℕ) (own : List Event) : Type 0 where
   bad_snapshot : (bytes : List ℕ) → path ≡ snapshot_path a.id → place ≡ 0 → snapshot_in a.id bytes ≡ Err faults.Bad
       → Reads a (Some bytes) own → IsDamaged a path place own
   bad_schema : (x : Snapshot) (bytes : List ℕ) → path ≡ schema_path x.schema_id → place ≡ 0
-      → snapshot_in a.id bytes ≡ Ok x → x.schema_id ≢ a.schema.id → Reads a (Some bytes) own → IsDamaged a path place own
+      → snapshot_in a.id bytes ≡ Ok x → x.schema_id ≢ a.schema.id → Reads a (Some bytes) own
+      → IsDamaged a path place own
   is_absent : (bytes : List ℕ) → place ≡ 0 → ReadsAgain a path (Some bytes) own → IsDamaged a path place own
   is_misread : Misreads a (refusals.Damaged path place) own → IsDamaged a path place own
   has_other : (x : Snapshot) (done : List ManifestMeta) (meta : ManifestMeta) (rest : List ManifestMeta)

@@ -65,7 +65,8 @@ pub record HasGone (f : Files) (p : Past) (s : TableSchema) (id : ℕ) : Type 0 
   pub absent : map.get f (snapshot_path id) ≡ None
 
 -- What it knows in each phase, whatever others do: that there is a table of the schema; that the snapshot to be read is
--- at most the newest; that what was read is what stood at the snapshot; and once a file that the snapshot names is absent, that the snapshot has gone.
+-- at most the newest; that what was read is what stood at the snapshot; and once a file that the snapshot names is
+-- absent, that the snapshot has gone.
 abbrev pub Knows : Phase → Files → Past → Type 0
 Knows (phases.List a) f p = IsTableOf a.schema p.history
 Knows (phases.Origin q) f p = IsTableOf q.asked.schema p.history

@@ -135,7 +135,8 @@ Starts q x metas later =
 abbrev pub Takes : ReadingView → List Entry → Phase → Type 0
 Takes r own later =
     (files : Filed) × AreInOrder (live_of r.files) own × Leaves (live_of r.files) own (live_of files)
-    × GoesOn r.sought r.snapshot (r.done ++ r.next ∷ []) r.rest files (r.kept ++ kept_for r.sought.asked.wanted own) later
+    × GoesOn r.sought r.snapshot (r.done ++ r.next ∷ []) r.rest files
+    (r.kept ++ kept_for r.sought.asked.wanted own) later
 
 -- the phase after an answer that it goes on with
 abbrev pub Goes : Phase → Answer → Phase → Type 0

@@ -29,8 +29,8 @@ pub record ReadingView : Type 0 where
   pub files : Filed
   pub kept : List Entry
 
-abbrev pub reading_of : SoughtView → Snapshot → List ManifestMeta → ManifestMeta → List ManifestMeta → Filed → List Entry
-    → ReadingView
+abbrev pub reading_of : SoughtView → Snapshot → List ManifestMeta → ManifestMeta → List ManifestMeta → Filed
+    → List Entry → ReadingView
 reading_of q x done next rest files kept =
     record { sought = q; snapshot = x; done = done; next = next; rest = rest; files = files; kept = kept }
 

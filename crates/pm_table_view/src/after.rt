@@ -59,7 +59,8 @@ pub(crate) fn after_list(alloc: Global, asked: Asked, names: Vec<Txt>) -> Result
 
 /// The phase once this is known to be the latest snapshot.
 fn after_latest(sought: Sought, latest: u64) -> Result<Phase, Refusal>
-    ensures goes { IfOk result (λ later. (id : ℕ) × IsAsked sought.asked.wanted latest id × (later ≡ opening sought id)) }
+    ensures goes { IfOk result (λ later. (id : ℕ) × IsAsked sought.asked.wanted latest id
+        × (later ≡ opening sought id)) }
     ensures is_viewer { IfOk result IsViewer }
     ensures refuses { IfErr result (λ refusal. (id : ℕ) × IsAbove sought.asked.wanted latest id
         × (refusal ≡ refusals.NoSnapshot id latest)) }
@@ -355,7 +356,8 @@ fn go_on(
     requires folders { HaveFolders sought.asked.schema (get id_eq live) }
     ensures goes { IfOk result (GoesOn sought snapshot done.items left.items live.entries kept.items) }
     ensures is_viewer { IfOk result IsViewer }
-    ensures refuses { IfErr result (λ refusal. (left.items ≡ []) × Overlaps sought.asked.schema (get id_eq live) refusal) }
+    ensures refuses { IfErr result (λ refusal. (left.items ≡ [])
+        × Overlaps sought.asked.schema (get id_eq live) refusal) }
 {
     let mut rest = left;
     match rest.pop_front() {
@@ -423,7 +425,8 @@ fn view_with(
     groups: BTreeMap<Group, Levels>,
     live: Vec<Entry>,
 ) -> View
-    ensures table { (result.id ≡ snapshot.id) × (result.snapshot ≡ Some snapshot) × (result.schema ≡ sought.asked.schema) }
+    ensures table { (result.id ≡ snapshot.id) × (result.snapshot ≡ Some snapshot)
+        × (result.schema ≡ sought.asked.schema) }
     ensures parts { (result.groups ≡ groups) × (result.manifests ≡ manifests) × (result.live ≡ live) }
     ensures sought { IsSoughtBy sought result }
 {

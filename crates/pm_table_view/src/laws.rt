@@ -1,6 +1,6 @@
 //! Laws of readers of a view. Each holds with no call but of the laws of crates below.
 
-ghost use Rattle.std.specs.Prelude.{◌≡◌, ◌↔◌, ℕ, ◌≤◌, List, Contains, Option, None, Some, IsSome};
+ghost use Rattle.std.specs.Prelude.{◌≡◌, ◌↔◌, ◌++◌, ℕ, ◌≤◌, List, Contains, Option, None, Some, IsSome};
 ghost use Rattle.std.specs.FinMap as finite;
 ghost use Rattle.pm_folder.specs.Changes.{Actor};
 ghost use Rattle.pm_folder.specs.Entries.{AreLive};
@@ -8,11 +8,13 @@ ghost use Rattle.pm_folder.specs.Folder.{Folder};
 ghost use Rattle.pm_folder.specs.Ledger.{Advances, Past, Stands};
 ghost use Rattle.pm_folder.specs.Paths.{snapshot_folder, snapshot_path};
 ghost use Rattle.pm_contents.specs.Lists.{none_live};
+ghost use Rattle.pm_contents.specs.Named.{Contents, IsNamed};
 ghost use Rattle.pm_history.specs.History.{table, Entry as CommitView};
 ghost use Rattle.pm_manifest.specs.Live.{live_after};
 ghost use Rattle.pm_manifest.specs.declared.entry.Entry.{Entry as EntryView};
 ghost use Rattle.pm_schema.specs.declared.schema.TableSchema.{TableSchema};
 ghost use Rattle.pm_snapshot.specs.Names.{greatest};
+ghost use Rattle.pm_snapshot.specs.declared.snapshot.Snapshot.{Snapshot};
 ghost use Rattle.pm_values.specs.declared.refusal.Refusal.{Refusal};
 ghost use Rattle.pm_store.specs.Answers.{Answers};
 ghost use Rattle.pm_store.specs.declared.answer.Answer.{Answer};
@@ -23,6 +25,7 @@ ghost use Rattle.pm_store.specs.Files.{Files, IsListing};
 ghost use Rattle.pm_store.specs.Images.{MayLeave};
 ghost use Rattle.pm_table_view.specs.Asked.{Asked};
 ghost use Rattle.pm_table_view.specs.Meaning.{IsKept, Knows, MayRefuse};
+ghost use Rattle.pm_table_view.specs.Named.{named_paths, parts_of};
 ghost use Rattle.pm_table_view.specs.Names.{AreIds};
 ghost use Rattle.pm_table_view.specs.Reader.{next_call, Shown};
 ghost use Rattle.pm_table_view.specs.View.{live_entries};
@@ -70,6 +73,13 @@ pub fn listed_law()
 /// The live entries are those of the files that are live after all entries, each once.
 pub fn entries_law()
     ensures { (entries : List EntryView) → AreLive (live_after none_live entries) (live_entries entries) }
+{}
+
+/// The paths that are listed of a snapshot are exactly those that it names.
+pub fn named_law()
+    ensures { (s : TableSchema) (x : Snapshot) (c : Contents) (path : List ℕ)
+        → Contains (named_paths s x (parts_of (c.base ++ c.delta) (live_entries c.entries) c.changelog c.changes)) path
+        ↔ IsNamed s x c path }
 {}
 
 /// Whatever a crash leaves of a reader's next call has the same content at each path.

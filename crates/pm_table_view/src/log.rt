@@ -63,8 +63,8 @@ impl LogAsked {
     }
 }
 
-/// What was asked, the snapshot, the manifests of its changelog that were read, the one to be read next, those after it,
-/// and the entries of the first.
+/// What was asked, the snapshot, the manifests of its changelog that were read, the one to be read next, those after
+/// it, and the entries of the first.
 #[derive(Drop)]
 pub struct LogReading {
     pub(crate) asked: LogAsked,
@@ -92,6 +92,8 @@ pub struct Log {
     pub schema: TableSchema,
     /// The snapshot.
     pub snapshot: Snapshot,
+    /// The manifests of its changelog list.
+    pub manifests: Vec<ManifestMeta>,
     /// The entries, each of which adds a file at level 0.
     pub changes: Vec<Entry>,
 }

@@ -96,20 +96,26 @@ fn open(alloc: Global, asked: LogAsked, snapshot: Snapshot) -> Result<LogPhase, 
                 Err(Refusal::Memory)
             }
         },
-        None => Ok(ready(asked, snapshot, Vec::new(alloc))),
+        None => Ok(ready(asked, snapshot, Vec::new(alloc), Vec::new(alloc))),
     }
 }
 
 /// The phase in which the changelog of a snapshot is ready.
-fn ready(asked: LogAsked, snapshot: Snapshot, changes: Vec<Entry>) -> LogPhase
+fn ready(
+    asked: LogAsked,
+    snapshot: Snapshot,
+    manifests: Vec<ManifestMeta>,
+    changes: Vec<Entry>,
+) -> LogPhase
     requires { HaveGroups asked.schema changes.items }
-    ensures goes { GoesOn asked snapshot [] [] changes.items result }
+    ensures goes { GoesOn asked snapshot manifests.items [] changes.items result }
     ensures is_reader { IsLogReader result }
 {
     LogPhase::Ready {
         log: Log {
             schema: asked.into_schema(),
             snapshot,
+            manifests,
             changes,
         },
     }
@@ -193,9 +199,8 @@ fn go_on(
             },
         },
         None => {
-            drop(done);
             drop(rest);
-            ready(asked, snapshot, changes)
+            ready(asked, snapshot, done, changes)
         }
     }
 }

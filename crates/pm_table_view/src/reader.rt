@@ -75,8 +75,8 @@ impl ViewReader {
         }
     }
 
-    /// A reader of the table with this schema, which was just read, at its latest snapshot, that keeps the entries of the
-    /// live files.
+    /// A reader of the table with this schema, which was just read, at its latest snapshot, that keeps the entries of
+    /// the live files.
     pub fn entries(schema: TableSchema) -> ViewReader
         requires { IsDeclared schema }
         ensures { result ≡ phases.List (asked_of schema wants.Entries) }
