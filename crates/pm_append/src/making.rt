@@ -25,7 +25,8 @@ use std::alloc::Global;
 
 /// What a commit of the batch puts into the folder after the newest snapshot: data files by rising group, a merged
 /// manifest if there is one, the manifest of the new files, the list of it, the base list, and the snapshot. It takes
-/// time linear in the rows of the batch, in the live files and in the manifests. The batch stays for another try.
+/// time linear in the rows of the batch and in the manifests, and in the live files but for a look into the groups at
+/// each. Each file takes the next name. The batch stays for another try.
 pub fn append(
     alloc: Global,
     schema: &TableSchema,
@@ -37,13 +38,17 @@ pub fn append(
     requires producer { schema.now.options.producer ≡ producers.None }
     requires folders { AllByRecursion (λ (e : Group × GroupRows). FitsPartition schema.now e.0) batch.old }
     requires numbers { AllByRecursion (λ (e : EntryView). e.file.max_seq ≤ most_sequence) newest.now.live.items }
-    requires count { names.old.count + length batch.old ≤ 2 ^ 59 }
+    requires some { 1 ≤ length batch.old }
+    requires based { names.old.base ≡ author.now.base }
+    requires base { author.now.base ≤ newest.now.id }
+    requires count { names.old.count + length batch.old + 4 ≤ 2 ^ 62 }
     ensures made { IfOk result (IsAppendOf schema.now newest.now author.now batch.old names.old) }
     ensures taken { OnOk result (refusal_of newest.now author.now batch.old ≡ None) }
     ensures refused { IfErr result (λ e. (e ≡ Memory) ⊎ (refusal_of newest.now author.now batch.old ≡ Some e)) }
     ensures kept { batch.new ≡ batch.old }
-    ensures names { OnOk result (names.new ≡ record names.old { count = names.new.count }) }
-    ensures counted { OnOk result (names.new.count ≤ names.old.count + length batch.old + 4) }
+    ensures names { names.new ≡ record names.old { count = names.new.count } }
+    ensures rises { names.old.count ≤ names.new.count }
+    ensures counted { IfOk result (λ made. names.new.count ≡ names.old.count + length made.files.items) }
 {
     judge_fence(newest, author)?;
     judge_files(alloc, newest.live.len(), batch.group_count())?;

@@ -47,6 +47,8 @@ pub(crate) fn new_manifest(
     requires { names.old.count < 2 ^ 62 }
     ensures made { IfOk result (λ m. IsNewManifest schema.now names.old entries.now m.meta m.file) }
     ensures names { OnOk result (names.new ≡ counted names.old) }
+    ensures same { names.new ≡ record names.old { count = names.new.count } }
+    ensures rises { names.old.count ≤ names.new.count }
     ensures memory { IfErr result (λ e. e ≡ Memory) }
 {
     let name = names.take(alloc, "manifest-", "")?;
@@ -92,6 +94,8 @@ pub(crate) fn new_list(
     requires { names.old.count < 2 ^ 62 }
     ensures made { IfOk result (λ l. IsNewList schema.now names.old metas.now l.name l.file) }
     ensures names { OnOk result (names.new ≡ counted names.old) }
+    ensures same { names.new ≡ record names.old { count = names.new.count } }
+    ensures rises { names.old.count ≤ names.new.count }
     ensures memory { IfErr result (λ e. e ≡ Memory) }
 {
     let name = names.take(alloc, "manifest-list-", "")?;
@@ -127,8 +131,10 @@ pub(crate) fn merged_base(
     requires count { names.old.count < 2 ^ 62 }
     ensures base { IfOk result (λ metas. (own : List FileView)
         × HasBase schema.now newest.now names.old metas.items own names.new × (files.new.items ≡ files.old.items ++ own)) }
-    ensures names { OnOk result (names.new ≡ record names.old { count = names.new.count }) }
+    ensures names { names.new ≡ record names.old { count = names.new.count } }
+    ensures rises { names.old.count ≤ names.new.count }
     ensures counted { OnOk result (names.new.count ≤ names.old.count + 1) }
+    ensures each { OnOk result (names.new.count + length files.old.items ≡ names.old.count + length files.new.items) }
     ensures memory { IfErr result (λ e. e ≡ Memory) }
 {
     let mut metas = Vec::new(alloc);
@@ -151,10 +157,12 @@ fn new_lists(
     names: &mut Names,
     files: &mut Vec<CommitFile>,
 ) -> Result<ListNames, Refusal>
-    requires { names.old.count < 2 ^ 61 }
+    requires { names.old.count + 3 ≤ 2 ^ 62 }
     ensures lists { IfOk result (λ lists. (own : List FileView)
         × AreLists schema.now names.old added.now base.now lists own × (files.new.items ≡ files.old.items ++ own)) }
-    ensures names { OnOk result (names.new ≡ counted (counted (counted names.old))) }
+    ensures names { names.new ≡ record names.old { count = names.new.count } }
+    ensures rises { names.old.count ≤ names.new.count }
+    ensures each { OnOk result (names.new.count + length files.old.items ≡ names.old.count + length files.new.items) }
     ensures memory { IfErr result (λ e. e ≡ Memory) }
 {
     let NewManifest { meta, file } = new_manifest(alloc, schema, added, names)?;
@@ -177,11 +185,12 @@ pub(crate) fn all_lists(
     names: &mut Names,
     files: &mut Vec<CommitFile>,
 ) -> Result<ListNames, Refusal>
-    requires { names.old.count < 2 ^ 60 }
+    requires { names.old.count + 4 ≤ 2 ^ 62 }
     ensures lists { IfOk result (λ lists. (own : List FileView)
         × AreManifests schema.now newest.now names.old added.now lists own × (files.new.items ≡ files.old.items ++ own)) }
-    ensures names { OnOk result (names.new ≡ record names.old { count = names.new.count }) }
-    ensures counted { OnOk result (names.new.count ≤ names.old.count + 4) }
+    ensures names { names.new ≡ record names.old { count = names.new.count } }
+    ensures rises { names.old.count ≤ names.new.count }
+    ensures each { OnOk result (names.new.count + length files.old.items ≡ names.old.count + length files.new.items) }
     ensures memory { IfErr result (λ e. e ≡ Memory) }
 {
     if merges(schema, &newest.manifests) {

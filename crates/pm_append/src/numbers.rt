@@ -71,12 +71,14 @@ pub(crate) fn number_files(
     requires producer { schema.now.options.producer ≡ producers.None }
     requires folders { AllByRecursion (λ (e : GroupView × GroupRows). FitsPartition schema.now e.0) batch.old }
     requires numbers { AllByRecursion (λ (e : EntryView). e.file.max_seq ≤ most_sequence) live.now }
-    requires count { names.old.count + length batch.old ≤ 2 ^ 59 }
+    requires count { names.old.count + length batch.old ≤ 2 ^ 62 }
     ensures files { IfOk result (λ files. AreNumbered schema.now live.now names.old batch.old files.items) }
     ensures folders { IfOk result (λ files.
         AllByRecursion (λ (x : FileView). FitsPartition schema.now x.group) files.items) }
     ensures many { IfOk result (λ files. length files.items ≡ length batch.old) }
     ensures names { IfOk result (λ files. names.new ≡ after_names (length files.items) names.old) }
+    ensures same { names.new ≡ record names.old { count = names.new.count } }
+    ensures rises { names.old.count ≤ names.new.count }
     ensures ok { OnOk result (above_numbers live.now batch.old ≡ false) }
     ensures err { IfErr result (λ e. (e ≡ Memory) ⊎ ((above_numbers live.now batch.old ≡ true) × (e ≡ no_sequence))) }
     ensures kept { batch.new ≡ batch.old }
