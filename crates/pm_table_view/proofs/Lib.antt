@@ -11,3 +11,4 @@ pub mod LogFacts
 mod NameLemmas
 mod NamedLemmas
 mod TwoLemmas
+mod WholeLemmas
