@@ -53,7 +53,7 @@ use Rattle.pm_folder.specs.Paths.{snapshot_path}
 use Rattle.pm_folder.specs.Stored.{HasGroup, HasRun, top_of}
 use Rattle.pm_folder.proofs.Facts.{same-or-other, some-none}
 use Rattle.pm_folder.proofs.HoldLemmas.{ContentsStay, Holds, OneContents, commit-held, entries-held, group-held, names-held, names-were, one-commit}
-use Rattle.pm_append.specs.Commit.{Attempt, IsFoundAs, IsReady}
+use Rattle.pm_append.specs.Commit.{Attempt, IsAsMade, IsFoundAs, IsReady}
 use Rattle.pm_append.specs.Files.{AreLists, AreManifests, HasBase, IsAppendOf, IsNewList, IsNewManifest, after_names, data_file, empty, kept, merged}
 use Rattle.pm_append.specs.Refusals.{above_files, above_id, above_numbers, fence_of, is_fenced, no_files, no_id, passed, refusal_of}
 use Rattle.pm_append.specs.Snapshot.{added_entry, appends_of, full_of, new_snapshot}
@@ -908,11 +908,16 @@ module _ (facts : Facts) (me : Actor) (f after : Files) (s : TableSchema) (entri
     ];
   }
 
+  as-made : IsAsMade after s (suc k) t ready.made
+  as-made = record { contents = contents; commit = has-commit; base = refl; delta = refl }
+
   pub published : IsAppend f after s entries (append t.author.user t.author.identifier t.rows) × NamesOwn me f after s (length entries)
+      × IsAsMade after s (suc (length entries)) t ready.made
   published = (
     appends,
     λ path now other. elim (names-or path now) as (λ _. IsNamedBy me path) [
       | inl was ↦ absurd (other was.1)
       | inr own ↦ own.by
     ],
+    as-made,
   )

@@ -1,6 +1,6 @@
 -- When what was made of a batch adds its entry to the history, once it is published.
-use Rattle.std.specs.Prelude.{◌≡◌, ℕ, ◌+◌, ◌<◌, ◌≤◌, ◌^◌, List, [], ◌++◌, length, Option, Some, None}
-use Rattle.std.specs.FinMap as map
+use Rattle.std.specs.Prelude.{◌≡◌, ℕ, ◌+◌, ◌<◌, ◌≤◌, ◌^◌, List, [], ◌∷◌, ◌++◌, length, map, Option, Some, None}
+use Rattle.std.specs.FinMap as paths
 use Rattle.std.specs.List.{AllByRecursion}
 use Rattle.pm_store.specs.Files.{Files}
 use Rattle.pm_values.specs.Names.{Naming}
@@ -19,6 +19,7 @@ use Rattle.pm_folder.specs.Folder.{HasTable}
 use Rattle.pm_write.specs.Batch.{Groups, IsBatchOf}
 use Rattle.pm_append.specs.Files.{IsAppendOf}
 use Rattle.pm_append.specs.Refusals.{refusal_of}
+use Rattle.pm_append.specs.Snapshot.{added_entry, new_snapshot}
 use Rattle.pm_append.specs.declared.newest.Append.{Append}
 use Rattle.pm_append.specs.declared.newest.Author.{Author}
 use Rattle.pm_append.specs.declared.newest.CommitFile.{CommitFile}
@@ -71,5 +72,18 @@ pub record IsReady (me : Actor) (f : Files) (s : TableSchema) (entries : List En
   pub allowed : refusal_of t.newest t.author t.batch ≡ None
   pub base : t.author.base ≤ t.newest.id
   pub maker : MakesNames me t
-  pub there : AllByRecursion (λ (file : CommitFile). map.get f file.path ≡ Some file.bytes) t.made.files.items
+  pub there : AllByRecursion (λ (file : CommitFile). paths.get f file.path ≡ Some file.bytes) t.made.files.items
   pub unnamed : (id : ℕ) (path : List ℕ) → 1 ≤ id → id ≤ length entries → Names f s id path → IsNamedBy me path → ⊥
+
+-- the snapshot that was made
+abbrev pub snapshot_of : (s : TableSchema) (t : Attempt) → IsAppendOf s t.newest t.author t.batch t.names t.made → Snapshot
+snapshot_of s t made = new_snapshot s t.newest t.author (map (added_entry s) made.new_files) made.lists
+
+-- The snapshot that is there is the one that was made, to its last field; its base list has the manifests with which it
+-- was made, and its delta list the one new manifest.
+pub record IsAsMade (f : Files) (s : TableSchema) (id : ℕ) (t : Attempt)
+    (made : IsAppendOf s t.newest t.author t.batch t.names t.made) : Type 0 where
+  pub contents : Contents
+  pub commit : HasCommit f s id (snapshot_of s t made) contents
+  pub base : contents.base ≡ made.are_manifests.base
+  pub delta : contents.delta ≡ made.are_manifests.are_lists.delta ∷ []

@@ -8,7 +8,7 @@ ghost use Rattle.pm_schema.specs.declared.schema.TableSchema.{TableSchema};
 ghost use Rattle.pm_folder.specs.Changes.{Actor, NamesOwn};
 ghost use Rattle.pm_folder.specs.Commits.{IsAppend};
 ghost use Rattle.pm_folder.specs.Paths.{snapshot_path};
-ghost use Rattle.pm_append.specs.Commit.{Attempt, IsReady};
+ghost use Rattle.pm_append.specs.Commit.{Attempt, IsAsMade, IsReady};
 
 use pm_contents::{kept_law, one_contents_law, one_runs_law};
 use pm_engine::added_law;
@@ -19,13 +19,14 @@ use pm_snapshot::{path_law, snapshot_law};
 use pm_write::{batch_law, written_law};
 
 /// A try that is ready, whose snapshot appears after the newest, appends its rows to the history; what the snapshot
-/// names and the one before it doesn't was named by the actor.
+/// names and the one before it doesn't was named by the actor; and the snapshot and its lists are those that were made.
 pub fn append_law()
     ensures { (me : Actor) (f after : Files) (s : TableSchema) (entries : List Entry) (t : Attempt) →
-        IsReady me f s entries t → map.get f (snapshot_path (suc (length entries))) ≡ None →
+        (ready : IsReady me f s entries t) → map.get f (snapshot_path (suc (length entries))) ≡ None →
         Puts f (snapshot_path (suc (length entries))) (Some t.made.text) after →
         IsAppend f after s entries (append_entry t.author.user t.author.identifier t.rows)
-        × NamesOwn me f after s (length entries) }
+        × NamesOwn me f after s (length entries)
+        × IsAsMade after s (suc (length entries)) t ready.made }
 {
     added_law();
     kept_law();
