@@ -25,11 +25,11 @@ use Rattle.pm_run.specs.Kinds.{field_type, has_row_fields, run_type, slots_of, t
 use Rattle.pm_run.specs.Order.{are_in_order}
 use Rattle.pm_run.specs.Row.{IsOfFile, most_sequence, row_data, row_in, row_kind, values_data, values_in}
 use Rattle.pm_run.specs.Rows.{Blocks, Ends, HasRows, Judged, LeadTo, Opened, all_judged, all_placed, judged, opened_with, placed}
-use Rattle.pm_run.specs.Typed.{HaveFields, IsWritable}
+use Rattle.pm_run.specs.Typed.{FitFields, HaveFields, IsWritable}
 use Rattle.pm_run.specs.Writing.{AreFilesOf, HasOwnKey, HaveRows, bytes_of}
 use Rattle.pm_run.proofs.CellLemmas.{Cell, all_indexed, all_values-append, data_in, field_of_cell, fields_in, indexes_found, items_in, names_in, types_found, values_found}
 use Rattle.pm_run.proofs.OrderLemmas.{in_order-first, in_order-parts}
-use Rattle.pm_run.proofs.ValueLemmas.{AreTyped, FitFields, agree_own, fit_fields, kept_back, kind_back, keys_fit, sequence_back, values_back}
+use Rattle.pm_run.proofs.ValueLemmas.{AreTyped, agree_own, fit_fields, kept_back, kind_back, keys_fit, sequence_back, values_back}
 
 -- ---- the cells of a row's record
 

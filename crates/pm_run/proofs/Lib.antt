@@ -12,3 +12,5 @@ mod RangeLemmas
 mod FileRowLemmas
 mod FindLemmas
 mod OneLemmas
+mod GroupLemmas
+mod DirectLemmas

@@ -32,18 +32,13 @@ use Rattle.pm_run.specs.declared.slot.Slot.{Slot}
 use Rattle.pm_run.specs.Form.{field_of, key_field, key_field_of}
 use Rattle.pm_run.specs.Kinds.{field_type, fit_of, or_null, slot_of, slots_of, value_type}
 use Rattle.pm_run.specs.Row.{agree, kind_in, may_stand, most_sequence, optional_data, optional_in, row_kind, scalar_data, scalar_in, sequence_in, stored_kind, value_by, value_data, value_in, values_data, values_in}
-use Rattle.pm_run.specs.Typed.{HaveFields}
+use Rattle.pm_run.specs.Typed.{FitFields, FitsField, HaveFields}
 
 is_true : (b : Bool) → T b → b ≡ true
 is_true true h = refl
 is_true false h = absurd h
 
 -- ---- one value
-
--- a value fits a field
-abbrev pub FitsField : Field → Value → Type 0
-FitsField x Null = IsTrue x.nullable
-FitsField x value = IsInType x.kind value
 
 whole_back : (low high z : ℤ) → low ≤ℤ z → z ≤ℤ high → (int_le low z ≡ true) × (int_le z high ≡ true)
 whole_back low high z above below = (is_true (int_le low z) above.le, is_true (int_le z high) below.le)
@@ -145,12 +140,6 @@ pub value_back : (t : Avro) (x : Field) (value : Value) → type_of_field x.name
 value_back t x value typed h = rw typed (by_nullable x.name x.kind x.nullable value h)
 
 -- ---- many values
-
--- each value fits its field
-abbrev pub FitFields : List Field → Values → Type 0
-FitFields [] [] = Unit {0}
-FitFields (x ∷ fields) (value ∷ values) = FitsField x value × FitFields fields values
-FitFields fields values = ⊥
 
 -- each field has its type in records of a type
 abbrev pub AreTyped : Avro → List Field → Type 0

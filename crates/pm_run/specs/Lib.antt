@@ -9,3 +9,4 @@ pub mod Rows
 pub mod Taking
 pub mod Typed
 pub mod Writing
+pub mod Direct

@@ -8,21 +8,27 @@
 //! for rows, what is known of each, and which rows a run of files has. `src/laws.rt` has what holds of the rows of
 //! files: they are one list, in order, of rows that fit, and reading gives them.
 //!
-//! Reading holds one decoded block. Values are moved out of its data; only where the table has partition columns is a
-//! key copied from its row. Field names are looked up once for each file. All calls take time linear in the bytes but
-//! for the test that names of fields differ, which takes the square of how many there are, once for a file.
+//! Rows of a file whose type is the one that is written here are read straight from its bytes (`src/direct.rt`), of
+//! which the reader keeps a copy. Other files, and blocks where anything is off, are read by their data, which finds
+//! what is refused: reading holds one decoded block then. Values are moved out of its data; only where the table has
+//! partition columns is a key copied from its row. Field names are looked up once for each file. All calls take time
+//! linear in the bytes but for the test that names of fields differ, which takes the square of how many there are, once
+//! for a file.
 //!
 //! The names of a schema's columns differ by its rules. Where those of some other schema don't, calls answer that
 //! memory ran out.
 #![tactic(auto)]
 
+mod direct;
 mod form;
 mod kinds;
 mod laws;
+mod leaf;
 mod reader;
 mod row_reader;
 mod row_writer;
 mod run;
+mod same;
 mod slot;
 mod writer;
 

@@ -1,16 +1,19 @@
 //! Files of runs and changelogs that are read row by row or block by block.
 
-ghost use Rattle.std.specs.Prelude.{◌≡◌, ◌≤◌, [], None, Some, IfErr, IfOk, OnOk, false, length};
+ghost use Rattle.std.specs.Prelude.{◌≡◌, ◌≤◌, [], None, Some, Ok, IfErr, IfOk, IfSome, OnOk, false, length};
 ghost use Rattle.pm_record.specs.File.{IsMemoryOr};
 ghost use Rattle.pm_values.specs.declared.refusal.Refusal.TheVariants.{Damaged};
 ghost use Rattle.pm_schema.specs.Stated.{schema_path};
+ghost use Rattle.pm_run.specs.Direct.{IsDirectOr};
 ghost use Rattle.pm_run.specs.Order.{last_key};
 ghost use Rattle.pm_run.specs.Finding.{FindsRows, ReadsBlock};
 ghost use Rattle.pm_run.specs.Reader.{Appends, GivesBlock, GivesNext, MayNotAppend, OpensRun, before_first};
 ghost use Rattle.pm_run.specs.RowReader.{reader_in};
-ghost use Rattle.pm_run.specs.Rows.{AreBytes, opened_as};
+ghost use Rattle.pm_run.specs.Rows.{AreBytes, Opened, opened_as};
 
+use crate::direct::Direct;
 use crate::form::TableForm;
+use crate::leaf::known_bytes;
 use crate::row_reader::{RowReader, RowsRead};
 use pm_avro_file::FileReader;
 use pm_avro_schema::AvroFault;
@@ -28,6 +31,7 @@ use std::vec::IntoIter;
 pub struct RunReader {
     path: Txt,
     rows: RowReader,
+    direct: Option<Direct>,
     file: FileReader,
     left: IntoIter<Stamped, Global>,
     refusal: Option<Refusal>,
@@ -41,6 +45,7 @@ impl Model for RunReader {
     ghost use Rattle.std.specs.Vec.Iter.{into_iter_items};
     ghost use Rattle.std.specs.Coded.{codes};
     ghost use Rattle.pm_avro_schema.specs.Coded.{avro_code};
+    ghost use Rattle.pm_run.specs.Direct.{IsDirectOr};
     ghost use Rattle.pm_run.specs.Reader.{RunView};
     ghost use Rattle.pm_run.specs.Rows.{opened_as};
     ghost use Rattle.pm_run.specs.RowReader.{reader_in};
@@ -59,7 +64,8 @@ impl Model for RunReader {
     } };
 
     ghost invariant = { λ r. (r.next ≤ length r.file.bytes)
-        × (Some r.rows ≡ reader_in r.rows.form r.rows.changes r.file.kind) };
+        × (Some r.rows ≡ reader_in r.rows.form r.rows.changes r.file.kind)
+        × IsDirectOr r.direct r.rows.form r.rows.changes r.file };
 }
 
 /// The first rows that follow in a file.
@@ -93,10 +99,12 @@ impl RunReader {
             return Err(other_schema(alloc, schema_id));
         }
         known_bytes(bytes.as_bytes());
+        let copy = bytes.copy(alloc)?;
         let file = open_file(alloc, path, bytes)?;
         let form = TableForm::of(alloc, schema)?;
+        let direct = Direct::of(alloc, &form, changes, copy, &file)?;
         match RowReader::of(alloc, file.kind(), form, changes)? {
-            Some(rows) => Ok(RunReader::before_first(alloc, path, rows, file)?),
+            Some(rows) => Ok(RunReader::before_first(alloc, path, rows, direct, file)?),
             None => Err(damaged(alloc, path, 0)),
         }
     }
@@ -106,9 +114,11 @@ impl RunReader {
         alloc: Global,
         path: &str,
         rows: RowReader,
+        direct: Option<Direct>,
         file: FileReader,
     ) -> Result<RunReader, AllocError>
-        requires { Some rows ≡ reader_in rows.form rows.changes file.kind }
+        requires of_kind { Some rows ≡ reader_in rows.form rows.changes file.kind }
+        requires direct { IsDirectOr direct rows.form rows.changes file }
         ensures { IfOk result (λ r. r ≡ before_first (opened_as path.now rows.form rows.changes file)) }
     {
         let next = file.first();
@@ -116,6 +126,7 @@ impl RunReader {
         Ok(RunReader {
             path: Txt::from_str(alloc, path)?,
             rows,
+            direct,
             file,
             left: none.into_iter(),
             refusal: None,
@@ -154,6 +165,7 @@ impl RunReader {
             alloc,
             self.path.as_str(),
             &self.rows,
+            &self.direct,
             &self.file,
             self.next,
             &self.last,
@@ -179,7 +191,14 @@ impl RunReader {
         ensures appends { OnOk result (Appends self.now.opened rows.old.items rows.new.items) }
         ensures refuses { IfErr result (MayNotAppend self.now.opened rows.old.items rows.new.items) }
     {
-        append_rows(alloc, self.path.as_str(), &self.rows, &self.file, rows)
+        append_rows(
+            alloc,
+            self.path.as_str(),
+            &self.rows,
+            &self.direct,
+            &self.file,
+            rows,
+        )
     }
 
     /// The offset of the first block, or of the end.
@@ -202,7 +221,15 @@ impl RunReader {
         ensures { GivesBlock (λ v. v.items) self.now.opened offset result }
     {
         let path = self.path.as_str();
-        match read_block(alloc, path, &self.rows, &self.file, offset, &None)? {
+        match read_block(
+            alloc,
+            path,
+            &self.rows,
+            &self.direct,
+            &self.file,
+            offset,
+            &None,
+        )? {
             Some((read, next)) => {
                 let RowsRead { rows, refusal } = read;
                 match refusal {
@@ -214,11 +241,6 @@ impl RunReader {
         }
     }
 }
-
-/// States for clauses that each of these numbers is a byte.
-fn known_bytes(bytes: &[u8])
-    ensures { AreBytes bytes.now }
-{}
 
 /// The refusal of a file of another schema; or out of memory.
 fn other_schema(alloc: Global, id: u64) -> Refusal
@@ -244,16 +266,18 @@ fn find_rows(
     alloc: Global,
     path: &str,
     reader: &RowReader,
+    direct: &Option<Direct>,
     file: &FileReader,
     offset: usize,
     before: &Option<Key>,
 ) -> Result<Option<Found>, Refusal>
     requires within { offset ≤ length file.now.bytes }
     requires of_kind { Some reader.now ≡ reader_in reader.now.form reader.now.changes file.now.kind }
+    requires direct { IsDirectOr direct.now reader.now.form reader.now.changes file.now }
     ensures { FindsRows (opened_as path.now reader.now.form reader.now.changes file.now) offset before.now result }
 {
     let mut offset = offset;
-    while let Some((read, next)) = read_block(alloc, path, reader, file, offset, before)? {
+    while let Some((read, next)) = read_block(alloc, path, reader, direct, file, offset, before)? {
         let RowsRead { rows, refusal } = read;
         let last = copied_last(alloc, &rows)?;
         let mut later = rows.into_iter();
@@ -279,10 +303,12 @@ fn append_rows(
     alloc: Global,
     path: &str,
     reader: &RowReader,
+    direct: &Option<Direct>,
     file: &FileReader,
     rows: &mut Vec<Stamped>,
 ) -> Result<(), Refusal>
-    requires { Some reader.now ≡ reader_in reader.now.form reader.now.changes file.now.kind }
+    requires of_kind { Some reader.now ≡ reader_in reader.now.form reader.now.changes file.now.kind }
+    requires direct { IsDirectOr direct.now reader.now.form reader.now.changes file.now }
     ensures appends { OnOk result
         (Appends (opened_as path.now reader.now.form reader.now.changes file.now) rows.old.items rows.new.items) }
     ensures refuses { IfErr result
@@ -290,7 +316,7 @@ fn append_rows(
         rows.new.items) }
 {
     let mut offset = file.first();
-    while let Some((read, after)) = read_after(alloc, path, reader, file, offset, rows)? {
+    while let Some((read, after)) = read_after(alloc, path, reader, direct, file, offset, rows)? {
         let RowsRead { rows: own, refusal } = read;
         let mut own = own;
         rows.append(&mut own)?;
@@ -307,17 +333,19 @@ fn read_after(
     alloc: Global,
     path: &str,
     reader: &RowReader,
+    direct: &Option<Direct>,
     file: &FileReader,
     offset: usize,
     rows: &[Stamped],
 ) -> Result<Option<(RowsRead, usize)>, Refusal>
     requires within { offset ≤ length file.now.bytes }
     requires of_kind { Some reader.now ≡ reader_in reader.now.form reader.now.changes file.now.kind }
+    requires direct { IsDirectOr direct.now reader.now.form reader.now.changes file.now }
     ensures { ReadsBlock (opened_as path.now reader.now.form reader.now.changes file.now) offset
         (last_key None rows.now) result }
 {
     let before = copied_last(alloc, rows)?;
-    read_block(alloc, path, reader, file, offset, &before)
+    read_block(alloc, path, reader, direct, file, offset, &before)
 }
 
 /// The key of the last row.
@@ -335,14 +363,19 @@ fn read_block(
     alloc: Global,
     path: &str,
     rows: &RowReader,
+    direct: &Option<Direct>,
     file: &FileReader,
     offset: usize,
     before: &Option<Key>,
 ) -> Result<Option<(RowsRead, usize)>, Refusal>
     requires within { offset ≤ length file.now.bytes }
     requires of_kind { Some rows.now ≡ reader_in rows.now.form rows.now.changes file.now.kind }
+    requires direct { IsDirectOr direct.now rows.now.form rows.now.changes file.now }
     ensures { ReadsBlock (opened_as path.now rows.now.form rows.now.changes file.now) offset before.now result }
 {
+    if let Some(found) = read_direct(alloc, rows, direct, offset, before) {
+        return Ok(Some(found));
+    }
     match file.block_at(alloc, offset) {
         Ok(Some((data, next))) => {
             let read = rows.read_rows(alloc, path, file.kind(), offset, before, data)?;
@@ -351,5 +384,23 @@ fn read_block(
         Ok(None) => Ok(None),
         Err(AvroFault::Bad(_)) => Err(damaged(alloc, path, offset)),
         Err(_) => Err(Refusal::Memory),
+    }
+}
+
+/// The same where the rows can be read straight from the bytes.
+fn read_direct(
+    alloc: Global,
+    rows: &RowReader,
+    direct: &Option<Direct>,
+    offset: usize,
+    before: &Option<Key>,
+) -> Option<(RowsRead, usize)>
+    ensures { IfSome result (λ read. (o : Opened) → o.form ≡ rows.now.form → o.changes ≡ rows.now.changes
+        → IsDirectOr direct.now rows.now.form rows.now.changes o.file
+        → ReadsBlock o offset before.now (Ok (Some read))) }
+{
+    match direct {
+        Some(direct) => direct.read_block(alloc, &rows.form, rows.changes, offset, before),
+        None => None,
     }
 }

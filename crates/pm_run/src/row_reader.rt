@@ -36,7 +36,7 @@ use std::cmp::Ordering;
 use std::vec::IntoIter;
 
 /// The greatest sequence number, 2^62 - 1.
-const MOST_SEQUENCE: u64 = 0x3fff_ffff_ffff_ffff;
+pub(crate) const MOST_SEQUENCE: u64 = 0x3fff_ffff_ffff_ffff;
 
 /// What reads the rows of a file's records.
 #[derive(Drop)]
@@ -174,7 +174,7 @@ impl RowReader {
 
 /// The key of a row that has these values at the indexes of the key's own columns. Where the key has no other columns
 /// they are moved.
-fn own_key(
+pub(crate) fn own_key(
     alloc: Global,
     form: &TableForm,
     row: &Row,
@@ -223,7 +223,7 @@ fn refusal_of(
 }
 
 /// The key of the last row, or the one before all rows.
-fn last_key<'k>(before: &'k Option<Key>, rows: &'k [Stamped]) -> Option<&'k Key>
+pub(crate) fn last_key<'k>(before: &'k Option<Key>, rows: &'k [Stamped]) -> Option<&'k Key>
     ensures { option_copied result ≡ last_key before.now rows.now }
 {
     match rows.last() {
@@ -233,7 +233,7 @@ fn last_key<'k>(before: &'k Option<Key>, rows: &'k [Stamped]) -> Option<&'k Key>
 }
 
 /// Whether a key may be the next.
-fn may_follow(changes: bool, before: Option<&Key>, key: &Key) -> bool
+pub(crate) fn may_follow(changes: bool, before: Option<&Key>, key: &Key) -> bool
     ensures { result ≡ may_follow changes (option_copied before.entry) key.now }
 {
     match before {
@@ -323,7 +323,7 @@ fn read_first(slot: Slot, left: &mut IntoIter<Datum, Global>) -> Result<Value, M
 }
 
 /// Whether the values are those of a row at the indexes.
-fn agree(places: &[usize], row: &[Value], values: &[Value]) -> bool
+pub(crate) fn agree(places: &[usize], row: &[Value], values: &[Value]) -> bool
     ensures { result ≡ agree places.now row.now values.now }
 {
     if places.len() != values.len() {

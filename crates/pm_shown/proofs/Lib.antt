@@ -2,3 +2,4 @@ mod GroupLemmas
 mod ShownLemmas
 mod ScanLemmas
 mod TextLemmas
+mod PlainLemmas

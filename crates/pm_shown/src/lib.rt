@@ -8,6 +8,7 @@
 #![tactic(auto)]
 
 mod laws;
+mod line;
 mod print;
 mod shown;
 

@@ -1,14 +1,23 @@
-use Rattle.std.proofs.Common.{subst}
+use Rattle.std.proofs.Common.{subst, sym}
 use Rattle.pm_avro_schema.specs.View as types
+use Rattle.pm_run.specs.Direct.{IsDirectOr}
 use Rattle.pm_run.specs.Rows.{AreBytes}
 use Rattle.pm_run.proofs.FindLemmas.{lacking_refused}
 use Rattle.pm_run.proofs.ReadRowsLemmas.{no_reader, reader_again, reader_of}
 use Rattle.pm_run.proofs.reader.RunReader.open.Goals as goal
 
-pub before_first-requires : goal.before_first-requires
-before_first-requires c =
+pub before_first-requires-clause-of_kind : goal.before_first-requires-clause-of_kind
+before_first-requires-clause-of_kind c =
     let found = rw c.in-Some.is at c.in_ok-rows.ensures in
     reader_again c.in-Some.rows c.in_ok-form.form c.args.changes (types.view c.kind.result.now) c.in_ok-file.file.kind found c.kind.ensures.kind
+
+pub before_first-requires-clause-direct : goal.before_first-requires-clause-direct
+before_first-requires-clause-direct c =
+    let found = rw c.in-Some.is at c.in_ok-rows.ensures in
+    let p = reader_of c.in-Some.rows c.in_ok-form.form c.args.changes (types.view c.kind.result.now) found in
+    let changed : IsDirectOr c.in_ok-direct.direct c.in_ok-form.form c.in-Some.rows.changes c.in_ok-file.file =
+    subst (λ b. IsDirectOr c.in_ok-direct.direct c.in_ok-form.form b c.in_ok-file.file) (sym p.changed) c.in_ok-direct.ensures in
+    subst (λ f. IsDirectOr c.in_ok-direct.direct f c.in-Some.rows.changes c.in_ok-file.file) (sym p.form) changed
 
 pub returns-in_ok-before_first-in-Some-clause-opens : goal.returns-in_ok-before_first-in-Some-clause-opens
 returns-in_ok-before_first-in-Some-clause-opens c =

@@ -1,6 +1,6 @@
 use Rattle.std.proofs.Common.{ℕ, ◌<◌, get_or, rules}
 use Rattle.pm_run.proofs.RangeLemmas.{all_bytes}
-use Rattle.pm_run.proofs.reader.known_bytes.Goals as goal
+use Rattle.pm_run.proofs.leaf.known_bytes.Goals as goal
 
 pub returns : goal.returns
 returns c =

@@ -1,0 +1,18 @@
+use Rattle.std.proofs.Common.{◌≡◌, rules, true, sym, ap, subst, ◌∙◌}
+use Rattle.pm_history.specs.Merge.{key_of}
+use Rattle.pm_values.specs.declared.record.Stamped.{Stamped}
+use Rattle.pm_run.specs.Direct.{AreCells}
+use Rattle.pm_run.specs.Row.{agree}
+use Rattle.pm_run.proofs.DirectLemmas.{row_read}
+use Rattle.pm_run.proofs.direct.read_row.Goals as goal
+
+pub returns : goal.returns
+returns c =
+    let f = c.args.form.now in
+    let x : Stamped = record { key = c.in_ok-key.key; seq = c.in_ok-seq.seq; kind = c.in_ok-kind.kind; row = c.new-row.result } in
+    let keys : AreCells f.keys c.in_ok-values.values.items c.args.bytes.now c.in_ok-values.rest.now = search rules in
+    let columns : AreCells f.columns c.new-row.result c.in_ok-kind.rest.now c.in_ok-row.rest.now = search rules in
+    let agrees : agree f.places c.new-row.result c.in_ok-values.values.items ≡ true = search rules in
+    let own : c.in_ok-key.key ≡ key_of f.primary c.new-row.result = search rules in
+    row_read f x c.in_ok-values.values.items c.args.bytes.now c.in_ok-values.rest.now c.in_ok-seq.rest.now c.in_ok-kind.rest.now c.in_ok-row.rest.now keys c.in_ok-seq.ensures.long
+    c.in_ok-seq.ensures.within c.in_ok-kind.ensures columns agrees own

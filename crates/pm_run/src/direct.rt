@@ -1,0 +1,208 @@
+//! Rows that are read straight from the bytes of a file that is as it is written here, without the data between. Where
+//! none are answered, they are read by their data, which also finds the refusal.
+
+ghost use Rattle.std.specs.Prelude.{◌≡◌, ◌≢◌, ◌≤◌, ◌-◌, ◌++◌, List, [], ℕ, Ok, Some, IfOk, IfSome};
+ghost use Rattle.std.specs.Prelude.{MatchOption, drop, length, pos, take};
+ghost use Rattle.pm_avro_data.specs.Number.{IsInt, IsLong};
+ghost use Rattle.pm_avro_file.specs.Reader.{Opens};
+ghost use Rattle.pm_values.specs.Kind.{code_of};
+ghost use Rattle.pm_run.specs.Direct.{AreCells, AreRows, IsCell, IsDirect, IsDirectOr, IsRow, IsWritten};
+ghost use Rattle.pm_run.specs.Finding.{ReadsBlock};
+ghost use Rattle.pm_run.specs.Row.{most_sequence};
+ghost use Rattle.pm_run.specs.Rows.{Opened};
+
+use crate::form::{Field, TableForm};
+use crate::leaf::{read_int, read_long, read_scalar, read_size};
+use crate::row_reader::{MOST_SEQUENCE, RowsRead, agree, last_key, may_follow, own_key};
+use crate::same::is_written;
+use pm_avro_file::FileReader;
+use pm_base::Blob;
+use pm_values::{Key, Kind, Row, Stamped, Value};
+use std::alloc::{AllocError, Global};
+
+/// How many bytes a file's marker has.
+const MARKER: usize = 16;
+
+/// The bytes of a file, and the marker that ends its blocks.
+#[derive(Drop)]
+pub(crate) struct Direct {
+    pub(crate) bytes: Blob,
+    pub(crate) marker: Vec<u8>,
+}
+
+impl Direct {
+    /// The bytes of an opened file of a table of this form, if it is as it is written.
+    pub(crate) fn of(
+        alloc: Global,
+        form: &TableForm,
+        changes: bool,
+        bytes: Blob,
+        file: &FileReader,
+    ) -> Result<Option<Direct>, AllocError>
+        requires { Opens bytes (Ok file.now) }
+        ensures { IfOk result (λ direct. IsDirectOr direct form.now changes file.now) }
+    {
+        if !is_written(alloc, file.kind(), form, changes)? {
+            return Ok(None);
+        }
+        let Some(marker) = marker_before(bytes.as_bytes(), file.first()) else {
+            return Ok(None);
+        };
+        let marker = Vec::from_slice(alloc, marker)?;
+        Ok(Some(Direct { bytes, marker }))
+    }
+
+    /// The rows of the block at an offset, after one with the key before, and the offset after it.
+    pub(crate) fn read_block(
+        &self,
+        alloc: Global,
+        form: &TableForm,
+        changes: bool,
+        offset: usize,
+        before: &Option<Key>,
+    ) -> Option<(RowsRead, usize)>
+        ensures { IfSome result (λ read. (o : Opened) → o.form ≡ form.now → o.changes ≡ changes
+            → IsDirect self.now form.now changes o.file → ReadsBlock o offset before.now (Ok (Some read))) }
+    {
+        let bytes = self.bytes.as_bytes();
+        if bytes.len() < offset {
+            return None;
+        }
+        let (count, middle) = read_size(alloc, bytes.split_at(offset).1)?;
+        let (size, left) = read_size(alloc, middle)?;
+        if size < count || left.len() < size {
+            return None;
+        }
+        let (content, after) = left.split_at(size);
+        let rest = after_prefix(self.marker.as_slice(), after)?;
+        let rows = read_rows(alloc, form, changes, before, count, content)?;
+        let read = RowsRead {
+            rows,
+            refusal: None,
+        };
+        Some((read, bytes.len() - rest.len()))
+    }
+}
+
+/// The marker that ends at an offset.
+fn marker_before(bytes: &[u8], end: usize) -> Option<&[u8]>
+    ensures within { IfSome result (λ _. 16 ≤ end) }
+    ensures marker { IfSome result (λ marker. marker.now ≡ take 16 (drop (end - 16) bytes.now)) }
+{
+    if end < MARKER || bytes.len() < end {
+        return None;
+    }
+    Some(bytes.split_at(end - MARKER).1.split_at(MARKER).0)
+}
+
+/// What follows a prefix.
+fn after_prefix<'b>(prefix: &[u8], bytes: &'b [u8]) -> Option<&'b [u8]>
+    ensures { MatchOption result ((rest : List ℕ) → bytes.now ≢ prefix.now ++ rest)
+        (λ rest. bytes.now ≡ prefix.now ++ rest.now) }
+{
+    bytes.strip_prefix(prefix)
+}
+
+/// As many rows after one with the key before, where they are all of the bytes.
+fn read_rows(
+    alloc: Global,
+    form: &TableForm,
+    changes: bool,
+    before: &Option<Key>,
+    count: usize,
+    bytes: &[u8],
+) -> Option<Vec<Stamped>>
+    ensures rows { IfSome result (λ rows. AreRows form.now changes before.now rows.items bytes.now []) }
+    ensures many { IfSome result (λ rows. length rows.items ≡ count) }
+{
+    let mut rows = Vec::with_capacity(alloc, count).ok()?;
+    let mut rest = bytes;
+    for _ in 0..count {
+        let (row, after) = read_row(alloc, form, rest)?;
+        if !may_follow(changes, last_key(before, &rows), &row.key) {
+            return None;
+        }
+        rows.push(row).ok()?;
+        rest = after;
+    }
+    if rest.is_empty() { Some(rows) } else { None }
+}
+
+/// The row that the bytes begin with, and the rest.
+fn read_row<'b>(alloc: Global, form: &TableForm, bytes: &'b [u8]) -> Option<(Stamped, &'b [u8])>
+    ensures { IfSome result (λ x. IsRow form.now x.0 bytes.now x.1.now) }
+{
+    let (values, rest) = read_values(alloc, &form.keys, bytes)?;
+    let (seq, rest) = read_sequence(alloc, rest)?;
+    let (kind, rest) = read_kind(alloc, rest)?;
+    let (row, rest) = read_values(alloc, &form.columns, rest)?;
+    if !agree(&form.places, &row, &values) {
+        return None;
+    }
+    let row = Row::new(row);
+    let key = own_key(alloc, form, &row, values).ok()?;
+    Some((
+        Stamped {
+            key,
+            seq,
+            kind,
+            row,
+        },
+        rest,
+    ))
+}
+
+/// The sequence number that the bytes begin with, and the rest.
+fn read_sequence(alloc: Global, bytes: &[u8]) -> Option<(u64, &[u8])>
+    ensures long { IfSome result (λ x. IsLong (pos x.0) bytes.now x.1.now) }
+    ensures within { IfSome result (λ x. x.0 ≤ most_sequence) }
+{
+    let (number, rest) = read_long(alloc, bytes)?;
+    let number = u64::try_from(number).ok()?;
+    if number <= MOST_SEQUENCE {
+        Some((number, rest))
+    } else {
+        None
+    }
+}
+
+/// The kind whose number the bytes begin with, and the rest.
+fn read_kind(alloc: Global, bytes: &[u8]) -> Option<(Kind, &[u8])>
+    ensures { IfSome result (λ x. IsInt (pos (code_of x.0)) bytes.now x.1.now) }
+{
+    let (number, rest) = read_int(alloc, bytes)?;
+    Some((Kind::from_code(i64::from(number))?, rest))
+}
+
+/// The values of fields that the bytes begin with, and the rest.
+fn read_values<'b>(
+    alloc: Global,
+    fields: &[Field],
+    bytes: &'b [u8],
+) -> Option<(Vec<Value>, &'b [u8])>
+    ensures { IfSome result (λ x. AreCells fields.now x.0.items bytes.now x.1.now) }
+{
+    let mut values = Vec::with_capacity(alloc, fields.len()).ok()?;
+    let mut rest = bytes;
+    for field in fields {
+        let (value, after) = read_value(alloc, field, rest)?;
+        values.push(value).ok()?;
+        rest = after;
+    }
+    Some((values, rest))
+}
+
+/// The value of a field that the bytes begin with, and the rest. That of one that may be null stands after the index
+/// of its branch.
+fn read_value<'b>(alloc: Global, field: &Field, bytes: &'b [u8]) -> Option<(Value, &'b [u8])>
+    ensures { IfSome result (λ x. IsCell field.now x.0 bytes.now x.1.now) }
+{
+    if !field.nullable {
+        return read_scalar(alloc, field.kind, bytes);
+    }
+    match bytes.split_first()? {
+        (0, rest) => Some((Value::Null, rest)),
+        (2, rest) => read_scalar(alloc, field.kind, rest),
+        _ => None,
+    }
+}

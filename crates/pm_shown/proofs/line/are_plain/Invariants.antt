@@ -1,0 +1,8 @@
+use Rattle.std.proofs.Common.{take}
+use Rattle.std.specs.List.{AllByRecursion}
+use Rattle.pm_shown.specs.Plain.{IsPlain}
+use Rattle.pm_shown.proofs.line.are_plain.Given as goal
+
+-- those so far are plain
+abbrev pub invariant-loop-value : goal.invariant-loop-value
+invariant-loop-value l = AllByRecursion IsPlain (take l.value-index l.values)
