@@ -2,35 +2,49 @@
 
 ghost use Rattle.std.specs.Prelude.{◌≡◌, IfOk, IfErr};
 ghost use Rattle.pm_values.specs.declared.refusal.Refusal.TheVariants.{Memory};
-ghost use Rattle.pm_options.specs.declared.kinds.EngineKind.TheVariants as engines;
 ghost use Rattle.pm_engine.specs.OfSchema.{meaning_of};
-ghost use Rattle.pm_engines.specs.TableEngine.{schema_of};
+ghost use Rattle.pm_engines.specs.TableEngine.{HasEngine, schema_of};
 ghost use Rattle.pm_engines.specs.Verdict.{verdict_on};
 
 use crate::verdict::{Verdict, named};
-use pm_dedup::Deduplicate;
+use pm_aggregate::Aggregation;
+use pm_dedup::{Deduplicate, FirstRow};
 use pm_engine::{MergeEngine, Stored, Verdict as VerdictByIndex};
-use pm_schema::TableSchema;
+use pm_partial::PartialUpdate;
+use pm_schema::{EngineKind, TableSchema};
 use pm_values::{Kind, Refusal, Row};
 use std::alloc::{AllocError, Global};
 
-/// The engine of a table: one of those that are built.
+/// The engine of a table: any of them.
 #[derive(Drop)]
 pub enum TableEngine {
     Deduplicate(Deduplicate),
+    PartialUpdate(PartialUpdate),
+    Aggregation(Aggregation),
+    FirstRow(FirstRow),
 }
 
 impl TableEngine {
-    /// The engine of the schema. It has to be one that is built, which so far is deduplication alone; this condition
-    /// falls when the others come.
+    /// The engine of the schema. Each schema that was read has one (`declared_law`).
     pub fn of_schema(alloc: Global, schema: &TableSchema) -> Result<TableEngine, Refusal>
-        requires { schema.now.options.engine ≡ engines.Deduplicate }
+        requires { HasEngine schema.now }
         ensures schema { IfOk result (λ engine. schema_of engine ≡ schema.now) }
         ensures meaning { IfOk result (λ engine.
             ⟦<TableEngine as MergeEngine>⟧.meaning engine ≡ meaning_of schema.now) }
         ensures memory { IfErr result (λ e. e ≡ Memory) }
     {
-        Ok(TableEngine::Deduplicate(Deduplicate::of_schema(alloc, schema)?))
+        match schema.options.engine {
+            EngineKind::Deduplicate => Ok(TableEngine::Deduplicate(Deduplicate::of_schema(
+                alloc, schema,
+            )?)),
+            EngineKind::PartialUpdate => Ok(TableEngine::PartialUpdate(PartialUpdate::of_schema(
+                alloc, schema,
+            )?)),
+            EngineKind::Aggregation => Ok(TableEngine::Aggregation(Aggregation::of_schema(
+                alloc, schema,
+            )?)),
+            EngineKind::FirstRow => Ok(TableEngine::FirstRow(FirstRow::of_schema(alloc, schema)?)),
+        }
     }
 
     /// What becomes of a row of the kind, with the name of the column that refuses it.
@@ -46,6 +60,9 @@ impl TableEngine {
     {
         match self {
             TableEngine::Deduplicate(engine) => &engine.schema,
+            TableEngine::PartialUpdate(engine) => &engine.schema,
+            TableEngine::Aggregation(engine) => &engine.schema,
+            TableEngine::FirstRow(engine) => &engine.schema,
         }
     }
 }
@@ -56,30 +73,45 @@ impl MergeEngine for TableEngine {
     fn accepts(&self, kind: Kind) -> VerdictByIndex {
         match self {
             TableEngine::Deduplicate(engine) => engine.accepts(kind),
+            TableEngine::PartialUpdate(engine) => engine.accepts(kind),
+            TableEngine::Aggregation(engine) => engine.accepts(kind),
+            TableEngine::FirstRow(engine) => engine.accepts(kind),
         }
     }
 
     fn lift(&self, alloc: Global, kind: Kind, row: Row) -> Result<Stored, AllocError> {
         match self {
             TableEngine::Deduplicate(engine) => engine.lift(alloc, kind, row),
+            TableEngine::PartialUpdate(engine) => engine.lift(alloc, kind, row),
+            TableEngine::Aggregation(engine) => engine.lift(alloc, kind, row),
+            TableEngine::FirstRow(engine) => engine.lift(alloc, kind, row),
         }
     }
 
     fn combine(&self, alloc: Global, older: Stored, newer: Stored) -> Result<Stored, AllocError> {
         match self {
             TableEngine::Deduplicate(engine) => engine.combine(alloc, older, newer),
+            TableEngine::PartialUpdate(engine) => engine.combine(alloc, older, newer),
+            TableEngine::Aggregation(engine) => engine.combine(alloc, older, newer),
+            TableEngine::FirstRow(engine) => engine.combine(alloc, older, newer),
         }
     }
 
     fn shows(&self, stored: &Stored) -> bool {
         match self {
             TableEngine::Deduplicate(engine) => engine.shows(stored),
+            TableEngine::PartialUpdate(engine) => engine.shows(stored),
+            TableEngine::Aggregation(engine) => engine.shows(stored),
+            TableEngine::FirstRow(engine) => engine.shows(stored),
         }
     }
 
     fn droppable(&self, stored: &Stored) -> bool {
         match self {
             TableEngine::Deduplicate(engine) => engine.droppable(stored),
+            TableEngine::PartialUpdate(engine) => engine.droppable(stored),
+            TableEngine::Aggregation(engine) => engine.droppable(stored),
+            TableEngine::FirstRow(engine) => engine.droppable(stored),
         }
     }
 }

@@ -8,10 +8,10 @@ ghost use Rattle.std.specs.Ordering.{is_le, is_ge};
 ghost use Rattle.pm_values.specs.Order.{value_cmp};
 ghost use Rattle.pm_values.specs.declared.value.Value.TheVariants.{Null, Bool as Truth};
 ghost use Rattle.pm_history.specs.ColumnValue.{width_of, summand, sum_value, extreme_value, last_left, text_in, delimiter_of, joined_value, truth_in, all_value, any_value, aggregate_by};
-ghost use Rattle.pm_reference.specs.Steps.{added, appended, half_of};
+ghost use Rattle.pm_reference.specs.Steps.{added, appended};
 
-use crate::columns::entry_at;
 use crate::values::{first_value, last_of, last_value, non_null, value_at, values_at};
+use pm_columns::{delimiter_of, wrapped};
 use pm_schema::{Function, TableSchema};
 use pm_values::{ColType, Column, Kind, Row, Txt, Value};
 use std::alloc::{AllocError, Global};
@@ -85,33 +85,6 @@ fn added(kind: ColType, sum: Option<i64>, n: Option<i128>) -> Option<i64>
     }
 }
 
-/// What is left of an integer in the type's bits.
-fn wrapped(kind: ColType, n: i128) -> i64
-    ensures { result ≡ int_wrap (width_of kind) n }
-{
-    let half = half_of(kind);
-    let rest = n.rem_euclid(2 * half);
-    if rest < half {
-        rest as i64
-    } else {
-        (rest - 2 * half) as i64
-    }
-}
-
-/// The least integer that is too great for the type.
-fn half_of(kind: ColType) -> i128
-    ensures half { result ≡ pos (half_of kind) }
-    ensures some { pos 1 ≤ℤ result }
-    ensures most { result ≤ℤ pos (2 ^ 63) }
-{
-    match kind {
-        ColType::TinyInt => 0x80,
-        ColType::SmallInt => 0x8000,
-        ColType::Int => 0x8000_0000,
-        _ => 0x8000_0000_0000_0000,
-    }
-}
-
 /// The greatest of the values, null where there is none.
 fn greatest(alloc: Global, values: &[Value]) -> Result<Value, AllocError>
     ensures { IfOk result (λ value. value ≡ extreme_value is_le values.now) }
@@ -180,10 +153,7 @@ fn joined_value(
     ensures { IfOk result (λ value. value
         ≡ joined_value (delimiter_of schema.now column.now) (filter_map text_in values.now)) }
 {
-    match entry_at(schema.options.delimiters.as_slice(), column.name.as_str()) {
-        Some(delimiter) => joined(alloc, delimiter.as_str(), values),
-        None => joined(alloc, ",", values),
-    }
+    joined(alloc, delimiter_of(schema, column), values)
 }
 
 /// The texts with the delimiter between them, null where there is none.

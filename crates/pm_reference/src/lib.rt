@@ -5,11 +5,9 @@
 #![tactic(auto)]
 
 mod aggregates;
-mod columns;
 mod groups;
 mod table;
 mod values;
-mod verdicts;
 
+pub use pm_columns::verdict_of;
 pub use table::merged_rows;
-pub use verdicts::verdict_of;

@@ -11,9 +11,9 @@ ghost use Rattle.pm_history.specs.Merged.{primary_of, shows, values_of, merged_r
 ghost use Rattle.pm_reference.specs.Table.{placed};
 
 use crate::aggregates::aggregate_by;
-use crate::columns::{function_of, group_of, is_key, skips_retractions};
 use crate::groups::updated_value;
 use crate::values::{adding, first_value, last_of, last_value, values_at};
+use pm_columns::{function_of, group_of, is_key, skips_retractions};
 use pm_history::{key_of, primary_of};
 use pm_schema::{EngineKind, TableSchema};
 use pm_values::{Column, Key, Kind, Row, Value};

@@ -1,0 +1,18 @@
+use Rattle.std.proofs.Common.{◌∙◌}
+use Rattle.pm_aggregate.proofs.AggregationLemmas.{lifts, takes-all}
+use Rattle.pm_aggregate.proofs.aggregation.AggregationMergeEngine.lift.Goals as goal
+
+-- each function takes the row
+pub lifted_row-stored-requires : goal.lifted_row-stored-requires
+lifted_row-stored-requires c =
+    let engine = c.args.self.now in
+    takes-all engine.schema engine.aggregates engine.can c.as_slice.result.now c.args.kind (c.as_slice.ensures.value ∙ engine.are) c.requires.taken
+
+-- the row that is made of it speaks for it
+pub returns : goal.returns
+returns c =
+    let engine = c.args.self.now in
+    record {
+      lifts = λ fits.
+          lifts engine.schema engine.aggregates engine.can c.as_slice.result.now c.args.kind c.args.row c.in_ok-stored.field-0 (c.as_slice.ensures.value ∙ engine.are) c.requires.taken fits c.in_ok-stored.ensures;
+    }

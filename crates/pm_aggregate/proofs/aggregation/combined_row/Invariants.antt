@@ -1,0 +1,13 @@
+use Rattle.std.proofs.Common.{◌≡◌, ℕ, ◌<◌, length, slice_get, Option, Some}
+use Rattle.pm_history.specs.Merge.{value_at}
+use Rattle.pm_aggregate.specs.Aggregation.{IsCombined}
+use Rattle.pm_aggregate.specs.declared.column_function.ColumnFunction.{ColumnFunction}
+use Rattle.pm_aggregate.proofs.aggregation.combined_row.Given as goal
+
+-- the values so far
+abbrev pub invariant-loop-index : goal.invariant-loop-index
+invariant-loop-index l = record {
+  size : length l.values.items ≡ l.index;
+  each : (i : ℕ) (f : Option ColumnFunction) → i < l.index → slice_get l.functions i ≡ Some f
+      → IsCombined f (value_at l.older i) (value_at l.newer i) (value_at l.values.items i);
+}

@@ -1,0 +1,9 @@
+use Rattle.pm_aggregate.proofs.FunctionLaws.{any-lifts}
+use Rattle.pm_aggregate.proofs.truths.BoolOrAggregator.lift.Goals as goal
+
+-- what is left of the row's value speaks for it
+pub returns : goal.returns
+returns c = record {
+  lifts = λ kind same of_type.
+      any-lifts c.args.self.now.kind c.args.self.now.skips kind c.args.retract c.args.value c.lifted.result same c.lifted.ensures c.requires.taken of_type;
+}

@@ -1,0 +1,5 @@
+pub mod Aggregation
+pub mod Column
+pub mod ColumnFunction
+pub mod Functions
+pub mod Steps

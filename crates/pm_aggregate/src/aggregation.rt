@@ -1,0 +1,175 @@
+//! The engine that folds each column.
+
+ghost use Rattle.std.specs.Prelude.{◌≡◌, map, All, IfOk};
+ghost use Rattle.pm_options.specs.declared.kinds.EngineKind.TheVariants as engines;
+ghost use Rattle.pm_engine.specs.OfSchema.{meaning_of};
+ghost use Rattle.pm_aggregate.specs.Aggregation.{AreCombined, AreLifted, CanAggregate, IsCombined, IsLifted, Takes};
+ghost use Rattle.pm_aggregate.specs.ColumnFunction.{function_on};
+ghost use Rattle.pm_history.specs.Merge.{value_at};
+
+use crate::aggregator::Aggregator;
+use crate::column_function::{ColumnFunction, function_on};
+use pm_columns::verdict_of;
+use pm_engine::{MergeEngine, Stored, Verdict};
+use pm_schema::TableSchema;
+use pm_values::{Column, Kind, Row, Value};
+use std::alloc::{AllocError, Global};
+
+/// Folds each column of its schema by the column's function, over the rows of each key.
+#[derive(Drop)]
+pub struct Aggregation {
+    pub schema: TableSchema,
+    functions: Vec<Option<ColumnFunction>>,
+    ghost aggregates: { schema.options.engine ≡ engines.Aggregation },
+    ghost can: { CanAggregate schema },
+    ghost are: { functions.items ≡ map (function_on schema) schema.columns },
+}
+
+impl Aggregation {
+    /// The engine of a schema that names it and can be aggregated.
+    pub fn of_schema(alloc: Global, schema: &TableSchema) -> Result<Aggregation, AllocError>
+        requires engine { schema.now.options.engine ≡ engines.Aggregation }
+        requires can { CanAggregate schema.now }
+        ensures schema { IfOk result (λ engine. engine.schema ≡ schema.now) }
+        ensures meaning { IfOk result (λ engine.
+            ⟦<Aggregation as MergeEngine>⟧.meaning engine ≡ meaning_of schema.now) }
+    {
+        let functions = functions_of(alloc, schema)?;
+        match schema.copy(alloc) {
+            Ok(schema) => Ok(Aggregation { schema, functions }),
+            Err(e) => {
+                drop(functions);
+                Err(e)
+            }
+        }
+    }
+}
+
+/// The functions of a schema's columns.
+fn functions_of(
+    alloc: Global,
+    schema: &TableSchema,
+) -> Result<Vec<Option<ColumnFunction>>, AllocError>
+    ensures { IfOk result (λ functions. functions.items ≡ map (function_on schema.now) schema.now.columns) }
+{
+    let columns = schema.columns.as_slice();
+    let mut functions = Vec::with_capacity(alloc, columns.len())?;
+    for column in columns {
+        functions.push(function_on(alloc, schema, column)?)?;
+    }
+    Ok(functions)
+}
+
+impl MergeEngine for Aggregation {
+    ghost meaning = { λ engine. meaning_of engine.schema };
+
+    fn accepts(&self, kind: Kind) -> Verdict {
+        verdict_of(&self.schema, kind)
+    }
+
+    fn lift(&self, alloc: Global, kind: Kind, row: Row) -> Result<Stored, AllocError> {
+        let stored = lifted_row(alloc, self.functions.as_slice(), kind, &row);
+        drop(row);
+        Ok(Stored {
+            kind: Kind::Insert,
+            row: stored?,
+        })
+    }
+
+    fn combine(&self, alloc: Global, older: Stored, newer: Stored) -> Result<Stored, AllocError> {
+        let stored = combined_row(alloc, self.functions.as_slice(), &older.row, &newer.row);
+        drop(older);
+        drop(newer);
+        Ok(Stored {
+            kind: Kind::Insert,
+            row: stored?,
+        })
+    }
+
+    fn shows(&self, _stored: &Stored) -> bool {
+        true
+    }
+
+    fn droppable(&self, _stored: &Stored) -> bool {
+        false
+    }
+}
+
+/// The stored row of one row.
+fn lifted_row(
+    alloc: Global,
+    functions: &[Option<ColumnFunction>],
+    kind: Kind,
+    row: &Row,
+) -> Result<Row, AllocError>
+    requires { All (Takes kind) functions.now }
+    ensures { IfOk result (λ stored. AreLifted functions.now kind row.now stored) }
+{
+    let mut values = Vec::with_capacity(alloc, functions.len())?;
+    for (index, function) in functions.iter().enumerate() {
+        values.push(lifted(alloc, function, kind, value_at(alloc, row, index)?)?)?;
+    }
+    Ok(Row::new(values))
+}
+
+/// The stored value of a row's value.
+fn lifted(
+    alloc: Global,
+    function: &Option<ColumnFunction>,
+    kind: Kind,
+    value: Value,
+) -> Result<Value, AllocError>
+    requires { Takes kind function.now }
+    ensures { IfOk result (IsLifted kind function.now value) }
+{
+    match function {
+        Some(function) => function.lift(alloc, kind.retracts(), value),
+        None => Ok(value),
+    }
+}
+
+/// The stored row of two.
+fn combined_row(
+    alloc: Global,
+    functions: &[Option<ColumnFunction>],
+    older: &Row,
+    newer: &Row,
+) -> Result<Row, AllocError>
+    ensures { IfOk result (λ stored. AreCombined functions.now older.now newer.now stored) }
+{
+    let mut values = Vec::with_capacity(alloc, functions.len())?;
+    for (index, function) in functions.iter().enumerate() {
+        values.push(combined(alloc, function, older, newer, index)?)?;
+    }
+    Ok(Row::new(values))
+}
+
+/// The stored value of the values that two rows have at an index.
+fn combined(
+    alloc: Global,
+    function: &Option<ColumnFunction>,
+    older: &Row,
+    newer: &Row,
+    index: usize,
+) -> Result<Value, AllocError>
+    ensures { IfOk result (IsCombined function.now (value_at older.now index) (value_at newer.now index)) }
+{
+    match function {
+        Some(function) => {
+            let before = value_at(alloc, older, index)?;
+            let after = value_at(alloc, newer, index)?;
+            function.combine(alloc, before, after)
+        }
+        None => value_at(alloc, newer, index),
+    }
+}
+
+/// The value at an index, null where there is none.
+fn value_at(alloc: Global, row: &Row, index: usize) -> Result<Value, AllocError>
+    ensures { IfOk result (λ value. value ≡ value_at row.now index) }
+{
+    match row.values().get(index) {
+        Some(value) => value.copy(alloc),
+        None => Ok(Value::Null),
+    }
+}

@@ -1,0 +1,12 @@
+use Rattle.std.proofs.Common.{◌≡◌, ℕ, ◌<◌, length, slice_get, Some}
+use Rattle.pm_history.specs.Merge.{value_at}
+use Rattle.pm_partial.specs.PartialUpdate.{IsCombined}
+use Rattle.pm_partial.specs.declared.update.Update.{Update}
+use Rattle.pm_partial.proofs.partial_update.combined_row.Given as goal
+
+-- the values so far
+abbrev pub invariant-loop-index : goal.invariant-loop-index
+invariant-loop-index l = record {
+  size : length l.values.items ≡ l.index;
+  each : (i : ℕ) (u : Update) → i < l.index → slice_get l.updates i ≡ Some u → IsCombined u l.older l.newer i (value_at l.values.items i);
+}

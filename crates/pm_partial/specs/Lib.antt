@@ -1,0 +1,2 @@
+pub mod PartialUpdate
+pub mod Update
