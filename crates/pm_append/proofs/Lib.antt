@@ -8,4 +8,5 @@ mod LiveLemmas
 mod MadeLemmas
 mod ManifestLemmas
 mod NumberLemmas
+mod OwnLemmas
 mod RowLemmas

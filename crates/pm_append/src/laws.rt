@@ -2,13 +2,16 @@
 
 ghost use Rattle.std.specs.Prelude.{◌≡◌, suc, List, length, None, Some};
 ghost use Rattle.std.specs.FinMap as map;
+ghost use Rattle.std.specs.List.{AllByRecursion};
 ghost use Rattle.pm_store.specs.Files.{Files, Puts};
 ghost use Rattle.pm_history.specs.History.{Entry, append as append_entry};
 ghost use Rattle.pm_schema.specs.declared.schema.TableSchema.{TableSchema};
-ghost use Rattle.pm_folder.specs.Changes.{Actor, NamesOwn};
+ghost use Rattle.pm_folder.specs.Changes.{Actor, IsOwn, NamesOwn};
 ghost use Rattle.pm_folder.specs.Commits.{IsAppend};
 ghost use Rattle.pm_folder.specs.Paths.{snapshot_path};
-ghost use Rattle.pm_append.specs.Commit.{Attempt, IsAsMade, IsReady};
+ghost use Rattle.pm_append.specs.Files.{IsAppendOf};
+ghost use Rattle.pm_append.specs.declared.newest.CommitFile.{CommitFile as FileView};
+ghost use Rattle.pm_append.specs.Commit.{Attempt, IsAsMade, IsBuilt, IsReady, MakesNames};
 
 use pm_contents::{kept_law, one_contents_law, one_runs_law};
 use pm_engine::added_law;
@@ -44,3 +47,10 @@ pub fn append_law()
     batch_law();
     written_law();
 }
+
+/// The files of a commit are ones that its actor alone makes.
+pub fn own_files_law()
+    ensures { (me : Actor) (s : TableSchema) (t : Attempt) → IsBuilt s → MakesNames me t →
+        IsAppendOf s t.newest t.author t.batch t.names t.made →
+        AllByRecursion (λ (file : FileView). IsOwn me file.path) t.made.files.items }
+{}

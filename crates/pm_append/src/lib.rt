@@ -17,6 +17,6 @@ mod newest;
 mod numbers;
 mod snapshot;
 
-pub use laws::append_law;
+pub use laws::{append_law, own_files_law};
 pub use making::append;
 pub use newest::{Append, Author, CommitFile, Newest};
