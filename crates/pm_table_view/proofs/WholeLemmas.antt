@@ -19,7 +19,7 @@ use Rattle.pm_table_view.specs.declared.view.View.{View}
 use Rattle.pm_table_view.proofs.NamedLemmas.{named_exactly}
 
 none-some : {X : Type 0} (x : X) → None ≡ Some x → ⊥
-none-some x is = subst (λ (o : Option _). elim o as (λ _. Type 0) [ | None ↦ Unit {0} | Some y ↦ ⊥ ]) is tt
+none-some x is = subst (λ (o : Option _). elim o as (λ _. Type 0) [ None ↦ Unit {0} | Some y ↦ ⊥ ]) is tt
 
 of-some : {X : Type 0} (d x y : X) → Some x ≡ Some y → x ≡ y
 of-some d x y is = ap (λ (o : Option _). unwrap_or o d) is
@@ -36,13 +36,13 @@ whole-named one p v l path (view_snapshot x base delta entries live stood has le
     let f = p.stood l.snapshot.id in
     let c : Contents = record { base = base; delta = delta; entries = entries; changelog = metas; changes = changes } in
     let table : HasEntries f l.schema l.snapshot base delta entries =
-        subst (λ (s : TableSchema). HasEntries f s l.snapshot base delta entries) schema
-        (subst (λ (x : Snapshot). HasEntries (p.stood x.id) v.schema x base delta entries) same has) in
+    subst (λ (s : TableSchema). HasEntries f s l.snapshot base delta entries) schema
+    (subst (λ (x : Snapshot). HasEntries (p.stood x.id) v.schema x base delta entries) same has) in
     let contents : HasContents f l.schema l.snapshot c = record { table = table; changelog = logged.1 } in
     let commit : HasCommit f l.schema l.snapshot.id l.snapshot c = (logged.0.was, contents) in
     let parts : parts_of v.manifests.items v.live.items metas changes ≡ parts_of (base ++ delta) (live_entries entries) metas changes =
-        ap (λ ms. parts_of ms v.live.items metas changes) is.manifests
-        ∙ ap (λ es. parts_of (base ++ delta) es metas changes) (is.entries ∙ ap (λ (w : Wanted). live_entries (kept_for w entries)) wanted) in
+    ap (λ ms. parts_of ms v.live.items metas changes) is.manifests
+    ∙ ap (λ es. parts_of (base ++ delta) es metas changes) (is.entries ∙ ap (λ (w : Wanted). live_entries (kept_for w entries)) wanted) in
     let exact = named_exactly l.schema l.snapshot c path in (
       (λ found. (
         l.snapshot,
@@ -51,9 +51,9 @@ whole-named one p v l path (view_snapshot x base delta entries live stood has le
         exact.0 (subst (λ (parts : Parts). Contains (named_paths l.schema l.snapshot parts) path) parts found),
       )),
       (λ named.
-        let (y, d, other, is_named) = named in
-        let both = one-commit one f l.schema l.snapshot.id y l.snapshot d c other commit in
-        subst (λ (parts : Parts). Contains (named_paths l.schema l.snapshot parts) path) (sym parts)
-        (exact.1 (subst (λ (c : Contents). IsNamed l.schema l.snapshot c path) both.1
-        (subst (λ (y : Snapshot). IsNamed l.schema y d path) both.0 is_named)))),
+          let (y, d, other, is_named) = named in
+          let both = one-commit one f l.schema l.snapshot.id y l.snapshot d c other commit in
+          subst (λ (parts : Parts). Contains (named_paths l.schema l.snapshot parts) path) (sym parts)
+          (exact.1 (subst (λ (c : Contents). IsNamed l.schema l.snapshot c path) both.1
+          (subst (λ (y : Snapshot). IsNamed l.schema y d path) both.0 is_named)))),
     )

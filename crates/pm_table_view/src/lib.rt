@@ -37,7 +37,9 @@ mod reading;
 mod view;
 
 pub use asked::{Asked, Sought, Wanted};
-pub use laws::{absent_law, causes_law, entries_law, images_law, known_law, listed_law, named_law, whole_law};
+pub use laws::{
+    absent_law, causes_law, entries_law, images_law, known_law, listed_law, named_law, whole_law,
+};
 pub use log::{Log, LogAsked, LogReading};
 pub use log_laws::{log_causes_law, log_images_law, log_known_law};
 pub use log_phase::LogPhase;
