@@ -40,7 +40,6 @@ pub fn append(
     requires numbers { AllByRecursion (λ (e : EntryView). e.file.max_seq ≤ most_sequence) newest.now.live.items }
     requires some { 1 ≤ length batch.old }
     requires based { names.old.base ≡ author.now.base }
-    requires base { author.now.base ≤ newest.now.id }
     requires count { names.old.count + length batch.old + 4 ≤ 2 ^ 62 }
     ensures made { IfOk result (IsAppendOf schema.now newest.now author.now batch.old names.old) }
     ensures taken { OnOk result (refusal_of newest.now author.now batch.old ≡ None) }
