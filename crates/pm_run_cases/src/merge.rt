@@ -8,12 +8,11 @@ ghost use Rattle.pm_merge.specs.Merge.{runs_of};
 use crate::order::are_rising;
 use crate::rows::{print_rows, read_rows};
 use crate::table::{Table, read_table};
-use pm_case::print_refusal;
+use pm_dedup::Deduplicate;
 use pm_engine::{MergeEngine, Verdict, reduce};
-use pm_engines::TableEngine;
 use pm_merge::merge_runs;
 use pm_schema::EngineKind;
-use pm_values::{Refusal, Stamped};
+use pm_values::Stamped;
 use std::alloc::{AllocError, Global};
 
 /// The rows of the runs of a draft's table made into one, with `keep` or `drop`.
@@ -34,10 +33,9 @@ pub fn answer(alloc: Global, arguments: &str) -> Result<Option<String>, AllocErr
     let Some(runs) = read_runs(alloc, &table, runs)? else {
         return Ok(None);
     };
-    match engine_of(alloc, &table) {
-        Ok(Some(engine)) => Ok(Some(print_merged(alloc, &table, &engine, runs, drop)?)),
-        Ok(None) => Ok(None),
-        Err(refusal) => Ok(Some(print_refusal(alloc, &refusal)?)),
+    match engine_of(alloc, &table)? {
+        Some(engine) => Ok(Some(print_merged(alloc, &table, &engine, runs, drop)?)),
+        None => Ok(None),
     }
 }
 
@@ -104,19 +102,19 @@ fn push_run(runs: &mut Vec<Vec<Stamped>>, run: Vec<Stamped>) -> Result<(), Alloc
     Ok(())
 }
 
-/// The engine of a table, where it is built.
-fn engine_of(alloc: Global, table: &Table) -> Result<Option<TableEngine>, Refusal> {
+/// The engine of a table that keeps last rows. `pm_engine_cases` has the others.
+fn engine_of(alloc: Global, table: &Table) -> Result<Option<Deduplicate>, AllocError> {
     match table.schema.options.engine {
-        EngineKind::Deduplicate => Ok(Some(TableEngine::of_schema(alloc, &table.schema)?)),
+        EngineKind::Deduplicate => Ok(Some(Deduplicate::of_schema(alloc, &table.schema)?)),
         _ => Ok(None),
     }
 }
 
 /// The rows of runs made into one.
-fn print_merged(
+fn print_merged<E: MergeEngine>(
     alloc: Global,
     table: &Table,
-    engine: &TableEngine,
+    engine: &E,
     runs: Vec<Vec<Stamped>>,
     drop: bool,
 ) -> Result<String, AllocError>
@@ -137,10 +135,9 @@ pub fn reduce_answer(alloc: Global, arguments: &str) -> Result<Option<String>, A
     let Some(rows) = read_rows(alloc, &table, text)? else {
         return Ok(None);
     };
-    match engine_of(alloc, &table) {
-        Ok(Some(engine)) => Ok(Some(print_reduced(alloc, &table, &engine, rows)?)),
-        Ok(None) => Ok(None),
-        Err(refusal) => Ok(Some(print_refusal(alloc, &refusal)?)),
+    match engine_of(alloc, &table)? {
+        Some(engine) => Ok(Some(print_reduced(alloc, &table, &engine, rows)?)),
+        None => Ok(None),
     }
 }
 
