@@ -17,6 +17,7 @@
 //! | `store` | `memory`, `fails` and a plan, or `folder` and a name; calls | their answers |
 //! | `rivals` | how many others commit before this write, an input | its outcome, how many operations, the plain file |
 //! | `folder` | a name, a draft | `create` through one store of that folder and through another, then `snapshots` |
+//! | `scanned` | a name; paths, each with a file's bytes | `scan` of that folder, in which these files were created |
 //! | `refusal` | its kind and its parts | its status and its line |
 //! | `short-refusal` | the room of the sink, a refusal as before | its status, and what the sink takes of its line |
 //!
@@ -56,6 +57,7 @@ fn answer(rt: &HostRuntime, alloc: Global, line: &str) -> io::Result<String> {
     let found = match codec {
         "store" => store::answer(rt, alloc, arguments)?,
         "folder" => folder::answer(rt, alloc, arguments)?,
+        "scanned" => folder::scanned_answer(rt, alloc, arguments)?,
         _ => answer_of(alloc, codec, arguments)?,
     };
     match found {

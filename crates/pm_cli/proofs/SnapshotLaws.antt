@@ -13,8 +13,6 @@ use Rattle.pm_store.specs.Store.{StoreView}
 use Rattle.pm_store.proofs.ImageLaws.{Extends-weaker}
 use Rattle.pm_machine.specs.Trace.{Event, HasTrace}
 use Rattle.pm_history.specs.History.{History, IsTableOf, no_table}
-use Rattle.pm_options.specs.declared.kinds.EngineKind.{EngineKind}
-use Rattle.pm_options.specs.declared.kinds.EngineKind.TheVariants as engines
 use Rattle.pm_options.specs.declared.kinds.Producer.{Producer}
 use Rattle.pm_options.specs.declared.kinds.Producer.TheVariants as producers
 use Rattle.pm_schema.specs.declared.schema.TableSchema.{TableSchema}
@@ -22,7 +20,7 @@ use Rattle.pm_folder.specs.Folder.{Folder}
 use Rattle.pm_create.specs.Making.{LeavesFiles}
 use Rattle.pm_view.specs.AllCalls.{DidRead, HasFiles, IsCaused, Stay, ReadsTables}
 use Rattle.pm_view.specs.Trace.{listed_snapshots}
-use Rattle.pm_draft.specs.Built.{IsBuilt, unbuilt, unbuilt_engine, unbuilt_producer, unbuilt_bucket, unbuilt_partition}
+use Rattle.pm_draft.specs.Built.{IsBuilt, unbuilt, unbuilt_producer, unbuilt_bucket, unbuilt_partition}
 use Rattle.pm_snapshots.specs.AllCalls as lister
 use Rattle.pm_snapshots.specs.AllCalls.{AreLinesOf, GoesOnFrom}
 use Rattle.pm_snapshots.specs.Lister.{lines_of}
@@ -125,10 +123,6 @@ or_text : (o p : Option Refusal) → IfSome o IsText → IfSome p IsText → IfS
 or_text None p first next = next
 or_text (Some e) p first next = first
 
-engine_text : (engine : EngineKind) → IfSome (unbuilt_engine engine) IsText
-engine_text engines.Deduplicate = tt
-engine_text other = tt
-
 producer_text : (producer : Producer) → IfSome (unbuilt_producer producer) IsText
 producer_text producers.None = tt
 producer_text other = tt
@@ -146,9 +140,8 @@ partition_text (name ∷ names) = tt
 
 unbuilt_text : (s : TableSchema) → IfSome (unbuilt s) IsText
 unbuilt_text s =
-    or_text (unbuilt_engine s.options.engine) _ (engine_text s.options.engine)
-    (or_text (unbuilt_producer s.options.producer) _ (producer_text s.options.producer)
-    (or_text (unbuilt_bucket s.options.bucket) (unbuilt_partition s.partition) (bucket_text s.options.bucket) (partition_text s.partition)))
+    or_text (unbuilt_producer s.options.producer) _ (producer_text s.options.producer)
+    (or_text (unbuilt_bucket s.options.bucket) (unbuilt_partition s.partition) (bucket_text s.options.bucket) (partition_text s.partition))
 
 unbuilt_caused : (h : History) (first after : StoreView) (s : TableSchema) (e : Refusal) → IsTableOf s h → unbuilt s ≡ Some e → MayRefuse h first after e
 unbuilt_caused h first after s e is why = at_refusal e why (subst (λ (o : Option Refusal). IfSome o IsText) why (unbuilt_text s))

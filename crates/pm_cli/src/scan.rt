@@ -9,6 +9,7 @@ ghost use Rattle.pm_cli.specs.Scan.{DidScan, IsScanned, KeepsHistories};
 
 use crate::print::print;
 use crate::snapshots::judge;
+use pm_engines::declared_law;
 use pm_io::Sink;
 use pm_scan::scan_table;
 use pm_shown::print_rows;
@@ -46,5 +47,6 @@ fn scan_built<F: FileStore>(
 {
     let schema = read_table_schema(alloc, store)?;
     judge(alloc, &schema)?;
+    declared_law();
     scan_table(alloc, schema, snapshot, store)
 }

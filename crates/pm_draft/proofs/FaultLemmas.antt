@@ -1,8 +1,6 @@
 -- The refusals of the lines of a draft.
 use Rattle.std.proofs.Common.{◌==◌, ℕ, ℤ, List, [], ◌∷◌, Option, None, Some, IfSome, Result, Ok, Err, IfErr, refl, inr}
 use Rattle.pm_options.specs.Faults.{judged}
-use Rattle.pm_options.specs.declared.kinds.EngineKind.{EngineKind}
-use Rattle.pm_options.specs.declared.kinds.EngineKind.TheVariants as engines
 use Rattle.pm_options.specs.declared.kinds.Producer.{Producer}
 use Rattle.pm_options.specs.declared.kinds.Producer.TheVariants as producers
 use Rattle.pm_schema.specs.Faults.{IsDraftFault}
@@ -11,7 +9,7 @@ use Rattle.pm_schema.specs.declared.schema.TableSchema.{TableSchema}
 use Rattle.pm_schema.proofs.Facts.{step_fault, judged_fault, cond_fault, or_fault, draft_faults}
 use Rattle.pm_values.specs.declared.refusal.Refusal.{Refusal}
 use Rattle.pm_values.specs.declared.refusal.Refusal.TheVariants as refusals
-use Rattle.pm_draft.specs.Built.{unbuilt, unbuilt_engine, unbuilt_producer, unbuilt_bucket, unbuilt_partition}
+use Rattle.pm_draft.specs.Built.{unbuilt, unbuilt_producer, unbuilt_bucket, unbuilt_partition}
 use Rattle.pm_draft.specs.Draft.{NumberedLine, draft_in, draft_line, form_fault, later_fault, later_line, unless_later}
 
 abbrev P : Refusal → Type 0
@@ -26,10 +24,6 @@ later_is : (later : Option ℕ) → IfSome (later_fault later) P
 later_is None = tt
 later_is (Some number) = (inr refl, refl)
 
-engine_is : (engine : EngineKind) → IfSome (unbuilt_engine engine) P
-engine_is engines.Deduplicate = tt
-engine_is other = tt
-
 producer_is : (producer : Producer) → IfSome (unbuilt_producer producer) P
 producer_is producers.None = tt
 producer_is other = tt
@@ -40,10 +34,9 @@ partition_is (name ∷ names) = tt
 
 unbuilt_is : (s : TableSchema) → IfSome (unbuilt s) P
 unbuilt_is s =
-    or_fault P (unbuilt_engine s.options.engine) _ (engine_is s.options.engine)
-    (or_fault P (unbuilt_producer s.options.producer) _ (producer_is s.options.producer)
+    or_fault P (unbuilt_producer s.options.producer) _ (producer_is s.options.producer)
     (or_fault P (unbuilt_bucket s.options.bucket) (unbuilt_partition s.partition)
-    (cond_fault P (s.options.bucket == 1) None _ tt tt) (partition_is s.partition)))
+    (cond_fault P (s.options.bucket == 1) None _ tt tt) (partition_is s.partition))
 
 pub lines_are : (lines : List NumberedLine) (origin : List ℕ) (now : ℤ) → IfErr (draft_in lines origin now) P
 unfolding draft_in

@@ -1,11 +1,8 @@
--- The tables that are built: those of the engine deduplicate with no changelog producer, one bucket and no partition
--- columns.
+-- The tables that are built: those with no changelog producer, one bucket and no partition columns.
 use Rattle.std.specs.Prelude.{◌≡◌, ℕ, ◌==◌, List, [], ◌∷◌, codes, decimal, Option, Some, None, if◌then◌else◌}
 use Rattle.std.specs.Option.{option_or}
-use Rattle.pm_options.specs.Kinds.{engine_text, producer_text}
+use Rattle.pm_options.specs.Kinds.{producer_text}
 use Rattle.pm_options.specs.Written.{list_text}
-use Rattle.pm_options.specs.declared.kinds.EngineKind.{EngineKind}
-use Rattle.pm_options.specs.declared.kinds.EngineKind.TheVariants as engines
 use Rattle.pm_options.specs.declared.kinds.Producer.{Producer}
 use Rattle.pm_options.specs.declared.kinds.Producer.TheVariants as producers
 use Rattle.pm_schema.specs.declared.schema.TableSchema.{TableSchema}
@@ -14,15 +11,9 @@ use Rattle.pm_values.specs.declared.refusal.Refusal.TheVariants.{Unsupported}
 
 -- a schema of such a table
 pub record IsBuilt (s : TableSchema) : Type 0 where
-  pub engine : s.options.engine ≡ engines.Deduplicate
   pub producer : s.options.producer ≡ producers.None
   pub bucket : s.options.bucket ≡ 1
   pub partition : s.partition ≡ []
-
--- an engine that isn't built
-abbrev pub unbuilt_engine : EngineKind → Option Refusal
-unbuilt_engine engines.Deduplicate = None
-unbuilt_engine other = Some (Unsupported (codes "merge-engine") (engine_text other))
 
 -- a producer that isn't built
 abbrev pub unbuilt_producer : Producer → Option Refusal
@@ -41,6 +32,5 @@ unbuilt_partition (name ∷ names) = Some (Unsupported (codes "partitionKeys") (
 -- the first of these that a schema has
 abbrev pub unbuilt : TableSchema → Option Refusal
 unbuilt s =
-    option_or (unbuilt_engine s.options.engine)
-    (option_or (unbuilt_producer s.options.producer)
-    (option_or (unbuilt_bucket s.options.bucket) (unbuilt_partition s.partition)))
+    option_or (unbuilt_producer s.options.producer)
+    (option_or (unbuilt_bucket s.options.bucket) (unbuilt_partition s.partition))

@@ -1,9 +1,9 @@
 //! What isn't built yet.
 
 ghost use Rattle.pm_options.specs.Faults.{Answers, judged};
-ghost use Rattle.pm_draft.specs.Built.{unbuilt, unbuilt_engine, unbuilt_producer, unbuilt_bucket, unbuilt_partition};
+ghost use Rattle.pm_draft.specs.Built.{unbuilt, unbuilt_producer, unbuilt_bucket, unbuilt_partition};
 
-use pm_options::{EngineKind, Producer, print_engine, print_names, print_producer, unsupported};
+use pm_options::{Producer, print_names, print_producer, unsupported};
 use pm_schema::TableSchema;
 use pm_values::{Refusal, Txt};
 use std::alloc::Global;
@@ -12,20 +12,9 @@ use std::alloc::Global;
 pub fn judge_built(alloc: Global, schema: &TableSchema) -> Result<(), Refusal>
     ensures { Answers (λ u. u) result (judged (unbuilt schema.now)) }
 {
-    judge_engine(alloc, schema.options.engine)?;
     judge_producer(alloc, schema.options.producer)?;
     judge_bucket(alloc, schema.options.bucket)?;
     judge_partition(alloc, schema.partition.as_slice())
-}
-
-/// Refuses an engine that isn't built.
-fn judge_engine(alloc: Global, engine: EngineKind) -> Result<(), Refusal>
-    ensures { Answers (λ u. u) result (judged (unbuilt_engine engine)) }
-{
-    match engine {
-        EngineKind::Deduplicate => Ok(()),
-        other => unsupported(alloc, "merge-engine", print_engine(other)),
-    }
 }
 
 /// Refuses a producer that isn't built.

@@ -8,7 +8,7 @@ use Rattle.pm_values.specs.declared.refusal.Refusal.{Refusal}
 use Rattle.pm_values.specs.declared.refusal.Refusal.TheVariants as refusals
 use Rattle.pm_store.specs.declared.answer.Answer.{Answer}
 use Rattle.pm_store.specs.declared.answer.Answer.TheVariants as answers
-use Rattle.pm_options.specs.declared.kinds.EngineKind.TheVariants as engines
+use Rattle.pm_engines.specs.TableEngine.{HasEngine}
 use Rattle.pm_schema.specs.declared.schema.TableSchema.{TableSchema}
 use Rattle.pm_snapshot.specs.declared.snapshot.Snapshot.{Snapshot}
 use Rattle.pm_manifest.specs.declared.entry.Entry.{Entry}
@@ -41,13 +41,13 @@ record IsOn (m : view_phase.Phase) : Type 0 where
 on_at : (m to : view_phase.Phase) → m ≡ to → IsEngineOf to → 0 < reader.calls_left to → IsOn m
 on_at m to is engine left = subst IsOn (sym is) (record { engine = engine; left = inr left })
 
-ready_at : (m : view_phase.Phase) (v : View) → m ≡ readers.Ready v → v.schema.options.engine ≡ engines.Deduplicate → IsOn m
+ready_at : (m : view_phase.Phase) (v : View) → m ≡ readers.Ready v → HasEngine v.schema → IsOn m
 ready_at m v is engine = subst IsOn (sym is) (record { engine = engine; left = inl tt })
 
-engine_at : (v : View) (s : TableSchema) → v.schema ≡ s → s.options.engine ≡ engines.Deduplicate → v.schema.options.engine ≡ engines.Deduplicate
-engine_at v s same engine = ap (λ (s : TableSchema). s.options.engine) same ∙ engine
+engine_at : (v : View) (s : TableSchema) → v.schema ≡ s → HasEngine s → HasEngine v.schema
+engine_at v s same engine = subst HasEngine (sym same) engine
 
-opening_on : (q : SoughtView) (id : ℕ) (m : view_phase.Phase) → q.asked.schema.options.engine ≡ engines.Deduplicate → m ≡ opening q id → IsOn m
+opening_on : (q : SoughtView) (id : ℕ) (m : view_phase.Phase) → HasEngine q.asked.schema → m ≡ opening q id → IsOn m
 opening_on q id m engine is = at (id == 0) is
   where
     at : (t : Bool) → m ≡ (if t then readers.Origin q else readers.Snapshot q id) → IsOn m
@@ -55,7 +55,7 @@ opening_on q id m engine is = at (id == 0) is
     at false is = on_at m (readers.Snapshot q id) is engine (omega arith)
 
 manifests_on : (q : SoughtView) (x : Snapshot) (done rest : List ManifestMeta) (files : Filed) (kept : List Entry) (m : view_phase.Phase)
-    → q.asked.schema.options.engine ≡ engines.Deduplicate → reader.GoesOn q x done rest files kept m → IsOn m
+    → HasEngine q.asked.schema → reader.GoesOn q x done rest files kept m → IsOn m
 manifests_on q x done [] files kept m engine (v, view, sought, is) = ready_at m v is (engine_at v q.asked.schema view.schema engine)
 manifests_on q x done (meta ∷ rest) files kept m engine is = on_at m _ is engine (omega arith)
 

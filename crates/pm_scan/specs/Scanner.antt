@@ -11,7 +11,7 @@ use Rattle.pm_store.specs.declared.answer.Answer.TheVariants as answers
 use Rattle.pm_store.specs.declared.call.Call.{Call}
 use Rattle.pm_store.specs.declared.call.Call.TheVariants as calls
 use Rattle.pm_engine.specs.OfSchema.{meaning_of}
-use Rattle.pm_options.specs.declared.kinds.EngineKind.TheVariants as engines
+use Rattle.pm_engines.specs.TableEngine.{HasEngine}
 use Rattle.pm_merge.specs.Merge.{IsMerge}
 use Rattle.pm_folder.specs.Paths.{snapshot_path}
 use Rattle.pm_table_view.specs.Reader as reader
@@ -46,19 +46,19 @@ calls_left (phases.Again id path) = 1
 calls_left (phases.Ready id rows) = 0
 calls_left phases.Over = 0
 
--- the engine of the table that a reader of a view reads is one that is built
+-- the table that a reader of a view reads has an engine
 abbrev pub IsEngineOf : view_phase.Phase → Type 0
-IsEngineOf (readers.List a) = a.schema.options.engine ≡ engines.Deduplicate
-IsEngineOf (readers.Origin q) = q.asked.schema.options.engine ≡ engines.Deduplicate
-IsEngineOf (readers.Snapshot q id) = q.asked.schema.options.engine ≡ engines.Deduplicate
-IsEngineOf (readers.Base q x) = q.asked.schema.options.engine ≡ engines.Deduplicate
-IsEngineOf (readers.Delta q x base) = q.asked.schema.options.engine ≡ engines.Deduplicate
-IsEngineOf (readers.Manifests r) = r.sought.asked.schema.options.engine ≡ engines.Deduplicate
-IsEngineOf (readers.Again a id path) = a.schema.options.engine ≡ engines.Deduplicate
-IsEngineOf (readers.Ready v) = v.schema.options.engine ≡ engines.Deduplicate
+IsEngineOf (readers.List a) = HasEngine a.schema
+IsEngineOf (readers.Origin q) = HasEngine q.asked.schema
+IsEngineOf (readers.Snapshot q id) = HasEngine q.asked.schema
+IsEngineOf (readers.Base q x) = HasEngine q.asked.schema
+IsEngineOf (readers.Delta q x base) = HasEngine q.asked.schema
+IsEngineOf (readers.Manifests r) = HasEngine r.sought.asked.schema
+IsEngineOf (readers.Again a id path) = HasEngine a.schema
+IsEngineOf (readers.Ready v) = HasEngine v.schema
 IsEngineOf readers.Over = Unit {0}
 
--- a scanner: the reader of its view has a call left, and the table's engine is built
+-- a scanner: the reader of its view has a call left, and the table has an engine
 abbrev pub IsScanner : Phase → Type 0
 IsScanner (phases.View m) = (0 < reader.calls_left m) × IsEngineOf m
 IsScanner other = Unit {0}

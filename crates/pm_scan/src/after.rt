@@ -10,7 +10,7 @@ ghost use Rattle.pm_scan.specs.Jobs.{all_jobs};
 ghost use Rattle.pm_table_view.specs.Reader.{most};
 ghost use Rattle.pm_values.specs.GroupOrder.{group_cmp};
 ghost use Rattle.pm_values.specs.declared.group.Group.{Group as GroupView};
-ghost use Rattle.pm_options.specs.declared.kinds.EngineKind.TheVariants as engines;
+ghost use Rattle.pm_engines.specs.TableEngine.{HasEngine};
 ghost use Rattle.pm_store.specs.Answers.{MayAnswer};
 ghost use Rattle.pm_store.specs.declared.answer.Answer.TheVariants as answers;
 ghost use Rattle.pm_table_view.specs.Reader as readers;
@@ -74,7 +74,7 @@ fn after_reader(alloc: Global, reader: ViewReader) -> Result<Phase, Refusal>
 
 /// The phase with the files of this view to be read.
 fn start(alloc: Global, view: View) -> Result<Phase, Refusal>
-    requires built { view.schema.options.engine ≡ engines.Deduplicate }
+    requires engine { HasEngine view.schema }
     requires folders { HasFolders view }
     ensures goes { IfOk result (AfterReader (reader_phases.Ready view)) }
     ensures is_scanner { IfOk result IsScanner }
@@ -108,7 +108,7 @@ fn begin(
     schema: &TableSchema,
     groups: BTreeMap<Group, Levels>,
 ) -> Result<(Collected, VecDeque<Job>), Refusal>
-    requires built { schema.now.options.engine ≡ engines.Deduplicate }
+    requires engine { HasEngine schema.now }
     requires folders { (g : GroupView) → IsSome (get_by (group_cmp g) groups) → FitsPartition schema.now g }
     ensures nothing { IfOk result (λ begun. begun.0 ≡ nothing_of schema.now) }
     ensures jobs { IfOk result (λ begun. begun.1.items ≡ all_jobs schema.now groups.entries) }

@@ -2,7 +2,7 @@
 
 ghost use Rattle.std.specs.Prelude.{◌≡◌, ◌<◌, IfOk};
 ghost use Rattle.pm_machine.specs.Trace.{HasTrace};
-ghost use Rattle.pm_options.specs.declared.kinds.EngineKind.TheVariants as engines;
+ghost use Rattle.pm_engines.specs.TableEngine.{HasEngine};
 ghost use Rattle.pm_schema.specs.Again.{IsDeclared};
 ghost use Rattle.pm_store.specs.Store.{StoreView, IsLater};
 ghost use Rattle.pm_table_view.specs.Asked.{Asked as AskedView};
@@ -28,7 +28,7 @@ pub fn scan_table<F: FileStore>(
     store: &mut F,
 ) -> Result<Vec<Stamped>, Refusal>
     requires declared { IsDeclared schema }
-    requires built { schema.options.engine ≡ engines.Deduplicate }
+    requires engine { HasEngine schema }
     ensures trace { (first : StoreView) → HasTrace (Has schema) first (F.seen store.old)
         → HasTrace (DidScan schema at (rows_in result)) first (F.seen store.new) }
     ensures history { (first : StoreView) → HasTrace (Has schema) first (F.seen store.old)
@@ -42,7 +42,7 @@ pub fn scan_table<F: FileStore>(
 /// A scanner of the table at its latest snapshot, or the one with that id.
 fn scanner_of(schema: TableSchema, at: Option<u64>) -> Scanner
     requires declared { IsDeclared schema }
-    requires built { schema.options.engine ≡ engines.Deduplicate }
+    requires engine { HasEngine schema }
     ensures { result ≡ phases.View (readers.List (asked_at schema at)) }
 {
     match at {

@@ -4,7 +4,7 @@ ghost use Rattle.std.specs.Prelude.{◌≡◌, ◌⊎◌, ◌++◌, List, IfErr,
 ghost use Rattle.pm_engine.specs.Covers.{IsRising};
 ghost use Rattle.pm_engine.specs.OfSchema.{meaning_of};
 ghost use Rattle.pm_merge.specs.Merge.{IsMerge};
-ghost use Rattle.pm_options.specs.declared.kinds.EngineKind.TheVariants as engines;
+ghost use Rattle.pm_engines.specs.TableEngine.{HasEngine};
 ghost use Rattle.pm_values.specs.declared.record.Stamped.{Stamped as StampedView};
 ghost use Rattle.pm_values.specs.declared.refusal.Refusal.TheVariants as refusals;
 ghost use Rattle.pm_scan.specs.Collected.{Closes, HasMore, RefusesFile, Takes, nothing_of};
@@ -49,7 +49,7 @@ impl Model for Collected {
 impl Collected {
     /// Nothing of a table with this schema.
     pub(crate) fn new(alloc: Global, schema: &TableSchema) -> Result<Collected, Refusal>
-        requires { schema.now.options.engine ≡ engines.Deduplicate }
+        requires { HasEngine schema.now }
         ensures nothing { IfOk result (λ c. c ≡ nothing_of schema.now) }
         ensures memory { IfErr result (λ e. e ≡ refusals.Memory) }
     {

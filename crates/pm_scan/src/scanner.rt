@@ -1,7 +1,7 @@
 //! The scanner of a table.
 
 ghost use Rattle.std.specs.Prelude.{◌≡◌, ◌↔◌, ◌<◌, ℕ, IfOk, OnOk, OnErr, IsTrue};
-ghost use Rattle.pm_options.specs.declared.kinds.EngineKind.TheVariants as engines;
+ghost use Rattle.pm_engines.specs.TableEngine.{HasEngine};
 ghost use Rattle.pm_schema.specs.Again.{IsDeclared};
 ghost use Rattle.pm_store.specs.Store.{IsLater};
 ghost use Rattle.pm_table_view.specs.Asked.{asked_of};
@@ -52,11 +52,11 @@ impl Model for Scanner {
 }
 
 impl Scanner {
-    /// A scanner of the table with this schema, which was just read, at its latest snapshot. The table's engine has to
-    /// be one that is built.
+    /// A scanner of the table with this schema, which was just read, at its latest snapshot. The schema has
+    /// to have an engine, as each has that was read.
     pub fn newest(schema: TableSchema) -> Scanner
         requires declared { IsDeclared schema }
-        requires built { schema.options.engine ≡ engines.Deduplicate }
+        requires engine { HasEngine schema }
         ensures { result ≡ phases.View (readers.List (asked_of schema wants.Newest)) }
     {
         Scanner {
@@ -69,7 +69,7 @@ impl Scanner {
     /// The same at the snapshot with this id.
     pub fn at(schema: TableSchema, id: u64) -> Scanner
         requires declared { IsDeclared schema }
-        requires built { schema.options.engine ≡ engines.Deduplicate }
+        requires engine { HasEngine schema }
         ensures { result ≡ phases.View (readers.List (asked_of schema (wants.At id))) }
     {
         Scanner {
