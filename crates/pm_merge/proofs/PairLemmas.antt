@@ -1,6 +1,8 @@
 -- What two runs that became one have of each key.
-use Rattle.std.proofs.Common.{◌≡◌, ◌≢◌, ℕ, Option, Some, None, append_assoc, List, [], ◌∷◌, ◌++◌, map, max, true, false, cond, refl, sym, ap, subst, ◌∙◌, arith, append-nil}
+use Rattle.std.proofs.Common.{◌≡◌, ◌≢◌, ℕ, Option, Some, None, append_assoc, ◌<◌, length, drop, List, [], ◌∷◌, ◌++◌, map, max, true, false, cond, refl, sym, ap, subst, ◌∙◌, arith, append-nil}
 use Rattle.std.specs.List.{AllByRecursion}
+use Rattle.std.specs.Prelude.{option_to_list}
+use Rattle.pm_base.proofs.Laws.{AllByRecursion-push}
 use Rattle.std.specs.List.Sorted.{IsStrictlySortedBy}
 use Rattle.std.specs.Ordering.{eq_by_cmp, is_eq, ordering_reverse}
 use Rattle.std.specs.declared.cmp.Ordering.{Ordering}
@@ -12,7 +14,7 @@ use Rattle.pm_engine.specs.Covers.{Holds, IsRising, Run, of_key}
 use Rattle.pm_engine.specs.Meaning.{Meaning}
 use Rattle.pm_engine.specs.Reducing.{IsCombined, greatest_number}
 use Rattle.pm_engine.proofs.Rising.{apart, tied}
-use Rattle.pm_merge.specs.Pairs.{ComparesFirst, HasNumber, IsBefore, Merges, MovesBelow, Puts, TakesFirst, TakesOlder, TakesUpTo, ends, older_first, newer_first, both_first}
+use Rattle.pm_merge.specs.Pairs.{ComparesFirst, HasNumber, IsBefore, Merges, MovesBelow, MovesFirst, Puts, TakesOlder, TakesUpTo, ends, older_first, newer_first, both_first}
 use Rattle.pm_merge.specs.declared.pairs.Pair.{Pair}
 
 -- ---- rising keys
@@ -211,16 +213,60 @@ goes_on-whole m older newer done left run pair so_far all is made =
     subst (Merges m older newer) (ap (λ xs. pair.run.items ++ xs) (sym is) ∙ sym made)
     (subst (λ xs. Merges m older xs (pair.run.items ++ pair.older.items)) all (goes_on-all m older done pair so_far))
 
-pub first-above : (key : Values) (older : Run) (order : Ordering) → ComparesFirst key older order → order ≡ Greater → IsBefore key older
-first-above key [] order compares is = tt
-first-above key (s ∷ ss) order compares is = key_total.antisymm key s.key ∙ ap ordering_reverse (sym compares ∙ is)
+-- the first of the older rows is below the key, and so one more goes into the run
+pub moves-first : (key : Values) (start old new : Pair) (order : Ordering) → MovesBelow key start old → ComparesFirst key old.older.items order → order ≡ Less → MovesFirst old.older.items old.run.items new
+    → MovesBelow key start new
+moves-first key start old new order so_far compares less moves = by_first old.older.items refl compares moves
+  where
+    by_first : (older : Run) → old.older.items ≡ older → ComparesFirst key older order → MovesFirst older old.run.items new → MovesBelow key start new
+    by_first [] is compares moves = let no : Less ≡ Greater = sym less ∙ compares in cc
+    by_first (s ∷ ss) is compares moves = record {
+      below = so_far.below ++ s ∷ [];
+      taken = so_far.taken ∙ ap (λ xs. so_far.below ++ xs) (is ∙ ap (λ xs. s ∷ xs) (sym moves.0)) ∙ sym (append_assoc so_far.below (s ∷ []) new.older.items);
+      put = moves.1 ∙ ap (λ xs. xs ++ s ∷ []) so_far.put ∙ append_assoc start.run.items so_far.below (s ∷ []);
+      are_below = AllByRecursion-push (λ (t : Stamped). key_cmp t.key key ≡ Less) so_far.below s so_far.are_below (sym compares ∙ less);
+    }
 
--- the row that has the key ends it, or the first one above it
-pub takes-tied : (key : Values) (start old new : Pair) (order : Ordering) (s : Stamped) → MovesBelow key start old → TakesFirst key old (Some (order, s)) new → order ≡ Equal → TakesUpTo key start new (Some s)
-takes-tied key start old new order s so_far takes equal = record { middle = old; moves = so_far; takes = (takes.0, takes.2 ∙ equal); same = takes.1 }
+-- and fewer are left
+pub moves-fewer : (key : Values) (old new : Pair) (order : Ordering) → ComparesFirst key old.older.items order → order ≡ Less → MovesFirst old.older.items old.run.items new
+    → length new.older.items < length old.older.items
+moves-fewer key old new order compares less moves = by_first old.older.items refl compares moves
+  where
+    by_first : (older : Run) → old.older.items ≡ older → ComparesFirst key older order → MovesFirst older old.run.items new → length new.older.items < length old.older.items
+    by_first [] is compares moves = let no : Less ≡ Greater = sym less ∙ compares in cc
+    by_first (s ∷ ss) is compares moves = omega (arith, ap length is, ap length moves.0)
 
-pub takes-none : (key : Values) (start old new : Pair) → MovesBelow key start old → TakesFirst key old None new → TakesUpTo key start new None
-takes-none key start old new so_far takes = record { middle = old; moves = so_far; takes = (sym takes.0, subst (IsBefore key) (sym takes.0) takes.2); same = takes.1 }
+-- the row that has the key ends it
+longer : (s : Stamped) (ss : Run) → s ∷ ss ≡ ss → ⊥
+longer s ss e = omega (arith, ap length e)
+
+pub takes-equal : (key : Values) (start old new : Pair) (order : Ordering) (r : Option Stamped) → MovesBelow key start old → ComparesFirst key old.older.items order → order ≡ Equal
+    → old.older.items ≡ option_to_list r ++ new.older.items → new.older.items ≡ drop 1 old.older.items → new.run.items ≡ old.run.items → TakesUpTo key start new r
+takes-equal key start old new order (Some s) so_far compares equal parts rest same = record {
+  middle = old;
+  moves = so_far;
+  takes = (parts, sym (subst (λ xs. ComparesFirst key xs order) parts compares) ∙ equal);
+  same = same;
+}
+takes-equal key start old new order None so_far compares equal parts rest same = absurd (by_first old.older.items compares (parts ∙ rest))
+  where
+    by_first : (older : Run) → ComparesFirst key older order → older ≡ drop 1 older → ⊥
+    by_first [] compares e = let no : Equal ≡ Greater = sym equal ∙ compares in cc
+    by_first (s ∷ ss) compares e = longer s ss e
+
+-- or the first one above it
+pub takes-greater : (key : Values) (start old : Pair) (order : Ordering) → MovesBelow key start old → ComparesFirst key old.older.items order → (order ≡ Less → ⊥) → (order ≡ Equal → ⊥)
+    → TakesUpTo key start old None
+takes-greater key start old order so_far compares less equal = record { middle = old; moves = so_far; takes = (refl, before old.older.items compares); same = refl }
+  where
+    greater : (o : Ordering) → order ≡ o → order ≡ Greater
+    greater Less e = absurd (less e)
+    greater Equal e = absurd (equal e)
+    greater Greater e = e
+
+    before : (older : Run) → ComparesFirst key older order → IsBefore key older
+    before [] compares = tt
+    before (s ∷ ss) compares = key_total.antisymm key s.key ∙ ap ordering_reverse (sym compares ∙ greater order refl)
 
 -- what was moved and one row more
 puts-from : (m : Meaning) (row s : Stamped) (old mid new : Pair) → MovesBelow row.key old mid → new.run.items ≡ mid.run.items ++ s ∷ []

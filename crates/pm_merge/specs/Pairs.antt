@@ -56,13 +56,10 @@ abbrev pub ComparesFirst : Values → Run → Ordering → Type 0
 ComparesFirst key [] order = order ≡ Greater
 ComparesFirst key (s ∷ ss) order = order ≡ key_cmp s.key key
 
--- Private: the first of the older rows is taken, unless it is above the key
-abbrev pub TakesFirst : Values → Pair → Option (Ordering × Stamped) → Pair → Type 0
-TakesFirst key old (Some taken) new =
-    (old.older.items ≡ taken.1 ∷ new.older.items) × (new.run.items ≡ old.run.items)
-    × (key_cmp taken.1.key key ≡ taken.0) × (taken.0 ≢ Greater)
-TakesFirst key old None new =
-    (new.older.items ≡ old.older.items) × (new.run.items ≡ old.run.items) × IsBefore key old.older.items
+-- Private: the first of the older rows, if one is left, went into the run
+abbrev pub MovesFirst : Run → Run → Pair → Type 0
+MovesFirst [] run new = (new.older.items ≡ []) × (new.run.items ≡ run)
+MovesFirst (s ∷ ss) run new = (new.older.items ≡ ss) × (new.run.items ≡ run ++ s ∷ [])
 
 -- Private: the row is as it was, or was combined with the older one of its key
 abbrev pub TakesOlder : Meaning → Option Stamped → Stamped → Stamped → Type 0

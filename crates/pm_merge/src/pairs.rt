@@ -1,7 +1,7 @@
 //! Two runs made into one.
 
 ghost use Rattle.std.specs.Prelude.{◌≡◌, IfOk, OnOk};
-ghost use Rattle.pm_merge.specs.Pairs.{Merges, Puts, TakesUpTo, TakesFirst, ComparesFirst, TakesOlder};
+ghost use Rattle.pm_merge.specs.Pairs.{ComparesFirst, Merges, MovesFirst, Puts, TakesUpTo};
 
 use pm_engine::{MergeEngine, combined};
 use pm_values::{Key, Stamped};
@@ -49,8 +49,10 @@ impl Pair {
     ) -> Result<(), AllocError>
         ensures { OnOk result (Puts (E.meaning engine.now) row self.old self.new) }
     {
-        let older = self.take_up_to(&row.key)?;
-        self.run.push(with_older(alloc, engine, older, row)?)?;
+        match self.take_up_to(&row.key)? {
+            Some(older) => self.run.push(combined(alloc, engine, older, row)?)?,
+            None => self.run.push(row)?,
+        }
         Ok(())
     }
 
@@ -58,25 +60,26 @@ impl Pair {
     fn take_up_to(&mut self, key: &Key) -> Result<Option<Stamped>, AllocError>
         ensures { IfOk result (TakesUpTo key.now self.old self.new) }
     {
-        while let Some((order, row)) = self.take_first(key) {
-            if order == Ordering::Equal {
-                return Ok(Some(row));
-            }
-            self.run.push(row)?;
+        let mut order = self.compare_first(key);
+        while order == Ordering::Less {
+            self.move_first()?;
+            order = self.compare_first(key);
         }
-        Ok(None)
+        if order == Ordering::Equal {
+            Ok(self.older.pop_front())
+        } else {
+            Ok(None)
+        }
     }
 
-    /// The first of the older rows, unless it is above the key, and how it compares with the key.
-    fn take_first(&mut self, key: &Key) -> Option<(Ordering, Stamped)>
-        ensures { TakesFirst key.now self.old result self.new }
+    /// Takes the first of the older rows, if one is left, into the run.
+    fn move_first(&mut self) -> Result<(), AllocError>
+        ensures { OnOk result (MovesFirst self.old.older.items self.old.run.items self.new) }
     {
-        let order = self.compare_first(key);
-        if order == Ordering::Greater {
-            return None;
+        if let Some(first) = self.older.pop_front() {
+            self.run.push(first)?;
         }
-        let first = self.older.pop_front()?;
-        Some((order, first))
+        Ok(())
     }
 
     /// How the first of the older rows compares with the key, and as one above it where none is left.
@@ -87,20 +90,5 @@ impl Pair {
             Some(first) => first.key.cmp(key),
             None => Ordering::Greater,
         }
-    }
-}
-
-/// The row, combined with the older one of its key, if there is one.
-fn with_older<E: MergeEngine>(
-    alloc: Global,
-    engine: &E,
-    older: Option<Stamped>,
-    row: Stamped,
-) -> Result<Stamped, AllocError>
-    ensures { IfOk result (λ stored. TakesOlder (E.meaning engine.now) older row stored) }
-{
-    match older {
-        Some(older) => combined(alloc, engine, older, row),
-        None => Ok(row),
     }
 }

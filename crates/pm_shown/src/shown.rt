@@ -9,6 +9,7 @@ use pm_engine::{MergeEngine, Stored};
 use pm_merge::merge_runs;
 use pm_values::Stamped;
 use std::alloc::{AllocError, Global};
+use std::collections::VecDeque;
 
 /// The rows of a group that show, of its runs, the oldest first.
 pub fn shown_rows<E: MergeEngine>(
@@ -22,28 +23,26 @@ pub fn shown_rows<E: MergeEngine>(
     ensures rising { IfOk result (λ shown. IsRising shown.items) }
 {
     let merged = merge_runs(alloc, engine, older_first, false)?;
-    only_shown(alloc, engine, merged)
+    only_shown(engine, merged)
 }
 
-/// The rows of a run that show by themselves.
-fn only_shown<E: MergeEngine>(
-    alloc: Global,
-    engine: &E,
-    run: Vec<Stamped>,
-) -> Result<Vec<Stamped>, AllocError>
+/// The rows of a run that show by themselves. They go round in the place where they lie.
+fn only_shown<E: MergeEngine>(engine: &E, run: Vec<Stamped>) -> Result<Vec<Stamped>, AllocError>
     ensures { IfOk result (λ shown. shown.items ≡ only_shown (E.meaning engine.now) run.items) }
 {
-    let mut shown = Vec::with_capacity(alloc, run.len())?;
-    for row in run {
-        keep(engine, &mut shown, row)?;
+    let mut rows = VecDeque::from(run);
+    for _ in 0..rows.len() {
+        if let Some(row) = rows.pop_front() {
+            keep(engine, &mut rows, row)?;
+        }
     }
-    Ok(shown)
+    Ok(Vec::from(rows))
 }
 
 /// Takes one stored row more, if it shows.
 fn keep<E: MergeEngine>(
     engine: &E,
-    shown: &mut Vec<Stamped>,
+    shown: &mut VecDeque<Stamped>,
     stamped: Stamped,
 ) -> Result<(), AllocError>
     ensures { OnOk result
@@ -60,7 +59,7 @@ fn keep<E: MergeEngine>(
     if !shows {
         return Ok(());
     }
-    shown.push(Stamped {
+    shown.push_back(Stamped {
         key,
         seq,
         kind: stored.kind,
