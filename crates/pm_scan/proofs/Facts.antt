@@ -103,7 +103,7 @@ after_known laws (readers.Base a x) new f g p stands is known = as_known (reader
 after_known laws (readers.Delta a x base) new f g p stands is known = as_known (readers.Delta a x base) new g p is known
 after_known laws (readers.Manifests r) new f g p stands is known = as_known (readers.Manifests r) new g p is known
 after_known laws (readers.Again a id path) new f g p stands is known = as_known (readers.Again a id path) new g p is known
-after_known laws (readers.Ready v) new f g p stands (order, within, on) (table, is_view) =
+after_known laws (readers.Ready v) new f g p stands (order, within, on) (table, is_view, sought) =
     start_known laws v (all_jobs v.schema v.groups.entries) new f g p stands order table is_view refl on
 after_known laws readers.Over new f g p stands is known = as_known readers.Over new g p is known
 

@@ -1,7 +1,8 @@
 -- What a reader goes on with after an answer, and what it refuses, by what the parts of the code say.
-use Rattle.std.proofs.Common.{◌≡◌, ◌⊎◌, inl, inr, ℕ, ◌≤◌, List, [], ◌∷◌, ◌++◌, length, Option, None, Some, Result, Ok, Err, IfOk, IfErr, Vec, refl, sym, ap, ◌∙◌, subst}
+use Rattle.std.proofs.Common.{◌≡◌, ◌⊎◌, inl, inr, ℕ, ◌≤◌, Bool, true, false, not, ◌&&◌, if◌then◌else◌, List, [], ◌∷◌, ◌++◌, length, Option, None, Some, Result, Ok, Err, IfOk, IfErr, Vec, refl, sym, ap, ◌∙◌, subst}
 use Rattle.std.specs.Global.{Global}
 use Rattle.std.specs.List.{AllByRecursion}
+use Rattle.pm_base.proofs.Laws.{AllByRecursion-append}
 use Rattle.pm_values.specs.declared.refusal.Refusal.{Refusal}
 use Rattle.pm_values.specs.declared.refusal.Refusal.TheVariants as refusals
 use Rattle.pm_store.specs.declared.answer.Answer.TheVariants as answers
@@ -16,7 +17,7 @@ use Rattle.pm_folder.specs.Paths.{snapshot_path}
 use Rattle.pm_manifest.specs.Entries.{IsEntry, entry_in, has_entry_fields}
 use Rattle.pm_manifest.specs.Listed.{has_meta_fields, meta_in}
 use Rattle.pm_manifest.specs.Shape.{Shape, shape_of}
-use Rattle.pm_manifest.specs.Live.{AreInOrder, Leaves, Live, Refuses}
+use Rattle.pm_manifest.specs.Live.{AreInOrder, Leaves, Live, Refuses, id_of}
 use Rattle.pm_manifest.specs.declared.entry.Entry.{Entry}
 use Rattle.pm_manifest.specs.declared.entry.ManifestMeta.{ManifestMeta}
 use Rattle.pm_contents.specs.Groups.{AreNamed, HaveFolders, Overlaps}
@@ -24,10 +25,13 @@ use Rattle.pm_contents.specs.Lists.{manifest_path, none_live}
 use Rattle.pm_levels.specs.Runs.{AreTwoOf}
 use Rattle.pm_view.specs.Trace.{Names}
 use Rattle.pm_table_view.specs.Asked.{Asked, SoughtView, sought_of}
+use Rattle.pm_table_view.specs.Log.{HaveGroups}
 use Rattle.pm_table_view.specs.Names.{AreIds, IsLatest}
 use Rattle.pm_table_view.specs.Reader.{most, opening, IsAbove, IsAsked, IsListOf, IsManifestOf, MisreadsManifest, Goes, GoesOn, Starts, Takes, Shown, RefusesEntries, disorder, overlap}
 use Rattle.pm_table_view.specs.Reading.{Filed, ReadingView, live_of}
-use Rattle.pm_table_view.specs.View.{IsOriginView, IsSoughtBy, IsViewOf, kept_for}
+use Rattle.pm_table_view.specs.View.{IsOriginView, IsSoughtBy, IsViewOf, has_entry, kept_for, live_entries}
+use Rattle.pm_table_view.specs.declared.asked.Wanted.{Wanted}
+use Rattle.pm_table_view.specs.declared.asked.Wanted.TheVariants as wants
 use Rattle.pm_table_view.proofs.TwoLemmas.{first_in}
 use Rattle.pm_table_view.specs.declared.phase.Phase.{Phase}
 use Rattle.pm_table_view.specs.declared.phase.Phase.TheVariants as phases
@@ -157,15 +161,38 @@ pub entries_overlap : (r own_reading : ReadingView) (path : List ℕ) (own : Lis
 entries_overlap r inner path own files refusal is order left (ended, over) =
     inr (subst (λ (r : ReadingView). RefusesEntries r path own refusal) is (overlap (live_of files) order left ended over))
 
+-- ---- the groups of entries that are kept
+
+kept_groups : (s : TableSchema) (w : Wanted) (own : List Entry) → HaveGroups s own → HaveGroups s (kept_for w own)
+kept_groups s wants.Entries own have = have
+kept_groups s wants.Newest own have = tt
+kept_groups s (wants.At id) own have = tt
+
+pub groups_more : (s : TableSchema) (w : Wanted) (kept own all : List Entry) → HaveGroups s kept → HaveGroups s own → all ≡ kept ++ kept_for w own → HaveGroups s all
+groups_more s w kept own all before have is =
+    subst (HaveGroups s) (sym is) (AllByRecursion-append (λ (e : Entry). FitsPartition s e.group) kept (kept_for w own) before (kept_groups s w own have))
+
+-- the live entries are some of those that are kept
+one_group : (s : TableSchema) (e : Entry) (live : List Entry) (t : Bool) → FitsPartition s e.group → HaveGroups s live → HaveGroups s (if t then e ∷ live else live)
+one_group s e live true own rest = (own, rest)
+one_group s e live false own rest = rest
+
+live_groups : (s : TableSchema) (es : List Entry) → HaveGroups s es → HaveGroups s (live_entries es)
+live_groups s [] have = tt
+live_groups s (e ∷ es) have = one_group s e (live_entries es) (e.add && not (has_entry (id_of e) es)) have.0 (live_groups s es have.1)
+
+pub groups_live : (s : TableSchema) (es live : List Entry) → HaveGroups s es → live ≡ live_entries es → HaveGroups s live
+groups_live s es live have is = subst (HaveGroups s) (sym is) (live_groups s es have)
+
 -- entries of a manifest of the table that a reading is of
 pub fit_of : (r : ReadingView) (s : TableSchema) (path bytes : List ℕ) (own : List Entry) → s ≡ r.sought.asked.schema → IsDeclared s
     → ((shape : Shape) (path bytes : List ℕ) (es : List Entry) → ReadsFile has_entry_fields (entry_in shape) path bytes (Ok es)
     → AllByRecursion (IsEntry shape) es)
     → ((s : TableSchema) (es : List Entry) → IsDeclared s → AllByRecursion (IsEntry (shape_of s)) es
     → AllByRecursion (λ (e : Entry). FitsPartition s e.group) es)
-    → IsManifestOf s path bytes own → AllByRecursion (λ (e : Entry). FitsPartition r.sought.asked.schema e.group) own
+    → IsManifestOf s path bytes own → HaveGroups r.sought.asked.schema own
 fit_of r s path bytes own same declared manifest entries reads =
-    subst (λ (s : TableSchema). AllByRecursion (λ (e : Entry). FitsPartition s e.group) own) same
+    subst (λ (s : TableSchema). HaveGroups s own) same
     (entries s own declared (manifest (shape_of s) path bytes own reads))
 
 -- the file is read as a manifest of the table that a reading is of

@@ -266,37 +266,37 @@ cause_at : ReaderLaws → (m : Phase) (answer : Answer) (refusal : Refusal) (f :
 cause_at laws (phases.List a) (answers.Listed names) refusal f p (inl is) stands known = λ told. subst (MayRefuse f p) (sym is) tt
 cause_at laws (phases.List a) (answers.Listed names) refusal f p (inr (latest, id, newest, above, is)) stands known = λ told.
     list_cause f p a names.items latest id refusal stands known told newest above is
-cause_at laws (phases.Origin q) (answers.Found None) refusal f p is stands known = λ told.
-    expired f p q.asked.schema 0 refusal known (omega arith) (gone_origin f q.asked.schema.origin told) is
-cause_at laws (phases.Snapshot q id) (answers.Found None) refusal f p is stands (table, least, within, bound) = λ told.
-    expired f p q.asked.schema id refusal table bound (gone_snapshot f q.asked.schema id least told) is
+cause_at laws (phases.Origin q) (answers.Found None) refusal f p is stands (table, sought) = λ told.
+    expired f p q.asked.schema 0 refusal table (omega arith) (gone_origin f q.asked.schema.origin told) is
+cause_at laws (phases.Snapshot q id) (answers.Found None) refusal f p is stands (table, least, within, sought) = λ told.
+    expired f p q.asked.schema id refusal table sought.within (gone_snapshot f q.asked.schema id least told) is
 cause_at laws (phases.Snapshot q id) (answers.Found (Some bytes)) refusal f p (inl is) stands known = λ told. subst (MayRefuse f p) (sym is) tt
-cause_at laws (phases.Snapshot q id) (answers.Found (Some bytes)) refusal f p (inr bad) stands (table, least, within, bound) = λ told.
+cause_at laws (phases.Snapshot q id) (answers.Found (Some bytes)) refusal f p (inr bad) stands (table, least, within, sought) = λ told.
     absurd (bad_not f p q.asked.schema id bytes refusal stands table least within told bad)
 cause_at laws (phases.Base q x) (answers.Found found) refusal f p (inl is) stands known = λ told. subst (MayRefuse f p) (sym is) tt
 cause_at laws (phases.Base q x) (answers.Found None) refusal f p (inr none) stands known = λ told. absurd none
-cause_at laws (phases.Base q x) (answers.Found (Some bytes)) refusal f p (inr fault) stands stood = λ told.
+cause_at laws (phases.Base q x) (answers.Found (Some bytes)) refusal f p (inr fault) stands (stood, sought) = λ told.
     let c = stood_contents f p q.asked.schema x stands stood in
     only_memory f p refusal (file_fault _ _ (manifest_path x.base_list) bytes refusal fault)
     (list_reads laws.lists (p.stood x.id) x.base_list bytes c.0.base refusal c.1.table.base_list
     (found_stood f p q.asked.schema x stands stood c.0 c.1 (manifest_path x.base_list) base_list bytes told) fault)
 cause_at laws (phases.Delta q x base) (answers.Found found) refusal f p (inl is) stands known = λ told. subst (MayRefuse f p) (sym is) tt
 cause_at laws (phases.Delta q x base) (answers.Found None) refusal f p (inr none) stands known = λ told. absurd none
-cause_at laws (phases.Delta q x base) (answers.Found (Some bytes)) refusal f p (inr fault) stands (stood, one) = λ told.
+cause_at laws (phases.Delta q x base) (answers.Found (Some bytes)) refusal f p (inr fault) stands (stood, one, sought) = λ told.
     let c = stood_contents f p q.asked.schema x stands stood in
     only_memory f p refusal (file_fault _ _ (manifest_path x.delta_list) bytes refusal fault)
     (list_reads laws.lists (p.stood x.id) x.delta_list bytes c.0.delta refusal c.1.table.delta_list
     (found_stood f p q.asked.schema x stands stood c.0 c.1 (manifest_path x.delta_list) delta_list bytes told) fault)
 cause_at laws (phases.Manifests r) (answers.Found found) refusal f p (inl is) stands known = λ told. subst (MayRefuse f p) (sym is) tt
 cause_at laws (phases.Manifests r) (answers.Found None) refusal f p (inr none) stands known = λ told. absurd none
-cause_at laws (phases.Manifests r) (answers.Found (Some bytes)) refusal f p (inr (inl fault)) stands (stood, reading) = λ told.
+cause_at laws (phases.Manifests r) (answers.Found (Some bytes)) refusal f p (inr (inl fault)) stands (stood, reading, sought) = λ told.
     let c = stood_contents f p r.sought.asked.schema r.snapshot stands stood in
     let n = next_in laws p r c.0 c.1 reading in
     let named = next_named laws.lists p r reading.0 reading.1 c.0 c.1 reading.3 reading.4 reading.5 in
     only_memory f p refusal (file_fault _ _ (manifest_path r.next.name) bytes refusal fault)
     (manifest_reads laws.manifests (p.stood r.snapshot.id) r.sought.asked.schema r.next.name bytes n.own refusal n.is
     (found_stood f p r.sought.asked.schema r.snapshot stands stood c.0 c.1 (manifest_path r.next.name) named.0 bytes told) fault)
-cause_at laws (phases.Manifests r) (answers.Found (Some bytes)) refusal f p (inr (inr (own, reads, refuses))) stands (stood, reading) = λ told.
+cause_at laws (phases.Manifests r) (answers.Found (Some bytes)) refusal f p (inr (inr (own, reads, refuses))) stands (stood, reading, sought) = λ told.
     let c = stood_contents f p r.sought.asked.schema r.snapshot stands stood in
     let named = next_named laws.lists p r reading.0 reading.1 c.0 c.1 reading.3 reading.4 reading.5 in
     let file : IsManifest (p.stood r.snapshot.id) r.sought.asked.schema r.next.name own = record {

@@ -51,7 +51,7 @@ use Rattle.pm_contents.specs.Named.{Contents, HasContents, IsNamed, base_list, d
 use Rattle.pm_contents.specs.Lists.{HasEntries, HaveEntries, IsList, IsManifest, manifest_path, none_live}
 use Rattle.pm_table_view.specs.Reader.{origin_path, next_call, most, calls_left, opening, IsAsked, IsListOf, IsManifestOf, GoesOn, Goes, disorder, overlap, Shown, Refuses, Stops, Reaches, reached_at}
 use Rattle.pm_table_view.specs.Reading.{Filed, ReadingView, live_of}
-use Rattle.pm_table_view.specs.Meaning.{HasGone, IsKept, IsReadingOf, IsViewIn, view_origin, view_snapshot, Knows, LeavesFiles, Stood}
+use Rattle.pm_table_view.specs.Meaning.{HasGone, IsKept, IsReadingOf, IsViewIn, view_origin, view_snapshot, Knows, KnowsSought, LeavesFiles, Stood}
 use Rattle.pm_table_view.specs.declared.asked.Wanted.{Wanted}
 use Rattle.pm_table_view.specs.declared.asked.Wanted.TheVariants as wants
 use Rattle.pm_table_view.specs.Trace.{read_file, HasListed, HasSought, IsSought, Lists, Reads, Has, HaveRead, HasPart, HasView, of_origin, of_snapshot, LacksFile, lacks_base, lacks_delta, lacks_manifest, Misreads, misreads_base, misreads_delta, misreads_manifest, MayEnd, at_first, at_listing, at_snapshot, at_base, at_delta, at_part, at_manifest, IsFailed, in_listing, in_origin, in_snapshot, in_base, in_delta, in_manifest, in_again, gone_origin, gone_snapshot, gone_again, IsDamaged, bad_snapshot, bad_schema, is_absent, is_misread, is_disordered, is_overlap, Shows, Did}
@@ -62,7 +62,7 @@ use Rattle.pm_table_view.specs.declared.phase.Phase.TheVariants as phases
 use Rattle.pm_table_view.specs.declared.view.View.{View}
 use Rattle.pm_table_view.specs.Names.{IsLatest}
 use Rattle.pm_table_view.proofs.FaultLemmas.{IsFileFault, file_fault}
-use Rattle.pm_table_view.proofs.ListedLemmas.{count_grows, latest_is}
+use Rattle.pm_table_view.proofs.ListedLemmas.{count_grows, latest_is, sought_at, sought_by, sought_new, sought_still}
 use Rattle.pm_table_view.proofs.LiveLemmas.{kept_join, kept_none}
 
 -- ---- its calls change nothing
@@ -221,18 +221,19 @@ module _ (f : Files) (p : Past) (s : TableSchema) (x : Snapshot) (stands : Stand
     absent = stood-gone f p s x.id path stands stood.table stood.known needed there (sym told);
   }
 
-origin_known : (f : Files) (p : Past) (s : TableSchema) (v : View) → IsOriginView s v → IsTableOf s p.history → Knows (phases.Ready v) f p
-origin_known f p s v view table =
+origin_known : (f : Files) (p : Past) (q : SoughtView) (v : View) → IsOriginView q.asked.schema v → IsSoughtBy q v → IsTableOf q.asked.schema p.history
+    → KnowsSought f p q.asked.wanted q.listed 0 → Knows (phases.Ready v) f p
+origin_known f p q v view by table sought =
     let all : IsTableOf v.schema p.history × IsOriginView v.schema v =
     subst (λ (s : TableSchema). IsTableOf s p.history × IsOriginView s v) (sym view.schema) (table, view) in
-    (all.0, view_origin all.1)
+    (all.0, view_origin all.1, sought_by f p q v 0 by view.id sought)
 
 -- what is known once manifests were read
 knows_on : (f : Files) (p : Past) (q : SoughtView) (x : Snapshot) (done rest : List ManifestMeta) (files : Filed) (kept : List Entry) (new : Phase) (base delta : List ManifestMeta) (entries : List Entry)
     → GoesOn q x done rest files kept new → Stood p q.asked.schema x → IsList (p.stood x.id) x.base_list base → IsList (p.stood x.id) x.delta_list delta
     → base ++ delta ≡ done ++ rest → HaveEntries (p.stood x.id) q.asked.schema done entries → AreInOrder none_live entries → Leaves none_live entries (live_of files)
-    → kept ≡ kept_for q.asked.wanted entries → Knows new f p
-knows_on f p q x done [] files kept new base delta entries (v, view, sought, is) stood one two parts have order left keeps =
+    → kept ≡ kept_for q.asked.wanted entries → KnowsSought f p q.asked.wanted q.listed x.id → Knows new f p
+knows_on f p q x done [] files kept new base delta entries (v, view, by, is) stood one two parts have order left keeps sought =
     let g : Files = p.stood x.id in
     let whole : base ++ delta ≡ done = parts ∙ append-nil done in
     let contents : HasEntries g q.asked.schema x base delta entries = record {
@@ -241,7 +242,7 @@ knows_on f p q x done [] files kept new base delta entries (v, view, sought, is)
       have = subst (λ (metas : List ManifestMeta). HaveEntries g q.asked.schema metas entries) (sym whole) have;
       order = order;
     } in
-    let own : kept ≡ kept_for v.wanted entries = keeps ∙ ap (λ (w : Wanted). kept_for w entries) (sym sought.wanted) in
+    let own : kept ≡ kept_for v.wanted entries = keeps ∙ ap (λ (w : Wanted). kept_for w entries) (sym by.wanted) in
     let seen : IsViewOf q.asked.schema x (base ++ delta) (kept_for v.wanted entries) (live_of files) v =
     subst (λ (metas : List ManifestMeta). IsViewOf q.asked.schema x metas (kept_for v.wanted entries) (live_of files) v) (sym whole)
     (subst (λ (kept : List Entry). IsViewOf q.asked.schema x done kept (live_of files) v) own view) in
@@ -249,9 +250,10 @@ knows_on f p q x done [] files kept new base delta entries (v, view, sought, is)
     × IsViewOf v.schema x (base ++ delta) (kept_for v.wanted entries) (live_of files) v =
     subst (λ (s : TableSchema). IsTableOf s p.history × Stood p s x × HasEntries g s x base delta entries × IsViewOf s x (base ++ delta) (kept_for v.wanted entries) (live_of files) v)
     (sym view.schema) (stood.table, stood, contents, seen) in
-    subst (λ (m : Phase). Knows m f p) (sym is) (all.0, view_snapshot x base delta entries (live_of files) all.1 all.2 left all.3)
-knows_on f p q x done (meta ∷ rest) files kept new base delta entries is stood one two parts have order left keeps =
-    subst (λ (m : Phase). Knows m f p) (sym is) (stood, (base, delta, entries, one, two, parts, have, order, left, keeps))
+    subst (λ (m : Phase). Knows m f p) (sym is)
+    (all.0, view_snapshot x base delta entries (live_of files) all.1 all.2 left all.3, sought_by f p q v x.id by view.id sought)
+knows_on f p q x done (meta ∷ rest) files kept new base delta entries is stood one two parts have order left keeps sought =
+    subst (λ (m : Phase). Knows m f p) (sym is) (stood, (base, delta, entries, one, two, parts, have, order, left, keeps), sought)
 
 -- the next manifest is one of the snapshot's
 pub next_named : OneList → (p : Past) (r : ReadingView) (base delta : List ManifestMeta) (c : Contents) → HasContents (p.stood r.snapshot.id) r.sought.asked.schema r.snapshot c
@@ -289,40 +291,49 @@ listed_within f p a latest id names stands table newest listing asked =
 knows_next : Joined → OneList → (m : Phase) (answer : Answer) (new : Phase) (f : Files) (p : Past) → Goes m answer new → Stands f p → Knows m f p
     → IfSome (next_call m) (λ call. Answers call answer f → Knows new f p)
 knows_next law one_law (phases.List a) (answers.Listed names) new f p (ids, latest, id, are, newest, is_asked, is) stands known = λ told.
+    let sought : KnowsSought f p a.wanted ids id = sought_new f p a.schema a.wanted names.items ids latest id stands known are newest told is_asked
+    (listed_within f p a latest id names.items stands known newest told is_asked) in
     subst (λ (m : Phase). Knows m f p) (sym is)
-    (opened (λ (m : Phase). Knows m f p) (sought_of a ids) id (λ first. known)
-    (λ least. (known, least, asked_within a.wanted latest id is_asked newest.within, listed_within f p a latest id names.items stands known newest told is_asked)))
-knows_next law one_law (phases.Origin q) (answers.Found (Some bytes)) new f p (v, view, sought, is) stands known = λ told.
-    subst (λ (m : Phase). Knows m f p) (sym is) (origin_known f p q.asked.schema v view known)
-knows_next law one_law (phases.Snapshot q id) (answers.Found (Some bytes)) new f p (x, reads, schema, is) stands (table, least, within, bound) = λ told.
-    subst (λ (m : Phase). Knows m f p) (sym is) (stood_new f p q.asked.schema id bytes x stands table least within told reads schema)
-knows_next law one_law (phases.Base q x) (answers.Found None) new f p is stands stood = λ told.
+    (opened (λ (m : Phase). Knows m f p) (sought_of a ids) id (λ first. (known, sought_at f p a.wanted ids id 0 first sought))
+    (λ least. (known, least, asked_within a.wanted latest id is_asked newest.within, sought)))
+knows_next law one_law (phases.Origin q) (answers.Found (Some bytes)) new f p (v, view, by, is) stands (table, sought) = λ told.
+    subst (λ (m : Phase). Knows m f p) (sym is) (origin_known f p q v view by table sought)
+knows_next law one_law (phases.Snapshot q id) (answers.Found (Some bytes)) new f p (x, reads, schema, is) stands (table, least, within, sought) = λ told.
+    subst (λ (m : Phase). Knows m f p) (sym is) (
+      stood_new f p q.asked.schema id bytes x stands table least within told reads schema,
+      sought_at f p q.asked.wanted q.listed id x.id (sym (id_same id bytes x reads)) sought,
+    )
+knows_next law one_law (phases.Base q x) (answers.Found None) new f p is stands (stood, sought) = λ told.
     let c = stood_contents f p q.asked.schema x stands stood in
     let list = c.1.table.base_list in
     subst (λ (m : Phase). Knows m f p) (sym is)
     (gone_now f p q.asked.schema x stands stood c.0 c.1 (manifest_path x.base_list) base_list (some_there (p.stood x.id) (manifest_path x.base_list) list.bytes list.there) told)
-knows_next law one_law (phases.Base q x) (answers.Found (Some bytes)) new f p (base, reads, is) stands stood = λ told.
+knows_next law one_law (phases.Base q x) (answers.Found (Some bytes)) new f p (base, reads, is) stands (stood, sought) = λ told.
     let c = stood_contents f p q.asked.schema x stands stood in
-    subst (λ (m : Phase). Knows m f p) (sym is)
-    (stood, record { bytes = bytes; there = found_stood f p q.asked.schema x stands stood c.0 c.1 (manifest_path x.base_list) base_list bytes told; read = reads })
-knows_next law one_law (phases.Delta q x base) (answers.Found None) new f p is stands (stood, one) = λ told.
+    subst (λ (m : Phase). Knows m f p) (sym is) (
+      stood,
+      record { bytes = bytes; there = found_stood f p q.asked.schema x stands stood c.0 c.1 (manifest_path x.base_list) base_list bytes told; read = reads },
+      sought,
+    )
+knows_next law one_law (phases.Delta q x base) (answers.Found None) new f p is stands (stood, one, sought) = λ told.
     let c = stood_contents f p q.asked.schema x stands stood in
     let list = c.1.table.delta_list in
     subst (λ (m : Phase). Knows m f p) (sym is)
     (gone_now f p q.asked.schema x stands stood c.0 c.1 (manifest_path x.delta_list) delta_list (some_there (p.stood x.id) (manifest_path x.delta_list) list.bytes list.there) told)
-knows_next law one_law (phases.Delta q x base) (answers.Found (Some bytes)) new f p (delta, reads, (files, left, within, on)) stands (stood, one) = λ told.
+knows_next law one_law (phases.Delta q x base) (answers.Found (Some bytes)) new f p (delta, reads, (files, left, within, on)) stands (stood, one, sought) = λ told.
     let c = stood_contents f p q.asked.schema x stands stood in
     let two : IsList (p.stood x.id) x.delta_list delta =
     record { bytes = bytes; there = found_stood f p q.asked.schema x stands stood c.0 c.1 (manifest_path x.delta_list) delta_list bytes told; read = reads } in
     knows_on f p q x [] (base.items ++ delta) files [] new base.items delta [] on stood one two refl refl order_none left (kept_none q.asked.wanted)
+    sought
 knows_next law one_law (phases.Manifests r) (answers.Found None) new f p is stands
-    (stood, (base, delta, entries, one, two, parts, have, before, was, keeps)) = λ told.
+    (stood, (base, delta, entries, one, two, parts, have, before, was, keeps), sought) = λ told.
     let c = stood_contents f p r.sought.asked.schema r.snapshot stands stood in
     let named = next_named one_law p r base delta c.0 c.1 one two parts in
     subst (λ (m : Phase). Knows m f p) (sym is)
     (gone_now f p r.sought.asked.schema r.snapshot stands stood c.0 c.1 (manifest_path r.next.name) named.0 named.1 told)
 knows_next law one_law (phases.Manifests r) (answers.Found (Some bytes)) new f p (own, reads, (files, order, left, on)) stands
-    (stood, (base, delta, entries, one, two, parts, have, before, was, keeps)) = λ told.
+    (stood, (base, delta, entries, one, two, parts, have, before, was, keeps), sought) = λ told.
     let c = stood_contents f p r.sought.asked.schema r.snapshot stands stood in
     let named = next_named one_law p r base delta c.0 c.1 one two parts in
     let file : IsManifest (p.stood r.snapshot.id) r.sought.asked.schema r.next.name own =
@@ -331,7 +342,7 @@ knows_next law one_law (phases.Manifests r) (answers.Found (Some bytes)) new f p
     (parts ∙ sym (append_assoc r.done (r.next ∷ []) r.rest))
     (entries_push (p.stood r.snapshot.id) r.sought.asked.schema r.done r.next entries own have file)
     (order_more law entries own (live_of r.files) before was order) (leaves_more law entries own (live_of r.files) (live_of files) was left)
-    (kept_more r entries own keeps)
+    (kept_more r entries own keeps) sought
 knows_next law one_law m answer new f p goes stands known = absurd goes
 
 over_knows : (new : Phase) (f : Files) (p : Past) → new ≡ phases.Over → Knows new f p
@@ -707,26 +718,40 @@ view_still other f after p q v advances (view_snapshot x base delta entries live
 
 pub knows_still : (m : Phase) (other : Actor) (f after : Files) (p q : Past) → Stands f p → Advances other f p after q → Knows m f p → Knows m after q
 knows_still (phases.List a) other f after p q stands advances known = table_still other f after p q a.schema advances known
-knows_still (phases.Origin s) other f after p q stands advances known = table_still other f after p q s.asked.schema advances known
-knows_still (phases.Snapshot s id) other f after p q stands advances (known, least, within, bound) =
-    let more = count_grows p.history q.history (goes_on other f after p.history q.history advances.change) in
-    (table_still other f after p q s.asked.schema advances known, least, within, omega (arith, bound, more))
-knows_still (phases.Base s x) other f after p q stands advances stood = stood_still other f after p q s.asked.schema x advances stood
-knows_still (phases.Delta s x base) other f after p q stands advances (stood, one) = (
+knows_still (phases.Origin s) other f after p q stands advances (known, sought) = (
+  table_still other f after p q s.asked.schema advances known,
+  sought_still other f after p q s.asked.schema s.asked.wanted s.listed 0 stands advances known sought,
+)
+knows_still (phases.Snapshot s id) other f after p q stands advances (known, least, within, sought) = (
+  table_still other f after p q s.asked.schema advances known,
+  least,
+  within,
+  sought_still other f after p q s.asked.schema s.asked.wanted s.listed id stands advances known sought,
+)
+knows_still (phases.Base s x) other f after p q stands advances (stood, sought) = (
+  stood_still other f after p q s.asked.schema x advances stood,
+  sought_still other f after p q s.asked.schema s.asked.wanted s.listed x.id stands advances stood.table sought,
+)
+knows_still (phases.Delta s x base) other f after p q stands advances (stood, one, sought) = (
   stood_still other f after p q s.asked.schema x advances stood,
   subst (λ (g : Files). IsList g x.base_list base.items) (sym (advances.same x.id stood.known)) one,
+  sought_still other f after p q s.asked.schema s.asked.wanted s.listed x.id stands advances stood.table sought,
 )
-knows_still (phases.Manifests r) other f after p q stands advances (stood, reading) = (
+knows_still (phases.Manifests r) other f after p q stands advances (stood, reading, sought) = (
   stood_still other f after p q r.sought.asked.schema r.snapshot advances stood,
   subst (λ (g : Files). IsReadingOf g r) (sym (advances.same r.snapshot.id stood.known)) reading,
+  sought_still other f after p q r.sought.asked.schema r.sought.asked.wanted r.sought.listed r.snapshot.id stands advances stood.table sought,
 )
 knows_still (phases.Again a id path) other f after p q stands advances gone = record {
   table = table_still other f after p q a.schema advances gone.table;
   known = known-still other f after p q id advances gone.known;
   absent = gone-still other f after p q a.schema id stands advances gone.table gone.known gone.absent;
 }
-knows_still (phases.Ready v) other f after p q stands advances (known, view) =
-    (table_still other f after p q v.schema advances known, view_still other f after p q v advances view)
+knows_still (phases.Ready v) other f after p q stands advances (known, view, sought) = (
+  table_still other f after p q v.schema advances known,
+  view_still other f after p q v advances view,
+  sought_still other f after p q v.schema v.wanted v.listed.items v.id stands advances known sought,
+)
 knows_still phases.Over other f after p q stands advances known = tt
 
 pub again_absent : (a : Asked) (id : ℕ) (path : List ℕ) (found : Option (List ℕ)) (f : Files) (p : Past) → Knows (phases.Again a id path) f p

@@ -1,5 +1,5 @@
 -- What a reader of a view knows of the snapshots, and what its steps mean for the files.
-use Rattle.std.specs.Prelude.{◌≡◌, ℕ, ◌≤◌, ◌<◌, List, ◌∷◌, ◌++◌, None}
+use Rattle.std.specs.Prelude.{◌≡◌, ℕ, ◌≤◌, ◌<◌, List, ◌∷◌, ◌++◌, Contains, None, IsSome}
 use Rattle.std.specs.FinMap as map
 use Rattle.pm_values.specs.declared.refusal.Refusal.{Refusal}
 use Rattle.pm_values.specs.declared.refusal.Refusal.TheVariants as refusals
@@ -17,8 +17,11 @@ use Rattle.pm_manifest.specs.Live.{AreInOrder, Leaves, Live}
 use Rattle.pm_manifest.specs.declared.entry.Entry.{Entry}
 use Rattle.pm_manifest.specs.declared.entry.ManifestMeta.{ManifestMeta}
 use Rattle.pm_contents.specs.Lists.{HasEntries, HaveEntries, IsList, none_live}
+use Rattle.pm_table_view.specs.Names.{IsGreatestOf}
 use Rattle.pm_table_view.specs.Reading.{ReadingView, live_of}
 use Rattle.pm_table_view.specs.View.{IsOriginView, IsViewOf, kept_for}
+use Rattle.pm_table_view.specs.declared.asked.Wanted.{Wanted}
+use Rattle.pm_table_view.specs.declared.asked.Wanted.TheVariants as wants
 use Rattle.pm_table_view.specs.declared.phase.Phase.{Phase}
 use Rattle.pm_table_view.specs.declared.phase.Phase.TheVariants as phases
 use Rattle.pm_table_view.specs.declared.view.View.{View}
@@ -58,25 +61,48 @@ pub data IsViewIn (p : Past) (v : View) : Type 0 where
       → Stood p v.schema x → HasEntries (p.stood x.id) v.schema x base delta entries → Leaves none_live entries live
       → IsViewOf v.schema x (base ++ delta) (kept_for v.wanted entries) live v → IsViewIn p v
 
+-- The ids that were listed are of snapshots of the table. Of those up to the greatest of them, each that is there is
+-- one of them: what came after they were listed is above, and what has gone doesn't come again.
+pub record KnowsListed (f : Files) (p : Past) (ids : List ℕ) : Type 0 where
+  pub within : (id : ℕ) → Contains ids id → (1 ≤ id) × (id ≤ count_of p.history)
+  pub all : (id later : ℕ) → IsKnown p id → id ≤ later → Contains ids later → IsSome (map.get f (snapshot_path id))
+      → Contains ids id
+
+-- the id is the one that is asked for, or where the latest is, that of the latest that was listed
+abbrev pub IsFor : Wanted → List ℕ → ℕ → Type 0
+IsFor (wants.At asked) ids id = id ≡ asked
+IsFor other ids id = IsGreatestOf ids id
+
+-- what was listed is known, and the snapshot with the id is the one that is asked for, which the table has or had
+pub record KnowsSought (f : Files) (p : Past) (wanted : Wanted) (ids : List ℕ) (id : ℕ) : Type 0 where
+  pub listed : KnowsListed f p ids
+  pub asked : IsFor wanted ids id
+  pub within : id ≤ count_of p.history
+
 -- the snapshot with the id is one of the table's, and has gone
 pub record HasGone (f : Files) (p : Past) (s : TableSchema) (id : ℕ) : Type 0 where
   pub table : IsTableOf s p.history
   pub known : IsKnown p id
   pub absent : map.get f (snapshot_path id) ≡ None
 
--- What it knows in each phase, whatever others do: that there is a table of the schema; that the snapshot to be read is
--- at most the newest; that what was read is what stood at the snapshot; and once a file that the snapshot names is
--- absent, that the snapshot has gone.
+-- What it knows in each phase, whatever others do: that there is a table of the schema; what was listed, and that the
+-- snapshot to be read is the one that is asked for, at most the newest; that what was read is what stood at the
+-- snapshot; and once a file that the snapshot names is absent, that the snapshot has gone.
 abbrev pub Knows : Phase → Files → Past → Type 0
 Knows (phases.List a) f p = IsTableOf a.schema p.history
-Knows (phases.Origin q) f p = IsTableOf q.asked.schema p.history
+Knows (phases.Origin q) f p = IsTableOf q.asked.schema p.history × KnowsSought f p q.asked.wanted q.listed 0
 Knows (phases.Snapshot q id) f p =
-    IsTableOf q.asked.schema p.history × (1 ≤ id) × (id ≤ greatest) × (id ≤ count_of p.history)
-Knows (phases.Base q x) f p = Stood p q.asked.schema x
-Knows (phases.Delta q x base) f p = Stood p q.asked.schema x × IsList (p.stood x.id) x.base_list base.items
-Knows (phases.Manifests r) f p = Stood p r.sought.asked.schema r.snapshot × IsReadingOf (p.stood r.snapshot.id) r
+    IsTableOf q.asked.schema p.history × (1 ≤ id) × (id ≤ greatest) × KnowsSought f p q.asked.wanted q.listed id
+Knows (phases.Base q x) f p = Stood p q.asked.schema x × KnowsSought f p q.asked.wanted q.listed x.id
+Knows (phases.Delta q x base) f p =
+    Stood p q.asked.schema x × IsList (p.stood x.id) x.base_list base.items
+    × KnowsSought f p q.asked.wanted q.listed x.id
+Knows (phases.Manifests r) f p =
+    Stood p r.sought.asked.schema r.snapshot × IsReadingOf (p.stood r.snapshot.id) r
+    × KnowsSought f p r.sought.asked.wanted r.sought.listed r.snapshot.id
 Knows (phases.Again a id path) f p = HasGone f p a.schema id
-Knows (phases.Ready v) f p = IsTableOf v.schema p.history × IsViewIn p v
+Knows (phases.Ready v) f p =
+    IsTableOf v.schema p.history × IsViewIn p v × KnowsSought f p v.wanted v.listed.items v.id
 Knows phases.Over f p = Unit {0}
 
 -- the snapshot with the id was committed, or is the origin, and isn't there

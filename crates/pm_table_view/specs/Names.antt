@@ -16,6 +16,11 @@ pub record AreIds (names : List (List ℕ)) (ids : List ℕ) : Type 0 where
   pub rising : IsStrictlyIncreasing ids
   pub exact : (id : ℕ) → Contains ids id ↔ ((1 ≤ id) × (id ≤ greatest) × Contains names (snapshot_name id))
 
+-- the id is the greatest of these, or 0 where there are none
+pub record IsGreatestOf (ids : List ℕ) (id : ℕ) : Type 0 where
+  pub one : 1 ≤ id → Contains ids id
+  pub most : (other : ℕ) → Contains ids other → other ≤ id
+
 -- Private: an id that isn't the origin's
 abbrev pub after_origin : ℕ → Option ℕ
 after_origin id = if nat_lt 0 id then Some id else None

@@ -9,6 +9,7 @@ use Rattle.pm_store.specs.declared.answer.Answer.TheVariants as answers
 use Rattle.pm_store.specs.declared.call.Call.{Call}
 use Rattle.pm_store.specs.declared.call.Call.TheVariants as calls
 use Rattle.pm_record.specs.File.{ReadsFile}
+use Rattle.pm_schema.specs.Again.{IsDeclared}
 use Rattle.pm_schema.specs.declared.schema.TableSchema.{TableSchema}
 use Rattle.pm_snapshot.specs.Names.{snapshot_name}
 use Rattle.pm_snapshot.specs.Snapshot.{snapshot_in}
@@ -24,6 +25,7 @@ use Rattle.pm_manifest.specs.declared.entry.Entry.{Entry}
 use Rattle.pm_manifest.specs.declared.entry.ManifestMeta.{ManifestMeta}
 use Rattle.pm_contents.specs.Groups.{Overlaps}
 use Rattle.pm_contents.specs.Lists.{manifest_path, none_live}
+use Rattle.pm_table_view.specs.Log.{HaveGroups}
 use Rattle.pm_table_view.specs.Names.{AreIds, IsLatest}
 use Rattle.pm_table_view.specs.Reading.{Filed, ReadingView, live_of, reading_of}
 use Rattle.pm_table_view.specs.View.{HasFolders, IsOriginView, IsSoughtBy, IsViewOf, kept_for}
@@ -74,9 +76,10 @@ calls_left (phases.Again a id path) = 1
 calls_left (phases.Ready v) = 0
 calls_left phases.Over = 0
 
--- a view that is there can be read: its groups have folders
+-- a view that is there can be read: its groups have folders, as those of its live entries have; and its schema is
+-- declared
 abbrev pub IsViewer : Phase → Type 0
-IsViewer (phases.Ready v) = HasFolders v
+IsViewer (phases.Ready v) = HasFolders v × HaveGroups v.schema v.live.items × IsDeclared v.schema
 IsViewer other = Unit {0}
 
 -- the view is there to be taken

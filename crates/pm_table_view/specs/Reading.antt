@@ -9,6 +9,7 @@ use Rattle.pm_manifest.specs.declared.entry.ManifestMeta.{ManifestMeta}
 use Rattle.pm_manifest.specs.declared.file_id.FileId.{FileId}
 use Rattle.pm_contents.specs.Groups.{AreNamed, HaveFolders}
 use Rattle.pm_table_view.specs.Asked.{SoughtView}
+use Rattle.pm_table_view.specs.Log.{HaveGroups}
 
 -- files, each with its entry
 abbrev pub Filed : Type 0
@@ -34,6 +35,8 @@ abbrev pub reading_of : SoughtView → Snapshot → List ManifestMeta → Manife
 reading_of q x done next rest files kept =
     record { sought = q; snapshot = x; done = done; next = next; rest = rest; files = files; kept = kept }
 
--- the live files can be put into groups: each has its own entry, and is of a group of the table
+-- the live files can be put into groups: each has its own entry, and is of a group of the table, as are the kept entries
 abbrev pub IsReading : ReadingView → Type 0
-IsReading r = AreNamed (live_of r.files) × HaveFolders r.sought.asked.schema (live_of r.files)
+IsReading r =
+    AreNamed (live_of r.files) × HaveFolders r.sought.asked.schema (live_of r.files)
+    × HaveGroups r.sought.asked.schema r.kept

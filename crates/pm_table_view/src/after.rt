@@ -4,17 +4,16 @@
 //! variants proved at each such place.
 
 ghost use Rattle.std.specs.Prelude.{◌≡◌, ◌⊎◌, ◌++◌, ℕ, [], ◌≤◌, length, Some, IfOk, IfErr, OnOk};
-ghost use Rattle.std.specs.List.{AllByRecursion};
 ghost use Rattle.indexmap.specs.IndexMap.{get};
 ghost use Rattle.pm_contents.specs.Groups.{AreNamed, HaveFolders, Overlaps};
 ghost use Rattle.pm_contents.specs.Lists.{manifest_path};
 ghost use Rattle.pm_folder.specs.Paths.{schema_path, snapshot_path};
 ghost use Rattle.pm_manifest.specs.FileId.{id_eq};
 ghost use Rattle.pm_manifest.specs.Live.{AreInOrder, Leaves, Refuses};
-ghost use Rattle.pm_manifest.specs.declared.entry.Entry.{Entry as EntryView};
 ghost use Rattle.pm_record.specs.File.{IsMemoryOr};
-ghost use Rattle.pm_schema.specs.Folder.{FitsPartition};
+ghost use Rattle.pm_schema.specs.Again.{IsDeclared};
 ghost use Rattle.pm_store.specs.declared.answer.Answer.TheVariants as answers;
+ghost use Rattle.pm_table_view.specs.Log.{HaveGroups};
 ghost use Rattle.pm_table_view.specs.Reader.{most, opening, Goes, GoesOn, IsAbove, IsAsked, IsViewer, Shown};
 ghost use Rattle.pm_table_view.specs.Reader.{RefusesEntries, Starts, Takes};
 ghost use Rattle.pm_table_view.specs.View.{kept_for, HasFolders, IsOriginView, IsSoughtBy, IsViewOf};
@@ -123,6 +122,8 @@ fn origin_view(alloc: Global, sought: Sought) -> View
     ensures view { IsOriginView sought.asked.schema result }
     ensures sought { IsSoughtBy sought result }
     ensures folders { HasFolders result }
+    ensures groups { HaveGroups result.schema result.live.items }
+    ensures declared { IsDeclared result.schema }
 {
     let Sought { asked, listed } = sought;
     let Asked { schema, wanted } = asked;
@@ -354,6 +355,7 @@ fn go_on(
 ) -> Result<Phase, Refusal>
     requires named { AreNamed (get id_eq live) }
     requires folders { HaveFolders sought.asked.schema (get id_eq live) }
+    requires groups { HaveGroups sought.asked.schema kept.items }
     ensures goes { IfOk result (GoesOn sought snapshot done.items left.items live.entries kept.items) }
     ensures is_viewer { IfOk result IsViewer }
     ensures refuses { IfErr result (λ refusal. (left.items ≡ [])
@@ -393,9 +395,12 @@ fn view_of(
 ) -> Result<View, Refusal>
     requires named { AreNamed (get id_eq live) }
     requires folders { HaveFolders sought.asked.schema (get id_eq live) }
+    requires groups { HaveGroups sought.asked.schema kept.items }
     ensures view { IfOk result (IsViewOf sought.asked.schema snapshot manifests.items kept.items (get id_eq live)) }
     ensures sought { IfOk result (IsSoughtBy sought) }
     ensures folders { IfOk result HasFolders }
+    ensures groups { IfOk result (λ v. HaveGroups v.schema v.live.items) }
+    ensures declared { IfOk result (λ v. IsDeclared v.schema) }
     ensures refuses { IfErr result (Overlaps sought.asked.schema (get id_eq live)) }
 {
     let Ok(entries) = live_entries(alloc, kept) else {
@@ -429,6 +434,7 @@ fn view_with(
         × (result.schema ≡ sought.asked.schema) }
     ensures parts { (result.groups ≡ groups) × (result.manifests ≡ manifests) × (result.live ≡ live) }
     ensures sought { IsSoughtBy sought result }
+    ensures declared { IsDeclared result.schema }
 {
     let Sought { asked, listed } = sought;
     let Asked { schema, wanted } = asked;
@@ -519,7 +525,7 @@ fn after_entries(
     path: Txt,
     entries: Vec<Entry>,
 ) -> Result<Phase, Refusal>
-    requires fit { AllByRecursion (λ (e : EntryView). FitsPartition reading.sought.asked.schema e.group) entries.items }
+    requires fit { HaveGroups reading.sought.asked.schema entries.items }
     ensures goes { IfOk result (Takes reading entries.items) }
     ensures is_viewer { IfOk result IsViewer }
     ensures refuses { IfErr result (λ refusal. (refusal ≡ refusals.Memory)

@@ -10,7 +10,7 @@ ghost use Rattle.pm_folder.specs.Ledger.{Advances, Past, Stands};
 ghost use Rattle.pm_folder.specs.Paths.{snapshot_folder, snapshot_path};
 ghost use Rattle.pm_contents.specs.Lists.{none_live};
 ghost use Rattle.pm_contents.specs.Named.{Contents, IsNamed};
-ghost use Rattle.pm_history.specs.History.{table, Entry as CommitView};
+ghost use Rattle.pm_history.specs.History.{table, Entry as CommitView, IsTableOf};
 ghost use Rattle.pm_manifest.specs.Live.{live_after};
 ghost use Rattle.pm_manifest.specs.declared.entry.Entry.{Entry as EntryView};
 ghost use Rattle.pm_schema.specs.declared.schema.TableSchema.{TableSchema};
@@ -26,7 +26,7 @@ ghost use Rattle.pm_store.specs.Files.{Files, IsListing};
 ghost use Rattle.pm_store.specs.Images.{MayLeave};
 ghost use Rattle.pm_table_view.specs.Asked.{Asked};
 ghost use Rattle.pm_table_view.specs.LogMeaning.{IsLogIn};
-ghost use Rattle.pm_table_view.specs.Meaning.{IsKept, IsViewIn, Knows, MayRefuse};
+ghost use Rattle.pm_table_view.specs.Meaning.{IsKept, IsViewIn, Knows, KnowsListed, MayRefuse};
 ghost use Rattle.pm_table_view.specs.Named.{named_paths, parts_of};
 ghost use Rattle.pm_table_view.specs.Names.{AreIds};
 ghost use Rattle.pm_table_view.specs.Reader.{next_call, Shown};
@@ -73,6 +73,13 @@ pub fn listed_law()
     ensures { (f : Files) (s : TableSchema) (entries : List CommitView) (names : List (List ℕ)) (ids : List ℕ) (id : ℕ)
         → Folder f (table s entries) → AreIds names ids → IsListing snapshot_folder names f
         → Contains ids id ↔ ((1 ≤ id) × (id ≤ greatest) × IsSome (finite.get f (snapshot_path id))) }
+{}
+
+/// Of the snapshots up to the greatest that was listed, those that are there were listed, whatever others did since.
+pub fn sought_law()
+    ensures { (f : Files) (p : Past) (s : TableSchema) (ids : List ℕ) (id later : ℕ) → Stands f p
+        → IsTableOf s p.history → KnowsListed f p ids → 1 ≤ id → id ≤ later → Contains ids later
+        → IsSome (finite.get f (snapshot_path id)) → Contains ids id }
 {}
 
 /// The live entries are those of the files that are live after all entries, each once.

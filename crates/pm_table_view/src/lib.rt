@@ -38,7 +38,8 @@ mod view;
 
 pub use asked::{Asked, Sought, Wanted};
 pub use laws::{
-    absent_law, causes_law, entries_law, images_law, known_law, listed_law, named_law, whole_law,
+    absent_law, causes_law, entries_law, images_law, known_law, listed_law, named_law, sought_law,
+    whole_law,
 };
 pub use log::{Log, LogAsked, LogReading};
 pub use log_laws::{log_causes_law, log_images_law, log_known_law};

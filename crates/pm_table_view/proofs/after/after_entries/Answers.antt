@@ -1,13 +1,11 @@
 use Rattle.std.proofs.Common.{◌≡◌, ◌++◌, ◌∷◌, [], rules, sym, subst}
-use Rattle.std.specs.List.{AllByRecursion}
 use Rattle.indexmap.specs.IndexMap.{get}
 use Rattle.pm_values.specs.declared.refusal.Refusal.{Refusal}
-use Rattle.pm_schema.specs.Folder.{FitsPartition}
 use Rattle.pm_manifest.specs.FileId.{id_eq}
-use Rattle.pm_manifest.specs.declared.entry.Entry.{Entry}
+use Rattle.pm_table_view.specs.Log.{HaveGroups}
 use Rattle.pm_table_view.specs.Reading.{ReadingView, reading_of}
 use Rattle.pm_table_view.specs.declared.phase.Phase.{Phase}
-use Rattle.pm_table_view.proofs.AfterLemmas.{entries_overlap, entries_refused, entries_taken, if_err, if_ok}
+use Rattle.pm_table_view.proofs.AfterLemmas.{entries_overlap, entries_refused, entries_taken, groups_more, if_err, if_ok}
 use Rattle.pm_table_view.proofs.after.after_entries.Goals as goal
 
 pub returns-in-Err-clause-refuses : goal.returns-in-Err-clause-refuses
@@ -26,8 +24,14 @@ pub go_on-requires-clause-folders : goal.go_on-requires-clause-folders
 go_on-requires-clause-folders c =
     c.live_law.ensures.folders c.reading.inside.sought.asked.schema (get id_eq c.reading.inside.live) (get id_eq c.take_in.new.live) c.args.entries.items
     c.reading.invariant.1
-    (subst (λ (r : ReadingView). AllByRecursion (λ (e : Entry). FitsPartition r.sought.asked.schema e.group) c.args.entries.items) (sym c.reading.view_is) c.requires.fit)
+    (subst (λ (r : ReadingView). HaveGroups r.sought.asked.schema c.args.entries.items) (sym c.reading.view_is) c.requires.fit)
     c.in_default.ensures.left
+
+pub go_on-requires-clause-groups : goal.go_on-requires-clause-groups
+go_on-requires-clause-groups c =
+    groups_more c.reading.inside.sought.asked.schema c.reading.inside.sought.asked.wanted c.reading.inside.kept.items c.args.entries.items
+    c.take_in.new.kept.items c.reading.invariant.2
+    (subst (λ (r : ReadingView). HaveGroups r.sought.asked.schema c.args.entries.items) (sym c.reading.view_is) c.requires.fit) (search rules)
 
 pub returns-clause-goes : goal.returns-clause-goes
 returns-clause-goes c =
