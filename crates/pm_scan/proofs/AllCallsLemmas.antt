@@ -32,7 +32,7 @@ use Rattle.pm_view.specs.Reader.{schemas_call}
 use Rattle.pm_view.proofs.AllCallsLemmas as schema
 use Rattle.pm_view.proofs.AllCallsLemmas.{AreCalls, MayCall, may_call, read_still}
 use Rattle.pm_view.proofs.StillLemmas.{AreStill, AreTold, stayed, told_last}
-use Rattle.pm_table_view.specs.Asked.{Asked}
+use Rattle.pm_table_view.specs.Asked.{Asked, ListsFirst}
 use Rattle.pm_table_view.specs.Reader.{origin_path, IsAbove, IsAsked}
 use Rattle.pm_table_view.specs.Trace as reader
 use Rattle.pm_table_view.specs.Trace.{HasView, of_origin, of_snapshot, read_file}
@@ -143,6 +143,11 @@ pub record AllLaws : Type 0 where
 some_gone : (found : Option (List ℕ)) (bytes : List ℕ) → found ≡ Some bytes → None ≡ found → ⊥
 some_gone found bytes is none = cc
 
+-- a scan lists the snapshots first
+pub begins : (at : Option ℕ) → ListsFirst (wanted_of at)
+begins None = tt
+begins (Some id) = tt
+
 asked_id : (at : Option ℕ) (latest id : ℕ) → IsAsked (wanted_of at) latest id → id ≡ id_of at latest
 asked_id None latest id is = is
 asked_id (Some asked) latest id (is, within) = is
@@ -180,9 +185,9 @@ module _ (laws : AllLaws) (f : Files) (s : TableSchema) (entries : List Entry) (
       no_more (first ∷ done) job rest e = cc
   follows_in v c job rest own part taken (of_snapshot x metas es live read left view) told =
       let w = wanted_of at in
-      let p = part_at laws.views f s entries folder w x metas [] es part.first read told in
-      let is = committed laws.views f s entries folder w x p.at in
-      let same = live_of_part laws.views f s entries folder w x metas es live p left in
+      let p = part_at laws.views f s entries folder w (begins at) x metas [] es part.first read told in
+      let is = committed laws.views f s entries folder w (begins at) x p.at in
+      let same = live_of_part laws.views f s entries folder w (begins at) x metas es live p left in
       let has : (g : Group) → HasGroup f s (take x.id entries) x.id live g = λ g. subst (λ l. HasGroup f s (take x.id entries) x.id l g) same (is.groups g) in
       let each = each-own live v.groups.entries view.order (λ g runs found. subst (GroupRuns live g) found (view.groups g)) in (
         view.schema,
@@ -225,7 +230,7 @@ module _ (laws : AllLaws) (f : Files) (s : TableSchema) (entries : List Entry) (
       → IsAsked (wanted_of at) (length entries) v.id × ((v.id ≡ 0) ⊎ HasSnapshotAt f s v.id) × (lines_of rows ≡ scan_text s (rows_up_to entries v.id))
   text_in v c rows own part taken merge (of_origin bytes view reads) told =
       let w = wanted_of at in
-      let asked = (reads_at laws.views f s entries folder w 0 (origin_path s) (Some bytes) part.first reads told).0 in (
+      let asked = (reads_at laws.views f s entries folder w (begins at) 0 (origin_path s) (Some bytes) part.first reads told).0 in (
         subst (IsAsked w (length entries)) (sym view.id) asked,
         inl view.id,
         scanned-origin laws.scans f s entries v.groups.entries c rows declared view.groups
@@ -235,12 +240,12 @@ module _ (laws : AllLaws) (f : Files) (s : TableSchema) (entries : List Entry) (
       )
   text_in v c rows own part taken merge (of_snapshot x metas es live read left view) told =
       let w = wanted_of at in
-      let p = part_at laws.views f s entries folder w x metas [] es part.first read told in
-      let is = committed laws.views f s entries folder w x p.at in (
+      let p = part_at laws.views f s entries folder w (begins at) x metas [] es part.first read told in
+      let is = committed laws.views f s entries folder w (begins at) x p.at in (
         subst (IsAsked w (length entries)) (sym view.id) p.at.asked,
         inr (subst (HasSnapshotAt f s) (sym view.id) (has-snapshot f s x.id p.at.there.0 p.at.least p.at.there.1)),
         scanned-view laws.scans laws.views.contents f s entries x.id x p.base p.delta es live v.groups.entries c rows declared is p.at.there
-            (entries_of laws.views f s entries folder w x metas es p) left view.order view.groups
+            (entries_of laws.views f s entries folder w (begins at) x metas es p) left view.order view.groups
             (subst (λ (t : TableSchema). HaveTaken f (all_jobs t v.groups.entries) (nothing_of t) c) view.schema taken)
             (subst (λ (t : TableSchema). IsMerge (meaning_of t) c.shown rows) view.schema merge)
             ∙ ap (λ (id : ℕ). scan_text s (rows_up_to entries id)) (sym view.id),
@@ -285,14 +290,14 @@ module _ (laws : AllLaws) (f : Files) (s : TableSchema) (entries : List Entry) (
   view_caused first after (refusals.NoSnapshot id latest) own (names, newest, above, is) told rose =
       let listing : IsListing snapshot_folder names.items f = (subst (AreTold f) is told).0 in
       let asked = above_is at latest id above in
-      (asked.0, latest_is laws.views f s entries folder (wanted_of at) latest names.items newest listing, asked.1)
+      (asked.0, latest_is laws.views f s entries folder (wanted_of at) (begins at) latest names.items newest listing, asked.1)
   view_caused first after (refusals.Expired id) own shows told rose =
-      let gone = view_gone_at laws.views f s entries folder (wanted_of at) id own shows told in
+      let gone = view_gone_at laws.views f s entries folder (wanted_of at) (begins at) id own shows told in
       (asked_gone at id gone.0 gone.1, asked_up_to (wanted_of at) (length entries) id gone.0, gone.1)
   view_caused first after (refusals.Damaged path place) own shows told rose =
-      absurd (view_damaged_at laws.views f s entries folder (wanted_of at) path place own shows told)
+      absurd (view_damaged_at laws.views f s entries folder (wanted_of at) (begins at) path place own shows told)
   view_caused first after (refusals.Unsupported what text) own shows told rose =
-      absurd (view_misreads_at laws.views f s entries folder (wanted_of at) (refusals.Unsupported what text) own (unsupported_not what text) shows told)
+      absurd (view_misreads_at laws.views f s entries folder (wanted_of at) (begins at) (refusals.Unsupported what text) own (unsupported_not what text) shows told)
   view_caused first after other own shows told rose = absurd shows
 
   files_caused : (first after : StoreView) (refusal : Refusal) (own : List Event) → ShowsOfFiles a refusal own → AreTold f own → (FailsLast own → Rose first.faults after.faults)
@@ -371,8 +376,8 @@ scanned_history laws s at (Err refusal) before after declared (own, (earlier, la
 
 -- ---- steps in a row
 
-pub begun : (a : Asked) (store : StoreView) → HasTrace (Did a (phases.View (readers.List a))) store store
-begun a store = ([], (refl, refl), Traces-none store)
+pub begun : (a : Asked) (store : StoreView) → ListsFirst a.wanted → HasTrace (Did a (phases.View (readers.List a))) store store
+begun a store first = ([], (refl, refl, first), Traces-none store)
 
 pub went_further : (a : Asked) (old new : Phase) (first before after : StoreView) (step : ScanStep) → HasTrace (Did a old) first before
     → ScannerActed old new before after (Ok step) → IsLater before after → HasTrace (Did a new) first after

@@ -26,6 +26,7 @@ use Rattle.pm_folder.specs.Meaning.{HasSnapshotAt, SnapshotAt}
 use Rattle.pm_folder.specs.Paths.{snapshot_file, snapshot_folder, snapshot_path}
 use Rattle.pm_folder.proofs.Facts.{newest-there, snapshot-committed, snapshot-led, some-none}
 use Rattle.pm_view.specs.Reader.{snapshots_call}
+use Rattle.pm_view.specs.Trace.{Names, listed_snapshots}
 use Rattle.pm_view.proofs.AllCallsLemmas.{list_still, read_still}
 use Rattle.pm_view.proofs.StillLemmas.{AreStill, AreTold, IsStill, IsTold, told_last}
 use Rattle.pm_levels.specs.Runs.{AreTwoOf}
@@ -40,10 +41,10 @@ use Rattle.pm_contents.specs.Groups.{Overlaps}
 use Rattle.pm_contents.specs.Lists.{HasEntries, HaveEntries, IsList, IsManifest, manifest_path, none_live}
 use Rattle.pm_contents.specs.Named.{Contents, HasContents}
 use Rattle.pm_contents.specs.Runs.{AreFilesOf}
-use Rattle.pm_table_view.specs.Asked.{Asked, asked_of}
+use Rattle.pm_table_view.specs.Asked.{Asked, ListsFirst, asked_of}
 use Rattle.pm_table_view.specs.Names.{IsLatest}
 use Rattle.pm_table_view.specs.Reader.{origin_name, origin_path, IsAsked, MisreadsList, MisreadsManifest}
-use Rattle.pm_table_view.specs.Trace.{read_file, Lists, Reads, Has, FindsBase, HasBase, FindsDelta, HasDelta, HaveRead, HasPart, FindsNext, HasView, of_origin, of_snapshot, LacksFile, lacks_base, lacks_delta, lacks_manifest, ReadsAgain, Misreads, misreads_base, misreads_delta, misreads_manifest, MayEnd, at_first, at_listing, at_snapshot, at_base, at_delta, at_part, at_manifest, IsFailed, in_listing, in_origin, in_snapshot, in_base, in_delta, in_manifest, in_again, IsGone, gone_origin, gone_snapshot, gone_again, IsDamaged, bad_snapshot, bad_schema, is_absent, is_misread, is_disordered, is_overlap, Shows}
+use Rattle.pm_table_view.specs.Trace.{read_file, Lists, ListsFor, Reads, Has, FindsBase, HasBase, FindsDelta, HasDelta, HaveRead, HasPart, FindsNext, HasView, of_origin, of_snapshot, LacksFile, lacks_base, lacks_delta, lacks_manifest, ReadsAgain, Misreads, misreads_base, misreads_delta, misreads_manifest, MayEnd, at_first, at_listing, at_snapshot, at_base, at_delta, at_part, at_manifest, IsFailed, in_listing, in_origin, in_snapshot, in_base, in_delta, in_manifest, in_again, IsGone, gone_origin, gone_snapshot, gone_again, IsDamaged, bad_snapshot, bad_schema, is_absent, is_misread, is_disordered, is_overlap, Shows}
 use Rattle.pm_table_view.specs.declared.asked.Wanted.{Wanted}
 use Rattle.pm_table_view.specs.declared.asked.Wanted.TheVariants as wants
 use Rattle.pm_table_view.specs.declared.view.View.{View}
@@ -59,7 +60,16 @@ pub still_more : (earlier own : List Event) (event : Event) → own ≡ earlier 
 still_more earlier own event is still one = subst AreStill (sym is) (AllByRecursion-push (λ (event : Event). IsStill event.call) earlier event still one)
 
 lists_still : (a : Asked) (id : ℕ) (own : List Event) → Lists a id own → AreStill own
-lists_still a id own (names, latest, newest, asked, is) = subst AreStill (sym is) (list_still snapshot_folder, tt)
+lists_still a id own lists = at a.wanted lists
+  where
+    listed : (names : Names) → own ≡ listed_snapshots names ∷ [] → AreStill own
+    listed names is = subst AreStill (sym is) (list_still snapshot_folder, tt)
+
+    at : (w : Wanted) → ListsFor w id own → AreStill own
+    at wants.Newest (names, latest, newest, asked, is) = listed names is
+    at wants.Entries (names, latest, newest, asked, is) = listed names is
+    at (wants.At asked_id) (names, latest, newest, asked, is) = listed names is
+    at (wants.Whole asked_id) (asked, none) = subst AreStill (sym none) tt
 
 reads_still : (a : Asked) (id : ℕ) (path : List ℕ) (found : Option (List ℕ)) (own : List Event) → Reads a id path found own → AreStill own
 reads_still a id path found own (earlier, lists, is) = still_more earlier own (read_file path found) is (lists_still a id earlier lists) (read_still path)
@@ -112,7 +122,7 @@ misreads_still a refusal own (misreads_manifest x done meta rest entries bytes f
 
 ended_still : (a : Asked) (own : List Event) → MayEnd a own → AreStill own
 ended_still a own (at_first is) = subst AreStill (sym is) tt
-ended_still a own (at_listing names is) = subst AreStill (sym is) (list_still snapshot_folder, tt)
+ended_still a own (at_listing names first is) = subst AreStill (sym is) (list_still snapshot_folder, tt)
 ended_still a own (at_snapshot id bytes least reads) = reads_still a id (snapshot_path id) (Some bytes) own reads
 ended_still a own (at_base x found finds) = base_still a x found own finds
 ended_still a own (at_delta x base found finds) = delta_still a x base found own finds
@@ -120,7 +130,7 @@ ended_still a own (at_part x done rest entries part) = part_still a x done rest 
 ended_still a own (at_manifest x done meta rest entries found finds) = next_still a x done meta rest entries found own finds
 
 failed_still : (a : Asked) (path : List ℕ) (own : List Event) → IsFailed a path own → AreStill own
-failed_still a path own (in_listing at is) = subst AreStill (sym is) (list_still snapshot_folder, tt)
+failed_still a path own (in_listing at first is) = subst AreStill (sym is) (list_still snapshot_folder, tt)
 failed_still a path own (in_origin earlier lists at is) = still_more earlier own (faulted (calls.Read path)) is (lists_still a 0 earlier lists) (read_still path)
 failed_still a path own (in_snapshot id earlier least lists at is) = still_more earlier own (faulted (calls.Read path)) is (lists_still a id earlier lists) (read_still path)
 failed_still a path own (in_base x earlier has at is) = still_more earlier own (faulted (calls.Read path)) is (has_still a x earlier has) (read_still path)
@@ -157,7 +167,7 @@ abbrev pub FailsLast : List Event → Type 0
 FailsLast own = (earlier : List Event) × (call : Call) × (own ≡ earlier ++ faulted call ∷ [])
 
 pub view_failed : (a : Asked) (path : List ℕ) (own : List Event) → IsFailed a path own → FailsLast own
-view_failed a path own (in_listing at is) = ([], snapshots_call, is)
+view_failed a path own (in_listing at first is) = ([], snapshots_call, is)
 view_failed a path own (in_origin earlier lists at is) = (earlier, calls.Read path, is)
 view_failed a path own (in_snapshot id earlier least lists at is) = (earlier, calls.Read path, is)
 view_failed a path own (in_base x earlier has at is) = (earlier, calls.Read path, is)
@@ -185,6 +195,15 @@ pub asked_up_to : (w : Wanted) (latest id : ℕ) → IsAsked w latest id → id 
 asked_up_to wants.Newest latest id is = omega (arith, is)
 asked_up_to wants.Entries latest id is = omega (arith, is)
 asked_up_to (wants.At asked) latest id (is, within) = omega (arith, is, within)
+asked_up_to (wants.Whole asked) latest id is = absurd is
+
+-- where the snapshots are listed first, they were
+was_listed : (w : Wanted) (id : ℕ) (own : List Event) → ListsFirst w → ListsFor w id own
+    → (names : Names) × (latest : ℕ) × IsLatest names.items latest × IsAsked w latest id × (own ≡ listed_snapshots names ∷ [])
+was_listed wants.Newest id own first lists = lists
+was_listed wants.Entries id own first lists = lists
+was_listed (wants.At asked) id own first lists = lists
+was_listed (wants.Whole asked) id own first lists = absurd first
 
 bytes_same : (one other : List ℕ) → Some one ≡ Some other → one ≡ other
 bytes_same one other e = cc
@@ -218,7 +237,8 @@ module _ {X : Type 0} where
       let back = IsPermutation-sym xs (x ∷ y ∷ rest) same in
       (Contains-permutation (x ∷ y ∷ rest) xs x back (0, omega arith, refl), Contains-permutation (x ∷ y ∷ rest) xs y back (1, omega arith, refl))
 
-module _ (laws : ViewLaws) (f : Files) (s : TableSchema) (entries : List HistoryEntry) (folder : HasTable f s entries) (w : Wanted) where
+module _ (laws : ViewLaws) (f : Files) (s : TableSchema) (entries : List HistoryEntry) (folder : HasTable f s entries) (w : Wanted)
+    (lists_first : ListsFirst w) where
   abbrev a : Asked
   a = asked_of s w
 
@@ -241,7 +261,8 @@ module _ (laws : ViewLaws) (f : Files) (s : TableSchema) (entries : List History
       omega (arith, up, down)
 
   lists_at : (id : ℕ) (own : List Event) → Lists a id own → AreTold f own → IsAsked w (length entries) id
-  lists_at id own (names, latest, newest, asked, is) told =
+  lists_at id own lists told =
+      let (names, latest, newest, asked, is) = was_listed w id own lists_first lists in
       let listing : IsListing snapshot_folder names.items f = (subst (AreTold f) is told).0 in
       subst (λ (n : ℕ). IsAsked w n id) (latest_is latest names.items newest listing) asked
 

@@ -165,6 +165,7 @@ entries_overlap r inner path own files refusal is order left (ended, over) =
 
 kept_groups : (s : TableSchema) (w : Wanted) (own : List Entry) → HaveGroups s own → HaveGroups s (kept_for w own)
 kept_groups s wants.Entries own have = have
+kept_groups s (wants.Whole id) own have = have
 kept_groups s wants.Newest own have = tt
 kept_groups s (wants.At id) own have = tt
 

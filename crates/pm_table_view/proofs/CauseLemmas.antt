@@ -211,6 +211,7 @@ no_overlaps one f p s x c live other stands stood has is over = absurd over
 above_latest : (w : Wanted) (latest id : ℕ) → IsAbove w latest id → latest < id
 above_latest wants.Newest latest id above = absurd above
 above_latest wants.Entries latest id above = absurd above
+above_latest (wants.Whole asked) latest id above = absurd above
 above_latest (wants.At asked) latest id (is, above) = omega (arith, is, above)
 
 list_cause : (f : Files) (p : Past) (a : Asked) (names : List (List ℕ)) (latest id : ℕ) (refusal : Refusal) → Stands f p → IsTableOf a.schema p.history

@@ -36,7 +36,7 @@ use Rattle.pm_folder.specs.Paths.{schema_path, snapshot_folder, snapshot_path}
 use Rattle.pm_folder.proofs.Facts.{goes_on}
 use Rattle.pm_folder.proofs.LedgerFacts.{at-table, stood-read, stood-same, stood-gone, known-still, gone-still}
 use Rattle.pm_view.specs.Reader.{snapshots_call}
-use Rattle.pm_view.specs.Trace.{listed_snapshots}
+use Rattle.pm_view.specs.Trace.{Names, listed_snapshots}
 use Rattle.pm_view.proofs.Facts.{list_effect, read_effect, still_table}
 use Rattle.pm_view.proofs.ListLemmas.{here}
 use Rattle.pm_manifest.specs.Live.{AreInOrder, Leaves, Live, live_after, live_at, id_of}
@@ -54,13 +54,13 @@ use Rattle.pm_table_view.specs.Reading.{Filed, ReadingView, live_of}
 use Rattle.pm_table_view.specs.Meaning.{HasGone, IsKept, IsReadingOf, IsViewIn, view_origin, view_snapshot, Knows, KnowsSought, LeavesFiles, Stood}
 use Rattle.pm_table_view.specs.declared.asked.Wanted.{Wanted}
 use Rattle.pm_table_view.specs.declared.asked.Wanted.TheVariants as wants
-use Rattle.pm_table_view.specs.Trace.{read_file, HasListed, HasSought, IsSought, Lists, Reads, Has, HaveRead, HasPart, HasView, of_origin, of_snapshot, LacksFile, lacks_base, lacks_delta, lacks_manifest, Misreads, misreads_base, misreads_delta, misreads_manifest, MayEnd, at_first, at_listing, at_snapshot, at_base, at_delta, at_part, at_manifest, IsFailed, in_listing, in_origin, in_snapshot, in_base, in_delta, in_manifest, in_again, gone_origin, gone_snapshot, gone_again, IsDamaged, bad_snapshot, bad_schema, is_absent, is_misread, is_disordered, is_overlap, Shows, Did}
+use Rattle.pm_table_view.specs.Trace.{read_file, HasListed, HasSought, IsSought, Lists, ListsFor, Reads, Has, HaveRead, HasPart, HasView, of_origin, of_snapshot, LacksFile, lacks_base, lacks_delta, lacks_manifest, Misreads, misreads_base, misreads_delta, misreads_manifest, MayEnd, at_first, at_listing, at_snapshot, at_base, at_delta, at_part, at_manifest, IsFailed, in_listing, in_origin, in_snapshot, in_base, in_delta, in_manifest, in_again, gone_origin, gone_snapshot, gone_again, IsDamaged, bad_snapshot, bad_schema, is_absent, is_misread, is_disordered, is_overlap, Shows, Did}
 use Rattle.pm_table_view.specs.View.{IsOriginView, IsSoughtBy, IsViewOf, kept_for}
-use Rattle.pm_table_view.specs.Asked.{Asked, SoughtView, sought_of}
+use Rattle.pm_table_view.specs.Asked.{Asked, ListsFirst, SoughtView, sought_of}
 use Rattle.pm_table_view.specs.declared.phase.Phase.{Phase}
 use Rattle.pm_table_view.specs.declared.phase.Phase.TheVariants as phases
 use Rattle.pm_table_view.specs.declared.view.View.{View}
-use Rattle.pm_table_view.specs.Names.{IsLatest}
+use Rattle.pm_table_view.specs.Names.{AreIds, IsLatest}
 use Rattle.pm_table_view.proofs.FaultLemmas.{IsFileFault, file_fault}
 use Rattle.pm_table_view.proofs.ListedLemmas.{count_grows, latest_is, sought_at, sought_by, sought_new, sought_still}
 use Rattle.pm_table_view.proofs.LiveLemmas.{kept_join, kept_none}
@@ -134,11 +134,13 @@ asked_within : (wanted : Wanted) (latest id : ℕ) → IsAsked wanted latest id 
 asked_within wants.Newest latest id is within = subst (λ (n : ℕ). n ≤ greatest) (sym is) within
 asked_within wants.Entries latest id is within = subst (λ (n : ℕ). n ≤ greatest) (sym is) within
 asked_within (wants.At asked) latest id (is, below) within = omega (arith, is, below, within)
+asked_within (wants.Whole asked) latest id is within = absurd is
 
 asked_below : (wanted : Wanted) (latest id : ℕ) → IsAsked wanted latest id → id ≤ latest
 asked_below wants.Newest latest id is = omega (arith, is)
 asked_below wants.Entries latest id is = omega (arith, is)
 asked_below (wants.At asked) latest id (is, below) = omega (arith, is, below)
+asked_below (wants.Whole asked) latest id is = absurd is
 
 -- what the law of one reading says of lists
 abbrev pub OneList : Type 0
@@ -416,16 +418,34 @@ has_snapshot a id bytes x own least reads schema did =
     (bytes, subst (λ n. 1 ≤ n) same least, subst (λ n. snapshot_in n bytes ≡ Ok x) same reads, schema, subst (λ n. Reads a n (snapshot_path n) (Some bytes) own) same did)
 
 -- what was listed first was so too with a call more
-listed_more : (ids : List ℕ) (own : List Event) (event : Event) → HasListed ids own → HasListed ids (own ++ event ∷ [])
-listed_more ids own event (names, later, are, is) = (names, later ++ event ∷ [], are, ap (λ (own : List Event). own ++ event ∷ []) is)
+listed_more : (w : Wanted) (ids : List ℕ) (own : List Event) (event : Event) → HasListed w ids own → HasListed w ids (own ++ event ∷ [])
+listed_more wants.Newest ids own event (names, later, are, is) = (names, later ++ event ∷ [], are, ap (λ (own : List Event). own ++ event ∷ []) is)
+listed_more wants.Entries ids own event (names, later, are, is) = (names, later ++ event ∷ [], are, ap (λ (own : List Event). own ++ event ∷ []) is)
+listed_more (wants.At id) ids own event (names, later, are, is) = (names, later ++ event ∷ [], are, ap (λ (own : List Event). own ++ event ∷ []) is)
+listed_more (wants.Whole id) ids own event none = none
+
+-- the snapshots were listed, as they are where an id is found among them
+lists_now : (w : Wanted) (names : Names) (latest id : ℕ) (own : List Event) → IsLatest names.items latest → IsAsked w latest id → own ≡ listed_snapshots names ∷ []
+    → ListsFor w id own
+lists_now wants.Newest names latest id own newest asked is = (names, latest, newest, asked, is)
+lists_now wants.Entries names latest id own newest asked is = (names, latest, newest, asked, is)
+lists_now (wants.At asked_id) names latest id own newest asked is = (names, latest, newest, asked, is)
+lists_now (wants.Whole asked_id) names latest id own newest asked is = absurd asked
+
+listed_now : (w : Wanted) (names : Names) (ids : List ℕ) (own : List Event) → ListsFirst w → AreIds names.items ids → own ≡ listed_snapshots names ∷ []
+    → HasListed w ids own
+listed_now wants.Newest names ids own first are is = (names, [], are, is)
+listed_now wants.Entries names ids own first are is = (names, [], are, is)
+listed_now (wants.At id) names ids own first are is = (names, [], are, is)
+listed_now (wants.Whole id) names ids own first are is = absurd first
 
 -- a view of what was sought
-has_sought : (a : Asked) (q : SoughtView) (v : View) (own : List Event) → q.asked ≡ a → HasListed q.listed own → IsSoughtBy q v → HasSought a v own
+has_sought : (a : Asked) (q : SoughtView) (v : View) (own : List Event) → q.asked ≡ a → HasListed a.wanted q.listed own → IsSoughtBy q v → HasSought a v own
 has_sought a q v own same ids by =
     (q.listed, ids, record { wanted = by.wanted ∙ ap (λ (a : Asked). a.wanted) same; listed = by.listed })
 
 did_on : (a : Asked) (q : SoughtView) (x : Snapshot) (done rest : List ManifestMeta) (files : Filed) (kept : List Entry) (new : Phase) (entries : List Entry) (own : List Event)
-    → q.asked ≡ a → HasListed q.listed own → GoesOn q x done rest files kept new → HasPart q.asked x done rest entries own → Leaves none_live entries (live_of files)
+    → q.asked ≡ a → HasListed a.wanted q.listed own → GoesOn q x done rest files kept new → HasPart q.asked x done rest entries own → Leaves none_live entries (live_of files)
     → kept ≡ kept_for q.asked.wanted entries → Did a new own
 did_on a q x done [] files kept new entries own same ids (v, view, sought, is) part left keeps =
     let seen : IsViewOf q.asked.schema x done (kept_for q.asked.wanted entries) (live_of files) v =
@@ -437,37 +457,37 @@ did_on a q x done (meta ∷ rest) files kept new entries own same ids is part le
 
 went_on : Joined → (a : Asked) (m : Phase) (answer : Answer) (new : Phase) (own : List Event) → Goes m answer new → Did a m own
     → IfSome (next_call m) (λ call. MayAnswer call answer → Did a new (own ++ answered call answer ∷ []))
-went_on law a (phases.List b) (answers.Listed names) new own (ids, latest, id, are, newest, is_asked, is) (same, none) = λ may.
+went_on law a (phases.List b) (answers.Listed names) new own (ids, latest, id, are, newest, is_asked, is) (same, none, begins) = λ may.
     let now : List Event = own ++ listed_snapshots names ∷ [] in
     let first : now ≡ listed_snapshots names ∷ [] = ap (λ (own : List Event). own ++ listed_snapshots names ∷ []) none in
-    let lists : Lists b id now = (names, latest, newest, is_asked, first) in
-    let sought : IsSought a (sought_of b ids) now = (same, (names, [], are, first)) in
+    let lists : Lists b id now = lists_now b.wanted names latest id now newest is_asked first in
+    let sought : IsSought a (sought_of b ids) now = (same, listed_now a.wanted names ids now begins are first) in
     subst (λ (m : Phase). Did a m now) (sym is)
     (opened (λ (m : Phase). Did a m now) (sought_of b ids) id (λ first. (sought, subst (λ n. Lists b n now) first lists)) (λ least. (sought, least, lists)))
 went_on law a (phases.Origin q) (answers.Found (Some bytes)) new own (v, view, sought, is) ((same, ids), lists) = λ may.
     let event : Event = read_file (origin_path q.asked.schema) (Some bytes) in
     let now : List Event = own ++ event ∷ [] in
     subst (λ (m : Phase). Did a m now) (sym is)
-    (subst (λ (a : Asked). HasView a v now) same (of_origin bytes view (own, lists, refl)), has_sought a q v now same (listed_more q.listed own event ids) sought)
+    (subst (λ (a : Asked). HasView a v now) same (of_origin bytes view (own, lists, refl)), has_sought a q v now same (listed_more a.wanted q.listed own event ids) sought)
 went_on law a (phases.Snapshot q id) (answers.Found (Some bytes)) new own (x, reads, schema, is) ((same, ids), least, lists) = λ may.
     let event : Event = read_file (snapshot_path id) (Some bytes) in
     let now : List Event = own ++ event ∷ [] in
     subst (λ (m : Phase). Did a m now) (sym is)
-    ((same, listed_more q.listed own event ids), has_snapshot q.asked id bytes x now least reads schema (own, lists, refl))
+    ((same, listed_more a.wanted q.listed own event ids), has_snapshot q.asked id bytes x now least reads schema (own, lists, refl))
 went_on law a (phases.Base q x) (answers.Found None) new own is ((same, ids), has) = λ may.
     let now : List Event = own ++ read_file (manifest_path x.base_list) None ∷ [] in
     subst (λ (m : Phase). Did a m now) (sym is) (same, lacks_base x refl refl (own, has, refl))
 went_on law a (phases.Base q x) (answers.Found (Some bytes)) new own (base, reads, is) ((same, ids), has) = λ may.
     let event : Event = read_file (manifest_path x.base_list) (Some bytes) in
     let now : List Event = own ++ event ∷ [] in
-    subst (λ (m : Phase). Did a m now) (sym is) ((same, listed_more q.listed own event ids), (bytes, reads, (own, has, refl)))
+    subst (λ (m : Phase). Did a m now) (sym is) ((same, listed_more a.wanted q.listed own event ids), (bytes, reads, (own, has, refl)))
 went_on law a (phases.Delta q x base) (answers.Found None) new own is ((same, ids), has) = λ may.
     let now : List Event = own ++ read_file (manifest_path x.delta_list) None ∷ [] in
     subst (λ (m : Phase). Did a m now) (sym is) (same, lacks_delta x base.items refl refl (own, has, refl))
 went_on law a (phases.Delta q x base) (answers.Found (Some bytes)) new own (delta, reads, (files, left, within, on)) ((same, ids), has) = λ may.
     let event : Event = read_file (manifest_path x.delta_list) (Some bytes) in
     let now : List Event = own ++ event ∷ [] in
-    did_on a q x [] (base.items ++ delta) files [] new [] now same (listed_more q.listed own event ids) on (record {
+    did_on a q x [] (base.items ++ delta) files [] new [] now same (listed_more a.wanted q.listed own event ids) on (record {
       base = base.items;
       delta = delta;
       lists = now;
@@ -485,7 +505,7 @@ went_on law a (phases.Manifests r) (answers.Found (Some bytes)) new own (later, 
     let event : Event = read_file (manifest_path r.next.name) (Some bytes) in
     let now : List Event = own ++ event ∷ [] in
     did_on a r.sought r.snapshot (r.done ++ r.next ∷ []) r.rest files (r.kept ++ kept_for r.sought.asked.wanted later) new (entries ++ later) now same
-    (listed_more r.sought.listed own event ids) on
+    (listed_more a.wanted r.sought.listed own event ids) on
     (part_more law r.sought.asked r.snapshot r.done r.next r.rest entries later (live_of r.files) bytes own part reads was order)
     (leaves_more law entries later (live_of r.files) (live_of files) was left) (kept_more r entries later keeps)
 went_on law a m answer new own goes did = absurd goes
@@ -523,9 +543,9 @@ shown_as a b refusal defined own same is shows =
 
 refused_on : Joined → (a : Asked) (m : Phase) (answer : Answer) (refusal : Refusal) (own : List Event) → Shown m answer refusal → Did a m own
     → IfSome (next_call m) (λ call. MayAnswer call answer → Shows a refusal (own ++ answered call answer ∷ []))
-refused_on law a (phases.List b) (answers.Listed names) refusal own (inl is) (same, none) = λ may.
-    shown_as a b refusal refusals.Memory _ same is (at_listing names (ap (λ (own : List Event). own ++ listed_snapshots names ∷ []) none))
-refused_on law a (phases.List b) (answers.Listed names) refusal own (inr (latest, id, newest, above, is)) (same, none) = λ may.
+refused_on law a (phases.List b) (answers.Listed names) refusal own (inl is) (same, none, begins) = λ may.
+    shown_as a a refusal refusals.Memory _ refl is (at_listing names begins (ap (λ (own : List Event). own ++ listed_snapshots names ∷ []) none))
+refused_on law a (phases.List b) (answers.Listed names) refusal own (inr (latest, id, newest, above, is)) (same, none, begins) = λ may.
     shown_as a b refusal (refusals.NoSnapshot id latest) _ same is
     (names, newest, above, ap (λ (own : List Event). own ++ listed_snapshots names ∷ []) none)
 refused_on law a (phases.Origin q) (answers.Found None) refusal own is ((same, ids), lists) = λ may.
@@ -574,7 +594,7 @@ failed_as a b path own same failed = subst (λ (a : Asked). IsFailed a path own)
 
 failed_on : (a : Asked) (m : Phase) (own : List Event) → Did a m own
     → IfSome (next_call m) (λ call. Shows a (refusals.StoreFault (path_of call)) (own ++ faulted call ∷ []))
-failed_on a (phases.List b) own (same, none) = in_listing refl (ap (λ (own : List Event). own ++ faulted snapshots_call ∷ []) none)
+failed_on a (phases.List b) own (same, none, begins) = in_listing refl begins (ap (λ (own : List Event). own ++ faulted snapshots_call ∷ []) none)
 failed_on a (phases.Origin q) own ((same, ids), lists) = failed_as a q.asked (origin_path q.asked.schema) _ same (in_origin own lists refl refl)
 failed_on a (phases.Snapshot q id) own ((same, ids), least, lists) = failed_as a q.asked (snapshot_path id) _ same (in_snapshot id own least lists refl refl)
 failed_on a (phases.Base q x) own ((same, ids), has) = failed_as a q.asked (manifest_path x.base_list) _ same (in_base x own has refl refl)
@@ -591,13 +611,22 @@ lacks_end a id path own (lacks_delta x base bears at finds) = at_delta x base No
 lacks_end a id path own (lacks_manifest x done meta rest entries bears at finds) = at_manifest x done meta rest entries None finds
 
 lists_end : (a : Asked) (id : ℕ) (own : List Event) → Lists a id own → MayEnd a own
-lists_end a id own (names, latest, newest, asked, is) = at_listing names is
+lists_end a id own lists = at a.wanted refl lists
+  where
+    first : (w : Wanted) → a.wanted ≡ w → ListsFirst w → ListsFirst a.wanted
+    first w is begins = subst ListsFirst (sym is) begins
+
+    at : (w : Wanted) → a.wanted ≡ w → ListsFor w id own → MayEnd a own
+    at wants.Newest same (names, latest, newest, asked, is) = at_listing names (first wants.Newest same tt) is
+    at wants.Entries same (names, latest, newest, asked, is) = at_listing names (first wants.Entries same tt) is
+    at (wants.At asked_id) same (names, latest, newest, asked, is) = at_listing names (first (wants.At asked_id) same tt) is
+    at (wants.Whole asked_id) same (asked, none) = at_first none
 
 ends_as : (a b : Asked) (own : List Event) → b ≡ a → MayEnd b own → MayEnd a own
 ends_as a b own same ends = subst (λ (a : Asked). MayEnd a own) same ends
 
 stopped_on : (a : Asked) (m : Phase) (own : List Event) → IsSome (next_call m) → Did a m own → MayEnd a own
-stopped_on a (phases.List b) own called (same, none) = at_first none
+stopped_on a (phases.List b) own called (same, none, begins) = at_first none
 stopped_on a (phases.Origin q) own called ((same, ids), lists) = ends_as a q.asked own same (lists_end q.asked 0 own lists)
 stopped_on a (phases.Snapshot q id) own called ((same, ids), least, lists) = ends_as a q.asked own same (lists_end q.asked id own lists)
 stopped_on a (phases.Base q x) own called ((same, ids), (bytes, least, reads, schema, did)) = ends_as a q.asked own same (at_snapshot x.id bytes least did)
@@ -673,7 +702,7 @@ goes_ahead (phases.Manifests r) (answers.Found (Some bytes)) new (own, reads, (f
 goes_ahead m answer new goes = absurd goes
 
 -- a reader with calls left has a next one
-has_call : (m : Phase) → 0 < calls_left m → IsSome (next_call m)
+pub has_call : (m : Phase) → 0 < calls_left m → IsSome (next_call m)
 has_call (phases.List a) left = refl
 has_call (phases.Origin q) left = refl
 has_call (phases.Snapshot q id) left = refl

@@ -69,6 +69,7 @@ asked_for : (w : Wanted) (names : List (List ℕ)) (ids : List ℕ) (latest id :
 asked_for wants.Newest names ids latest id are newest is = subst (IsGreatestOf ids) (sym is) (latest_of_ids names ids latest are newest)
 asked_for wants.Entries names ids latest id are newest is = subst (IsGreatestOf ids) (sym is) (latest_of_ids names ids latest are newest)
 asked_for (wants.At asked) names ids latest id are newest (is, below) = is
+asked_for (wants.Whole asked) names ids latest id are newest is = absurd is
 
 there_at : (f : Files) (s : TableSchema) (id : ℕ) → 1 ≤ id → IsSome (map.get f (snapshot_path id)) → HasSnapshotAt f s id
 there_at f s zero least there = absurd (omega (arith, least))

@@ -90,7 +90,7 @@ knows_on f p a x done [] changes new list metas (l, log, is) stood id named list
 knows_on f p a x done (meta ∷ rest) changes new list metas is stood id named listed parts have each =
     subst (λ (m : LogPhase). Knows m f p) (sym is) (stood, id, (list, metas, named, listed, parts, have, each))
 
-opens_known : (f : Files) (p : Past) (a : LogAskedView) (x : Snapshot) (o : Option (List ℕ)) (new : LogPhase) → x.changelog_list ≡ o → Opens a x o new → Stood p a.schema x
+pub opens_known : (f : Files) (p : Past) (a : LogAskedView) (x : Snapshot) (o : Option (List ℕ)) (new : LogPhase) → x.changelog_list ≡ o → Opens a x o new → Stood p a.schema x
     → x.id ≡ a.id → Knows new f p
 opens_known f p a x None new none (l, log, is) stood id =
     subst (λ (m : LogPhase). Knows m f p) (sym is) (log_in p a.schema x [] l [] log stood
@@ -207,7 +207,7 @@ did_on a b x done [] changes new own same (l, log, is) part =
     subst (λ (m : LogPhase). Did a m own) (sym is) (subst (λ (a : LogAskedView). HasLog a l own) same (of_list x done changes part log))
 did_on a b x done (meta ∷ rest) changes new own same is part = subst (λ (m : LogPhase). Did a m own) (sym is) (same, part)
 
-opens_did : (a b : LogAskedView) (x : Snapshot) (o : Option (List ℕ)) (new : LogPhase) (own : List Event) → b ≡ a → x.changelog_list ≡ o → Opens b x o new → Has b x own → Did a new own
+pub opens_did : (a b : LogAskedView) (x : Snapshot) (o : Option (List ℕ)) (new : LogPhase) (own : List Event) → b ≡ a → x.changelog_list ≡ o → Opens b x o new → Has b x own → Did a new own
 opens_did a b x None new own same none (l, log, is) has =
     subst (λ (m : LogPhase). Did a m own) (sym is) (subst (λ (a : LogAskedView). HasLog a l own) same (without x none has log))
 opens_did a b x (Some list) new own same named is has = subst (λ (m : LogPhase). Did a m own) (sym is) (same, (has, named))
@@ -322,7 +322,7 @@ recounts a = record {
 -- ---- how far it has come
 
 -- fewer calls than that are left, and what was reached
-abbrev IsAhead : ℕ → LogPhase → Type 0
+abbrev pub IsAhead : ℕ → LogPhase → Type 0
 IsAhead n m = (calls_left m < n) × Reaches (reached_at m) m
 
 on_ahead : (a : LogAskedView) (x : Snapshot) (done rest : List ManifestMeta) (changes : List Entry) (new : LogPhase) (n : ℕ) → length rest + 1 < n → GoesOn a x done rest changes new
@@ -337,7 +337,7 @@ on_ahead a x done (meta ∷ rest) changes new n below is =
     let some : 0 < length rest + 2 = omega arith in
     subst (IsAhead n) (sym is) (less, some)
 
-opens_ahead : (a : LogAskedView) (x : Snapshot) (o : Option (List ℕ)) (new : LogPhase) → Opens a x o new → IsAhead (most + 3) new
+pub opens_ahead : (a : LogAskedView) (x : Snapshot) (o : Option (List ℕ)) (new : LogPhase) → Opens a x o new → IsAhead (most + 3) new
 opens_ahead a x None new on = on_ahead a x [] [] [] new (most + 3) (omega arith) on
 opens_ahead a x (Some list) new is =
     let less : most + 2 < most + 3 = omega arith in
@@ -358,7 +358,7 @@ goes_ahead (phases.Manifests r) (answers.Found (Some bytes)) new (own, reads, (e
     on_ahead r.asked r.snapshot (r.done ++ r.next ∷ []) r.rest (r.changes ++ own) new (length r.rest + 2) (omega arith) on
 goes_ahead m answer new goes = absurd goes
 
-has_call : (m : LogPhase) → 0 < calls_left m → IsSome (next_call m)
+pub has_call : (m : LogPhase) → 0 < calls_left m → IsSome (next_call m)
 has_call (phases.Snapshot a) left = refl
 has_call (phases.List a x list) left = refl
 has_call (phases.Manifests r) left = refl

@@ -11,11 +11,11 @@ use Rattle.pm_folder.proofs.HoldLemmas.{OneContents, one-commit}
 use Rattle.pm_table_view.specs.LogMeaning.{IsLogIn}
 use Rattle.pm_table_view.specs.Meaning.{IsViewIn, view_origin, view_snapshot}
 use Rattle.pm_table_view.specs.Named.{Parts, named_paths, parts_of}
-use Rattle.pm_table_view.specs.View.{kept_for, live_entries}
-use Rattle.pm_table_view.specs.declared.asked.Wanted.{Wanted}
-use Rattle.pm_table_view.specs.declared.asked.Wanted.TheVariants as wants
+use Rattle.pm_table_view.specs.Asked.{KeepsEntries}
+use Rattle.pm_table_view.specs.View.{live_entries}
 use Rattle.pm_table_view.specs.declared.log.Log.{Log}
 use Rattle.pm_table_view.specs.declared.view.View.{View}
+use Rattle.pm_table_view.proofs.LiveLemmas.{kept_all}
 use Rattle.pm_table_view.proofs.NamedLemmas.{named_exactly}
 
 none-some : {X : Type 0} (x : X) → None ≡ Some x → ⊥
@@ -24,12 +24,12 @@ none-some x is = subst (λ (o : Option _). elim o as (λ _. Type 0) [ None ↦ U
 of-some : {X : Type 0} (d x y : X) → Some x ≡ Some y → x ≡ y
 of-some d x y is = ap (λ (o : Option _). unwrap_or o d) is
 
-pub whole-named : OneContents → (p : Past) (v : View) (l : Log) (path : List ℕ) → IsViewIn p v → IsLogIn p l → v.wanted ≡ wants.Entries
+pub whole-named : OneContents → (p : Past) (v : View) (l : Log) (path : List ℕ) → IsViewIn p v → IsLogIn p l → KeepsEntries v.wanted
     → v.snapshot ≡ Some l.snapshot → v.schema ≡ l.schema
     → Contains (named_paths l.schema l.snapshot (parts_of v.manifests.items v.live.items l.manifests.items l.changes.items)) path
     ↔ Names (p.stood l.snapshot.id) l.schema l.snapshot.id path
-whole-named one p v l path (view_origin is) logged wanted snapshot schema = absurd (none-some l.snapshot (sym is.snapshot ∙ snapshot))
-whole-named one p v l path (view_snapshot x base delta entries live stood has leaves is) logged wanted snapshot schema =
+whole-named one p v l path (view_origin is) logged keeps snapshot schema = absurd (none-some l.snapshot (sym is.snapshot ∙ snapshot))
+whole-named one p v l path (view_snapshot x base delta entries live stood has leaves is) logged keeps snapshot schema =
     let metas = l.manifests.items in
     let changes = l.changes.items in
     let same : x ≡ l.snapshot = of-some x x l.snapshot (sym is.snapshot ∙ snapshot) in
@@ -42,7 +42,7 @@ whole-named one p v l path (view_snapshot x base delta entries live stood has le
     let commit : HasCommit f l.schema l.snapshot.id l.snapshot c = (logged.0.was, contents) in
     let parts : parts_of v.manifests.items v.live.items metas changes ≡ parts_of (base ++ delta) (live_entries entries) metas changes =
     ap (λ ms. parts_of ms v.live.items metas changes) is.manifests
-    ∙ ap (λ es. parts_of (base ++ delta) es metas changes) (is.entries ∙ ap (λ (w : Wanted). live_entries (kept_for w entries)) wanted) in
+    ∙ ap (λ es. parts_of (base ++ delta) es metas changes) (is.entries ∙ ap live_entries (kept_all v.wanted keeps entries)) in
     let exact = named_exactly l.schema l.snapshot c path in (
       (λ found. (
         l.snapshot,

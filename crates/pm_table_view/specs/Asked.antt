@@ -2,6 +2,18 @@
 use Rattle.std.specs.Prelude.{ℕ, List}
 use Rattle.pm_schema.specs.declared.schema.TableSchema.{TableSchema}
 use Rattle.pm_table_view.specs.declared.asked.Wanted.{Wanted}
+use Rattle.pm_table_view.specs.declared.asked.Wanted.TheVariants as wants
+
+-- the snapshots are listed first: not where one is asked for whole
+abbrev pub ListsFirst : Wanted → Type 0
+ListsFirst (wants.Whole id) = ⊥
+ListsFirst other = Unit {0}
+
+-- the entries of the live files are asked for
+abbrev pub KeepsEntries : Wanted → Type 0
+KeepsEntries wants.Entries = Unit {0}
+KeepsEntries (wants.Whole id) = Unit {0}
+KeepsEntries other = ⊥
 
 -- a table, by its schema, and which snapshot of it, with what of it
 pub record Asked : Type 0 where

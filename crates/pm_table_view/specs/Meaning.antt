@@ -71,6 +71,7 @@ pub record KnowsListed (f : Files) (p : Past) (ids : List ℕ) : Type 0 where
 -- the id is the one that is asked for, or where the latest is, that of the latest that was listed
 abbrev pub IsFor : Wanted → List ℕ → ℕ → Type 0
 IsFor (wants.At asked) ids id = id ≡ asked
+IsFor (wants.Whole asked) ids id = id ≡ asked
 IsFor other ids id = IsGreatestOf ids id
 
 -- what was listed is known, and the snapshot with the id is the one that is asked for, which the table has or had

@@ -29,7 +29,7 @@ use Rattle.pm_table_view.specs.Log.{HaveGroups}
 use Rattle.pm_table_view.specs.Names.{AreIds, IsLatest}
 use Rattle.pm_table_view.specs.Reading.{Filed, ReadingView, live_of, reading_of}
 use Rattle.pm_table_view.specs.View.{HasFolders, IsOriginView, IsSoughtBy, IsViewOf, kept_for}
-use Rattle.pm_table_view.specs.Asked.{Asked, SoughtView, sought_of}
+use Rattle.pm_table_view.specs.Asked.{Asked, ListsFirst, SoughtView, sought_of}
 use Rattle.pm_table_view.specs.declared.asked.Wanted.{Wanted}
 use Rattle.pm_table_view.specs.declared.asked.Wanted.TheVariants as wants
 use Rattle.pm_table_view.specs.declared.phase.Phase.{Phase}
@@ -76,9 +76,10 @@ calls_left (phases.Again a id path) = 1
 calls_left (phases.Ready v) = 0
 calls_left phases.Over = 0
 
--- a view that is there can be read: its groups have folders, as those of its live entries have; and its schema is
--- declared
+-- where the snapshots are listed they are asked for so; and a view that is there can be read: its groups have folders,
+-- as those of its live entries have, and its schema is declared
 abbrev pub IsViewer : Phase → Type 0
+IsViewer (phases.List a) = ListsFirst a.wanted
 IsViewer (phases.Ready v) = HasFolders v × HaveGroups v.schema v.live.items × IsDeclared v.schema
 IsViewer other = Unit {0}
 
@@ -93,9 +94,10 @@ IsReady other = ⊥
 abbrev pub opening : SoughtView → ℕ → Phase
 opening q id = if id == 0 then phases.Origin q else phases.Snapshot q id
 
--- the id that is asked for, where this is the latest
+-- the id that is asked for, where this is the latest that was listed
 abbrev pub IsAsked : Wanted → ℕ → ℕ → Type 0
 IsAsked (wants.At asked) latest id = (id ≡ asked) × (asked ≤ latest)
+IsAsked (wants.Whole asked) latest id = ⊥
 IsAsked other latest id = id ≡ latest
 
 -- the id that is asked for is above the latest

@@ -23,7 +23,9 @@ use Rattle.pm_table_view.specs.Reader.{origin_path, IsAsked, IsAbove, IsListOf, 
 use Rattle.pm_table_view.specs.Reader.{IsManifestOf, MisreadsManifest}
 use Rattle.pm_table_view.specs.Reading.{live_of}
 use Rattle.pm_table_view.specs.View.{IsOriginView, IsSoughtBy, IsViewOf, kept_for}
-use Rattle.pm_table_view.specs.Asked.{Asked, SoughtView, sought_of}
+use Rattle.pm_table_view.specs.Asked.{Asked, ListsFirst, SoughtView, sought_of}
+use Rattle.pm_table_view.specs.declared.asked.Wanted.{Wanted}
+use Rattle.pm_table_view.specs.declared.asked.Wanted.TheVariants as wants
 use Rattle.pm_table_view.specs.declared.phase.Phase.{Phase}
 use Rattle.pm_table_view.specs.declared.phase.Phase.TheVariants as phases
 use Rattle.pm_table_view.specs.declared.reader.ViewStep.{ViewStep}
@@ -35,15 +37,21 @@ read_file path found = answered (calls.Read path) (answers.Found found)
 
 -- ---- how far the calls have come
 
--- the snapshots were listed, and this is the id that is asked for
-abbrev pub Lists : Asked → ℕ → List Event → Type 0
-Lists a id own =
-    (names : Names) × (latest : ℕ) × IsLatest names.items latest × IsAsked a.wanted latest id
+-- the snapshots were listed, and this is the id that is asked for; where it is asked for whole, there was no call
+abbrev pub ListsFor : Wanted → ℕ → List Event → Type 0
+ListsFor (wants.Whole asked) id own = (id ≡ asked) × (own ≡ [])
+ListsFor wanted id own =
+    (names : Names) × (latest : ℕ) × IsLatest names.items latest × IsAsked wanted latest id
     × (own ≡ listed_snapshots names ∷ [])
 
--- the first of the calls listed the snapshots, and these are the ids of all of them
-abbrev pub HasListed : List ℕ → List Event → Type 0
-HasListed ids own =
+abbrev pub Lists : Asked → ℕ → List Event → Type 0
+Lists a id own = ListsFor a.wanted id own
+
+-- the first of the calls listed the snapshots, and these are the ids of all of them; where one is asked for whole there
+-- are none
+abbrev pub HasListed : Wanted → List ℕ → List Event → Type 0
+HasListed (wants.Whole asked) ids own = ids ≡ []
+HasListed wanted ids own =
     (names : Names) × (later : List Event) × AreIds names.items ids × (own ≡ listed_snapshots names ∷ later)
 
 -- and this was found at the path of its file
@@ -116,7 +124,7 @@ pub data HasView (a : Asked) (v : View) (own : List Event) : Type 0 where
 
 -- it is the view of what was asked, and has the ids of the snapshots that were listed
 abbrev pub HasSought : Asked → View → List Event → Type 0
-HasSought a v own = (ids : List ℕ) × HasListed ids own × IsSoughtBy (sought_of a ids) v
+HasSought a v own = (ids : List ℕ) × HasListed a.wanted ids own × IsSoughtBy (sought_of a ids) v
 
 -- a file that the snapshot names was found absent at the path: a list, or a manifest
 pub data LacksFile (a : Asked) (id : ℕ) (path : List ℕ) (own : List Event) : Type 0 where
@@ -150,7 +158,7 @@ pub data Misreads (a : Asked) (refusal : Refusal) (own : List Event) : Type 0 wh
 -- file was, read again
 pub data MayEnd (a : Asked) (own : List Event) : Type 0 where
   at_first : own ≡ [] → MayEnd a own
-  at_listing : (names : Names) → own ≡ listed_snapshots names ∷ [] → MayEnd a own
+  at_listing : (names : Names) → ListsFirst a.wanted → own ≡ listed_snapshots names ∷ [] → MayEnd a own
   at_snapshot : (id : ℕ) (bytes : List ℕ) → 1 ≤ id → Reads a id (snapshot_path id) (Some bytes) own → MayEnd a own
   at_base : (x : Snapshot) (found : Option (List ℕ)) → FindsBase a x found own → MayEnd a own
   at_delta : (x : Snapshot) (base : List ManifestMeta) (found : Option (List ℕ)) → FindsDelta a x base found own
@@ -162,7 +170,7 @@ pub data MayEnd (a : Asked) (own : List Event) : Type 0 where
 
 -- The last call failed, and names its path.
 pub data IsFailed (a : Asked) (path : List ℕ) (own : List Event) : Type 0 where
-  in_listing : path ≡ snapshot_folder → own ≡ faulted snapshots_call ∷ [] → IsFailed a path own
+  in_listing : path ≡ snapshot_folder → ListsFirst a.wanted → own ≡ faulted snapshots_call ∷ [] → IsFailed a path own
   in_origin : (earlier : List Event) → Lists a 0 earlier → path ≡ origin_path a.schema
       → own ≡ earlier ++ faulted (calls.Read path) ∷ [] → IsFailed a path own
   in_snapshot : (id : ℕ) (earlier : List Event) → 1 ≤ id → Lists a id earlier → path ≡ snapshot_path id
@@ -218,11 +226,11 @@ Shows a other own = ⊥
 
 -- this was asked, and these are the ids of the snapshots that were listed
 abbrev pub IsSought : Asked → SoughtView → List Event → Type 0
-IsSought a q own = (q.asked ≡ a) × HasListed q.listed own
+IsSought a q own = (q.asked ≡ a) × HasListed a.wanted q.listed own
 
 -- its calls so far, by its phase, where this was asked: at its end they show a refusal
 abbrev pub Did : Asked → Phase → List Event → Type 0
-Did a (phases.List b) own = (b ≡ a) × (own ≡ [])
+Did a (phases.List b) own = (b ≡ a) × (own ≡ []) × ListsFirst a.wanted
 Did a (phases.Origin q) own = IsSought a q own × Lists q.asked 0 own
 Did a (phases.Snapshot q id) own = IsSought a q own × (1 ≤ id) × Lists q.asked id own
 Did a (phases.Base q x) own = IsSought a q own × Has q.asked x own

@@ -45,6 +45,7 @@ HaveIds known entries = (id : FileId) → is_some (known id) ≡ has_entry id en
 -- the entries that are kept for the view: all of them where their live ones are asked for, else none
 abbrev pub kept_for : Wanted → List Entry → List Entry
 kept_for wants.Entries entries = entries
+kept_for (wants.Whole id) entries = entries
 kept_for other entries = []
 
 -- the view is of what is asked, and has the ids of the snapshots that were listed

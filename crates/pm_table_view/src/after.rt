@@ -17,7 +17,7 @@ ghost use Rattle.pm_table_view.specs.Log.{HaveGroups};
 ghost use Rattle.pm_table_view.specs.Reader.{most, opening, Goes, GoesOn, IsAbove, IsAsked, IsViewer, Shown};
 ghost use Rattle.pm_table_view.specs.Reader.{RefusesEntries, Starts, Takes};
 ghost use Rattle.pm_table_view.specs.View.{kept_for, HasFolders, IsOriginView, IsSoughtBy, IsViewOf};
-ghost use Rattle.pm_table_view.specs.Asked.{Asked as AskedView};
+ghost use Rattle.pm_table_view.specs.Asked.{Asked as AskedView, ListsFirst};
 ghost use Rattle.pm_table_view.specs.declared.phase.Phase.TheVariants as phases;
 ghost use Rattle.pm_values.specs.declared.refusal.Refusal.TheVariants as refusals;
 
@@ -42,6 +42,7 @@ use std::collections::{BTreeMap, VecDeque};
 
 /// The phase once the snapshots were listed.
 pub(crate) fn after_list(alloc: Global, asked: Asked, names: Vec<Txt>) -> Result<Phase, Refusal>
+    requires lists { ListsFirst asked.wanted }
     ensures goes { IfOk result (Goes (phases.List asked) (answers.Listed names)) }
     ensures is_viewer { IfOk result IsViewer }
     ensures refuses { IfErr result (Shown (phases.List asked) (answers.Listed names)) }
@@ -58,6 +59,7 @@ pub(crate) fn after_list(alloc: Global, asked: Asked, names: Vec<Txt>) -> Result
 
 /// The phase once this is known to be the latest snapshot.
 fn after_latest(sought: Sought, latest: u64) -> Result<Phase, Refusal>
+    requires lists { ListsFirst sought.asked.wanted }
     ensures goes { IfOk result (λ later. (id : ℕ) × IsAsked sought.asked.wanted latest id
         × (later ≡ opening sought id)) }
     ensures is_viewer { IfOk result IsViewer }
@@ -74,6 +76,7 @@ fn after_latest(sought: Sought, latest: u64) -> Result<Phase, Refusal>
                 Ok(opening(sought, id))
             }
         }
+        Wanted::Whole { .. } => unreachable!(),
     }
 }
 

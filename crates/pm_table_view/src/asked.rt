@@ -8,12 +8,13 @@ use pm_schema::TableSchema;
 use std::marker::Model;
 
 /// Which snapshot of a table, and what of it: the latest, or the one with that id; or the latest with the entries of
-/// its live files.
+/// its live files; or the one with that id with these entries, without a listing of the snapshots.
 #[derive(Clone, Copy)]
 pub enum Wanted {
     Newest,
     At { id: u64 },
     Entries,
+    Whole { id: u64 },
 }
 
 /// What is asked of a reader: a table, by its schema, and which snapshot of it.

@@ -24,14 +24,13 @@ ghost use Rattle.pm_store.specs.declared.call.Call.{Call};
 ghost use Rattle.pm_store.specs.declared.call.Call.TheVariants as calls;
 ghost use Rattle.pm_store.specs.Files.{Files, IsListing};
 ghost use Rattle.pm_store.specs.Images.{MayLeave};
-ghost use Rattle.pm_table_view.specs.Asked.{Asked};
+ghost use Rattle.pm_table_view.specs.Asked.{Asked, KeepsEntries};
 ghost use Rattle.pm_table_view.specs.LogMeaning.{IsLogIn};
 ghost use Rattle.pm_table_view.specs.Meaning.{IsKept, IsViewIn, Knows, KnowsListed, MayRefuse};
 ghost use Rattle.pm_table_view.specs.Named.{named_paths, parts_of};
 ghost use Rattle.pm_table_view.specs.Names.{AreIds};
 ghost use Rattle.pm_table_view.specs.Reader.{next_call, Shown};
 ghost use Rattle.pm_table_view.specs.View.{live_entries};
-ghost use Rattle.pm_table_view.specs.declared.asked.Wanted.TheVariants as wants;
 ghost use Rattle.pm_table_view.specs.declared.log.Log.{Log as LogView};
 ghost use Rattle.pm_table_view.specs.declared.view.View.{View as ViewView};
 ghost use Rattle.pm_table_view.specs.declared.phase.Phase.{Phase};
@@ -98,7 +97,7 @@ pub fn named_law()
 /// exactly those that the snapshot named.
 pub fn whole_law()
     ensures { (p : Past) (v : ViewView) (l : LogView) (path : List ℕ) → IsViewIn p v → IsLogIn p l
-        → v.wanted ≡ wants.Entries → v.snapshot ≡ Some l.snapshot → v.schema ≡ l.schema
+        → KeepsEntries v.wanted → v.snapshot ≡ Some l.snapshot → v.schema ≡ l.schema
         → Contains (named_paths l.schema l.snapshot (parts_of v.manifests.items v.live.items l.manifests.items l.changes.items)) path
         ↔ Names (p.stood l.snapshot.id) l.schema l.snapshot.id path }
 {

@@ -22,7 +22,7 @@ pub(crate) fn keep(
     ensures { OnOk result (kept.new.items ≡ kept.old.items ++ kept_for wanted entries.now) }
 {
     match wanted {
-        Wanted::Entries => append_copies(alloc, kept, entries),
+        Wanted::Entries | Wanted::Whole { .. } => append_copies(alloc, kept, entries),
         _ => Ok(()),
     }
 }

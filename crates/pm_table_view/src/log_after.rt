@@ -58,7 +58,10 @@ fn after_bytes(alloc: Global, asked: LogAsked, bytes: Blob) -> Result<LogPhase, 
     match read_snapshot(alloc, id, bytes.as_bytes()) {
         Ok(snapshot) => {
             if snapshot.schema_id == asked.schema().id {
-                open(alloc, asked, snapshot)
+                match open(alloc, asked, snapshot) {
+                    Ok(phase) => Ok(phase),
+                    Err(_) => Err(Refusal::Memory),
+                }
             } else {
                 let other = snapshot.schema_id;
                 drop(asked);
@@ -78,10 +81,13 @@ fn after_bytes(alloc: Global, asked: LogAsked, bytes: Blob) -> Result<LogPhase, 
 }
 
 /// The phase once the snapshot was read.
-fn open(alloc: Global, asked: LogAsked, snapshot: Snapshot) -> Result<LogPhase, Refusal>
+pub(crate) fn open(
+    alloc: Global,
+    asked: LogAsked,
+    snapshot: Snapshot,
+) -> Result<LogPhase, AllocError>
     ensures goes { IfOk result (Opens asked snapshot snapshot.changelog_list) }
     ensures is_reader { IfOk result IsLogReader }
-    ensures memory { IfErr result (λ refusal. refusal ≡ refusals.Memory) }
 {
     match &snapshot.changelog_list {
         Some(name) => match name.copy(alloc) {
@@ -90,10 +96,10 @@ fn open(alloc: Global, asked: LogAsked, snapshot: Snapshot) -> Result<LogPhase, 
                 snapshot,
                 list,
             }),
-            Err(_) => {
+            Err(error) => {
                 drop(asked);
                 drop(snapshot);
-                Err(Refusal::Memory)
+                Err(error)
             }
         },
         None => Ok(ready(asked, snapshot, Vec::new(alloc), Vec::new(alloc))),

@@ -5,19 +5,21 @@ ghost use Rattle.pm_schema.specs.Again.{IsDeclared};
 ghost use Rattle.pm_store.specs.Store.{IsLater};
 ghost use Rattle.pm_table_view.specs.Log.{log_asked_of, HaveGroups};
 ghost use Rattle.pm_table_view.specs.LogMeaning.{LogReaderMoved};
-ghost use Rattle.pm_table_view.specs.LogReader.{calls_left, reached_at, IsReady, Reaches};
+ghost use Rattle.pm_table_view.specs.LogReader.{calls_left, reached_at, IsReady, Opens, Reaches};
 ghost use Rattle.pm_table_view.specs.LogTrace.{LogReaderActed};
 ghost use Rattle.pm_table_view.specs.declared.log_phase.LogPhase.TheVariants as phases;
 
 use crate::log::{Log, LogAsked};
+use crate::log_after::open;
 use crate::log_phase::LogPhase;
 use pm_machine::step;
 use pm_manifest::ManifestMeta;
 use pm_record::one_reading_law;
 use pm_schema::TableSchema;
+use pm_snapshot::Snapshot;
 use pm_store::FileStore;
 use pm_values::Refusal;
-use std::alloc::Global;
+use std::alloc::{AllocError, Global};
 use std::marker::Model;
 
 /// What a step of a reader reached: it goes on, or the changelog is ready.
@@ -59,6 +61,22 @@ impl LogReader {
                 asked: LogAsked::new(schema, id),
             },
         }
+    }
+
+    /// A reader of the changelog of this snapshot, which was just read as that of the table with this schema: what is
+    /// left of the reader of its id once its first call is answered.
+    pub fn opened(
+        alloc: Global,
+        schema: TableSchema,
+        snapshot: Snapshot,
+    ) -> Result<LogReader, AllocError>
+        requires declared { IsDeclared schema }
+        requires after_origin { 1 ≤ snapshot.id }
+        ensures { IfOk result (Opens (log_asked_of schema snapshot.id) snapshot snapshot.changelog_list) }
+    {
+        let asked = LogAsked::new(schema, snapshot.id);
+        let phase = open(alloc, asked, snapshot)?;
+        Ok(LogReader { phase })
     }
 
     /// Whether the changelog is ready.

@@ -69,7 +69,8 @@ impl Machine for ViewReader {
 impl ViewReader {
     /// Its phase, which is over then.
     fn leave(&mut self) -> Phase
-        ensures { (result ≡ self.old) × (self.new ≡ phases.Over) }
+        ensures left { (result ≡ self.old) × (self.new ≡ phases.Over) }
+        ensures is_viewer { IsViewer result }
     {
         mem::replace(&mut self.phase, Phase::Over)
     }
@@ -86,6 +87,7 @@ impl ViewReader {
 /// The phase after an answer, or the refusal that it shows.
 fn next_phase(alloc: Global, phase: Phase, answer: Answer) -> Result<Phase, Refusal>
     requires may { IsSomeAnd (next_call phase) (λ call. MayAnswer call answer) }
+    requires is_viewer { IsViewer phase }
     ensures goes { IfOk result (Goes phase answer) }
     ensures is_viewer { IfOk result IsViewer }
     ensures refuses { IfErr result (Shown phase answer) }

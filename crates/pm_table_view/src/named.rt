@@ -2,8 +2,8 @@
 
 ghost use Rattle.std.specs.Prelude.{◌≡◌, ◌++◌, ◌∷◌, [], Some, IfOk, OnOk};
 ghost use Rattle.pm_contents.specs.Lists.{manifest_path};
+ghost use Rattle.pm_table_view.specs.Asked.{KeepsEntries};
 ghost use Rattle.pm_table_view.specs.Log.{HaveGroups};
-ghost use Rattle.pm_table_view.specs.declared.asked.Wanted.TheVariants as wants;
 ghost use Rattle.pm_table_view.specs.Named.{file_paths, log_list_path, meta_paths, named_paths, parts_of};
 
 use crate::log::Log;
@@ -20,7 +20,7 @@ use std::alloc::{AllocError, Global};
 /// its lists, of their manifests, of its live files, and of the manifests and files of its changelog. A path may stand
 /// twice: that of a file that is live at two levels.
 pub fn named_paths(alloc: Global, view: &View, log: &Log) -> Result<Vec<Txt>, AllocError>
-    requires entries { view.now.wanted ≡ wants.Entries }
+    requires entries { KeepsEntries view.now.wanted }
     requires snapshot { view.now.snapshot ≡ Some log.now.snapshot }
     requires schema { view.now.schema ≡ log.now.schema }
     requires live { HaveGroups log.now.schema view.now.live.items }

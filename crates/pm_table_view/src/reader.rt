@@ -1,18 +1,18 @@
 //! The reader of a view.
 
-ghost use Rattle.std.specs.Prelude.{◌≡◌, ◌↔◌, ◌<◌, IfOk, OnOk, OnErr, IsTrue};
+ghost use Rattle.std.specs.Prelude.{◌≡◌, ◌↔◌, ◌<◌, ◌≤◌, ℕ, [], IfOk, OnOk, OnErr, IsTrue};
 ghost use Rattle.pm_schema.specs.Again.{IsDeclared};
 ghost use Rattle.pm_store.specs.Store.{IsLater};
 ghost use Rattle.pm_table_view.specs.Meaning.{ViewerMoved};
 ghost use Rattle.pm_table_view.specs.Reader.{calls_left, reached_at, IsReady, Reaches};
-ghost use Rattle.pm_table_view.specs.Asked.{asked_of};
+ghost use Rattle.pm_table_view.specs.Asked.{asked_of, sought_of};
 ghost use Rattle.pm_table_view.specs.Log.{HaveGroups};
 ghost use Rattle.pm_table_view.specs.Trace.{ViewerActed};
 ghost use Rattle.pm_table_view.specs.View.{HasFolders};
 ghost use Rattle.pm_table_view.specs.declared.asked.Wanted.TheVariants as wants;
 ghost use Rattle.pm_table_view.specs.declared.phase.Phase.TheVariants as phases;
 
-use crate::asked::{Asked, Wanted};
+use crate::asked::{Asked, Sought, Wanted};
 use crate::phase::Phase;
 use crate::view::View;
 use pm_machine::step;
@@ -85,6 +85,24 @@ impl ViewReader {
         ViewReader {
             phase: Phase::List {
                 asked: Asked::new(schema, Wanted::Entries),
+            },
+        }
+    }
+
+    /// A reader of the table with this schema, which was just read, at the snapshot with this id, from 1, that keeps the
+    /// entries of the live files. It lists nothing: its first call reads the snapshot.
+    pub fn whole(alloc: Global, schema: TableSchema, id: u64) -> ViewReader
+        requires declared { IsDeclared schema }
+        requires after_origin { 1 ≤ id }
+        ensures { result ≡ phases.Snapshot (sought_of (asked_of schema (wants.Whole id)) []) id }
+    {
+        ViewReader {
+            phase: Phase::Snapshot {
+                sought: Sought::new(
+                    Asked::new(schema, Wanted::Whole { id }),
+                    Vec::new(alloc),
+                ),
+                id,
             },
         }
     }

@@ -3,7 +3,7 @@ use Rattle.pm_machine.specs.Trace.{HasTrace}
 use Rattle.pm_scan.specs.AllCalls.{asked_at, rows_in}
 use Rattle.pm_scan.specs.Trace.{Did}
 use Rattle.pm_scan.specs.declared.phase.Phase.{Phase}
-use Rattle.pm_scan.proofs.AllCallsLemmas.{begun, first_left, went_on}
+use Rattle.pm_scan.proofs.AllCallsLemmas.{begins, begun, first_left, went_on}
 use Rattle.pm_scan.proofs.all_calls.scan_table.Goals as goal
 
 pub make_calls-requires : goal.make_calls-requires
@@ -13,7 +13,7 @@ pub returns-clause-trace : goal.returns-clause-trace
 returns-clause-trace g c = λ first has.
     let seen = g.F.FileStore.seen in
     let a = asked_at c.args.schema c.args.at in
-    let own = subst (λ (m : Phase). HasTrace (Did a m) (seen c.args.store.now) (seen c.args.store.now)) (sym c.scanner_of.ensures) (begun a (seen c.args.store.now)) in
+    let own = subst (λ (m : Phase). HasTrace (Did a m) (seen c.args.store.now) (seen c.args.store.now)) (sym c.scanner_of.ensures) (begun a (seen c.args.store.now) (begins c.args.at)) in
     went_on c.args.schema c.args.at (rows_in c.make_calls.result) first (seen c.args.store.now) (seen c.make_calls.new.store) has
     (c.make_calls.ensures.trace a (seen c.args.store.now) own)
 
@@ -21,7 +21,7 @@ pub returns-clause-history : goal.returns-clause-history
 returns-clause-history g c = λ first has.
     let seen = g.F.FileStore.seen in
     let a = asked_at c.args.schema c.args.at in
-    let own = subst (λ (m : Phase). HasTrace (Did a m) (seen c.args.store.now) (seen c.args.store.now)) (sym c.scanner_of.ensures) (begun a (seen c.args.store.now)) in
+    let own = subst (λ (m : Phase). HasTrace (Did a m) (seen c.args.store.now) (seen c.args.store.now)) (sym c.scanner_of.ensures) (begun a (seen c.args.store.now) (begins c.args.at)) in
     let trace = went_on c.args.schema c.args.at (rows_in c.make_calls.result) first (seen c.args.store.now) (seen c.make_calls.new.store) has
     (c.make_calls.ensures.trace a (seen c.args.store.now) own) in
     c.all_calls_law.ensures c.args.schema c.args.at (rows_in c.make_calls.result) first (seen c.make_calls.new.store) c.requires.declared trace
