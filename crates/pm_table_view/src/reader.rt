@@ -89,8 +89,8 @@ impl ViewReader {
         }
     }
 
-    /// A reader of the table with this schema, which was just read, at the snapshot with this id, from 1, that keeps the
-    /// entries of the live files. It lists nothing: its first call reads the snapshot.
+    /// A reader of the table with this schema, which was just read, at the snapshot with this id, from 1, that keeps
+    /// the entries of the live files. It lists nothing: its first call reads the snapshot.
     pub fn whole(alloc: Global, schema: TableSchema, id: u64) -> ViewReader
         requires declared { IsDeclared schema }
         requires after_origin { 1 ≤ id }
@@ -98,10 +98,7 @@ impl ViewReader {
     {
         ViewReader {
             phase: Phase::Snapshot {
-                sought: Sought::new(
-                    Asked::new(schema, Wanted::Whole { id }),
-                    Vec::new(alloc),
-                ),
+                sought: Sought::new(Asked::new(schema, Wanted::Whole { id }), Vec::new(alloc)),
                 id,
             },
         }

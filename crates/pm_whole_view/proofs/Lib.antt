@@ -1,0 +1,3 @@
+mod AfterLemmas
+mod CauseLemmas
+pub mod Facts
