@@ -1,0 +1,48 @@
+-- What follows the answers to a committer's calls.
+use Rattle.std.proofs.Common.{◌≡◌, inr, ℕ, ◌+◌, List, length, None, Ok, Err, IfOk, ap, ◌∙◌, subst}
+use Rattle.pm_store.specs.declared.answer.Answer.{Answer}
+use Rattle.pm_schema.specs.declared.schema.TableSchema.{TableSchema}
+use Rattle.pm_table_view.specs.Reader as reader
+use Rattle.pm_table_view.specs.declared.phase.Phase as view_phase
+use Rattle.pm_append.specs.Files.{IsAppendOf}
+use Rattle.pm_append.specs.Refusals.{refusal_of}
+use Rattle.pm_append.specs.declared.newest.Append.{Append}
+use Rattle.pm_append.specs.declared.newest.CommitFile.{CommitFile}
+use Rattle.pm_commit.specs.Committer.{After, AfterReader, AfterView, Goes, IsCommitter, IsViewing, Makes, Outcome, Reads, create_next, publishing_of}
+use Rattle.pm_commit.specs.Own.{IsOwn, OwnView, with_named}
+use Rattle.pm_commit.specs.declared.found.Found.{Found}
+use Rattle.pm_commit.specs.declared.making.Publishing.{Publishing}
+use Rattle.pm_commit.specs.declared.phase.Phase.{Phase}
+use Rattle.pm_commit.proofs.ReadsLemmas.{EntriesRead, reads-on}
+
+-- the files of what was made are to be created
+pub makes-on : (own next : OwnView) (found : Found) (made : Append) (id : ℕ) (text : List ℕ) (files : List CommitFile) (later : Phase)
+    → IsAppendOf found.schema found.newest own.author own.batch own.names made → refusal_of found.newest own.author own.batch ≡ None
+    → next ≡ with_named (own.names.count + length made.files.items) own → id ≡ made.id → text ≡ made.text → files ≡ made.files.items
+    → later ≡ create_next next (record { schema = found.schema; id = id; text = text }) files → Makes own found (Ok later)
+makes-on own next found made id text files later is_made allowed named is_id is_text are is =
+    let x : Publishing = record { schema = found.schema; id = id; text = text } in
+    let same : x ≡ publishing_of found.schema made = λ i. record { schema = found.schema; id = is_id i; text = is_text i } in
+    let count : ℕ = own.names.count + length made.files.items in (
+      made,
+      is_made,
+      allowed,
+      is ∙ ap (λ (o : OwnView). create_next o x files) named ∙ ap (λ (x : Publishing). create_next (with_named count own) x files) same
+          ∙ ap (create_next (with_named count own) (publishing_of found.schema made)) are,
+    )
+
+-- the reader of the view went on
+pub still-reads : EntriesRead → (own : OwnView) (m : view_phase.Phase) (answer : Answer) (new : view_phase.Phase) → IsViewing own m → reader.Goes m answer new
+    → (s : TableSchema) × Reads new s × IsOwn s own
+still-reads law own m answer new (left, (s, reads, own_of)) goes = (s, (reads-on law s m answer new reads goes).reads, own_of)
+
+pub view-on : (own : OwnView) (m new : view_phase.Phase) (answer : Answer) (outcome : Outcome) → reader.Goes m answer new → AfterReader own new outcome
+    → AfterView own m answer outcome
+view-on own m new answer (Ok later) goes after = (new, goes, after)
+view-on own m new answer (Err refusal) goes after = inr (new, goes, after)
+
+-- a phase that it goes on with is a committer's
+pub ok-committer : ((m : Phase) (answer : Answer) (later : Phase) → IsCommitter m → Goes m answer later → IsCommitter later) → (m own : Phase) (answer : Answer) (outcome : Outcome)
+    → m ≡ own → IsCommitter m → After own answer outcome → IfOk outcome IsCommitter
+ok-committer law m own answer (Ok later) is known after = law own answer later (subst IsCommitter is known) after
+ok-committer law m own answer (Err refusal) is known after = tt

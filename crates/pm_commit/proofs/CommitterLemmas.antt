@@ -1,0 +1,183 @@
+-- What an answer leads to is a committer.
+use Rattle.std.proofs.Common.{◌≡◌, inl, inr, ℕ, ◌+◌, ◌<◌, ◌≤◌, Bool, true, false, List, [], ◌∷◌, ◌++◌, drop, reverse, length, length-append, None, Some, Ok, Err, refl, sym, ap, subst, arith}
+use mathlib.Core.List.{reverse-cons}
+use Rattle.pm_base.proofs.Laws.{AllByRecursion-append}
+use Rattle.pm_values.specs.declared.refusal.Refusal.{Refusal}
+use Rattle.pm_snapshot.specs.Names.{greatest}
+use Rattle.pm_store.specs.declared.answer.Answer.{Answer}
+use Rattle.pm_store.specs.declared.answer.Answer.TheVariants as answers
+use Rattle.pm_store.specs.declared.answer.Made.TheVariants as creates
+use Rattle.pm_store.specs.declared.answer.Published.TheVariants as published
+use Rattle.pm_schema.specs.declared.schema.TableSchema.{TableSchema}
+use Rattle.pm_table_view.specs.Asked.{Asked, asked_of}
+use Rattle.pm_table_view.specs.Reader as reader
+use Rattle.pm_table_view.specs.declared.phase.Phase as view_phase
+use Rattle.pm_table_view.specs.declared.phase.Phase.TheVariants as readers
+use Rattle.pm_table_view.specs.declared.view.View.{View}
+use Rattle.pm_append.specs.Files.{IsAppendOf}
+use Rattle.pm_append.specs.declared.newest.Append.{Append}
+use Rattle.pm_append.specs.declared.newest.CommitFile.{CommitFile}
+use Rattle.pm_commit.specs.Committer.{AreIds, After, AfterReader, Hears, IsCommitter, Makes, MayMake, Outcome, Reads, Seeks, Tries, TriesIf, create_next, first_of_try, found_in, newest_of, publishing_of}
+use Rattle.pm_commit.specs.Own.{IsOwn, IsTried, OwnView, begun, begun_after, most_files, tries, with_lost, with_named}
+use Rattle.pm_commit.specs.Search.{older_ids, seen_in, seen_of}
+use Rattle.pm_commit.specs.declared.search.Seen.{Seen}
+use Rattle.pm_commit.specs.declared.search.Seen.TheVariants as seen
+use Rattle.pm_commit.specs.declared.found.Found.{Found}
+use Rattle.pm_commit.specs.declared.making.Publishing.{Publishing}
+use Rattle.pm_commit.specs.declared.phase.Phase.{Phase}
+use Rattle.pm_commit.specs.declared.phase.Phase.TheVariants as phases
+use Rattle.pm_commit.proofs.MadeLemmas.{made-few}
+use Rattle.pm_commit.proofs.ReadsLemmas.{EntriesRead, IsOn, reads-on}
+
+-- ---- what is known of a commit
+
+pub begun-own : (s : TableSchema) (own : OwnView) (n : ℕ) → IsOwn s own → IsOwn s (begun n own)
+begun-own s own n is = at own.lost
+  where
+    at : (lost : List ℕ) → IsOwn s (begun_after lost n own)
+    at [] = record { built = is.built; folders = is.folders; one_group = is.one_group; same_base = refl; within = is.within; named = is.named }
+    at (id ∷ lost) = is
+
+pub begun-lost : (own : OwnView) (n : ℕ) → (begun n own).lost ≡ own.lost
+begun-lost own n = at own.lost
+  where
+    at : (lost : List ℕ) → (begun_after lost n own).lost ≡ own.lost
+    at [] = refl
+    at (id ∷ lost) = refl
+
+pub made-tried : (own : OwnView) (found : Found) (made : Append) → IsAppendOf found.schema found.newest own.author own.batch own.names made → IsOwn found.schema own
+    → IsTried found.schema (with_named (own.names.count + length made.files.items) own)
+made-tried own found made is own_of = record {
+  built = own_of.built;
+  folders = own_of.folders;
+  one_group = own_of.one_group;
+  same_base = own_of.same_base;
+  within = own_of.within;
+  named =
+      (let few = made-few found.schema found.newest own.author own.batch own.names made is in
+      let one = own_of.one_group in
+      let count = own_of.named in
+      omega (arith, few, one, count));
+}
+
+lost-own : (s : TableSchema) (own : OwnView) (id : ℕ) → length own.lost + 1 < tries → IsTried s own → IsOwn s (with_lost id own)
+lost-own s own id left tried =
+    let longer : length (own.lost ++ id ∷ []) ≡ length own.lost + 1 = length-append own.lost (id ∷ []) in record {
+      built = tried.built;
+      folders = tried.folders;
+      one_group = tried.one_group;
+      same_base = tried.same_base;
+      within = omega (arith, longer, left);
+      named = (let count = tried.named in omega (arith, longer, count));
+    }
+
+-- ---- outcomes
+
+pub ok-same : (a b : Phase) → ◌≡◌ {A = Outcome} (Ok a) (Ok b) → a ≡ b
+ok-same a b e = cc
+
+pub err-same : (a b : Refusal) → ◌≡◌ {A = Outcome} (Err a) (Err b) → a ≡ b
+err-same a b e = cc
+
+pub ok-err : (a : Phase) (b : Refusal) → ◌≡◌ {A = Outcome} (Ok a) (Err b) → ⊥
+ok-err a b e = cc
+
+pub err-ok : (a : Refusal) (b : Phase) → ◌≡◌ {A = Outcome} (Err a) (Ok b) → ⊥
+err-ok a b e = cc
+
+pub asked-same : (a b : Asked) → Some a ≡ Some b → a ≡ b
+asked-same a b e = cc
+
+-- the schema of a view that is ready
+pub ready-schema : (v : View) (s : TableSchema) → Reads (readers.Ready v) s → v.schema ≡ s
+ready-schema v s reads = ap (λ (a : Asked). a.schema) (asked-same (asked_of v.schema v.wanted) (newest_of s) reads.asked)
+
+-- ---- ids
+
+all-reversed : (ids : List ℕ) → AreIds ids → AreIds (reverse ids)
+all-reversed [] all = tt
+all-reversed (id ∷ ids) (is, rest) =
+    subst AreIds (sym (reverse-cons id ids))
+    (AllByRecursion-append (λ (id : ℕ). (1 ≤ id) × (id ≤ greatest)) (reverse ids) (id ∷ []) (all-reversed ids rest) (is, tt))
+
+without-first : (ids : List ℕ) → AreIds ids → AreIds (drop 1 ids)
+without-first [] all = tt
+without-first (id ∷ ids) (is, rest) = rest
+
+older-are : (listed : List ℕ) → AreIds listed → AreIds (older_ids listed)
+older-are listed all = without-first (reverse listed) (all-reversed listed all)
+
+-- ---- each is a committer
+
+create-committer : (own : OwnView) (x : Publishing) (files : List CommitFile) → IsTried x.schema own → length files ≤ most_files → IsCommitter (create_next own x files)
+create-committer own x [] tried few = tried
+create-committer own x (file ∷ files) tried few = (tried, omega (arith, few))
+
+makes-committer : (own : OwnView) (found : Found) (later : Phase) → IsOwn found.schema own → Makes own found (Ok later) → IsCommitter later
+makes-committer own found later own_of (made, is_made, allowed, is) =
+    let few = made-few found.schema found.newest own.author own.batch own.names made is_made in
+    let one = own_of.one_group in
+    subst IsCommitter (sym is)
+    (create-committer (with_named (own.names.count + length made.files.items) own) (publishing_of found.schema made) made.files.items
+    (made-tried own found made is_made own_of) (omega (arith, few, one)))
+
+seeks-committer : (own : OwnView) (found : Found) (left : List ℕ) (later : Phase) → MayMake own found → AreIds left → Seeks own found left (Ok later) → IsCommitter later
+seeks-committer own found [] later may ids on = makes-committer own found later may.own_of on
+seeks-committer own found (id ∷ left) later may ids (few, is) = subst IsCommitter (sym (ok-same later _ is)) (may, few, ids)
+
+hears-committer : (own : OwnView) (found : Found) (left : List ℕ) (said : Seen) (later : Phase) → MayMake own found → AreIds left → Hears own found left said (Ok later)
+    → IsCommitter later
+hears-committer own found left seen.Other later may ids on = seeks-committer own found left later may ids on
+hears-committer own found left seen.Below later may ids on = makes-committer own found later may.own_of on
+hears-committer own found left seen.Reached later may ids is = subst IsCommitter (sym (ok-same later _ is)) tt
+
+pub ready-may : (own : OwnView) (v : View) (s : TableSchema) → Reads (readers.Ready v) s → IsOwn s own → MayMake (begun v.id own) (found_in v)
+ready-may own v s reads own_of = record {
+  own_of = subst (λ (t : TableSchema). IsOwn t (begun v.id own)) (sym (ready-schema v s reads)) (begun-own s own v.id own_of);
+  numbers = reads.numbers;
+}
+
+tries-committer : (own : OwnView) (v : View) (later : Phase) → MayMake own (found_in v) → AreIds v.listed.items → Tries own v (Ok later) → IsCommitter later
+tries-committer own v later may ids = by_test own.check
+  where
+    by_test : (b : Bool) → TriesIf b own v (Ok later)
+        → IsCommitter later
+    by_test true on = hears-committer own (found_in v) (older_ids v.listed.items) (seen_in own.author v.snapshot) later may (older-are v.listed.items ids) on
+    by_test false on = makes-committer own (found_in v) later may.own_of on
+
+view-committer : (own : OwnView) (s : TableSchema) (m : view_phase.Phase) (later : Phase) → (reader.IsReady m → ⊥) → IsOn s m → IsOwn s own
+    → ◌≡◌ {A = Outcome} (Ok later) (Ok (phases.View own m)) → IsCommitter later
+view-committer own s m later none on own_of is =
+    let left : 0 < reader.calls_left m = elim (on.left) as (λ _. 0 < reader.calls_left m) [ inl ready ↦ absurd (none ready) | inr left ↦ left ] in
+    subst IsCommitter (sym (ok-same later (phases.View own m) is)) (left, (s, on.reads, own_of))
+
+reader-committer : (own : OwnView) (s : TableSchema) (m : view_phase.Phase) (later : Phase) → IsOn s m → IsOwn s own → AfterReader own m (Ok later) → IsCommitter later
+reader-committer own s (readers.List a) later on own_of is = view-committer own s (readers.List a) later (λ none. none) on own_of is
+reader-committer own s (readers.Origin q) later on own_of is = view-committer own s (readers.Origin q) later (λ none. none) on own_of is
+reader-committer own s (readers.Snapshot q id) later on own_of is = view-committer own s (readers.Snapshot q id) later (λ none. none) on own_of is
+reader-committer own s (readers.Base q x) later on own_of is = view-committer own s (readers.Base q x) later (λ none. none) on own_of is
+reader-committer own s (readers.Delta q x base) later on own_of is = view-committer own s (readers.Delta q x base) later (λ none. none) on own_of is
+reader-committer own s (readers.Manifests r) later on own_of is = view-committer own s (readers.Manifests r) later (λ none. none) on own_of is
+reader-committer own s (readers.Again a id path) later on own_of is = view-committer own s (readers.Again a id path) later (λ none. none) on own_of is
+reader-committer own s (readers.Ready v) later on own_of tried = tries-committer (begun v.id own) v later (ready-may own v s on.reads own_of) on.reads.ids tried
+reader-committer own s readers.Over later on own_of is = view-committer own s readers.Over later (λ none. none) on own_of is
+
+first-committer : (own : OwnView) (s : TableSchema) (later : Phase) → IsOwn s own → later ≡ first_of_try own s → IsCommitter later
+first-committer own s later own_of is = subst IsCommitter (sym is) (omega arith, (s, record { asked = refl; numbers = tt; ids = tt }, own_of))
+
+pub still-committer : EntriesRead → (m : Phase) (answer : Answer) (later : Phase) → IsCommitter m → After m answer (Ok later) → IsCommitter later
+still-committer law (phases.Names own s) (answers.Listed names) later own_of (none, is) = first-committer own s later own_of is
+still-committer law (phases.View own m) answer later (left, (s, reads, own_of)) (new, goes, after) =
+    reader-committer own s new later (reads-on law s m answer new reads goes) own_of after
+still-committer law (phases.Search own q) (answers.Found None) later (may, few, ids) on = makes-committer own q.found later may.own_of on
+still-committer law (phases.Search own q) (answers.Found (Some bytes)) later (may, few, ids) (x, reads, on) =
+    hears-committer own q.found q.left (seen_of own.author x) later may ids.1 on
+still-committer law (phases.Create own making) (answers.Made creates.Created) later (tried, few) is =
+    subst IsCommitter (sym (ok-same later _ is)) (create-committer own making.publishing making.rest tried (omega (arith, few)))
+still-committer law (phases.Create own making) (answers.Made creates.Exists) later known is = absurd (ok-err later _ is)
+still-committer law (phases.Publish own x) (answers.Published published.Created) later tried is = subst IsCommitter (sym (ok-same later _ is)) tt
+still-committer law (phases.Publish own x) (answers.Published published.Exists) later tried (left, is) =
+    first-committer (with_lost x.id own) x.schema later (lost-own x.schema own x.id left tried) is
+still-committer law (phases.Publish own x) (answers.Published published.AfterGone) later tried (left, is) =
+    first-committer (with_lost x.id own) x.schema later (lost-own x.schema own x.id left tried) is
+still-committer law m answer later known after = absurd after

@@ -1,0 +1,284 @@
+-- A committer keeps the laws of machines.
+use Rattle.std.proofs.Common.{◌≡◌, ◌+◌, List, [], codes, None, Some, IfSome, Ok, refl, sym, ap, ◌∙◌, subst, arith}
+use Rattle.std.specs.FinMap as map
+use Rattle.std.proofs.lemmas.Option.{IfSome_then}
+use Rattle.pm_store.specs.Answers.{Answers}
+use Rattle.pm_store.specs.Files.{Files, Puts, after_effect, carried}
+use Rattle.pm_store.specs.declared.answer.Answer.{Answer}
+use Rattle.pm_store.specs.declared.answer.Answer.TheVariants as answers
+use Rattle.pm_store.specs.declared.answer.Made.TheVariants as creates
+use Rattle.pm_store.specs.declared.answer.Published.{Published}
+use Rattle.pm_store.specs.declared.answer.Published.TheVariants as published
+use Rattle.pm_store.specs.declared.call.Call.{Call}
+use Rattle.pm_store.specs.declared.call.Call.TheVariants as calls
+use Rattle.pm_store.specs.declared.call.Effect.{Effect}
+use Rattle.pm_store.specs.declared.call.Effect.TheVariants as effects
+use Rattle.pm_store.proofs.ChangeLaws.{Answers-Changed}
+use Rattle.pm_machine.specs.Moves.{Changes, Leads, Sound}
+use Rattle.pm_history.specs.Merge.{HistoryRow}
+use Rattle.pm_schema.specs.declared.schema.TableSchema.{TableSchema}
+use Rattle.pm_folder.specs.Ledger.{Past, Stands, count_of}
+use Rattle.pm_folder.specs.Paths.{snapshot_path}
+use Rattle.pm_folder.proofs.HoldLemmas.{OneContents}
+use Rattle.pm_folder.proofs.LedgerFacts.{stood-read}
+use Rattle.pm_view.proofs.Facts.{list_effect, read_effect}
+use Rattle.pm_table_view.specs.Asked.{Asked, asked_of}
+use Rattle.pm_table_view.specs.Meaning as reader_meaning
+use Rattle.pm_table_view.specs.Meaning.{IsKept}
+use Rattle.pm_table_view.specs.Reader as reader
+use Rattle.pm_table_view.specs.declared.phase.Phase as view_phase
+use Rattle.pm_table_view.specs.declared.phase.Phase.TheVariants as readers
+use Rattle.pm_table_view.specs.declared.view.View.{View}
+use Rattle.pm_table_view.proofs.Facts as reader_facts
+use Rattle.pm_table_view.proofs.Facts.{Joined, OneList, both_if}
+use Rattle.pm_commit.specs.Alone.{with_entry}
+use Rattle.pm_commit.specs.Committer.{After, AfterReader, Goes, IsCommitter, Loses, Outcome, Reads, Refuses, Stops, Tries, after_path, first_of_try, found_in, manifests_call, newest_of, next_call, publish_call}
+use Rattle.pm_commit.specs.Meaning.{HasOrigin, IsFoundIn, Knows, KnowsIn, KnowsOwn, KnowsTry, MakesOwn, MakesRows, entry_of}
+use Rattle.pm_commit.specs.Own.{IsOwn, IsTried, OwnView, begun, with_lost}
+use Rattle.pm_commit.specs.Search.{seen_of}
+use Rattle.pm_commit.specs.Trace.{IsLost}
+use Rattle.pm_commit.specs.declared.making.Publishing.{Publishing}
+use Rattle.pm_commit.specs.declared.phase.Phase.{Phase}
+use Rattle.pm_commit.specs.declared.phase.Phase.TheVariants as phases
+use Rattle.pm_commit.proofs.AdvanceLemmas.{NamedPaths, SameContents}
+use Rattle.pm_commit.proofs.CommitterLemmas.{asked-same, begun-own, ok-err, ok-same, ready-schema, still-committer}
+use Rattle.pm_commit.proofs.CreateLemmas.{OwnFiles, create-keeps, created-absent, created-try, put-makes}
+use Rattle.pm_commit.proofs.KnownLemmas.{begun-known, count-bound, create-known, hears-known, lost-known, makes-known, tries-known, view-within}
+use Rattle.pm_commit.proofs.OriginLemmas.{origin-on}
+use Rattle.pm_commit.proofs.PublishLemmas.{AppendsTry, IsNewest, LiveEntries, NamesNone, own-same, publish-whole}
+use Rattle.pm_commit.proofs.ReadsLemmas.{EntriesRead, reads-on}
+
+-- what the laws of lower crates say
+pub record Laws : Type 0 where
+  pub joined : Joined
+  pub lists : OneList
+  pub read : EntriesRead
+  pub one : OneContents
+  pub same : SameContents
+  pub paths : NamedPaths
+  pub live : LiveEntries
+  pub newest : IsNewest
+  pub unnamed : NamesNone
+  pub append : AppendsTry
+  pub own_files : OwnFiles
+
+-- ---- what its calls may change
+
+-- the phase isn't that of the publish
+abbrev pub NoPublish : Phase → Type 0
+NoPublish (phases.Publish own x) = ⊥
+NoPublish m = Unit {0}
+
+still : (own : OwnView) (rows : List HistoryRow) (f after : Files) (p : Past) → after ≡ f → MakesOwn own rows f p after p
+still own rows f after p same = own-same own rows f after p (λ q. ap (λ (g : Files). map.get g q) same)
+
+-- what was made with the history as it is
+at-past : (own : OwnView) (rows : List HistoryRow) (call : Call) (f : Files) (p : Past)
+    → ((effect : Effect) → MakesOwn own rows f p (after_effect call effect f) p) → Changes (MakesOwn own rows) call f p
+at-past own rows call f p makes effect = (p, makes effect)
+
+module _ (laws : Laws) (rows : List HistoryRow) where
+  -- before the publish the history stays
+  pub makes-on : (m : Phase) (f : Files) (p : Past) → NoPublish m → Stands f p → IsCommitter m → KnowsIn rows m f p
+      → IfSome (next_call m) (λ call. (effect : Effect) → MakesRows rows m f p (after_effect call effect f) p)
+  makes-on (phases.Names own s) f p calm stands is known = λ effect. still own rows f _ p (list_effect (codes "manifest") effect f)
+  makes-on (phases.View own m) f p calm stands is (s, reads, known, reading, origin) =
+      IfSome_then (reader.next_call m) ((reader_facts.sound laws.joined laws.lists).changes m f p stands reading)
+      (λ call changes effect. own-same own rows f (after_effect call effect f) p (changes effect).1.files)
+  makes-on (phases.Search own q) f p calm stands is known = λ effect. still own rows f _ p (read_effect (snapshot_path q.id) effect f)
+  makes-on (phases.Create own making) f p calm stands (tried, few) (known, is_try) =
+      create-keeps laws.own_files own rows making.publishing making.next making.rest f p tried known is_try
+  makes-on (phases.Publish own x) f p calm stands is known = absurd calm
+  makes-on (phases.Committed author id) f p calm stands is known = tt
+  makes-on (phases.Already author) f p calm stands is known = tt
+  makes-on phases.Over f p calm stands is known = tt
+
+  -- the publish appends, or leaves the history
+  publish-changes : (own : OwnView) (x : Publishing) (f : Files) (p : Past) → Stands f p → IsTried x.schema own → KnowsOwn own rows x.schema p
+      → KnowsTry own rows x [] f p → Changes (MakesOwn own rows) (publish_call x) f p
+  publish-changes own x f p stands tried known is_try effects.None = (p, own-same own rows f f p (λ q. refl))
+  publish-changes own x f p stands tried known is_try (effects.Part found) = (p, own-same own rows f f p (λ q. refl))
+  publish-changes own x f p stands tried known is_try effects.Whole =
+      let all = publish-whole laws.one laws.same laws.paths laws.live laws.newest laws.unnamed laws.append own rows x f p stands tried known is_try
+      (map.get f (snapshot_path x.id)) (map.get f (after_path x.schema x.id)) refl refl in
+      (all.0, all.1)
+
+  pub changes-on : (m : Phase) (f : Files) (p : Past) → Stands f p → IsCommitter m → KnowsIn rows m f p → IfSome (next_call m) (λ call. Changes (MakesRows rows m) call f p)
+  changes-on (phases.Names own s) f p stands is known = at-past own rows manifests_call f p (makes-on (phases.Names own s) f p tt stands is known)
+  changes-on (phases.View own m) f p stands is known =
+      IfSome_then (reader.next_call m) (makes-on (phases.View own m) f p tt stands is known) (λ call makes. at-past own rows call f p makes)
+  changes-on (phases.Search own q) f p stands is known = at-past own rows (calls.Read (snapshot_path q.id)) f p (makes-on (phases.Search own q) f p tt stands is known)
+  changes-on (phases.Create own making) f p stands is known = at-past own rows (calls.Create making.next.path making.next.bytes) f p (makes-on (phases.Create own making) f p tt stands is known)
+  changes-on (phases.Publish own x) f p stands tried (known, is_try) = publish-changes own x f p stands tried known is_try
+  changes-on (phases.Committed author id) f p stands is known = tt
+  changes-on (phases.Already author) f p stands is known = tt
+  changes-on phases.Over f p stands is known = tt
+
+  -- ---- what it knows
+
+  -- the try goes on with its view once that is ready
+  ready-known : (own : OwnView) (s : TableSchema) (v : View) (new : Phase) (f g : Files) (p : Past) → Stands f p → Reads (readers.Ready v) s → IsOwn s own
+      → KnowsOwn own rows s p → reader_meaning.Knows (readers.Ready v) g p → HasOrigin (readers.Ready v) → Tries (begun v.id own) v (Ok new) → KnowsIn rows new g p
+  ready-known own s v new f g p stands reads own_of known (is_table, stood, sought) origin tried =
+      let same = ready-schema v s reads in
+      let within = view-within p v stood in
+      let most = count-bound f p s stands known.is_table in
+      let begun_of : IsOwn v.schema (begun v.id own) = subst (λ (t : TableSchema). IsOwn t (begun v.id own)) (sym same) (begun-own s own v.id own_of) in
+      let begun_is : KnowsOwn (begun v.id own) rows v.schema p =
+      subst (λ (t : TableSchema). KnowsOwn (begun v.id own) rows t p) (sym same)
+      (begun-known rows s p own v.id within (omega (arith, within, most)) known) in
+      let wanted = ap (λ (a : Asked). a.wanted) (asked-same (asked_of v.schema v.wanted) (newest_of s) reads.asked) in
+      let is_found : IsFoundIn p (found_in v) = record { view = v; is = refl; wanted = wanted; stood = stood; origin = origin } in
+      tries-known rows g p (begun v.id own) v new begun_of begun_is is_found tried
+
+  as-known : (own : OwnView) (s : TableSchema) (m : view_phase.Phase) (new : Phase) (g : Files) (p : Past) → Reads m s → KnowsOwn own rows s p
+      → reader_meaning.Knows m g p → HasOrigin m → ◌≡◌ {A = Outcome} (Ok new) (Ok (phases.View own m)) → KnowsIn rows new g p
+  as-known own s m new g p reads known reading origin is =
+      subst (λ (m : Phase). KnowsIn rows m g p) (sym (ok-same new (phases.View own m) is)) (s, reads, known, reading, origin)
+
+  reader-known : (own : OwnView) (s : TableSchema) (m : view_phase.Phase) (new : Phase) (f g : Files) (p : Past) → Stands f p → Reads m s → IsOwn s own
+      → KnowsOwn own rows s p → reader_meaning.Knows m g p → HasOrigin m → AfterReader own m (Ok new) → KnowsIn rows new g p
+  reader-known own s (readers.List a) new f g p stands reads own_of known reading origin is = as-known own s (readers.List a) new g p reads known reading origin is
+  reader-known own s (readers.Origin q) new f g p stands reads own_of known reading origin is = as-known own s (readers.Origin q) new g p reads known reading origin is
+  reader-known own s (readers.Snapshot q id) new f g p stands reads own_of known reading origin is = as-known own s (readers.Snapshot q id) new g p reads known reading origin is
+  reader-known own s (readers.Base q x) new f g p stands reads own_of known reading origin is = as-known own s (readers.Base q x) new g p reads known reading origin is
+  reader-known own s (readers.Delta q x base) new f g p stands reads own_of known reading origin is = as-known own s (readers.Delta q x base) new g p reads known reading origin is
+  reader-known own s (readers.Manifests r) new f g p stands reads own_of known reading origin is = as-known own s (readers.Manifests r) new g p reads known reading origin is
+  reader-known own s (readers.Again a id path) new f g p stands reads own_of known reading origin is = as-known own s (readers.Again a id path) new g p reads known reading origin is
+  reader-known own s (readers.Ready v) new f g p stands reads own_of known reading origin tried = ready-known own s v new f g p stands reads own_of known reading origin tried
+  reader-known own s readers.Over new f g p stands reads own_of known reading origin is = as-known own s readers.Over new g p reads known reading origin is
+
+  -- a try begins
+  first-known : (own : OwnView) (s : TableSchema) (new : Phase) (g : Files) (p : Past) → KnowsOwn own rows s p → new ≡ first_of_try own s → KnowsIn rows new g p
+  first-known own s new g p known is =
+      subst (λ (m : Phase). KnowsIn rows m g p) (sym is) (s, record { asked = refl; numbers = tt; ids = tt }, known, known.is_table, tt)
+
+  -- what was made with the history as it is, after which this is known
+  abbrev Keeps : OwnView → Phase → Files → Past → Files → Type 0
+  Keeps own new f p after = MakesOwn own rows f p after p × KnowsIn rows new after p
+
+  keeps-still : (own : OwnView) (new : Phase) (f after : Files) (p : Past) → after ≡ f → KnowsIn rows new f p → Keeps own new f p after
+  keeps-still own new f after p same known = (still own rows f after p same, subst (λ (g : Files). KnowsIn rows new g p) (sym same) known)
+
+  -- the reader of its view went on
+  view-keeps : (own : OwnView) (s t : TableSchema) (m to : view_phase.Phase) (new : Phase) (f after : Files) (p : Past) → Stands f p
+      → (answer : Answer) → reader.Goes m answer to → AfterReader own to (Ok new) → Reads m s → Reads m t → IsOwn t own → KnowsOwn own rows s p
+      → Leads (reader_meaning.LeavesFiles m) (reader_meaning.Knows to) f p after → HasOrigin to → Keeps own new f p after
+  view-keeps own s t m to new f after p stands answer goes on reads reads_t own_of known (later, kept, reading) origin =
+      let same : t ≡ s = ap (λ (a : Asked). a.schema) (asked-same (newest_of t) (newest_of s) (sym reads_t.asked ∙ reads.asked)) in
+      let reading_at : reader_meaning.Knows to after p = subst (λ (q : Past). reader_meaning.Knows to after q) kept.past reading in (
+        own-same own rows f after p kept.files,
+        reader-known own s to new f after p stands (reads-on laws.read s m answer to reads goes).reads (subst (λ (u : TableSchema). IsOwn u own) same own_of)
+            known reading_at origin on,
+      )
+
+  abbrev pub KeepsAt : Phase → Phase → Files → Past → Files → Type 0
+  KeepsAt m new f p after = MakesRows rows m f p after p × KnowsIn rows new after p
+
+  -- before the publish
+  pub keeps-on : (m : Phase) (answer : Answer) (new : Phase) (f : Files) (p : Past) → NoPublish m → After m answer (Ok new) → Stands f p → IsCommitter m
+      → KnowsIn rows m f p → IfSome (next_call m) (λ call. Answers call answer f → KeepsAt m new f p (carried call f))
+  keeps-on (phases.Names own s) (answers.Listed names) new f p calm (none, is) stands committer known = λ told.
+      keeps-still own new f (carried manifests_call f) p (list_effect (codes "manifest") effects.Whole f) (first-known own s new f p known is)
+  keeps-on (phases.View own m) answer new f p calm (to, goes, after) stands (left, (t, reads_t, own_of)) (s, reads, known, reading, origin) =
+      both_if (reader.next_call m) _ _ _ (λ call leads has told. view-keeps own s t m to new f (carried call f) p stands answer goes after reads reads_t own_of known (leads told) (has told))
+      ((reader_facts.sound laws.joined laws.lists).went m to answer f p goes stands reading)
+      (origin-on f p s m answer to stands reads reading origin goes)
+  keeps-on (phases.Search own q) (answers.Found None) new f p calm on stands (may, few, ids) (known, is_found) = λ told.
+      keeps-still own new f (carried (calls.Read (snapshot_path q.id)) f) p (read_effect (snapshot_path q.id) effects.Whole f)
+      (makes-known rows f p own q.found new may.own_of known is_found on)
+  keeps-on (phases.Search own q) (answers.Found (Some bytes)) new f p calm (x, reads, on) stands (may, few, ids) (known, is_found) = λ told.
+      let read = stood-read f p q.found.schema q.id bytes x stands known.is_table ids.0.0 ids.0.1 (sym told) reads in
+      keeps-still own new f (carried (calls.Read (snapshot_path q.id)) f) p (read_effect (snapshot_path q.id) effects.Whole f)
+      (hears-known rows f p own q.found q.left (seen_of own.author x) new may.own_of known is_found
+      (λ reached. record { id = q.id; known = read.0; snapshot = x; stood = read.1; reached = reached }) on)
+  keeps-on (phases.Create own making) (answers.Made creates.Created) new f p calm is stands (tried, few) (known, is_try) = λ told.
+      let call : Call = calls.Create making.next.path making.next.bytes in
+      let puts : Puts f making.next.path (Some making.next.bytes) (carried call f) = Answers-Changed call (answers.Made creates.Created) f told in
+      let absent = created-absent (map.get f making.next.path) told in (
+        put-makes laws.own_files own rows making.publishing making.next making.rest f p tried known is_try (carried call f) making.next.bytes absent puts,
+        subst (λ (m : Phase). KnowsIn rows m (carried call f) p) (sym (ok-same new _ is))
+            (create-known rows (carried call f) p own making.publishing making.rest known
+            (created-try laws.own_files own rows making.publishing making.next making.rest f p tried known is_try (carried call f) absent puts)),
+      )
+  keeps-on (phases.Create own making) (answers.Made creates.Exists) new f p calm is stands committer known = absurd (ok-err new _ is)
+  keeps-on (phases.Publish own x) answer new f p calm after stands committer known = absurd calm
+  keeps-on m answer new f p calm after stands committer known = absurd after
+
+  -- an answer by which nothing is published
+  pub lost-keeps : (own : OwnView) (x : Publishing) (answer : Published) (f : Files) (p : Past) → IsLost answer
+      → Answers (publish_call x) (answers.Published answer) f → MakesOwn own rows f p (carried (publish_call x) f) p
+  lost-keeps own x published.Created f p lost told = absurd lost
+  lost-keeps own x published.Exists f p lost told =
+      own-same own rows f (carried (publish_call x) f) p (Answers-Changed (publish_call x) (answers.Published published.Exists) f told)
+  lost-keeps own x published.AfterGone f p lost told =
+      own-same own rows f (carried (publish_call x) f) p (Answers-Changed (publish_call x) (answers.Published published.AfterGone) f told)
+
+  pub lost-leads : (own : OwnView) (x : Publishing) (answer : Published) (new : Phase) (f : Files) (p : Past) → IsLost answer
+      → Loses own x.schema x.id (Ok new) → KnowsOwn own rows x.schema p → Answers (publish_call x) (answers.Published answer) f
+      → Keeps own new f p (carried (publish_call x) f)
+  lost-leads own x answer new f p lost (left, is) known told = (
+    lost-keeps own x answer f p lost told,
+    first-known (with_lost x.id own) x.schema new (carried (publish_call x) f) p (lost-known rows x.schema p own x.id known) is,
+  )
+
+  -- the answer by which it is
+  pub published-leads : (own : OwnView) (x : Publishing) (new : Phase) (f : Files) (p : Past) → ◌≡◌ {A = Outcome} (Ok new) (Ok (phases.Committed own.author x.id))
+      → Stands f p → IsTried x.schema own → KnowsOwn own rows x.schema p → KnowsTry own rows x [] f p
+      → Answers (publish_call x) (answers.Published published.Created) f
+      → Leads (MakesOwn own rows) (λ g q. KnowsIn rows new g q × (q.history ≡ with_entry (entry_of own.author rows) p.history)
+      × (x.id ≡ count_of p.history + 1)) f p (carried (publish_call x) f)
+  published-leads own x new f p is stands tried known is_try told =
+      let all = publish-whole laws.one laws.same laws.paths laws.live laws.newest laws.unnamed laws.append own rows x f p stands tried known is_try
+      (map.get f (snapshot_path x.id)) (map.get f (after_path x.schema x.id)) refl refl in
+      let next = all.2 told in
+      (all.0, all.1, (subst (λ (m : Phase). KnowsIn rows m (carried (publish_call x) f) all.0) (sym (ok-same new _ is)) next.0, next.1.0, next.1.1))
+
+  leads-at : (own : OwnView) (new : Phase) (f after : Files) (p : Past) → Keeps own new f p after → Leads (MakesOwn own rows) (KnowsIn rows new) f p after
+  leads-at own new f after p (makes, known) = (p, makes, known)
+
+  leads-on : (m : Phase) (answer : Answer) (new : Phase) (f : Files) (p : Past) → After m answer (Ok new) → Stands f p → IsCommitter m → KnowsIn rows m f p
+      → IfSome (next_call m) (λ call. Answers call answer f → Leads (MakesRows rows m) (KnowsIn rows new) f p (carried call f))
+  leads-on (phases.Publish own x) (answers.Published published.Created) new f p is stands tried (known, is_try) = λ told.
+      let leads = published-leads own x new f p is stands tried known is_try told in
+      (leads.0, leads.1, leads.2.0)
+  leads-on (phases.Publish own x) (answers.Published published.Exists) new f p on stands tried (known, is_try) = λ told.
+      leads-at own new f (carried (publish_call x) f) p (lost-leads own x published.Exists new f p tt on known told)
+  leads-on (phases.Publish own x) (answers.Published published.AfterGone) new f p on stands tried (known, is_try) = λ told.
+      leads-at own new f (carried (publish_call x) f) p (lost-leads own x published.AfterGone new f p tt on known told)
+  leads-on (phases.Publish own x) answer new f p after stands tried known = absurd after
+  leads-on (phases.Names own s) answer new f p after stands committer known = λ told.
+      leads-at own new f (carried manifests_call f) p (keeps-on (phases.Names own s) answer new f p tt after stands committer known told)
+  leads-on (phases.View own m) answer new f p after stands committer known =
+      IfSome_then (reader.next_call m) (keeps-on (phases.View own m) answer new f p tt after stands committer known)
+      (λ call keeps told. leads-at own new f (carried call f) p (keeps told))
+  leads-on (phases.Search own q) answer new f p after stands committer known = λ told.
+      leads-at own new f (carried (calls.Read (snapshot_path q.id)) f) p (keeps-on (phases.Search own q) answer new f p tt after stands committer known told)
+  leads-on (phases.Create own making) answer new f p after stands committer known = λ told.
+      leads-at own new f (carried (calls.Create making.next.path making.next.bytes) f) p (keeps-on (phases.Create own making) answer new f p tt after stands committer known told)
+  leads-on (phases.Committed author id) answer new f p after stands committer known = absurd after
+  leads-on (phases.Already author) answer new f p after stands committer known = absurd after
+  leads-on phases.Over answer new f p after stands committer known = absurd after
+
+  -- ---- a machine
+
+  over-knows : (new : Phase) (f : Files) (p : Past) → new ≡ phases.Over → Knows rows new f p
+  over-knows new f p over = subst (λ (m : Phase). Knows rows m f p) (sym over) (tt, tt)
+
+  over-leads : (m new : Phase) (call : Call) (f : Files) (p : Past) (effect : Effect) → new ≡ phases.Over → Changes (MakesRows rows m) call f p
+      → Leads (MakesRows rows m) (Knows rows new) f p (after_effect call effect f)
+  over-leads m new call f p effect over changes =
+      let change = changes effect in
+      (change.0, change.1, over-knows new (after_effect call effect f) change.0 over)
+
+  pub sound : Sound next_call Goes Refuses Stops Stands (MakesRows rows) (Knows rows)
+  sound = record {
+    changes = λ m f p stands known. changes-on m f p stands known.0 known.1;
+    went = λ m new answer f p goes stands known. IfSome_then (next_call m) (leads-on m answer new f p goes stands known.0 known.1)
+        (λ call leads told. (let led = leads told in (led.0, led.1, (still-committer laws.read m answer new known.0 goes, led.2))));
+    refused = λ m new answer refusal f p refuses stands known. IfSome_then (next_call m) (changes-on m f p stands known.0 known.1)
+        (λ call changes told. over-leads m new call f p effects.Whole refuses.1 changes);
+    failed = λ m new effect f p stops stands known. IfSome_then (next_call m) (changes-on m f p stands known.0 known.1)
+        (λ call changes may. over-leads m new call f p effect stops changes);
+    stopped = λ m new f p called stops stands known. over-knows new f p stops;
+  }

@@ -1,0 +1,178 @@
+-- What a committer knows after an answer.
+use Rattle.std.proofs.Common.{◌≡◌, ℕ, ◌+◌, ◌^◌, ◌<◌, ◌≤◌, Bool, true, false, List, [], ◌∷◌, length, Ok, refl, sym, ap, ◌∙◌, subst, arith}
+use Rattle.pm_store.specs.Files.{Files}
+use Rattle.pm_history.specs.History.{History, IsTableOf, no_table, table}
+use Rattle.pm_history.specs.Merge.{HistoryRow}
+use Rattle.pm_schema.specs.declared.schema.TableSchema.{TableSchema}
+use Rattle.pm_snapshot.specs.Names.{greatest}
+use Rattle.pm_folder.specs.Folder.{Folder}
+use Rattle.pm_folder.specs.Ledger.{Past, Stands, count_of}
+use Rattle.pm_table_view.specs.Meaning.{IsViewIn, view_origin, view_snapshot}
+use Rattle.pm_table_view.specs.declared.view.View.{View}
+use Rattle.pm_append.specs.Commit.{Attempt}
+use Rattle.pm_append.specs.declared.newest.Author.{Author}
+use Rattle.pm_append.specs.declared.newest.CommitFile.{CommitFile}
+use Rattle.pm_commit.specs.Committer.{Hears, Makes, Seeks, Tries, TriesIf, create_next, found_in, publishing_of}
+use Rattle.pm_commit.specs.Meaning.{HasEarlier, IsFoundIn, KnowsIn, KnowsOwn, KnowsTry}
+use Rattle.pm_commit.specs.Own.{IsOwn, OwnView, begun, begun_after, with_lost, with_named}
+use Rattle.pm_commit.specs.Search.{older_ids, seen_in}
+use Rattle.pm_commit.specs.declared.search.Seen.{Seen}
+use Rattle.pm_commit.specs.declared.search.Seen.TheVariants as seen
+use Rattle.pm_commit.specs.declared.found.Found.{Found}
+use Rattle.pm_commit.specs.declared.making.Publishing.{Publishing}
+use Rattle.pm_commit.specs.declared.phase.Phase.{Phase}
+use Rattle.pm_commit.proofs.CommitterLemmas.{made-tried, ok-same}
+
+-- ---- the history
+
+-- a folder that stands has no more snapshots than may have names
+pub count-bound : (f : Files) (p : Past) (s : TableSchema) → Stands f p → IsTableOf s p.history → count_of p.history ≤ greatest
+count-bound f p s stands is = at p.history is stands.folder
+  where
+    at : (h : History) → IsTableOf s h → Folder f h → count_of h ≤ greatest
+    at no_table is folder = absurd is
+    at (table t entries) is folder = folder.snapshots.within
+
+-- ---- what is known of a commit
+
+module _ (rows : List HistoryRow) (s : TableSchema) (p : Past) where
+  pub begun-known : (own : OwnView) (n : ℕ) → n ≤ count_of p.history → n ≤ greatest → KnowsOwn own rows s p → KnowsOwn (begun n own) rows s p
+  begun-known own n within bound known = at own.lost
+    where
+      at : (lost : List ℕ) → KnowsOwn (begun_after lost n own) rows s p
+      at [] = record {
+        is_table = known.is_table;
+        fit = known.fit;
+        batch = known.batch;
+        may = record {
+          is_maker = record {
+            sixteen = known.may.is_maker.sixteen;
+            bytes = known.may.is_maker.bytes;
+            actor_bits = known.may.is_maker.actor_bits;
+            base_bits = omega (arith, bound);
+            count_bits = known.may.is_maker.count_bits;
+          };
+          actor_within = known.may.actor_within;
+          base_within = bound;
+        };
+        unnamed = known.unnamed;
+        from = within;
+      }
+      at (id ∷ lost) = known
+
+  pub named-known : (own : OwnView) (count : ℕ) → count < 2 ^ 64 → KnowsOwn own rows s p → KnowsOwn (with_named count own) rows s p
+  named-known own count bound known = record {
+    is_table = known.is_table;
+    fit = known.fit;
+    batch = known.batch;
+    may = record {
+      is_maker = record {
+        sixteen = known.may.is_maker.sixteen;
+        bytes = known.may.is_maker.bytes;
+        actor_bits = known.may.is_maker.actor_bits;
+        base_bits = known.may.is_maker.base_bits;
+        count_bits = bound;
+      };
+      actor_within = known.may.actor_within;
+      base_within = known.may.base_within;
+    };
+    unnamed = known.unnamed;
+    from = known.from;
+  }
+
+  pub lost-known : (own : OwnView) (id : ℕ) → KnowsOwn own rows s p → KnowsOwn (with_lost id own) rows s p
+  lost-known own id known = record {
+    is_table = known.is_table;
+    fit = known.fit;
+    batch = known.batch;
+    may = known.may;
+    unnamed = known.unnamed;
+    from = known.from;
+  }
+
+-- ---- what a try leads to
+
+module _ (rows : List HistoryRow) (f : Files) (p : Past) where
+  pub create-known : (own : OwnView) (x : Publishing) (files : List CommitFile) → KnowsOwn own rows x.schema p → KnowsTry own rows x files f p
+      → KnowsIn rows (create_next own x files) f p
+  create-known own x [] known try_known = (known, try_known)
+  create-known own x (file ∷ files) known try_known = (known, try_known)
+
+  pub makes-known : (own : OwnView) (found : Found) (later : Phase) → IsOwn found.schema own → KnowsOwn own rows found.schema p → IsFoundIn p found
+      → Makes own found (Ok later) → KnowsIn rows later f p
+  makes-known own found later own_of known is_found (made, is_made, allowed, is) =
+      let tried = made-tried own found made is_made own_of in
+      let named = own_of.named in
+      let within = own_of.within in
+      let count = tried.named in
+      let attempt : Attempt = record { rows = rows; batch = own.batch; author = own.author; newest = found.newest; names = own.names; made = made } in
+      let total : ℕ = own.names.count + length made.files.items in
+      let next : OwnView = with_named total own in
+      subst (λ (m : Phase). KnowsIn rows m f p) (sym is)
+      (create-known next (publishing_of found.schema made) made.files.items
+      (named-known rows found.schema p own total (omega (arith, count, within)) known) (record {
+        attempt = attempt;
+        same_rows = refl;
+        same_batch = refl;
+        same_author = refl;
+        found = is_found;
+        names = record {
+          session = refl;
+          actor = refl;
+          based = own_of.same_base;
+          may = known.may;
+          room = (let one = own_of.one_group in omega (arith, named, within, one));
+        };
+        made = is_made;
+        allowed = allowed;
+        is = refl;
+        done = [];
+        files = refl;
+        there = tt;
+      }))
+
+  -- the newest snapshot is an earlier commit of the author's
+  newest-earlier : (author : Author) (v : View) → IsFoundIn p (found_in v) → seen_in author v.snapshot ≡ seen.Reached → HasEarlier author p
+  newest-earlier author v is_found reached = at is_found.stood
+    where
+      same : v.snapshot ≡ is_found.view.snapshot
+      same = ap (λ (found : Found). found.newest.snapshot) is_found.is
+
+      other-reached : seen.Other ≡ seen.Reached → ⊥
+      other-reached e = cc
+
+      at : IsViewIn p is_found.view → HasEarlier author p
+      at (view_origin is) = absurd (other-reached (sym (ap (seen_in author) (same ∙ is.snapshot)) ∙ reached))
+      at (view_snapshot x base delta entries live stood has leaves is) = record {
+        id = x.id;
+        known = stood.known;
+        snapshot = x;
+        stood = stood.was;
+        reached = sym (ap (seen_in author) (same ∙ is.snapshot)) ∙ reached;
+      }
+
+  seeks-known : (own : OwnView) (found : Found) (left : List ℕ) (later : Phase) → IsOwn found.schema own → KnowsOwn own rows found.schema p → IsFoundIn p found
+      → Seeks own found left (Ok later) → KnowsIn rows later f p
+  seeks-known own found [] later own_of known is_found on = makes-known own found later own_of known is_found on
+  seeks-known own found (id ∷ left) later own_of known is_found (few, is) =
+      subst (λ (m : Phase). KnowsIn rows m f p) (sym (ok-same later _ is)) (known, is_found)
+
+  pub hears-known : (own : OwnView) (found : Found) (left : List ℕ) (said : Seen) (later : Phase) → IsOwn found.schema own → KnowsOwn own rows found.schema p
+      → IsFoundIn p found → (said ≡ seen.Reached → HasEarlier own.author p) → Hears own found left said (Ok later) → KnowsIn rows later f p
+  hears-known own found left seen.Other later own_of known is_found reached on = seeks-known own found left later own_of known is_found on
+  hears-known own found left seen.Below later own_of known is_found reached on = makes-known own found later own_of known is_found on
+  hears-known own found left seen.Reached later own_of known is_found reached is = subst (λ (m : Phase). KnowsIn rows m f p) (sym (ok-same later _ is)) (reached refl)
+
+  pub tries-known : (own : OwnView) (v : View) (later : Phase) → IsOwn v.schema own → KnowsOwn own rows v.schema p → IsFoundIn p (found_in v)
+      → Tries own v (Ok later) → KnowsIn rows later f p
+  tries-known own v later own_of known is_found = by_test own.check
+    where
+      by_test : (b : Bool) → TriesIf b own v (Ok later)
+          → KnowsIn rows later f p
+      by_test true on = hears-known own (found_in v) (older_ids v.listed.items) (seen_in own.author v.snapshot) later own_of known is_found (newest-earlier own.author v is_found) on
+      by_test false on = makes-known own (found_in v) later own_of known is_found on
+
+-- a view's snapshot was committed
+pub view-within : (p : Past) (v : View) → IsViewIn p v → v.id ≤ count_of p.history
+view-within p v (view_origin is) = let first = is.id in omega (arith, first)
+view-within p v (view_snapshot x base delta entries live stood has leaves is) = let same = is.id in let high = stood.known.to in omega (arith, same, high)

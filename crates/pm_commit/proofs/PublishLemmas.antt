@@ -1,0 +1,263 @@
+-- The publish of a try whose files are all there appends its entry to the history, while the newest snapshot stands.
+use Rattle.std.proofs.Common.{◌≡◌, inl, inr, ℕ, zero, suc, ◌+◌, ◌-◌, ◌<◌, ◌≤◌, nat_le, Bool, true, false, ◌&&◌, if◌then◌else◌, List, [], length, Option, None, Some, is_none, is_some, IsSome, IsSomeAnd, refl, sym, ap, ◌∙◌, subst, arith}
+use Rattle.std.specs.FinMap as map
+use Rattle.std.specs.List.{AllByRecursion}
+use Rattle.std.proofs.lemmas.Bool.Decides.{nat_tests}
+use Rattle.std.proofs.lemmas.List.{append-nil}
+use Rattle.pm_store.specs.Files.{Files, Puts}
+use Rattle.pm_store.specs.Answers.{published_at}
+use Rattle.pm_store.specs.declared.answer.Published.TheVariants as published
+use Rattle.pm_store.proofs.ChangeLaws.{Puts-insert}
+use Rattle.pm_history.specs.History.{Entry, IsTableOf, append, table}
+use Rattle.pm_history.specs.Merge.{HistoryRow}
+use Rattle.pm_schema.specs.declared.schema.TableSchema.{TableSchema}
+use Rattle.pm_snapshot.specs.Names.{greatest}
+use Rattle.pm_manifest.specs.Live.{live_after}
+use Rattle.pm_manifest.specs.declared.entry.Entry as files
+use Rattle.pm_contents.specs.Lists.{none_live}
+use Rattle.pm_contents.specs.Named.{Contents, HasContents}
+use Rattle.pm_folder.specs.Changes.{Actor, IsNamedBy, NamesOwn, appended}
+use Rattle.pm_folder.specs.Commits.{HasCommit, IsAppend, Names}
+use Rattle.pm_folder.specs.Entries.{AreLive}
+use Rattle.pm_folder.specs.Folder.{Folder, HasTable}
+use Rattle.pm_folder.specs.Ledger.{Advances, HasNamedNone, KnowsTable, Past, Stands, count_of}
+use Rattle.pm_folder.specs.Meaning.{HasSnapshotAt, SnapshotAt}
+use Rattle.pm_folder.specs.Paths.{snapshot_file, snapshot_path}
+use Rattle.pm_folder.proofs.HoldLemmas.{OneContents}
+use Rattle.pm_folder.proofs.LedgerFacts.{at-table, count-is}
+use Rattle.pm_table_view.specs.Meaning.{IsViewIn, view_origin, view_snapshot}
+use Rattle.pm_table_view.specs.Reader.{origin_name, origin_path}
+use Rattle.pm_table_view.specs.View.{kept_for, live_entries}
+use Rattle.pm_table_view.specs.declared.asked.Wanted.{Wanted}
+use Rattle.pm_table_view.specs.declared.view.View.{View}
+use Rattle.pm_table_view.proofs.Facts.{stood_contents}
+use Rattle.pm_write.specs.Batch.{Groups, IsBatchOf}
+use Rattle.pm_append.specs.Commit.{Attempt, IsAsMade, IsFoundAs, IsReady}
+use Rattle.pm_append.specs.declared.newest.Author.{Author}
+use Rattle.pm_append.specs.declared.newest.Newest.{Newest}
+use Rattle.pm_commit.specs.Alone.{with_entry}
+use Rattle.pm_commit.specs.Committer.{after_path, newest_in}
+use Rattle.pm_commit.specs.Meaning.{HasEntry, IsPut, KnowsOwn, KnowsTry, MakesOwn, entry_of}
+use Rattle.pm_commit.specs.Own.{IsTried, OwnView, actor_of}
+use Rattle.pm_commit.specs.declared.found.Found.{Found}
+use Rattle.pm_commit.specs.declared.making.Publishing.{Publishing}
+use Rattle.pm_commit.proofs.AdvanceLemmas.{NamedPaths, SameContents, append-advances, later_past, same-advances}
+use Rattle.pm_commit.proofs.MadeLemmas.{allowed-id}
+
+-- ---- what the laws of lower crates say
+
+-- the newest snapshot
+abbrev pub IsNewest : Type 0
+IsNewest = (f : Files) (s : TableSchema) (entries : List Entry) (id : ℕ) → Folder f (table s entries) → HasSnapshotAt f s id → id + 1 ≤ greatest
+    → map.get f (snapshot_path (id + 1)) ≡ None → id ≡ length entries
+
+-- the live entries
+abbrev pub LiveEntries : Type 0
+LiveEntries = (entries : List files.Entry) → AreLive (live_after none_live entries) (live_entries entries)
+
+-- no snapshot names a file of an actor that committed none
+abbrev pub NamesNone : Type 0
+NamesNone = (me : Actor) (f : Files) (p : Past) (s : TableSchema) (id : ℕ) (path : List ℕ) → Stands f p → IsTableOf s p.history → id ≤ greatest
+    → HasNamedNone me p → Names f s id path → IsNamedBy me path → ⊥
+
+-- a try that is ready
+abbrev pub AppendsTry : Type 0
+AppendsTry = (me : Actor) (f after : Files) (s : TableSchema) (entries : List Entry) (t : Attempt) → (ready : IsReady me f s entries t)
+    → map.get f (snapshot_path (suc (length entries))) ≡ None → Puts f (snapshot_path (suc (length entries))) (Some t.made.text) after
+    → IsAppend f after s entries (append t.author.user t.author.identifier t.rows) × NamesOwn me f after s (length entries)
+    × IsAsMade after s (suc (length entries)) t ready.made
+
+-- ---- nothing changes
+
+pub own-same : (own : OwnView) (rows : List HistoryRow) (f after : Files) (p : Past) → ((path : List ℕ) → map.get after path ≡ map.get f path)
+    → MakesOwn own rows f p after p
+own-same own rows f after p same = record { advances = same-advances (actor_of own) f after p same; appends = inl refl }
+
+-- ---- the snapshot before the one that is published
+
+-- it is there where its path is
+before-there : (f : Files) (s : TableSchema) (id : ℕ) → (id ≡ 0 → IsSome s.origin) → IsSome (map.get f (after_path s (id + 1))) → HasSnapshotAt f s id
+before-there f s zero origin there = at s.origin refl (origin refl)
+  where
+    at : (o : Option (List ℕ)) → s.origin ≡ o → IsSome o → HasSnapshotAt f s 0
+    at None none is = absurd (let clash = is in cc)
+    at (Some name) some is =
+        let here : IsSome (map.get f (snapshot_file name)) =
+        subst (λ (o : Option (List ℕ)). IsSome (map.get f (snapshot_file (origin_name o)))) some there in
+        subst (λ (o : Option (List ℕ)). IsSomeAnd o (λ origin. IsSome (map.get f (snapshot_file origin)))) (sym some) here
+before-there f s (suc k) origin there =
+    subst (λ (path : List ℕ). IsSome (map.get f path)) (at (nat_le (suc k + 1) 1) refl) there
+  where
+    at : (b : Bool) → nat_le (suc k + 1) 1 ≡ b → (if b then origin_path s else snapshot_path (suc k + 1 - 1)) ≡ snapshot_path (suc k)
+    at true low = absurd (grind (arith, nat_tests))
+    at false high = ap snapshot_path (let same : suc k + 1 - 1 ≡ suc k = omega arith in same)
+
+-- ---- a try that is published
+
+module _ (one : OneContents) (same : SameContents) (paths : NamedPaths) (live_law : LiveEntries) (newest_law : IsNewest) (none_law : NamesNone) (append_law : AppendsTry)
+    (own : OwnView) (rows : List HistoryRow) (x : Publishing) (f : Files) (p : Past) (stands : Stands f p) (tried : IsTried x.schema own)
+    (known : KnowsOwn own rows x.schema p) (is_try : KnowsTry own rows x [] f p) where
+  abbrev s : TableSchema
+  s = x.schema
+
+  abbrev t : Attempt
+  t = is_try.attempt
+
+  abbrev v : View
+  v = is_try.found.view
+
+  own-table : (es : List Entry) × (p.history ≡ table s es) × HasTable f s es × KnowsTable f s es p
+  own-table = at-table f p s stands known.is_table
+
+  abbrev entries : List Entry
+  entries = own-table.0
+
+  many : count_of p.history ≡ length entries
+  many = count-is p s entries own-table.1
+
+  same-schema : s ≡ v.schema
+  same-schema = ap (λ (found : Found). found.schema) is_try.found.is
+
+  same-newest : t.newest ≡ newest_in v
+  same-newest = ap (λ (found : Found). found.newest) is_try.found.is
+
+  id-is : x.id ≡ t.newest.id + 1
+  id-is = ap (λ (x : Publishing). x.id) is_try.is ∙ is_try.made.id
+
+  text-is : x.text ≡ t.made.text
+  text-is = ap (λ (x : Publishing). x.text) is_try.is
+
+  below : t.newest.id < greatest
+  below = allowed-id t.newest t.author t.batch is_try.allowed
+
+  origin : t.newest.id ≡ 0 → IsSome s.origin
+  origin first =
+      subst (λ (u : TableSchema). IsSome u.origin) (sym same-schema) (is_try.found.origin (sym (ap (λ (n : Newest). n.id) same-newest) ∙ first))
+
+  -- the history has the entry more, and the id is the next
+  abbrev IsNext : Past → Type 0
+  IsNext later = (later.history ≡ with_entry (entry_of own.author rows) p.history) × (x.id ≡ count_of p.history + 1)
+
+  module _ (absent : map.get f (snapshot_path x.id) ≡ None) (there : IsSome (map.get f (after_path s x.id))) where
+    before : HasSnapshotAt f s t.newest.id
+    before = before-there f s t.newest.id origin (subst (λ (n : ℕ). IsSome (map.get f (after_path s n))) id-is there)
+
+    newest-is : t.newest.id ≡ length entries
+    newest-is = newest_law f s entries t.newest.id own-table.2 before (omega (arith, below))
+        (subst (λ (n : ℕ). map.get f (snapshot_path n) ≡ None) id-is absent)
+
+    next-is : x.id ≡ suc (length entries)
+    next-is = let one_more = id-is in let last = newest-is in omega (arith, one_more, last)
+
+    newest-there : HasSnapshotAt f s (length entries)
+    newest-there = subst (HasSnapshotAt f s) newest-is before
+
+    -- the newest snapshot is as it was found
+    found-as : IsFoundAs f v.schema (newest_in v) v.snapshot
+    found-as = at is_try.found.stood
+      where
+        at : IsViewIn p v → IsFoundAs f v.schema (newest_in v) v.snapshot
+        at (view_origin is) = subst (IsFoundAs f v.schema (newest_in v)) (sym is.snapshot) (is.id, is.manifests, is.entries)
+        at (view_snapshot y base delta es live stood has leaves is) =
+            let g : Files = p.stood y.id in
+            let c0 = stood_contents f p v.schema y stands stood in
+            let c : Contents = record { base = base; delta = delta; entries = es; changelog = c0.0.changelog; changes = c0.0.changes } in
+            let contents : HasContents g v.schema y c = record { table = has; changelog = c0.1.changelog } in
+            let tab = at-table f p v.schema stands stood.table in
+            let there_now : HasSnapshotAt f v.schema y.id =
+            subst (λ (u : TableSchema). HasSnapshotAt f u y.id) same-schema
+            (subst (HasSnapshotAt f s) (ap (λ (n : Newest). n.id) same-newest ∙ is.id) before) in
+            let kept = (tab.3.kept y.id stood.known).there there_now in
+            let at_path : SnapshotAt f y.id y = (stood.was.0, kept (snapshot_path y.id) (inl refl) ∙ stood.was.1, stood.was.2) in
+            let held : HasContents f v.schema y c =
+            same g f v.schema y c (λ path named. kept path (inr (inr (y, c, (stood.was, contents), named)))) contents in
+            let commit : HasCommit f v.schema v.id y c = subst (λ (n : ℕ). HasCommit f v.schema n y c) (sym is.id) (at_path, held) in
+            let entries_are : v.live.items ≡ live_entries es = is.entries ∙ ap (λ (w : Wanted). live_entries (kept_for w es)) is_try.found.wanted in
+            let are : AreLive (live_after none_live es) v.live.items =
+            subst (λ (l : List files.Entry). AreLive (live_after none_live es) l) (sym entries_are) (live_law es) in
+            subst (IsFoundAs f v.schema (newest_in v)) (sym is.snapshot) (c, commit, is.manifests, are)
+
+    found-here : IsFoundAs f s t.newest t.newest.snapshot
+    found-here =
+        subst (λ (u : TableSchema). IsFoundAs f u t.newest t.newest.snapshot) (sym same-schema)
+        (subst (λ (n : Newest). IsFoundAs f v.schema n n.snapshot) (sym same-newest) found-as)
+
+    all-there : AllByRecursion (IsPut f) t.made.files.items
+    all-there = subst (AllByRecursion (IsPut f)) (sym (is_try.files ∙ append-nil is_try.done)) is_try.there
+
+    batch-of : IsBatchOf s t.rows t.batch
+    batch-of =
+        subst (λ (rs : List HistoryRow). IsBatchOf s rs t.batch) (sym is_try.same_rows)
+        (subst (λ (groups : Groups). IsBatchOf s rows groups) (sym is_try.same_batch) known.batch)
+
+    ready : IsReady (actor_of own) f s entries t
+    ready = record {
+      folder = own-table.2;
+      built = tried.built;
+      newest = record { id = newest-is; found = found-here };
+      batch = batch-of;
+      made = is_try.made;
+      allowed = is_try.allowed;
+      base =
+          (let from = known.from in
+          let same_base : t.author.base ≡ own.author.base = ap (λ (a : Author). a.base) is_try.same_author in
+          let last = newest-is in
+          let size = many in
+          omega (arith, from, same_base, last, size));
+      maker = is_try.names;
+      there = all-there;
+      unnamed = λ id path low high named by.
+          none_law (actor_of own) f p s id path stands known.is_table (let bound = own-table.2.snapshots.within in omega (arith, high, bound)) known.unnamed named by;
+    }
+
+    abbrev after : Files
+    after = map.insert f (snapshot_path x.id) x.text
+
+    absent-next : map.get f (snapshot_path (suc (length entries))) ≡ None
+    absent-next = subst (λ (n : ℕ). map.get f (snapshot_path n) ≡ None) next-is absent
+
+    puts : Puts f (snapshot_path (suc (length entries))) (Some t.made.text) after
+    puts = subst (λ (n : ℕ). Puts f (snapshot_path n) (Some t.made.text) after) next-is
+        (subst (λ (text : List ℕ). Puts f (snapshot_path x.id) (Some text) after) text-is (Puts-insert f (snapshot_path x.id) x.text))
+
+    abbrev e : Entry
+    e = entry_of own.author rows
+
+    same-entry : append t.author.user t.author.identifier t.rows ≡ e
+    same-entry =
+        ap (λ (a : Author). append a.user a.identifier t.rows) is_try.same_author
+        ∙ ap (λ (rs : List HistoryRow). append own.author.user own.author.identifier rs) is_try.same_rows
+
+    appends : IsAppend f after s entries e × NamesOwn (actor_of own) f after s (length entries)
+    appends =
+        let all = append_law (actor_of own) f after s entries t ready absent-next puts in
+        (subst (λ (e : Entry). IsAppend f after s entries e) same-entry all.0, all.1)
+
+    bound : suc (length entries) ≤ greatest
+    bound = let last = newest-is in let low = below in omega (arith, last, low)
+
+    pub published-makes : (later : Past) × MakesOwn own rows f p after later × HasEntry own.author rows x.id later × IsNext later
+    published-makes =
+        let q = later_past p s entries e after in
+        let change = appended s entries own.author.user own.author.identifier rows t.made.text newest-there bound absent-next puts known.fit appends.0 appends.1 in
+        let advances : Advances (actor_of own) f p after q =
+        append-advances one same paths (actor_of own) f after p s entries e (Some t.made.text) stands tried.built.no_partition own-table.1 known.unnamed newest-there bound
+        puts appends.1 change in (
+          q,
+          record { advances = advances; appends = inr (s, entries, own-table.1, refl) },
+          (s, entries, [], refl, (let next = next-is in omega (arith, next))),
+          (
+            ap (with_entry e) (sym own-table.1),
+            (let next = next-is in let size = many in omega (arith, next, size)),
+          ),
+        )
+
+  -- the publish, carried out whole
+  pub publish-whole : (a b : Option (List ℕ)) → map.get f (snapshot_path x.id) ≡ a → map.get f (after_path s x.id) ≡ b
+      → (later : Past) × MakesOwn own rows f p (if is_none a && is_some b then map.insert f (snapshot_path x.id) x.text else f) later
+      × (published.Created ≡ published_at a b → HasEntry own.author rows x.id later × IsNext later)
+  publish-whole (Some found) b is_a is_b = (p, own-same own rows f f p (λ q. refl), λ told. absurd (let clash = told in cc))
+  publish-whole None None is_a is_b = (p, own-same own rows f f p (λ q. refl), λ told. absurd (let clash = told in cc))
+  publish-whole None (Some present) is_a is_b =
+      let all = published-makes is_a (subst (λ (o : Option (List ℕ)). IsSome o) (sym is_b) refl) in
+      (all.0, all.1, λ told. (all.2, all.3))

@@ -1,0 +1,189 @@
+-- How far a step of a committer comes.
+use Rattle.std.proofs.Common.{◌≡◌, ℕ, ◌+◌, ◌-◌, ◌*◌, ◌<◌, suc, Bool, true, false, List, [], ◌∷◌, length, length-append, None, Some, IsSome, Result, Ok, OnOk, OnErr, refl, sym, ap, subst, arith}
+use Rattle.pm_values.specs.declared.refusal.Refusal.{Refusal}
+use Rattle.pm_store.specs.Store.{StoreView}
+use Rattle.pm_store.specs.declared.answer.Answer.{Answer}
+use Rattle.pm_store.specs.declared.answer.Answer.TheVariants as answers
+use Rattle.pm_store.specs.declared.answer.Made.TheVariants as created
+use Rattle.pm_store.specs.declared.answer.Published.TheVariants as published
+use Rattle.pm_store.specs.declared.call.Call.{Call}
+use Rattle.pm_machine.specs.Step.{Answered, Stepped, Rested, Went, Refused, Stopped, Failed}
+use Rattle.pm_schema.specs.declared.schema.TableSchema.{TableSchema}
+use Rattle.pm_table_view.specs.Reader as reader
+use Rattle.pm_table_view.specs.Reader.{most}
+use Rattle.pm_table_view.specs.declared.phase.Phase as view_phase
+use Rattle.pm_table_view.specs.declared.phase.Phase.TheVariants as readers
+use Rattle.pm_table_view.specs.declared.view.View.{View}
+use Rattle.pm_table_view.proofs.Facts as reader_facts
+use Rattle.pm_append.specs.declared.newest.CommitFile.{CommitFile}
+use Rattle.pm_commit.specs.Committer.{After, AfterReader, Goes, Hears, IsCommitter, Makes, MayMake, Outcome, Reaches, Reads, Refuses, Seeks, Stops, Tries, TriesIf, calls_left, create_next, first_of_try, found_in, later_tries, most_of_try, next_call, publishing_of, reached_at}
+use Rattle.pm_commit.specs.Own.{IsOwn, OwnView, begun, most_files, tries, with_lost, with_named}
+use Rattle.pm_commit.specs.Search.{older_ids, seen_in, seen_of}
+use Rattle.pm_commit.specs.declared.search.Seen.{Seen}
+use Rattle.pm_commit.specs.declared.search.Seen.TheVariants as seen
+use Rattle.pm_commit.specs.declared.found.Found.{Found}
+use Rattle.pm_commit.specs.declared.making.Publishing.{Publishing}
+use Rattle.pm_commit.specs.declared.phase.Phase.{Phase}
+use Rattle.pm_commit.specs.declared.phase.Phase.TheVariants as phases
+use Rattle.pm_commit.proofs.CommitterLemmas.{begun-lost, ok-err, ok-same, ready-may}
+use Rattle.pm_commit.proofs.MadeLemmas.{made-few}
+use Rattle.pm_commit.proofs.ReadsLemmas.{EntriesRead, reads-on}
+
+-- fewer calls than that are left, and what was reached
+abbrev IsAhead : ℕ → Phase → Type 0
+IsAhead n m = (calls_left m < n) × Reaches (reached_at m) m
+
+create-ahead : (own : OwnView) (x : Publishing) (files : List CommitFile) (n : ℕ) → length files + 1 + later_tries own < n → IsAhead n (create_next own x files)
+create-ahead own x [] n below =
+    let one : 0 + 1 + later_tries own < n = below in
+    (omega (arith, one), omega arith)
+create-ahead own x (file ∷ files) n below =
+    let one : suc (length files) + 1 + later_tries own < n = below in
+    (omega (arith, one), omega arith)
+
+makes-ahead : (own : OwnView) (found : Found) (later : Phase) (n : ℕ) → IsOwn found.schema own → most_files + 1 + later_tries own < n → Makes own found (Ok later)
+    → IsAhead n later
+makes-ahead own found later n own_of below (made, is_made, allowed, is) =
+    let few = made-few found.schema found.newest own.author own.batch own.names made is_made in
+    let one = own_of.one_group in
+    subst (IsAhead n) (sym is)
+    (create-ahead (with_named (own.names.count + length made.files.items) own) (publishing_of found.schema made) made.files.items n
+    (omega (arith, few, one, below)))
+
+-- the ids that are left are few enough, wherever one is read next
+abbrev IsFew : OwnView → List ℕ → ℕ → Type 0
+IsFew own [] n = Unit {0}
+IsFew own (id ∷ left) n = length left < most → length left + 1 + (most_files + 1) + later_tries own < n
+
+seeks-ahead : (own : OwnView) (found : Found) (left : List ℕ) (later : Phase) (n : ℕ) → IsOwn found.schema own → most_files + 1 + later_tries own < n
+    → IsFew own left n → Seeks own found left (Ok later) → IsAhead n later
+seeks-ahead own found [] later n own_of below fewer on = makes-ahead own found later n own_of below on
+seeks-ahead own found (id ∷ left) later n own_of below fewer (few, is) = subst (IsAhead n) (sym (ok-same later _ is)) (fewer few, omega arith)
+
+hears-ahead : (own : OwnView) (found : Found) (left : List ℕ) (said : Seen) (later : Phase) (n : ℕ) → IsOwn found.schema own → most_files + 1 + later_tries own < n
+    → IsFew own left n → Hears own found left said (Ok later) → IsAhead n later
+hears-ahead own found left seen.Other later n own_of below fewer on = seeks-ahead own found left later n own_of below fewer on
+hears-ahead own found left seen.Below later n own_of below fewer on = makes-ahead own found later n own_of below on
+hears-ahead own found left seen.Reached later n own_of below fewer is =
+    subst (IsAhead n) (sym (ok-same later _ is)) ((let some = below in omega (arith, some)), (own.author, refl))
+
+-- of whichever ids
+all-few : (own : OwnView) (left : List ℕ) (n : ℕ) → most + (most_files + 1) + later_tries own < n → IsFew own left n
+all-few own [] n wide = tt
+all-few own (id ∷ left) n wide = λ few. (let more = wide in omega (arith, few, more))
+
+rest-few : (own : OwnView) (left : List ℕ) (n : ℕ) → length left + (most_files + 1) + later_tries own < n → IsFew own left n
+rest-few own [] n below = tt
+rest-few own (id ∷ left) n below = λ few. (let more : suc (length left) + (most_files + 1) + later_tries own < n = below in omega (arith, more))
+
+begun-later : (own : OwnView) (id : ℕ) → later_tries (begun id own) ≡ later_tries own
+begun-later own id = ap (λ (lost : List ℕ). (tries - (length lost + 1)) * most_of_try) (begun-lost own id)
+
+ready-ahead : (own : OwnView) (v : View) (later : Phase) (n : ℕ) → MayMake (begun v.id own) (found_in v) → most + (most_files + 1) + later_tries own < n
+    → Tries (begun v.id own) v (Ok later) → IsAhead n later
+ready-ahead own v later n may wide = by_test (begun v.id own).check
+  where
+    wide_own : most + (most_files + 1) + later_tries (begun v.id own) < n
+    wide_own = subst (λ (k : ℕ). most + (most_files + 1) + k < n) (sym (begun-later own v.id)) wide
+
+    narrow : most_files + 1 + later_tries (begun v.id own) < n
+    narrow = let more = wide_own in omega (arith, more)
+
+    by_test : (b : Bool) → TriesIf b (begun v.id own) v (Ok later) → IsAhead n later
+    by_test true on =
+        hears-ahead (begun v.id own) (found_in v) (older_ids v.listed.items) (seen_in (begun v.id own).author v.snapshot) later n may.own_of narrow
+        (all-few (begun v.id own) (older_ids v.listed.items) n wide_own) on
+    by_test false on = makes-ahead (begun v.id own) (found_in v) later n may.own_of narrow on
+
+view-ahead : (own : OwnView) (m to : view_phase.Phase) (new : Phase) → reader.calls_left to < reader.calls_left m
+    → ◌≡◌ {A = Outcome} (Ok new) (Ok (phases.View own to)) → IsAhead (reader.calls_left m + (most + (most_files + 1)) + later_tries own) new
+view-ahead own m to new fewer is =
+    subst (IsAhead (reader.calls_left m + (most + (most_files + 1)) + later_tries own)) (sym (ok-same new (phases.View own to) is))
+    (omega (arith, fewer), omega arith)
+
+reader-ahead : (own : OwnView) (s : TableSchema) (m to : view_phase.Phase) (new : Phase) → IsOwn s own → Reads to s → reader.calls_left to < reader.calls_left m
+    → AfterReader own to (Ok new) → IsAhead (reader.calls_left m + (most + (most_files + 1)) + later_tries own) new
+reader-ahead own s m (readers.List a) new own_of reads fewer is = view-ahead own m (readers.List a) new fewer is
+reader-ahead own s m (readers.Origin q) new own_of reads fewer is = view-ahead own m (readers.Origin q) new fewer is
+reader-ahead own s m (readers.Snapshot q id) new own_of reads fewer is = view-ahead own m (readers.Snapshot q id) new fewer is
+reader-ahead own s m (readers.Base q x) new own_of reads fewer is = view-ahead own m (readers.Base q x) new fewer is
+reader-ahead own s m (readers.Delta q x base) new own_of reads fewer is = view-ahead own m (readers.Delta q x base) new fewer is
+reader-ahead own s m (readers.Manifests r) new own_of reads fewer is = view-ahead own m (readers.Manifests r) new fewer is
+reader-ahead own s m (readers.Again a id path) new own_of reads fewer is = view-ahead own m (readers.Again a id path) new fewer is
+reader-ahead own s m (readers.Ready v) new own_of reads fewer on =
+    let some : 0 < reader.calls_left m = fewer in
+    ready-ahead own v new (reader.calls_left m + (most + (most_files + 1)) + later_tries own) (ready-may own v s reads own_of) (omega (arith, some)) on
+reader-ahead own s m readers.Over new own_of reads fewer is = view-ahead own m readers.Over new fewer is
+
+first-ahead : (own : OwnView) (s : TableSchema) (new : Phase) (n : ℕ) → most_of_try + later_tries own < n → new ≡ first_of_try own s → IsAhead n new
+first-ahead own s new n below is = subst (IsAhead n) (sym is) (omega (arith, below), omega arith)
+
+lost-ahead : (own : OwnView) (s : TableSchema) (id : ℕ) (new : Phase) → length own.lost + 1 < tries → new ≡ first_of_try (with_lost id own) s
+    → IsAhead (1 + later_tries own) new
+lost-ahead own s id new left is =
+    let longer = length-append own.lost (id ∷ []) in
+    first-ahead (with_lost id own) s new (1 + later_tries own) (omega (arith, longer, left)) is
+
+goes-ahead : EntriesRead → (m : Phase) (answer : Answer) (new : Phase) (call : Call) (before after : StoreView) → next_call m ≡ Some call → Answered call answer before after
+    → After m answer (Ok new) → IsCommitter m → IsAhead (calls_left m) new
+goes-ahead law (phases.Names own s) (answers.Listed names) new call before after at came (none, is) own_of =
+    first-ahead own s new (1 + most_of_try + later_tries own) (omega arith) is
+goes-ahead law (phases.View own m) answer new call before after at came (to, goes, on) (left, (s, reads, own_of)) =
+    let ahead = reader_facts.steps_on {old = m} {new = to} {before = before} {after = after} {result = Ok tt} (Went call answer at came goes) left in
+    reader-ahead own s m to new own_of (reads-on law s m answer to reads goes).reads ahead.0 on
+goes-ahead law (phases.Search own q) (answers.Found None) new call before after at came on (may, few, ids) =
+    makes-ahead own q.found new (length q.left + 1 + (most_files + 1) + later_tries own) may.own_of (omega arith) on
+goes-ahead law (phases.Search own q) (answers.Found (Some bytes)) new call before after at came (x, reads, on) (may, few, ids) =
+    hears-ahead own q.found q.left (seen_of own.author x) new (length q.left + 1 + (most_files + 1) + later_tries own) may.own_of (omega arith)
+    (rest-few own q.left (length q.left + 1 + (most_files + 1) + later_tries own) (omega arith)) on
+goes-ahead law (phases.Create own making) (answers.Made created.Created) new call before after at came is known =
+    subst (IsAhead (length making.rest + 2 + later_tries own)) (sym (ok-same new _ is))
+    (create-ahead own making.publishing making.rest (length making.rest + 2 + later_tries own) (omega arith))
+goes-ahead law (phases.Create own making) (answers.Made created.Exists) new call before after at came is known = absurd (ok-err new _ is)
+goes-ahead law (phases.Publish own x) (answers.Published published.Created) new call before after at came is known =
+    subst (IsAhead (1 + later_tries own)) (sym (ok-same new _ is)) (omega arith, (own.author, refl))
+goes-ahead law (phases.Publish own x) (answers.Published published.Exists) new call before after at came (left, is) known = lost-ahead own x.schema x.id new left is
+goes-ahead law (phases.Publish own x) (answers.Published published.AfterGone) new call before after at came (left, is) known = lost-ahead own x.schema x.id new left is
+goes-ahead law m answer new call before after at came on known = absurd on
+
+reader-call : (r : view_phase.Phase) → 0 < reader.calls_left r → IsSome (reader.next_call r)
+reader-call (readers.List a) left = refl
+reader-call (readers.Origin a) left = refl
+reader-call (readers.Snapshot a id) left = refl
+reader-call (readers.Base a x) left = refl
+reader-call (readers.Delta a x base) left = refl
+reader-call (readers.Manifests r) left = refl
+reader-call (readers.Again a id path) left = refl
+reader-call (readers.Ready v) left = absurd (let none : 0 < 0 = left in omega (arith, none))
+reader-call readers.Over left = absurd (let none : 0 < 0 = left in omega (arith, none))
+
+-- a committer with calls left has a next one
+has-call : (m : Phase) → IsCommitter m → 0 < calls_left m → IsSome (next_call m)
+has-call (phases.Names own s) is left = refl
+has-call (phases.View own m) (has, reads) left = reader-call m has
+has-call (phases.Search own q) is left = refl
+has-call (phases.Create own making) is left = refl
+has-call (phases.Publish own x) is left = refl
+has-call (phases.Committed author id) is left = absurd (let none : 0 < 0 = left in omega (arith, none))
+has-call (phases.Already author) is left = absurd (let none : 0 < 0 = left in omega (arith, none))
+has-call phases.Over is left = absurd (let none : 0 < 0 = left in omega (arith, none))
+
+-- a step that goes on leaves fewer calls, and what it reached
+pub steps-on : EntriesRead → {old new : Phase} {before after : StoreView} {result : Result (Unit {0}) Refusal}
+    → Stepped next_call Goes Refuses Stops old new before after result → IsCommitter old → 0 < calls_left old
+    → OnOk result ((calls_left new < calls_left old) × Reaches (reached_at new) new)
+steps-on law {old = old} {new = new} (Rested none same still) is left =
+    absurd (let called = has-call old is left in let clash = rw none at called in cc)
+steps-on law {old = old} {new = new} {before = before} {after = after} (Went call answer at came on) is left = goes-ahead law old answer new call before after at came on is
+steps-on law (Refused call answer refusal at came on) is left = tt
+steps-on law (Stopped call at meanwhile stop) is left = tt
+steps-on law (Failed call at came stop) is left = tt
+
+-- a step with a refusal ends it
+pub over-on : {old new : Phase} {before after : StoreView} {result : Result (Unit {0}) Refusal}
+    → Stepped next_call Goes Refuses Stops old new before after result → OnErr result (new ≡ phases.Over)
+over-on (Rested none same still) = tt
+over-on (Went call answer at came on) = tt
+over-on (Refused call answer refusal at came on) = on.1
+over-on (Stopped call at meanwhile stop) = stop
+over-on (Failed call at came stop) = stop

@@ -1,0 +1,602 @@
+-- What the calls of a committer show.
+use Rattle.std.proofs.Common.{◌≡◌, inl, inr, ℕ, ◌+◌, Bool, true, false, if◌then◌else◌, List, [], ◌∷◌, ◌++◌, length, length-append, Option, None, Some, IsSome, IfSome, Ok, Err, refl, sym, ap, ◌∙◌, subst, append_assoc, arith}
+use Rattle.std.proofs.lemmas.List.{append-nil}
+use Rattle.std.proofs.lemmas.Option.{IfSome_then}
+use Rattle.pm_values.specs.declared.refusal.Refusal.{Refusal}
+use Rattle.pm_values.specs.declared.refusal.Refusal.TheVariants as refusals
+use Rattle.pm_store.specs.Answers.{MayAnswer}
+use Rattle.pm_store.specs.declared.answer.Answer.{Answer}
+use Rattle.pm_store.specs.declared.answer.Answer.TheVariants as answers
+use Rattle.pm_store.specs.declared.answer.Made.TheVariants as created
+use Rattle.pm_store.specs.declared.answer.Published.{Published}
+use Rattle.pm_store.specs.declared.answer.Published.TheVariants as published
+use Rattle.pm_store.specs.declared.call.Call.{Call}
+use Rattle.pm_store.specs.declared.call.Call.TheVariants as calls
+use Rattle.pm_machine.specs.Step.{path_of}
+use Rattle.pm_machine.specs.Trace.{Event, Recounts, answered, faulted}
+use Rattle.pm_schema.specs.declared.schema.TableSchema.{TableSchema}
+use Rattle.pm_snapshot.specs.Snapshot.{snapshot_in}
+use Rattle.pm_snapshot.specs.declared.snapshot.Snapshot.{Snapshot}
+use Rattle.pm_contents.specs.Lists.{manifest_path}
+use Rattle.pm_folder.specs.Paths.{snapshot_folder, snapshot_path}
+use Rattle.pm_table_view.specs.Reader as reader
+use Rattle.pm_table_view.specs.Reader.{origin_path}
+use Rattle.pm_table_view.specs.Trace as reader_trace
+use Rattle.pm_table_view.specs.Trace.{of_origin, of_snapshot, read_file}
+use Rattle.pm_table_view.specs.declared.phase.Phase as view_phase
+use Rattle.pm_table_view.specs.declared.phase.Phase.TheVariants as readers
+use Rattle.pm_table_view.specs.declared.view.View.{View}
+use Rattle.pm_table_view.proofs.Facts as reader_facts
+use Rattle.pm_table_view.proofs.Facts.{Joined}
+use Rattle.pm_write.specs.Batch.{Groups}
+use Rattle.pm_append.specs.Files.{IsAppendOf}
+use Rattle.pm_append.specs.Refusals.{above_files, above_id, above_numbers, is_fenced, no_files, no_id, passed, refusal_of}
+use Rattle.pm_write.specs.Files.{no_sequence}
+use Rattle.pm_append.specs.declared.newest.Append.{Append}
+use Rattle.pm_append.specs.declared.newest.Author.{Author}
+use Rattle.pm_append.specs.declared.newest.CommitFile.{CommitFile}
+use Rattle.pm_append.specs.declared.newest.Newest.{Newest}
+use Rattle.pm_commit.specs.Committer.{After, AfterReader, Goes, Hears, Loses, Makes, Outcome, Refuses, Seeks, Stops, Tries, TriesIf, create_next, first_of_try, found_in, manifests_call, newest_in, newest_of, next_call, publish_call, publishing_of}
+use Rattle.pm_commit.specs.Marks.{FindsUsed}
+use Rattle.pm_commit.specs.Own.{OwnView, begun, with_lost}
+use Rattle.pm_commit.specs.Search.{SearchingView, older_ids, seen_in, seen_of}
+use Rattle.pm_commit.specs.Trace.{AfterLost, Did, DidInTry, DidSoFar, FindsReason, HasSearch, HasTry, HaveCreated, HaveLost, HavePassed, IsLost, IsNoCommit, MayCommit, Meets, Searched, Shows, ShowsOwn, Views, after_answer, at_newest, at_older, before_call, creates, has_listed, has_lost, is_absent, is_below, is_none, listed_manifests, lost_by, named_by, not_asked, publishes}
+use Rattle.pm_commit.specs.declared.search.Seen.{Seen}
+use Rattle.pm_commit.specs.declared.search.Seen.TheVariants as seen
+use Rattle.pm_commit.specs.declared.found.Found.{Found}
+use Rattle.pm_commit.specs.declared.making.Publishing.{Publishing}
+use Rattle.pm_commit.specs.declared.phase.Phase.{Phase}
+use Rattle.pm_commit.specs.declared.phase.Phase.TheVariants as phases
+use Rattle.pm_commit.proofs.CommitterLemmas.{err-ok, err-same, ok-err, ok-same}
+
+-- ---- one event more
+
+passed-push : (a : Author) (ids : List ℕ) (id : ℕ) (bytes : List ℕ) (x : Snapshot) (own : List Event) → HavePassed a ids own → snapshot_in id bytes ≡ Ok x
+    → seen_of a x ≡ seen.Other → HavePassed a (ids ++ id ∷ []) (own ++ read_file (snapshot_path id) (Some bytes) ∷ [])
+passed-push a [] id bytes x own quiet reads other =
+    let event : Event = read_file (snapshot_path id) (Some bytes) in
+    (bytes, x, [], reads, other, ap (λ (own : List Event). own ++ event ∷ []) quiet, refl)
+passed-push a (first ∷ ids) id bytes x own (some, y, later, has, others, is, rest) reads other =
+    let event : Event = read_file (snapshot_path id) (Some bytes) in
+    (some, y, later ++ event ∷ [], has, others, ap (λ (own : List Event). own ++ event ∷ []) is, passed-push a ids id bytes x later rest reads other)
+
+created-push : (files : List CommitFile) (file : CommitFile) (own : List Event) → HaveCreated files own
+    → HaveCreated (files ++ file ∷ []) (own ++ creates file created.Created ∷ [])
+created-push [] file own quiet = ([], ap (λ (own : List Event). own ++ creates file created.Created ∷ []) quiet, refl)
+created-push (first ∷ files) file own (later, is, rest) = (
+  later ++ creates file created.Created ∷ [],
+  ap (λ (own : List Event). own ++ creates file created.Created ∷ []) is,
+  created-push files file later rest,
+)
+
+searched-more : (o : OwnView) (v : View) (id : ℕ) (left bytes : List ℕ) (x : Snapshot) (own : List Event) → Searched o v (id ∷ left) own → snapshot_in id bytes ≡ Ok x
+    → seen_of o.author x ≡ seen.Other → Searched o v left (own ++ read_file (snapshot_path id) (Some bytes) ∷ [])
+searched-more o v id left bytes x own searched reads other = record {
+  asked = searched.asked;
+  newest = searched.newest;
+  passed = searched.passed ++ id ∷ [];
+  parts = searched.parts ∙ sym (append_assoc searched.passed (id ∷ []) left);
+  read = passed-push o.author searched.passed id bytes x own searched.read reads other;
+}
+
+-- ---- a next call
+
+if-is : (next : Option Call) (P : Call → Type 0) → ((call : Call) → next ≡ Some call → P call) → IfSome next P
+if-is None P each = tt
+if-is (Some call) P each = each call refl
+
+call-same : (one other : Call) → Some one ≡ Some other → one ≡ other
+call-same one other e = cc
+
+pub some-at : (next : Option Call) (call : Call) (P : Call → Type 0) → next ≡ Some call → IfSome next P → P call
+some-at next call P is all = subst (λ (o : Option Call). IfSome o P) is all
+
+-- a reader's answer publishes nothing
+listed-no : (folder : List ℕ) (answer : Answer) → MayAnswer (calls.List folder) answer → IsNoCommit answer
+listed-no folder (answers.Listed names) may = tt
+listed-no folder answer may = absurd may
+
+read-no : (path : List ℕ) (answer : Answer) → MayAnswer (calls.Read path) answer → IsNoCommit answer
+read-no path (answers.Found found) may = tt
+read-no path answer may = absurd may
+
+reader-no : (m : view_phase.Phase) (answer : Answer) → IfSome (reader.next_call m) (λ call. MayAnswer call answer → IsNoCommit answer)
+reader-no (readers.List a) answer = listed-no snapshot_folder answer
+reader-no (readers.Origin q) answer = read-no (origin_path q.asked.schema) answer
+reader-no (readers.Snapshot q id) answer = read-no (snapshot_path id) answer
+reader-no (readers.Base q x) answer = read-no (manifest_path x.base_list) answer
+reader-no (readers.Delta q x base) answer = read-no (manifest_path x.delta_list) answer
+reader-no (readers.Manifests r) answer = read-no (manifest_path r.next.name) answer
+reader-no (readers.Again a id path) answer = read-no (snapshot_path id) answer
+reader-no (readers.Ready v) answer = tt
+reader-no readers.Over answer = tt
+
+-- ---- reasons against a commit
+
+abbrev pub IsReason : Refusal → Type 0
+IsReason (refusals.Fenced base fence) = Unit {0}
+IsReason (refusals.Limit which number) = Unit {0}
+IsReason other = ⊥
+
+some-reason : (one other : Refusal) → IsReason one → Some one ≡ Some other → IsReason other
+some-reason one other is e = let same : one ≡ other = cc in subst IsReason same is
+
+none-reason : (P : Type 0) (refusal : Refusal) → None ≡ Some refusal → P
+none-reason P refusal e = absurd (let clash = e in cc)
+
+reason-by : (a b c d : Bool) (q r t u refusal : Refusal) → IsReason q → IsReason r → IsReason t → IsReason u
+    → (if a then Some q else if b then Some r else if c then Some t else if d then Some u else None) ≡ Some refusal → IsReason refusal
+reason-by true b c d q r t u refusal one two three four e = some-reason q refusal one e
+reason-by false true c d q r t u refusal one two three four e = some-reason r refusal two e
+reason-by false false true d q r t u refusal one two three four e = some-reason t refusal three e
+reason-by false false false true q r t u refusal one two three four e = some-reason u refusal four e
+reason-by false false false false q r t u refusal one two three four e = none-reason (IsReason refusal) refusal e
+
+pub is-reason : (newest : Newest) (author : Author) (batch : Groups) (refusal : Refusal) → refusal_of newest author batch ≡ Some refusal → IsReason refusal
+is-reason newest author batch refusal is =
+    reason-by (is_fenced newest author) (above_files (length newest.live.items + length batch)) (above_numbers newest.live.items batch) (above_id newest.id)
+    (passed newest author) no_files no_sequence no_id refusal tt tt tt tt is
+
+module _ (s : TableSchema) where
+  -- a search goes on with an event
+  search-push : (p : OwnView) (v : View) (P Q : OwnView → View → List Event → Type 0) (own : List Event) (event : Event)
+      → ((searches : List Event) → P (begun v.id p) v searches → Q (begun v.id p) v (searches ++ event ∷ [])) → HasSearch s p v P own
+      → HasSearch s p v Q (own ++ event ∷ [])
+  search-push p v P Q own event more (views, searches, viewed, ended, is) = (
+    views,
+    searches ++ event ∷ [],
+    viewed,
+    more searches ended,
+    ap (λ (own : List Event). own ++ event ∷ []) is ∙ append_assoc views searches (event ∷ []),
+  )
+
+  search-as : (p : OwnView) (v : View) (P Q : OwnView → View → List Event → Type 0) (own : List Event)
+      → ((searches : List Event) → P (begun v.id p) v searches → Q (begun v.id p) v searches) → HasSearch s p v P own → HasSearch s p v Q own
+  search-as p v P Q own as_other (views, searches, viewed, ended, is) = (views, searches, viewed, as_other searches ended, is)
+
+  -- no search came yet
+  search-none : (p : OwnView) (v : View) (P : OwnView → View → List Event → Type 0) (own : List Event) → Views s v own → P (begun v.id p) v [] → HasSearch s p v P own
+  search-none p v P own viewed none = (own, [], viewed, none, sym (append-nil own))
+
+  search-views : (p : OwnView) (v : View) (P : OwnView → View → List Event → Type 0) (own : List Event) → HasSearch s p v P own → v.schema ≡ s
+  search-views p v P own (views, searches, viewed, ended, is) = view-schema views viewed.0
+    where
+      view-schema : (views : List Event) → reader_trace.HasView (newest_of s) v views → v.schema ≡ s
+      view-schema views (of_origin bytes is read) = is.schema
+      view-schema views (of_snapshot x metas entries live read leaves is) = is.schema
+
+  -- ---- a try
+
+  did-create : (p : OwnView) (v : View) (made : Append) (files : List CommitFile) (own : List Event) → v.schema ≡ s → HasTry s p v made files own
+      → DidInTry s (create_next (named_by p v made) (publishing_of v.schema made) files) p own
+  did-create p v made [] own same has = (v, made, refl, ap (λ (t : TableSchema). publishing_of t made) same, has)
+  did-create p v made (file ∷ files) own same has = (v, made, refl, ap (λ (t : TableSchema). publishing_of t made) same, has)
+
+  did-make : (p : OwnView) (v : View) (new : Phase) (own : List Event) → HasSearch s p v MayCommit own → Makes (begun v.id p) (found_in v) (Ok new)
+      → DidInTry s new p own
+  did-make p v new own searched (made, is_made, allowed, is) =
+      let same = search-views p v MayCommit own searched in
+      let own_of = begun v.id p in
+      subst (λ (m : Phase). DidInTry s m p own) (sym is)
+      (did-create p v made made.files.items own same (record {
+        searches = own;
+        creates = [];
+        searched = searched;
+        is_made = subst (λ (t : TableSchema). IsAppendOf t (newest_in v) own_of.author own_of.batch own_of.names made) same is_made;
+        allowed = allowed;
+        done = [];
+        files = refl;
+        created = refl;
+        is = sym (append-nil own);
+      }))
+
+  did-seek : (p : OwnView) (v : View) (left : List ℕ) (new : Phase) (own : List Event) → HasSearch s p v (λ o v. Searched o v left) own
+      → Seeks (begun v.id p) (found_in v) left (Ok new) → DidInTry s new p own
+  did-seek p v [] new own searched on =
+      did-make p v new own (search-as p v (λ o v. Searched o v []) MayCommit own (λ searches none. is_none none) searched) on
+  did-seek p v (id ∷ left) new own searched (few, is) = subst (λ (m : Phase). DidInTry s m p own) (sym (ok-same new _ is)) (v, refl, refl, searched)
+
+  did-hear : (p : OwnView) (v : View) (left : List ℕ) (said : Seen) (new : Phase) (own : List Event)
+      → (said ≡ seen.Other → HasSearch s p v (λ o v. Searched o v left) own) → HasSearch s p v (λ o v. Meets o v said) own
+      → Hears (begun v.id p) (found_in v) left said (Ok new) → DidInTry s new p own
+  did-hear p v left seen.Other new own searched meets on = did-seek p v left new own (searched refl) on
+  did-hear p v left seen.Below new own searched meets on =
+      did-make p v new own (search-as p v (λ o v. Meets o v seen.Below) MayCommit own (λ searches met. is_below met) meets) on
+  did-hear p v left seen.Reached new own searched meets is = subst (λ (m : Phase). DidInTry s m p own) (sym (ok-same new _ is)) (v, refl, meets)
+
+  -- the newest snapshot was heard
+  newest-searched : (p : OwnView) (v : View) (own : List Event) → Views s v own → (begun v.id p).check ≡ true → seen_in (begun v.id p).author v.snapshot ≡ seen.Other
+      → HasSearch s p v (λ o v. Searched o v (older_ids v.listed.items)) own
+  newest-searched p v own viewed asked other = search-none p v (λ o v. Searched o v (older_ids v.listed.items)) own viewed
+      (record { asked = asked; newest = other; passed = []; parts = refl; read = refl })
+
+  newest-meets : (p : OwnView) (v : View) (own : List Event) → Views s v own → (begun v.id p).check ≡ true
+      → HasSearch s p v (λ o v. Meets o v (seen_in (begun v.id p).author v.snapshot)) own
+  newest-meets p v own viewed asked = search-none p v (λ o v. Meets o v (seen_in (begun v.id p).author v.snapshot)) own viewed (at_newest asked refl refl)
+
+  did-ready : (p : OwnView) (v : View) (new : Phase) (own : List Event) → Views s v own → Tries (begun v.id p) v (Ok new) → DidInTry s new p own
+  did-ready p v new own viewed = by_test (begun v.id p).check refl
+    where
+      by_test : (b : Bool) → (begun v.id p).check ≡ b
+          → TriesIf b (begun v.id p) v (Ok new)
+          → DidInTry s new p own
+      by_test true asked on =
+          did-hear p v (older_ids v.listed.items) (seen_in (begun v.id p).author v.snapshot) new own (newest-searched p v own viewed asked) (newest-meets p v own viewed asked) on
+      by_test false unasked on = did-make p v new own (search-none p v MayCommit own viewed (not_asked unasked refl)) on
+
+  as-did : (p o : OwnView) (m : view_phase.Phase) (new : Phase) (own : List Event) → o ≡ p → reader_trace.Did (newest_of s) m own
+      → ◌≡◌ {A = Outcome} (Ok new) (Ok (phases.View o m)) → DidInTry s new p own
+  as-did p o m new own same did is = subst (λ (m : Phase). DidInTry s m p own) (sym (ok-same new (phases.View o m) is)) (same, did)
+
+  did-after : (p o : OwnView) (m : view_phase.Phase) (new : Phase) (own : List Event) → o ≡ p → AfterReader o m (Ok new) → reader_trace.Did (newest_of s) m own
+      → DidInTry s new p own
+  did-after p o (readers.List a) new own same is did = as-did p o (readers.List a) new own same did is
+  did-after p o (readers.Origin q) new own same is did = as-did p o (readers.Origin q) new own same did is
+  did-after p o (readers.Snapshot q id) new own same is did = as-did p o (readers.Snapshot q id) new own same did is
+  did-after p o (readers.Base q x) new own same is did = as-did p o (readers.Base q x) new own same did is
+  did-after p o (readers.Delta q x base) new own same is did = as-did p o (readers.Delta q x base) new own same did is
+  did-after p o (readers.Manifests r) new own same is did = as-did p o (readers.Manifests r) new own same did is
+  did-after p o (readers.Again a id path) new own same is did = as-did p o (readers.Again a id path) new own same did is
+  did-after p o (readers.Ready v) new own same on did = did-ready p v new own did (subst (λ (o : OwnView). Tries (begun v.id o) v (Ok new)) same on)
+  did-after p o readers.Over new own same is did = as-did p o readers.Over new own same did is
+
+  -- an older snapshot was read
+  older-searched : (p : OwnView) (v : View) (id : ℕ) (left bytes : List ℕ) (x : Snapshot) (own : List Event)
+      → HasSearch s p v (λ o v. Searched o v (id ∷ left)) own → snapshot_in id bytes ≡ Ok x → seen_of (begun v.id p).author x ≡ seen.Other
+      → HasSearch s p v (λ o v. Searched o v left) (own ++ read_file (snapshot_path id) (Some bytes) ∷ [])
+  older-searched p v id left bytes x own searched reads other =
+      search-push p v (λ o v. Searched o v (id ∷ left)) (λ o v. Searched o v left) own (read_file (snapshot_path id) (Some bytes))
+      (λ searches so_far. searched-more (begun v.id p) v id left bytes x searches so_far reads other) searched
+
+  older-meets : (p : OwnView) (v : View) (id : ℕ) (left bytes : List ℕ) (x : Snapshot) (own : List Event)
+      → HasSearch s p v (λ o v. Searched o v (id ∷ left)) own → snapshot_in id bytes ≡ Ok x
+      → HasSearch s p v (λ o v. Meets o v (seen_of (begun v.id p).author x)) (own ++ read_file (snapshot_path id) (Some bytes) ∷ [])
+  older-meets p v id left bytes x own searched reads =
+      search-push p v (λ o v. Searched o v (id ∷ left)) (λ o v. Meets o v (seen_of (begun v.id p).author x)) own (read_file (snapshot_path id) (Some bytes))
+      (λ searches so_far. at_older id left bytes x searches so_far reads refl refl) searched
+
+  older-absent : (p : OwnView) (v : View) (id : ℕ) (left : List ℕ) (own : List Event) → HasSearch s p v (λ o v. Searched o v (id ∷ left)) own
+      → HasSearch s p v MayCommit (own ++ read_file (snapshot_path id) None ∷ [])
+  older-absent p v id left own searched =
+      search-push p v (λ o v. Searched o v (id ∷ left)) MayCommit own (read_file (snapshot_path id) None)
+      (λ searches so_far. is_absent id left searches so_far refl) searched
+
+  try-more : (p : OwnView) (v : View) (made : Append) (file : CommitFile) (left : List CommitFile) (own : List Event) → HasTry s p v made (file ∷ left) own
+      → HasTry s p v made left (own ++ creates file created.Created ∷ [])
+  try-more p v made file left own has = record {
+    searches = has.searches;
+    creates = has.creates ++ creates file created.Created ∷ [];
+    searched = has.searched;
+    is_made = has.is_made;
+    allowed = has.allowed;
+    done = has.done ++ file ∷ [];
+    files = has.files ∙ sym (append_assoc has.done (file ∷ []) left);
+    created = created-push has.done file has.creates has.created;
+    is = ap (λ (own : List Event). own ++ creates file created.Created ∷ []) has.is ∙ append_assoc has.searches has.creates (creates file created.Created ∷ []);
+  }
+
+  did-next : (p : OwnView) (v : View) (made : Append) (o : OwnView) (x : Publishing) (files : List CommitFile) (own : List Event) → o ≡ named_by p v made
+      → x ≡ publishing_of s made → HasTry s p v made files own → DidInTry s (create_next o x files) p own
+  did-next p v made o x [] own same is has = (v, made, same, is, has)
+  did-next p v made o x (file ∷ files) own same is has = (v, made, same, is, has)
+
+  -- a snapshot's search, of what the phase holds
+  search-went : (p o : OwnView) (q : SearchingView) (v : View) (bytes : List ℕ) (x : Snapshot) (new : Phase) (own : List Event) → o ≡ begun v.id p → q.found ≡ found_in v
+      → HasSearch s p v (λ o v. Searched o v (q.id ∷ q.left)) own → snapshot_in q.id bytes ≡ Ok x → Hears o q.found q.left (seen_of o.author x) (Ok new)
+      → DidInTry s new p (own ++ read_file (snapshot_path q.id) (Some bytes) ∷ [])
+  search-went p o q v bytes x new own same is_found searched reads on =
+      let event : Event = read_file (snapshot_path q.id) (Some bytes) in
+      let on_own : Hears (begun v.id p) q.found q.left (seen_of (begun v.id p).author x) (Ok new) =
+      subst (λ (o : OwnView). Hears o q.found q.left (seen_of o.author x) (Ok new)) same on in
+      did-hear p v q.left (seen_of (begun v.id p).author x) new (own ++ event ∷ [])
+      (λ other. older-searched p v q.id q.left bytes x own searched reads other)
+      (older-meets p v q.id q.left bytes x own searched reads)
+      (subst (λ (found : Found). Hears (begun v.id p) found q.left (seen_of (begun v.id p).author x) (Ok new)) is_found on_own)
+
+  search-ended : (p o : OwnView) (q : SearchingView) (v : View) (new : Phase) (own : List Event) → o ≡ begun v.id p → q.found ≡ found_in v
+      → HasSearch s p v (λ o v. Searched o v (q.id ∷ q.left)) own → Makes o q.found (Ok new) → DidInTry s new p (own ++ read_file (snapshot_path q.id) None ∷ [])
+  search-ended p o q v new own same is_found searched on =
+      did-make p v new (own ++ read_file (snapshot_path q.id) None ∷ []) (older-absent p v q.id q.left own searched)
+      (subst (λ (found : Found). Makes (begun v.id p) found (Ok new)) is_found (subst (λ (o : OwnView). Makes o q.found (Ok new)) same on))
+
+  -- ---- all tries
+
+  module _ (first : OwnView) where
+    -- the try goes on with an event
+    after-push : (P Q : OwnView → List Event → Type 0) (own : List Event) (event : Event) → ((p : OwnView) (later : List Event) → P p later → Q p (later ++ event ∷ []))
+        → AfterLost s first P own → AfterLost s first Q (own ++ event ∷ [])
+    after-push P Q own event more (p, earlier, later, lost, tried, is) = (
+      p,
+      earlier,
+      later ++ event ∷ [],
+      lost,
+      more p later tried,
+      ap (λ (own : List Event). own ++ event ∷ []) is ∙ append_assoc earlier later (event ∷ []),
+    )
+
+    -- so far, in a phase of a try
+    in-try : (m : Phase) (own : List Event) → AfterLost s first (DidInTry s m) own → Did s first m own
+    in-try (phases.Names o t) own (p, earlier, later, lost, tried, is) = absurd tried
+    in-try (phases.View o m) own after = after
+    in-try (phases.Search o q) own after = after
+    in-try (phases.Create o making) own after = after
+    in-try (phases.Publish o x) own after = after
+    in-try (phases.Committed author id) own after = after
+    in-try (phases.Already author) own after = after
+    in-try phases.Over own (p, earlier, later, lost, tried, is) = absurd tried
+
+    -- the next try begins
+    begin-try : (p : OwnView) (own : List Event) → HaveLost s first p own → Did s first (first_of_try p s) own
+    begin-try p own lost = (p, own, [], lost, (refl, (refl, refl, tt)), sym (append-nil own))
+
+    -- a publish was lost
+    lose : (p : OwnView) (v : View) (made : Append) (x : Publishing) (answer : Published) (earlier later own : List Event) → HaveLost s first p earlier
+        → HasTry s p v made [] later → x ≡ publishing_of s made → IsLost answer → own ≡ earlier ++ later
+        → HaveLost s first (lost_by p v made) (own ++ publishes x answer ∷ [])
+    lose p v made x answer earlier later own lost tried same is_lost is =
+        let event : Event = publishes (publishing_of s made) answer in
+        let calls_are : own ++ publishes x answer ∷ [] ≡ earlier ++ (later ++ event ∷ []) =
+        ap (λ (x : Publishing). own ++ publishes x answer ∷ []) same ∙ ap (λ (own : List Event). own ++ event ∷ []) is ∙ append_assoc earlier later (event ∷ []) in
+        subst (HaveLost s first (lost_by p v made)) (sym calls_are) (has_lost p v made answer earlier later lost tried is_lost)
+
+    lost-same : (p : OwnView) (v : View) (made : Append) (o : OwnView) (x : Publishing) → o ≡ named_by p v made → x ≡ publishing_of s made
+        → with_lost x.id o ≡ lost_by p v made
+    lost-same p v made o x same is = ap (λ (o : OwnView). with_lost x.id o) same ∙ ap (λ (x : Publishing). with_lost x.id (named_by p v made)) is
+
+    lost-on : (o : OwnView) (x : Publishing) (answer : Published) (new : Phase) (own : List Event) → IsLost answer
+        → AfterLost s first (DidInTry s (phases.Publish o x)) own → new ≡ first_of_try (with_lost x.id o) x.schema
+        → Did s first new (own ++ publishes x answer ∷ [])
+    lost-on o x answer new own is_lost (p, earlier, later, lost, (v, made, same, is_x, tried), is) on =
+        let next : OwnView = lost_by p v made in
+        let is_next : new ≡ first_of_try next s =
+        on ∙ ap (λ (t : TableSchema). first_of_try (with_lost x.id o) t) (ap (λ (x : Publishing). x.schema) is_x)
+        ∙ ap (λ (o : OwnView). first_of_try o s) (lost-same p v made o x same is_x) in
+        subst (λ (m : Phase). Did s first m (own ++ publishes x answer ∷ [])) (sym is_next)
+        (begin-try next (own ++ publishes x answer ∷ []) (lose p v made x answer earlier later own lost tried is_x is_lost is))
+
+    went-on : Joined → (m : Phase) (answer : Answer) (new : Phase) (own : List Event) → After m answer (Ok new) → Did s first m own
+        → IfSome (next_call m) (λ call. MayAnswer call answer → Did s first new (own ++ answered call answer ∷ []))
+    went-on law (phases.Names o t) (answers.Listed names) new own (none, is) (same, is_t, quiet) = λ may.
+        let event : Event = listed_manifests names in
+        let calls_are : own ++ event ∷ [] ≡ event ∷ [] = ap (λ (own : List Event). own ++ event ∷ []) quiet in
+        let lost : HaveLost s first first (own ++ event ∷ []) =
+        subst (HaveLost s first first) (sym calls_are) (has_listed names (subst (λ (o : OwnView). FindsUsed o.names names.items None) same none)) in
+        let is_first : new ≡ first_of_try first s = is ∙ ap (λ (o : OwnView). first_of_try o t) same ∙ ap (first_of_try first) is_t in
+        subst (λ (m : Phase). Did s first m (own ++ event ∷ [])) (sym is_first) (begin-try first (own ++ event ∷ []) lost)
+    went-on law (phases.View o m) answer new own (to, goes, after) (p, earlier, later, lost, (same, did), is) =
+        IfSome_then (reader.next_call m) ((reader_facts.recounts law (newest_of s)).went m to answer later goes did)
+        (λ call did may. in-try new (own ++ answered call answer ∷ []) (
+          p,
+          earlier,
+          later ++ answered call answer ∷ [],
+          lost,
+          did-after p o to new (later ++ answered call answer ∷ []) same after (did may),
+          ap (λ (own : List Event). own ++ answered call answer ∷ []) is ∙ append_assoc earlier later (answered call answer ∷ []),
+        ))
+    went-on law (phases.Search o q) (answers.Found None) new own on did = λ may.
+        in-try new _ (after-push (DidInTry s (phases.Search o q)) (DidInTry s new) own (read_file (snapshot_path q.id) None)
+        (λ p later did_now. let (v, same, is_found, searched) = did_now in search-ended p o q v new later same is_found searched on) did)
+    went-on law (phases.Search o q) (answers.Found (Some bytes)) new own (x, reads, on) did = λ may.
+        in-try new _ (after-push (DidInTry s (phases.Search o q)) (DidInTry s new) own (read_file (snapshot_path q.id) (Some bytes))
+        (λ p later did_now. let (v, same, is_found, searched) = did_now in search-went p o q v bytes x new later same is_found searched reads on) did)
+    went-on law (phases.Create o making) (answers.Made created.Created) new own is did = λ may.
+        in-try new _ (after-push (DidInTry s (phases.Create o making)) (DidInTry s new) own (creates making.next created.Created)
+        (λ p later did_now. let (v, made, same, is_x, tried) = did_now in
+        subst (λ (m : Phase). DidInTry s m p (later ++ creates making.next created.Created ∷ [])) (sym (ok-same new _ is))
+        (did-next p v made o making.publishing making.rest (later ++ creates making.next created.Created ∷ []) same is_x
+        (try-more p v made making.next making.rest later tried))) did)
+    went-on law (phases.Create o making) (answers.Made created.Exists) new own is did = absurd (ok-err new _ is)
+    went-on law (phases.Publish o x) (answers.Published published.Created) new own is did = λ may.
+        in-try new _ (after-push (DidInTry s (phases.Publish o x)) (DidInTry s new) own (publishes x published.Created)
+        (λ p later did_now. let (v, made, same, is_x, tried) = did_now in
+        subst (λ (m : Phase). DidInTry s m p (later ++ publishes x published.Created ∷ [])) (sym (ok-same new _ is)) (
+          v,
+          made,
+          later,
+          tried,
+          ap (λ (o : OwnView). o.author) same,
+          ap (λ (x : Publishing). x.id) is_x,
+          ap (λ (x : Publishing). later ++ publishes x published.Created ∷ []) is_x,
+        )) did)
+    went-on law (phases.Publish o x) (answers.Published published.Exists) new own (left, is) did = λ may. lost-on o x published.Exists new own tt did is
+    went-on law (phases.Publish o x) (answers.Published published.AfterGone) new own (left, is) did = λ may. lost-on o x published.AfterGone new own tt did is
+    went-on law m answer new own after did = absurd after
+
+    -- ---- refusals
+
+    as-shown : (refusal defined : Refusal) (own : List Event) → refusal ≡ defined → ShowsOwn s first defined own → Shows s first refusal own
+    as-shown refusal defined own is shows = inr (subst (λ (e : Refusal). ShowsOwn s first e own) (sym is) shows)
+
+    -- memory ran out after an answer
+    forgot : (m : Phase) (call : Call) (answer : Answer) (refusal : Refusal) (own : List Event) → DidSoFar s first m own → next_call m ≡ Some call → MayAnswer call answer
+        → IsNoCommit answer → refusal ≡ refusals.Memory → Shows s first refusal (own ++ answered call answer ∷ [])
+    forgot m call answer refusal own did is may none memory =
+        as-shown refusal refusals.Memory _ memory (after_answer m call answer own did is may none refl)
+
+    -- there is a reason against the commit
+    found-reason : (refusal : Refusal) (own : List Event) → IsReason refusal → AfterLost s first (FindsReason s refusal) own → Shows s first refusal own
+    found-reason (refusals.Fenced base fence) own is found = inr found
+    found-reason (refusals.Limit which number) own is found = inr found
+    found-reason other own is found = absurd is
+
+    -- no files are made after an event: memory ran out, or there is a reason
+    refused-make : (m : Phase) (call : Call) (answer : Answer) (p : OwnView) (v : View) (refusal : Refusal) (earlier later own : List Event) → DidSoFar s first m own
+        → next_call m ≡ Some call → MayAnswer call answer → IsNoCommit answer → HaveLost s first p earlier → own ≡ earlier ++ later
+        → HasSearch s p v MayCommit (later ++ answered call answer ∷ []) → Makes (begun v.id p) (found_in v) (Err refusal)
+        → Shows s first refusal (own ++ answered call answer ∷ [])
+    refused-make m call answer p v refusal earlier later own did at may none lost is searched (inl memory) = forgot m call answer refusal own did at may none memory
+    refused-make m call answer p v refusal earlier later own did at may none lost is searched (inr reason) =
+        found-reason refusal _ (is-reason (newest_in v) (begun v.id p).author (begun v.id p).batch refusal reason) (
+          p,
+          earlier,
+          later ++ answered call answer ∷ [],
+          lost,
+          (v, reason, searched),
+          ap (λ (own : List Event). own ++ answered call answer ∷ []) is ∙ append_assoc earlier later (answered call answer ∷ []),
+        )
+
+    refused-hear : (m : Phase) (call : Call) (answer : Answer) (p : OwnView) (v : View) (left : List ℕ) (said : Seen) (refusal : Refusal) (earlier later own : List Event)
+        → DidSoFar s first m own → next_call m ≡ Some call → MayAnswer call answer → IsNoCommit answer → HaveLost s first p earlier → own ≡ earlier ++ later
+        → (said ≡ seen.Other → HasSearch s p v (λ o v. Searched o v left) (later ++ answered call answer ∷ []))
+        → HasSearch s p v (λ o v. Meets o v said) (later ++ answered call answer ∷ [])
+        → Hears (begun v.id p) (found_in v) left said (Err refusal) → Shows s first refusal (own ++ answered call answer ∷ [])
+    refused-hear m call answer p v [] seen.Other refusal earlier later own did at may none lost is searched meets on =
+        refused-make m call answer p v refusal earlier later own did at may none lost is
+        (search-as p v (λ o v. Searched o v []) MayCommit _ (λ searches none_left. is_none none_left) (searched refl)) on
+    refused-hear m call answer p v (id ∷ left) seen.Other refusal earlier later own did at may none lost is searched meets (few, on) = absurd (err-ok refusal _ on)
+    refused-hear m call answer p v left seen.Below refusal earlier later own did at may none lost is searched meets on =
+        refused-make m call answer p v refusal earlier later own did at may none lost is
+        (search-as p v (λ o v. Meets o v seen.Below) MayCommit _ (λ searches met. is_below met) meets) on
+    refused-hear m call answer p v left seen.Reached refusal earlier later own did at may none lost is searched meets on = absurd (err-ok refusal _ on)
+
+    -- the view is ready, and no files are made for it
+    refused-ready : (m : Phase) (call : Call) (answer : Answer) (p : OwnView) (v : View) (refusal : Refusal) (earlier later own : List Event) → DidSoFar s first m own
+        → next_call m ≡ Some call → MayAnswer call answer → IsNoCommit answer → HaveLost s first p earlier → own ≡ earlier ++ later
+        → Views s v (later ++ answered call answer ∷ []) → Tries (begun v.id p) v (Err refusal) → Shows s first refusal (own ++ answered call answer ∷ [])
+    refused-ready m call answer p v refusal earlier later own did at may none lost is viewed = by_test (begun v.id p).check refl
+      where
+        by_test : (b : Bool) → (begun v.id p).check ≡ b → TriesIf b (begun v.id p) v (Err refusal) → Shows s first refusal (own ++ answered call answer ∷ [])
+        by_test true asked on =
+            refused-hear m call answer p v (older_ids v.listed.items) (seen_in (begun v.id p).author v.snapshot) refusal earlier later own did at may none lost is
+            (newest-searched p v _ viewed asked) (newest-meets p v _ viewed asked) on
+        by_test false unasked on =
+            refused-make m call answer p v refusal earlier later own did at may none lost is (search-none p v MayCommit _ viewed (not_asked unasked refl)) on
+
+    refused-reader : (m : Phase) (call : Call) (answer : Answer) (p o : OwnView) (to : view_phase.Phase) (refusal : Refusal) (earlier later own : List Event)
+        → DidSoFar s first m own → next_call m ≡ Some call → MayAnswer call answer → IsNoCommit answer → HaveLost s first p earlier → own ≡ earlier ++ later → o ≡ p
+        → reader_trace.Did (newest_of s) to (later ++ answered call answer ∷ []) → AfterReader o to (Err refusal) → Shows s first refusal (own ++ answered call answer ∷ [])
+    refused-reader m call answer p o (readers.List a) refusal earlier later own did at may none lost is same did_to on = absurd (err-ok refusal _ on)
+    refused-reader m call answer p o (readers.Origin q) refusal earlier later own did at may none lost is same did_to on = absurd (err-ok refusal _ on)
+    refused-reader m call answer p o (readers.Snapshot q id) refusal earlier later own did at may none lost is same did_to on = absurd (err-ok refusal _ on)
+    refused-reader m call answer p o (readers.Base q x) refusal earlier later own did at may none lost is same did_to on = absurd (err-ok refusal _ on)
+    refused-reader m call answer p o (readers.Delta q x base) refusal earlier later own did at may none lost is same did_to on = absurd (err-ok refusal _ on)
+    refused-reader m call answer p o (readers.Manifests r) refusal earlier later own did at may none lost is same did_to on = absurd (err-ok refusal _ on)
+    refused-reader m call answer p o (readers.Again a id path) refusal earlier later own did at may none lost is same did_to on = absurd (err-ok refusal _ on)
+    refused-reader m call answer p o (readers.Ready v) refusal earlier later own did at may none lost is same did_to on =
+        refused-ready m call answer p v refusal earlier later own did at may none lost is did_to (subst (λ (o : OwnView). Tries (begun v.id o) v (Err refusal)) same on)
+    refused-reader m call answer p o readers.Over refusal earlier later own did at may none lost is same did_to on = absurd (err-ok refusal _ on)
+
+    -- eleven tries were lost
+    refused-lost : (o : OwnView) (x : Publishing) (answer : Published) (refusal : Refusal) (own : List Event) → IsLost answer → IsNoCommit (answers.Published answer)
+        → AfterLost s first (DidInTry s (phases.Publish o x)) own → Loses o x.schema x.id (Err refusal) → Shows s first refusal (own ++ publishes x answer ∷ [])
+    refused-lost o x answer refusal own is_lost none did (inl memory) =
+        forgot (phases.Publish o x) (publish_call x) (answers.Published answer) refusal own did refl tt none memory
+    refused-lost o x answer refusal own is_lost none (p, earlier, later, lost, (v, made, same, is_x, tried), is) (inr (last, contended)) =
+        let next : OwnView = lost_by p v made in
+        let ids : next.lost ≡ o.lost ++ x.id ∷ [] = sym (ap (λ (o : OwnView). o.lost) (lost-same p v made o x same is_x)) in
+        let many = length-append o.lost (x.id ∷ []) in
+        as-shown refusal (refusals.Contended (o.lost ++ x.id ∷ [])) _ contended
+        (next, lose p v made x answer earlier later own lost tried is_x is_lost is, ids, (let eleven = last in omega (arith, many, eleven)))
+
+    refused-on : Joined → (m : Phase) (call : Call) (answer : Answer) (refusal : Refusal) (own : List Event) → After m answer (Err refusal) → Did s first m own
+        → next_call m ≡ Some call → MayAnswer call answer → Shows s first refusal (own ++ answered call answer ∷ [])
+    refused-on law (phases.Names o t) call (answers.Listed names) refusal own (inl memory) did at may =
+        forgot (phases.Names o t) call (answers.Listed names) refusal own did at may tt memory
+    refused-on law (phases.Names o t) call (answers.Listed names) refusal own (inr (path, finds, is)) (same, is_t, quiet) at may =
+        let calls_are : own ++ answered call (answers.Listed names) ∷ [] ≡ listed_manifests names ∷ [] =
+        ap (λ (own : List Event). own ++ answered call (answers.Listed names) ∷ []) quiet
+        ∙ ap (λ (call : Call). answered call (answers.Listed names) ∷ []) (sym (call-same manifests_call call at)) in
+        as-shown refusal (refusals.SessionUsed path) _ is
+        (inl (names, subst (λ (o : OwnView). FindsUsed o.names names.items (Some path)) same finds, calls_are))
+    refused-on law (phases.View o m) call answer refusal own (inl shown) (p, earlier, later, lost, (same, did), is) at may =
+        let shows = some-at (reader.next_call m) call _ at ((reader_facts.recounts law (newest_of s)).refused m readers.Over answer refusal later (shown, refl) did) may in
+        inl (p, earlier, later ++ answered call answer ∷ [], lost, shows.1, ap (λ (own : List Event). own ++ answered call answer ∷ []) is ∙ append_assoc earlier later (answered call answer ∷ []))
+    refused-on law (phases.View o m) call answer refusal own (inr (to, goes, on)) (p, earlier, later, lost, (same, did), is) at may =
+        let did_to = some-at (reader.next_call m) call _ at ((reader_facts.recounts law (newest_of s)).went m to answer later goes did) may in
+        let none = some-at (reader.next_call m) call _ at (reader-no m answer) may in
+        refused-reader (phases.View o m) call answer p o to refusal earlier later own (p, earlier, later, lost, (same, did), is) at may none lost is same did_to on
+    refused-on law (phases.Search o q) call (answers.Found None) refusal own on did at may =
+        let (p, earlier, later, lost, tried, is) = did in
+        let (v, same, is_found, searched) = tried in
+        let event_is : read_file (snapshot_path q.id) None ≡ answered call (answers.Found None) =
+        ap (λ (call : Call). answered call (answers.Found None)) (call-same (calls.Read (snapshot_path q.id)) call at) in
+        refused-make (phases.Search o q) call (answers.Found None) p v refusal earlier later own did at may tt lost is
+        (subst (λ (e : Event). HasSearch s p v MayCommit (later ++ e ∷ [])) event_is (older-absent p v q.id q.left later searched))
+        (subst (λ (found : Found). Makes (begun v.id p) found (Err refusal)) is_found (subst (λ (o : OwnView). Makes o q.found (Err refusal)) same on))
+    refused-on law (phases.Search o q) call (answers.Found (Some bytes)) refusal own (inl memory) did at may =
+        forgot (phases.Search o q) call (answers.Found (Some bytes)) refusal own did at may tt memory
+    refused-on law (phases.Search o q) call (answers.Found (Some bytes)) refusal own (inr (inl (bad, is_damaged))) did at may =
+        let (p, earlier, later, lost, tried, is) = did in
+        let (v, same, is_found, searched) = tried in
+        let event_is : answered call (answers.Found (Some bytes)) ≡ read_file (snapshot_path q.id) (Some bytes) =
+        ap (λ (call : Call). answered call (answers.Found (Some bytes))) (sym (call-same (calls.Read (snapshot_path q.id)) call at)) in
+        as-shown refusal (refusals.Damaged (snapshot_path q.id) 0) _ is_damaged (
+          p,
+          earlier,
+          later ++ answered call (answers.Found (Some bytes)) ∷ [],
+          lost,
+          (v, q.id, q.left, bytes, later, searched, bad, refl, refl, ap (λ (e : Event). later ++ e ∷ []) event_is),
+          ap (λ (own : List Event). own ++ answered call (answers.Found (Some bytes)) ∷ []) is
+              ∙ append_assoc earlier later (answered call (answers.Found (Some bytes)) ∷ []),
+        )
+    refused-on law (phases.Search o q) call (answers.Found (Some bytes)) refusal own (inr (inr (x, reads, on))) did at may =
+        let (p, earlier, later, lost, tried, is) = did in
+        let (v, same, is_found, searched) = tried in
+        let event_is : read_file (snapshot_path q.id) (Some bytes) ≡ answered call (answers.Found (Some bytes)) =
+        ap (λ (call : Call). answered call (answers.Found (Some bytes))) (call-same (calls.Read (snapshot_path q.id)) call at) in
+        let on_own : Hears (begun v.id p) q.found q.left (seen_of (begun v.id p).author x) (Err refusal) =
+        subst (λ (o : OwnView). Hears o q.found q.left (seen_of o.author x) (Err refusal)) same on in
+        refused-hear (phases.Search o q) call (answers.Found (Some bytes)) p v q.left (seen_of (begun v.id p).author x) refusal earlier later own did at may tt lost is
+        (λ other. subst (λ (e : Event). HasSearch s p v (λ o v. Searched o v q.left) (later ++ e ∷ [])) event_is
+        (older-searched p v q.id q.left bytes x later searched reads other))
+        (subst (λ (e : Event). HasSearch s p v (λ o v. Meets o v (seen_of (begun v.id p).author x)) (later ++ e ∷ [])) event_is
+        (older-meets p v q.id q.left bytes x later searched reads))
+        (subst (λ (found : Found). Hears (begun v.id p) found q.left (seen_of (begun v.id p).author x) (Err refusal)) is_found on_own)
+    refused-on law (phases.Create o making) call (answers.Made created.Created) refusal own is did at may = absurd (err-ok refusal _ is)
+    refused-on law (phases.Create o making) call (answers.Made created.Exists) refusal own is did at may =
+        let (p, earlier, later, lost, tried, is_own) = did in
+        let (v, made, same, is_x, has) = tried in
+        let event_is : answered call (answers.Made created.Exists) ≡ creates making.next created.Exists =
+        ap (λ (call : Call). answered call (answers.Made created.Exists)) (sym (call-same (calls.Create making.next.path making.next.bytes) call at)) in
+        as-shown refusal (refusals.SessionUsed making.next.path) _ (err-same refusal _ is) (inr (
+          p,
+          earlier,
+          later ++ answered call (answers.Made created.Exists) ∷ [],
+          lost,
+          (v, made, making.next, making.rest, later, has, refl, ap (λ (e : Event). later ++ e ∷ []) event_is),
+          ap (λ (own : List Event). own ++ answered call (answers.Made created.Exists) ∷ []) is_own
+              ∙ append_assoc earlier later (answered call (answers.Made created.Exists) ∷ []),
+        ))
+    refused-on law (phases.Publish o x) call (answers.Published published.Created) refusal own is did at may = absurd (err-ok refusal _ is)
+    refused-on law (phases.Publish o x) call (answers.Published published.Exists) refusal own on did at may =
+        subst (λ (call : Call). Shows s first refusal (own ++ answered call (answers.Published published.Exists) ∷ [])) (call-same (publish_call x) call at)
+        (refused-lost o x published.Exists refusal own tt tt did on)
+    refused-on law (phases.Publish o x) call (answers.Published published.AfterGone) refusal own on did at may =
+        subst (λ (call : Call). Shows s first refusal (own ++ answered call (answers.Published published.AfterGone) ∷ [])) (call-same (publish_call x) call at)
+        (refused-lost o x published.AfterGone refusal own tt tt did on)
+    refused-on law m call answer refusal own after did at may = absurd after
+
+    -- before its end
+    so-far : (m : Phase) (own : List Event) → IsSome (next_call m) → Did s first m own → DidSoFar s first m own
+    so-far (phases.Names o t) own called did = did
+    so-far (phases.View o m) own called did = did
+    so-far (phases.Search o q) own called did = did
+    so-far (phases.Create o making) own called did = did
+    so-far (phases.Publish o x) own called did = did
+    so-far (phases.Committed author id) own called did = did
+    so-far (phases.Already author) own called did = did
+    so-far phases.Over own called did = absurd (let clash = called in cc)
+
+    over-did : (new : Phase) (refusal : Refusal) (own : List Event) → new ≡ phases.Over → Shows s first refusal own → Did s first new own × Shows s first refusal own
+    over-did new refusal own over shows = (subst (λ (m : Phase). Did s first m own) (sym over) (refusal, shows), shows)
+
+    failed-on : (m new : Phase) (call : Call) (own : List Event) → next_call m ≡ Some call → new ≡ phases.Over → Did s first m own
+        → Did s first new (own ++ faulted call ∷ []) × Shows s first (refusals.StoreFault (path_of call)) (own ++ faulted call ∷ [])
+    failed-on m new call own at over did = over-did new (refusals.StoreFault (path_of call)) (own ++ faulted call ∷ []) over (inr (record {
+      phase = m;
+      call = call;
+      earlier = own;
+      did = so-far m own (subst (λ (o : Option Call). IsSome o) (sym at) refl) did;
+      next = at;
+      is_path = refl;
+      is = refl;
+    }))
+
+    pub recounts : Joined → Recounts next_call Goes Refuses Stops (Did s first) (Shows s first)
+    recounts law = record {
+      went = λ m new answer own goes did. went-on law m answer new own goes did;
+      refused = λ m new answer refusal own refuses did. if-is (next_call m) _
+          (λ call at may. over-did new refusal (own ++ answered call answer ∷ []) refuses.1 (refused-on law m call answer refusal own refuses.0 did at may));
+      failed = λ m new own stops did. if-is (next_call m) _ (λ call at. failed-on m new call own at stops did);
+      stopped = λ m new own called stops did. over-did new refusals.Memory own stops (inr (before_call m called (so-far m own called did)));
+    }

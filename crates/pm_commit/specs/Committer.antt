@@ -1,0 +1,286 @@
+-- A committer: its phases, its calls, and what each answer leads to.
+use Rattle.std.specs.Prelude.{◌≡◌, ◌⊎◌, ℕ, ◌+◌, ◌-◌, ◌*◌, ◌<◌, ◌≤◌, List, [], ◌∷◌, ◌++◌, codes, length, nat_le}
+use Rattle.std.specs.Prelude.{Bool, true, false, Option, None, Some, Result, Ok, Err, if◌then◌else◌}
+use Rattle.std.specs.List.{AllByRecursion}
+use Rattle.pm_values.specs.declared.refusal.Refusal.{Refusal}
+use Rattle.pm_values.specs.declared.refusal.Refusal.TheVariants as refusals
+use Rattle.pm_store.specs.declared.answer.Answer.{Answer}
+use Rattle.pm_store.specs.declared.answer.Answer.TheVariants as answers
+use Rattle.pm_store.specs.declared.answer.Made.TheVariants as makes
+use Rattle.pm_store.specs.declared.answer.Published.TheVariants as published
+use Rattle.pm_store.specs.declared.call.Call.{Call}
+use Rattle.pm_store.specs.declared.call.Call.TheVariants as calls
+use Rattle.pm_schema.specs.declared.schema.TableSchema.{TableSchema}
+use Rattle.pm_snapshot.specs.Names.{greatest}
+use Rattle.pm_snapshot.specs.Snapshot.{snapshot_in}
+use Rattle.pm_snapshot.specs.declared.fault.SnapFault.{SnapFault}
+use Rattle.pm_snapshot.specs.declared.fault.SnapFault.TheVariants as faults
+use Rattle.pm_snapshot.specs.declared.snapshot.Snapshot.{Snapshot}
+use Rattle.pm_manifest.specs.declared.entry.Entry.{Entry}
+use Rattle.pm_run.specs.Row.{most_sequence}
+use Rattle.pm_folder.specs.Paths.{snapshot_path}
+use Rattle.pm_table_view.specs.Asked.{Asked, asked_of}
+use Rattle.pm_table_view.specs.Reader as reader
+use Rattle.pm_table_view.specs.Reader.{most, origin_path}
+use Rattle.pm_table_view.specs.declared.asked.Wanted.TheVariants as wants
+use Rattle.pm_table_view.specs.declared.phase.Phase as view_phase
+use Rattle.pm_table_view.specs.declared.phase.Phase.TheVariants as readers
+use Rattle.pm_table_view.specs.declared.view.View.{View}
+use Rattle.pm_append.specs.Files.{IsAppendOf}
+use Rattle.pm_append.specs.Refusals.{refusal_of}
+use Rattle.pm_append.specs.declared.newest.Append.{Append}
+use Rattle.pm_append.specs.declared.newest.Author.{Author}
+use Rattle.pm_append.specs.declared.newest.CommitFile.{CommitFile}
+use Rattle.pm_append.specs.declared.newest.Newest.{Newest}
+use Rattle.pm_commit.specs.Making.{making_of}
+use Rattle.pm_commit.specs.Marks.{FindsUsed}
+use Rattle.pm_commit.specs.Own.{IsOwn, IsTried, OwnView, begun, most_files, tries, with_lost, with_named}
+use Rattle.pm_commit.specs.Search.{SearchingView, older_ids, searching_of, seen_in, seen_of}
+use Rattle.pm_commit.specs.declared.search.Seen.{Seen}
+use Rattle.pm_commit.specs.declared.search.Seen.TheVariants as seen
+use Rattle.pm_commit.specs.declared.found.Found.{Found}
+use Rattle.pm_commit.specs.declared.making.Publishing.{Publishing}
+use Rattle.pm_commit.specs.declared.committer.CommitStep.{CommitStep}
+use Rattle.pm_commit.specs.declared.committer.CommitStep.TheVariants as steps
+use Rattle.pm_commit.specs.declared.phase.Phase.{Phase}
+use Rattle.pm_commit.specs.declared.phase.Phase.TheVariants as phases
+
+-- ---- a try
+
+abbrev pub publishing_of : TableSchema → Append → Publishing
+publishing_of s made = record { schema = s; id = made.id; text = made.text }
+
+-- the table as a view has it
+abbrev pub newest_in : View → Newest
+newest_in v = record { id = v.id; snapshot = v.snapshot; manifests = v.manifests; live = v.live }
+
+abbrev pub found_in : View → Found
+found_in v = record { schema = v.schema; newest = newest_in v }
+
+-- ---- its calls
+
+-- the list of the manifests
+abbrev pub manifests_call : Call
+manifests_call = calls.List (codes "manifest")
+
+-- the path of the snapshot before the one with an id: the origin before the first
+abbrev pub after_path : TableSchema → ℕ → List ℕ
+after_path s id = if nat_le id 1 then origin_path s else snapshot_path (id - 1)
+
+abbrev pub publish_call : Publishing → Call
+publish_call x = calls.Publish (after_path x.schema x.id) (snapshot_path x.id) x.text
+
+-- its next call, or none at its end
+abbrev pub next_call : Phase → Option Call
+next_call (phases.Names own s) = Some manifests_call
+next_call (phases.View own m) = reader.next_call m
+next_call (phases.Search own q) = Some (calls.Read (snapshot_path q.id))
+next_call (phases.Create own making) = Some (calls.Create making.next.path making.next.bytes)
+next_call (phases.Publish own x) = Some (publish_call x)
+next_call (phases.Committed author id) = None
+next_call (phases.Already author) = None
+next_call phases.Over = None
+
+-- how many calls a try makes at most: those of its view, those of a search, the creates and the publish
+abbrev pub most_of_try : ℕ
+most_of_try = (most + 5) + (most + (most_files + 1))
+
+-- and how many the tries after this one make
+abbrev pub later_tries : OwnView → ℕ
+later_tries own = (tries - (length own.lost + 1)) * most_of_try
+
+-- how many calls are left at most, where no refusal comes
+abbrev pub calls_left : Phase → ℕ
+calls_left (phases.Names own s) = 1 + most_of_try + later_tries own
+calls_left (phases.View own m) = reader.calls_left m + (most + (most_files + 1)) + later_tries own
+calls_left (phases.Search own q) = length q.left + 1 + (most_files + 1) + later_tries own
+calls_left (phases.Create own making) = length making.rest + 2 + later_tries own
+calls_left (phases.Publish own x) = 1 + later_tries own
+calls_left (phases.Committed author id) = 0
+calls_left (phases.Already author) = 0
+calls_left phases.Over = 0
+
+-- ---- the reader of a view
+
+-- what is asked of a reader that goes on
+abbrev pub asked_in : view_phase.Phase → Option Asked
+asked_in (readers.List a) = Some a
+asked_in (readers.Origin q) = Some q.asked
+asked_in (readers.Snapshot q id) = Some q.asked
+asked_in (readers.Base q x) = Some q.asked
+asked_in (readers.Delta q x base) = Some q.asked
+asked_in (readers.Manifests r) = Some r.sought.asked
+asked_in (readers.Again a id path) = Some a
+asked_in (readers.Ready v) = Some (asked_of v.schema v.wanted)
+asked_in readers.Over = None
+
+-- the entries that it has read so far, and those of the live files once it is ready
+abbrev pub entries_in : view_phase.Phase → List Entry
+entries_in (readers.Manifests r) = r.kept
+entries_in (readers.Ready v) = v.live.items
+entries_in m = []
+
+-- the ids of the snapshots that it listed, while it goes on with one of them
+abbrev pub listed_in : view_phase.Phase → List ℕ
+listed_in (readers.Origin q) = q.listed
+listed_in (readers.Snapshot q id) = q.listed
+listed_in (readers.Base q x) = q.listed
+listed_in (readers.Delta q x base) = q.listed
+listed_in (readers.Manifests r) = r.sought.listed
+listed_in (readers.Ready v) = v.listed.items
+listed_in m = []
+
+-- no file has too great a number
+abbrev pub AreNumbered : List Entry → Type 0
+AreNumbered entries = AllByRecursion (λ (e : Entry). e.file.max_seq ≤ most_sequence) entries
+
+-- each is the id of a snapshot after the origin
+abbrev pub AreIds : List ℕ → Type 0
+AreIds ids = AllByRecursion (λ (id : ℕ). (1 ≤ id) × (id ≤ greatest)) ids
+
+-- what is asked is the newest view of a table with its live entries
+abbrev pub newest_of : TableSchema → Asked
+newest_of s = asked_of s wants.Entries
+
+-- the reader reads the newest view of a table
+pub record Reads (m : view_phase.Phase) (s : TableSchema) : Type 0 where
+  pub asked : asked_in m ≡ Some (newest_of s)
+  pub numbers : AreNumbered (entries_in m)
+  pub ids : AreIds (listed_in m)
+
+-- ---- its invariant
+
+-- the reader of a view has a call left, and reads the table to which the commit is made
+abbrev pub IsViewing : OwnView → view_phase.Phase → Type 0
+IsViewing own m = (0 < reader.calls_left m) × ((s : TableSchema) × Reads m s × IsOwn s own)
+
+-- what a try found is a table to which the commit can be made
+pub record MayMake (own : OwnView) (found : Found) : Type 0 where
+  pub own_of : IsOwn found.schema own
+  pub numbers : AreNumbered found.newest.live.items
+
+-- a committer: in each phase its commit is one of its table, and few enough calls are left in the try
+abbrev pub IsCommitter : Phase → Type 0
+IsCommitter (phases.Names own s) = IsOwn s own
+IsCommitter (phases.View own m) = IsViewing own m
+IsCommitter (phases.Search own q) = MayMake own q.found × (length q.left < most) × AreIds (q.id ∷ q.left)
+IsCommitter (phases.Create own making) = IsTried making.publishing.schema own × (length making.rest < most_files)
+IsCommitter (phases.Publish own x) = IsTried x.schema own
+IsCommitter other = Unit {0}
+
+-- ---- what answers lead to
+
+-- what an answer leads to: a phase, or the refusal that it shows
+abbrev pub Outcome : Type 0
+Outcome = Result Phase Refusal
+
+-- the phase at the beginning of a try
+abbrev pub first_of_try : OwnView → TableSchema → Phase
+first_of_try own s = phases.View own (readers.List (newest_of s))
+
+-- the next of these files is to be created, or all were
+abbrev pub create_next : OwnView → Publishing → List CommitFile → Phase
+create_next own x [] = phases.Publish own x
+create_next own x (file ∷ files) = phases.Create own (making_of x file files)
+
+-- the files of a try are to be created; or there is a reason against them, or memory ran out
+abbrev pub Makes : OwnView → Found → Outcome → Type 0
+Makes own found (Ok later) = (made : Append)
+    × IsAppendOf found.schema found.newest own.author own.batch own.names made
+    × (refusal_of found.newest own.author own.batch ≡ None)
+    × (later ≡ create_next (with_named (own.names.count + length made.files.items) own)
+    (publishing_of found.schema made) made.files.items)
+Makes own found (Err refusal) =
+    (refusal ≡ refusals.Memory) ⊎ (refusal_of found.newest own.author own.batch ≡ Some refusal)
+
+-- the next of these older snapshots is to be read, or none is left
+abbrev pub Seeks : OwnView → Found → List ℕ → Outcome → Type 0
+Seeks own found [] outcome = Makes own found outcome
+Seeks own found (id ∷ left) outcome =
+    (length left < most) × (outcome ≡ Ok (phases.Search own (searching_of found id left)))
+
+-- a snapshot said this of the commit
+abbrev pub Hears : OwnView → Found → List ℕ → Seen → Outcome → Type 0
+Hears own found left seen.Other outcome = Seeks own found left outcome
+Hears own found left seen.Below outcome = Makes own found outcome
+Hears own found left seen.Reached outcome = outcome ≡ Ok (phases.Already own.author)
+
+-- a try goes on with its view: it looks for an earlier commit where that is asked for
+abbrev pub TriesIf : Bool → OwnView → View → Outcome → Type 0
+TriesIf true own v outcome = Hears own (found_in v) (older_ids v.listed.items) (seen_in own.author v.snapshot) outcome
+TriesIf false own v outcome = Makes own (found_in v) outcome
+
+abbrev pub Tries : OwnView → View → Outcome → Type 0
+Tries own v outcome = TriesIf own.check own v outcome
+
+-- with this reader of the view the try goes on once it is ready
+abbrev pub AfterReader : OwnView → view_phase.Phase → Outcome → Type 0
+AfterReader own (readers.Ready v) outcome = Tries (begun v.id own) v outcome
+AfterReader own m outcome = outcome ≡ Ok (phases.View own m)
+
+-- no name has the actor's mark, or one has; or memory ran out
+abbrev pub AfterNames : OwnView → TableSchema → List (List ℕ) → Outcome → Type 0
+AfterNames own s names (Ok later) = FindsUsed own.names names None × (later ≡ first_of_try own s)
+AfterNames own s names (Err refusal) = (refusal ≡ refusals.Memory)
+    ⊎ ((path : List ℕ) × FindsUsed own.names names (Some path) × (refusal ≡ refusals.SessionUsed path))
+
+-- the view's reader goes on, or refuses
+abbrev pub AfterView : OwnView → view_phase.Phase → Answer → Outcome → Type 0
+AfterView own m answer (Ok later) = (new : view_phase.Phase) × reader.Goes m answer new × AfterReader own new (Ok later)
+AfterView own m answer (Err refusal) = reader.Shown m answer refusal
+    ⊎ ((new : view_phase.Phase) × reader.Goes m answer new × AfterReader own new (Err refusal))
+
+-- an older snapshot's file wasn't read
+abbrev pub Misreads : ℕ → SnapFault → Refusal → Type 0
+Misreads id fault refusal = (refusal ≡ refusals.Memory)
+    ⊎ ((fault ≡ faults.Bad) × (refusal ≡ refusals.Damaged (snapshot_path id) 0))
+
+-- an older snapshot's file has these bytes, which may be none of a snapshot
+abbrev pub AfterOlder : OwnView → SearchingView → List ℕ → Outcome → Type 0
+AfterOlder own q bytes (Ok later) =
+    (x : Snapshot) × (snapshot_in q.id bytes ≡ Ok x) × Hears own q.found q.left (seen_of own.author x) (Ok later)
+AfterOlder own q bytes (Err refusal) = (refusal ≡ refusals.Memory)
+    ⊎ ((snapshot_in q.id bytes ≡ Err faults.Bad) × (refusal ≡ refusals.Damaged (snapshot_path q.id) 0))
+    ⊎ ((x : Snapshot) × (snapshot_in q.id bytes ≡ Ok x) × Hears own q.found q.left (seen_of own.author x) (Err refusal))
+
+-- an id was lost to others: the next try begins, or it was the last; or memory ran out
+abbrev pub Loses : OwnView → TableSchema → ℕ → Outcome → Type 0
+Loses own s id (Ok later) = (length own.lost + 1 < tries) × (later ≡ first_of_try (with_lost id own) s)
+Loses own s id (Err refusal) = (refusal ≡ refusals.Memory)
+    ⊎ ((length own.lost + 1 ≡ tries) × (refusal ≡ refusals.Contended (own.lost ++ id ∷ [])))
+
+-- What an answer leads to. A search ends where an older snapshot is absent.
+abbrev pub After : Phase → Answer → Outcome → Type 0
+After (phases.Names own s) (answers.Listed names) outcome = AfterNames own s names.items outcome
+After (phases.View own m) answer outcome = AfterView own m answer outcome
+After (phases.Search own q) (answers.Found None) outcome = Makes own q.found outcome
+After (phases.Search own q) (answers.Found (Some bytes)) outcome = AfterOlder own q bytes outcome
+After (phases.Create own making) (answers.Made makes.Created) outcome =
+    outcome ≡ Ok (create_next own making.publishing making.rest)
+After (phases.Create own making) (answers.Made makes.Exists) outcome =
+    outcome ≡ Err (refusals.SessionUsed making.next.path)
+After (phases.Publish own x) (answers.Published published.Created) outcome =
+    outcome ≡ Ok (phases.Committed own.author x.id)
+After (phases.Publish own x) (answers.Published published.Exists) outcome = Loses own x.schema x.id outcome
+After (phases.Publish own x) (answers.Published published.AfterGone) outcome = Loses own x.schema x.id outcome
+After phase other outcome = ⊥
+
+abbrev pub Goes : Phase → Answer → Phase → Type 0
+Goes phase answer later = After phase answer (Ok later)
+
+abbrev pub Refuses : Phase → Answer → Refusal → Phase → Type 0
+Refuses phase answer refusal later = After phase answer (Err refusal) × (later ≡ phases.Over)
+
+abbrev pub Stops : Phase → Phase → Type 0
+Stops phase later = later ≡ phases.Over
+
+-- what a step that goes on has reached
+abbrev pub Reaches : CommitStep → Phase → Type 0
+Reaches steps.More phase = 0 < calls_left phase
+Reaches (steps.Committed id) phase = (author : Author) × (phase ≡ phases.Committed author id)
+Reaches steps.Already phase = (author : Author) × (phase ≡ phases.Already author)
+
+abbrev pub reached_at : Phase → CommitStep
+reached_at (phases.Committed author id) = steps.Committed id
+reached_at (phases.Already author) = steps.Already
+reached_at other = steps.More

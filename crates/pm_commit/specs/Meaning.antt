@@ -1,0 +1,193 @@
+-- What a committer knows of the table, and what its steps mean for the files.
+use Rattle.std.specs.Prelude.{◌≡◌, ◌≢◌, ◌⊎◌, ℕ, ◌≤◌, List, [], ◌∷◌, ◌++◌, ◌+◌, length, codes}
+use Rattle.std.specs.Prelude.{Option, None, Some, IfSome, IsSome}
+use Rattle.std.specs.FinMap as map
+use Rattle.std.specs.List.{AllByRecursion}
+use Rattle.pm_values.specs.declared.refusal.Refusal.{Refusal}
+use Rattle.pm_values.specs.declared.refusal.Refusal.TheVariants as refusals
+use Rattle.pm_store.specs.Files.{Files, IsListing}
+use Rattle.pm_store.specs.Store.{StoreView}
+use Rattle.pm_machine.specs.Moves.{Moves}
+use Rattle.pm_history.specs.History.{Entry, History, IsTableOf, append, table}
+use Rattle.pm_history.specs.Merge.{HistoryRow}
+use Rattle.pm_schema.specs.declared.schema.TableSchema.{TableSchema}
+use Rattle.pm_snapshot.specs.Names.{MayName}
+use Rattle.pm_snapshot.specs.declared.snapshot.Snapshot.{Snapshot}
+use Rattle.pm_folder.specs.Changes.{Actor}
+use Rattle.pm_folder.specs.Folder.{IsRowOf}
+use Rattle.pm_folder.specs.Ledger.{Advances, HasNamedNone, IsKnown, Past, Stands, count_of}
+use Rattle.pm_folder.specs.Meaning.{SnapshotAt}
+use Rattle.pm_table_view.specs.Meaning as reader
+use Rattle.pm_table_view.specs.Meaning.{IsViewIn}
+use Rattle.pm_table_view.specs.declared.asked.Wanted.TheVariants as wants
+use Rattle.pm_table_view.specs.declared.phase.Phase as view_phase
+use Rattle.pm_table_view.specs.declared.phase.Phase.TheVariants as readers
+use Rattle.pm_table_view.specs.declared.view.View.{View}
+use Rattle.pm_write.specs.Batch.{IsBatchOf}
+use Rattle.pm_append.specs.Commit.{Attempt, MakesNames}
+use Rattle.pm_append.specs.Files.{IsAppendOf}
+use Rattle.pm_append.specs.Refusals.{refusal_of}
+use Rattle.pm_append.specs.declared.newest.Author.{Author}
+use Rattle.pm_append.specs.declared.newest.CommitFile.{CommitFile}
+use Rattle.pm_commit.specs.Committer.{IsCommitter, Reads, found_in, publishing_of}
+use Rattle.pm_commit.specs.Marks.{FindsUsed}
+use Rattle.pm_commit.specs.Own.{OwnView, actor_of, tries}
+use Rattle.pm_commit.specs.Search.{seen_of}
+use Rattle.pm_commit.specs.declared.search.Seen.TheVariants as seen
+use Rattle.pm_commit.specs.declared.found.Found.{Found}
+use Rattle.pm_commit.specs.declared.making.Publishing.{Publishing}
+use Rattle.pm_commit.specs.declared.phase.Phase.{Phase}
+use Rattle.pm_commit.specs.declared.phase.Phase.TheVariants as phases
+
+-- ---- what it may change
+
+-- the commit of a phase in which calls are left
+abbrev pub own_in : Phase → Option OwnView
+own_in (phases.Names own s) = Some own
+own_in (phases.View own m) = Some own
+own_in (phases.Search own q) = Some own
+own_in (phases.Create own making) = Some own
+own_in (phases.Publish own x) = Some own
+own_in (phases.Committed author id) = None
+own_in (phases.Already author) = None
+own_in phases.Over = None
+
+-- the entry of a commit of these rows
+abbrev pub entry_of : Author → List HistoryRow → Entry
+entry_of author rows = append author.user author.identifier rows
+
+-- the history stays, or the commit's entry is added to it
+abbrev pub Appends : OwnView → List HistoryRow → History → History → Type 0
+Appends own rows h later = (later ≡ h)
+    ⊎ ((s : TableSchema) × (es : List Entry) × (h ≡ table s es)
+    × (later ≡ table s (es ++ entry_of own.author rows ∷ [])))
+
+-- what a commit of these rows may change: one of its actor's kinds of change, and of these only the append of its entry
+pub record MakesOwn (own : OwnView) (rows : List HistoryRow) (f : Files) (p : Past) (after : Files) (later : Past)
+    : Type 0 where
+  pub advances : Advances (actor_of own) f p after later
+  pub appends : Appends own rows p.history later.history
+
+abbrev pub MakesIn : Option OwnView → List HistoryRow → Files → Past → Files → Past → Type 0
+MakesIn None rows f p after later = ⊥
+MakesIn (Some own) rows f p after later = MakesOwn own rows f p after later
+
+abbrev pub MakesRows : List HistoryRow → Phase → Files → Past → Files → Past → Type 0
+MakesRows rows m f p after later = MakesIn (own_in m) rows f p after later
+
+-- ---- what it knows
+
+-- The rows are rows of the table, and those of the batch; the actor's names may stand in paths, and no known snapshot
+-- names a file that it named; and its base is a snapshot's that was committed.
+pub record KnowsOwn (own : OwnView) (rows : List HistoryRow) (s : TableSchema) (p : Past) : Type 0 where
+  pub is_table : IsTableOf s p.history
+  pub fit : AllByRecursion (IsRowOf s) rows
+  pub batch : IsBatchOf s rows own.batch
+  pub may : MayName own.names
+  pub unnamed : HasNamedNone (actor_of own) p
+  pub from : own.author.base ≤ count_of p.history
+
+-- at snapshot 0 the table has an origin, which its schema names
+abbrev pub HasOriginAt : TableSchema → ℕ → Type 0
+HasOriginAt s id = id ≡ 0 → IsSome s.origin
+
+-- the table was found as a view has it which is one of the table at a snapshot as it stood, with its live entries
+pub record IsFoundIn (p : Past) (found : Found) : Type 0 where
+  pub view : View
+  pub is : found ≡ found_in view
+  pub wanted : view.wanted ≡ wants.Entries
+  pub stood : IsViewIn p view
+  pub origin : HasOriginAt view.schema view.id
+
+-- a reader that reads the origin reads one that the schema names
+abbrev pub HasOrigin : view_phase.Phase → Type 0
+HasOrigin (readers.Origin q) = IsSome q.asked.schema.origin
+HasOrigin (readers.Ready v) = HasOriginAt v.schema v.id
+HasOrigin m = Unit {0}
+
+-- the file is there
+abbrev pub IsPut : Files → CommitFile → Type 0
+IsPut f file = map.get f file.path ≡ Some file.bytes
+
+-- Of a try, what was made of what it found: the files that are left are yet to be created, and the others are there.
+pub record KnowsTry (own : OwnView) (rows : List HistoryRow) (x : Publishing) (left : List CommitFile) (f : Files)
+    (p : Past) : Type 0 where
+  pub attempt : Attempt
+  pub same_rows : attempt.rows ≡ rows
+  pub same_batch : attempt.batch ≡ own.batch
+  pub same_author : attempt.author ≡ own.author
+  pub found : IsFoundIn p (record { schema = x.schema; newest = attempt.newest })
+  pub names : MakesNames (actor_of own) attempt
+  pub made : IsAppendOf x.schema attempt.newest attempt.author attempt.batch attempt.names attempt.made
+  pub allowed : refusal_of attempt.newest attempt.author attempt.batch ≡ None
+  pub is : x ≡ publishing_of x.schema attempt.made
+  pub done : List CommitFile
+  pub files : attempt.made.files.items ≡ done ++ left
+  pub there : AllByRecursion (IsPut f) done
+
+-- the entry with this id is the commit's
+abbrev pub HasEntry : Author → List HistoryRow → ℕ → Past → Type 0
+HasEntry author rows id p = (s : TableSchema) × (before after : List Entry)
+    × (p.history ≡ table s (before ++ entry_of author rows ∷ after)) × (id ≡ length before + 1)
+
+-- a snapshot that was committed bore, as it stood, the author's user and an identifier that isn't smaller
+pub record HasEarlier (author : Author) (p : Past) : Type 0 where
+  pub id : ℕ
+  pub known : IsKnown p id
+  pub snapshot : Snapshot
+  pub stood : SnapshotAt (p.stood id) id snapshot
+  pub reached : seen_of author snapshot ≡ seen.Reached
+
+-- what it knows in each phase
+abbrev pub KnowsIn : List HistoryRow → Phase → Files → Past → Type 0
+KnowsIn rows (phases.Names own s) f p = KnowsOwn own rows s p
+KnowsIn rows (phases.View own m) f p =
+    (s : TableSchema) × Reads m s × KnowsOwn own rows s p × reader.Knows m f p × HasOrigin m
+KnowsIn rows (phases.Search own q) f p = KnowsOwn own rows q.found.schema p × IsFoundIn p q.found
+KnowsIn rows (phases.Create own making) f p = KnowsOwn own rows making.publishing.schema p
+    × KnowsTry own rows making.publishing (making.next ∷ making.rest) f p
+KnowsIn rows (phases.Publish own x) f p = KnowsOwn own rows x.schema p × KnowsTry own rows x [] f p
+KnowsIn rows (phases.Committed author id) f p = HasEntry author rows id p
+KnowsIn rows (phases.Already author) f p = HasEarlier author p
+KnowsIn rows phases.Over f p = Unit {0}
+
+-- What it knows, whatever others do, where these are the rows of its batch.
+abbrev pub Knows : List HistoryRow → Phase → Files → Past → Type 0
+Knows rows m f p = IsCommitter m × KnowsIn rows m f p
+
+-- the actor isn't the one that commits
+abbrev pub IsOtherThan : Actor → Phase → Type 0
+IsOtherThan other m = IfSome (own_in m) (λ own. actor_of own ≢ other)
+
+-- Whichever rows the batch is of: a step makes one of these changes, or none, and what the committer knows holds after
+-- it.
+abbrev pub CommitterMoved : Phase → Phase → StoreView → StoreView → Type 0
+CommitterMoved old new before after = (rows : List HistoryRow)
+    → Moves Stands (MakesRows rows old) (Knows rows old) (Knows rows new) before after
+
+-- ---- its refusals
+
+-- a listed name has the actor's mark, or the file is there
+abbrev pub IsMet : OwnView → Files → List ℕ → Type 0
+IsMet own f path =
+    ((names : List (List ℕ)) × IsListing (codes "manifest") names f × FindsUsed own.names names (Some path))
+    ⊎ ((bytes : List ℕ) × (map.get f path ≡ Some bytes))
+
+-- a snapshot as it stood is a reason against the commit, which keeps the base of its first try
+abbrev pub IsDenied : OwnView → Past → Refusal → Type 0
+IsDenied own p refusal = (found : Found) × (base : ℕ) × IsFoundIn p found
+    × ((own.lost ≡ []) ⊎ (base ≡ own.author.base))
+    × (refusal_of found.newest (record own.author { base = base }) own.batch ≡ Some refusal)
+
+-- The refusals that answers show where the files stand, whatever others do. No file is damaged.
+abbrev pub MayRefuseOwn : OwnView → Files → Past → Refusal → Type 0
+MayRefuseOwn own f p refusals.Memory = Unit {0}
+MayRefuseOwn own f p (refusals.Expired id) = reader.IsExpired f p id
+MayRefuseOwn own f p (refusals.SessionUsed path) = IsMet own f path
+MayRefuseOwn own f p (refusals.Fenced base fence) = IsDenied own p (refusals.Fenced base fence)
+MayRefuseOwn own f p (refusals.Limit which number) = IsDenied own p (refusals.Limit which number)
+MayRefuseOwn own f p (refusals.Contended ids) = (id : ℕ) × (ids ≡ own.lost ++ id ∷ []) × (length ids ≡ tries)
+MayRefuseOwn own f p other = ⊥
+
+abbrev pub MayRefuse : Phase → Files → Past → Refusal → Type 0
+MayRefuse m f p refusal = IfSome (own_in m) (λ own. MayRefuseOwn own f p refusal)

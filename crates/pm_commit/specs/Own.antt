@@ -1,0 +1,77 @@
+-- What a commit is made of, and by whom.
+use Rattle.std.specs.Prelude.{◌≡◌, ℕ, ℤ, ◌+◌, ◌*◌, ◌<◌, ◌≤◌, ◌^◌, List, [], ◌∷◌, ◌++◌, length, Bool}
+use Rattle.std.specs.List.{AllByRecursion}
+use Rattle.pm_values.specs.Names.{Naming, based}
+use Rattle.pm_values.specs.declared.group.Group.{Group}
+use Rattle.pm_schema.specs.Folder.{FitsPartition}
+use Rattle.pm_schema.specs.declared.schema.TableSchema.{TableSchema}
+use Rattle.pm_folder.specs.Changes.{Actor}
+use Rattle.pm_write.specs.Batch.{GroupRows, Groups}
+use Rattle.pm_append.specs.Commit.{IsBuilt}
+use Rattle.pm_append.specs.declared.newest.Author.{Author}
+
+-- what is appended and by whom, whether an earlier commit of the user is looked for, the maker of names, and the ids
+-- that tries lost to others
+pub record OwnView : Type 0 where
+  pub batch : Groups
+  pub author : Author
+  pub check : Bool
+  pub names : Naming
+  pub lost : List ℕ
+
+abbrev pub own_of : Groups → Author → Bool → Naming → List ℕ → OwnView
+own_of batch author check names lost =
+    record { batch = batch; author = author; check = check; names = names; lost = lost }
+
+-- an author whose first try hasn't read a snapshot yet
+abbrev pub new_author : List ℕ → ℤ → ℤ → Author
+new_author user identifier time = record { user = user; identifier = identifier; base = 0; time = time }
+
+-- before the first try
+abbrev pub new_own : Groups → Author → Bool → Naming → OwnView
+new_own batch author check names = own_of batch author check (based 0 names) []
+
+-- the actor that makes the names
+abbrev pub actor_of : OwnView → Actor
+actor_of own = record { session = own.names.session; number = own.names.actor }
+
+-- with this as its base, where no try was lost
+abbrev pub begun_after : List ℕ → ℕ → OwnView → OwnView
+begun_after [] newest own =
+    record own { author = record own.author { base = newest }; names = based newest own.names }
+begun_after (id ∷ lost) newest own = own
+
+-- with the newest snapshot of its first try as its base
+abbrev pub begun : ℕ → OwnView → OwnView
+begun newest own = begun_after own.lost newest own
+
+-- with an id more that was lost, and with so many names given
+abbrev pub with_lost : ℕ → OwnView → OwnView
+with_lost id own = record own { lost = own.lost ++ id ∷ [] }
+
+abbrev pub with_named : ℕ → OwnView → OwnView
+with_named count own = record own { names = record own.names { count = count } }
+
+-- how many tries there are, and how many files a try makes at most
+abbrev pub tries : ℕ
+tries = 11
+
+abbrev pub most_files : ℕ
+most_files = 5
+
+-- A commit of a table that is built, after so many tries that took names: its batch is one of some rows, its base is
+-- that of its names, and there are names and tries enough.
+pub record IsOwnAfter (tried : ℕ) (s : TableSchema) (own : OwnView) : Type 0 where
+  pub built : IsBuilt s
+  pub folders : AllByRecursion (λ (e : Group × GroupRows). FitsPartition s e.0) own.batch
+  pub one_group : length own.batch ≡ 1
+  pub same_base : own.names.base ≡ own.author.base
+  pub within : length own.lost < tries
+  pub named : own.names.count ≤ 2 ^ 61 + most_files * tried
+
+-- a commit before a try has named its files, and once it has
+abbrev pub IsOwn : TableSchema → OwnView → Type 0
+IsOwn s own = IsOwnAfter (length own.lost) s own
+
+abbrev pub IsTried : TableSchema → OwnView → Type 0
+IsTried s own = IsOwnAfter (length own.lost + 1) s own

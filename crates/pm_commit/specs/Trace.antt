@@ -1,0 +1,255 @@
+-- The own calls of a committer, and what they show.
+use Rattle.std.specs.Prelude.{◌≡◌, ◌⊎◌, ℕ, ◌+◌, List, [], ◌∷◌, ◌++◌, length, true, false, None, Some, IsSome, Ok, Err}
+use Rattle.std.specs.Prelude.{Result, IfErr}
+use Rattle.pm_values.specs.declared.refusal.Refusal.{Refusal}
+use Rattle.pm_values.specs.declared.refusal.Refusal.TheVariants as refusals
+use Rattle.pm_store.specs.Answers.{MayAnswer}
+use Rattle.pm_store.specs.declared.answer.Answer.{Answer}
+use Rattle.pm_store.specs.declared.answer.Answer.TheVariants as answers
+use Rattle.pm_store.specs.declared.answer.Made.{Made}
+use Rattle.pm_store.specs.declared.answer.Made.TheVariants as makes
+use Rattle.pm_store.specs.declared.answer.Published.{Published}
+use Rattle.pm_store.specs.declared.answer.Published.TheVariants as published
+use Rattle.pm_store.specs.declared.call.Call.{Call}
+use Rattle.pm_store.specs.declared.call.Call.TheVariants as calls
+use Rattle.pm_store.specs.Store.{StoreView}
+use Rattle.pm_machine.specs.Step.{path_of}
+use Rattle.pm_machine.specs.Trace.{Acts, Event, answered, faulted}
+use Rattle.pm_schema.specs.declared.schema.TableSchema.{TableSchema}
+use Rattle.pm_snapshot.specs.Snapshot.{snapshot_in}
+use Rattle.pm_snapshot.specs.declared.fault.SnapFault.TheVariants as faults
+use Rattle.pm_snapshot.specs.declared.snapshot.Snapshot.{Snapshot}
+use Rattle.pm_folder.specs.Paths.{snapshot_path}
+use Rattle.pm_view.specs.Trace.{Names}
+use Rattle.pm_table_view.specs.Trace as reader
+use Rattle.pm_table_view.specs.Trace.{read_file}
+use Rattle.pm_table_view.specs.declared.view.View.{View}
+use Rattle.pm_append.specs.Files.{IsAppendOf}
+use Rattle.pm_append.specs.Refusals.{refusal_of}
+use Rattle.pm_append.specs.declared.newest.Append.{Append}
+use Rattle.pm_append.specs.declared.newest.Author.{Author}
+use Rattle.pm_append.specs.declared.newest.CommitFile.{CommitFile}
+use Rattle.pm_commit.specs.Committer.{found_in, manifests_call, newest_in, newest_of, next_call, publish_call}
+use Rattle.pm_commit.specs.Committer.{publishing_of}
+use Rattle.pm_commit.specs.Marks.{FindsUsed}
+use Rattle.pm_commit.specs.Own.{OwnView, begun, tries, with_lost, with_named}
+use Rattle.pm_commit.specs.Search.{older_ids, seen_in, seen_of}
+use Rattle.pm_commit.specs.declared.search.Seen.{Seen}
+use Rattle.pm_commit.specs.declared.search.Seen.TheVariants as seen
+use Rattle.pm_commit.specs.declared.committer.CommitStep.{CommitStep}
+use Rattle.pm_commit.specs.declared.making.Publishing.{Publishing}
+use Rattle.pm_commit.specs.declared.phase.Phase.{Phase}
+use Rattle.pm_commit.specs.declared.phase.Phase.TheVariants as phases
+
+-- ---- its events
+
+abbrev pub listed_manifests : Names → Event
+listed_manifests names = answered manifests_call (answers.Listed names)
+
+abbrev pub creates : CommitFile → Made → Event
+creates file answer = answered (calls.Create file.path file.bytes) (answers.Made answer)
+
+abbrev pub publishes : Publishing → Published → Event
+publishes x answer = answered (publish_call x) (answers.Published answer)
+
+-- ---- a search
+
+-- snapshots were read in this order, and each was another user's
+abbrev pub HavePassed : Author → List ℕ → List Event → Type 0
+HavePassed a [] own = own ≡ []
+HavePassed a (id ∷ ids) own = (bytes : List ℕ) × (x : Snapshot) × (later : List Event) × (snapshot_in id bytes ≡ Ok x)
+    × (seen_of a x ≡ seen.Other) × (own ≡ read_file (snapshot_path id) (Some bytes) ∷ later) × HavePassed a ids later
+
+-- An earlier commit was looked for: the newest snapshot is another user's, and so is each that was read below it,
+-- falling; these are left.
+pub record Searched (o : OwnView) (v : View) (left : List ℕ) (own : List Event) : Type 0 where
+  pub asked : o.check ≡ true
+  pub newest : seen_in o.author v.snapshot ≡ seen.Other
+  pub passed : List ℕ
+  pub parts : older_ids v.listed.items ≡ passed ++ left
+  pub read : HavePassed o.author passed own
+
+-- what the snapshot says that the search came to last: the newest one, or an older one
+pub data Meets (o : OwnView) (v : View) (said : Seen) (own : List Event) : Type 0 where
+  at_newest : o.check ≡ true → seen_in o.author v.snapshot ≡ said → own ≡ [] → Meets o v said own
+  at_older : (id : ℕ) (left bytes : List ℕ) (x : Snapshot) (earlier : List Event) → Searched o v (id ∷ left) earlier
+      → snapshot_in id bytes ≡ Ok x → seen_of o.author x ≡ said
+      → own ≡ earlier ++ read_file (snapshot_path id) (Some bytes) ∷ [] → Meets o v said own
+
+-- Nothing keeps the try from its commit: no earlier one was looked for; or the user's last one has a smaller
+-- identifier; or none was found, be it that all snapshots were read, or that one was absent.
+pub data MayCommit (o : OwnView) (v : View) (own : List Event) : Type 0 where
+  not_asked : o.check ≡ false → own ≡ [] → MayCommit o v own
+  is_below : Meets o v seen.Below own → MayCommit o v own
+  is_none : Searched o v [] own → MayCommit o v own
+  is_absent : (id : ℕ) (left : List ℕ) (earlier : List Event) → Searched o v (id ∷ left) earlier
+      → own ≡ earlier ++ read_file (snapshot_path id) None ∷ [] → MayCommit o v own
+
+-- ---- a try
+
+-- the newest view was read
+abbrev pub Views : TableSchema → View → List Event → Type 0
+Views s v own = reader.HasView (newest_of s) v own × reader.HasSought (newest_of s) v own
+
+-- and then these searches were made, by a commit whose base is that of its first try
+abbrev pub HasSearch : TableSchema → OwnView → View → (OwnView → View → List Event → Type 0) → List Event → Type 0
+HasSearch s o v Ended own = (views searches : List Event) × Views s v views × Ended (begun v.id o) v searches
+    × (own ≡ views ++ searches)
+
+-- each of the files was created, in their order
+abbrev pub HaveCreated : List CommitFile → List Event → Type 0
+HaveCreated [] own = own ≡ []
+HaveCreated (file ∷ files) own =
+    (later : List Event) × (own ≡ creates file makes.Created ∷ later) × HaveCreated files later
+
+-- A try up to its publish: the view and the search, what was made of them, and the files that were created, of which
+-- these are left.
+pub record HasTry (s : TableSchema) (o : OwnView) (v : View) (made : Append) (left : List CommitFile) (own : List Event)
+    : Type 0 where
+  pub searches : List Event
+  pub creates : List Event
+  pub searched : HasSearch s o v MayCommit searches
+  pub is_made : IsAppendOf s (newest_in v) (begun v.id o).author (begun v.id o).batch (begun v.id o).names made
+  pub allowed : refusal_of (newest_in v) (begun v.id o).author (begun v.id o).batch ≡ None
+  pub done : List CommitFile
+  pub files : made.files.items ≡ done ++ left
+  pub created : HaveCreated done creates
+  pub is : own ≡ searches ++ creates
+
+-- ---- all tries
+
+-- the commit once a try has named its files, and once that was lost
+abbrev pub named_by : OwnView → View → Append → OwnView
+named_by o v made = with_named ((begun v.id o).names.count + length made.files.items) (begun v.id o)
+
+abbrev pub lost_by : OwnView → View → Append → OwnView
+lost_by o v made = with_lost made.id (named_by o v made)
+
+-- the answer of a publish that is lost
+abbrev pub IsLost : Published → Type 0
+IsLost published.Created = ⊥
+IsLost published.Exists = Unit {0}
+IsLost published.AfterGone = Unit {0}
+
+-- The manifests were listed and had no name of the actor's, and then each try was lost: this is the commit after them.
+pub data HaveLost (s : TableSchema) (first : OwnView) : OwnView → List Event → Type 0 where
+  has_listed : (names : Names) → FindsUsed first.names names.items None
+      → HaveLost s first first (listed_manifests names ∷ [])
+  has_lost : (o : OwnView) (v : View) (made : Append) (answer : Published) (earlier tried : List Event)
+      → HaveLost s first o earlier → HasTry s o v made [] tried → IsLost answer
+      → HaveLost s first (lost_by o v made) (earlier ++ (tried ++ publishes (publishing_of s made) answer ∷ []))
+
+-- and then came these calls of one more try
+abbrev pub AfterLost : TableSchema → OwnView → (OwnView → List Event → Type 0) → List Event → Type 0
+AfterLost s first Tried own = (o : OwnView) × (earlier later : List Event) × HaveLost s first o earlier
+    × Tried o later × (own ≡ earlier ++ later)
+
+-- ---- what they show
+
+-- the snapshot was published, with all files of its try
+abbrev pub Commits : TableSchema → Author → ℕ → OwnView → List Event → Type 0
+Commits s author id o own = (v : View) × (made : Append) × (tried : List Event) × HasTry s o v made [] tried
+    × (author ≡ (begun v.id o).author) × (id ≡ made.id)
+    × (own ≡ tried ++ publishes (publishing_of s made) published.Created ∷ [])
+
+-- the user had committed this before: its last commit that was found has no smaller identifier
+abbrev pub FindsDone : TableSchema → Author → OwnView → List Event → Type 0
+FindsDone s author o own = (v : View) × (author ≡ (begun v.id o).author)
+    × HasSearch s o v (λ o v. Meets o v seen.Reached) own
+
+-- a create met a file of the try
+abbrev pub MeetsFile : TableSchema → List ℕ → OwnView → List Event → Type 0
+MeetsFile s path o own = (v : View) × (made : Append) × (file : CommitFile) × (left : List CommitFile)
+    × (earlier : List Event) × HasTry s o v made (file ∷ left) earlier × (path ≡ file.path)
+    × (own ≡ earlier ++ creates file makes.Exists ∷ [])
+
+-- a file of the actor's name was there before: one that was listed, or one that a create met
+abbrev pub IsUsed : TableSchema → OwnView → List ℕ → List Event → Type 0
+IsUsed s first path own =
+    ((names : Names) × FindsUsed first.names names.items (Some path) × (own ≡ listed_manifests names ∷ []))
+    ⊎ AfterLost s first (MeetsFile s path) own
+
+-- there is a reason against the commit in what a try found
+abbrev pub FindsReason : TableSchema → Refusal → OwnView → List Event → Type 0
+FindsReason s refusal o own = (v : View)
+    × (refusal_of (newest_in v) (begun v.id o).author (begun v.id o).batch ≡ Some refusal)
+    × HasSearch s o v MayCommit own
+
+-- the file of an older snapshot has no snapshot's bytes
+abbrev pub Misreads : TableSchema → List ℕ → ℕ → OwnView → List Event → Type 0
+Misreads s path place o own = (v : View) × (id : ℕ) × (left bytes : List ℕ) × (earlier : List Event)
+    × HasSearch s o v (λ o v. Searched o v (id ∷ left)) earlier × (snapshot_in id bytes ≡ Err faults.Bad)
+    × (path ≡ snapshot_path id) × (place ≡ 0) × (own ≡ earlier ++ read_file path (Some bytes) ∷ [])
+
+-- eleven tries were lost
+abbrev pub IsContended : TableSchema → OwnView → List ℕ → List Event → Type 0
+IsContended s first ids own = (o : OwnView) × HaveLost s first o own × (o.lost ≡ ids) × (length ids ≡ tries)
+
+-- the calls of the try, begun as this, in each of its phases
+abbrev pub DidInTry : TableSchema → Phase → OwnView → List Event → Type 0
+DidInTry s (phases.Names o t) p own = ⊥
+DidInTry s (phases.View o m) p own = (o ≡ p) × reader.Did (newest_of s) m own
+DidInTry s (phases.Search o q) p own = (v : View) × (o ≡ begun v.id p) × (q.found ≡ found_in v)
+    × HasSearch s p v (λ p v. Searched p v (q.id ∷ q.left)) own
+DidInTry s (phases.Create o making) p own = (v : View) × (made : Append) × (o ≡ named_by p v made)
+    × (making.publishing ≡ publishing_of s made) × HasTry s p v made (making.next ∷ making.rest) own
+DidInTry s (phases.Publish o x) p own = (v : View) × (made : Append) × (o ≡ named_by p v made)
+    × (x ≡ publishing_of s made) × HasTry s p v made [] own
+DidInTry s (phases.Committed author id) p own = Commits s author id p own
+DidInTry s (phases.Already author) p own = FindsDone s author p own
+DidInTry s phases.Over p own = ⊥
+
+-- its calls so far, before its end
+abbrev pub DidSoFar : TableSchema → OwnView → Phase → List Event → Type 0
+DidSoFar s first (phases.Names o t) own = (o ≡ first) × (t ≡ s) × (own ≡ [])
+DidSoFar s first m own = AfterLost s first (DidInTry s m) own
+
+-- an answer by which the snapshot isn't published
+abbrev pub IsNoCommit : Answer → Type 0
+IsNoCommit (answers.Published published.Created) = ⊥
+IsNoCommit answer = Unit {0}
+
+-- memory ran out before a call, or after an answer by which the snapshot isn't published
+pub data MayEnd (s : TableSchema) (first : OwnView) (own : List Event) : Type 0 where
+  before_call : (m : Phase) → IsSome (next_call m) → DidSoFar s first m own → MayEnd s first own
+  after_answer : (m : Phase) (call : Call) (answer : Answer) (earlier : List Event) → DidSoFar s first m earlier
+      → next_call m ≡ Some call → MayAnswer call answer → IsNoCommit answer
+      → own ≡ earlier ++ answered call answer ∷ [] → MayEnd s first own
+
+-- the last call failed, and names its path
+pub record IsFailed (s : TableSchema) (first : OwnView) (path : List ℕ) (own : List Event) : Type 0 where
+  pub phase : Phase
+  pub call : Call
+  pub earlier : List Event
+  pub did : DidSoFar s first phase earlier
+  pub next : next_call phase ≡ Some call
+  pub is_path : path ≡ path_of call
+  pub is : own ≡ earlier ++ faulted call ∷ []
+
+-- which calls show a refusal, but those of a view's reader
+abbrev pub ShowsOwn : TableSchema → OwnView → Refusal → List Event → Type 0
+ShowsOwn s first refusals.Memory own = MayEnd s first own
+ShowsOwn s first (refusals.StoreFault path) own = IsFailed s first path own
+ShowsOwn s first (refusals.SessionUsed path) own = IsUsed s first path own
+ShowsOwn s first (refusals.Contended ids) own = IsContended s first ids own
+ShowsOwn s first (refusals.Damaged path place) own = AfterLost s first (Misreads s path place) own
+ShowsOwn s first (refusals.Fenced base fence) own = AfterLost s first (FindsReason s (refusals.Fenced base fence)) own
+ShowsOwn s first (refusals.Limit which number) own = AfterLost s first (FindsReason s (refusals.Limit which number)) own
+ShowsOwn s first other own = ⊥
+
+-- Which calls show a refusal: the reader of a try's view does, or one of these.
+abbrev pub Shows : TableSchema → OwnView → Refusal → List Event → Type 0
+Shows s first refusal own =
+    AfterLost s first (λ o later. reader.Shows (newest_of s) refusal later) own ⊎ ShowsOwn s first refusal own
+
+-- its calls so far, by its phase, where it began as this: at its end they show a refusal
+abbrev pub Did : TableSchema → OwnView → Phase → List Event → Type 0
+Did s first phases.Over own = (refusal : Refusal) × Shows s first refusal own
+Did s first m own = DidSoFar s first m own
+
+-- Whatever it began as, its next call is the next event of its calls so far, or none was made; and a refusal is shown
+-- by the calls up to it.
+abbrev pub CommitterActed : Phase → Phase → StoreView → StoreView → Result CommitStep Refusal → Type 0
+CommitterActed old new before after result = (s : TableSchema) (first : OwnView)
+    → Acts (Did s first old) (λ own. Did s first new own × IfErr result (λ refusal. Shows s first refusal own))
+    before after

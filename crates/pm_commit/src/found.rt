@@ -1,0 +1,11 @@
+//! A table as a try finds it.
+
+use pm_append::Newest;
+use pm_schema::TableSchema;
+
+/// The table's schema, and its newest snapshot.
+#[derive(Drop)]
+pub struct Found {
+    pub(crate) schema: TableSchema,
+    pub(crate) newest: Newest,
+}

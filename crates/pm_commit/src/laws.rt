@@ -1,0 +1,90 @@
+//! Laws of committers.
+
+ghost use Rattle.std.specs.Prelude.{◌≡◌, List, Result, Some};
+ghost use Rattle.pm_values.specs.declared.refusal.Refusal.{Refusal};
+ghost use Rattle.pm_store.specs.Answers.{Answers};
+ghost use Rattle.pm_store.specs.Files.{Files};
+ghost use Rattle.pm_store.specs.Store.{StoreView};
+ghost use Rattle.pm_store.specs.declared.answer.Answer.{Answer};
+ghost use Rattle.pm_store.specs.declared.call.Call.{Call};
+ghost use Rattle.pm_machine.specs.Moves.{Moves, Sound};
+ghost use Rattle.pm_machine.specs.Step.{Stepped};
+ghost use Rattle.pm_machine.specs.Trace.{Recounts};
+ghost use Rattle.pm_history.specs.History.{Entry, History};
+ghost use Rattle.pm_history.specs.Merge.{HistoryRow};
+ghost use Rattle.pm_schema.specs.declared.schema.TableSchema.{TableSchema as SchemaView};
+ghost use Rattle.pm_folder.specs.Changes.{Actor};
+ghost use Rattle.pm_folder.specs.Ledger.{Advances, Past, Stands};
+ghost use Rattle.pm_commit.specs.Alone.{KnewAlone, KnowsAlone};
+ghost use Rattle.pm_commit.specs.Committer.{next_call, Goes, IsCommitter, Refuses, Stops};
+ghost use Rattle.pm_commit.specs.Meaning.{IsOtherThan, Knows, MakesRows, MayRefuse};
+ghost use Rattle.pm_commit.specs.Own.{OwnView};
+ghost use Rattle.pm_commit.specs.Trace.{Did, Shows};
+ghost use Rattle.pm_commit.specs.declared.phase.Phase.{Phase};
+
+use pm_append::{append_law, own_files_law};
+use pm_contents::{one_contents_law, same_law};
+use pm_folder::{newest_law, unnamed_law};
+use pm_manifest::{ManifestMeta, joined_law, read_entry_law};
+use pm_record::one_reading_law;
+use pm_table_view::{entries_law, named_law};
+
+/// A committer keeps the laws of machines.
+pub(crate) fn machine_law()
+    ensures sound { (rows : List HistoryRow) → Sound next_call Goes Refuses Stops Stands (MakesRows rows) (Knows rows) }
+    ensures alone { (old new : Phase) (before after : StoreView) (result : Result (Unit {0}) Refusal)
+        → Stepped next_call Goes Refuses Stops old new before after result
+        → (e : Entry) (rows : List HistoryRow) (h : History)
+        → Moves Stands (MakesRows rows old) (KnewAlone e rows h old) (KnowsAlone e rows h new result) before after }
+    ensures recounts { (s : SchemaView) (first : OwnView)
+        → Recounts next_call Goes Refuses Stops (Did s first) (Shows s first) }
+{
+    joined_law();
+    one_reading_law::<ManifestMeta>();
+    read_entry_law();
+    one_contents_law();
+    same_law();
+    named_law();
+    entries_law();
+    newest_law();
+    unnamed_law();
+    append_law();
+    own_files_law();
+}
+
+/// What an answer leads to is a committer.
+pub(crate) fn committer_law()
+    ensures { (m : Phase) (answer : Answer) (later : Phase) → IsCommitter m → Goes m answer later → IsCommitter later }
+{
+    read_entry_law();
+}
+
+/// What a committer knows stays true through each kind of change of every other actor.
+pub fn known_law()
+    ensures { (rows : List HistoryRow) (m : Phase) (other : Actor) (f after : Files) (p q : Past) → Stands f p
+        → Advances other f p after q → IsOtherThan other m → Knows rows m f p → Knows rows m after q }
+{
+    unnamed_law();
+}
+
+/// Whatever others do between its calls, a folder that stands shows a committer no refusal but that memory ran out;
+/// that the newest snapshot has gone; that a file of its actor's name was there before; that its base was fenced or a
+/// limit would be exceeded; or that eleven tries were lost. So E10 and E11 never come of such a folder.
+pub fn causes_law()
+    ensures { (rows : List HistoryRow) (m new : Phase) (call : Call) (answer : Answer) (refusal : Refusal) (f : Files)
+        (p : Past) → Stands f p → Knows rows m f p → next_call m ≡ Some call → Answers call answer f
+        → Refuses m answer refusal new → MayRefuse m f p refusal }
+{
+    joined_law();
+    one_reading_law::<ManifestMeta>();
+    read_entry_law();
+    one_contents_law();
+    same_law();
+    named_law();
+    entries_law();
+    newest_law();
+    unnamed_law();
+    append_law();
+    own_files_law();
+    pm_table_view::causes_law();
+}

@@ -1,0 +1,117 @@
+//! A committer as a machine.
+
+ghost use Rattle.std.specs.Prelude.{◌≡◌, IfOk, IsSomeAnd};
+ghost use Rattle.pm_store.specs.Answers.{MayAnswer};
+ghost use Rattle.pm_commit.specs.Committer.{next_call, publish_call, After, IsCommitter};
+ghost use Rattle.pm_commit.specs.declared.phase.Phase.TheVariants as phases;
+
+use crate::after::{after_create, after_names, after_publish, after_search, after_view};
+use crate::committer::Committer;
+use crate::laws::committer_law;
+use crate::making::Publishing;
+use crate::paths::{after_path, snapshot_path};
+use crate::phase::Phase;
+use pm_machine::Machine;
+use pm_store::{Answer, Call};
+use pm_values::Refusal;
+use std::alloc::{AllocError, Global};
+use std::mem;
+
+impl Machine for Committer {
+    ghost use Rattle.pm_commit.specs.Committer.{next_call, Goes, Refuses, Stops};
+
+    ghost call_of = { next_call };
+
+    ghost goes = { Goes };
+
+    ghost refuses = { Refuses };
+
+    ghost stops = { Stops };
+
+    fn call(&self, alloc: Global) -> Result<Option<Call>, AllocError> {
+        match &self.phase {
+            Phase::Names { .. } => Ok(Some(Call::list(alloc, "manifest")?)),
+            Phase::View { reader, .. } => reader.call(alloc),
+            Phase::Search { searching, .. } => Ok(Some(Call::Read {
+                path: snapshot_path(alloc, searching.id)?,
+            })),
+            Phase::Create { making, .. } => {
+                let file = &making.next;
+                Ok(Some(Call::create(alloc, file.path.as_str(), file.bytes.as_bytes())?))
+            }
+            Phase::Publish { publishing, .. } => Ok(Some(publish_call(alloc, publishing)?)),
+            Phase::Committed { .. } | Phase::Already { .. } | Phase::Over => Ok(None),
+        }
+    }
+
+    fn take(&mut self, alloc: Global, answer: Answer) -> Result<(), Refusal> {
+        let phase = self.leave();
+        match next_phase(alloc, phase, answer) {
+            Ok(phase) => {
+                self.enter(phase);
+                Ok(())
+            }
+            Err(refusal) => Err(refusal),
+        }
+    }
+
+    fn stop(&mut self) {
+        drop(self.leave());
+    }
+}
+
+/// The call that publishes a snapshot after the one before it.
+fn publish_call(alloc: Global, publishing: &Publishing) -> Result<Call, AllocError>
+    ensures { IfOk result (λ call. call ≡ publish_call publishing.now) }
+{
+    let after = after_path(alloc, &publishing.schema, publishing.id)?;
+    let path = snapshot_path(alloc, publishing.id)?;
+    Call::publish(
+        alloc,
+        after.as_str(),
+        path.as_str(),
+        publishing.text.as_bytes(),
+    )
+}
+
+impl Committer {
+    /// Its phase, which is over then.
+    fn leave(&mut self) -> Phase
+        ensures left { (result ≡ self.old) × (self.new ≡ phases.Over) }
+        ensures is_committer { IsCommitter result }
+    {
+        mem::replace(&mut self.phase, Phase::Over)
+    }
+
+    /// It is in this phase now.
+    fn enter(&mut self, phase: Phase)
+        requires { IsCommitter phase }
+        ensures { self.new ≡ phase }
+    {
+        drop(mem::replace(&mut self.phase, phase));
+    }
+}
+
+/// The phase after an answer, or the refusal that it shows.
+fn next_phase(alloc: Global, phase: Phase, answer: Answer) -> Result<Phase, Refusal>
+    requires may { IsSomeAnd (next_call phase) (λ call. MayAnswer call answer) }
+    requires is_committer { IsCommitter phase }
+    ensures after { After phase answer result }
+    ensures is_committer { IfOk result IsCommitter }
+{
+    committer_law();
+    match (phase, answer) {
+        (Phase::Names { own, schema }, Answer::Listed(names)) => {
+            after_names(alloc, own, schema, names)
+        }
+        (Phase::View { own, reader }, answer) => after_view(alloc, own, reader, answer),
+        (Phase::Search { own, searching }, Answer::Found(bytes)) => {
+            after_search(alloc, own, searching, bytes)
+        }
+        (Phase::Create { own, making }, Answer::Made(made)) => after_create(own, making, made),
+        (Phase::Publish { own, publishing }, Answer::Published(published)) => {
+            after_publish(own, publishing, published)
+        }
+        _ => unreachable!(),
+    }
+}

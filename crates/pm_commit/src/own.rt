@@ -1,0 +1,70 @@
+//! What a commit is made of, and by whom.
+
+ghost use Rattle.std.specs.Prelude.{◌≡◌};
+ghost use Rattle.pm_commit.specs.Own.{begun, new_author, new_own};
+
+use pm_append::Author;
+use pm_base::Txt;
+use pm_values::Names;
+use pm_write::Batch;
+use std::alloc::Global;
+use std::marker::Model;
+
+/// What is appended and by whom, whether an earlier commit of the user is looked for, the maker of names, and the ids
+/// that tries lost to others.
+#[derive(Drop)]
+pub struct Own {
+    pub(crate) batch: Batch,
+    pub(crate) author: Author,
+    pub(crate) check: bool,
+    pub(crate) names: Names,
+    pub(crate) lost: Vec<u64>,
+}
+
+impl Model for Own {
+    ghost use Rattle.pm_commit.specs.Own.{own_of, OwnView};
+
+    ghost Value = { OwnView };
+
+    ghost view = { λ o. own_of o.batch o.author o.check o.names o.lost.items };
+}
+
+impl Own {
+    /// Before its first try, at that moment.
+    pub(crate) fn new(
+        alloc: Global,
+        batch: Batch,
+        user: Txt,
+        identifier: i64,
+        check: bool,
+        names: Names,
+        now_millis: i64,
+    ) -> Own
+        ensures { result ≡ new_own batch (new_author user identifier now_millis) check names }
+    {
+        let mut names = names;
+        names.set_base(0);
+        Own {
+            batch,
+            author: Author {
+                user,
+                identifier,
+                base: 0,
+                time: now_millis,
+            },
+            check,
+            names,
+            lost: Vec::new(alloc),
+        }
+    }
+
+    /// With the newest snapshot of the first try as its base.
+    pub(crate) fn begin(&mut self, newest: u64)
+        ensures { self.new ≡ begun newest self.old }
+    {
+        if self.lost.is_empty() {
+            self.author.base = newest;
+            self.names.set_base(newest);
+        }
+    }
+}
