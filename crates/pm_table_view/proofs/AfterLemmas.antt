@@ -22,7 +22,6 @@ use Rattle.pm_manifest.specs.declared.entry.Entry.{Entry}
 use Rattle.pm_manifest.specs.declared.entry.ManifestMeta.{ManifestMeta}
 use Rattle.pm_contents.specs.Groups.{AreNamed, HaveFolders, Overlaps}
 use Rattle.pm_contents.specs.Lists.{manifest_path, none_live}
-use Rattle.pm_levels.specs.Runs.{AreTwoOf}
 use Rattle.pm_view.specs.Trace.{Names}
 use Rattle.pm_table_view.specs.Asked.{Asked, SoughtView, sought_of}
 use Rattle.pm_table_view.specs.Log.{HaveGroups}

@@ -1,5 +1,5 @@
 -- Which refusals a folder that stands can show a reader, whatever others do between its calls.
-use Rattle.std.proofs.Common.{◌≡◌, ◌≢◌, inl, inr, ℕ, zero, suc, ◌≤◌, ◌<◌, List, [], ◌∷◌, ◌++◌, length, take, Bool, Option, None, Some, IsSome, IfSome, IsSomeAnd, Result, Ok, Err, refl, sym, ap, ◌∙◌, subst, arith, append_assoc}
+use Rattle.std.proofs.Common.{◌≡◌, ◌≢◌, inl, inr, ℕ, zero, suc, ◌≤◌, ◌<◌, List, [], ◌∷◌, ◌++◌, length, Bool, Option, None, Some, IsSome, IfSome, IsSomeAnd, Result, Ok, Err, refl, sym, ap, ◌∙◌, subst, arith, append_assoc}
 use Rattle.std.specs.FinMap as map
 use Rattle.std.proofs.lemmas.List.{append-nil}
 use Rattle.pm_values.specs.declared.file_meta.FileMeta.{FileMeta}
@@ -8,7 +8,6 @@ use Rattle.pm_values.specs.declared.refusal.Refusal.TheVariants as refusals
 use Rattle.pm_store.specs.declared.answer.Answer.{Answer}
 use Rattle.pm_store.specs.declared.answer.Answer.TheVariants as answers
 use Rattle.pm_store.specs.declared.call.Call.{Call}
-use Rattle.pm_store.specs.declared.call.Call.TheVariants as calls
 use Rattle.pm_store.specs.Answers.{Answers}
 use Rattle.pm_store.specs.Files.{Files, IsListing}
 use Rattle.pm_history.specs.History.{IsTableOf}
@@ -20,27 +19,26 @@ use Rattle.pm_snapshot.specs.declared.fault.SnapFault.TheVariants as faults
 use Rattle.pm_snapshot.specs.declared.snapshot.Snapshot.{Snapshot}
 use Rattle.pm_avro_schema.specs.Avro.{Avro}
 use Rattle.pm_record.specs.File.{Reading, ReadsFile}
-use Rattle.pm_levels.specs.Runs.{AreTwoOf}
 use Rattle.pm_manifest.specs.Entries.{entry_in, has_entry_fields}
 use Rattle.pm_manifest.specs.Listed.{has_meta_fields, meta_in}
-use Rattle.pm_manifest.specs.Live.{AreInOrder, IsOutOfOrder, Leaves, Live, live_after}
+use Rattle.pm_manifest.specs.Live.{AreInOrder, Leaves, Live, live_after}
 use Rattle.pm_manifest.specs.Shape.{shape_of}
 use Rattle.pm_manifest.specs.declared.entry.Entry.{Entry}
 use Rattle.pm_manifest.specs.declared.entry.ManifestMeta.{ManifestMeta}
 use Rattle.pm_contents.specs.Groups.{Overlaps}
-use Rattle.pm_contents.specs.Lists.{HasEntries, HaveEntries, IsList, IsManifest, manifest_path, none_live}
-use Rattle.pm_contents.specs.Named.{Contents, HasContents, IsNamed, base_list, delta_list}
+use Rattle.pm_contents.specs.Lists.{HaveEntries, IsList, IsManifest, manifest_path, none_live}
+use Rattle.pm_contents.specs.Named.{Contents, HasContents, base_list, delta_list}
 use Rattle.pm_contents.specs.Runs.{AreFilesOf}
 use Rattle.pm_folder.specs.Commits.{IsCommitted, live_in}
 use Rattle.pm_folder.specs.Ledger.{Past, Stands, count_of}
-use Rattle.pm_folder.specs.Meaning.{HasSnapshotAt, SnapshotAt}
+use Rattle.pm_folder.specs.Meaning.{HasSnapshotAt}
 use Rattle.pm_folder.specs.Paths.{snapshot_file, snapshot_folder, snapshot_path}
 use Rattle.pm_folder.proofs.Facts.{snapshot-committed, some-none}
 use Rattle.pm_folder.proofs.LedgerFacts.{at-table}
 use Rattle.pm_table_view.specs.Asked.{Asked}
-use Rattle.pm_table_view.specs.Meaning.{HasGone, IsExpired, IsReadingOf, Knows, MayRefuse, Stood}
+use Rattle.pm_table_view.specs.Meaning.{IsReadingOf, Knows, MayRefuse, Stood}
 use Rattle.pm_table_view.specs.Names.{IsLatest}
-use Rattle.pm_table_view.specs.Reader.{origin_name, origin_path, next_call, IsAbove, IsBad, IsListOf, IsManifestOf, MisreadsList, MisreadsManifest, RefusesEntries, Shown, disorder, overlap}
+use Rattle.pm_table_view.specs.Reader.{origin_name, next_call, IsAbove, IsBad, MisreadsList, MisreadsManifest, RefusesEntries, Shown, disorder, overlap}
 use Rattle.pm_table_view.specs.Reading.{ReadingView, live_of}
 use Rattle.pm_table_view.specs.declared.asked.Wanted.{Wanted}
 use Rattle.pm_table_view.specs.declared.asked.Wanted.TheVariants as wants

@@ -1,12 +1,12 @@
 -- The live entries are those of the files that are live after all entries, each once.
-use Rattle.std.proofs.Common.{◌≡◌, ◌≢◌, ◌⊎◌, inl, inr, ◌↔◌, ℕ, ◌<◌, Bool, true, false, cond, not, ◌&&◌, ◌||◌, if◌then◌else◌, List, [], ◌∷◌, filter, length, Contains, Option, None, Some, refl, sym, ap, ◌∙◌, subst, arith}
+use Rattle.std.proofs.Common.{◌≡◌, inl, inr, ◌<◌, Bool, true, false, cond, not, ◌&&◌, ◌||◌, if◌then◌else◌, List, [], ◌∷◌, filter, Contains, Option, None, Some, refl, sym, ap, ◌∙◌, subst, arith}
 use Rattle.std.specs.List.{AllPairs, last_or}
 use Rattle.std.specs.Option.{option_map_or}
 use Rattle.std.proofs.lemmas.List.Elements.{All-contains_itself, All-weaker}
 use Rattle.std.proofs.lemmas.List.Kept.{AllPairs-cons}
 use Rattle.pm_view.proofs.ListLemmas.{here, more, nowhere, cases}
 use Rattle.pm_manifest.specs.FileId.{id_eq, id_equiv}
-use Rattle.pm_manifest.specs.Live.{id_of, last_of, left_by, live_after, live_at}
+use Rattle.pm_manifest.specs.Live.{id_of, left_by, live_after, live_at}
 use Rattle.pm_manifest.specs.declared.entry.Entry.{Entry}
 use Rattle.pm_manifest.specs.declared.file_id.FileId.{FileId}
 use Rattle.pm_contents.specs.Lists.{none_live}

@@ -62,7 +62,7 @@ use Rattle.pm_table_view.specs.declared.phase.Phase.TheVariants as phases
 use Rattle.pm_table_view.specs.declared.view.View.{View}
 use Rattle.pm_table_view.specs.Names.{AreIds, IsLatest}
 use Rattle.pm_table_view.proofs.FaultLemmas.{IsFileFault, file_fault}
-use Rattle.pm_table_view.proofs.ListedLemmas.{count_grows, latest_is, sought_at, sought_by, sought_new, sought_still}
+use Rattle.pm_table_view.proofs.ListedLemmas.{latest_is, sought_at, sought_by, sought_new, sought_still}
 use Rattle.pm_table_view.proofs.LiveLemmas.{kept_join, kept_none}
 
 -- ---- its calls change nothing
@@ -723,6 +723,51 @@ steps_on {old = old} {new = new} (Went call answer at came on) left = goes_ahead
 steps_on (Refused call answer refusal at came on) left = tt
 steps_on (Stopped call at meanwhile stop) left = tt
 steps_on (Failed call at came stop) left = tt
+
+-- ---- which answers show that a snapshot is above the latest
+
+pub fault_other : (refusal : Refusal) (id latest : ℕ) → IsFileFault refusal → refusal ≡ refusals.NoSnapshot id latest → ⊥
+fault_other refusal id latest fault is = subst IsFileFault is fault
+
+pub memory_other : (refusal : Refusal) (id latest : ℕ) → refusal ≡ refusals.Memory → refusal ≡ refusals.NoSnapshot id latest → ⊥
+memory_other refusal id latest is other = let clash : refusals.Memory ≡ refusals.NoSnapshot id latest = sym is ∙ other in cc
+
+pub expired_other : (refusal : Refusal) (n id latest : ℕ) → refusal ≡ refusals.Expired n → refusal ≡ refusals.NoSnapshot id latest → ⊥
+expired_other refusal n id latest is other = let clash : refusals.Expired n ≡ refusals.NoSnapshot id latest = sym is ∙ other in cc
+
+pub damaged_other : (refusal : Refusal) (path : List ℕ) (id latest : ℕ) → refusal ≡ refusals.Damaged path 0 → refusal ≡ refusals.NoSnapshot id latest → ⊥
+damaged_other refusal path id latest is other = let clash : refusals.Damaged path 0 ≡ refusals.NoSnapshot id latest = sym is ∙ other in cc
+
+-- only those to a listing
+pub listing_only : (m : Phase) (answer : Answer) (refusal : Refusal) (id latest : ℕ) → Shown m answer refusal → refusal ≡ refusals.NoSnapshot id latest
+    → (a : Asked) × (m ≡ phases.List a)
+listing_only (phases.List a) answer refusal id latest shown other = (a, refl)
+listing_only (phases.Origin q) (answers.Found None) refusal id latest is other = absurd (expired_other refusal 0 id latest is other)
+listing_only (phases.Snapshot q n) (answers.Found None) refusal id latest is other = absurd (expired_other refusal n id latest is other)
+listing_only (phases.Snapshot q n) (answers.Found (Some bytes)) refusal id latest (inl is) other = absurd (memory_other refusal id latest is other)
+listing_only (phases.Snapshot q n) (answers.Found (Some bytes)) refusal id latest (inr (inl (is, bad))) other =
+    absurd (damaged_other refusal (snapshot_path n) id latest is other)
+listing_only (phases.Snapshot q n) (answers.Found (Some bytes)) refusal id latest (inr (inr (x, is, reads, differs))) other =
+    absurd (damaged_other refusal (schema_path x.schema_id) id latest is other)
+listing_only (phases.Base q x) (answers.Found found) refusal id latest (inl is) other = absurd (memory_other refusal id latest is other)
+listing_only (phases.Base q x) (answers.Found None) refusal id latest (inr none) other = absurd none
+listing_only (phases.Base q x) (answers.Found (Some bytes)) refusal id latest (inr fault) other =
+    absurd (fault_other refusal id latest (file_fault _ _ (manifest_path x.base_list) bytes refusal fault) other)
+listing_only (phases.Delta q x base) (answers.Found found) refusal id latest (inl is) other = absurd (memory_other refusal id latest is other)
+listing_only (phases.Delta q x base) (answers.Found None) refusal id latest (inr none) other = absurd none
+listing_only (phases.Delta q x base) (answers.Found (Some bytes)) refusal id latest (inr fault) other =
+    absurd (fault_other refusal id latest (file_fault _ _ (manifest_path x.delta_list) bytes refusal fault) other)
+listing_only (phases.Manifests r) (answers.Found found) refusal id latest (inl is) other = absurd (memory_other refusal id latest is other)
+listing_only (phases.Manifests r) (answers.Found None) refusal id latest (inr none) other = absurd none
+listing_only (phases.Manifests r) (answers.Found (Some bytes)) refusal id latest (inr (inl fault)) other =
+    absurd (fault_other refusal id latest (file_fault _ _ (manifest_path r.next.name) bytes refusal fault) other)
+listing_only (phases.Manifests r) (answers.Found (Some bytes)) refusal id latest (inr (inr (own, reads, disorder i out is))) other =
+    absurd (damaged_other refusal (manifest_path r.next.name) id latest is other)
+listing_only (phases.Manifests r) (answers.Found (Some bytes)) refusal id latest (inr (inr (own, reads, overlap live order left none over))) other =
+    absurd (subst (Overlaps r.sought.asked.schema live) other over)
+listing_only (phases.Again a n path) (answers.Found None) refusal id latest is other = absurd (expired_other refusal n id latest is other)
+listing_only (phases.Again a n path) (answers.Found (Some bytes)) refusal id latest is other = absurd (damaged_other refusal path id latest is other)
+listing_only m answer refusal id latest shown other = absurd shown
 
 -- ---- laws
 

@@ -1,5 +1,5 @@
 -- The snapshots that a listing of a table's folder has.
-use Rattle.std.proofs.Common.{◌≡◌, ◌⊎◌, inl, inr, ◌↔◌, ℕ, zero, suc, ◌≤◌, ◌+◌, List, Contains, length, Option, None, Some, IsSome, arith, ap, refl, sym, subst, length-append}
+use Rattle.std.proofs.Common.{◌≡◌, ◌⊎◌, inl, inr, ◌↔◌, ℕ, zero, suc, ◌≤◌, List, Contains, length, Option, None, Some, IsSome, arith, ap, refl, sym, subst, length-append}
 use Rattle.std.specs.FinMap as map
 use Rattle.pm_store.specs.Files.{Files, IsListing}
 use Rattle.pm_history.specs.History.{Entry, GoesOn, History, IsTableOf, no_table, table}

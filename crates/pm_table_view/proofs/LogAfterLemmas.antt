@@ -1,5 +1,5 @@
 -- What a reader of a changelog goes on with after an answer, and what it refuses, by what the parts of the code say.
-use Rattle.std.proofs.Common.{◌≡◌, ◌⊎◌, inl, inr, ◌↔◌, ℕ, ◌≤◌, List, [], ◌∷◌, ◌++◌, length, drop, Bool, true, false, IsTrue, Option, None, Some, Ok, sym, subst, refl, ◌∙◌}
+use Rattle.std.proofs.Common.{◌≡◌, ◌⊎◌, inl, inr, ℕ, ◌≤◌, List, [], length, Option, None, Some, Ok, sym, subst, ◌∙◌}
 use Rattle.std.specs.List.{AllByRecursion}
 use Rattle.pm_values.specs.declared.refusal.Refusal.{Refusal}
 use Rattle.pm_values.specs.declared.refusal.Refusal.TheVariants as refusals
@@ -15,7 +15,7 @@ use Rattle.pm_manifest.specs.Shape.{Shape, shape_of}
 use Rattle.pm_manifest.specs.declared.entry.Entry.{Entry}
 use Rattle.pm_manifest.specs.declared.entry.ManifestMeta.{ManifestMeta}
 use Rattle.pm_contents.specs.Lists.{IsChangelogEntry, manifest_path}
-use Rattle.pm_table_view.specs.Log.{HaveGroups, IsLogOf, LogAskedView, LogReadingView}
+use Rattle.pm_table_view.specs.Log.{HaveGroups, LogAskedView, LogReadingView}
 use Rattle.pm_table_view.specs.LogReader.{Goes, GoesOn, Opens, Shown, TakesOwn}
 use Rattle.pm_table_view.specs.Reader.{most, IsListOf, IsManifestOf, MisreadsManifest}
 use Rattle.pm_table_view.specs.declared.log_phase.LogPhase.{LogPhase}

@@ -1,6 +1,5 @@
 -- Which refusals a folder that stands can show a reader of a changelog, whatever others do between its calls.
-use Rattle.std.proofs.Common.{◌≡◌, inl, inr, List, ◌∷◌, ◌++◌, Option, None, Some, IfSome, sym, ◌∙◌, subst}
-use Rattle.std.specs.FinMap as map
+use Rattle.std.proofs.Common.{◌≡◌, inl, inr, List, ◌++◌, None, Some, IfSome, sym, ◌∙◌, subst}
 use Rattle.std.specs.List.{AllByRecursion}
 use Rattle.pm_base.proofs.Laws.{AllByRecursion-parts}
 use Rattle.pm_values.specs.declared.refusal.Refusal.{Refusal}

@@ -1,6 +1,5 @@
 -- A reader of a changelog keeps the laws of machines.
-use Rattle.std.proofs.Common.{◌≡◌, ◌≢◌, inl, inr, ℕ, ◌<◌, ◌≤◌, ◌+◌, suc, List, [], ◌∷◌, ◌++◌, length, Option, None, Some, IsSome, IfSome, Result, Ok, Err, OnOk, Contains, refl, sym, ap, ◌∙◌, subst, arith, append_assoc}
-use Rattle.std.specs.FinMap as map
+use Rattle.std.proofs.Common.{◌≡◌, inl, inr, ℕ, ◌<◌, ◌+◌, suc, List, [], ◌∷◌, ◌++◌, length, Option, None, Some, IsSome, IfSome, Result, OnOk, Contains, refl, sym, ap, ◌∙◌, subst, arith, append_assoc}
 use Rattle.std.specs.List.{AllByRecursion}
 use Rattle.std.proofs.lemmas.List.{append-nil}
 use Rattle.std.proofs.lemmas.List.Elements.{Contains-append_right}
@@ -12,7 +11,6 @@ use Rattle.pm_store.specs.declared.answer.Answer.{Answer}
 use Rattle.pm_store.specs.declared.answer.Answer.TheVariants as answers
 use Rattle.pm_store.specs.declared.call.Call.{Call}
 use Rattle.pm_store.specs.declared.call.Call.TheVariants as calls
-use Rattle.pm_store.specs.declared.call.Effect.{Effect}
 use Rattle.pm_store.specs.declared.call.Effect.TheVariants as effects
 use Rattle.pm_store.specs.Answers.{Answers, MayAnswer}
 use Rattle.pm_store.specs.Files.{Files, after_effect, carried}
@@ -22,14 +20,11 @@ use Rattle.pm_store.proofs.FileLaws.{effect_left}
 use Rattle.pm_machine.specs.Moves.{Leads, Sound}
 use Rattle.pm_machine.specs.Step.{path_of, Stepped, Rested, Went, Refused, Stopped, Failed}
 use Rattle.pm_machine.specs.Trace.{Event, Recounts, answered, faulted}
-use Rattle.pm_history.specs.History.{IsTableOf}
 use Rattle.pm_schema.specs.declared.schema.TableSchema.{TableSchema}
-use Rattle.pm_snapshot.specs.Names.{greatest}
-use Rattle.pm_snapshot.specs.Snapshot.{snapshot_in}
 use Rattle.pm_snapshot.specs.declared.snapshot.Snapshot.{Snapshot}
 use Rattle.pm_snapshot.proofs.Facts.{id_same}
 use Rattle.pm_folder.specs.Changes.{Actor}
-use Rattle.pm_folder.specs.Ledger.{Advances, Past, Stands, count_of}
+use Rattle.pm_folder.specs.Ledger.{Advances, Past, Stands}
 use Rattle.pm_folder.specs.Paths.{schema_path, snapshot_path}
 use Rattle.pm_folder.proofs.Facts.{goes_on}
 use Rattle.pm_folder.proofs.LedgerFacts.{gone-still, known-still}
@@ -42,14 +37,14 @@ use Rattle.pm_contents.specs.Lists.{HasChangelog, HaveEntries, IsChangelogEntry,
 use Rattle.pm_table_view.specs.Log.{IsLogOf, LogAskedView, LogReadingView}
 use Rattle.pm_table_view.specs.LogMeaning.{IsLogIn, IsReadingOf, Knows, LeavesFiles}
 use Rattle.pm_table_view.specs.LogReader.{calls_left, next_call, reached_at, Goes, GoesOn, Opens, Reaches, Refuses, Shown, Stops}
-use Rattle.pm_table_view.specs.LogTrace.{Did, FindsList, Has, HasLog, HasName, HasPart, IsDamaged, IsFailed, LacksFile, MayEnd, Misreads, Reads, Shows, at_first, at_list, at_manifest, at_part, at_snapshot, bad_schema, bad_snapshot, gone_again, gone_first, has_other, in_again, in_list, in_manifest, in_snapshot, is_absent, is_misread, lacks_list, lacks_manifest, misreads_list, misreads_manifest, of_list, without}
+use Rattle.pm_table_view.specs.LogTrace.{Did, FindsList, Has, HasLog, HasPart, IsFailed, LacksFile, MayEnd, Misreads, Shows, at_first, at_list, at_manifest, at_part, at_snapshot, bad_schema, bad_snapshot, gone_again, gone_first, has_other, in_again, in_list, in_manifest, in_snapshot, is_absent, is_misread, lacks_list, lacks_manifest, misreads_list, misreads_manifest, of_list, without}
 use Rattle.pm_table_view.specs.Meaning.{HasGone, IsKept, Stood}
 use Rattle.pm_table_view.specs.Reader.{most, IsListOf, IsManifestOf}
-use Rattle.pm_table_view.specs.Trace.{HaveRead, read_file}
+use Rattle.pm_table_view.specs.Trace.{read_file}
 use Rattle.pm_table_view.specs.declared.log.Log.{Log}
 use Rattle.pm_table_view.specs.declared.log_phase.LogPhase.{LogPhase}
 use Rattle.pm_table_view.specs.declared.log_phase.LogPhase.TheVariants as phases
-use Rattle.pm_table_view.proofs.Facts.{IsStill, OneList, both_if, entries_push, found_stood, gone_now, have_at, kept_same, one_list, read_push, some_there, stood_contents, stood_new, stood_still, table_still}
+use Rattle.pm_table_view.proofs.Facts.{IsStill, OneList, both_if, damaged_other, entries_push, expired_other, fault_other, found_stood, gone_now, have_at, kept_same, memory_other, one_list, read_push, some_there, stood_contents, stood_new, stood_still, table_still}
 use Rattle.pm_table_view.proofs.FaultLemmas.{IsFileFault, file_fault}
 use Rattle.pm_table_view.proofs.ListedLemmas.{count_grows}
 
@@ -378,6 +373,27 @@ steps_on (Stopped call at meanwhile stop) left = tt
 steps_on (Failed call at came stop) left = tt
 
 -- ---- laws
+
+-- no answer shows that a snapshot is above the latest
+pub never_above : (m : LogPhase) (answer : Answer) (refusal : Refusal) (id latest : ℕ) → Shown m answer refusal → refusal ≡ refusals.NoSnapshot id latest → ⊥
+never_above (phases.Snapshot a) (answers.Found None) refusal id latest is other = expired_other refusal a.id id latest is other
+never_above (phases.Snapshot a) (answers.Found (Some bytes)) refusal id latest (inl is) other = memory_other refusal id latest is other
+never_above (phases.Snapshot a) (answers.Found (Some bytes)) refusal id latest (inr (inl (is, bad))) other = damaged_other refusal (snapshot_path a.id) id latest is other
+never_above (phases.Snapshot a) (answers.Found (Some bytes)) refusal id latest (inr (inr (x, is, reads, differs))) other =
+    damaged_other refusal (schema_path x.schema_id) id latest is other
+never_above (phases.List a x list) (answers.Found found) refusal id latest (inl is) other = memory_other refusal id latest is other
+never_above (phases.List a x list) (answers.Found None) refusal id latest (inr none) other = absurd none
+never_above (phases.List a x list) (answers.Found (Some bytes)) refusal id latest (inr fault) other =
+    fault_other refusal id latest (file_fault _ _ (manifest_path list) bytes refusal fault) other
+never_above (phases.Manifests r) (answers.Found found) refusal id latest (inl is) other = memory_other refusal id latest is other
+never_above (phases.Manifests r) (answers.Found None) refusal id latest (inr none) other = absurd none
+never_above (phases.Manifests r) (answers.Found (Some bytes)) refusal id latest (inr (inl fault)) other =
+    fault_other refusal id latest (file_fault _ _ (manifest_path r.next.name) bytes refusal fault) other
+never_above (phases.Manifests r) (answers.Found (Some bytes)) refusal id latest (inr (inr (own, reads, no_log, is))) other =
+    damaged_other refusal (manifest_path r.next.name) id latest is other
+never_above (phases.Again a path) (answers.Found None) refusal id latest is other = expired_other refusal a.id id latest is other
+never_above (phases.Again a path) (answers.Found (Some bytes)) refusal id latest is other = damaged_other refusal path id latest is other
+never_above m answer refusal id latest shown other = absurd shown
 
 log_still : (other : Actor) (f after : Files) (p q : Past) (l : Log) → Advances other f p after q → IsLogIn p l → IsLogIn q l
 log_still other f after p q l advances (stood, has) = (

@@ -1,13 +1,12 @@
 -- The paths that are listed of a snapshot are those that it names.
-use Rattle.std.proofs.Common.{◌≡◌, ◌⊎◌, inl, inr, ◌↔◌, ℕ, List, [], ◌∷◌, ◌++◌, map, Contains, Option, None, Some, refl, sym, ap, subst}
+use Rattle.std.proofs.Common.{◌≡◌, inl, inr, ◌↔◌, ℕ, List, [], ◌∷◌, ◌++◌, map, Contains, Option, None, Some, refl, sym, subst}
 use Rattle.std.proofs.lemmas.List.Elements.{Contains-append_cases, Contains-append_left, Contains-append_right}
 use Rattle.pm_view.proofs.ListLemmas.{here, more, nowhere, cases}
 use Rattle.pm_schema.specs.declared.schema.TableSchema.{TableSchema}
 use Rattle.pm_snapshot.specs.declared.snapshot.Snapshot.{Snapshot}
-use Rattle.pm_manifest.specs.Live.{live_after}
 use Rattle.pm_manifest.specs.declared.entry.Entry.{Entry}
 use Rattle.pm_manifest.specs.declared.entry.ManifestMeta.{ManifestMeta}
-use Rattle.pm_contents.specs.Lists.{manifest_path, none_live}
+use Rattle.pm_contents.specs.Lists.{manifest_path}
 use Rattle.pm_contents.specs.Named.{Contents, IsNamed, base_list, changelog_list, changes_file, data_file, delta_list, manifest}
 use Rattle.pm_contents.specs.Runs.{data_path}
 use Rattle.pm_table_view.specs.Named.{file_paths, log_list_path, meta_paths, named_paths, parts_of}

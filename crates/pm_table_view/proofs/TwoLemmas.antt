@@ -1,5 +1,5 @@
 -- Two items of a list.
-use Rattle.std.proofs.Common.{◌≡◌, ◌≢◌, ℕ, zero, suc, List, [], ◌∷◌, remove, Contains, IsPermutation, refl, sym, arith}
+use Rattle.std.proofs.Common.{◌≢◌, zero, suc, List, ◌∷◌, remove, Contains, IsPermutation, refl, sym, arith}
 use Rattle.std.proofs.lemmas.List.Sorted.{Contains-permutation, IsPermutation-cons, IsPermutation-remove, IsPermutation-sym, IsPermutation-trans}
 use Rattle.pm_levels.specs.Runs.{AreTwoOf}
 

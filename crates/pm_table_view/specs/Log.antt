@@ -1,5 +1,5 @@
 -- The changelog of a snapshot, and how far its reading has come.
-use Rattle.std.specs.Prelude.{◌≡◌, ℕ, ◌≤◌, List}
+use Rattle.std.specs.Prelude.{◌≡◌, ℕ, List}
 use Rattle.std.specs.List.{AllByRecursion}
 use Rattle.pm_schema.specs.Folder.{FitsPartition}
 use Rattle.pm_schema.specs.declared.schema.TableSchema.{TableSchema}

@@ -29,7 +29,7 @@ use Rattle.pm_table_view.specs.Log.{HaveGroups}
 use Rattle.pm_table_view.specs.Names.{AreIds, IsLatest}
 use Rattle.pm_table_view.specs.Reading.{Filed, ReadingView, live_of, reading_of}
 use Rattle.pm_table_view.specs.View.{HasFolders, IsOriginView, IsSoughtBy, IsViewOf, kept_for}
-use Rattle.pm_table_view.specs.Asked.{Asked, ListsFirst, SoughtView, sought_of}
+use Rattle.pm_table_view.specs.Asked.{ListsFirst, SoughtView, sought_of}
 use Rattle.pm_table_view.specs.declared.asked.Wanted.{Wanted}
 use Rattle.pm_table_view.specs.declared.asked.Wanted.TheVariants as wants
 use Rattle.pm_table_view.specs.declared.phase.Phase.{Phase}

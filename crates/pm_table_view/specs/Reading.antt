@@ -35,8 +35,7 @@ abbrev pub reading_of : SoughtView → Snapshot → List ManifestMeta → Manife
 reading_of q x done next rest files kept =
     record { sought = q; snapshot = x; done = done; next = next; rest = rest; files = files; kept = kept }
 
--- the live files can be put into groups: each has its own entry, and is of a group of the table, as the kept entries
--- are
+-- the live files can be put into groups: each has its own entry, and is of a group of the table; so is each kept entry
 abbrev pub IsReading : ReadingView → Type 0
 IsReading r =
     AreNamed (live_of r.files) × HaveFolders r.sought.asked.schema (live_of r.files)

@@ -1,11 +1,11 @@
 //! The table at a snapshot, and the changelog of one, each read by a machine that makes one call of the store a step.
 //!
 //! A `ViewReader` lists the folder `snapshot` and reads the snapshot that is asked for, its two lists, and the
-//! manifests that these have, in their order; where a snapshot is asked for whole it lists nothing. It changes nothing.
-//! Once it is ready, its `View` has the runs of each group's live files, the ids of the snapshots that were listed, and
-//! where they are asked for (`entries`, `whole`) the entries of the live files in the order in which they come. Snapshot
-//! 0 is the origin, a table without files. A file that the snapshot names and that is absent makes it read the snapshot
-//! again: where that is absent too it is expired, else the folder is damaged.
+//! manifests that these have, in their order; of a snapshot that is asked for whole it begins with the read, without a
+//! listing. It changes nothing. Once it is ready, its `View` has the runs of each group's live files, the ids of the
+//! snapshots that were listed, and where they are asked for (`entries`, `whole`) the entries of the live files in the
+//! order in which they come. Snapshot 0 is the origin, a table without files. A file that the snapshot names and that
+//! is absent makes it read the snapshot again: where that is absent too it is expired, else the folder is damaged.
 //!
 //! A `LogReader` reads a snapshot, its changelog list and that list's manifests alone, in the same way, or goes on from
 //! a snapshot that was just read (`opened`): its `Log` has their entries. `named_paths` lists all paths that a snapshot

@@ -35,7 +35,6 @@ use Rattle.pm_table_view.specs.Reader as reader
 use Rattle.pm_table_view.specs.Reader.{most}
 use Rattle.pm_table_view.specs.Trace as reader_trace
 use Rattle.pm_table_view.specs.Trace.{of_origin, of_snapshot, read_file}
-use Rattle.pm_table_view.specs.declared.log.Log.{Log}
 use Rattle.pm_table_view.specs.declared.log_phase.LogPhase.{LogPhase}
 use Rattle.pm_table_view.specs.declared.log_phase.LogPhase.TheVariants as logs
 use Rattle.pm_table_view.specs.declared.phase.Phase as view_phase
@@ -46,7 +45,7 @@ use Rattle.pm_table_view.proofs.Facts.{Joined, OneList}
 use Rattle.pm_table_view.proofs.LogFacts as log_facts
 use Rattle.pm_whole_view.specs.Meaning.{Knows, LeavesFiles}
 use Rattle.pm_whole_view.specs.Trace.{Did, Follows, Shows, read_first, view_asked}
-use Rattle.pm_whole_view.specs.Whole.{next_call, calls_left, AfterLog, AfterView, Goes, IsOpened, IsWhole, Reaches, Refuses, Shown, Stops, reached_at}
+use Rattle.pm_whole_view.specs.Whole.{next_call, calls_left, AfterLog, AfterView, Goes, IsWhole, Reaches, Refuses, Shown, Stops, reached_at}
 use Rattle.pm_whole_view.specs.declared.phase.Phase.{Phase}
 use Rattle.pm_whole_view.specs.declared.phase.Phase.TheVariants as phases
 use Rattle.pm_whole_view.proofs.AfterLemmas.{some_same}

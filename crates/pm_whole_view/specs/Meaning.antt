@@ -1,5 +1,7 @@
 -- What a reader of a whole view knows of the snapshots, and what its steps mean for the files.
 use Rattle.std.specs.Prelude.{◌↔◌, ℕ, List, Contains}
+use Rattle.pm_values.specs.declared.refusal.Refusal.{Refusal}
+use Rattle.pm_values.specs.declared.refusal.Refusal.TheVariants as refusals
 use Rattle.pm_store.specs.Files.{Files}
 use Rattle.pm_store.specs.Store.{StoreView}
 use Rattle.pm_machine.specs.Moves.{Moves}
@@ -7,7 +9,7 @@ use Rattle.pm_folder.specs.Commits.{Names}
 use Rattle.pm_folder.specs.Ledger.{Past, Stands}
 use Rattle.pm_table_view.specs.LogMeaning as log
 use Rattle.pm_table_view.specs.Meaning as reader
-use Rattle.pm_table_view.specs.Meaning.{IsKept}
+use Rattle.pm_table_view.specs.Meaning.{IsExpired, IsKept}
 use Rattle.pm_table_view.specs.declared.log_phase.LogPhase.TheVariants as logs
 use Rattle.pm_table_view.specs.declared.phase.Phase.TheVariants as readers
 use Rattle.pm_whole_view.specs.declared.phase.Phase.{Phase}
@@ -24,6 +26,12 @@ Knows (phases.View m) f p = reader.Knows m f p
 Knows (phases.Log v m) f p = reader.Knows (readers.Ready v) f p × log.Knows m f p
 Knows (phases.Ready v l) f p = reader.Knows (readers.Ready v) f p × log.Knows (logs.Ready l) f p
 Knows phases.Over f p = Unit {0}
+
+-- The refusals that answers show where the files stand, whatever others do: the snapshot has gone, or memory ran out.
+abbrev pub MayRefuse : Files → Past → Refusal → Type 0
+MayRefuse f p refusals.Memory = Unit {0}
+MayRefuse f p (refusals.Expired id) = IsExpired f p id
+MayRefuse f p other = ⊥
 
 -- the paths are exactly those that the snapshot named, as it stood
 abbrev pub AreNamed : Past → Phase → List (List ℕ) → Type 0

@@ -13,7 +13,6 @@ use Rattle.pm_table_view.specs.Named.{named_paths, parts_of}
 use Rattle.pm_table_view.specs.Reader as reader
 use Rattle.pm_table_view.specs.Reader.{most}
 use Rattle.pm_table_view.specs.declared.asked.Wanted.TheVariants as wants
-use Rattle.pm_table_view.specs.declared.log.Log.{Log}
 use Rattle.pm_table_view.specs.declared.log_phase.LogPhase.{LogPhase}
 use Rattle.pm_table_view.specs.declared.log_phase.LogPhase.TheVariants as logs
 use Rattle.pm_table_view.specs.declared.phase.Phase as view_phase

@@ -8,9 +8,9 @@ ghost use Rattle.pm_store.specs.declared.answer.Answer.{Answer};
 ghost use Rattle.pm_store.specs.declared.call.Call.{Call};
 ghost use Rattle.pm_store.specs.Files.{Files};
 ghost use Rattle.pm_store.specs.Images.{MayLeave};
-ghost use Rattle.pm_table_view.specs.Meaning.{IsKept, MayRefuse};
+ghost use Rattle.pm_table_view.specs.Meaning.{IsKept};
 ghost use Rattle.pm_values.specs.declared.refusal.Refusal.{Refusal};
-ghost use Rattle.pm_whole_view.specs.Meaning.{AreNamed, Knows};
+ghost use Rattle.pm_whole_view.specs.Meaning.{AreNamed, Knows, MayRefuse};
 ghost use Rattle.pm_whole_view.specs.Whole.{next_call, paths_of, IsReady, IsWhole, Shown};
 ghost use Rattle.pm_whole_view.specs.declared.phase.Phase.{Phase};
 
@@ -26,7 +26,7 @@ pub fn known_law()
 /// that the snapshot has gone. So E10 and E11 never come of such a folder.
 pub fn causes_law()
     ensures { (m : Phase) (call : Call) (answer : Answer) (refusal : Refusal) (f : Files) (p : Past) → Stands f p
-        → Knows m f p → next_call m ≡ Some call → Answers call answer f → Shown m answer refusal
+        → IsWhole m → Knows m f p → next_call m ≡ Some call → Answers call answer f → Shown m answer refusal
         → MayRefuse f p refusal }
 {
     pm_table_view::causes_law();
