@@ -2,13 +2,11 @@
 //!
 //! What isn't handed on is dropped by name, as in `pm_table_view`.
 
-ghost use Rattle.std.specs.Prelude.{◌≡◌, ◌⊎◌, ◌<◌, ℕ, Some, IfErr, IfOk, IsSomeAnd};
+ghost use Rattle.std.specs.Prelude.{◌≡◌, ◌⊎◌, ◌<◌, IfErr, IfOk, IsSomeAnd};
 ghost use Rattle.pm_schema.specs.Again.{IsDeclared};
-ghost use Rattle.pm_snapshot.specs.declared.snapshot.Snapshot.{Snapshot as SnapshotView};
 ghost use Rattle.pm_store.specs.Answers.{MayAnswer};
-ghost use Rattle.pm_table_view.specs.Log.{log_asked_of, HaveGroups};
+ghost use Rattle.pm_table_view.specs.Log.{HaveGroups};
 ghost use Rattle.pm_table_view.specs.LogReader as logs;
-ghost use Rattle.pm_table_view.specs.LogReader.{Opens};
 ghost use Rattle.pm_table_view.specs.Reader as readers;
 ghost use Rattle.pm_table_view.specs.declared.phase.Phase.TheVariants as reader_phases;
 ghost use Rattle.pm_values.specs.declared.refusal.Refusal.TheVariants as refusals;

@@ -122,7 +122,7 @@ impl WholeReader {
     }
 
     /// States for clauses what each reader is.
-    fn known(&self)
+    pub fn known(&self)
         ensures { IsWhole self.now }
     {
         let _ = &self.phase;
