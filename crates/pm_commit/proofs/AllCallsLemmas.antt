@@ -1,28 +1,45 @@
 -- All calls of a committer, one after another.
-use Rattle.std.proofs.Common.{◌≡◌, ℕ, List, Option, None, Some, IsSomeAnd, Result, Ok, Err, subst, arith}
+use Rattle.std.proofs.Common.{◌≡◌, ◌⊎◌, inl, inr, ℕ, ◌≤◌, List, [], ◌∷◌, ◌++◌, Option, None, Some, IsSomeAnd, IfErr, Result, Ok, Err, refl, sym, ap, ◌∙◌, subst, arith}
+use Rattle.std.specs.FinMap as map
 use Rattle.pm_values.specs.declared.refusal.Refusal.{Refusal}
+use Rattle.pm_values.specs.declared.refusal.Refusal.TheVariants as refusals
 use Rattle.pm_store.specs.declared.call.Op.{Op}
-use Rattle.pm_store.specs.Files.{Files, files_after}
+use Rattle.pm_store.specs.Files.{Files, after_op, files_after}
+use Rattle.pm_store.specs.Images.{Extends}
 use Rattle.pm_store.specs.Store.{StoreView, IsAlone, IsLater}
-use Rattle.pm_machine.specs.Moves as machine
-use Rattle.pm_machine.specs.Moves.{Lasts}
-use Rattle.pm_machine.specs.Trace.{HasTrace}
-use Rattle.pm_machine.proofs.Facts.{HasTrace-acts, Stands-moves}
-use Rattle.pm_history.specs.History.{Entry, History}
-use Rattle.pm_history.specs.Merge.{HistoryRow}
+use Rattle.pm_store.proofs.ImageLaws.{Extends-trans, Extends-weaker}
+use Rattle.pm_machine.specs.Moves.{Keeps, Moves}
+use Rattle.pm_machine.specs.Trace.{Event, HasTrace, Traces}
+use Rattle.pm_machine.proofs.AloneLaws.{Extends-end, Follows, Follows-first, Follows-meanwhile, Follows-steps, Traces-first}
+use Rattle.pm_machine.proofs.Facts.{HasTrace-acts, Traces-faulted, Traces-none, image_changed}
+use Rattle.pm_history.specs.History.{Entry, History, IsTableOf, table}
 use Rattle.pm_schema.specs.declared.schema.TableSchema.{TableSchema}
+use Rattle.pm_snapshot.specs.declared.snapshot.Snapshot.{Snapshot}
 use Rattle.pm_folder.specs.Changes.{Actor}
-use Rattle.pm_folder.specs.Ledger.{Advances, Past, Stands}
+use Rattle.pm_folder.specs.Commits.{Names}
+use Rattle.pm_folder.specs.Folder.{Folder}
+use Rattle.pm_folder.specs.Ledger.{Advances, HasNamedNone, IsKnown, Past, Stands, count_of}
+use Rattle.pm_folder.specs.Meaning.{SnapshotAt}
+use Rattle.pm_view.specs.Reader.{schemas_call}
+use Rattle.pm_view.proofs.AllCallsLemmas as schema_calls
+use Rattle.pm_view.proofs.StillLemmas.{stayed}
 use Rattle.pm_append.specs.declared.newest.Author.{Author}
-use Rattle.pm_commit.specs.AllCalls.{Ends, Leaves}
-use Rattle.pm_commit.specs.Alone.{CommitterAlone, KnewAlone, KnowsAlone}
-use Rattle.pm_commit.specs.Meaning.{MakesIn, MakesRows, own_in}
-use Rattle.pm_commit.specs.Own.{OwnView}
+use Rattle.pm_commit.specs.AllCalls.{AppendsAlone, AppendsTables, DidAppend, Ends, Has, IsCounted, KnewFiles, KnowsFiles, LeavesFiles, LeavesFolder, MayBegin, SaysOf, SettlesFolder, StandsForEither, StoodSo}
+use Rattle.pm_commit.specs.Alone.{AloneAt, AloneRefused, Beginning, CommitterAlone, IsTryAt, KnewAlone, KnowsAlone, newest_id, own_entry, with_entry}
+use Rattle.pm_commit.specs.Committer.{IsCommitter}
+use Rattle.pm_commit.specs.Meaning.{Appends, KnowsOwn, MakesIn, MakesRows, entry_of, own_in}
+use Rattle.pm_commit.specs.Own.{OwnView, actor_of, begun, begun_after}
+use Rattle.pm_commit.specs.Search.{seen_of}
 use Rattle.pm_commit.specs.Trace.{CommitterActed, Did}
+use Rattle.pm_commit.specs.declared.all_calls.Appended.{Appended}
 use Rattle.pm_commit.specs.declared.all_calls.Appended.TheVariants as appends
 use Rattle.pm_commit.specs.declared.committer.CommitStep.{CommitStep}
+use Rattle.pm_commit.specs.declared.making.Publishing.{Publishing}
 use Rattle.pm_commit.specs.declared.phase.Phase.{Phase}
 use Rattle.pm_commit.specs.declared.phase.Phase.TheVariants as phases
+use Rattle.pm_commit.proofs.FailLemmas.{after-failed, shows-failed}
+use Rattle.pm_commit.proofs.PastLemmas.{found}
+use Rattle.pm_commit.proofs.JoinLemmas.{Traces-join, first-stays}
 
 -- ---- the trace
 
@@ -54,34 +71,6 @@ was_already s own m author first after is (events, did, trace) =
 abbrev pub PastLaw : Type 0
 PastLaw = (me : Actor) (f after : Files) (p q : Past) → Stands f p → Advances me f p after q → Stands after q
 
--- of what is known nothing else has to last
-abbrev Anything : Files → Past → Type 0
-Anything f p = Unit {0}
-
-lasts : PastLaw → (rows : List HistoryRow) (o : Option OwnView) → Lasts Stands (MakesIn o rows) Anything
-lasts law rows None = λ f after p later stands any none. absurd none
-lasts law rows (Some own) = λ f after p later stands any makes. (law _ f after p later stands makes.advances, tt)
-
--- files that stand for something that is known of them
-abbrev StandsWith : (Files → Past → Type 0) → Option (List Op) → Type 0
-StandsWith knows known = IsSomeAnd known (λ ops. (p : Past) × Stands (files_after ops) p × knows (files_after ops) p)
-
-with-any : (knows : Files → Past → Type 0) (known : Option (List Op)) → StandsWith knows known → StandsWith (λ f p. Anything f p × knows f p) known
-with-any knows None none = none
-with-any knows (Some ops) (p, stands, known) = (p, stands, (tt, known))
-
-without-any : (knows : Files → Past → Type 0) (known : Option (List Op)) → StandsWith (λ f p. Anything f p × knows f p) known → StandsWith knows known
-without-any knows None none = none
-without-any knows (Some ops) (p, stands, any) = (p, stands, any.1)
-
-pub step-alone : PastLaw → (e : Entry) (rows : List HistoryRow) (h : History) (old new : Phase) (before after : StoreView)
-    (result : Result CommitStep Refusal) → IsAlone before after → CommitterAlone old new before after result
-    → machine.Stands Stands (KnewAlone e rows h old) before → machine.Stands Stands (KnowsAlone e rows h new result) after
-step-alone law e rows h old new before after result alone moves stood =
-    without-any (KnowsAlone e rows h new result) after.ops
-    (Stands-moves Stands (MakesRows rows old) Anything (KnewAlone e rows h old) (KnowsAlone e rows h new result) (lasts law rows (own_in old)) before after alone
-    (moves e rows h) (with-any (KnewAlone e rows h old) before.ops stood))
-
 -- what is alone to the end is so up to a step, and in it
 pub alone-before : (first before after : StoreView) → IsLater first before → IsLater before after → IsAlone first after → IsAlone first before
 alone-before first before after early late alone = let low = early.others in let high = late.others in omega (arith, low, high, alone)
@@ -89,30 +78,312 @@ alone-before first before after early late alone = let low = early.others in let
 pub alone-in : (first before after : StoreView) → IsLater first before → IsLater before after → IsAlone first after → IsAlone before after
 alone-in first before after early late alone = let low = early.others in let high = late.others in omega (arith, low, high, alone)
 
+-- ---- what is known before a step, and after it
+
+-- the commit of a phase has the author of the entry, and the history is as it was
+record IsEntryOf (b : Beginning) (own : OwnView) (now : History) : Type 0 where
+  same : now ≡ b.history
+  entry : entry_of own.author b.rows ≡ own_entry b
+
+begun-entry : (b : Beginning) (n : ℕ) → entry_of (begun n b.own).author b.rows ≡ own_entry b
+begun-entry b n = at b.own.lost
+  where
+    at : (lost : List ℕ) → entry_of (begun_after lost n b.own).author b.rows ≡ own_entry b
+    at [] = refl
+    at (id ∷ lost) = refl
+
+entry-as : (b : Beginning) (o own : OwnView) → o ≡ own → entry_of o.author b.rows ≡ own_entry b → entry_of own.author b.rows ≡ own_entry b
+entry-as b o own same is = subst (λ (o : OwnView). entry_of o.author b.rows ≡ own_entry b) same is
+
+try-entry : (b : Beginning) (o : OwnView) (x : Publishing) → IsTryAt b o x → entry_of o.author b.rows ≡ own_entry b
+try-entry b o x ((count, is), at, reason) =
+    subst (λ (o : OwnView). entry_of o.author b.rows ≡ own_entry b) (sym is) (begun-entry b (newest_id b))
+
+own-entry-in : (b : Beginning) (m : Phase) (own : OwnView) (f : Files) (now : History) → own_in m ≡ Some own → AloneAt b m f now → IsEntryOf b own now
+own-entry-in b (phases.Names o s) own f now is (same, (unchanged, is_own)) =
+    record { same = same; entry = entry-as b o own (let e : o ≡ own = cc in e) (ap (λ (o : OwnView). entry_of o.author b.rows) is_own) }
+own-entry-in b (phases.View o m) own f now is (same, (unchanged, is_own, reads)) =
+    record { same = same; entry = entry-as b o own (let e : o ≡ own = cc in e) (ap (λ (o : OwnView). entry_of o.author b.rows) is_own) }
+own-entry-in b (phases.Search o q) own f now is (same, (unchanged, is_own, sees)) =
+    record {
+      same = same;
+      entry = entry-as b o own (let e : o ≡ own = cc in e) (ap (λ (o : OwnView). entry_of o.author b.rows) is_own ∙ begun-entry b (newest_id b));
+    }
+own-entry-in b (phases.Create o making) own f now is (same, (try, untouched)) =
+    record { same = same; entry = entry-as b o own (let e : o ≡ own = cc in e) (try-entry b o making.publishing try) }
+own-entry-in b (phases.Publish o x) own f now is (same, try) =
+    record { same = same; entry = entry-as b o own (let e : o ≡ own = cc in e) (try-entry b o x try) }
+own-entry-in b (phases.Committed author id) own f now is at = absurd (let clash = is in cc)
+own-entry-in b (phases.Already author) own f now is at = absurd (let clash = is in cc)
+own-entry-in b phases.Over own f now is at = absurd (let clash = is in cc)
+
+-- in each phase the history has the entry more, or is as it was
+either-at : (b : Beginning) (m : Phase) (f : Files) (now : History) → AloneAt b m f now → (now ≡ b.history) ⊎ (now ≡ with_entry (own_entry b) b.history)
+either-at b (phases.Committed author id) f now at = inr at.0
+either-at b (phases.Names own s) f now at = inl at.0
+either-at b (phases.View own m) f now at = inl at.0
+either-at b (phases.Search own q) f now at = inl at.0
+either-at b (phases.Create own making) f now at = inl at.0
+either-at b (phases.Publish own x) f now at = inl at.0
+either-at b (phases.Already author) f now at = inl at.0
+either-at b phases.Over f now at = inl at.0
+
+stands-either : (b : Beginning) (now : History) (f : Files) → Folder f now → (now ≡ b.history) ⊎ (now ≡ with_entry (own_entry b) b.history) → StandsForEither b f
+stands-either b now f folder (inl same) = inl (subst (Folder f) same folder)
+stands-either b now f folder (inr same) = inr (subst (Folder f) same folder)
+
+-- what the commit changes adds its entry, or leaves the history
+either-by : (b : Beginning) (now later : History) (own : OwnView) → IsEntryOf b own now → Appends own b.rows now later
+    → (later ≡ b.history) ⊎ (later ≡ with_entry (own_entry b) b.history)
+either-by b now later own is (inl stays) = inl (stays ∙ is.same)
+either-by b now later own is (inr (s, es, at, appended)) =
+    inr (appended ∙ ap (λ (x : Entry). table s (es ++ x ∷ [])) is.entry ∙ ap (with_entry (own_entry b)) (sym at ∙ is.same))
+
+-- the snapshots that were known are known as they were
+stood-on : (me : Actor) (f after : Files) (b : Beginning) (p q : Past) → p.history ≡ b.history → StoodSo b p → Advances me f p after q → StoodSo b q
+stood-on me f after b p q same stood advances = λ id known within.
+    let was : IsKnown p id = record {
+      after_origin = known.after_origin;
+      from = subst (λ (first : ℕ). first ≤ id) advances.first known.from;
+      to = subst (λ (h : History). id ≤ count_of h) (sym same) within;
+    } in
+    advances.same id was ∙ stood id was within
+
+module _ (law : PastLaw) (b : Beginning) (known : Option (List Op)) where
+  -- a change that a phase's commit makes, from files that stand for what is known
+  changed : (m : Phase) (f after : Files) (p q : Past) → Stands f p → StoodSo b p → AloneAt b m f p.history → MakesRows b.rows m f p after q
+      → Stands after q × StoodSo b q × StandsForEither b after
+  changed m f after p q stands stood at makes = by (own_in m) refl makes
+    where
+      by : (o : Option OwnView) → own_in m ≡ o → MakesIn o b.rows f p after q → Stands after q × StoodSo b q × StandsForEither b after
+      by None is makes = absurd makes
+      by (Some own) is makes =
+          let entry = own-entry-in b m own f p.history is at in
+          let then = law _ f after p q stands makes.advances in
+          let stays = stood-on _ f after b p q entry.same stood makes.advances in
+          let image = stands-either b q.history after then.folder (either-by b p.history q.history own entry makes.appends) in
+          (then, stays, image)
+
+  pub followed : (old new : Phase) (before after : StoreView) (result : Result CommitStep Refusal) → IsAlone before after
+      → CommitterAlone old new before after result → Follows (StandsForEither b) known before (KnewFiles b old)
+      → Follows (StandsForEither b) known after (KnowsFiles b new result)
+  followed old new before after result alone moves so = by (moves b)
+    where
+      by : Moves Stands (MakesRows b.rows old) (KnewAlone b old) (KnowsAlone b new result) before after
+          → Follows (StandsForEither b) known after (KnowsFiles b new result)
+      by (inl (op, steps)) =
+          Follows-steps (StandsForEither b) (KnewFiles b old) (KnowsFiles b new result) known op
+          (λ ops. Keeps Stands (MakesRows b.rows old) (KnewAlone b old) (KnowsAlone b new result) op (files_after ops)) before after so steps
+          (omega (arith, alone))
+          (λ ops here keeps.
+          let f = files_after ops in
+          let p = here.0 in
+          let got = keeps p here.1 here.3 in
+          let leads = got.1 in
+          let then = changed old f (after_op op f) p leads.0 here.1 here.2 here.3.1 leads.1 in (
+            (leads.0, then.0, then.1, leads.2),
+            λ image left.
+                let made = image_changed (MakesRows b.rows old) op.call f p got.0 image left in
+                (changed old f image p made.0 here.1 here.2 here.3.1 made.1).2,
+          ))
+      by (inr (meanwhile, stays)) =
+          let same = Follows-meanwhile (StandsForEither b) (KnewFiles b old) known before after so meanwhile (omega (arith, alone)) in
+          let here = same.here in record {
+            ops = same.ops;
+            is = same.is;
+            here = (here.0, here.1, here.2, stays (files_after same.ops) here.0 here.1 here.3);
+            images = same.images;
+          }
+
+  pub followed-first : (m : Phase) (store : StoreView) → store.ops ≡ known → LeavesFiles (KnewFiles b m) store
+      → Follows (StandsForEither b) known store (KnewFiles b m)
+  followed-first m store is here =
+      Follows-first (StandsForEither b) (KnewFiles b m) store known is (with-image known (subst (λ (known : Option (List Op)). Has known) is here))
+    where
+      Has : Option (List Op) → Type 0
+      Has known = IsSomeAnd known (λ ops. KnewFiles b m (files_after ops))
+
+      with-image : (known : Option (List Op)) → Has known → IsSomeAnd known (λ ops. StandsForEither b (files_after ops) × KnewFiles b m (files_after ops))
+      with-image None none = none
+      with-image (Some ops) here =
+          (stands-either b here.0.history (files_after ops) here.1.folder (either-at b m (files_after ops) here.0.history here.3.1), here)
+
 -- what was known of the files at the beginning, and is known before a step
-abbrev pub HasLasted : Phase → Phase → StoreView → StoreView → Type 0
-HasLasted first m before now = (e : Entry) (rows : List HistoryRow) (h : History) → IsAlone before now
-    → machine.Stands Stands (KnewAlone e rows h first) before → machine.Stands Stands (KnewAlone e rows h m) now
+abbrev pub HasFollowed : Phase → Phase → StoreView → StoreView → Type 0
+HasFollowed first m before now = (b : Beginning) → IsAlone before now → LeavesFiles (KnewFiles b first) before
+    → Follows (StandsForEither b) before.ops now (KnewFiles b m)
+
+pub followed-none : PastLaw → (m : Phase) (store : StoreView) → HasFollowed m m store store
+followed-none law m store = λ b alone here. followed-first law b store.ops m store refl here
 
 -- and is known after it
-pub lasted : PastLaw → (first old new : Phase) (start before after : StoreView) (result : Result CommitStep Refusal) → IsLater start before → IsLater before after
-    → HasLasted first old start before → CommitterAlone old new before after result → (e : Entry) (rows : List HistoryRow) (h : History) → IsAlone start after
-    → machine.Stands Stands (KnewAlone e rows h first) start → machine.Stands Stands (KnowsAlone e rows h new result) after
-lasted law first old new start before after result early late known moves e rows h alone stood =
-    step-alone law e rows h old new before after result (alone-in start before after early late alone) moves
-    (known e rows h (alone-before start before after early late alone) stood)
+pub followed-on : PastLaw → (first old new : Phase) (start before after : StoreView) (result : Result CommitStep Refusal) → IsLater start before
+    → IsLater before after → HasFollowed first old start before → CommitterAlone old new before after result → (b : Beginning) → IsAlone start after
+    → LeavesFiles (KnewFiles b first) start → Follows (StandsForEither b) start.ops after (KnowsFiles b new result)
+followed-on law first old new start before after result early late so moves b alone here =
+    followed law b start.ops old new before after result (alone-in start before after early late alone) moves
+    (so b (alone-before start before after early late alone) here)
 
 -- ---- its end
 
-pub left-committed : (e : Entry) (rows : List HistoryRow) (h : History) (m : Phase) (author : Author) (id : ℕ) → m ≡ phases.Committed author id
-    → (known : Option (List Op)) → StandsWith (KnewAlone e rows h m) known → StandsWith (λ f p. Leaves e rows h (Ok (appends.Committed id)) p) known
-left-committed e rows h m author id is None none = none
-left-committed e rows h m author id is (Some ops) (p, stands, known) =
-    (p, stands, (subst (λ (m : Phase). KnewAlone e rows h m (files_after ops) p) is known).1)
+module _ (b : Beginning) (start after : StoreView) where
+  abbrev Leaves : Result Appended Refusal → Type 0
+  Leaves result = LeavesFiles (λ f. LeavesFolder b result f × SaysOf b result) after × Extends (StandsForEither b) start.ops after.ops
 
-pub left-already : (e : Entry) (rows : List HistoryRow) (h : History) (m : Phase) (author : Author) → m ≡ phases.Already author
-    → (known : Option (List Op)) → StandsWith (KnewAlone e rows h m) known → StandsWith (λ f p. Leaves e rows h (Ok appends.Already) p) known
-left-already e rows h m author is None none = none
-left-already e rows h m author is (Some ops) (p, stands, known) =
-    let at = subst (λ (m : Phase). KnewAlone e rows h m (files_after ops) p) is known in
-    (p, stands, (at.1.0, (author, at.1.1, at.0.1)))
+  at-end : (result : Result Appended Refusal) (P : Files → Type 0) → ((f : Files) → P f → LeavesFolder b result f × SaysOf b result)
+      → Follows (StandsForEither b) start.ops after P → Leaves result
+  at-end result P weaker so = (
+    subst (λ (known : Option (List Op)). IsSomeAnd known (λ ops. LeavesFolder b result (files_after ops) × SaysOf b result)) (sym so.is) (weaker (files_after so.ops) so.here),
+    subst (λ (known : Option (List Op)). Extends (StandsForEither b) start.ops known) (sym so.is) so.images,
+  )
+
+  pub left-committed : (m : Phase) (by : Author) (id : ℕ) → m ≡ phases.Committed by id → Follows (StandsForEither b) start.ops after (KnewFiles b m)
+      → Leaves (Ok (appends.Committed id))
+  left-committed m by id is =
+      at-end (Ok (appends.Committed id)) (KnewFiles b m) (λ f here.
+      let known = subst (λ (m : Phase). KnewAlone b m f here.0) is here.3 in
+      let at = known.1 in
+      (subst (Folder f) at.0 here.1.folder, (at.1.1, at.1.2)))
+
+  -- which base an author has says nothing of its earlier commits
+  begun-seen : (x : Snapshot) (n : ℕ) → seen_of (begun n b.own).author x ≡ seen_of b.own.author x
+  begun-seen x n = at b.own.lost
+    where
+      at : (lost : List ℕ) → seen_of (begun_after lost n b.own).author x ≡ seen_of b.own.author x
+      at [] = refl
+      at (id ∷ lost) = refl
+
+  pub left-already : (m : Phase) (by : Author) → m ≡ phases.Already by → Follows (StandsForEither b) start.ops after (KnewFiles b m)
+      → Leaves (Ok appends.Already)
+  left-already m by is =
+      at-end (Ok appends.Already) (KnewFiles b m) (λ f here.
+      let known = subst (λ (m : Phase). KnewAlone b m f here.0) is here.3 in
+      let at = known.1 in
+      let earlier = known.0.1 in
+      let within : earlier.id ≤ newest_id b = subst (λ (h : History). earlier.id ≤ count_of h) at.0 earlier.known.to in (
+        (subst (Folder f) at.0 here.1.folder, at.1.0),
+        record {
+          id = earlier.id;
+          after_origin = earlier.known.after_origin;
+          within = within;
+          snapshot = earlier.snapshot;
+          there = subst (λ (f : Files). SnapshotAt f earlier.id earlier.snapshot) (here.2 earlier.id earlier.known within) earlier.stood;
+          reached = sym (ap (λ (a : Author). seen_of a earlier.snapshot) at.1.1 ∙ begun-seen earlier.snapshot (newest_id b)) ∙ earlier.reached;
+        },
+      ))
+
+  refused-leaves : (refusal : Refusal) (f : Files) (p : Past) → Folder f p.history → AloneRefused b refusal f p
+      → LeavesFolder b (Err refusal) f × SaysOf b (Err refusal)
+  refused-leaves refusals.Memory f p folder same = (subst (Folder f) same folder, tt)
+  refused-leaves (refusals.StoreFault path) f p folder (inl same) = (inl (subst (Folder f) same folder), tt)
+  refused-leaves (refusals.StoreFault path) f p folder (inr (same, is)) = (inr (subst (Folder f) same folder, is), tt)
+  refused-leaves (refusals.SessionUsed path) f p folder (same, used) = (subst (Folder f) same folder, used)
+  refused-leaves (refusals.Fenced base fence) f p folder (same, unchanged, reason) = ((subst (Folder f) same folder, unchanged), reason)
+  refused-leaves (refusals.Limit which number) f p folder (same, unchanged, reason) = ((subst (Folder f) same folder, unchanged), reason)
+  refused-leaves other f p folder none = absurd none
+
+  pub left-refused : (m : Phase) (refusal : Refusal) → Follows (StandsForEither b) start.ops after (KnowsFiles {X = CommitStep} b m (Err refusal))
+      → Leaves (Err refusal)
+  left-refused m refusal =
+      at-end (Err refusal) (KnowsFiles {X = CommitStep} b m (Err refusal)) (λ f here. refused-leaves refusal f here.0 here.1.folder here.3)
+
+-- ---- from the reading of the schema on
+
+pub first-traced : (s : TableSchema) (own : OwnView) (m : Phase) (store : StoreView) → m ≡ phases.Names own s → HasTrace (Did s own m) store store
+first-traced s own m store is = ([], subst (λ (m : Phase). Did s own m []) (sym is) (refl, refl, refl), Traces-none store)
+
+pub went_on : (s : TableSchema) (own : OwnView) (result : Result Appended Refusal) (first middle after : StoreView) → HasTrace (Has s) first middle
+    → HasTrace (Ends s own result) middle after → HasTrace (DidAppend s own result) first after
+went_on s own result first middle after (earlier, has, trace) (later, does, rest) =
+    (earlier ++ later, (earlier, later, has, refl, does), Traces-join earlier later first middle after trace rest)
+
+-- at first the committer knows its rows, and that no snapshot names a file of its actor
+first-known : (s : TableSchema) (b : Beginning) (f : Files) → f ≡ b.files → IsCommitter (phases.Names b.own s) → MayBegin s b
+    → IsTableOf s b.history → KnewFiles b (phases.Names b.own s) f
+first-known s b f same is begin table_is =
+    let was = found b.files b.history begin.start.0 in
+    let named : HasNamedNone (actor_of b.own) was.past = λ t id path at known names by.
+    begin.start.1 t id path (subst (IsTableOf t) was.history at) known.after_origin (subst (λ (h : History). id ≤ count_of h) was.history known.to)
+    (subst (λ (f : Files). Names f t id path) (was.stood id) names) by in
+    let knows : KnowsOwn b.own b.rows s was.past = record {
+      is_table = subst (IsTableOf s) (sym was.history) table_is;
+      fit = begin.fit;
+      batch = begin.batch;
+      may = begin.may;
+      unnamed = named;
+      from = subst (λ (n : ℕ). n ≤ count_of was.past.history) (sym begin.no_base) (omega arith);
+    } in (
+      was.past,
+      subst (λ (f : Files). Stands f was.past) (sym same) was.stands,
+      (λ id known within. was.stood id),
+      ((is, knows), (was.history, ((λ path. ap (λ (f : Files). map.get f path) same), refl))),
+    )
+
+settled : (b : Beginning) (result : Result Appended Refusal) (after : StoreView) → LeavesFiles (λ f. LeavesFolder b result f × SaysOf b result) after
+    → SettlesFolder b result after
+settled b (Ok (appends.Committed id)) after left = at after.ops refl left
+  where
+    at : (known : Option (List Op)) → after.ops ≡ known
+        → IsSomeAnd known (λ ops. LeavesFolder b (Ok (appends.Committed id)) (files_after ops) × SaysOf b (Ok (appends.Committed id)))
+        → Extends (λ f. Folder f (with_entry (own_entry b) b.history)) after.ops after.ops
+    at None is none = absurd none
+    at (Some ops) is here = Extends-end (λ f. Folder f (with_entry (own_entry b) b.history)) after.ops ops is here.0
+settled b (Ok appends.Already) after left = tt
+settled b (Err refusal) after left = tt
+
+leaves-of : (b : Beginning) (result : Result Appended Refusal) (known : Option (List Op))
+    → IsSomeAnd known (λ ops. LeavesFolder b result (files_after ops) × SaysOf b result)
+    → IsSomeAnd known (λ ops. LeavesFolder b result (files_after ops)) × SaysOf b result
+leaves-of b result None none = absurd none
+leaves-of b result (Some ops) here = here
+
+files-known : (P : Files → Type 0) (f : Files) (known : Option (List Op)) → ((g : Files) → g ≡ f → P g) → IsSomeAnd known (λ ops. files_after ops ≡ f)
+    → IsSomeAnd known (λ ops. P (files_after ops))
+files-known P f None at none = none
+files-known P f (Some ops) at same = at (files_after ops) same
+
+-- the store failed last, and that was counted
+counted : (s : TableSchema) (own : OwnView) (result : Result Appended Refusal) (earlier later : List Event) (first middle after : StoreView)
+    → Traces earlier first middle → Traces later middle after → Ends s own result later → IfErr result (IsCounted first after)
+counted s own (Ok x) earlier later first middle after trace rest ends = tt
+counted s own (Err (refusals.StoreFault path)) earlier later first middle after trace rest ends =
+    let last = after-failed earlier later (earlier ++ later) refl (shows-failed s own path later ends) in
+    Traces-faulted last.0 last.1 first after
+    (subst (λ (events : List Event). Traces events first after) last.2 (Traces-join earlier later first middle after trace rest))
+counted s own (Err other) earlier later first middle after trace rest ends = tt
+
+pub appended-history : (s : TableSchema) (own : OwnView) (m : Phase) (result : Result Appended Refusal) (before middle after : StoreView) → m ≡ phases.Names own s
+    → IsCommitter m → HasTrace (Has s) before middle → HasTrace (Ends s own result) middle after → IsLater middle after
+    → ((b : Beginning) → AppendsAlone b m middle after result) → AppendsTables s own before after result
+appended-history s own m result before middle after is committer (earlier, has, trace) (later, ends, rest) late leaves =
+    by earlier has trace
+  where
+    by : (earlier : List Event) → Has s earlier → Traces earlier before middle → AppendsTables s own before after result
+    by [] has trace = absurd (schema_calls.ready_calls s [] has).1
+    by (event ∷ events) has trace =
+        let calls = schema_calls.ready_calls s (event ∷ events) has in
+        let may = schema_calls.may_call (event ∷ events) calls in
+        let moment = Traces-first schemas_call (event ∷ events) before middle may.1 trace in
+        let first = moment.0 in
+        let is_first = moment.1 in (
+          first,
+          first-stays schemas_call events later event before first middle after moment.2 rest is_first,
+          λ alone b is_own had begin.
+              let stay = stayed b.files (event ∷ events) first middle may.0 moment.2 (alone-before first middle after is_first.later late alone) had in
+              let table_is = schema_calls.ready_at b.files b.history begin.start.0 s (event ∷ events) has stay.1 in
+              let at_first : m ≡ phases.Names b.own s = is ∙ ap (λ (own : OwnView). phases.Names own s) (sym is_own) in
+              let knew = files-known (KnewFiles b m) b.files middle.ops (λ f same. subst (λ (m : Phase). KnewFiles b m f) (sym at_first)
+              (first-known s b f same (subst IsCommitter at_first committer) begin table_is)) stay.0.here in
+              let left = leaves b (alone-in first middle after is_first.later late alone) knew in
+              let parts = leaves-of b result after.ops left.0 in record {
+                schema = table_is;
+                leaves = parts.0;
+                images = Extends-trans (StandsForEither b) first.ops middle.ops after.ops
+                    (Extends-weaker (λ f. f ≡ b.files) (StandsForEither b) first.ops middle.ops
+                    (λ f same. inl (subst (λ (f : Files). Folder f b.history) (sym same) begin.start.0)) stay.0.images)
+                    left.1;
+                settles = settled b result after left.0;
+                says = parts.1;
+                counted = counted s own result (event ∷ events) later first middle after moment.2 rest ends;
+              },
+        )

@@ -1,278 +1,312 @@
 -- What a committer does to a history where nobody else acts.
-use Rattle.std.proofs.Common.{◌≡◌, ◌⊎◌, inl, inr, ℕ, ◌+◌, Bool, true, false, List, [], ◌∷◌, ◌++◌, length, Option, None, Some, IsSome, IfSome, Result, Ok, Err, refl, sym, ap, ◌∙◌, subst}
+use Rattle.std.proofs.Common.{◌≡◌, ◌⊎◌, inl, inr, ℕ, ◌+◌, ◌≤◌, Bool, true, false, List, [], ◌∷◌, ◌++◌, length, Option, None, Some, IsSome, IfSome, Result, Ok, Err, refl, sym, ap, ◌∙◌, subst, arith}
 use Rattle.std.proofs.lemmas.Option.{IfSome_then}
 use Rattle.pm_values.specs.declared.refusal.Refusal.{Refusal}
 use Rattle.pm_values.specs.declared.refusal.Refusal.TheVariants as refusals
 use Rattle.pm_store.specs.Answers.{whole, Answers, MayHave, Meanwhile}
-use Rattle.pm_store.specs.Files.{Files, after_effect, carried, files_after}
+use Rattle.pm_store.specs.Files.{Files, Puts, after_effect, carried, files_after}
 use Rattle.pm_store.specs.Store.{StoreView}
 use Rattle.pm_store.specs.declared.answer.Answer.{Answer}
 use Rattle.pm_store.specs.declared.answer.Answer.TheVariants as answers
 use Rattle.pm_store.specs.declared.answer.Made.TheVariants as creates
+use Rattle.pm_store.specs.declared.answer.Published.{Published}
 use Rattle.pm_store.specs.declared.answer.Published.TheVariants as published
 use Rattle.pm_store.specs.declared.call.Call.{Call}
+use Rattle.pm_store.specs.declared.call.Call.TheVariants as calls
 use Rattle.pm_store.specs.declared.call.Effect.{Effect}
 use Rattle.pm_store.specs.declared.call.Effect.TheVariants as effects
 use Rattle.pm_store.specs.declared.call.Op.{Op}
+use Rattle.pm_store.proofs.ChangeLaws.{Answers-Changed}
 use Rattle.pm_store.proofs.StepLaws.{Meanwhile-refl, Steps-weaker}
 use Rattle.pm_machine.specs.Moves.{Keeps, Leads, Moves}
-use Rattle.pm_machine.specs.Step.{Stepped, Failed, Refused, Rested, Stopped, Went}
+use Rattle.pm_machine.specs.Step.{Stepped, Failed, Refused, Rested, Stopped, Went, path_of}
 use Rattle.pm_history.specs.History.{Entry, History, table}
 use Rattle.pm_history.specs.Merge.{HistoryRow}
-use Rattle.pm_schema.specs.declared.schema.TableSchema.{TableSchema}
+use Rattle.pm_snapshot.specs.Names.{greatest}
 use Rattle.pm_folder.specs.Ledger.{Past, Stands, count_of}
+use Rattle.pm_folder.specs.Paths.{snapshot_path}
 use Rattle.pm_table_view.specs.Reader as reader
 use Rattle.pm_table_view.specs.declared.phase.Phase as view_phase
 use Rattle.pm_table_view.specs.declared.phase.Phase.TheVariants as readers
 use Rattle.pm_table_view.specs.declared.view.View.{View}
+use Rattle.pm_table_view.proofs.Facts.{both_if}
+use Rattle.pm_append.specs.Refusals.{refusal_of}
 use Rattle.pm_append.specs.declared.newest.CommitFile.{CommitFile}
-use Rattle.pm_commit.specs.Alone.{AloneAt, AloneRefused, KnewAlone, KnowsAlone, with_entry}
-use Rattle.pm_commit.specs.Committer.{After, AfterReader, Goes, Hears, Loses, Makes, Outcome, Refuses, Seeks, Stops, Tries, TriesIf, create_next, first_of_try, found_in, next_call, publishing_of}
-use Rattle.pm_commit.specs.Meaning.{Appends, MakesIn, MakesRows, entry_of, own_in}
-use Rattle.pm_commit.specs.Own.{OwnView, begun, begun_after, with_lost, with_named}
+use Rattle.pm_commit.specs.Alone.{AloneAt, AloneRefused, AreUntouched, Beginning, IsTryAt, IsUnchanged, KnewAlone, KnowsAlone, ReadsNewest, SeesNewest, begun_at, newest_id, own_entry, with_entry}
+use Rattle.pm_commit.specs.Committer.{After, AfterReader, Goes, Hears, Makes, Outcome, Refuses, Seeks, Stops, Tries, TriesIf, create_next, first_of_try, found_in, next_call, publish_call, publishing_of}
+use Rattle.pm_commit.specs.Meaning.{Appends, KnowsTry, MakesRows, entry_of}
+use Rattle.pm_commit.specs.Own.{OwnView, begun, with_named}
 use Rattle.pm_commit.specs.Search.{older_ids, seen_in, seen_of}
+use Rattle.pm_commit.specs.Trace.{IsLost}
 use Rattle.pm_commit.specs.declared.found.Found.{Found}
 use Rattle.pm_commit.specs.declared.making.Publishing.{Publishing}
 use Rattle.pm_commit.specs.declared.phase.Phase.{Phase}
 use Rattle.pm_commit.specs.declared.phase.Phase.TheVariants as phases
 use Rattle.pm_commit.specs.declared.search.Seen.{Seen}
 use Rattle.pm_commit.specs.declared.search.Seen.TheVariants as seen
+use Rattle.pm_commit.proofs.AloneCauseLemmas.{begun-entry, begun-same, calm-caused, some-each, view-rests, view-sees}
+use Rattle.pm_commit.proofs.ApartLemmas.{PathParts, rest-apart, untouched-puts}
+use Rattle.pm_commit.proofs.CauseLemmas.{ReaderCauses}
 use Rattle.pm_commit.proofs.CommitterLemmas.{ok-err, ok-same, still-committer}
-use Rattle.pm_commit.proofs.Facts.{Laws, NoPublish, changes-on, keeps-on, lost-keeps, lost-leads, makes-on, published-leads}
+use Rattle.pm_commit.proofs.Facts.{Laws, NoPublish, changes-on, keeps-on, makes-on, published-leads}
+use Rattle.pm_commit.proofs.MadeLemmas.{allowed-id}
+use Rattle.pm_commit.proofs.NewestLemmas.{never-lost, reads-newest}
+use Rattle.pm_commit.proofs.TraceLemmas.{some-at}
 
--- ---- the author stays, and nothing is committed yet
+-- ---- nothing is committed yet
 
-module _ (e : Entry) (rows : List HistoryRow) (h now : History) (same : now ≡ h) where
-  abbrev IsOwnEntry : OwnView → Type 0
-  IsOwnEntry own = entry_of own.author rows ≡ e
+module _ (b : Beginning) (f : Files) (now : History) (same : now ≡ b.history) where
+  to-alone : (to new : Phase) → new ≡ to → AloneAt b to f now → AloneAt b new f now
+  to-alone to new is at = subst (λ (m : Phase). AloneAt b m f now) (sym is) at
 
-  begun-entry : (own : OwnView) (n : ℕ) → IsOwnEntry own → IsOwnEntry (begun n own)
-  begun-entry own n is = at own.lost
-    where
-      at : (lost : List ℕ) → IsOwnEntry (begun_after lost n own)
-      at [] = is
-      at (id ∷ lost) = is
+  create-alone : (own : OwnView) (x : Publishing) (files : List CommitFile) → IsTryAt b own x → AreUntouched b files f → AloneAt b (create_next own x files) f now
+  create-alone own x [] is untouched = (same, is)
+  create-alone own x (file ∷ files) is untouched = (same, (is, untouched))
 
-  create-alone : (own : OwnView) (x : Publishing) (files : List CommitFile) → IsOwnEntry own → AloneAt e rows h (create_next own x files) now
-  create-alone own x [] is = (same, is)
-  create-alone own x (file ∷ files) is = (same, is)
+  -- before the first file is created
+  module _ (unchanged : IsUnchanged b f) where
+    all-untouched : (files : List CommitFile) → AreUntouched b files f
+    all-untouched [] = tt
+    all-untouched (file ∷ files) = (unchanged file.path, all-untouched files)
 
-  to-alone : (to new : Phase) → new ≡ to → AloneAt e rows h to now → AloneAt e rows h new now
-  to-alone to new is at = subst (λ (m : Phase). AloneAt e rows h m now) (sym is) at
+    makes-alone : (own : OwnView) (found : Found) (new : Phase) → own ≡ begun_at b → SeesNewest b found → Makes own found (Ok new) → AloneAt b new f now
+    makes-alone own found new is sees (made, is_made, allowed, to) =
+        let count : ℕ = own.names.count + length made.files.items in
+        to-alone _ new to
+        (create-alone (with_named count own) (publishing_of found.schema made) made.files.items (
+          (count, ap (with_named count) is),
+          is_made.id ∙ ap (λ (id : ℕ). id + 1) sees.id,
+          (found, sees, subst (λ (o : OwnView). refusal_of found.newest o.author o.batch ≡ None) is allowed),
+        ) (all-untouched made.files.items))
 
-  makes-alone : (own : OwnView) (found : Found) (new : Phase) → IsOwnEntry own → Makes own found (Ok new) → AloneAt e rows h new now
-  makes-alone own found new is (made, is_made, allowed, to) =
-      to-alone _ new to
-      (create-alone (with_named (own.names.count + length made.files.items) own) (publishing_of found.schema made) made.files.items is)
+    seeks-alone : (own : OwnView) (found : Found) (left : List ℕ) (new : Phase) → own ≡ begun_at b → SeesNewest b found → Seeks own found left (Ok new)
+        → AloneAt b new f now
+    seeks-alone own found [] new is sees on = makes-alone own found new is sees on
+    seeks-alone own found (id ∷ left) new is sees (few, to) = to-alone _ new (ok-same new _ to) (same, (unchanged, is, sees))
 
-  seeks-alone : (own : OwnView) (found : Found) (left : List ℕ) (new : Phase) → IsOwnEntry own → Seeks own found left (Ok new) → AloneAt e rows h new now
-  seeks-alone own found [] new is on = makes-alone own found new is on
-  seeks-alone own found (id ∷ left) new is (few, to) = to-alone _ new (ok-same new _ to) (same, is)
+    hears-alone : (own : OwnView) (found : Found) (left : List ℕ) (said : Seen) (new : Phase) → own ≡ begun_at b → SeesNewest b found
+        → Hears own found left said (Ok new) → AloneAt b new f now
+    hears-alone own found left seen.Other new is sees on = seeks-alone own found left new is sees on
+    hears-alone own found left seen.Below new is sees on = makes-alone own found new is sees on
+    hears-alone own found left seen.Reached new is sees to =
+        to-alone _ new (ok-same new _ to) (same, (unchanged, ap (λ (o : OwnView). o.author) is))
 
-  hears-alone : (own : OwnView) (found : Found) (left : List ℕ) (said : Seen) (new : Phase) → IsOwnEntry own → Hears own found left said (Ok new)
-      → AloneAt e rows h new now
-  hears-alone own found left seen.Other new is on = seeks-alone own found left new is on
-  hears-alone own found left seen.Below new is on = makes-alone own found new is on
-  hears-alone own found left seen.Reached new is to = to-alone _ new (ok-same new _ to) (same, is)
+    tries-alone : (own : OwnView) (v : View) (new : Phase) → own ≡ begun_at b → SeesNewest b (found_in v) → Tries own v (Ok new) → AloneAt b new f now
+    tries-alone own v new is sees on = at own.check on
+      where
+        at : (check : Bool) → TriesIf check own v (Ok new) → AloneAt b new f now
+        at true on = hears-alone own (found_in v) (older_ids v.listed.items) (seen_in own.author v.snapshot) new is sees on
+        at false on = makes-alone own (found_in v) new is sees on
 
-  tries-alone : (own : OwnView) (v : View) (new : Phase) → IsOwnEntry own → Tries own v (Ok new) → AloneAt e rows h new now
-  tries-alone own v new is on = at own.check on
-    where
-      at : (check : Bool) → TriesIf check own v (Ok new) → AloneAt e rows h new now
-      at true on = hears-alone own (found_in v) (older_ids v.listed.items) (seen_in own.author v.snapshot) new is on
-      at false on = makes-alone own (found_in v) new is on
+    view-alone : (own : OwnView) (m : view_phase.Phase) (new : Phase) → own ≡ b.own → ReadsNewest (newest_id b) m
+        → ◌≡◌ {A = Outcome} (Ok new) (Ok (phases.View own m)) → AloneAt b new f now
+    view-alone own m new is newest to = to-alone (phases.View own m) new (ok-same new _ to) (same, (unchanged, is, newest))
 
-  view-alone : (own : OwnView) (m : view_phase.Phase) (new : Phase) → IsOwnEntry own → ◌≡◌ {A = Outcome} (Ok new) (Ok (phases.View own m))
-      → AloneAt e rows h new now
-  view-alone own m new is to = to-alone (phases.View own m) new (ok-same new _ to) (same, is)
-
-  reader-alone : (own : OwnView) (m : view_phase.Phase) (new : Phase) → IsOwnEntry own → AfterReader own m (Ok new) → AloneAt e rows h new now
-  reader-alone own (readers.List a) new is on = view-alone own (readers.List a) new is on
-  reader-alone own (readers.Origin q) new is on = view-alone own (readers.Origin q) new is on
-  reader-alone own (readers.Snapshot q id) new is on = view-alone own (readers.Snapshot q id) new is on
-  reader-alone own (readers.Base q x) new is on = view-alone own (readers.Base q x) new is on
-  reader-alone own (readers.Delta q x base) new is on = view-alone own (readers.Delta q x base) new is on
-  reader-alone own (readers.Manifests r) new is on = view-alone own (readers.Manifests r) new is on
-  reader-alone own (readers.Again a id path) new is on = view-alone own (readers.Again a id path) new is on
-  reader-alone own (readers.Ready v) new is on = tries-alone (begun v.id own) v new (begun-entry own v.id is) on
-  reader-alone own readers.Over new is on = view-alone own readers.Over new is on
-
-  on-alone : (m : Phase) (answer : Answer) (new : Phase) → NoPublish m → After m answer (Ok new) → IfSome (own_in m) IsOwnEntry → AloneAt e rows h new now
-  on-alone (phases.Names own s) (answers.Listed names) new calm (none, to) is = to-alone (first_of_try own s) new to (same, is)
-  on-alone (phases.View own m) answer new calm (to, goes, after) is = reader-alone own to new is after
-  on-alone (phases.Search own q) (answers.Found None) new calm on is = makes-alone own q.found new is on
-  on-alone (phases.Search own q) (answers.Found (Some bytes)) new calm (x, reads, on) is = hears-alone own q.found q.left (seen_of own.author x) new is on
-  on-alone (phases.Create own making) (answers.Made creates.Created) new calm to is =
-      to-alone _ new (ok-same new _ to) (create-alone own making.publishing making.rest is)
-  on-alone (phases.Create own making) (answers.Made creates.Exists) new calm to is = absurd (ok-err new _ to)
-  on-alone (phases.Publish own x) answer new calm after is = absurd calm
-  on-alone m answer new calm after is = absurd after
-
-  loses-alone : (own : OwnView) (s : TableSchema) (id : ℕ) (new : Phase) → IsOwnEntry own → Loses own s id (Ok new) → AloneAt e rows h new now
-  loses-alone own s id new is (left, to) = to-alone (first_of_try (with_lost id own) s) new to (same, is)
+    reader-alone : (own : OwnView) (m : view_phase.Phase) (new : Phase) → own ≡ b.own → ReadsNewest (newest_id b) m
+        → ((v : View) → m ≡ readers.Ready v → SeesNewest b (found_in v)) → AfterReader own m (Ok new) → AloneAt b new f now
+    reader-alone own (readers.List a) new is newest sees on = view-alone own (readers.List a) new is newest on
+    reader-alone own (readers.Origin q) new is newest sees on = view-alone own (readers.Origin q) new is newest on
+    reader-alone own (readers.Snapshot q id) new is newest sees on = view-alone own (readers.Snapshot q id) new is newest on
+    reader-alone own (readers.Base q x) new is newest sees on = view-alone own (readers.Base q x) new is newest on
+    reader-alone own (readers.Delta q x base) new is newest sees on = view-alone own (readers.Delta q x base) new is newest on
+    reader-alone own (readers.Manifests r) new is newest sees on = view-alone own (readers.Manifests r) new is newest on
+    reader-alone own (readers.Again a id path) new is newest sees on = view-alone own (readers.Again a id path) new is newest on
+    reader-alone own (readers.Ready v) new is newest sees on = tries-alone (begun v.id own) v new (begun-same b own v.id is newest) (sees v refl) on
+    reader-alone own readers.Over new is newest sees on = view-alone own readers.Over new is newest on
 
 -- ---- a step
 
--- what a phase with calls left has
-record IsOwnAt (e : Entry) (rows : List HistoryRow) (h : History) (m : Phase) (now : History) : Type 0 where
-  same : now ≡ h
-  entry : IfSome (own_in m) (λ own. entry_of own.author rows ≡ e)
+-- before the publish the history is the same
+calm-same : (b : Beginning) (m : Phase) (f : Files) (now : History) → IsSome (next_call m) → AloneAt b m f now → now ≡ b.history
+calm-same b (phases.Names own s) f now some alone = alone.0
+calm-same b (phases.View own m) f now some alone = alone.0
+calm-same b (phases.Search own q) f now some alone = alone.0
+calm-same b (phases.Create own making) f now some alone = alone.0
+calm-same b (phases.Publish own x) f now some alone = alone.0
+calm-same b (phases.Committed author id) f now some alone = absurd (let clash = some in cc)
+calm-same b (phases.Already author) f now some alone = absurd (let clash = some in cc)
+calm-same b phases.Over f now some alone = absurd (let clash = some in cc)
 
-own-at : (e : Entry) (rows : List HistoryRow) (h : History) (m : Phase) (now : History) → IsSome (next_call m) → AloneAt e rows h m now → IsOwnAt e rows h m now
-own-at e rows h (phases.Names own s) now some (same, is) = record { same = same; entry = is }
-own-at e rows h (phases.View own m) now some (same, is) = record { same = same; entry = is }
-own-at e rows h (phases.Search own q) now some (same, is) = record { same = same; entry = is }
-own-at e rows h (phases.Create own making) now some (same, is) = record { same = same; entry = is }
-own-at e rows h (phases.Publish own x) now some (same, is) = record { same = same; entry = is }
-own-at e rows h (phases.Committed author id) now some at = absurd (let clash = some in cc)
-own-at e rows h (phases.Already author) now some at = absurd (let clash = some in cc)
-own-at e rows h phases.Over now some at = absurd (let clash = some in cc)
+-- the entry of a commit whose try has named its files
+entry-same : (b : Beginning) (own : OwnView) (x : Publishing) → IsTryAt b own x → entry_of own.author b.rows ≡ own_entry b
+entry-same b own x ((count, is), next, gives) = ap (λ (o : OwnView). entry_of o.author b.rows) is ∙ begun-entry b.own (newest_id b) b.rows
 
 -- the history has the entry more, or stays
-either-way : (e : Entry) (rows : List HistoryRow) (h now later : History) (own : OwnView) → now ≡ h → entry_of own.author rows ≡ e → Appends own rows now later
-    → (later ≡ h) ⊎ (later ≡ with_entry e h)
-either-way e rows h now later own same is (inl stays) = inl (stays ∙ same)
-either-way e rows h now later own same is (inr (s, es, at, appended)) =
-    inr (appended ∙ ap (λ (x : Entry). table s (es ++ x ∷ [])) is ∙ ap (with_entry e) (sym at ∙ same))
+either-way : (b : Beginning) (now later : History) (own : OwnView) → now ≡ b.history → entry_of own.author b.rows ≡ own_entry b → Appends own b.rows now later
+    → (later ≡ b.history) ⊎ (later ≡ with_entry (own_entry b) b.history)
+either-way b now later own same is (inl stays) = inl (stays ∙ same)
+either-way b now later own same is (inr (s, es, at, appended)) =
+    inr (appended ∙ ap (λ (x : Entry). table s (es ++ x ∷ [])) is ∙ ap (with_entry (own_entry b)) (sym at ∙ same))
 
-module _ (laws : Laws) (e : Entry) (rows : List HistoryRow) (h : History) where
+-- the id of a publish may stand in a name
+try-bound : (own : OwnView) (rows : List HistoryRow) (x : Publishing) (left : List CommitFile) (f : Files) (p : Past) → KnowsTry own rows x left f p → x.id ≤ greatest
+try-bound own rows x left f p is_try =
+    let id = ap (λ (x : Publishing). x.id) is_try.is ∙ is_try.made.id in
+    let below = allowed-id is_try.attempt.newest is_try.attempt.author is_try.attempt.batch is_try.allowed in
+    omega (arith, id, below)
+
+module _ (laws : Laws) (causes : ReaderCauses) (parts : PathParts) (b : Beginning) where
+  -- no try is lost
+  lost-never : (own : OwnView) (x : Publishing) (answer : Published) (f : Files) (p : Past) → Stands f p → KnewAlone b (phases.Publish own x) f p
+      → Answers (publish_call x) (answers.Published answer) f → IsLost answer → ⊥
+  lost-never own x answer f p stands ((tried, (known, is_try)), (same, (count, next, gives))) told lost =
+      never-lost f p x answer stands known.is_table (next ∙ ap (λ (h : History). count_of h + 1) (sym same)) (try-bound own b.rows x [] f p is_try) told lost
+
+  -- what is so after an answer before the publish
+  alone-on : (m : Phase) (answer : Answer) (new : Phase) (f : Files) (p : Past) → NoPublish m → After m answer (Ok new) → Stands f p → KnewAlone b m f p
+      → IfSome (next_call m) (λ call. Answers call answer f → AloneAt b new (carried call f) p.history)
+  alone-on (phases.Names own s) (answers.Listed names) new f p calm (none, to) stands (known, (same, (unchanged, is))) = λ told.
+      to-alone b f p.history same (first_of_try own s) new to (same, (unchanged, is, tt))
+  alone-on (phases.View own m) answer new f p calm (to, goes, after) stands ((committer, (s, reads, known, reading, origin)), (same, (unchanged, is, newest))) =
+      some-each (reader.next_call m) _ (λ call at told.
+      (let rests = some-at (reader.next_call m) call _ at (view-rests m f) in
+      let newest_to = some-at (reader.next_call m) call _ at
+      (reads-newest laws.joined laws.lists f p s (newest_id b) stands (ap count_of (sym same)) m answer to reads reading newest goes) told in
+      subst (λ (g : Files). AloneAt b new g p.history) (sym rests) (reader-alone b f p.history same unchanged own to new is newest_to
+      (λ v ready. view-sees laws b f p stands same causes call answer s m v reads known.is_table reading origin unchanged at told
+      (subst (reader.Goes m answer) ready goes) (subst (ReadsNewest (newest_id b)) ready newest_to)) after)))
+  alone-on (phases.Search own q) (answers.Found None) new f p calm on stands (known, (same, (unchanged, is, sees))) = λ told.
+      makes-alone b f p.history same unchanged own q.found new is sees on
+  alone-on (phases.Search own q) (answers.Found (Some bytes)) new f p calm (x, reads, on) stands (known, (same, (unchanged, is, sees))) = λ told.
+      hears-alone b f p.history same unchanged own q.found q.left (seen_of own.author x) new is sees on
+  alone-on (phases.Create own making) (answers.Made creates.Created) new f p calm to stands ((tried, (known, is_try)), (same, (is, untouched))) = λ told.
+      let call : Call = calls.Create making.next.path making.next.bytes in
+      let puts : Puts f making.next.path (Some making.next.bytes) (carried call f) = Answers-Changed call (answers.Made creates.Created) f told in
+      let apart = rest-apart parts own b.rows making.publishing making.next making.rest f p is_try in
+      to-alone b (carried call f) p.history same _ new (ok-same new _ to)
+      (create-alone b (carried call f) p.history same own making.publishing making.rest is
+      (untouched-puts f b.files (carried call f) making.next.path making.next.bytes making.rest puts apart untouched.1))
+  alone-on (phases.Create own making) (answers.Made creates.Exists) new f p calm to stands known = absurd (ok-err new _ to)
+  alone-on (phases.Publish own x) answer new f p calm after stands known = absurd calm
+  alone-on m answer new f p calm after stands known = absurd after
+
   abbrev WentAlone : Phase → Phase → Files → Past → Files → Type 0
-  WentAlone m new f p after = Leads (MakesRows rows m) (KnewAlone e rows h new) f p after
+  WentAlone m new f p after = Leads (MakesRows b.rows m) (KnewAlone b new) f p after
 
-  went-calm : (m : Phase) (answer : Answer) (new : Phase) (f : Files) (p : Past) → IsSome (next_call m) → NoPublish m → After m answer (Ok new) → Stands f p
-      → KnewAlone e rows h m f p → IfSome (next_call m) (λ call. Answers call answer f → WentAlone m new f p (carried call f))
-  went-calm m answer new f p some calm after stands (known, alone) =
-      let own = own-at e rows h m p.history some alone in
-      IfSome_then (next_call m) (keeps-on laws rows m answer new f p calm after stands known.0 known.1) (λ call keeps told. (
+  went-calm : (m : Phase) (answer : Answer) (new : Phase) (f : Files) (p : Past) → NoPublish m → After m answer (Ok new) → Stands f p
+      → KnewAlone b m f p → IfSome (next_call m) (λ call. Answers call answer f → WentAlone m new f p (carried call f))
+  went-calm m answer new f p calm after stands known =
+      both_if (next_call m) _ _ _ (λ call keeps alone told. (
         p,
         (keeps told).0,
-        (
-          (still-committer laws.read m answer new known.0 after, (keeps told).1),
-          on-alone e rows h p.history own.same m answer new calm after own.entry,
-        ),
-      ))
+        ((still-committer laws.read m answer new known.0.0 after, (keeps told).1), alone told),
+      )) (keeps-on laws b.rows m answer new f p calm after stands known.0.0 known.0.1) (alone-on m answer new f p calm after stands known)
 
-  went-on : (m : Phase) (answer : Answer) (new : Phase) (f : Files) (p : Past) → IsSome (next_call m) → After m answer (Ok new) → Stands f p
-      → KnewAlone e rows h m f p → IfSome (next_call m) (λ call. Answers call answer f → WentAlone m new f p (carried call f))
-  went-on (phases.Publish own x) (answers.Published published.Created) new f p some is stands ((tried, known), (same, entry)) = λ told.
-      let leads = published-leads laws rows own x new f p is stands tried known.0 known.1 told in
-      let appended = leads.2.1 ∙ ap (λ (x : Entry). with_entry x p.history) entry ∙ ap (with_entry e) same in
-      let id = leads.2.2 ∙ ap (λ (h : History). count_of h + 1) same in (
+  went-on : (m : Phase) (answer : Answer) (new : Phase) (f : Files) (p : Past) → After m answer (Ok new) → Stands f p
+      → KnewAlone b m f p → IfSome (next_call m) (λ call. Answers call answer f → WentAlone m new f p (carried call f))
+  went-on (phases.Publish own x) (answers.Published published.Created) new f p is stands ((tried, known), (same, at)) = λ told.
+      let leads = published-leads laws b.rows own x new f p is stands tried known.0 known.1 told in
+      let appended = leads.2.1 ∙ ap (λ (x : Entry). with_entry x p.history) (entry-same b own x at) ∙ ap (with_entry (own_entry b)) same in
+      let id = leads.2.2 ∙ ap (λ (h : History). count_of h + 1) same in
+      let author = ap (λ (o : OwnView). o.author) at.0.1 in (
         leads.0,
         leads.1,
         (
           (still-committer laws.read (phases.Publish own x) (answers.Published published.Created) new tried is, leads.2.0),
-          subst (λ (m : Phase). AloneAt e rows h m leads.0.history) (sym (ok-same new _ is)) (appended, id),
+          subst (λ (m : Phase). AloneAt b m (carried (publish_call x) f) leads.0.history) (sym (ok-same new _ is)) (appended, (author, id, at.2)),
         ),
       )
-  went-on (phases.Publish own x) (answers.Published published.Exists) new f p some on stands ((tried, known), (same, entry)) = λ told.
-      let keeps = lost-leads laws rows own x published.Exists new f p tt on known.0 told in (
-        p,
-        keeps.0,
-        (
-          (still-committer laws.read (phases.Publish own x) (answers.Published published.Exists) new tried on, keeps.1),
-          loses-alone e rows h p.history same own x.schema x.id new entry on,
-        ),
-      )
-  went-on (phases.Publish own x) (answers.Published published.AfterGone) new f p some on stands ((tried, known), (same, entry)) = λ told.
-      let keeps = lost-leads laws rows own x published.AfterGone new f p tt on known.0 told in (
-        p,
-        keeps.0,
-        (
-          (still-committer laws.read (phases.Publish own x) (answers.Published published.AfterGone) new tried on, keeps.1),
-          loses-alone e rows h p.history same own x.schema x.id new entry on,
-        ),
-      )
-  went-on (phases.Publish own x) answer new f p some after stands known = absurd after
-  went-on (phases.Names own s) answer new f p some after stands known = went-calm (phases.Names own s) answer new f p some tt after stands known
-  went-on (phases.View own m) answer new f p some after stands known = went-calm (phases.View own m) answer new f p some tt after stands known
-  went-on (phases.Search own q) answer new f p some after stands known = went-calm (phases.Search own q) answer new f p some tt after stands known
-  went-on (phases.Create own making) answer new f p some after stands known = went-calm (phases.Create own making) answer new f p some tt after stands known
-  went-on (phases.Committed author id) answer new f p some after stands known = absurd after
-  went-on (phases.Already author) answer new f p some after stands known = absurd after
-  went-on phases.Over answer new f p some after stands known = absurd after
+  went-on (phases.Publish own x) (answers.Published published.Exists) new f p on stands known = λ told.
+      absurd (lost-never own x published.Exists f p stands known told tt)
+  went-on (phases.Publish own x) (answers.Published published.AfterGone) new f p on stands known = λ told.
+      absurd (lost-never own x published.AfterGone f p stands known told tt)
+  went-on (phases.Publish own x) answer new f p after stands known = absurd after
+  went-on (phases.Names own s) answer new f p after stands known = went-calm (phases.Names own s) answer new f p tt after stands known
+  went-on (phases.View own m) answer new f p after stands known = went-calm (phases.View own m) answer new f p tt after stands known
+  went-on (phases.Search own q) answer new f p after stands known = went-calm (phases.Search own q) answer new f p tt after stands known
+  went-on (phases.Create own making) answer new f p after stands known = went-calm (phases.Create own making) answer new f p tt after stands known
+  went-on (phases.Committed author id) answer new f p after stands known = absurd after
+  went-on (phases.Already author) answer new f p after stands known = absurd after
+  went-on phases.Over answer new f p after stands known = absurd after
 
-  -- a refusal that an answer shows leaves the history
-  refused-calm : (m : Phase) (f : Files) (p : Past) → IsSome (next_call m) → NoPublish m → Stands f p → KnewAlone e rows h m f p
-      → IfSome (next_call m) (λ call. Leads (MakesRows rows m) (λ g q. q.history ≡ h) f p (carried call f))
-  refused-calm m f p some calm stands (known, alone) =
-      let own = own-at e rows h m p.history some alone in
-      IfSome_then (next_call m) (makes-on laws rows m f p calm stands known.0 known.1) (λ call makes. (p, makes effects.Whole, own.same))
+  -- a refusal that an answer shows
+  abbrev RefusedAlone : Phase → Refusal → Files → Past → Files → Type 0
+  RefusedAlone m refusal f p after = Leads (MakesRows b.rows m) (AloneRefused b refusal) f p after
 
-  refused-on : (m : Phase) (answer : Answer) (refusal : Refusal) (f : Files) (p : Past) → IsSome (next_call m) → After m answer (Err refusal) → Stands f p
-      → KnewAlone e rows h m f p
-      → IfSome (next_call m) (λ call. Answers call answer f → Leads (MakesRows rows m) (λ g q. q.history ≡ h) f p (carried call f))
-  refused-on (phases.Publish own x) (answers.Published published.Created) refusal f p some is stands known = absurd (let clash = is in cc)
-  refused-on (phases.Publish own x) (answers.Published published.Exists) refusal f p some on stands (known, (same, entry)) = λ told.
-      (p, lost-keeps laws rows own x published.Exists f p tt told, same)
-  refused-on (phases.Publish own x) (answers.Published published.AfterGone) refusal f p some on stands (known, (same, entry)) = λ told.
-      (p, lost-keeps laws rows own x published.AfterGone f p tt told, same)
-  refused-on (phases.Publish own x) answer refusal f p some after stands known = absurd after
-  refused-on (phases.Names own s) answer refusal f p some after stands known = λ told. refused-calm (phases.Names own s) f p some tt stands known
-  refused-on (phases.View own m) answer refusal f p some after stands known =
-      IfSome_then (reader.next_call m) (refused-calm (phases.View own m) f p some tt stands known) (λ call leads told. leads)
-  refused-on (phases.Search own q) answer refusal f p some after stands known = λ told. refused-calm (phases.Search own q) f p some tt stands known
-  refused-on (phases.Create own making) answer refusal f p some after stands known = λ told. refused-calm (phases.Create own making) f p some tt stands known
-  refused-on (phases.Committed author id) answer refusal f p some after stands known = absurd after
-  refused-on (phases.Already author) answer refusal f p some after stands known = absurd after
-  refused-on phases.Over answer refusal f p some after stands known = absurd after
+  refused-calm : (m : Phase) (answer : Answer) (refusal : Refusal) (f : Files) (p : Past) → NoPublish m → After m answer (Err refusal) → Stands f p
+      → KnewAlone b m f p → IfSome (next_call m) (λ call. Answers call answer f → RefusedAlone m refusal f p (carried call f))
+  refused-calm m answer refusal f p calm after stands known =
+      both_if (next_call m) _ _ _ (λ call makes caused told. (p, makes effects.Whole, caused told)) (makes-on laws b.rows m f p calm stands known.0.0 known.0.1)
+      (calm-caused laws causes b m answer refusal f p calm stands known after)
 
-  -- memory ran out, or one that the answer shows
-  left-alone : (refusal : Refusal) (now : History) → now ≡ h → AloneRefused e h refusal now
-  left-alone refusals.Memory now same = same
-  left-alone (refusals.StoreFault path) now same = inl same
-  left-alone other now same = same
+  refused-on : (m : Phase) (answer : Answer) (refusal : Refusal) (f : Files) (p : Past) → After m answer (Err refusal) → Stands f p
+      → KnewAlone b m f p → IfSome (next_call m) (λ call. Answers call answer f → RefusedAlone m refusal f p (carried call f))
+  refused-on (phases.Publish own x) (answers.Published published.Created) refusal f p is stands known = absurd (let clash = is in cc)
+  refused-on (phases.Publish own x) (answers.Published published.Exists) refusal f p on stands known = λ told.
+      absurd (lost-never own x published.Exists f p stands known told tt)
+  refused-on (phases.Publish own x) (answers.Published published.AfterGone) refusal f p on stands known = λ told.
+      absurd (lost-never own x published.AfterGone f p stands known told tt)
+  refused-on (phases.Publish own x) answer refusal f p after stands known = absurd after
+  refused-on (phases.Names own s) answer refusal f p after stands known = refused-calm (phases.Names own s) answer refusal f p tt after stands known
+  refused-on (phases.View own m) answer refusal f p after stands known = refused-calm (phases.View own m) answer refusal f p tt after stands known
+  refused-on (phases.Search own q) answer refusal f p after stands known = refused-calm (phases.Search own q) answer refusal f p tt after stands known
+  refused-on (phases.Create own making) answer refusal f p after stands known = refused-calm (phases.Create own making) answer refusal f p tt after stands known
+  refused-on (phases.Committed author id) answer refusal f p after stands known = absurd after
+  refused-on (phases.Already author) answer refusal f p after stands known = absurd after
+  refused-on phases.Over answer refusal f p after stands known = absurd after
 
   -- a fault of the store
-  failed-on : (m : Phase) (effect : Effect) (f : Files) (p : Past) → IsSome (next_call m) → Stands f p → KnewAlone e rows h m f p
-      → IfSome (next_call m) (λ call. Leads (MakesRows rows m) (λ g q. (q.history ≡ h) ⊎ (q.history ≡ with_entry e h)) f p (after_effect call effect f))
-  failed-on m effect f p some stands (known, alone) =
-      let own = own-at e rows h m p.history some alone in
-      IfSome_then (next_call m) (changes-on laws rows m f p stands known.0 known.1) (λ call changes. (let change = changes effect in
-      (change.0, change.1, either-in (own_in m) f p (after_effect call effect f) change.0 own.same own.entry change.1)))
-    where
-      either-in : (o : Option OwnView) (f : Files) (p : Past) (after : Files) (later : Past) → p.history ≡ h → IfSome o (λ own. entry_of own.author rows ≡ e)
-          → MakesIn o rows f p after later → (later.history ≡ h) ⊎ (later.history ≡ with_entry e h)
-      either-in None f p after later same entry none = absurd none
-      either-in (Some own) f p after later same entry makes = either-way e rows h p.history later.history own same entry makes.appends
+  abbrev FailedAlone : Phase → Call → Files → Past → Files → Type 0
+  FailedAlone m call f p after = Leads (MakesRows b.rows m) (AloneRefused b (refusals.StoreFault (path_of call))) f p after
 
-  leads-left : (m : Phase) (refusal : Refusal) (f : Files) (p : Past) (after : Files) → Leads (MakesRows rows m) (λ g q. q.history ≡ h) f p after
-      → Leads (MakesRows rows m) (λ g q. AloneRefused e h refusal q.history) f p after
-  leads-left m refusal f p after (later, change, same) = (later, change, left-alone refusal later.history same)
+  failed-calm : (m : Phase) (effect : Effect) (f : Files) (p : Past) → IsSome (next_call m) → NoPublish m → Stands f p → KnewAlone b m f p
+      → IfSome (next_call m) (λ call. FailedAlone m call f p (after_effect call effect f))
+  failed-calm m effect f p some calm stands (known, alone) =
+      IfSome_then (next_call m) (makes-on laws b.rows m f p calm stands known.0 known.1) (λ call makes. (p, makes effect, inl (calm-same b m f p.history some alone)))
+
+  failed-on : (m : Phase) (effect : Effect) (f : Files) (p : Past) → IsSome (next_call m) → Stands f p → KnewAlone b m f p
+      → IfSome (next_call m) (λ call. FailedAlone m call f p (after_effect call effect f))
+  failed-on (phases.Publish own x) effect f p some stands ((tried, known), (same, at)) =
+      let change = changes-on laws b.rows (phases.Publish own x) f p stands tried known effect in
+      let either = either-way b p.history change.0.history own same (entry-same b own x at) change.1.appends in (
+        change.0,
+        change.1,
+        elim either as (λ _. AloneRefused b (refusals.StoreFault (snapshot_path x.id)) (after_effect (publish_call x) effect f) change.0) [
+          | inl stays ↦ inl stays
+          | inr more ↦ inr (more, ap snapshot_path at.1)
+        ],
+      )
+  failed-on (phases.Names own s) effect f p some stands known = failed-calm (phases.Names own s) effect f p some tt stands known
+  failed-on (phases.View own m) effect f p some stands known = failed-calm (phases.View own m) effect f p some tt stands known
+  failed-on (phases.Search own q) effect f p some stands known = failed-calm (phases.Search own q) effect f p some tt stands known
+  failed-on (phases.Create own making) effect f p some stands known = failed-calm (phases.Create own making) effect f p some tt stands known
+  failed-on (phases.Committed author id) effect f p some stands known = tt
+  failed-on (phases.Already author) effect f p some stands known = tt
+  failed-on phases.Over effect f p some stands known = tt
 
   has-call : {next : Option Call} {call : Call} → next ≡ Some call → IsSome next
   has-call is = subst (λ (next : Option Call). IsSome next) (sym is) refl
 
   pub alone-moves : {old new : Phase} {before after : StoreView} {result : Result (Unit {0}) Refusal}
       → Stepped next_call Goes Refuses Stops old new before after result
-      → Moves Stands (MakesRows rows old) (KnewAlone e rows h old) (KnowsAlone e rows h new result) before after
+      → Moves Stands (MakesRows b.rows old) (KnewAlone b old) (KnowsAlone b new result) before after
   alone-moves {old} {new} {before} {after} (Rested none same still) =
-      inr (subst (Meanwhile before) (sym still) (Meanwhile-refl before), λ (f : Files) (p : Past) stands known. subst (λ (m : Phase). KnewAlone e rows h m f p) (sym same) known)
+      inr (subst (Meanwhile before) (sym still) (Meanwhile-refl before), λ (f : Files) (p : Past) stands known. subst (λ (m : Phase). KnewAlone b m f p) (sym same) known)
   alone-moves {old} {new} {before} {after} (Went call answer is came on) =
       let keeps : (ops : List Op) → Answers call answer (files_after ops)
-      → Keeps Stands (MakesRows rows old) (KnewAlone e rows h old) (KnewAlone e rows h new) (whole call) (files_after ops) =
+      → Keeps Stands (MakesRows b.rows old) (KnewAlone b old) (KnewAlone b new) (whole call) (files_after ops) =
       λ ops here p stands known. (
-        (rw is at (changes-on laws rows old (files_after ops) p stands known.0.0 known.0.1)),
-        (rw is at (went-on old answer new (files_after ops) p (has-call is) on stands known)) here,
+        (rw is at (changes-on laws b.rows old (files_after ops) p stands known.0.0 known.0.1)),
+        (rw is at (went-on old answer new (files_after ops) p on stands known)) here,
       ) in
       inl (whole call, Steps-weaker (whole call) _ _ before after keeps came.0)
   alone-moves {old} {new} {before} {after} (Refused call answer refusal is came on) =
       let keeps : (ops : List Op) → Answers call answer (files_after ops)
-      → Keeps Stands (MakesRows rows old) (KnewAlone e rows h old) (λ g q. AloneRefused e h refusal q.history) (whole call) (files_after ops) =
+      → Keeps Stands (MakesRows b.rows old) (KnewAlone b old) (AloneRefused b refusal) (whole call) (files_after ops) =
       λ ops here p stands known. (
-        (rw is at (changes-on laws rows old (files_after ops) p stands known.0.0 known.0.1)),
-        leads-left old refusal (files_after ops) p _ ((rw is at (refused-on old answer refusal (files_after ops) p (has-call is) on.0 stands known)) here),
+        (rw is at (changes-on laws b.rows old (files_after ops) p stands known.0.0 known.0.1)),
+        (rw is at (refused-on old answer refusal (files_after ops) p on.0 stands known)) here,
       ) in
       inl (whole call, Steps-weaker (whole call) _ _ before after keeps came.0)
   alone-moves {old} {new} {before} {after} (Stopped call is meanwhile stop) =
-      inr (meanwhile, λ f p stands known. (own-at e rows h old p.history (has-call is) known.1).same)
+      inr (meanwhile, λ f p stands known. calm-same b old f p.history (has-call is) known.1)
   alone-moves {old} {new} {before} {after} (Failed call is came stop) =
       let effect : Effect = came.0.0 in
       let op : Op = record { call = call; effect = effect } in
       let keeps : (ops : List Op) → MayHave call effect (files_after ops)
-      → Keeps Stands (MakesRows rows old) (KnewAlone e rows h old) (λ g q. (q.history ≡ h) ⊎ (q.history ≡ with_entry e h)) op (files_after ops) =
+      → Keeps Stands (MakesRows b.rows old) (KnewAlone b old) (AloneRefused b (refusals.StoreFault (path_of call))) op (files_after ops) =
       λ ops may p stands known. (
-        (rw is at (changes-on laws rows old (files_after ops) p stands known.0.0 known.0.1)),
+        (rw is at (changes-on laws b.rows old (files_after ops) p stands known.0.0 known.0.1)),
         rw is at (failed-on old effect (files_after ops) p (has-call is) stands known),
       ) in
       inl (op, Steps-weaker op _ _ before after keeps came.0.1)

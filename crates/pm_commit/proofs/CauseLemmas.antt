@@ -63,7 +63,7 @@ ReaderCauses = (m : view_phase.Phase) (call : Call) (answer : Answer) (refusal :
 -- ---- a reader of the newest view never misses the snapshot that is asked for
 
 -- the refusal isn't that there is no such snapshot
-abbrev IsNone : Refusal → Type 0
+abbrev pub IsNone : Refusal → Type 0
 IsNone (refusals.NoSnapshot id latest) = ⊥
 IsNone other = Unit {0}
 
@@ -83,7 +83,7 @@ overlap-none s live other over = tt
 none-above : (w : Wanted) (latest id : ℕ) → w ≡ wants.Entries → IsAbove w latest id → ⊥
 none-above w latest id is above = subst (λ (w : Wanted). IsAbove w latest id) is above
 
-shown-none : (s : TableSchema) (m : view_phase.Phase) (answer : Answer) (refusal : Refusal) → Reads m s → reader.Shown m answer refusal → IsNone refusal
+pub shown-none : (s : TableSchema) (m : view_phase.Phase) (answer : Answer) (refusal : Refusal) → Reads m s → reader.Shown m answer refusal → IsNone refusal
 shown-none s (readers.List a) (answers.Listed names) refusal reads (inl memory) = is-none refusal refusals.Memory memory tt
 shown-none s (readers.List a) (answers.Listed names) refusal reads (inr (latest, id, is_latest, above, is)) =
     absurd (none-above a.wanted latest id (ap (λ (a : Asked). a.wanted) (asked-same a (newest_of s) reads.asked)) above)
@@ -121,14 +121,14 @@ forgotten : (own : OwnView) (f : Files) (p : Past) (refusal : Refusal) → refus
 forgotten own f p refusal memory = subst (MayRefuseOwn own f p) (sym memory) tt
 
 -- nothing but a reason, or memory, keeps a search from its commit
-hears-any : (P : Type 0) (own : OwnView) (found : Found) (left : List ℕ) (said : Seen) (refusal : Refusal) → (Makes own found (Err refusal) → P)
+pub hears-any : (P : Type 0) (own : OwnView) (found : Found) (left : List ℕ) (said : Seen) (refusal : Refusal) → (Makes own found (Err refusal) → P)
     → Hears own found left said (Err refusal) → P
 hears-any P own found [] seen.Other refusal make on = make on
 hears-any P own found (id ∷ left) seen.Other refusal make (few, is) = absurd (err-ok refusal _ is)
 hears-any P own found left seen.Below refusal make on = make on
 hears-any P own found left seen.Reached refusal make is = absurd (err-ok refusal _ is)
 
-tries-any : (P : Type 0) (own : OwnView) (v : View) (refusal : Refusal) → (Makes own (found_in v) (Err refusal) → P) → Tries own v (Err refusal) → P
+pub tries-any : (P : Type 0) (own : OwnView) (v : View) (refusal : Refusal) → (Makes own (found_in v) (Err refusal) → P) → Tries own v (Err refusal) → P
 tries-any P own v refusal make = by_test own.check
   where
     by_test : (b : Bool) → TriesIf b own v (Err refusal) → P
@@ -164,12 +164,12 @@ reader-caused own f p other none may = absurd may
 -- ---- the files
 
 -- a file was there
-met-at : (at : Option (List ℕ)) → created.Exists ≡ made_at at → (bytes : List ℕ) × (at ≡ Some bytes)
+pub met-at : (at : Option (List ℕ)) → created.Exists ≡ made_at at → (bytes : List ℕ) × (at ≡ Some bytes)
 met-at None e = absurd (let clash = e in cc)
 met-at (Some bytes) e = (bytes, refl)
 
 -- a snapshot that is there reads
-good-snapshot : (f : Files) (p : Past) (s : TableSchema) (id : ℕ) (bytes : List ℕ) → Stands f p → IsTableOf s p.history → 1 ≤ id → id ≤ greatest
+pub good-snapshot : (f : Files) (p : Past) (s : TableSchema) (id : ℕ) (bytes : List ℕ) → Stands f p → IsTableOf s p.history → 1 ≤ id → id ≤ greatest
     → Some bytes ≡ map.get f (snapshot_path id) → snapshot_in id bytes ≡ Err faults.Bad → ⊥
 good-snapshot f p s id bytes stands is least within told bad =
     let own = at-table f p s stands is in
@@ -183,12 +183,12 @@ good-snapshot f p s id bytes stands is least within told bad =
 call-at : (one other : Call) → Some one ≡ Some other → other ≡ one
 call-at one other e = cc
 
-told-at : (one : Call) (call : Call) (answer : Answer) (f : Files) → Some one ≡ Some call → Answers call answer f → Answers one answer f
+pub told-at : (one : Call) (call : Call) (answer : Answer) (f : Files) → Some one ≡ Some call → Answers call answer f → Answers one answer f
 told-at one call answer f at told = subst (λ (call : Call). Answers call answer f) (call-at one call at) told
 
 module _ (laws : Laws) (causes : ReaderCauses) (rows : List HistoryRow) (call : Call) (answer : Answer) (refusal : Refusal) (f : Files) (p : Past) (stands : Stands f p) where
   -- the view is ready after the answer
-  view-found : (s : TableSchema) (m : view_phase.Phase) (v : View) → Reads m s → reader_meaning.Knows m f p → HasOrigin m → reader.next_call m ≡ Some call
+  pub view-found : (s : TableSchema) (m : view_phase.Phase) (v : View) → Reads m s → reader_meaning.Knows m f p → HasOrigin m → reader.next_call m ≡ Some call
       → Answers call answer f → reader.Goes m answer (readers.Ready v) → IsFoundIn p (found_in v)
   view-found s m v reads reading origin at told goes =
       let reads_v = (reads-on laws.read s m answer (readers.Ready v) reads goes).reads in

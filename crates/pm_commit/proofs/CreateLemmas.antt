@@ -13,7 +13,7 @@ use Rattle.pm_store.proofs.ChangeLaws.{Puts-insert}
 use Rattle.pm_history.specs.History.{History, no_table, table}
 use Rattle.pm_history.specs.Merge.{HistoryRow}
 use Rattle.pm_schema.specs.declared.schema.TableSchema.{TableSchema}
-use Rattle.pm_folder.specs.Changes.{Actor, IsNoOrigin, IsOwn}
+use Rattle.pm_folder.specs.Changes.{Actor, IsNamedBy, IsNoOrigin, IsOwn}
 use Rattle.pm_folder.specs.Ledger.{Past}
 use Rattle.pm_folder.proofs.Facts.{there-absent}
 use Rattle.pm_append.specs.Commit.{Attempt, IsBuilt, MakesNames}
@@ -59,11 +59,15 @@ module _ (own_files : OwnFiles) (own : OwnView) (rows : List HistoryRow) (x : Pu
   is-in = all-at IsInTable is_try.done left file
       (subst (AllByRecursion IsInTable) is_try.files (made-in x.schema t.newest t.author t.batch t.names t.made is_try.made tried.built.no_partition))
 
+  -- it bears the actor's name
+  pub create-named : IsNamedBy (actor_of own) file.path
+  create-named = named-by (actor_of own) file.path is-own is-in
+
   -- it appears, with some content
   pub put-makes : (after : Files) (content : List ℕ) → map.get f file.path ≡ None → Puts f file.path (Some content) after → MakesOwn own rows f p after p
   put-makes after content absent puts = record {
-    advances = own-advances (actor_of own) f after p x.schema file.path content known.is_table known.unnamed is-own is-in
-        (named-by (actor_of own) file.path is-own is-in) (no-origin p.history file.path is-in) absent puts;
+    advances = own-advances (actor_of own) f after p x.schema file.path content known.is_table known.unnamed is-own is-in create-named
+        (no-origin p.history file.path is-in) absent puts;
     appends = inl refl;
   }
 

@@ -60,7 +60,7 @@ manifests-origin p q x done [] files kept to stood (v, view, sought, is) =
     subst HasOrigin (sym is) (λ first. (let low = stood.known.after_origin in let same = view.id in absurd (omega (arith, low, same, first))))
 manifests-origin p q x done (meta ∷ rest) files kept to stood is = subst HasOrigin (sym is) tt
 
-asked-latest : (w : Wanted) (latest id : ℕ) → w ≡ wants.Entries → IsAsked w latest id → id ≡ latest
+pub asked-latest : (w : Wanted) (latest id : ℕ) → w ≡ wants.Entries → IsAsked w latest id → id ≡ latest
 asked-latest w latest id is asked = subst (λ (w : Wanted). IsAsked w latest id → id ≡ latest) (sym is) (λ same. same) asked
 
 pub origin-on : (f : Files) (p : Past) (s : TableSchema) (m : view_phase.Phase) (answer : Answer) (to : view_phase.Phase) → Stands f p → Reads m s

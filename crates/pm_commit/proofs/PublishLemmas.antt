@@ -12,25 +12,16 @@ use Rattle.pm_history.specs.History.{Entry, IsTableOf, append, table}
 use Rattle.pm_history.specs.Merge.{HistoryRow}
 use Rattle.pm_schema.specs.declared.schema.TableSchema.{TableSchema}
 use Rattle.pm_snapshot.specs.Names.{greatest}
-use Rattle.pm_manifest.specs.Live.{live_after}
-use Rattle.pm_manifest.specs.declared.entry.Entry as files
-use Rattle.pm_contents.specs.Lists.{none_live}
-use Rattle.pm_contents.specs.Named.{Contents, HasContents}
 use Rattle.pm_folder.specs.Changes.{Actor, IsNamedBy, NamesOwn, appended}
-use Rattle.pm_folder.specs.Commits.{HasCommit, IsAppend, Names}
-use Rattle.pm_folder.specs.Entries.{AreLive}
+use Rattle.pm_folder.specs.Commits.{IsAppend, Names}
 use Rattle.pm_folder.specs.Folder.{Folder, HasTable}
 use Rattle.pm_folder.specs.Ledger.{Advances, HasNamedNone, KnowsTable, Past, Stands, count_of}
-use Rattle.pm_folder.specs.Meaning.{HasSnapshotAt, SnapshotAt}
+use Rattle.pm_folder.specs.Meaning.{HasSnapshotAt}
 use Rattle.pm_folder.specs.Paths.{snapshot_file, snapshot_path}
 use Rattle.pm_folder.proofs.HoldLemmas.{OneContents}
 use Rattle.pm_folder.proofs.LedgerFacts.{at-table, count-is}
-use Rattle.pm_table_view.specs.Meaning.{IsViewIn, view_origin, view_snapshot}
 use Rattle.pm_table_view.specs.Reader.{origin_name, origin_path}
-use Rattle.pm_table_view.specs.View.{kept_for, live_entries}
-use Rattle.pm_table_view.specs.declared.asked.Wanted.{Wanted}
 use Rattle.pm_table_view.specs.declared.view.View.{View}
-use Rattle.pm_table_view.proofs.Facts.{stood_contents}
 use Rattle.pm_write.specs.Batch.{Groups, IsBatchOf}
 use Rattle.pm_append.specs.Commit.{Attempt, IsAsMade, IsFoundAs, IsReady}
 use Rattle.pm_append.specs.declared.newest.Author.{Author}
@@ -42,6 +33,7 @@ use Rattle.pm_commit.specs.Own.{IsTried, OwnView, actor_of}
 use Rattle.pm_commit.specs.declared.found.Found.{Found}
 use Rattle.pm_commit.specs.declared.making.Publishing.{Publishing}
 use Rattle.pm_commit.proofs.AdvanceLemmas.{NamedPaths, SameContents, append-advances, later_past, same-advances}
+use Rattle.pm_commit.proofs.FoundLemmas.{LiveEntries, found-there}
 use Rattle.pm_commit.proofs.MadeLemmas.{allowed-id}
 
 -- ---- what the laws of lower crates say
@@ -50,10 +42,6 @@ use Rattle.pm_commit.proofs.MadeLemmas.{allowed-id}
 abbrev pub IsNewest : Type 0
 IsNewest = (f : Files) (s : TableSchema) (entries : List Entry) (id : ℕ) → Folder f (table s entries) → HasSnapshotAt f s id → id + 1 ≤ greatest
     → map.get f (snapshot_path (id + 1)) ≡ None → id ≡ length entries
-
--- the live entries
-abbrev pub LiveEntries : Type 0
-LiveEntries = (entries : List files.Entry) → AreLive (live_after none_live entries) (live_entries entries)
 
 -- no snapshot names a file of an actor that committed none
 abbrev pub NamesNone : Type 0
@@ -153,34 +141,8 @@ module _ (one : OneContents) (same : SameContents) (paths : NamedPaths) (live_la
     newest-there = subst (HasSnapshotAt f s) newest-is before
 
     -- the newest snapshot is as it was found
-    found-as : IsFoundAs f v.schema (newest_in v) v.snapshot
-    found-as = at is_try.found.stood
-      where
-        at : IsViewIn p v → IsFoundAs f v.schema (newest_in v) v.snapshot
-        at (view_origin is) = subst (IsFoundAs f v.schema (newest_in v)) (sym is.snapshot) (is.id, is.manifests, is.entries)
-        at (view_snapshot y base delta es live stood has leaves is) =
-            let g : Files = p.stood y.id in
-            let c0 = stood_contents f p v.schema y stands stood in
-            let c : Contents = record { base = base; delta = delta; entries = es; changelog = c0.0.changelog; changes = c0.0.changes } in
-            let contents : HasContents g v.schema y c = record { table = has; changelog = c0.1.changelog } in
-            let tab = at-table f p v.schema stands stood.table in
-            let there_now : HasSnapshotAt f v.schema y.id =
-            subst (λ (u : TableSchema). HasSnapshotAt f u y.id) same-schema
-            (subst (HasSnapshotAt f s) (ap (λ (n : Newest). n.id) same-newest ∙ is.id) before) in
-            let kept = (tab.3.kept y.id stood.known).there there_now in
-            let at_path : SnapshotAt f y.id y = (stood.was.0, kept (snapshot_path y.id) (inl refl) ∙ stood.was.1, stood.was.2) in
-            let held : HasContents f v.schema y c =
-            same g f v.schema y c (λ path named. kept path (inr (inr (y, c, (stood.was, contents), named)))) contents in
-            let commit : HasCommit f v.schema v.id y c = subst (λ (n : ℕ). HasCommit f v.schema n y c) (sym is.id) (at_path, held) in
-            let entries_are : v.live.items ≡ live_entries es = is.entries ∙ ap (λ (w : Wanted). live_entries (kept_for w es)) is_try.found.wanted in
-            let are : AreLive (live_after none_live es) v.live.items =
-            subst (λ (l : List files.Entry). AreLive (live_after none_live es) l) (sym entries_are) (live_law es) in
-            subst (IsFoundAs f v.schema (newest_in v)) (sym is.snapshot) (c, commit, is.manifests, are)
-
     found-here : IsFoundAs f s t.newest t.newest.snapshot
-    found-here =
-        subst (λ (u : TableSchema). IsFoundAs f u t.newest t.newest.snapshot) (sym same-schema)
-        (subst (λ (n : Newest). IsFoundAs f v.schema n n.snapshot) (sym same-newest) found-as)
+    found-here = found-there same live_law f p (record { schema = s; newest = t.newest }) stands is_try.found before
 
     all-there : AllByRecursion (IsPut f) t.made.files.items
     all-there = subst (AllByRecursion (IsPut f)) (sym (is_try.files ∙ append-nil is_try.done)) is_try.there

@@ -13,7 +13,6 @@ use Rattle.pm_folder.proofs.Facts.{goes_on, stays}
 use Rattle.pm_folder.proofs.LedgerFacts.{known-still}
 use Rattle.pm_contents.specs.Lists.{HasEntries}
 use Rattle.pm_table_view.specs.Meaning.{IsViewIn, view_origin, view_snapshot}
-use Rattle.pm_table_view.specs.declared.phase.Phase.TheVariants as readers
 use Rattle.pm_table_view.specs.declared.view.View.{View}
 use Rattle.pm_table_view.proofs.Facts as reader_facts
 use Rattle.pm_append.specs.declared.newest.Author.{Author}

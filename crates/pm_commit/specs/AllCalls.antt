@@ -1,23 +1,47 @@
--- All calls of a committer, one after another: what they are, and what they do to a history where nobody else acts.
-use Rattle.std.specs.Prelude.{◌≡◌, ◌+◌, List, IsSomeAnd, Result, Ok, Err}
+-- All calls of a committer, from those that read the table's schema on: what they are, and what they do to a history
+-- that stands at the first of them, where nobody else acts from then on.
+use Rattle.std.specs.Prelude.{◌≡◌, ◌⊎◌, ℕ, ◌+◌, ◌≤◌, List, ◌++◌, None, Some, IsSomeAnd, IfErr, Result, Ok, Err}
+use Rattle.std.specs.List.{AllByRecursion}
+use Rattle.pm_base.specs.Faults.{Rose}
 use Rattle.pm_values.specs.declared.refusal.Refusal.{Refusal}
-use Rattle.pm_store.specs.Files.{files_after}
+use Rattle.pm_values.specs.declared.refusal.Refusal.TheVariants as refusals
+use Rattle.pm_store.specs.Answers.{IsFirst}
+use Rattle.pm_store.specs.Files.{Files, files_after}
+use Rattle.pm_store.specs.Images.{Extends}
 use Rattle.pm_store.specs.Store.{StoreView, IsAlone}
-use Rattle.pm_machine.specs.Moves as machine
 use Rattle.pm_machine.specs.Trace.{Event}
-use Rattle.pm_history.specs.History.{Entry, History}
-use Rattle.pm_history.specs.Merge.{HistoryRow}
+use Rattle.pm_history.specs.History.{History, IsTableOf}
 use Rattle.pm_schema.specs.declared.schema.TableSchema.{TableSchema}
+use Rattle.pm_snapshot.specs.Names.{MayName}
+use Rattle.pm_snapshot.specs.declared.snapshot.Snapshot.{Snapshot}
+use Rattle.pm_folder.specs.Changes.{Actor, IsNamedBy}
+use Rattle.pm_folder.specs.Commits.{Names}
+use Rattle.pm_folder.specs.Folder.{Folder, IsRowOf}
+use Rattle.pm_folder.specs.Ledger.{IsKnown, Past, Stands, count_of}
+use Rattle.pm_folder.specs.Meaning.{SnapshotAt}
+use Rattle.pm_folder.specs.Paths.{snapshot_path}
+use Rattle.pm_view.specs.AllCalls.{HasFiles}
+use Rattle.pm_view.specs.Reader.{schemas_call}
+use Rattle.pm_view.specs.Trace as schema
+use Rattle.pm_view.specs.declared.phase.Phase.TheVariants as readers
+use Rattle.pm_write.specs.Batch.{IsBatchOf}
 use Rattle.pm_append.specs.declared.newest.Author.{Author}
-use Rattle.pm_folder.specs.Ledger.{Past, Stands, count_of}
-use Rattle.pm_commit.specs.Alone.{AloneRefused, KnewAlone, with_entry}
-use Rattle.pm_commit.specs.Meaning.{HasEarlier, entry_of}
-use Rattle.pm_commit.specs.Own.{OwnView}
+use Rattle.pm_commit.specs.Alone.{Beginning, GivesReason, IsUnchanged, KnewAlone, KnowsAlone, WasUsed, newest_id, own_entry}
+use Rattle.pm_commit.specs.Alone.{with_entry}
+use Rattle.pm_commit.specs.Own.{OwnView, actor_of}
+use Rattle.pm_commit.specs.Search.{seen_of}
 use Rattle.pm_commit.specs.Trace.{Did, Shows}
 use Rattle.pm_commit.specs.declared.all_calls.Appended.{Appended}
 use Rattle.pm_commit.specs.declared.all_calls.Appended.TheVariants as appends
 use Rattle.pm_commit.specs.declared.phase.Phase.{Phase}
 use Rattle.pm_commit.specs.declared.phase.Phase.TheVariants as phases
+use Rattle.pm_commit.specs.declared.search.Seen.TheVariants as seen
+
+-- ---- the calls
+
+-- the schema was read
+abbrev pub Has : TableSchema → List Event → Type 0
+Has s own = schema.Did (readers.Ready s) own
 
 -- The calls of a commit that began so, by its answer: they committed the snapshot, or found an earlier commit, or show
 -- the refusal.
@@ -26,17 +50,119 @@ Ends s first (Ok (appends.Committed id)) own = (author : Author) × Did s first 
 Ends s first (Ok appends.Already) own = (author : Author) × Did s first (phases.Already author) own
 Ends s first (Err refusal) own = Shows s first refusal own
 
--- What an answer leaves of a history: the entry more, with its id; the history, where a snapshot says that the entry's
--- author had committed it before; and where the store failed the history or the entry more.
-abbrev pub Leaves : Entry → List HistoryRow → History → Result Appended Refusal → Past → Type 0
-Leaves e rows h (Ok (appends.Committed id)) p = (p.history ≡ with_entry e h) × (id ≡ count_of h + 1)
-Leaves e rows h (Ok appends.Already) p =
-    (p.history ≡ h) × ((author : Author) × (entry_of author rows ≡ e) × HasEarlier author p)
-Leaves e rows h (Err refusal) p = AloneRefused e h refusal p.history
+-- They go on from those that read the schema.
+abbrev pub DidAppend : TableSchema → OwnView → Result Appended Refusal → List Event → Type 0
+DidAppend s first result own =
+    (earlier later : List Event) × Has s earlier × (own ≡ earlier ++ later) × Ends s first result later
 
--- Where the files stand for the history at first, as the committer knows it, and nobody else acts: they stand for what
--- the answer leaves.
-abbrev pub AppendsAlone : Entry → List HistoryRow → History → Phase → StoreView → StoreView → Result Appended Refusal
-    → Type 0
-AppendsAlone e rows h m before after result = IsAlone before after → machine.Stands Stands (KnewAlone e rows h m) before
-    → IsSomeAnd after.ops (λ ops. (p : Past) × Stands (files_after ops) p × Leaves e rows h result p)
+-- ---- what a history is at first
+
+-- no snapshot that is there names a file that the actor named
+abbrev pub NamesNone : Actor → History → Files → Type 0
+NamesNone me h f =
+    (s : TableSchema) (id : ℕ) (path : List ℕ) → IsTableOf s h → 1 ≤ id → id ≤ count_of h → Names f s id path
+    → IsNamedBy me path → ⊥
+
+-- files of which a commit may begin: they stand for the history, and no snapshot names a file of its actor
+abbrev pub MayStart : Actor → History → Files → Type 0
+MayStart me h f = Folder f h × NamesNone me h f
+
+-- What a commit begins with: no try was made, the names of its actor may stand in paths, its rows are rows of the
+-- table, its batch is what they become, and the files stand for the history.
+pub record MayBegin (s : TableSchema) (b : Beginning) : Type 0 where
+  pub no_base : b.own.author.base ≡ 0
+  pub may : MayName b.own.names
+  pub fit : AllByRecursion (IsRowOf s) b.rows
+  pub batch : IsBatchOf s b.rows b.own.batch
+  pub start : MayStart (actor_of b.own) b.history b.files
+
+-- ---- what it is at the end
+
+-- files stand for the history, or for it with the entry
+abbrev pub StandsForEither : Beginning → Files → Type 0
+StandsForEither b f = Folder f b.history ⊎ Folder f (with_entry (own_entry b) b.history)
+
+-- What an answer leaves of the files: they stand for the history with the entry, once that is committed, and for the
+-- history else; but that after a fault of the store in the publish of the next snapshot the entry is there or not.
+-- Where it was committed before, or there is a reason against it, no path has another content.
+abbrev pub LeavesFolder : Beginning → Result Appended Refusal → Files → Type 0
+LeavesFolder b (Ok (appends.Committed id)) f = Folder f (with_entry (own_entry b) b.history)
+LeavesFolder b (Ok appends.Already) f = Folder f b.history × IsUnchanged b f
+LeavesFolder b (Err (refusals.StoreFault path)) f = Folder f b.history
+    ⊎ (Folder f (with_entry (own_entry b) b.history) × (path ≡ snapshot_path (newest_id b + 1)))
+LeavesFolder b (Err (refusals.Fenced base fence)) f = Folder f b.history × IsUnchanged b f
+LeavesFolder b (Err (refusals.Limit which number)) f = Folder f b.history × IsUnchanged b f
+LeavesFolder b (Err other) f = Folder f b.history
+
+-- once the entry is committed each image from then on has it
+abbrev pub SettlesFolder : Beginning → Result Appended Refusal → StoreView → Type 0
+SettlesFolder b (Ok (appends.Committed id)) after =
+    Extends (λ f. Folder f (with_entry (own_entry b) b.history)) after.ops after.ops
+SettlesFolder b other after = Unit {0}
+
+-- a snapshot of the files bears the author's user, and an identifier that isn't smaller
+pub record HasBorne (author : Author) (f : Files) (h : History) : Type 0 where
+  pub id : ℕ
+  pub after_origin : 1 ≤ id
+  pub within : id ≤ count_of h
+  pub snapshot : Snapshot
+  pub there : SnapshotAt f id snapshot
+  pub reached : seen_of author snapshot ≡ seen.Reached
+
+-- What an answer says of the beginning: the id is the next one, and there is no reason against the commit; the author
+-- committed before; a file of the actor's name was there; or this is the first reason against it. A fault of the store
+-- says nothing of it, and nor does it that memory ran out. No other refusal comes.
+abbrev pub SaysOf : Beginning → Result Appended Refusal → Type 0
+SaysOf b (Ok (appends.Committed id)) = (id ≡ newest_id b + 1) × GivesReason b None
+SaysOf b (Ok appends.Already) = HasBorne b.own.author b.files b.history
+SaysOf b (Err refusals.Memory) = Unit {0}
+SaysOf b (Err (refusals.StoreFault path)) = Unit {0}
+SaysOf b (Err (refusals.SessionUsed path)) = WasUsed b path
+SaysOf b (Err (refusals.Fenced base fence)) = GivesReason b (Some (refusals.Fenced base fence))
+SaysOf b (Err (refusals.Limit which number)) = GivesReason b (Some (refusals.Limit which number))
+SaysOf b (Err other) = ⊥
+
+-- a fault of the store that is answered was counted
+abbrev pub IsCounted : StoreView → StoreView → Refusal → Type 0
+IsCounted first after (refusals.StoreFault path) = Rose first.faults after.faults
+IsCounted first after other = Unit {0}
+
+-- the store's operations are known, and leave files with P
+abbrev pub LeavesFiles : (Files → Type 0) → StoreView → Type 0
+LeavesFiles P store = IsSomeAnd store.ops (λ ops. P (files_after ops))
+
+-- What a commit does to the files that are there at its first call, where nobody else acts from then on.
+pub record AppendsTable (b : Beginning) (s : TableSchema) (first after : StoreView) (result : Result Appended Refusal)
+    : Type 0 where
+  pub schema : IsTableOf s b.history
+  pub leaves : LeavesFiles (LeavesFolder b result) after
+  pub images : Extends (StandsForEither b) first.ops after.ops
+  pub settles : SettlesFolder b result after
+  pub says : SaysOf b result
+  pub counted : IfErr result (IsCounted first after)
+
+-- what it promises of histories, from the first call that reads the schema on
+abbrev pub AppendsTables : TableSchema → OwnView → StoreView → StoreView → Result Appended Refusal → Type 0
+AppendsTables s own before after result =
+    (first : StoreView) × IsFirst schemas_call before first after
+    × (IsAlone first after → (b : Beginning) → b.own ≡ own → HasFiles b.files first → MayBegin s b
+    → AppendsTable b s first after result)
+
+-- ---- between two calls
+
+-- Private: of the snapshots of the history that are known, each stood as the files have it at the beginning
+abbrev pub StoodSo : Beginning → Past → Type 0
+StoodSo b p = (id : ℕ) → IsKnown p id → id ≤ newest_id b → p.stood id ≡ b.files
+
+-- Private: files stand for what is known in a phase of a committer; and after a step
+abbrev pub KnewFiles : Beginning → Phase → Files → Type 0
+KnewFiles b m f = (p : Past) × Stands f p × StoodSo b p × KnewAlone b m f p
+
+abbrev pub KnowsFiles : {X : Type 0} → Beginning → Phase → Result X Refusal → Files → Type 0
+KnowsFiles b m result f = (p : Past) × Stands f p × StoodSo b p × KnowsAlone b m result f p
+
+-- Private: what all calls that are left leave of what is known in a phase
+abbrev pub AppendsAlone : Beginning → Phase → StoreView → StoreView → Result Appended Refusal → Type 0
+AppendsAlone b m before after result = IsAlone before after → LeavesFiles (KnewFiles b m) before
+    → LeavesFiles (λ f. LeavesFolder b result f × SaysOf b result) after
+    × Extends (StandsForEither b) before.ops after.ops

@@ -1,15 +1,29 @@
 -- What a committer does to a history where nobody else acts.
-use Rattle.std.specs.Prelude.{◌≡◌, ◌⊎◌, ◌+◌, List, [], ◌∷◌, ◌++◌, Result, Ok, Err, IfSome}
+use Rattle.std.specs.Prelude.{◌≡◌, ◌⊎◌, ℕ, ◌+◌, List, [], ◌∷◌, ◌++◌, codes, Option, None, Some, IsSome, Result}
+use Rattle.std.specs.Prelude.{Ok, Err}
+use Rattle.std.specs.FinMap as map
+use Rattle.std.specs.List.{AllByRecursion}
 use Rattle.pm_values.specs.declared.refusal.Refusal.{Refusal}
 use Rattle.pm_values.specs.declared.refusal.Refusal.TheVariants as refusals
-use Rattle.pm_store.specs.Files.{Files}
+use Rattle.pm_store.specs.Files.{Files, IsListing}
 use Rattle.pm_store.specs.Store.{StoreView}
 use Rattle.pm_machine.specs.Moves.{Moves}
-use Rattle.pm_history.specs.History.{Entry, History, no_table, table}
+use Rattle.pm_history.specs.History.{Entry, History, IsTableOf, no_table, table}
 use Rattle.pm_history.specs.Merge.{HistoryRow}
+use Rattle.pm_folder.specs.Changes.{IsNamedBy}
 use Rattle.pm_folder.specs.Ledger.{Past, Stands, count_of}
-use Rattle.pm_commit.specs.Meaning.{Knows, MakesRows, entry_of, own_in}
+use Rattle.pm_folder.specs.Paths.{snapshot_path}
+use Rattle.pm_table_view.specs.declared.phase.Phase as view_phase
+use Rattle.pm_table_view.specs.declared.phase.Phase.TheVariants as readers
+use Rattle.pm_append.specs.Commit.{IsFoundAs}
+use Rattle.pm_append.specs.Refusals.{refusal_of}
+use Rattle.pm_append.specs.declared.newest.CommitFile.{CommitFile}
+use Rattle.pm_commit.specs.Marks.{FindsUsed}
+use Rattle.pm_commit.specs.Meaning.{Knows, MakesRows, entry_of}
+use Rattle.pm_commit.specs.Own.{OwnView, actor_of, begun, with_named}
 use Rattle.pm_commit.specs.declared.committer.CommitStep.{CommitStep}
+use Rattle.pm_commit.specs.declared.found.Found.{Found}
+use Rattle.pm_commit.specs.declared.making.Publishing.{Publishing}
 use Rattle.pm_commit.specs.declared.phase.Phase.{Phase}
 use Rattle.pm_commit.specs.declared.phase.Phase.TheVariants as phases
 
@@ -18,29 +32,119 @@ abbrev pub with_entry : Entry → History → History
 with_entry e no_table = no_table
 with_entry e (table s es) = table s (es ++ e ∷ [])
 
--- what the history is now, where it was this before the first call, and nobody else acted since: once the snapshot is
--- committed, it has the entry more, and the snapshot's id is the next; before that, and where the author had committed
--- this before, it is the same, and the entry is the commit's
-abbrev pub AloneAt : Entry → List HistoryRow → History → Phase → History → Type 0
-AloneAt e rows h (phases.Committed author id) now = (now ≡ with_entry e h) × (id ≡ count_of h + 1)
-AloneAt e rows h (phases.Already author) now = (now ≡ h) × (entry_of author rows ≡ e)
-AloneAt e rows h m now = (now ≡ h) × IfSome (own_in m) (λ own. entry_of own.author rows ≡ e)
+-- ---- where it begins
 
--- after a refusal: where the store failed it may have the entry more
-abbrev pub AloneRefused : Entry → History → Refusal → History → Type 0
-AloneRefused e h (refusals.StoreFault path) now = (now ≡ h) ⊎ (now ≡ with_entry e h)
-AloneRefused e h other now = now ≡ h
+-- what a committer that is alone begins with: its commit and the rows of its batch, and the files with the history that
+-- they stand for
+pub record Beginning : Type 0 where
+  pub own : OwnView
+  pub rows : List HistoryRow
+  pub files : Files
+  pub history : History
+
+-- the entry of its commit
+abbrev pub own_entry : Beginning → Entry
+own_entry b = entry_of b.own.author b.rows
+
+-- the id of the newest snapshot, and the commit once its try has read that
+abbrev pub newest_id : Beginning → ℕ
+newest_id b = count_of b.history
+
+abbrev pub begun_at : Beginning → OwnView
+begun_at b = begun (newest_id b) b.own
+
+-- no path has another content than at the beginning; and none of these files has
+abbrev pub IsUnchanged : Beginning → Files → Type 0
+IsUnchanged b f = (path : List ℕ) → map.get f path ≡ map.get b.files path
+
+abbrev pub AreUntouched : Beginning → List CommitFile → Files → Type 0
+AreUntouched b files f = AllByRecursion (λ (file : CommitFile). map.get f file.path ≡ map.get b.files file.path) files
+
+-- the table was found as it was at the beginning, at its newest snapshot
+pub record SeesNewest (b : Beginning) (found : Found) : Type 0 where
+  pub is_table : IsTableOf found.schema b.history
+  pub id : found.newest.id ≡ newest_id b
+  pub as_is : IsFoundAs b.files found.schema found.newest found.newest.snapshot
+
+-- the newest snapshot gives this reason against the commit, whose base it is, or none
+abbrev pub GivesReason : Beginning → Option Refusal → Type 0
+GivesReason b reason = (found : Found) × SeesNewest b found
+    × (refusal_of found.newest (begun_at b).author (begun_at b).batch ≡ reason)
+
+-- ---- what it knows
+
+-- the snapshot that a view's reader reads is the newest, so none of its files is absent
+abbrev pub ReadsNewest : ℕ → view_phase.Phase → Type 0
+ReadsNewest newest (readers.List a) = Unit {0}
+ReadsNewest newest (readers.Origin q) = newest ≡ 0
+ReadsNewest newest (readers.Snapshot q id) = id ≡ newest
+ReadsNewest newest (readers.Base q x) = x.id ≡ newest
+ReadsNewest newest (readers.Delta q x base) = x.id ≡ newest
+ReadsNewest newest (readers.Manifests r) = r.snapshot.id ≡ newest
+ReadsNewest newest (readers.Again a id path) = ⊥
+ReadsNewest newest (readers.Ready v) = v.id ≡ newest
+ReadsNewest newest readers.Over = ⊥
+
+-- the files of the commit's one try have their names, and its snapshot is the one after the newest, which gives no
+-- reason against it
+abbrev pub IsTryAt : Beginning → OwnView → Publishing → Type 0
+IsTryAt b own x =
+    ((count : ℕ) × (own ≡ with_named count (begun_at b))) × (x.id ≡ newest_id b + 1) × GivesReason b None
+
+-- What is true in each phase, where nobody else acted since the beginning: no try was lost, the newest snapshot is the
+-- one that was there, and a file that is yet to be created wasn't created since.
+abbrev pub AloneIn : Beginning → Phase → Files → Type 0
+AloneIn b (phases.Names own s) f = IsUnchanged b f × (own ≡ b.own)
+AloneIn b (phases.View own m) f = IsUnchanged b f × (own ≡ b.own) × ReadsNewest (newest_id b) m
+AloneIn b (phases.Search own q) f = IsUnchanged b f × (own ≡ begun_at b) × SeesNewest b q.found
+AloneIn b (phases.Create own making) f =
+    IsTryAt b own making.publishing × AreUntouched b (making.next ∷ making.rest) f
+AloneIn b (phases.Publish own x) f = IsTryAt b own x
+AloneIn b (phases.Committed author id) f =
+    (author ≡ (begun_at b).author) × (id ≡ newest_id b + 1) × GivesReason b None
+AloneIn b (phases.Already author) f = IsUnchanged b f × (author ≡ (begun_at b).author)
+AloneIn b phases.Over f = Unit {0}
+
+-- the history has the entry more once the snapshot is committed, and is the same before that
+abbrev pub history_in : Beginning → Phase → History
+history_in b (phases.Committed author id) = with_entry (own_entry b) b.history
+history_in b other = b.history
+
+abbrev pub AloneAt : Beginning → Phase → Files → History → Type 0
+AloneAt b m f now = (now ≡ history_in b m) × AloneIn b m f
+
+-- ---- its refusals
+
+-- a file of the actor's name was there at the beginning: one that is listed, or one that it was to create
+abbrev pub WasUsed : Beginning → List ℕ → Type 0
+WasUsed b path =
+    ((names : List (List ℕ)) × IsListing (codes "manifest") names b.files × FindsUsed b.own.names names (Some path))
+    ⊎ (IsNamedBy (actor_of b.own) path × IsSome (map.get b.files path))
+
+-- Which refusals come, and what they leave: the history, but that where the store failed in the publish it may have the
+-- entry more. No try is lost, no snapshot has gone, and no file is damaged.
+abbrev pub AloneRefused : Beginning → Refusal → Files → Past → Type 0
+AloneRefused b refusals.Memory f p = p.history ≡ b.history
+AloneRefused b (refusals.StoreFault path) f p = (p.history ≡ b.history)
+    ⊎ ((p.history ≡ with_entry (own_entry b) b.history) × (path ≡ snapshot_path (newest_id b + 1)))
+AloneRefused b (refusals.SessionUsed path) f p = (p.history ≡ b.history) × WasUsed b path
+AloneRefused b (refusals.Fenced base fence) f p =
+    (p.history ≡ b.history) × IsUnchanged b f × GivesReason b (Some (refusals.Fenced base fence))
+AloneRefused b (refusals.Limit which number) f p =
+    (p.history ≡ b.history) × IsUnchanged b f × GivesReason b (Some (refusals.Limit which number))
+AloneRefused b other f p = ⊥
+
+-- ---- a step
 
 -- what was known before a step, and what is known after it by its answer
-abbrev pub KnewAlone : Entry → List HistoryRow → History → Phase → Files → Past → Type 0
-KnewAlone e rows h m f p = Knows rows m f p × AloneAt e rows h m p.history
+abbrev pub KnewAlone : Beginning → Phase → Files → Past → Type 0
+KnewAlone b m f p = Knows b.rows m f p × AloneAt b m f p.history
 
-abbrev pub KnowsAlone : {X : Type 0} → Entry → List HistoryRow → History → Phase → Result X Refusal → Files → Past
-    → Type 0
-KnowsAlone e rows h m (Ok x) f p = KnewAlone e rows h m f p
-KnowsAlone e rows h m (Err refusal) f p = AloneRefused e h refusal p.history
+abbrev pub KnowsAlone : {X : Type 0} → Beginning → Phase → Result X Refusal → Files → Past → Type 0
+KnowsAlone b m (Ok x) f p = KnewAlone b m f p
+KnowsAlone b m (Err refusal) f p = AloneRefused b refusal f p
 
--- Whichever entry and history these are: a step keeps what is known of them, where nobody else acted before it.
+-- Whatever it began with: a step keeps what is known, where nobody else acted before it.
 abbrev pub CommitterAlone : Phase → Phase → StoreView → StoreView → Result CommitStep Refusal → Type 0
-CommitterAlone old new before after result = (e : Entry) (rows : List HistoryRow) (h : History)
-    → Moves Stands (MakesRows rows old) (KnewAlone e rows h old) (KnowsAlone e rows h new result) before after
+CommitterAlone old new before after result = (b : Beginning)
+    → Moves Stands (MakesRows b.rows old) (KnewAlone b old) (KnowsAlone b new result) before after

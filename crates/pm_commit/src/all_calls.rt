@@ -1,15 +1,15 @@
 //! All calls of a committer, one after another.
 
-ghost use Rattle.std.specs.Prelude.{◌<◌, List};
-ghost use Rattle.pm_history.specs.History.{Entry, History};
-ghost use Rattle.pm_history.specs.Merge.{HistoryRow};
+ghost use Rattle.std.specs.Prelude.{◌≡◌, ◌<◌};
 ghost use Rattle.pm_machine.specs.Trace.{HasTrace};
 ghost use Rattle.pm_schema.specs.declared.schema.TableSchema.{TableSchema as SchemaView};
 ghost use Rattle.pm_store.specs.Store.{StoreView, IsLater};
-ghost use Rattle.pm_commit.specs.AllCalls.{AppendsAlone, Ends};
+ghost use Rattle.pm_commit.specs.AllCalls.{AppendsAlone, AppendsTables, DidAppend, Ends, Has};
+ghost use Rattle.pm_commit.specs.Alone.{Beginning};
 ghost use Rattle.pm_commit.specs.Committer.{calls_left};
 ghost use Rattle.pm_commit.specs.Own.{OwnView};
 ghost use Rattle.pm_commit.specs.Trace.{Did};
+ghost use Rattle.pm_commit.specs.declared.phase.Phase.TheVariants as phases;
 
 use crate::committer::{CommitStep, Committer};
 use pm_folder::past_law;
@@ -24,8 +24,27 @@ pub enum Appended {
     Already,
 }
 
-/// Makes all calls of a committer that are left, or those up to a refusal.
+/// Appends to the table whose schema was just read: all calls of a committer that has made none yet, one after another,
+/// or those up to a refusal. What it promises is said from whatever moment on that reading began.
 pub fn append_rows<F: FileStore>(
+    alloc: Global,
+    committer: Committer,
+    store: &mut F,
+) -> Result<Appended, Refusal>
+    requires { 0 < calls_left committer }
+    ensures trace { (s : SchemaView) (own : OwnView) (first : StoreView) → committer ≡ phases.Names own s
+        → HasTrace (Has s) first (F.seen store.old) → HasTrace (DidAppend s own result) first (F.seen store.new) }
+    ensures history { (s : SchemaView) (own : OwnView) (first : StoreView) → committer ≡ phases.Names own s
+        → HasTrace (Has s) first (F.seen store.old) → AppendsTables s own first (F.seen store.new) result }
+    ensures later { IsLater (F.seen store.old) (F.seen store.new) }
+{
+    past_law();
+    committer.known();
+    make_calls(alloc, committer, store)
+}
+
+/// Makes all calls that are left, or those up to a refusal.
+fn make_calls<F: FileStore>(
     alloc: Global,
     committer: Committer,
     store: &mut F,
@@ -34,8 +53,7 @@ pub fn append_rows<F: FileStore>(
     ensures trace { (s : SchemaView) (own : OwnView) (first : StoreView)
         → HasTrace (Did s own committer) first (F.seen store.old)
         → HasTrace (Ends s own result) first (F.seen store.new) }
-    ensures alone { (e : Entry) (rows : List HistoryRow) (h : History)
-        → AppendsAlone e rows h committer (F.seen store.old) (F.seen store.new) result }
+    ensures alone { (b : Beginning) → AppendsAlone b committer (F.seen store.old) (F.seen store.new) result }
     ensures later { IsLater (F.seen store.old) (F.seen store.new) }
 {
     past_law();

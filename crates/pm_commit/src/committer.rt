@@ -108,7 +108,7 @@ impl Committer {
     }
 
     /// States for clauses what each committer is.
-    fn known(&self)
+    pub(crate) fn known(&self)
         ensures { IsCommitter self.now }
     {
         let _ = &self.phase;

@@ -10,12 +10,11 @@ ghost use Rattle.pm_store.specs.declared.call.Call.{Call};
 ghost use Rattle.pm_machine.specs.Moves.{Moves, Sound};
 ghost use Rattle.pm_machine.specs.Step.{Stepped};
 ghost use Rattle.pm_machine.specs.Trace.{Recounts};
-ghost use Rattle.pm_history.specs.History.{Entry, History};
 ghost use Rattle.pm_history.specs.Merge.{HistoryRow};
 ghost use Rattle.pm_schema.specs.declared.schema.TableSchema.{TableSchema as SchemaView};
 ghost use Rattle.pm_folder.specs.Changes.{Actor};
 ghost use Rattle.pm_folder.specs.Ledger.{Advances, Past, Stands};
-ghost use Rattle.pm_commit.specs.Alone.{KnewAlone, KnowsAlone};
+ghost use Rattle.pm_commit.specs.Alone.{Beginning, KnewAlone, KnowsAlone};
 ghost use Rattle.pm_commit.specs.Committer.{next_call, Goes, IsCommitter, Refuses, Stops};
 ghost use Rattle.pm_commit.specs.Meaning.{IsOtherThan, Knows, MakesRows, MayRefuse};
 ghost use Rattle.pm_commit.specs.Own.{OwnView};
@@ -27,6 +26,7 @@ use pm_contents::{one_contents_law, same_law};
 use pm_folder::{newest_law, unnamed_law};
 use pm_manifest::{ManifestMeta, joined_law, read_entry_law};
 use pm_record::one_reading_law;
+use pm_snapshot::path_law;
 use pm_table_view::{entries_law, named_law};
 
 /// A committer keeps the laws of machines.
@@ -34,8 +34,8 @@ pub(crate) fn machine_law()
     ensures sound { (rows : List HistoryRow) → Sound next_call Goes Refuses Stops Stands (MakesRows rows) (Knows rows) }
     ensures alone { (old new : Phase) (before after : StoreView) (result : Result (Unit {0}) Refusal)
         → Stepped next_call Goes Refuses Stops old new before after result
-        → (e : Entry) (rows : List HistoryRow) (h : History)
-        → Moves Stands (MakesRows rows old) (KnewAlone e rows h old) (KnowsAlone e rows h new result) before after }
+        → (b : Beginning)
+        → Moves Stands (MakesRows b.rows old) (KnewAlone b old) (KnowsAlone b new result) before after }
     ensures recounts { (s : SchemaView) (first : OwnView)
         → Recounts next_call Goes Refuses Stops (Did s first) (Shows s first) }
 {
@@ -50,6 +50,8 @@ pub(crate) fn machine_law()
     unnamed_law();
     append_law();
     own_files_law();
+    path_law();
+    pm_table_view::causes_law();
 }
 
 /// What an answer leads to is a committer.

@@ -9,8 +9,8 @@
 //! `specs/Own.antt` has what a commit is made of, `specs/Marks.antt` how an actor is known by its files' names,
 //! `specs/Search.antt` what a snapshot says of a commit; `specs/Committer.antt` the phases, the calls and what each
 //! answer leads to; `specs/Meaning.antt` what a committer knows in each phase, and what a step means for the files;
-//! `specs/Trace.antt` which calls it made, and which show a refusal; `specs/Alone.antt` what a step leaves of a history
-//! where nobody else acts, and `specs/AllCalls.antt` what all its calls do in a row.
+//! `specs/Trace.antt` which calls it made, and which show a refusal; `specs/Alone.antt` what is true in each phase
+//! where nobody else acts, and which refusals come then; `specs/AllCalls.antt` what all its calls do in a row.
 #![tactic(auto)]
 
 mod after;

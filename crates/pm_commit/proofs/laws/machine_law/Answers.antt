@@ -21,7 +21,7 @@ returns-clause-sound c =
     sound laws
 
 pub returns-clause-alone : goal.returns-clause-alone
-returns-clause-alone c = λ old new before after result stepped e rows h.
+returns-clause-alone c = λ old new before after result stepped b.
     let laws : Laws = record {
       joined = (c.joined_law.ensures.left, c.joined_law.ensures.order);
       lists = c.one_reading_law.ensures;
@@ -35,7 +35,7 @@ returns-clause-alone c = λ old new before after result stepped e rows h.
       append = c.append_law.ensures;
       own_files = c.own_files_law.ensures;
     } in
-    alone-moves laws e rows h stepped
+    alone-moves laws c.causes_law.ensures c.path_law.ensures b stepped
 
 pub returns-clause-recounts : goal.returns-clause-recounts
 returns-clause-recounts c = λ s first. recounts s first (c.joined_law.ensures.left, c.joined_law.ensures.order)

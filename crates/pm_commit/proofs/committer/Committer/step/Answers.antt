@@ -6,7 +6,7 @@ pub returns-in-Err-clause-moves : goal.returns-in-Err-clause-moves
 returns-in-Err-clause-moves g c = λ rows. moved (c.machine_law.ensures.sound rows) c.step.ensures.stepped
 
 pub returns-in-Err-clause-alone : goal.returns-in-Err-clause-alone
-returns-in-Err-clause-alone g c = λ e rows h. rw c.in-Err.is at (c.machine_law.ensures.alone _ _ _ _ _ c.step.ensures.stepped e rows h)
+returns-in-Err-clause-alone g c = λ b. rw c.in-Err.is at (c.machine_law.ensures.alone _ _ _ _ _ c.step.ensures.stepped b)
 
 pub returns-in-Err-clause-acts : goal.returns-in-Err-clause-acts
 returns-in-Err-clause-acts g c = λ s first. rw c.in-Err.is at (acted (c.machine_law.ensures.recounts s first) c.step.ensures.stepped)
@@ -18,7 +18,7 @@ pub returns-in-Ok-clause-moves : goal.returns-in-Ok-clause-moves
 returns-in-Ok-clause-moves g c = λ rows. moved (c.machine_law.ensures.sound rows) c.step.ensures.stepped
 
 pub returns-in-Ok-clause-alone : goal.returns-in-Ok-clause-alone
-returns-in-Ok-clause-alone g c = λ e rows h. rw c.in-Ok.is at (c.machine_law.ensures.alone _ _ _ _ _ c.step.ensures.stepped e rows h)
+returns-in-Ok-clause-alone g c = λ b. rw c.in-Ok.is at (c.machine_law.ensures.alone _ _ _ _ _ c.step.ensures.stepped b)
 
 pub returns-in-Ok-clause-acts : goal.returns-in-Ok-clause-acts
 returns-in-Ok-clause-acts g c = λ s first. rw c.in-Ok.is at (acted (c.machine_law.ensures.recounts s first) c.step.ensures.stepped)
