@@ -1,7 +1,6 @@
-mod BatchLaws
 mod CreateLaws
+mod NothingLaws
 mod ScanLaws
 mod SnapshotLaws
 mod Uncalled
-mod WordLaws
 mod WriteLaws

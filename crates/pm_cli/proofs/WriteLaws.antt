@@ -1,215 +1,501 @@
--- Laws of `write`, from what it read and wrote.
-use Rattle.std.proofs.Common.{IfErr, ◌≡◌, ℕ, List, [], ◌∷◌, Option, Some, IfSome, None, Result, Ok}
-use Rattle.std.proofs.Common.{Err, subst, sym, ◌∙◌, inl, inr}
-use Rattle.pm_history.specs.Merge.{HistoryRow}
-use Rattle.pm_io.specs.Sink.{SinkView}
-use Rattle.pm_io.specs.Source.{SourceView, SourceFailed}
-use Rattle.pm_store.specs.Files.{Files}
+-- Laws of `write`: what is so of its input, of its calls, and of a history.
+use Rattle.std.proofs.Common.{◌≡◌, ◌≢◌, ◌⊎◌, inl, inr, ℕ, ◌-◌, ◌==◌, ◌++◌, Bool, true, false, if◌then◌else◌, List, [], ◌∷◌, Option, None, Some, IfSome, IsSomeAnd, Result, Ok, Err, refl, sym, ap, ◌∙◌, subst, arith, append_assoc}
+use Rattle.std.specs.List.{AllByRecursion}
+use Rattle.std.specs.Result.{result_err}
+use Rattle.pm_base.specs.Known.{and_then}
+use Rattle.pm_base.specs.Outcome.{◌>>=◌, Fails}
+use Rattle.pm_values.specs.Names.{naming}
+use Rattle.pm_values.specs.Fits.{Fits}
+use Rattle.pm_values.specs.declared.column.Column.{Column}
+use Rattle.pm_values.specs.declared.refusal.Refusal.{Refusal}
+use Rattle.pm_values.specs.declared.refusal.Refusal.TheVariants as refusals
+use Rattle.pm_io.specs.Sink.{SinkView, SinkLater}
+use Rattle.pm_io.specs.Source.{SourceView}
+use Rattle.pm_io.proofs.Lemmas.{TookPrefix-first, TookPrefix-second}
+use Rattle.pm_store.specs.declared.call.Op.{Op}
+use Rattle.pm_store.specs.Files.{Files, files_after}
 use Rattle.pm_store.specs.Images.{Extends}
 use Rattle.pm_store.specs.Store.{StoreView}
 use Rattle.pm_store.proofs.ImageLaws.{Extends-refl, Extends-weaker}
-use Rattle.pm_values.specs.declared.refusal.Refusal.{Refusal}
-use Rattle.pm_values.specs.declared.refusal.Refusal.TheVariants as refusals
-use Rattle.pm_plain.specs.Text.{History, StandsFor}
-use Rattle.pm_plain.specs.Commit.{Stands, StandsAfter, read_call}
-use Rattle.pm_cli.specs.Batch.{IsBatch, RefusesInput}
-use Rattle.pm_cli.specs.Outside.{Outside, outside, IsServed}
-use Rattle.pm_cli.specs.Write.{IsEither, IsEitherOf, HaveBatch, with_batch, HasRoom}
-use Rattle.pm_cli.specs.Write.{WritesBatch, Writes, MayRefuseBatch, WriteCause, LeavesBatch, LeavesInput}
-use Rattle.pm_cli.specs.Write.{SettlesBatch, SettlesInput, AddsBatch, AddsBatches, WritesHistory, WritesHistories}
-use Rattle.pm_cli.proofs.BatchLaws.{refused_none}
-use Rattle.pm_cli.proofs.Uncalled.{first_uncalled, at_known}
+use Rattle.pm_machine.specs.Trace.{Event, HasTrace}
+use Rattle.pm_history.specs.History.{History, IsTableOf}
+use Rattle.pm_history.specs.Merge.{HistoryRow}
+use Rattle.pm_history.specs.Taken.{verdict}
+use Rattle.pm_history.specs.declared.verdict.Verdict.{Verdict as VerdictByIndex}
+use Rattle.pm_history.specs.declared.verdict.Verdict.TheVariants as by_index
+use Rattle.pm_rows.specs.Reading.{Fault, row_of}
+use Rattle.pm_input.specs.Limits.{limits}
+use Rattle.pm_input.specs.Lines.{row_lines}
+use Rattle.pm_input.specs.Rows.{faulty_column}
+use Rattle.pm_schema.specs.declared.schema.TableSchema.{TableSchema}
+use Rattle.pm_snapshot.specs.Names.{MayName}
+use Rattle.pm_engines.specs.Verdict.{named, verdict_on}
+use Rattle.pm_engines.specs.declared.verdict.Verdict.{Verdict}
+use Rattle.pm_engines.specs.declared.verdict.Verdict.TheVariants.{Take, Ignore, Refuse}
+use Rattle.pm_folder.specs.Folder.{Folder, IsRowOf}
+use Rattle.pm_create.specs.Making.{LeavesFiles}
+use Rattle.pm_view.specs.AllCalls.{DidRead, HasFiles, Stay, ReadsTables}
+use Rattle.pm_draft.specs.Built.{IsBuilt, unbuilt}
+use Rattle.pm_write.specs.Batch.{Groups, IsBatchOf, ReadsBatch}
+use Rattle.pm_write.specs.Taken.{all_taken, judged, no_room, refusal_in, row_at, taken_at, taken_by, taken_in, taken_of}
+use Rattle.pm_commit.specs.AllCalls as commit
+use Rattle.pm_commit.specs.AllCalls.{AppendsTables, DidAppend, HasBorne, MayBegin, MayStart}
+use Rattle.pm_commit.specs.Alone.{Beginning, GivesReason, WasUsed, with_entry}
+use Rattle.pm_commit.specs.declared.all_calls.Appended.{Appended}
+use Rattle.pm_commit.specs.declared.all_calls.Appended.TheVariants as appends
+use Rattle.pm_cli.specs.Input.{HasLines, MayRefuseInput, RefusesInput}
+use Rattle.pm_cli.specs.Outside.{Outside, Start, outside, actor, Prints}
+use Rattle.pm_cli.specs.Snapshots as snapshots
+use Rattle.pm_cli.specs.Write.{ActsWrite, AnswersLines, AnswersWrite, BeginsWith, DidWrite, HasRows, IsWritten, Keeps, KeepsHistories, Lines, MakesOf, Spoils, StandsForEither, TakesRows, Writer, WritesLines, WritesTables, commit_of, entry_by, snapshot_of, text_of}
+use Rattle.pm_cli.specs.declared.write.Written.{Written}
+use Rattle.pm_cli.specs.declared.write.Written.TheVariants as written
+use Rattle.pm_cli.proofs.SnapshotLaws.{trace_weaker, files_of, leaves_of, images_of, caused, judged_caused}
+use Rattle.pm_cli.proofs.Uncalled.{at_known, first_uncalled}
 
-same_ok : {A E : Type 0} (x y : A) → ◌≡◌ {A = Result A E} (Ok x) (Ok y) → x ≡ y
-same_ok x y e = cc
+-- ---- the rows that are taken
 
-ok_err : {A E : Type 0} (x : A) (y : E) → ◌≡◌ {A = Result A E} (Ok x) (Err y) → ⊥
-ok_err x y e = cc
+-- a line that is read as a row has one that fits
+abbrev pub FitLaw : Type 0
+FitLaw = (columns : List Column) (line : List ℕ) (row : HistoryRow) → row_of columns line ≡ Ok row → Fits columns row.1
 
--- an input has one batch
-same_batch : (first other : List HistoryRow) (bytes : List ℕ) → IsBatch first bytes → IsBatch other bytes →
-    first ≡ other
-same_batch first other bytes is also = same_ok first other (sym is.read ∙ also.read)
+by_take : (s : TableSchema) (v : VerdictByIndex) → named s.columns v ≡ Take → v ≡ by_index.Take
+by_take s by_index.Take is = refl
+by_take s by_index.Ignore is = cc
+by_take s (by_index.Refuse index) is = cc
+by_take s by_index.RefuseAll is = cc
 
--- an input that is a batch is refused by its source alone, or out of memory
-input_served : (e : Refusal) (batch : List HistoryRow) (bytes : List ℕ) (before after : SourceView) →
-    IsBatch batch bytes →
-    (SourceFailed before after → ⊥) → RefusesInput bytes before after e → IsServed (Some e)
-input_served refusals.Memory batch bytes before after is no_source answer = tt
-input_served refusals.SourceFault batch bytes before after is no_source answer = no_source answer.0
-input_served (refusals.BadLine line why column) batch bytes before after is no_source answer =
-    ok_err batch _ (sym is.read ∙ answer.2)
-input_served (refusals.Limit which number) batch bytes before after is no_source answer =
-    is.within answer.3.0 answer.0 answer.3.1 answer.3.2
-input_served e batch bytes before after is no_source answer = answer
+module _ (fits : FitLaw) (s : TableSchema) where
+  one-row : (row : HistoryRow) → Fits s.columns row.1 → (v : Verdict) → verdict_on s row.0 ≡ v → (number : ℕ) (rows : List HistoryRow)
+      → taken_by v number row ≡ Ok rows → AllByRecursion (IsRowOf s) rows
+  one-row row fit Take is number rows taken =
+      let same : row ∷ [] ≡ rows = cc in
+      subst (AllByRecursion (IsRowOf s)) same (record { fits = fit; taken = by_take s (verdict s row.0) is }, tt)
+  one-row row fit Ignore is number rows taken = let same : [] ≡ rows = cc in subst (AllByRecursion (IsRowOf s)) same tt
+  one-row row fit (Refuse column) is number rows taken = cc
 
--- a refusal of the input leaves the history
-input_leaves : (e : Refusal) (bytes : List ℕ) (before after : SourceView) (h : History) (store : StoreView) →
-    RefusesInput bytes before after e → Stands store h → LeavesInput bytes (Some e) h store
-input_leaves (refusals.SinkFault snapshot) bytes before after h store answer stands = absurd answer
-input_leaves (refusals.StoreFault path) bytes before after h store answer stands = absurd answer
-input_leaves e bytes before after h store answer stands = stands
+  of-row : (number : ℕ) (bytes : List ℕ) (read : Result HistoryRow Fault) → row_of s.columns bytes ≡ read → (rows : List HistoryRow)
+      → (judged s.columns number read >>= (λ (row : HistoryRow). taken_by (verdict_on s row.0) number row)) ≡ Ok rows → AllByRecursion (IsRowOf s) rows
+  of-row number bytes (Ok row) is rows taken = one-row row (fits s.columns bytes row is) (verdict_on s row.0) refl number rows taken
+  of-row number bytes (Err fault) is rows taken = cc
 
-input_settles : (e : Refusal) (bytes : List ℕ) (before after : SourceView) (h : History) (store : StoreView) →
-    RefusesInput bytes before after e → SettlesInput bytes (Some e) h store
-input_settles (refusals.SinkFault snapshot) bytes before after h store answer = absurd answer
-input_settles e bytes before after h store answer = tt
+  of-line : (room : ℕ) (l : ℕ × List ℕ) (rows : List HistoryRow) → taken_at s room l ≡ Ok rows → AllByRecursion (IsRowOf s) rows
+  of-line room l rows taken = by (room == 0) taken
+    where
+      by : (full : Bool) → (if full then Err no_room else taken_of s l) ≡ Ok rows → AllByRecursion (IsRowOf s) rows
+      by true taken = cc
+      by false taken = of-row l.0 l.1 (row_of s.columns l.1) refl rows taken
 
--- a command that doesn't call the store leaves what stood
-images-untouched : (bytes : List ℕ) (h : History) (store : StoreView) → Stands store h →
-    Extends (IsEitherOf bytes h) store.ops store.ops
-images-untouched bytes h store stands =
-    Extends-refl (IsEitherOf bytes h) store.ops (λ ops is. inl (subst (λ ops. StandsAfter ops h) is stands))
+  both : (xs ys : List HistoryRow) → AllByRecursion (IsRowOf s) xs → AllByRecursion (IsRowOf s) ys → AllByRecursion (IsRowOf s) (xs ++ ys)
+  both [] ys none all = all
+  both (x ∷ xs) ys (one, more) all = (one, both xs ys more all)
 
--- a command whose input was refused
-input_serves : (h : History) (bytes : List ℕ) (input after : SourceView) (out : SinkView) (store : StoreView)
-    (e : Refusal) →
-    RefusesInput bytes input after e → Stands store h →
-    WritesHistory h bytes store (outside input out store) (outside after out store) (Some e)
-input_serves h bytes input after out store e answer stands = record {
-  done = λ none. absurd (refused_none e none);
-  leaves = input_leaves e bytes input after h store answer stands;
-  settles = input_settles e bytes input after h store answer;
-  images = images-untouched bytes h store stands;
-  complete = λ batch is room no_fault. input_served e batch bytes input after is no_fault.input answer;
+  rows-of : (first later : Result (List HistoryRow) Refusal) (rows : List HistoryRow)
+      → (first >>= (λ (f : List HistoryRow). later >>= (λ (l : List HistoryRow). Ok (f ++ l)))) ≡ Ok rows
+      → (f l : List HistoryRow) × (first ≡ Ok f) × (later ≡ Ok l) × (f ++ l ≡ rows)
+  rows-of (Ok f) (Ok l) rows is = (f, l, refl, refl, (let same : f ++ l ≡ rows = cc in same))
+  rows-of (Ok f) (Err e) rows is = cc
+  rows-of (Err e) later rows is = cc
+
+  rows-in : (room : ℕ) (lines : Lines) (rows : List HistoryRow) → taken_in s room lines ≡ Ok rows → AllByRecursion (IsRowOf s) rows
+  rows-in room [] rows is = let same : [] ≡ rows = cc in subst (AllByRecursion (IsRowOf s)) same tt
+  rows-in room (l ∷ lines) rows is =
+      let parts = rows-of (taken_at s room l) (taken_in s (room - 1) lines) rows is in
+      subst (AllByRecursion (IsRowOf s)) parts.4 (both parts.0 parts.1 (of-line room l parts.0 parts.2) (rows-in (room - 1) lines parts.1 parts.3))
+
+-- ---- its calls
+
+pub read_refused : (start : Start) (w : Writer) (lines : Lines) (e : Refusal) (before after : StoreView) → HasTrace (DidRead (Err e)) before after
+    → HasTrace (DidWrite start w lines (Err e)) before after
+read_refused start w lines e before after = trace_weaker (DidRead (Err e)) (DidWrite start w lines (Err e)) (λ own shows. inl shows) before after
+
+-- the schema isn't built, or memory ran out for saying so
+pub judge_refused : (start : Start) (w : Writer) (lines : Lines) (s : TableSchema) (e : Refusal) (before after : StoreView)
+    → (e ≡ refusals.Memory) ⊎ (unbuilt s ≡ Some e) → HasTrace (DidRead (Ok s)) before after → HasTrace (DidWrite start w lines (Err e)) before after
+judge_refused start w lines s e before after why = trace_weaker (DidRead (Ok s)) (DidWrite start w lines (Err e)) (λ own has. inr (inl (s, why, has))) before after
+
+-- a line is refused, or memory ran out
+pub why_refused : (e : Refusal) (taken : Result (List HistoryRow) Refusal) → Fails (refusal_in e) taken → (e ≡ refusals.Memory) ⊎ (taken ≡ Err e)
+why_refused refusals.Memory taken fails = inl refl
+why_refused refusals.SourceFault taken fails = inr fails
+why_refused e taken fails = inr fails
+
+pub lines_refused : (start : Start) (w : Writer) (lines : Lines) (s : TableSchema) (e : Refusal) (before after : StoreView) → IsBuilt s
+    → (e ≡ refusals.Memory) ⊎ (all_taken s lines ≡ Err e) → HasTrace (DidRead (Ok s)) before after → HasTrace (DidWrite start w lines (Err e)) before after
+lines_refused start w lines s e before after built why =
+    trace_weaker (DidRead (Ok s)) (DidWrite start w lines (Err e)) (λ own has. inr (inr (inl (s, why, record { built = built; has = has })))) before after
+
+pub nothing_trace : (start : Start) (w : Writer) (lines : Lines) (s : TableSchema) (before after : StoreView) → IsBuilt s → all_taken s lines ≡ Ok []
+    → HasTrace (DidRead (Ok s)) before after → HasTrace (DidWrite start w lines (Ok written.Nothing)) before after
+nothing_trace start w lines s before after built none =
+    trace_weaker (DidRead (Ok s)) (DidWrite start w lines (Ok written.Nothing)) (λ own has. (s, none, record { built = built; has = has })) before after
+
+-- what became of the rows, by the answer of their commit
+abbrev pub written_of : Result Appended Refusal → Result Written Refusal
+written_of (Ok appends.Already) = Ok written.Already
+written_of (Ok (appends.Committed id)) = Ok (written.Committed id)
+written_of (Err e) = Err e
+
+-- what is known of the batch that is committed
+pub record IsTakenOf (start : Start) (w : Writer) (lines : Lines) (s : TableSchema) (batch : Groups) : Type 0 where
+  pub rows : List HistoryRow
+  pub built : IsBuilt s
+  pub taken : all_taken s lines ≡ Ok rows
+  pub some : rows ≢ []
+  pub batch_of : IsBatchOf s rows batch
+
+appended_did : (start : Start) (w : Writer) (lines : Lines) (s : TableSchema) (batch : Groups) (made : Result Appended Refusal) (own : List Event)
+    → IsTakenOf start w lines s batch → DidAppend s (commit_of start w batch) made own → DidWrite start w lines (written_of made) own
+appended_did start w lines s batch (Ok appends.Already) own t did = (s, t.rows, batch, t.built, t.taken, t.some, t.batch_of, did)
+appended_did start w lines s batch (Ok (appends.Committed id)) own t did = (s, t.rows, batch, t.built, t.taken, t.some, t.batch_of, did)
+appended_did start w lines s batch (Err e) own t did = inr (inr (inr (s, t.rows, batch, t.built, t.taken, t.some, t.batch_of, did)))
+
+pub appended_trace : (start : Start) (w : Writer) (lines : Lines) (s : TableSchema) (batch : Groups) (made : Result Appended Refusal) (before after : StoreView)
+    → IsTakenOf start w lines s batch → HasTrace (DidAppend s (commit_of start w batch) made) before after
+    → HasTrace (DidWrite start w lines (written_of made)) before after
+appended_trace start w lines s batch made before after t =
+    trace_weaker (DidAppend s (commit_of start w batch) made) (DidWrite start w lines (written_of made)) (λ own did. appended_did start w lines s batch made own t did) before after
+
+-- ---- what its calls do to histories
+
+-- files that stay go on to stand for the history
+stay_keeps : (start : Start) (w : Writer) (lines : Lines) (h : History) (f : Files) (first after : StoreView) (made : Result Written Refusal) → Folder f h
+    → Stay f first after → (LeavesFiles (λ f. Folder f h) after → MakesOf start w lines h first after made) → Keeps start w lines h first after made
+stay_keeps start w lines h f first after made folder stay makes = record {
+  makes = makes (leaves_of (λ f. Folder f h) f after stay.here folder);
+  images = images_of (StandsForEither start w lines h) f first.ops after.ops stay.images (inl folder);
 }
 
-pub input_refused : (input after : SourceView) (out : SinkView) (store : StoreView) (e : Refusal) →
-    IfSome input.left (λ bytes. RefusesInput bytes input after e) →
-    WritesHistories (outside input out store) (outside after out store) (Some e)
-input_refused input after out store e answer = (
-  store,
-  first_uncalled read_call store,
-  λ alone h bytes stands is.
-      input_serves h bytes input after out store e
-      (at_known (λ bytes. RefusesInput bytes input after e) input.left bytes is answer) stands,
-)
+either_left : (start : Start) (w : Writer) (lines : Lines) (h : History) (store : StoreView) → LeavesFiles (λ f. Folder f h) store
+    → LeavesFiles (StandsForEither start w lines h) store
+either_left start w lines h store left =
+    let files = files_of (λ f. Folder f h) store left in
+    leaves_of (StandsForEither start w lines h) files.0 store files.1 (inl files.2)
 
--- memory that ran out before anything was read
-pub nothing_read : (input : SourceView) (out : SinkView) (store : StoreView) →
-    WritesHistories (outside input out store) (outside input out store) (Some refusals.Memory)
-nothing_read input out store = (
-  store,
-  first_uncalled read_call store,
-  λ alone h bytes stands is. input_serves h bytes input input out store refusals.Memory tt stands,
-)
+-- a listing may be refused for it
+listing_spoils : (start : Start) (w : Writer) (lines : Lines) (h : History) (first after : StoreView) (e : Refusal) → snapshots.MayRefuse h first after e
+    → LeavesFiles (λ f. Folder f h) after → Spoils start w lines h first after e
+listing_spoils start w lines h first after (refusals.StoreFault path) may left = (may, either_left start w lines h after left)
+listing_spoils start w lines h first after refusals.NoTable may left = (may, left)
+listing_spoils start w lines h first after refusals.Memory may left = left
+listing_spoils start w lines h first after (refusals.Unsupported what text) may left = (may, left)
+listing_spoils start w lines h first after other may left = absurd may
 
--- what writing the batch leaves, said of the input
-batch_leaves : (answer : Option Refusal) (h : History) (bytes : List ℕ) (batch : List HistoryRow)
-    (after : StoreView) → IsBatch batch bytes →
-    LeavesBatch answer h batch after → LeavesInput bytes answer h after
-batch_leaves None h bytes batch after is leaves = (batch, is, leaves)
-batch_leaves (Some (refusals.SinkFault snapshot)) h bytes batch after is leaves = (batch, is, leaves)
-batch_leaves (Some (refusals.StoreFault path)) h bytes batch after is (inl stands) = inl stands
-batch_leaves (Some (refusals.StoreFault path)) h bytes batch after is (inr stands) = inr (batch, is, stands)
-batch_leaves (Some e) h bytes batch after is leaves = leaves
-
-have_batch : (h : History) (bytes : List ℕ) (batch : List HistoryRow) (after : StoreView) → IsBatch batch bytes →
-    Extends (λ files. StandsFor files (with_batch h batch)) after.ops after.ops →
-    Extends (HaveBatch bytes h) after.ops after.ops
-have_batch h bytes batch after is =
-    Extends-weaker (λ files. StandsFor files (with_batch h batch)) (HaveBatch bytes h) after.ops after.ops
-    (λ files stands. (batch, is, stands))
-
-batch_settles : (answer : Option Refusal) (h : History) (bytes : List ℕ) (batch : List HistoryRow)
-    (after : StoreView) → IsBatch batch bytes →
-    SettlesBatch answer h batch after → SettlesInput bytes answer h after
-batch_settles None h bytes batch after is settles = have_batch h bytes batch after is settles
-batch_settles (Some (refusals.SinkFault snapshot)) h bytes batch after is settles =
-    have_batch h bytes batch after is settles
-batch_settles (Some e) h bytes batch after is settles = tt
-
-either_of : (h : History) (bytes : List ℕ) (batch : List HistoryRow) → IsBatch batch bytes → (files : Files) →
-    IsEither h batch files → IsEitherOf bytes h files
-either_of h bytes batch is files (inl stands) = inl stands
-either_of h bytes batch is files (inr stands) = inr (batch, is, stands)
-
--- a command whose batch was written
-batch_served : (h : History) (bytes : List ℕ) (batch : List HistoryRow) (first store store_after : StoreView)
-    (input input_after : SourceView) (out out_after : SinkView) (answer : Option Refusal) →
-    (input_after.left ≡ Some []) × IsBatch batch bytes →
-    AddsBatch h batch first (outside input out store) (outside input out_after store_after) answer →
-    WritesHistory h bytes first (outside input out store) (outside input_after out_after store_after) answer
-batch_served h bytes batch first store store_after input input_after out out_after answer (to_end, is) adds = record {
-  done = λ none. record {
-    batch = batch;
-    is_batch = is;
-    to_end = to_end;
-    stands = subst (λ answer. LeavesBatch answer h batch store_after) none adds.leaves;
-    prints = adds.prints none;
-  };
-  leaves = batch_leaves answer h bytes batch store_after is adds.leaves;
-  settles = batch_settles answer h bytes batch store_after is adds.settles;
-  images = Extends-weaker (IsEither h batch) (IsEitherOf bytes h) first.ops store_after.ops
-      (either_of h bytes batch is) adds.images;
-  complete = λ other also room no_fault. adds.complete (subst (HasRoom h) (same_batch other batch bytes also is) room)
-      no_fault.out no_fault.store;
-}
-
-pub batch_serves : (store store_after : StoreView) (input input_after : SourceView) (out out_after : SinkView)
-    (batch : List HistoryRow) (answer : Option Refusal) →
-    IfSome input.left (λ bytes. (input_after.left ≡ Some []) × IsBatch batch bytes) →
-    AddsBatches batch out out_after store store_after answer →
-    WritesHistories (outside input out store) (outside input_after out_after store_after) answer
-batch_serves store store_after input input_after out out_after batch answer read (first, is_first, adds) = (
+pub read_keeps : (start : Start) (w : Writer) (lines : Lines) (e : Refusal) (before after : StoreView) → ReadsTables before after (Err e)
+    → KeepsHistories start w lines before after (Err e)
+read_keeps start w lines e before after (first, is_first, reads) = (
   first,
   is_first,
-  λ alone h bytes stands is.
-      batch_served h bytes batch first store store_after input input_after out out_after answer
-      (at_known (λ bytes. (input_after.left ≡ Some []) × IsBatch batch bytes) input.left bytes is read)
-      (adds alone h stands input),
+  λ alone h begins.
+      let files = files_of (MayStart (actor start) h) first begins in
+      let read = reads alone files.0 h files.1 files.2.0 in
+      stay_keeps start w lines h files.0 first after (Err e) files.2.0 read.files
+      (λ left. listing_spoils start w lines h first after e (caused h first after e read.cause) left),
 )
 
--- what the command answers of a batch that was written
-command_written : (bytes : List ℕ) (before after : Outside) (batch : List HistoryRow) (answer : Option Refusal) →
-    (after.input.left ≡ Some []) × IsBatch batch bytes → WritesBatch batch before after answer →
-    Writes bytes before after answer
-command_written bytes before after batch None (to_end, is) writes =
-    record { batch = batch; is_batch = is; to_end = to_end; writes = writes }
-command_written bytes before after batch (Some e) (to_end, is) writes =
-    inr (record { batch = batch; is_batch = is; to_end = to_end; writes = writes })
+pub judge_keeps : (start : Start) (w : Writer) (lines : Lines) (s : TableSchema) (e : Refusal) (before after : StoreView)
+    → (e ≡ refusals.Memory) ⊎ (unbuilt s ≡ Some e) → ReadsTables before after (Ok s) → KeepsHistories start w lines before after (Err e)
+judge_keeps start w lines s e before after why (first, is_first, reads) = (
+  first,
+  is_first,
+  λ alone h begins.
+      let files = files_of (MayStart (actor start) h) first begins in
+      let read = reads alone files.0 h files.1 files.2.0 in
+      stay_keeps start w lines h files.0 first after (Err e) files.2.0 read.files
+      (λ left. listing_spoils start w lines h first after e (judged_caused h first after s e read.schema why) left),
+)
 
--- a batch is written whatever the input was; what is answered doesn't speak of it
-writes_any : (batch : List HistoryRow) (input before after : SourceView) (out out_after : SinkView)
-    (store store_after : StoreView) (answer : Option Refusal) →
-    WritesBatch batch (outside input out store) (outside input out_after store_after) answer →
-    WritesBatch batch (outside before out store) (outside after out_after store_after) answer
-writes_any [] input before after out out_after store store_after None writes = writes
-writes_any [] input before after out out_after store store_after (Some (refusals.SinkFault snapshot)) writes = writes
-writes_any [] input before after out out_after store store_after (Some e) writes = writes
-writes_any (r ∷ rows) input before after out out_after store store_after None writes = writes
-writes_any (r ∷ rows) input before after out out_after store store_after (Some (refusals.SinkFault snapshot)) writes =
-    writes
-writes_any (r ∷ rows) input before after out out_after store store_after (Some e) writes = writes
+-- ---- a line is refused, or there are no rows
 
-pub batch_command : (store store_after : StoreView) (input input_after : SourceView) (out out_after : SinkView)
-    (batch : List HistoryRow) (answer : Option Refusal) →
-    IfSome input.left (λ bytes. (input_after.left ≡ Some []) × IsBatch batch bytes) →
-    WritesBatch batch (outside input out store) (outside input out_after store_after) answer → (bytes : List ℕ) →
-    input.left ≡ Some bytes →
-    Writes bytes (outside input out store) (outside input_after out_after store_after) answer
-batch_command store store_after input input_after out out_after batch answer read writes bytes is =
-    command_written bytes (outside input out store) (outside input_after out_after store_after) batch answer
-    (at_known (λ bytes. (input_after.left ≡ Some []) × IsBatch batch bytes) input.left bytes is read)
-    (writes_any batch input input input_after out out_after store store_after answer writes)
+-- the refusals of a line
+abbrev IsOfLines : Refusal → Type 0
+IsOfLines (refusals.BadLine number why column) = Unit {0}
+IsOfLines (refusals.Retraction number column) = Unit {0}
+IsOfLines (refusals.Limit which number) = Unit {0}
+IsOfLines other = ⊥
 
--- the causes of the refusals of a batch
-cause_of_batch : (input input_after : SourceView) (out out_after : SinkView) (store store_after : StoreView)
-    (e : Refusal) →
-    MayRefuseBatch (outside input out store) (outside input out_after store_after) e →
-    WriteCause (outside input out store) (outside input_after out_after store_after) e
-cause_of_batch input input_after out out_after store store_after refusals.Memory may = tt
-cause_of_batch input input_after out out_after store store_after (refusals.SinkFault snapshot) may = may
-cause_of_batch input input_after out out_after store store_after (refusals.StoreFault path) may = may
-cause_of_batch input input_after out out_after store store_after (refusals.Damaged path place) may = may
-cause_of_batch input input_after out out_after store store_after (refusals.Contended ids) may = may
-cause_of_batch input input_after out out_after store store_after (refusals.Limit which number) may = inr may
-cause_of_batch input input_after out out_after store store_after e may = absurd may
+of-judged : (columns : List Column) (number : ℕ) (read : Result HistoryRow Fault) (e : Refusal) → judged columns number read ≡ Err e → IsOfLines e
+of-judged columns number (Ok row) e is = cc
+of-judged columns number (Err fault) e is =
+    subst IsOfLines (let same : refusals.BadLine number fault.0 (faulty_column columns fault.0 fault.1) ≡ e = cc in same) tt
 
-pub batch_cause : (input input_after : SourceView) (out out_after : SinkView) (store store_after : StoreView)
-    (r : Result (Unit {0}) Refusal) →
-    IfErr r (MayRefuseBatch (outside input out store) (outside input out_after store_after)) →
-    IfErr r (WriteCause (outside input out store) (outside input_after out_after store_after))
-batch_cause input input_after out out_after store store_after (Ok done) may = tt
-batch_cause input input_after out out_after store store_after (Err e) may = cause_of_batch input input_after out
-    out_after store store_after e may
+of-taken : (v : Verdict) (number : ℕ) (row : HistoryRow) (e : Refusal) → taken_by v number row ≡ Err e → IsOfLines e
+of-taken Take number row e is = cc
+of-taken Ignore number row e is = cc
+of-taken (Refuse column) number row e is = subst IsOfLines (let same : refusals.Retraction number column ≡ e = cc in same) tt
+
+of-one : (s : TableSchema) (l : ℕ × List ℕ) (read : Result HistoryRow Refusal) → row_at s.columns l ≡ read → (e : Refusal)
+    → (read >>= (λ (row : HistoryRow). taken_by (verdict_on s row.0) l.0 row)) ≡ Err e → IsOfLines e
+of-one s l (Ok row) at e is = of-taken (verdict_on s row.0) l.0 row e is
+of-one s l (Err r) at e is = of-judged s.columns l.0 (row_of s.columns l.1) e (at ∙ (let same : r ≡ e = cc in ap Err same))
+
+of-line-refused : (s : TableSchema) (room : ℕ) (l : ℕ × List ℕ) (e : Refusal) → taken_at s room l ≡ Err e → IsOfLines e
+of-line-refused s room l e refused = by (room == 0) refused
+  where
+    by : (full : Bool) → (if full then Err no_room else taken_of s l) ≡ Err e → IsOfLines e
+    by true refused = subst IsOfLines (let same : no_room ≡ e = cc in same) tt
+    by false refused = of-one s l (row_at s.columns l) refl e refused
+
+of-both : (first later : Result (List HistoryRow) Refusal) (e : Refusal)
+    → (first >>= (λ (f : List HistoryRow). later >>= (λ (l : List HistoryRow). Ok (f ++ l)))) ≡ Err e → (first ≡ Err e) ⊎ (later ≡ Err e)
+of-both (Ok f) (Ok l) e is = cc
+of-both (Ok f) (Err r) e is = inr (let same : r ≡ e = cc in ap Err same)
+of-both (Err r) later e is = inl (let same : r ≡ e = cc in ap Err same)
+
+of-lines : (s : TableSchema) (room : ℕ) (lines : Lines) (e : Refusal) → taken_in s room lines ≡ Err e → IsOfLines e
+of-lines s room [] e is = cc
+of-lines s room (l ∷ lines) e is = elim (of-both (taken_at s room l) (taken_in s (room - 1) lines) e is) [
+  | inl first ↦ of-line-refused s room l e first
+  | inr later ↦ of-lines s (room - 1) lines e later
+]
+
+line_spoils : (start : Start) (w : Writer) (lines : Lines) (h : History) (s : TableSchema) (first after : StoreView) (e : Refusal) → IsTableOf s h
+    → all_taken s lines ≡ Err e → IsOfLines e → LeavesFiles (λ f. Folder f h) after → Spoils start w lines h first after e
+line_spoils start w lines h s first after (refusals.BadLine number why column) table refused of left = ((s, table, refused), left)
+line_spoils start w lines h s first after (refusals.Retraction number column) table refused of left = ((s, table, refused), left)
+line_spoils start w lines h s first after (refusals.Limit which number) table refused of left = (inl (s, table, refused), left)
+line_spoils start w lines h s first after other table refused of left = absurd of
+
+why_spoils : (start : Start) (w : Writer) (lines : Lines) (h : History) (s : TableSchema) (first after : StoreView) (e : Refusal) → IsTableOf s h
+    → (e ≡ refusals.Memory) ⊎ (all_taken s lines ≡ Err e) → LeavesFiles (λ f. Folder f h) after → Spoils start w lines h first after e
+why_spoils start w lines h s first after e table (inl memory) left = subst (Spoils start w lines h first after) (sym memory) left
+why_spoils start w lines h s first after e table (inr refused) left =
+    line_spoils start w lines h s first after e table refused (of-lines s limits.rows lines e refused) left
+
+pub lines_keeps : (start : Start) (w : Writer) (lines : Lines) (s : TableSchema) (e : Refusal) (before after : StoreView)
+    → (e ≡ refusals.Memory) ⊎ (all_taken s lines ≡ Err e) → ReadsTables before after (Ok s) → KeepsHistories start w lines before after (Err e)
+lines_keeps start w lines s e before after why (first, is_first, reads) = (
+  first,
+  is_first,
+  λ alone h begins.
+      let files = files_of (MayStart (actor start) h) first begins in
+      let read = reads alone files.0 h files.1 files.2.0 in
+      stay_keeps start w lines h files.0 first after (Err e) files.2.0 read.files (λ left. why_spoils start w lines h s first after e read.schema why left),
+)
+
+pub nothing_keeps : (start : Start) (w : Writer) (lines : Lines) (s : TableSchema) (before after : StoreView) → all_taken s lines ≡ Ok []
+    → ReadsTables before after (Ok s) → KeepsHistories start w lines before after (Ok written.Nothing)
+nothing_keeps start w lines s before after none (first, is_first, reads) = (
+  first,
+  is_first,
+  λ alone h begins.
+      let files = files_of (MayStart (actor start) h) first begins in
+      let read = reads alone files.0 h files.1 files.2.0 in
+      stay_keeps start w lines h files.0 first after (Ok written.Nothing) files.2.0 read.files (λ left. ((s, read.schema, none), left)),
+)
+
+-- ---- a commit
+
+module _ (start : Start) (w : Writer) (lines : Lines) (s : TableSchema) (batch : Groups) (t : IsTakenOf start w lines s batch) (h : History) (f : Files)
+    (table : IsTableOf s h) where
+  abbrev b : Beginning
+  b = record { own = commit_of start w batch; rows = t.rows; files = f; history = h }
+
+  takes : TakesRows h lines t.rows
+  takes = (s, table, t.taken)
+
+  has-rows : (g : Files) → Folder g (with_entry (entry_by start w t.rows) h) → HasRows start w lines h g
+  has-rows g folder = record { rows = t.rows; takes = takes; some = t.some; folder = folder }
+
+  pub either-rows : (g : Files) → commit.StandsForEither b g → StandsForEither start w lines h g
+  either-rows g (inl folder) = inl folder
+  either-rows g (inr folder) = inr (has-rows g folder)
+
+  left-weaker : (P Q : Files → Type 0) → ((g : Files) → P g → Q g) → (store : StoreView) → LeavesFiles P store → LeavesFiles Q store
+  left-weaker P Q weaker store left =
+      let files = files_of P store left in
+      leaves_of Q files.0 store files.1 (weaker files.0 files.2)
+
+  -- what is so of the beginning is so at the first call
+  at-first : (P : Beginning → Type 0) (first : StoreView) → HasFiles f first → P b → LeavesFiles (BeginsWith start w lines h P) first
+  at-first P first has is =
+      leaves_of (BeginsWith start w lines h P) f first has (record { rows = t.rows; batch = batch; takes = takes; some = t.some; is = is })
+
+  fault-leaves : (path : List ℕ) (g : Files) → commit.LeavesFolder b (Err (refusals.StoreFault path)) g → StandsForEither start w lines h g
+  fault-leaves path g (inl folder) = inl folder
+  fault-leaves path g (inr (folder, at)) = inr (has-rows g folder)
+
+  spoiled : (first after : StoreView) (e : Refusal) → HasFiles f first → commit.AppendsTable b s first after (Err e) → Spoils start w lines h first after e
+  spoiled first after refusals.Memory has does = does.leaves
+  spoiled first after (refusals.StoreFault path) has does =
+      (does.counted, left-weaker (commit.LeavesFolder b (Err (refusals.StoreFault path))) (StandsForEither start w lines h) (fault-leaves path) after does.leaves)
+  spoiled first after (refusals.SessionUsed path) has does = (at-first (λ b. WasUsed b path) first has does.says, does.leaves)
+  spoiled first after (refusals.Fenced base fence) has does = (
+    at-first (λ b. GivesReason b (Some (refusals.Fenced base fence))) first has does.says,
+    left-weaker (commit.LeavesFolder b (Err (refusals.Fenced base fence))) (λ g. Folder g h) (λ g is. is.0) after does.leaves,
+  )
+  spoiled first after (refusals.Limit which number) has does = (
+    inr (at-first (λ b. GivesReason b (Some (refusals.Limit which number))) first has does.says),
+    left-weaker (commit.LeavesFolder b (Err (refusals.Limit which number))) (λ g. Folder g h) (λ g is. is.0) after does.leaves,
+  )
+  spoiled first after other has does = absurd does.says
+
+  pub commit-makes : (first after : StoreView) (made : Result Appended Refusal) → HasFiles f first → commit.AppendsTable b s first after made
+      → MakesOf start w lines h first after (written_of made)
+  commit-makes first after (Ok appends.Already) has does = (
+    at-first (λ b. HasBorne b.own.author b.files b.history) first has does.says,
+    left-weaker (commit.LeavesFolder b (Ok appends.Already)) (λ g. Folder g h) (λ g is. is.0) after does.leaves,
+  )
+  commit-makes first after (Ok (appends.Committed id)) has does = (
+    does.says.0,
+    at-first (λ b. GivesReason b None) first has does.says.1,
+    left-weaker (λ g. Folder g (with_entry (entry_by start w t.rows) h)) (HasRows start w lines h) has-rows after does.leaves,
+    Extends-weaker (λ g. Folder g (with_entry (entry_by start w t.rows) h)) (HasRows start w lines h) after.ops after.ops has-rows does.settles,
+  )
+  commit-makes first after (Err e) has does = spoiled first after e has does
+
+pub appended_keeps : FitLaw → (start : Start) (w : Writer) (lines : Lines) (s : TableSchema) (batch : Groups) (made : Result Appended Refusal)
+    (before after : StoreView) → IsTakenOf start w lines s batch → MayName (naming start.session 0 0)
+    → AppendsTables s (commit_of start w batch) before after made → KeepsHistories start w lines before after (written_of made)
+appended_keeps fits start w lines s batch made before after t may (first, is_first, appends) = (
+  first,
+  is_first,
+  λ alone h begins.
+      let files = files_of (MayStart (actor start) h) first begins in
+      let at : Beginning = record { own = commit_of start w batch; rows = t.rows; files = files.0; history = h } in
+      let begin : MayBegin s at = record {
+        no_base = refl;
+        may = may;
+        fit = rows-in fits s limits.rows lines t.rows t.taken;
+        batch = t.batch_of;
+        start = files.2;
+      } in
+      let does = appends alone at refl files.1 begin in
+      record {
+        makes = commit-makes start w lines s batch t h files.0 does.schema first after made files.1 does;
+        images = Extends-weaker (commit.StandsForEither at) (StandsForEither start w lines h) first.ops after.ops
+            (either-rows start w lines s batch t h files.0 does.schema) does.images;
+      },
+)
+
+-- ---- and what was printed
+
+pub prints_more : (text more : List ℕ) (snapshot : Option ℕ) (before after : SinkView) (e : Refusal) → Prints text snapshot None before after (Some e)
+    → Prints (text ++ more) snapshot None before after (Some e)
+prints_more text more snapshot before after e (is, failed, prefix) = (is, failed, TookPrefix-first before.taken after.taken text more prefix)
+
+and_then_twice : (known : Option (List ℕ)) (text more : List ℕ) → and_then (and_then known text) more ≡ and_then known (text ++ more)
+and_then_twice None text more = refl
+and_then_twice (Some bytes) text more = ap Some (append_assoc bytes text more)
+
+pub prints_then : (text more : List ℕ) (snapshot : Option ℕ) (before middle after : SinkView) (answer : Option Refusal) → SinkLater before middle
+    → middle.taken ≡ and_then before.taken text → Prints more snapshot None middle after answer → Prints (text ++ more) snapshot None before after answer
+prints_then text more snapshot before middle after None late taken prints =
+    prints ∙ ap (λ (known : Option (List ℕ)). and_then known more) taken ∙ and_then_twice before.taken text more
+prints_then text more snapshot before middle after (Some e) late taken (is, failed, prefix) =
+    (is, omega (arith, late, failed), TookPrefix-second before.taken middle.taken after.taken text more taken prefix)
+
+-- a text that is joined otherwise
+pub prints_as : (text other : List ℕ) (snapshot : Option ℕ) (before after : SinkView) (answer : Option Refusal) → text ≡ other
+    → Prints text snapshot None before after answer → Prints other snapshot None before after answer
+prints_as text other snapshot before after answer is = subst (λ (text : List ℕ). Prints text snapshot None before after answer) is
+
+pub refused_written : (start : Start) (w : Writer) (lines : Lines) (e : Refusal) (out : SinkView) (store after : StoreView)
+    → HasTrace (DidWrite start w lines (Err e)) store after → KeepsHistories start w lines store after (Err e)
+    → IsWritten start w lines out out store after (Some e)
+refused_written start w lines e out store after trace kept = (Err e, trace, kept, (refl, refl))
+
+pub printed_written : (start : Start) (w : Writer) (lines : Lines) (done : Written) (out out_after : SinkView) (store after : StoreView) (answer : Option Refusal)
+    → HasTrace (DidWrite start w lines (Ok done)) store after → KeepsHistories start w lines store after (Ok done)
+    → Prints (text_of (Ok done)) (snapshot_of (Ok done)) None out out_after answer → IsWritten start w lines out out_after store after answer
+printed_written start w lines done out out_after store after answer trace kept prints = (Ok done, trace, kept, prints)
+
+-- ---- what is answered
+
+lines_written : (start : Start) (w : Writer) (lines : Lines) (before after : Outside) (answer : Option Refusal)
+    → IsWritten start w lines before.out after.out before.store after.store answer → WritesLines start w lines before after answer
+lines_written start w lines before after answer (made, trace, kept, prints) = (made, trace, prints)
+
+pub input_refused : (start : Start) (w : Writer) (bytes : List ℕ) (before after : SourceView) (out : SinkView) (store : StoreView) (e : Refusal)
+    → RefusesInput bytes before after e → AnswersWrite start w bytes (outside before out store) (outside after out store) (Some e)
+input_refused start w bytes before after out store e refuses = inl (e, refl, refuses, record { store = refl; out = refl })
+
+pub input_acts : (start : Start) (w : Writer) (before after : SourceView) (out : SinkView) (store : StoreView) (e : Refusal)
+    → MayRefuseInput before after e → ActsWrite start w (outside before out store) (outside after out store) (Some e)
+input_acts start w before after out store e may = inl (e, refl, may, record { store = refl; out = refl })
+
+pub input_written : (start : Start) (w : Writer) (bytes : List ℕ) (lines : Lines) (before after : Outside) (answer : Option Refusal)
+    → HasLines bytes after.input lines → IsWritten start w lines before.out after.out before.store after.store answer
+    → AnswersWrite start w bytes before after answer
+input_written start w bytes lines before after answer has wrote =
+    inr (has.within, has.left, subst (λ (lines : Lines). WritesLines start w lines before after answer) has.are (lines_written start w lines before after answer wrote))
+
+pub lines_acts : (start : Start) (w : Writer) (lines : Lines) (before after : Outside) (answer : Option Refusal)
+    → IsWritten start w lines before.out after.out before.store after.store answer → ActsWrite start w before after answer
+lines_acts start w lines before after answer wrote = inr (lines, lines_written start w lines before after answer wrote)
+
+-- ---- a history
+
+-- a store that isn't called leaves one image
+images_left : (P : Files → Type 0) (f : Files) (store : StoreView) → HasFiles f store → P f → Extends P store.ops store.ops
+images_left P f store has p =
+    Extends-refl P store.ops (λ ops told. subst P (sym (subst (λ (known : Option (List Op)). IsSomeAnd known (λ ops. files_after ops ≡ f)) told has)) p)
+
+-- the input was refused, and nothing done
+pub refused_serves : (start : Start) (w : Writer) (before after : SourceView) (out : SinkView) (store : StoreView) (e : Refusal)
+    → IfSome before.left (λ bytes. RefusesInput bytes before after e) → WritesTables start w (outside before out store) (outside after out store) (Some e)
+refused_serves start w before after out store e refuses = (
+  store,
+  first_uncalled _ store,
+  λ alone h bytes begins is.
+      let files = files_of (MayStart (actor start) h) store begins in record {
+        answers = inl (
+          (e, refl, at_known (λ bytes. RefusesInput bytes before after e) before.left bytes is refuses, record { store = refl; out = refl }),
+          leaves_of (λ f. Folder f h) files.0 store files.1 files.2.0,
+        );
+        images = images_left (StandsForEither start w (row_lines bytes) h) files.0 store files.1 (inl files.2.0);
+      },
+)
+
+refusal_answers : (start : Start) (w : Writer) (lines : Lines) (h : History) (first : StoreView) (before after : Outside) (e : Refusal)
+    → Spoils start w lines h first after.store e → after.out ≡ before.out → AnswersLines start w lines h first before after (Some e)
+refusal_answers start w lines h first before after (refusals.SinkFault snapshot) spoils same = absurd spoils
+refusal_answers start w lines h first before after e spoils same = (spoils, same)
+
+made_answers : (start : Start) (w : Writer) (lines : Lines) (h : History) (first : StoreView) (before after : Outside) (made : Result Written Refusal)
+    (answer : Option Refusal) → MakesOf start w lines h first after.store made
+    → Prints (text_of made) (snapshot_of made) (result_err made) before.out after.out answer → AnswersLines start w lines h first before after answer
+made_answers start w lines h first before after (Ok done) None makes prints = (done, makes, prints)
+made_answers start w lines h first before after (Ok done) (Some e) makes (fault, failed, prefix) =
+    subst (λ (e : Refusal). AnswersLines start w lines h first before after (Some e)) (sym fault) (done, makes, refl, failed, prefix)
+made_answers start w lines h first before after (Err e) answer makes (is, untaken) =
+    subst (AnswersLines start w lines h first before after) (sym is) (refusal_answers start w lines h first before after e makes untaken)
+
+pub lines_serve : (start : Start) (w : Writer) (lines : Lines) (before after : Outside) (answer : Option Refusal)
+    → IfSome before.input.left (λ bytes. HasLines bytes after.input lines)
+    → IsWritten start w lines before.out after.out before.store after.store answer → WritesTables start w before after answer
+lines_serve start w lines before after answer read (made, trace, (first, is_first, kept), prints) = (
+  first,
+  is_first,
+  λ alone h bytes begins is.
+      let has = at_known (λ bytes. HasLines bytes after.input lines) before.input.left bytes is read in
+      let was = kept alone h begins in
+      let answers = made_answers start w lines h first before after made answer was.makes prints in record {
+        answers = inr (has.within, has.left, subst (λ (lines : Lines). AnswersLines start w lines h first before after answer) has.are answers);
+        images = subst (λ (lines : Lines). Extends (StandsForEither start w lines h) first.ops after.store.ops) has.are was.images;
+      },
+)
+
+-- ---- what is done by the answer of the batch
+
+-- the rows that were taken of the lines
+pub taken_rows : (s : TableSchema) (lines : Lines) (batch : Groups) → ReadsBatch s (Ok batch) (all_taken s lines)
+    → (rows : List HistoryRow) × IsBatchOf s rows batch
+taken_rows s lines batch (rows, taken, is) = (rows, is)
+
+-- what the law of batches says
+abbrev pub EmptyLaw : Type 0
+EmptyLaw = (s : TableSchema) (rows : List HistoryRow) (batch : Groups) → IsBatchOf s rows batch → ((batch ≡ [] → rows ≡ []) × (rows ≡ [] → batch ≡ []))
+
+pub none_taken : EmptyLaw → (s : TableSchema) (lines : Lines) (batch : Groups) → ReadsBatch s (Ok batch) (all_taken s lines) → batch ≡ []
+    → all_taken s lines ≡ Ok []
+none_taken law s lines batch (rows, taken, is) none = taken ∙ ap Ok ((law s rows batch is).0 none)
+
+pub some_taken : EmptyLaw → (start : Start) (w : Writer) (lines : Lines) (s : TableSchema) (batch : Groups) → IsBuilt s
+    → ReadsBatch s (Ok batch) (all_taken s lines) → batch ≢ [] → IsTakenOf start w lines s batch
+some_taken law start w lines s batch built (rows, taken, is) some = record {
+  rows = rows;
+  built = built;
+  taken = taken;
+  some = λ none. some ((law s rows batch is).1 none);
+  batch_of = is;
+}

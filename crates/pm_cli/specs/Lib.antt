@@ -1,8 +1,7 @@
-pub mod Batch
 pub mod Create
+pub mod Input
 pub mod Outside
 pub mod Run
 pub mod Scan
 pub mod Snapshots
-pub mod Words
 pub mod Write

@@ -7,7 +7,6 @@ use Rattle.pm_values.specs.declared.refusal.Refusal.TheVariants as refusals
 use Rattle.pm_io.specs.Sink.{SinkView, SinkFailed, TookPrefix}
 use Rattle.pm_io.specs.Source.{SourceView, SourceFailed}
 use Rattle.pm_store.specs.Store.{StoreView, IsLater}
-use Rattle.pm_plain.specs.Commit.{IsUncalled}
 use Rattle.pm_folder.specs.Changes.{Actor}
 use Rattle.pm_report.specs.Report.{code_of, report_text}
 
@@ -40,7 +39,7 @@ pub record AllLater (before after : Outside) : Type 0 where
 
 -- the sink and the store weren't called
 pub record IsUntouched (before after : Outside) : Type 0 where
-  pub store : IsUncalled before.store after.store
+  pub store : after.store ≡ before.store
   pub out : after.out ≡ before.out
 
 -- the work was done, or memory ran out

@@ -1,13 +1,13 @@
 -- What each command answers, and what it does to what the store stands for.
-use Rattle.std.specs.Prelude.{◌≡◌, ℕ, List, Option, Some, IfSome}
+use Rattle.std.specs.Prelude.{◌≡◌, ℕ, List, Option, Some}
 use Rattle.pm_values.specs.declared.refusal.Refusal.{Refusal}
 use Rattle.pm_cli.specs.Create.{AnswersCreate, ActsCreate, CreatesTables}
 use Rattle.pm_cli.specs.Outside.{Start, Outside}
 use Rattle.pm_cli.specs.Scan.{Scans, ScansTables}
 use Rattle.pm_cli.specs.Snapshots.{ListsSnapshots, ListsTables}
-use Rattle.pm_cli.specs.Write.{Writes, WriteCause, WritesHistories}
-use Rattle.pm_cli.specs.declared.words.Command.{Command}
-use Rattle.pm_cli.specs.declared.words.Command.TheVariants as commands
+use Rattle.pm_cli.specs.Write.{AnswersWrite, ActsWrite, WritesTables, writer_of}
+use Rattle.pm_words.specs.declared.command.Command.{Command}
+use Rattle.pm_words.specs.declared.command.Command.TheVariants as commands
 
 -- what a command answers to an input that is known
 abbrev pub Answers : Command → Start → Outside → Outside → Option Refusal → Type 0
@@ -17,19 +17,22 @@ Answers (commands.Scan snapshot) start before after answer =
     (after.input ≡ before.input) × Scans snapshot before after answer
 Answers commands.Snapshots start before after answer =
     (after.input ≡ before.input) × ListsSnapshots before after answer
-Answers commands.Write start before after answer =
-    (bytes : List ℕ) → before.input.left ≡ Some bytes → Writes bytes before after answer
+Answers (commands.Write user identifier) start before after answer =
+    (bytes : List ℕ) → before.input.left ≡ Some bytes
+    → AnswersWrite start (writer_of user identifier) bytes before after answer
 
 -- what it does, and why it refuses, whatever is known
 abbrev pub Acts : Command → Start → Outside → Outside → Option Refusal → Type 0
 Acts commands.Create start before after answer = ActsCreate start before after answer
 Acts (commands.Scan snapshot) start before after answer = Scans snapshot before after answer
 Acts commands.Snapshots start before after answer = ListsSnapshots before after answer
-Acts commands.Write start before after answer = IfSome answer (WriteCause before after)
+Acts (commands.Write user identifier) start before after answer =
+    ActsWrite start (writer_of user identifier) before after answer
 
 -- what it promises of histories
 abbrev pub ServesHistories : Command → Start → Outside → Outside → Option Refusal → Type 0
 ServesHistories commands.Create start before after answer = CreatesTables start before after answer
 ServesHistories (commands.Scan snapshot) start before after answer = ScansTables snapshot before after answer
 ServesHistories commands.Snapshots start before after answer = ListsTables before after answer
-ServesHistories commands.Write start before after answer = WritesHistories before after answer
+ServesHistories (commands.Write user identifier) start before after answer =
+    WritesTables start (writer_of user identifier) before after answer

@@ -1,198 +1,280 @@
--- What the command `write` answers, what it prints, and what it leaves of the plain file.
-use Rattle.std.specs.Prelude.{◌≡◌, ◌⊎◌, ℕ, ◌+◌, ◌<◌, List, [], ◌∷◌, ◌++◌, length, codes}
-use Rattle.std.specs.Prelude.{Option, None, Some, Ok, Err, Vec}
-use Rattle.std.specs.Global.{Global}
+-- What the command `write` answers, what it prints, and what it does to a history.
+use Rattle.std.specs.Prelude.{◌≡◌, ◌≢◌, ◌⊎◌, ℕ, ℤ, pos, ◌+◌, min, List, [], ◌∷◌, ◌++◌, codes, decimal, is_some}
+use Rattle.std.specs.Prelude.{Option, None, Some, Result, Ok, Err}
+use Rattle.std.specs.Result.{result_err}
+use Rattle.uuid.specs.Text.{hyphenated_text, hyphen, lower}
+use Rattle.pm_base.specs.Faults.{Rose}
 use Rattle.pm_base.specs.Known.{and_then}
+use Rattle.pm_base.specs.Newline.{line}
+use Rattle.pm_values.specs.Names.{naming}
 use Rattle.pm_values.specs.declared.refusal.Refusal.{Refusal}
 use Rattle.pm_values.specs.declared.refusal.Refusal.TheVariants as refusals
-use Rattle.pm_history.specs.Merge.{HistoryRow}
 use Rattle.pm_io.specs.Sink.{SinkView, SinkFailed, TookPrefix}
-use Rattle.pm_io.specs.Source.{SourceView, SourceFailed}
 use Rattle.pm_store.specs.Answers.{IsFirst}
 use Rattle.pm_store.specs.Files.{Files}
 use Rattle.pm_store.specs.Images.{Extends}
 use Rattle.pm_store.specs.Store.{StoreView, IsAlone}
-use Rattle.pm_plain.specs.Text.{History, committed_text, nothing_text, plain_path, last_id, StandsFor}
-use Rattle.pm_plain.specs.declared.commit.Committed.{Committed}
-use Rattle.pm_plain.specs.Commit.{Stands, StoreFailed, read_call, WasContended, Commits, ShowsPlain}
-use Rattle.pm_cli.specs.Batch.{IsBatch, RefusesInput}
-use Rattle.pm_cli.specs.Outside.{Outside, outside, IsUntouched, IsServed, HasNoFault}
-use Rattle.pm_input.specs.Limits.{limits, limit_text, limit_number}
-use Rattle.pm_input.specs.declared.limits.LimitKind.{LimitKind}
+use Rattle.pm_machine.specs.Trace.{Event, HasTrace}
+use Rattle.pm_history.specs.History.{Entry, History, IsTableOf, append, no_table}
+use Rattle.pm_history.specs.Merge.{HistoryRow}
+use Rattle.pm_input.specs.Limits.{limits, IsWithin}
+use Rattle.pm_input.specs.Lines.{row_lines}
+use Rattle.pm_schema.specs.declared.schema.TableSchema.{TableSchema}
+use Rattle.pm_folder.specs.Changes.{Actor}
+use Rattle.pm_folder.specs.Folder.{Folder}
+use Rattle.pm_folder.specs.Ledger.{count_of}
+use Rattle.pm_create.specs.Making.{LeavesFiles}
+use Rattle.pm_view.specs.Reader.{schemas_call}
+use Rattle.pm_view.specs.Trace as reader
+use Rattle.pm_draft.specs.Built.{IsBuilt, unbuilt}
+use Rattle.pm_write.specs.Batch.{Groups, IsBatchOf}
+use Rattle.pm_write.specs.Taken.{all_taken}
+use Rattle.pm_append.specs.declared.newest.Author.{Author}
+use Rattle.pm_commit.specs.AllCalls.{DidAppend, Has, HasBorne, MayStart}
+use Rattle.pm_commit.specs.Alone.{Beginning, GivesReason, WasUsed, with_entry}
+use Rattle.pm_commit.specs.Own.{OwnView, new_author, new_own}
+use Rattle.pm_commit.specs.declared.all_calls.Appended.{Appended}
+use Rattle.pm_commit.specs.declared.all_calls.Appended.TheVariants as appends
+use Rattle.pm_cli.specs.Input.{MayRefuseInput, RefusesInput}
+use Rattle.pm_cli.specs.Outside.{Outside, Start, actor, IsUntouched, Prints}
+use Rattle.pm_cli.specs.Snapshots.{EndsAtSchema}
+use Rattle.pm_cli.specs.declared.write.Written.{Written}
+use Rattle.pm_cli.specs.declared.write.Written.TheVariants as written
 
--- the history with a batch as one more commit; a batch without rows is none
-abbrev pub with_batch : History → List HistoryRow → History
-with_batch h [] = h
-with_batch h (r ∷ rows) = h ++ (r ∷ rows) ∷ []
+-- ---- who writes
 
--- what `write` prints of a batch: its snapshot, or that there was nothing to commit, and the scan of all rows
-abbrev pub printed : History → List HistoryRow → List ℕ
-printed h [] = nothing_text h
-printed h (r ∷ rows) = committed_text (length h + 1) (h ++ (r ∷ rows) ∷ [])
+-- the user and the identifier that are asked for, or none
+pub record Writer : Type 0 where
+  pub user : Option (List ℕ)
+  pub identifier : Option ℕ
 
--- there is an id for a batch's commit
-abbrev pub HasRoom : History → List HistoryRow → Type 0
-HasRoom h [] = Unit {0}
-HasRoom h (r ∷ rows) = length h < last_id
+abbrev pub writer_of : Option (List ℕ) → Option ℕ → Writer
+writer_of user identifier = record { user = user; identifier = identifier }
 
--- what writing a batch without rows answers: what the store's calls bring, and after them a fault of the sink
-abbrev pub WritesNothing : Outside → Outside → Option Refusal → Type 0
-WritesNothing before after None =
-    (text : Vec ℕ Global) × ShowsPlain before.store after.store (Ok text)
-    × (after.out.taken ≡ and_then before.out.taken text.items)
-WritesNothing before after (Some (refusals.SinkFault snapshot)) =
-    (text : Vec ℕ Global) × ShowsPlain before.store after.store (Ok text) × (snapshot ≡ None)
-    × SinkFailed before.out after.out × TookPrefix before.out.taken after.out.taken text.items
-WritesNothing before after (Some e) = ShowsPlain before.store after.store (Err e) × (after.out.taken ≡ before.out.taken)
+-- the greatest identifier, which a commit has where none is asked for
+abbrev pub greatest_identifier : ℕ
+greatest_identifier = 9223372036854775807
 
--- and what writing rows answers, likewise
-abbrev pub WritesRows : List HistoryRow → Outside → Outside → Option Refusal → Type 0
-WritesRows rows before after None =
-    (committed : Committed) × Commits rows before.store after.store (Ok committed)
-    × (after.out.taken ≡ and_then before.out.taken committed.text.items)
-WritesRows rows before after (Some (refusals.SinkFault snapshot)) =
-    (committed : Committed) × Commits rows before.store after.store (Ok committed) × (snapshot ≡ Some committed.id)
-    × SinkFailed before.out after.out × TookPrefix before.out.taken after.out.taken committed.text.items
-WritesRows rows before after (Some e) =
-    Commits rows before.store after.store (Err e) × (after.out.taken ≡ before.out.taken)
+abbrev pub identifier_of : Option ℕ → ℤ
+identifier_of None = pos greatest_identifier
+identifier_of (Some n) = pos (min n greatest_identifier)
 
--- what writing a batch answers
-abbrev pub WritesBatch : List HistoryRow → Outside → Outside → Option Refusal → Type 0
-WritesBatch [] = WritesNothing
-WritesBatch (r ∷ rows) = WritesRows (r ∷ rows)
+-- the user where none is asked for: the actor's session and number
+abbrev pub user_of : Actor → Option (List ℕ) → List ℕ
+user_of me None = hyphenated_text lower me.session ++ hyphen ∷ decimal me.number
+user_of me (Some name) = name
 
--- what an answer leaves: after a fault of the store the history has the batch or not, after one of the sink it has it
-abbrev pub LeavesBatch : Option Refusal → History → List HistoryRow → StoreView → Type 0
-LeavesBatch None h batch after = Stands after (with_batch h batch)
-LeavesBatch (Some (refusals.SinkFault snapshot)) h batch after = Stands after (with_batch h batch)
-LeavesBatch (Some (refusals.StoreFault path)) h batch after = Stands after h ⊎ Stands after (with_batch h batch)
-LeavesBatch (Some other) h batch after = Stands after h
+-- the author of its commit, before a base is known
+abbrev pub author_of : Start → Writer → Author
+author_of start w = new_author (user_of (actor start) w.user) (identifier_of w.identifier) start.now
 
--- some batch was tried eleven times, and each try found other content
-abbrev pub FoundOthers : StoreView → StoreView → List ℕ → Type 0
-FoundOthers before after ids = (batch : List HistoryRow) × WasContended batch before after ids
+-- The commit of a batch: an earlier one of the user is looked for where a user is asked for.
+abbrev pub commit_of : Start → Writer → Groups → OwnView
+commit_of start w batch =
+    new_own batch (author_of start w) (is_some w.user) (naming start.session (actor start).number 0)
 
--- the refusals of writing a batch, whatever is known, each with what it needs
-abbrev pub MayRefuseBatch : Outside → Outside → Refusal → Type 0
-MayRefuseBatch before after refusals.Memory = Unit {0}
-MayRefuseBatch before after (refusals.SinkFault snapshot) = SinkFailed before.out after.out
-MayRefuseBatch before after (refusals.StoreFault path) = (path ≡ plain_path) × StoreFailed before.store after.store
-MayRefuseBatch before after (refusals.Damaged path place) = path ≡ plain_path
-MayRefuseBatch before after (refusals.Contended ids) = FoundOthers before.store after.store ids
-MayRefuseBatch before after (refusals.Limit which number) = (which ≡ codes "snapshot-id") × (number ≡ last_id)
-MayRefuseBatch before after other = ⊥
+-- the entry of its rows
+abbrev pub entry_by : Start → Writer → List HistoryRow → Entry
+entry_by start w rows = append (author_of start w).user (author_of start w).identifier rows
 
--- files stand for a history, or for it with the batch
-abbrev pub IsEither : History → List HistoryRow → Files → Type 0
-IsEither h batch files = StandsFor files h ⊎ StandsFor files (with_batch h batch)
+-- ---- its calls
 
--- where the batch stands for sure: the work was done, or the sink failed after it; then each image from then on has it
-abbrev pub SettlesBatch : Option Refusal → History → List HistoryRow → StoreView → Type 0
-SettlesBatch None h batch after = Extends (λ files. StandsFor files (with_batch h batch)) after.ops after.ops
-SettlesBatch (Some (refusals.SinkFault snapshot)) h batch after =
-    Extends (λ files. StandsFor files (with_batch h batch)) after.ops after.ops
-SettlesBatch (Some other) h batch after = Unit {0}
+-- numbered lines of an input
+abbrev pub Lines : Type 0
+Lines = List (ℕ × List ℕ)
 
--- What writing a batch does to a history that stands at its first call, where nobody else acts from then on.
-pub record AddsBatch (h : History) (batch : List HistoryRow) (first : StoreView) (before after : Outside)
-    (answer : Option Refusal) : Type 0 where
-  pub prints : answer ≡ None → after.out.taken ≡ and_then before.out.taken (printed h batch)
-  pub leaves : LeavesBatch answer h batch after.store
-  pub settles : SettlesBatch answer h batch after.store
-  pub complete : HasRoom h batch → (SinkFailed before.out after.out → ⊥) → (StoreFailed first after.store → ⊥)
-      → IsServed answer
-  pub images : Extends (IsEither h batch) first.ops after.store.ops
+-- the schema was read, of a table that is built
+pub record HasBuilt (s : TableSchema) (own : List Event) : Type 0 where
+  pub built : IsBuilt s
+  pub has : Has s own
 
--- what writing a batch promises of histories, from its first call of the store on
-abbrev pub AddsBatches : List HistoryRow → SinkView → SinkView → StoreView → StoreView → Option Refusal → Type 0
-AddsBatches batch out out_after store store_after answer =
-    (first : StoreView) × IsFirst read_call store first store_after
-    × (IsAlone first store_after → (h : History) → Stands first h → (input : SourceView)
-    → AddsBatch h batch first (outside input out store) (outside input out_after store_after) answer)
+-- they end with the schema, and a line is the first that is refused; or memory ran out
+abbrev pub EndsAtLines : Lines → Refusal → List Event → Type 0
+EndsAtLines lines e own =
+    (s : TableSchema) × ((e ≡ refusals.Memory) ⊎ (all_taken s lines ≡ Err e)) × HasBuilt s own
 
--- the input was read, and its batch written
-pub record IsWritten (bytes : List ℕ) (before after : Outside) (answer : Option Refusal) : Type 0 where
-  pub batch : List HistoryRow
-  pub is_batch : IsBatch batch bytes
-  pub to_end : after.input.left ≡ Some []
-  pub writes : WritesBatch batch before after answer
+-- some rows are taken of the lines, and they go on as the calls of a commit of these rows
+abbrev pub AppendsLines : Start → Writer → Lines → Result Appended Refusal → List Event → Type 0
+AppendsLines start w lines made own =
+    (s : TableSchema) × (rows : List HistoryRow) × (batch : Groups) × IsBuilt s × (all_taken s lines ≡ Ok rows)
+    × (rows ≢ []) × IsBatchOf s rows batch × DidAppend s (commit_of start w batch) made own
 
--- What the command `write` answers: the input is no batch, or memory ran out for it, and nothing was touched; or it is
--- one, and was written.
-abbrev pub Writes : List ℕ → Outside → Outside → Option Refusal → Type 0
-Writes bytes before after None = IsWritten bytes before after None
-Writes bytes before after (Some e) =
-    (RefusesInput bytes before.input after.input e × IsUntouched before after) ⊎ IsWritten bytes before after (Some e)
+-- Its calls of the store, by what became of the lines: of no row none follows the schema, and the others are those of a
+-- commit; or they show why no schema was read, or end with the schema, or are those of a commit that was refused.
+abbrev pub DidWrite : Start → Writer → Lines → Result Written Refusal → List Event → Type 0
+DidWrite start w lines (Ok written.Nothing) own = (s : TableSchema) × (all_taken s lines ≡ Ok []) × HasBuilt s own
+DidWrite start w lines (Ok written.Already) own = AppendsLines start w lines (Ok appends.Already) own
+DidWrite start w lines (Ok (written.Committed id)) own = AppendsLines start w lines (Ok (appends.Committed id)) own
+DidWrite start w lines (Err e) own =
+    reader.Shows e own ⊎ EndsAtSchema e own ⊎ EndsAtLines lines e own ⊎ AppendsLines start w lines (Err e) own
 
--- a limit that is answered is one of the input's, or that of snapshot ids
-abbrev pub IsLimit : List ℕ → ℕ → Type 0
-IsLimit text number =
-    ((kind : LimitKind) × (text ≡ limit_text kind) × (number ≡ limit_number limits kind))
-    ⊎ ((text ≡ codes "snapshot-id") × (number ≡ last_id))
+-- ---- what it prints
 
--- each refusal of `write` with the fault or the tries that it needs, whatever is known
-abbrev pub WriteCause : Outside → Outside → Refusal → Type 0
-WriteCause before after refusals.Memory = Unit {0}
-WriteCause before after refusals.SourceFault = SourceFailed before.input after.input
-WriteCause before after (refusals.SinkFault snapshot) = SinkFailed before.out after.out
-WriteCause before after (refusals.StoreFault path) = (path ≡ plain_path) × StoreFailed before.store after.store
-WriteCause before after (refusals.BadLine line why column) = Unit {0}
-WriteCause before after (refusals.Damaged path place) = path ≡ plain_path
-WriteCause before after (refusals.Contended ids) = FoundOthers before.store after.store ids
-WriteCause before after (refusals.Limit text number) = IsLimit text number
-WriteCause before after other = ⊥
+abbrev pub text_of : Result Written Refusal → List ℕ
+text_of (Ok written.Nothing) = line (codes "nothing to commit")
+text_of (Ok written.Already) = line (codes "already")
+text_of (Ok (written.Committed id)) = line (codes "snapshot " ++ decimal id)
+text_of (Err e) = []
 
--- the store stands for a history with the batch of an input
-abbrev pub StandsWith : List ℕ → History → StoreView → Type 0
-StandsWith bytes h store = (batch : List HistoryRow) × IsBatch batch bytes × Stands store (with_batch h batch)
+-- the snapshot that was committed
+abbrev pub snapshot_of : Result Written Refusal → Option ℕ
+snapshot_of (Ok (written.Committed id)) = Some id
+snapshot_of other = None
 
--- What stands after an answer. The batch stands once the work was done, a fault of the sink comes after that, and
--- after one of the store it stands or not. Any other refusal leaves the history.
-abbrev pub LeavesInput : List ℕ → Option Refusal → History → StoreView → Type 0
-LeavesInput bytes None h after = StandsWith bytes h after
-LeavesInput bytes (Some (refusals.SinkFault snapshot)) h after = StandsWith bytes h after
-LeavesInput bytes (Some (refusals.StoreFault path)) h after = Stands after h ⊎ StandsWith bytes h after
-LeavesInput bytes (Some other) h after = Stands after h
+-- lines were written: the calls of the store are these, and this was printed
+abbrev pub WritesLines : Start → Writer → Lines → Outside → Outside → Option Refusal → Type 0
+WritesLines start w lines before after answer =
+    (made : Result Written Refusal) × HasTrace (DidWrite start w lines made) before.store after.store
+    × Prints (text_of made) (snapshot_of made) (result_err made) before.out after.out answer
 
--- files stand for a history with the batch of an input
-abbrev pub HaveBatch : List ℕ → History → Files → Type 0
-HaveBatch bytes h files = (batch : List HistoryRow) × IsBatch batch bytes × StandsFor files (with_batch h batch)
+-- the input was refused, and nothing touched
+abbrev pub RefusesAll : (Refusal → Type 0) → Outside → Outside → Option Refusal → Type 0
+RefusesAll Refuses before after answer = (e : Refusal) × (answer ≡ Some e) × Refuses e × IsUntouched before after
 
--- files stand for a history, or for it with the batch of an input
-abbrev pub IsEitherOf : List ℕ → History → Files → Type 0
-IsEitherOf bytes h files = StandsFor files h ⊎ HaveBatch bytes h files
+-- What `write` answers to an input of these bytes: the input is refused, or it was read to its end and its lines were
+-- written.
+abbrev pub AnswersWrite : Start → Writer → List ℕ → Outside → Outside → Option Refusal → Type 0
+AnswersWrite start w bytes before after answer =
+    RefusesAll (RefusesInput bytes before.input after.input) before after answer
+    ⊎ (IsWithin limits bytes × (after.input.left ≡ Some []) × WritesLines start w (row_lines bytes) before after answer)
 
--- where the batch stands for sure each image from then on has it
-abbrev pub SettlesInput : List ℕ → Option Refusal → History → StoreView → Type 0
-SettlesInput bytes None h after = Extends (HaveBatch bytes h) after.ops after.ops
-SettlesInput bytes (Some (refusals.SinkFault snapshot)) h after = Extends (HaveBatch bytes h) after.ops after.ops
-SettlesInput bytes (Some other) h after = Unit {0}
+-- and what it does whatever the input is
+abbrev pub ActsWrite : Start → Writer → Outside → Outside → Option Refusal → Type 0
+ActsWrite start w before after answer =
+    RefusesAll (MayRefuseInput before.input after.input) before after answer
+    ⊎ ((lines : Lines) × WritesLines start w lines before after answer)
 
--- The work of `write` was done: the input was read to its end and is a batch, the store stands for the history with it,
--- and this was printed.
-pub record IsDone (h : History) (bytes : List ℕ) (before after : Outside) : Type 0 where
-  pub batch : List HistoryRow
-  pub is_batch : IsBatch batch bytes
-  pub to_end : after.input.left ≡ Some []
-  pub stands : Stands after.store (with_batch h batch)
-  pub prints : after.out.taken ≡ and_then before.out.taken (printed h batch)
+-- ---- a history that stands at its first call, where nobody else acts from then on
 
--- What `write` does to a history that stands at its first call of the store, where nobody else acts from then on,
--- with these bytes as its input. At the end of the work the store stands for the history with the batch, and just
--- this was printed; else what the refusal leaves stands. Once the batch stands each image has it, and before that
--- each image has it or not. Good input is served: a batch with an id left, without a fault.
-pub record WritesHistory (h : History) (bytes : List ℕ) (first : StoreView) (before after : Outside)
-    (answer : Option Refusal) : Type 0 where
-  pub done : answer ≡ None → IsDone h bytes before after
-  pub leaves : LeavesInput bytes answer h after.store
-  pub settles : SettlesInput bytes answer h after.store
-  pub images : Extends (IsEitherOf bytes h) first.ops after.store.ops
-  pub complete : (batch : List HistoryRow) → IsBatch batch bytes → HasRoom h batch → HasNoFault before first after
-      → IsServed answer
+-- the rows are what the history's table takes of the lines
+abbrev pub TakesRows : History → Lines → List HistoryRow → Type 0
+TakesRows h lines rows = (s : TableSchema) × IsTableOf s h × (all_taken s lines ≡ Ok rows)
 
--- what `write` promises of histories, from its first call of the store on
-abbrev pub WritesHistories : Outside → Outside → Option Refusal → Type 0
-WritesHistories before after answer =
-    (first : StoreView) × IsFirst read_call before.store first after.store
-    × (IsAlone first after.store → (h : History) (bytes : List ℕ) → Stands first h → before.input.left ≡ Some bytes
-    → WritesHistory h bytes first before after answer)
+-- Some rows are taken of the lines, and this is so of the beginning of their commit, with these files and this history.
+pub record BeginsWith (start : Start) (w : Writer) (lines : Lines) (h : History) (P : Beginning → Type 0) (f : Files)
+    : Type 0 where
+  pub rows : List HistoryRow
+  pub batch : Groups
+  pub takes : TakesRows h lines rows
+  pub some : rows ≢ []
+  pub is : P (record { own = commit_of start w batch; rows = rows; files = f; history = h })
+
+-- files stand for the history with some rows of the lines at its end, as one entry
+pub record HasRows (start : Start) (w : Writer) (lines : Lines) (h : History) (f : Files) : Type 0 where
+  pub rows : List HistoryRow
+  pub takes : TakesRows h lines rows
+  pub some : rows ≢ []
+  pub folder : Folder f (with_entry (entry_by start w rows) h)
+
+-- files stand for a history, or for it with the rows of the lines at its end
+abbrev pub StandsForEither : Start → Writer → Lines → History → Files → Type 0
+StandsForEither start w lines h f = Folder f h ⊎ HasRows start w lines h f
+
+-- the history stays
+abbrev pub Stays : History → StoreView → Type 0
+Stays h after = LeavesFiles (λ f. Folder f h) after
+
+-- What became of the lines at the end of the work, and what stands: no row is taken, and the history stays; the user
+-- had committed before, as a snapshot that was there at first says, and it stays; or the rows are at its end, as each
+-- image from then on has them, the id is the next one, and the newest snapshot gives no reason against the commit.
+abbrev pub Becomes : Start → Writer → Lines → History → StoreView → StoreView → Written → Type 0
+Becomes start w lines h first after written.Nothing = TakesRows h lines [] × Stays h after
+Becomes start w lines h first after written.Already =
+    LeavesFiles (BeginsWith start w lines h (λ b. HasBorne b.own.author b.files b.history)) first × Stays h after
+Becomes start w lines h first after (written.Committed id) =
+    (id ≡ count_of h + 1) × LeavesFiles (BeginsWith start w lines h (λ b. GivesReason b None)) first
+    × LeavesFiles (HasRows start w lines h) after × Extends (HasRows start w lines h) after.ops after.ops
+
+-- a line of the input is the first that the history's table refuses
+abbrev pub RefusesLines : History → Lines → Refusal → Type 0
+RefusesLines h lines e = (s : TableSchema) × IsTableOf s h × (all_taken s lines ≡ Err e)
+
+-- the newest snapshot that was there at first gives this reason against the commit of the lines
+abbrev pub GivesAgainst : Start → Writer → Lines → History → Refusal → StoreView → Type 0
+GivesAgainst start w lines h e first = LeavesFiles (BeginsWith start w lines h (λ b. GivesReason b (Some e))) first
+
+-- What a refusal of the work needs, and what stands after it: after a fault of the store, which was counted, the
+-- history or the history with the rows; else the history. There is no table, or none that is built; a line is refused;
+-- a file of the actor's name was there at first; or the newest snapshot gives this reason against the commit. No other
+-- comes.
+abbrev pub Spoils : Start → Writer → Lines → History → StoreView → StoreView → Refusal → Type 0
+Spoils start w lines h first after refusals.Memory = Stays h after
+Spoils start w lines h first after (refusals.StoreFault path) =
+    Rose first.faults after.faults × LeavesFiles (StandsForEither start w lines h) after
+Spoils start w lines h first after refusals.NoTable = (h ≡ no_table) × Stays h after
+Spoils start w lines h first after (refusals.Unsupported what text) =
+    ((s : TableSchema) × IsTableOf s h × (unbuilt s ≡ Some (refusals.Unsupported what text))) × Stays h after
+Spoils start w lines h first after (refusals.BadLine number why column) =
+    RefusesLines h lines (refusals.BadLine number why column) × Stays h after
+Spoils start w lines h first after (refusals.Retraction number column) =
+    RefusesLines h lines (refusals.Retraction number column) × Stays h after
+Spoils start w lines h first after (refusals.SessionUsed path) =
+    LeavesFiles (BeginsWith start w lines h (λ b. WasUsed b path)) first × Stays h after
+Spoils start w lines h first after (refusals.Fenced base fence) =
+    GivesAgainst start w lines h (refusals.Fenced base fence) first × Stays h after
+Spoils start w lines h first after (refusals.Limit which number) =
+    (RefusesLines h lines (refusals.Limit which number)
+    ⊎ GivesAgainst start w lines h (refusals.Limit which number) first)
+    × Stays h after
+Spoils start w lines h first after other = ⊥
+
+-- The answer to a history and lines: what became of them was printed; or a prefix of that, where the sink failed, and
+-- the refusal names the snapshot that was committed; or the work was refused, and nothing printed.
+abbrev pub AnswersLines : Start → Writer → Lines → History → StoreView → Outside → Outside → Option Refusal → Type 0
+AnswersLines start w lines h first before after None =
+    (done : Written) × Becomes start w lines h first after.store done
+    × (after.out.taken ≡ and_then before.out.taken (text_of (Ok done)))
+AnswersLines start w lines h first before after (Some (refusals.SinkFault snapshot)) =
+    (done : Written) × Becomes start w lines h first after.store done × (snapshot ≡ snapshot_of (Ok done))
+    × SinkFailed before.out after.out × TookPrefix before.out.taken after.out.taken (text_of (Ok done))
+AnswersLines start w lines h first before after (Some e) =
+    Spoils start w lines h first after.store e × (after.out ≡ before.out)
+
+-- The answer to a history and an input: the input was refused, and the history stays; or it was read to its end.
+abbrev pub AnswersHistory : Start → Writer → List ℕ → History → StoreView → Outside → Outside → Option Refusal → Type 0
+AnswersHistory start w bytes h first before after answer =
+    (RefusesAll (RefusesInput bytes before.input after.input) before after answer
+    × LeavesFiles (λ f. Folder f h) after.store)
+    ⊎ (IsWithin limits bytes × (after.input.left ≡ Some [])
+    × AnswersLines start w (row_lines bytes) h first before after answer)
+
+-- what `write` does to a history, and that each image has it, or has it with the rows of the input
+pub record WritesTable (start : Start) (w : Writer) (bytes : List ℕ) (h : History) (first : StoreView)
+    (before after : Outside) (answer : Option Refusal) : Type 0 where
+  pub answers : AnswersHistory start w bytes h first before after answer
+  pub images : Extends (StandsForEither start w (row_lines bytes) h) first.ops after.store.ops
+
+-- what it promises of histories, from its first call of the store on: where no snapshot names a file of an actor of its
+-- name
+abbrev pub WritesTables : Start → Writer → Outside → Outside → Option Refusal → Type 0
+WritesTables start w before after answer =
+    (first : StoreView) × IsFirst schemas_call before.store first after.store
+    × (IsAlone first after.store → (h : History) (bytes : List ℕ) → LeavesFiles (MayStart (actor start) h) first
+    → before.input.left ≡ Some bytes → WritesTable start w bytes h first before after answer)
+
+-- ---- before anything is printed
+
+-- Private: what became of a history and lines
+abbrev pub MakesOf : Start → Writer → Lines → History → StoreView → StoreView → Result Written Refusal → Type 0
+MakesOf start w lines h first after (Ok done) = Becomes start w lines h first after done
+MakesOf start w lines h first after (Err e) = Spoils start w lines h first after e
+
+-- Private: what the calls of `write` do to a history
+pub record Keeps (start : Start) (w : Writer) (lines : Lines) (h : History) (first after : StoreView)
+    (made : Result Written Refusal) : Type 0 where
+  pub makes : MakesOf start w lines h first after made
+  pub images : Extends (StandsForEither start w lines h) first.ops after.ops
+
+-- Private: and to histories
+abbrev pub KeepsHistories : Start → Writer → Lines → StoreView → StoreView → Result Written Refusal → Type 0
+KeepsHistories start w lines before after made =
+    (first : StoreView) × IsFirst schemas_call before first after
+    × (IsAlone first after → (h : History) → LeavesFiles (MayStart (actor start) h) first
+    → Keeps start w lines h first after made)
+
+-- Private: the calls of `write`, what they do to histories, and what was printed
+abbrev pub IsWritten : Start → Writer → Lines → SinkView → SinkView → StoreView → StoreView → Option Refusal → Type 0
+IsWritten start w lines out out_after store store_after answer =
+    (made : Result Written Refusal) × HasTrace (DidWrite start w lines made) store store_after
+    × KeepsHistories start w lines store store_after made
+    × Prints (text_of made) (snapshot_of made) (result_err made) out out_after answer

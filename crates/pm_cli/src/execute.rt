@@ -4,17 +4,17 @@ ghost use Rattle.std.specs.Prelude.{◌≡◌, IfOk};
 ghost use Rattle.std.specs.Result.{result_err};
 ghost use Rattle.pm_cli.specs.Outside.{outside, start_of, AllLater, IsUntouched};
 ghost use Rattle.pm_cli.specs.Run.{Acts, Answers, ServesHistories};
-ghost use Rattle.pm_cli.specs.Words.{Give, GiveNoCommand, IsNoCommand};
-ghost use Rattle.pm_cli.specs.declared.words.Command.{Command};
+ghost use Rattle.pm_words.specs.Words.{Give, GiveNoCommand, IsNoCommand};
+ghost use Rattle.pm_words.specs.declared.command.Command.{Command};
 
 use crate::create::run_create;
 use crate::scan::run_scan;
 use crate::snapshots::run_snapshots;
-use crate::words::{Command, command_in, no_command};
 use crate::write::run_write;
 use pm_io::{Sink, Source};
 use pm_store::FileStore;
 use pm_values::{Refusal, Txt};
+use pm_words::{Command, command_in, no_command, one_command_law};
 use std::alloc::Global;
 
 /// Executes the command that the words give.
@@ -46,10 +46,11 @@ pub(crate) fn execute<S: Source, W: Sink, F: FileStore>(
     ensures later { AllLater (outside (S.seen input.old) (W.seen out.old) (F.seen store.old))
         (outside (S.seen input.new) (W.seen out.new) (F.seen store.new)) }
 {
-    let Some(command) = command_in(words) else {
-        return Err(no_command(alloc, words)?);
-    };
-    execute_command(alloc, command, input, out, store, now_millis, session)
+    one_command_law();
+    match command_in(alloc, words)? {
+        Some(command) => execute_command(alloc, command, input, out, store, now_millis, session),
+        None => Err(no_command(alloc, words)?),
+    }
 }
 
 /// Executes a command.
@@ -78,6 +79,8 @@ fn execute_command<S: Source, W: Sink, F: FileStore>(
         Command::Create => run_create(alloc, input, out, store, now_millis, session),
         Command::Scan { snapshot } => run_scan(alloc, snapshot, out, store),
         Command::Snapshots => run_snapshots(alloc, out, store),
-        Command::Write => run_write(alloc, input, out, store),
+        Command::Write { user, identifier } => run_write(
+            alloc, user, identifier, input, out, store, now_millis, session,
+        ),
     }
 }

@@ -5,8 +5,8 @@ ghost use Rattle.pm_io.specs.Sink.{SinkLater};
 ghost use Rattle.pm_report.specs.Report.{code_of};
 ghost use Rattle.pm_cli.specs.Outside.{outside, start_of, AllLater, IsUntouched, exit_code, Said};
 ghost use Rattle.pm_cli.specs.Run.{Acts, Answers, ServesHistories};
-ghost use Rattle.pm_cli.specs.Words.{Give, GiveNoCommand, IsNoCommand};
-ghost use Rattle.pm_cli.specs.declared.words.Command.{Command};
+ghost use Rattle.pm_words.specs.Words.{Give, GiveNoCommand, IsNoCommand};
+ghost use Rattle.pm_words.specs.declared.command.Command.{Command};
 
 use crate::execute::execute;
 use pm_io::{Sink, Source};

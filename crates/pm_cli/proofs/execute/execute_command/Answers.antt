@@ -44,3 +44,12 @@ returns-in-Snapshots-clause-history g c =
     (listed_serves (outside (g.S.Source.seen c.args.input.now) (g.W.Sink.seen c.args.out.now) (g.F.FileStore.seen c.args.store.now))
     (outside (g.S.Source.seen c.args.input.now) (g.W.Sink.seen c.run_snapshots.new.out) (g.F.FileStore.seen c.run_snapshots.new.store))
     (result_err c.run_snapshots.result) c.run_snapshots.ensures.listed)
+
+pub returns-in-Write-clause-command : goal.returns-in-Write-clause-command
+returns-in-Write-clause-command g c = rw c.in-Write.is (rw (to_z-of_z c.ranges.now_millis) at c.run_write.ensures.command)
+
+pub returns-in-Write-clause-acts : goal.returns-in-Write-clause-acts
+returns-in-Write-clause-acts g c = rw c.in-Write.is (rw (to_z-of_z c.ranges.now_millis) at c.run_write.ensures.acts)
+
+pub returns-in-Write-clause-history : goal.returns-in-Write-clause-history
+returns-in-Write-clause-history g c = rw c.in-Write.is (rw (to_z-of_z c.ranges.now_millis) at c.run_write.ensures.history)

@@ -1,0 +1,67 @@
+-- What a command promises that ran out of memory before it did anything.
+use Rattle.std.proofs.Common.{inl, ℕ, List, [], Option, None, Some, IfSome, Err, refl}
+use Rattle.pm_values.specs.declared.refusal.Refusal.TheVariants as refusals
+use Rattle.pm_io.specs.Sink.{SinkView}
+use Rattle.pm_io.specs.Source.{SourceView}
+use Rattle.pm_store.specs.Store.{StoreView}
+use Rattle.pm_machine.specs.Trace.{HasTrace}
+use Rattle.pm_machine.proofs.Facts.{Traces-none}
+use Rattle.pm_view.specs.AllCalls.{DidRead, ReadsTables}
+use Rattle.pm_view.specs.Trace.{at_first}
+use Rattle.pm_view.proofs.AllCallsLemmas.{read_history}
+use Rattle.pm_words.specs.declared.command.Command.{Command}
+use Rattle.pm_words.specs.declared.command.Command.TheVariants as commands
+use Rattle.pm_cli.specs.Outside.{Start, outside}
+use Rattle.pm_cli.specs.Run.{Acts, Answers, ServesHistories}
+use Rattle.pm_cli.specs.Scan as scan
+use Rattle.pm_cli.specs.Snapshots as snapshots
+use Rattle.pm_cli.specs.Write.{writer_of}
+use Rattle.pm_cli.proofs.CreateLaws.{nothing_made}
+use Rattle.pm_cli.proofs.ScanLaws as scans
+use Rattle.pm_cli.proofs.SnapshotLaws as lists
+use Rattle.pm_cli.proofs.WriteLaws.{input_acts, input_refused, refused_serves}
+
+-- no schema was read
+read_none : (store : StoreView) → HasTrace (DidRead (Err refusals.Memory)) store store
+read_none store = ([], at_first refl, Traces-none store)
+
+reads_none : (store : StoreView) → ReadsTables store store (Err refusals.Memory)
+reads_none store = read_history (Err refusals.Memory) store store (read_none store)
+
+scanned_none : (at : Option ℕ) (out : SinkView) (store : StoreView) → scan.IsScanned at out out store store (Some refusals.Memory)
+scanned_none at out store =
+    scans.refused_scanned at refusals.Memory out store store (scans.read_refused at refusals.Memory store store (read_none store))
+    (scans.read_keeps at refusals.Memory store store (reads_none store))
+
+listed_none : (out : SinkView) (store : StoreView) → snapshots.IsListed out out store store (Some refusals.Memory)
+listed_none out store =
+    lists.refused_listed refusals.Memory out store store (lists.read_refused refusals.Memory store store (read_none store))
+    (lists.read_keeps refusals.Memory store store (reads_none store))
+
+any_bytes : (left : Option (List ℕ)) → IfSome left (λ bytes. Unit {0})
+any_bytes None = tt
+any_bytes (Some bytes) = tt
+
+module _ (start : Start) (input : SourceView) (out : SinkView) (store : StoreView) where
+  pub nothing_answers : (command : Command) → Answers command start (outside input out store) (outside input out store) (Some refusals.Memory)
+  nothing_answers commands.Create = λ bytes is. inl (refusals.Memory, refl, tt, record { store = refl; out = refl })
+  nothing_answers (commands.Write user identifier) = λ bytes is. input_refused start (writer_of user identifier) bytes input input out store refusals.Memory tt
+  nothing_answers (commands.Scan at) =
+      (refl, scans.scanned_answers at (outside input out store) (outside input out store) (Some refusals.Memory) (scanned_none at out store))
+  nothing_answers commands.Snapshots =
+      (refl, lists.listed_answers (outside input out store) (outside input out store) (Some refusals.Memory) (listed_none out store))
+
+  pub nothing_acts : (command : Command) → Acts command start (outside input out store) (outside input out store) (Some refusals.Memory)
+  nothing_acts commands.Create = inl (refusals.Memory, refl, tt, record { store = refl; out = refl })
+  nothing_acts (commands.Write user identifier) = input_acts start (writer_of user identifier) input input out store refusals.Memory tt
+  nothing_acts (commands.Scan at) =
+      scans.scanned_answers at (outside input out store) (outside input out store) (Some refusals.Memory) (scanned_none at out store)
+  nothing_acts commands.Snapshots = lists.listed_answers (outside input out store) (outside input out store) (Some refusals.Memory) (listed_none out store)
+
+  pub nothing_serves : (command : Command) → ServesHistories command start (outside input out store) (outside input out store) (Some refusals.Memory)
+  nothing_serves commands.Create = nothing_made start input out store
+  nothing_serves (commands.Write user identifier) =
+      refused_serves start (writer_of user identifier) input input out store refusals.Memory (any_bytes input.left)
+  nothing_serves (commands.Scan at) =
+      scans.scanned_serves at (outside input out store) (outside input out store) (Some refusals.Memory) (scanned_none at out store)
+  nothing_serves commands.Snapshots = lists.listed_serves (outside input out store) (outside input out store) (Some refusals.Memory) (listed_none out store)
