@@ -1,4 +1,4 @@
-//! A command of one word, with what it answers.
+//! A command, with what it answers.
 
 use pm_case::ROOM;
 use pm_cli::run;
@@ -7,15 +7,19 @@ use pm_store::FileStore;
 use pm_values::Txt;
 use std::alloc::{AllocError, Global};
 
-/// Runs a command by the session that ends in this byte: its status, what it printed, and what it said.
+/// Runs the command of these words, with a blank between them, by the session that ends in this byte: its status, what
+/// it printed, and what it said.
 pub fn run_command<F: FileStore>(
     alloc: Global,
     store: &mut F,
     session: u8,
-    word: &str,
+    words: &str,
     input: Vec<u8>,
 ) -> Result<String, AllocError> {
-    let words = vec![in alloc; Txt::from_str(alloc, word)?]?;
+    let mut given = Vec::new(alloc);
+    for word in words.split(' ') {
+        given.push(Txt::from_str(alloc, word)?)?;
+    }
     let mut source = MemSource::new(input, Vec::new(alloc));
     let mut out = MemSink::new(alloc, ROOM, Vec::new(alloc))?;
     let mut err = MemSink::new(alloc, ROOM, Vec::new(alloc))?;
@@ -23,7 +27,7 @@ pub fn run_command<F: FileStore>(
     name[15] = session;
     let status = run(
         alloc,
-        &words,
+        &given,
         &mut source,
         &mut out,
         &mut err,

@@ -12,10 +12,9 @@
 //! | `source` | see `lines.rt` | the lines of a source that fails |
 //! | `sink` | see `lines.rt` | what a sink takes, and whether that is all |
 //! | `lines` | the number of a read that fails, or 0; a text | the lines that aren't blank, or why not |
-//! | `batch` | a text | how many rows it has, and each as it is printed; or the refusal of its first bad line |
-//! | `plain` | a text | how many commits and rows it has as the plain file; or where it is damaged |
+//! | `batch` | columns, a text | how many rows it has, and each as it is printed; or what refuses its first bad line |
 //! | `store` | `memory`, `fails` and a plan, or `folder` and a name; calls | their answers |
-//! | `rivals` | how many others commit before this write, an input | its outcome, how many operations, the plain file |
+//! | `rivals` | how many commits a table has, words, an input, what others do before calls | see `rivals.rt` |
 //! | `folder` | a name, a draft | `create` through one store of that folder and through another, then `snapshots` |
 //! | `scanned` | a name; paths, each with a file's bytes | `scan` of that folder, in which these files were created |
 //! | `refusal` | its kind and its parts | its status and its line |
@@ -30,7 +29,6 @@ mod engine;
 mod folder;
 mod input;
 mod lines;
-mod plain;
 mod refusal;
 mod rivals;
 mod store;
@@ -78,7 +76,6 @@ fn answer_of(alloc: Global, codec: &str, arguments: &str) -> Result<Option<Strin
         "names" => value::names_answer(alloc, arguments),
         "kind" => value::kind_answer(alloc, arguments),
         "batch" => batch::answer(alloc, arguments),
-        "plain" => plain::answer(alloc, arguments),
         "rivals" => rivals::answer(alloc, arguments),
         "refusal" => refusal::answer(alloc, arguments),
         "short-refusal" => refusal::short_answer(alloc, arguments),
