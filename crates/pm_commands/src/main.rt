@@ -15,10 +15,13 @@
 //! The calls of a case's commands are numbered together, from 1; putting and taking files has no number. An effect is
 //! `none`, `whole`, `absent`, or `part HEX`, the bytes that a create leaves. A session is fifteen zero bytes and then
 //! SESSION.
-//! The input is the lines, each with its newline. Of the options `open` leaves the last newline out, `room` is how many
-//! bytes `out` takes, and `source` and `sink` list the numbers of the calls of the input and of `out` that fail.
+//! The input is the lines, each with its newline. A line is a text, or `[TEXT,TIMES]` for the text so many times.
+//! Of the options `open` leaves the last newline out, `room` is how many bytes `out` takes, and `source` and `sink`
+//! list the numbers of the calls of the input and of `out` that fail.
 //!
 //! Each other line prints `unknown case line`.
+//!
+//! Unproved the cases may take more than the minute that `rt try` gives a program: `RT_SECONDS=300 rt try < stdin`.
 #![tactic(auto)]
 
 mod command;

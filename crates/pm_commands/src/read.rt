@@ -95,13 +95,28 @@ fn is_open(options: &Value) -> bool {
 fn read_input(alloc: Global, lines: &Value, is_open: bool) -> Result<Vec<u8>, LineFault> {
     let mut input = Vec::new(alloc);
     for line in items_of(lines)? {
-        input.extend_from_slice(text_of(line)?.as_bytes())?;
+        push_line(&mut input, line)?;
         input.push(b'\n')?;
     }
     if is_open {
         let _ = input.pop();
     }
     Ok(input)
+}
+
+/// Appends a line: a text, or an array of a text and how many times it stands there.
+fn push_line(input: &mut Vec<u8>, line: &Value) -> Result<(), LineFault> {
+    if let Some(text) = line.as_str() {
+        return Ok(input.extend_from_slice(text.as_bytes())?);
+    }
+    let [text, times] = items_of(line)? else {
+        return Err(LineFault::Unknown);
+    };
+    let text = text_of(text)?;
+    for _ in 0..number_of(times)? {
+        input.extend_from_slice(text.as_bytes())?;
+    }
+    Ok(())
 }
 
 /// The numbers of calls that fail, none where nothing is said of them.
