@@ -1,8 +1,8 @@
 #!/usr/bin/env bash
-# Starts 24 writers at once on one folder, each with a row of its own, again and again. It promises:
+# Starts 24 writers at once on one table, each with a row of its own, again and again. It promises:
 #   - each writer that ended with 0 has its row in the table, and each that ended with 14 (contended) hasn't;
 #   - none ended with 5 (the store failed), nor with anything else;
-#   - no snapshot's id was printed twice.
+#   - no snapshot's id was printed twice, and the ids that were printed are those from 1 on, without a gap.
 # It ends with 1 where a promise fails. The gate never runs it.
 #
 # usage: bench/many_writers.sh [PROGRAM [ROUNDS [WRITERS]]]     without a program: the one that ./paimon builds; 20 rounds
@@ -11,7 +11,7 @@ top=$(dirname -- "$(dirname -- "$(readlink -f -- "$0")")")
 work=$(mktemp -d) || exit 1
 trap 'rm -rf "$work"' EXIT
 if [ $# -eq 0 ]; then
-    "$top/paimon" "$work/none" write </dev/null >"$work/first" || exit 1
+    "$top/paimon" "$work/none" create <"$top/examples/table.json" >"$work/first" || exit 1
 fi
 program=${1:-$top/crates/paimon/out/ready/paimon}
 rounds=${2:-20}
@@ -28,6 +28,7 @@ broken() {
 
 row() { printf '["+I",%d,"w%d"]\n' "$1" "$1"; }
 
+"$program" "$table" create <"$top/examples/table.json" >"$work/created" || exit 1
 begun=$(date +%s)
 for ((round = 0; round < rounds; round++)); do
     pids=()
@@ -43,7 +44,7 @@ for ((round = 0; round < rounds; round++)); do
 done
 seconds=$(($(date +%s) - begun))
 
-"$program" "$table" write </dev/null >"$work/read" || broken "the table doesn't read: status $?"
+"$program" "$table" scan >"$work/read" || broken "the table doesn't read: status $?"
 for ((i = 0; i < rounds * writers; i++)); do
     status=$(<"$work/status.$i")
     is_there=no
@@ -60,8 +61,11 @@ for ((i = 0; i < rounds * writers; i++)); do
     *) broken "writer $i ended with $status: $(<"$work/err.$i")" ;;
     esac
 done
-for out in "$work"/out.*; do head -n 1 "$out"; done | grep '^snapshot ' | sort >"$work/ids"
+cat "$work"/out.* | sed -n 's/^snapshot //p' | sort -n >"$work/ids"
 [ -z "$(uniq -d "$work/ids")" ] || broken "an id was printed twice"
+seq "$committed" | cmp -s - "$work/ids" || broken "the ids that were printed aren't those from 1 to $committed"
+"$program" "$table" snapshots | sed 's/^\[\([0-9]*\),.*/\1/' | cmp -s - "$work/ids" ||
+    broken "the snapshots that are there aren't those whose ids were printed"
 
 echo "$rounds times $writers writers in $seconds s: $committed committed, $contended contended"
 [ "$bad" -eq 0 ] && echo "every promise was kept"

@@ -1,19 +1,26 @@
 #!/usr/bin/env bash
 # Scans a table of 1,000,000 rows in 10 runs, and the same rows in a table of sqlite3, five times each in turn, from files
-# that were just read. sqlite3 prints them once as the lines of a scan, which have to be the same, and once in its own form.
-# It prints the least time of each and the most memory of each. The gate never runs it. It wants sqlite3, python3 and GNU
-# time, and the program to be built by ./paimon. docs/BEHAVIOUR.md has what it printed.
+# that were just read. Each run is one `write`; the keys are dealt to the runs in turn, so each reaches over all keys. A
+# write takes at most 100,000 rows. sqlite3 prints them once as the lines of a scan, which have to be the same, and once in
+# its own form. It prints the least time of each and the most memory of each. The gate never runs it. It wants sqlite3 and
+# GNU time, and the program to be built by ./paimon. docs/BEHAVIOUR.md has what it printed.
 #
-# usage: bench/scan.sh [ROWS [RUNS]]
+# usage: bench/scan.sh [ROWS [RUNS [PROGRAM]]]
 set -eu
 rows=${1:-1000000}
 runs=${2:-10}
 top=$(dirname -- "$(dirname -- "$(readlink -f -- "$0")")")
+program=${3:-$top/crates/paimon/out/ready/paimon}
 work=$(mktemp -d /dev/shm/scan.XXXXXX)
 trap 'rm -rf "$work"' EXIT
-"$top/bench/big_table.py" "$work/table" "$rows" "$runs"
+# The keys below $rows that a run has, as lines of this form.
+keys() { awk -v n="$rows" -v from="$1" -v by="$2" -v form="$3\n" 'BEGIN { for (k = from; k < n; k += by) printf form, k, k * 7919 % 10000 }'; }
+"$program" "$work/table" create <"$top/examples/table.json"
+for ((run = 0; run < runs; run++)); do
+    keys "$run" "$runs" '["+I",%d,"value %d"]' | "$program" "$work/table" write
+done
+keys 0 1 '%d,value %d' >"$work/table.csv"
 sqlite3 "$work/rows.db" "create table t (id integer primary key, v text)" ".mode csv" ".import $work/table.csv t"
-program=$top/crates/paimon/out/ready/paimon
 timed() {
     name=$1
     shift
