@@ -53,7 +53,7 @@ use Rattle.pm_folder.specs.Paths.{snapshot_path}
 use Rattle.pm_folder.specs.Stored.{HasGroup, HasRun, top_of}
 use Rattle.pm_folder.proofs.Facts.{same-or-other, some-none}
 use Rattle.pm_folder.proofs.HoldLemmas.{ContentsStay, Holds, OneContents, commit-held, entries-held, group-held, names-held, names-were, one-commit}
-use Rattle.pm_append.specs.Commit.{Attempt, IsAsMade, IsFoundAs, IsReady}
+use Rattle.pm_append.specs.Commit.{AreBase, AreBaseIf, Attempt, HasAppended, IsAsMade, IsFoundAs, IsReady}
 use Rattle.pm_append.specs.Files.{AreLists, AreManifests, HasBase, IsAppendOf, IsNewList, IsNewManifest, after_names, data_file, empty, kept, merged}
 use Rattle.pm_append.specs.Refusals.{above_files, above_id, above_numbers, fence_of, is_fenced, no_files, no_id, passed, refusal_of}
 use Rattle.pm_append.specs.Snapshot.{added_entry, appends_of, full_of, new_snapshot}
@@ -66,6 +66,7 @@ use Rattle.pm_append.proofs.ListLemmas.{all-of, each-of, in-either, in-head, in-
 use Rattle.pm_append.proofs.LiveLemmas.{AreAdds, AreNew, ManifestFacts, adds-follow, are-live, live-adds, live-or, merged-live}
 use Rattle.pm_append.proofs.MadeLemmas.{IsMade, IsMaker, PathFacts, later-maker, made-data, made-fresh, made-list, made-manifest, maker_of, next-maker}
 use Rattle.pm_append.proofs.NumberLemmas.{same-exceeds}
+use Rattle.pm_append.proofs.RowCountLemmas.{adds-at-zero, files-few}
 use Rattle.pm_append.proofs.RowLemmas.{AddedFacts, longer, stand-added, stand-none, stand-same}
 
 -- ---- what the laws of lower crates say
@@ -911,8 +912,28 @@ module _ (facts : Facts) (me : Actor) (f after : Files) (s : TableSchema) (entri
   as-made : IsAsMade after s (suc k) t ready.made
   as-made = record { contents = contents; commit = has-commit; base = refl; delta = refl }
 
+  are-base : (metas : List ManifestMeta) (made_files : List CommitFile) (left : Naming) → HasBase s t.newest lists_names metas made_files left
+      → ((file : CommitFile) → Contains made_files file → finite.get after file.path ≡ Some file.bytes) → AreBase after s t.newest metas
+  are-base _ _ _ (kept few) in_place = subst (λ (b : Bool). AreBaseIf b after s t.newest t.newest.manifests.items) (sym few) refl
+  are-base _ _ _ (empty enough none) in_place = subst (λ (b : Bool). AreBaseIf b after s t.newest []) (sym enough) none
+  are-base _ _ _ (merged m file enough some is) in_place = subst (λ (b : Bool). AreBaseIf b after s t.newest (m ∷ [])) (sym enough)
+      (some, new-manifest lists_names newest.live.items m file is live-can (in_place file (in-head file [])))
+
+  has-appended : HasAppended after s t.newest t.author (length t.rows)
+  has-appended = record {
+    added = added;
+    lists = made.lists;
+    contents = contents;
+    commit = subst (λ (id : ℕ). HasCommit after s id y contents) (let id = ready.newest.id in let same : suc k ≡ newest.id + 1 = omega (arith, id) in same) has-commit;
+    base = are-base lists.base lists.base_files lists.left lists.has_base base-place;
+    delta = delta-manifest;
+    adds = adds-at-zero s made.numbered.next t.names t.batch made.new_files made.numbered.are_new;
+    few = files-few s t.rows t.batch ready.built.no_partition ready.built.one_bucket ready.batch made.numbered.next t.names made.new_files
+        (facts.held s t.rows t.batch ready.batch) made.numbered.are_new;
+  }
+
   pub published : IsAppend f after s entries (append t.author.user t.author.identifier t.rows) × NamesOwn me f after s (length entries)
-      × IsAsMade after s (suc (length entries)) t ready.made
+      × IsAsMade after s (suc (length entries)) t ready.made × HasAppended after s t.newest t.author (length t.rows)
   published = (
     appends,
     λ path now other. elim (names-or path now) as (λ _. IsNamedBy me path) [
@@ -920,4 +941,5 @@ module _ (facts : Facts) (me : Actor) (f after : Files) (s : TableSchema) (entri
       | inr own ↦ own.by
     ],
     as-made,
+    has-appended,
   )

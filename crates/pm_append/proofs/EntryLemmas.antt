@@ -262,15 +262,15 @@ row-of s g (r ∷ rows) some =
         rest (λ none. some (ap (λ (b : Bool). cond b (r ∷ rows_in s g rows) (rows_in s g rows)) is ∙ none))
 
 -- what is held of a group are its rows, and there are some
-rows-held : (s : TableSchema) (rows : List HistoryRow) (x : GroupRows) → HoldsRows s rows (Some x)
+pub rows-held : (s : TableSchema) (rows : List HistoryRow) (x : GroupRows) → HoldsRows s rows (Some x)
     → (rows ≢ []) × AreRowsOf s rows x
 rows-held s [] x held = let no : Some x ≡ None = held in cc
 rows-held s (row ∷ rows) x held = (λ none. let no : row ∷ rows ≡ [] = none in cc, held)
 
 -- a group without values of partition columns, and with the first bucket
-record IsOnly (g : Group) : Type 0 where
-  partition : g.partition ≡ []
-  bucket : g.bucket ≡ 0
+pub record IsOnly (g : Group) : Type 0 where
+  pub partition : g.partition ≡ []
+  pub bucket : g.bucket ≡ 0
 
 group-only : (s : TableSchema) (row : Values) → s.partition ≡ [] → s.options.bucket ≡ 1 → IsOnly (group_of s row)
 group-only s row none one =
@@ -279,7 +279,7 @@ group-only s row none one =
       bucket = ap (bucket_of hash) one ∙ bucket_of-one hash;
     }
 
-held-only : (s : TableSchema) (rows : List HistoryRow) (g : Group) (x : GroupRows) → s.partition ≡ []
+pub held-only : (s : TableSchema) (rows : List HistoryRow) (g : Group) (x : GroupRows) → s.partition ≡ []
     → s.options.bucket ≡ 1 → HoldsRows s (rows_in s g rows) (Some x) → IsOnly g
 held-only s rows g x none one held =
     let q = row-of s g rows (rows-held s (rows_in s g rows) x held).0 in

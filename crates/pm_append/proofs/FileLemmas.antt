@@ -36,7 +36,7 @@ group-is a b e = group_cmp-IsAntisymmetric a b ((Equal-is (group_cmp a b)).0 e)
 group-ties : (a b : Group) → a ≡ b → is_at (group_cmp a) b ≡ true
 group-ties a b e = subst (λ x. is_at (group_cmp a) x ≡ true) e (ap is_eq (tied_itself group_total a))
 
-less-apart : (a b : Group) → group_cmp a b ≡ Less → a ≢ b
+pub less-apart : (a b : Group) → group_cmp a b ≡ Less → a ≢ b
 less-apart a b less same =
     let tied : group_cmp a b ≡ Equal = (Equal-is (group_cmp a b)).0 (group-ties a b same) in
     let no : Less ≡ Equal = sym less ∙ tied in

@@ -9,4 +9,5 @@ mod MadeLemmas
 mod ManifestLemmas
 mod NumberLemmas
 mod OwnLemmas
+mod RowCountLemmas
 mod RowLemmas

@@ -1,13 +1,12 @@
 -- The files of a commit bear the name of the actor that made it, and stand in folders of the table.
 use Rattle.pm_base.proofs.Laws.{AllByRecursion-append}
-use Rattle.std.proofs.Common.{◌≡◌, ◌≢◌, ℕ, ◌+◌, ◌<◌, ◌^◌, List, [], ◌∷◌, ◌++◌, codes, length, map, Contains, refl, sym, ap, subst, ◌∙◌, arith}
+use Rattle.std.proofs.Common.{◌≡◌, ◌≢◌, ℕ, ◌+◌, ◌<◌, ◌^◌, List, [], ◌∷◌, ◌++◌, codes, length, map, Contains, sym, ap, subst, ◌∙◌, arith}
 use Rattle.std.specs.List.{AllByRecursion}
 use Rattle.pm_values.specs.Names.{Naming, counted, name_of}
 use Rattle.pm_schema.specs.Folder.{folder_text}
 use Rattle.pm_schema.specs.declared.schema.TableSchema.{TableSchema}
 use Rattle.pm_snapshot.specs.Names.{manifest, manifest_list, prefix_of, rows_file, suffix_of}
 use Rattle.pm_contents.specs.Lists.{manifest_path}
-use Rattle.pm_contents.specs.Runs.{data_path}
 use Rattle.pm_folder.specs.Changes.{Actor, HavePlainNames, IsOwn, bucket, its_file, manifests}
 use Rattle.pm_manifest.specs.declared.entry.ManifestMeta.{ManifestMeta}
 use Rattle.pm_write.specs.declared.files.NewFile.{NewFile}

@@ -1,5 +1,5 @@
 -- When what was made of a batch adds its entry to the history, once it is published.
-use Rattle.std.specs.Prelude.{◌≡◌, ℕ, ◌+◌, ◌<◌, ◌≤◌, ◌^◌, List, [], ◌∷◌, ◌++◌, length, map, Option, Some, None}
+use Rattle.std.specs.Prelude.{◌≡◌, ◌≢◌, ℕ, ◌+◌, ◌<◌, ◌≤◌, ◌^◌, List, [], ◌∷◌, ◌++◌, length, map, Bool, true, false, Option, Some, None}
 use Rattle.std.specs.FinMap as paths
 use Rattle.std.specs.List.{AllByRecursion}
 use Rattle.pm_store.specs.Files.{Files}
@@ -11,19 +11,23 @@ use Rattle.pm_schema.specs.Again.{IsDeclared}
 use Rattle.pm_schema.specs.declared.schema.TableSchema.{TableSchema}
 use Rattle.pm_snapshot.specs.Names.{MayName}
 use Rattle.pm_snapshot.specs.declared.snapshot.Snapshot.{Snapshot}
+use Rattle.pm_manifest.specs.declared.entry.Entry as files
+use Rattle.pm_manifest.specs.declared.entry.ManifestMeta.{ManifestMeta}
+use Rattle.pm_contents.specs.Lists.{HaveEntries, IsManifest}
 use Rattle.pm_contents.specs.Named.{Contents}
 use Rattle.pm_folder.specs.Changes.{Actor, IsNamedBy}
 use Rattle.pm_folder.specs.Commits.{HasCommit, Names, live_in}
-use Rattle.pm_folder.specs.Entries.{AreLive}
+use Rattle.pm_folder.specs.Entries.{AreLive, rows_in_files}
 use Rattle.pm_folder.specs.Folder.{HasTable}
 use Rattle.pm_write.specs.Batch.{Groups, IsBatchOf}
-use Rattle.pm_append.specs.Files.{IsAppendOf}
+use Rattle.pm_append.specs.Files.{IsAppendOf, merges}
 use Rattle.pm_append.specs.Refusals.{refusal_of}
 use Rattle.pm_append.specs.Snapshot.{added_entry, new_snapshot}
 use Rattle.pm_append.specs.declared.newest.Append.{Append}
 use Rattle.pm_append.specs.declared.newest.Author.{Author}
 use Rattle.pm_append.specs.declared.newest.CommitFile.{CommitFile}
 use Rattle.pm_append.specs.declared.newest.Newest.{Newest}
+use Rattle.pm_append.specs.declared.snapshot.ListNames.{ListNames}
 
 -- one try to commit: the rows and their batch, who commits them, the newest snapshot as it was found, the maker of names
 -- before it named the files, and what was made
@@ -87,3 +91,38 @@ pub record IsAsMade (f : Files) (s : TableSchema) (id : ℕ) (t : Attempt)
   pub commit : HasCommit f s id (snapshot_of s t made) contents
   pub base : contents.base ≡ made.are_manifests.base
   pub delta : contents.delta ≡ made.are_manifests.are_lists.delta ∷ []
+
+-- ---- what the folder has then
+
+-- one manifest has the entries of all files that are live at the newest snapshot; or none where no file is live
+abbrev pub AreMerged : Files → TableSchema → Newest → List ManifestMeta → Type 0
+AreMerged f s newest [] = newest.live.items ≡ []
+AreMerged f s newest (meta ∷ []) = (newest.live.items ≢ []) × IsManifest f s meta.name newest.live.items
+AreMerged f s newest metas = ⊥
+
+-- the manifests of the base list after the newest snapshot: those of its two lists, or what they are merged into where
+-- they are so many
+abbrev pub AreBaseIf : Bool → Files → TableSchema → Newest → List ManifestMeta → Type 0
+AreBaseIf false f s newest metas = metas ≡ newest.manifests.items
+AreBaseIf true f s newest metas = AreMerged f s newest metas
+
+abbrev pub AreBase : Files → TableSchema → Newest → List ManifestMeta → Type 0
+AreBase f s newest metas = AreBaseIf (merges s newest.manifests.items) f s newest metas
+
+-- the entry adds a file at level 0
+pub record AddsAtZero (e : files.Entry) : Type 0 where
+  pub add : e.add ≡ true
+  pub level : e.file.level ≡ 0
+
+-- The snapshot after the newest is there, and to its last field the one that appends so many rows: its base list has
+-- the manifests of the newest one, or what they are merged into; its delta adds files at level 0 and nothing else, and
+-- these have at most so many rows.
+pub record HasAppended (f : Files) (s : TableSchema) (newest : Newest) (author : Author) (count : ℕ) : Type 0 where
+  pub added : List files.Entry
+  pub lists : ListNames
+  pub contents : Contents
+  pub commit : HasCommit f s (newest.id + 1) (new_snapshot s newest author added lists) contents
+  pub base : AreBase f s newest contents.base
+  pub delta : HaveEntries f s contents.delta added
+  pub adds : AllByRecursion AddsAtZero added
+  pub few : rows_in_files added ≤ count

@@ -11,7 +11,7 @@ ghost use Rattle.pm_folder.specs.Commits.{IsAppend};
 ghost use Rattle.pm_folder.specs.Paths.{snapshot_path};
 ghost use Rattle.pm_append.specs.Files.{IsAppendOf};
 ghost use Rattle.pm_append.specs.declared.newest.CommitFile.{CommitFile as FileView};
-ghost use Rattle.pm_append.specs.Commit.{Attempt, IsAsMade, IsBuilt, IsReady, MakesNames};
+ghost use Rattle.pm_append.specs.Commit.{Attempt, HasAppended, IsAsMade, IsBuilt, IsReady, MakesNames};
 
 use pm_contents::{kept_law, one_contents_law, one_runs_law};
 use pm_engine::added_law;
@@ -22,14 +22,16 @@ use pm_snapshot::{path_law, snapshot_law};
 use pm_write::{batch_law, written_law};
 
 /// A try that is ready, whose snapshot appears after the newest, appends its rows to the history; what the snapshot
-/// names and the one before it doesn't was named by the actor; and the snapshot and its lists are those that were made.
+/// names and the one before it doesn't was named by the actor; the snapshot and its lists are those that were made; and
+/// its delta adds files at level 0 alone, beside a base list of the newest snapshot's manifests.
 pub fn append_law()
     ensures { (me : Actor) (f after : Files) (s : TableSchema) (entries : List Entry) (t : Attempt) →
         (ready : IsReady me f s entries t) → map.get f (snapshot_path (suc (length entries))) ≡ None →
         Puts f (snapshot_path (suc (length entries))) (Some t.made.text) after →
         IsAppend f after s entries (append_entry t.author.user t.author.identifier t.rows)
         × NamesOwn me f after s (length entries)
-        × IsAsMade after s (suc (length entries)) t ready.made }
+        × IsAsMade after s (suc (length entries)) t ready.made
+        × HasAppended after s t.newest t.author (length t.rows) }
 {
     added_law();
     kept_law();

@@ -1,5 +1,6 @@
 -- Laws of `scan`: what is so of its calls, and of a history.
-use Rattle.std.proofs.Common.{◌≡◌, ◌⊎◌, inl, inr, ℕ, List, [], Option, None, Some, Result, Ok, Err, refl, sym, subst, ap, ◌∙◌}
+use Rattle.std.proofs.Common.{◌≡◌, ◌⊎◌, inl, inr, ℕ, List, [], Option, None, Some, IsSome, Result, Ok, Err, refl, sym, subst, ap, ◌∙◌}
+use Rattle.std.specs.FinMap as map
 use Rattle.std.specs.Result.{result_err}
 use Rattle.pm_base.specs.Known.{and_then}
 use Rattle.pm_values.specs.declared.record.Stamped.{Stamped}
@@ -13,16 +14,15 @@ use Rattle.pm_history.specs.History.{History, IsTableOf, no_table, table}
 use Rattle.pm_schema.specs.declared.schema.TableSchema.{TableSchema}
 use Rattle.pm_folder.specs.Folder.{Folder}
 use Rattle.pm_folder.specs.Ledger.{count_of}
-use Rattle.pm_folder.specs.Meaning.{HasSnapshotAt}
 use Rattle.pm_view.specs.AllCalls.{DidRead, HasFiles, Stay, ReadsTables}
 use Rattle.pm_draft.specs.Built.{IsBuilt, unbuilt}
 use Rattle.pm_scan.specs.AllCalls as scanner
-use Rattle.pm_scan.specs.AllCalls.{id_of, PrintsScan}
+use Rattle.pm_scan.specs.AllCalls.{id_of, path_of, PrintsScan}
 use Rattle.pm_scan.specs.Trace.{at_part}
 use Rattle.pm_cli.specs.Outside.{Outside, Prints}
 use Rattle.pm_cli.specs.Snapshots as snapshots
 use Rattle.pm_cli.specs.Scan.{DidScan, GoesOnAs, text_of, Scans, MayRefuse, IsThere, PrintsTable, PrintsPrefix, AnswersHistory, ScansTables, MakesRows, Keeps, KeepsHistories, IsScanned}
-use Rattle.pm_cli.proofs.SnapshotLaws.{trace_weaker, files_of, leaves_of, images_of, caused, judged_caused}
+use Rattle.pm_cli.proofs.SnapshotLaws.{trace_weaker, files_of, leaves_of, rests_of, images_of, caused, judged_caused}
 
 -- ---- its calls
 
@@ -51,11 +51,11 @@ memory_trace at rows before after =
 -- ---- files that stay
 
 -- files that stay go on to stand for a history
-keeps : (h : History) (at : Option ℕ) (f : Files) (first after : StoreView) (made : Result (List Stamped) Refusal) → Folder f h → Stay f first after
-    → MakesRows h at first after made → Keeps h at first after made
-keeps h at f first after made folder stay makes = record {
+keeps : (h : History) (at : Option ℕ) (f : Files) (first after : StoreView) (made : Result (List Stamped) Refusal) → HasFiles f first → Folder f h
+    → Stay f first after → MakesRows h at first after made → Keeps h at first after made
+keeps h at f first after made has folder stay makes = record {
   makes = makes;
-  leaves = leaves_of (λ f. Folder f h) f after stay.here folder;
+  rests = rests_of h f first after has stay.here folder;
   images = images_of (λ f. Folder f h) f first.ops after.ops stay.images folder;
 }
 
@@ -72,7 +72,7 @@ scan_caused f s h at first after refusals.Memory has is cause = tt
 scan_caused f s h at first after (refusals.StoreFault path) has is cause = cause
 scan_caused f s h at first after (refusals.NoSnapshot id latest) has is cause = cause
 scan_caused f s h at first after (refusals.Expired id) has is (asked, within, gone) =
-    (asked, within, (s, is, leaves_of (λ f. HasSnapshotAt f s id → ⊥) f first has gone))
+    (asked, within, (s, is, leaves_of (λ f. map.get f (path_of s id) ≡ None) f first has gone))
 scan_caused f s h at first after e has is cause = absurd cause
 
 -- ---- what its calls do to histories
@@ -84,7 +84,7 @@ read_keeps at e before after (first, is_first, reads) = (
   λ alone h stands.
       let files = files_of (λ f. Folder f h) first stands in
       let read = reads alone files.0 h files.1 files.2 in
-      keeps h at files.0 first after (Err e) files.2 read.files (as_listing h at first after e (caused h first after e read.cause)),
+      keeps h at files.0 first after (Err e) files.1 files.2 read.files (as_listing h at first after e (caused h first after e read.cause)),
 )
 
 pub judge_keeps : (at : Option ℕ) (s : TableSchema) (e : Refusal) (before after : StoreView) → (e ≡ refusals.Memory) ⊎ (unbuilt s ≡ Some e)
@@ -95,13 +95,13 @@ judge_keeps at s e before after why (first, is_first, reads) = (
   λ alone h stands.
       let files = files_of (λ f. Folder f h) first stands in
       let read = reads alone files.0 h files.1 files.2 in
-      keeps h at files.0 first after (Err e) files.2 read.files (as_listing h at first after e (judged_caused h first after s e read.schema why)),
+      keeps h at files.0 first after (Err e) files.1 files.2 read.files (as_listing h at first after e (judged_caused h first after s e read.schema why)),
 )
 
 is_there : (f : Files) (s : TableSchema) (h : History) (id : ℕ) (first : StoreView) → HasFiles f first → IsTableOf s h
     → scanner.IsThere f s h id → IsThere h id first
-is_there f s h id first has is (within, inl origin) = (within, inl origin)
-is_there f s h id first has is (within, inr there) = (within, inr (s, is, leaves_of (λ f. HasSnapshotAt f s id) f first has there))
+is_there f s h id first has is (within, there) =
+    (within, (s, is, leaves_of (λ f. IsSome (map.get f (path_of s id))) f first has there))
 
 scanned_makes : (f : Files) (h : History) (s : TableSchema) (at : Option ℕ) (first after : StoreView) (made : Result (List Stamped) Refusal) → HasFiles f first
     → scanner.ScansTable f h s at first after made → MakesRows h at first after made
@@ -117,14 +117,14 @@ scanned_keeps at s made before after (first, is_first, scans) = (
   λ alone h stands.
       let files = files_of (λ f. Folder f h) first stands in
       let scan = scans alone files.0 h files.1 files.2 in
-      keeps h at files.0 first after made files.2 scan.files (scanned_makes files.0 h s at first after made files.1 scan),
+      keeps h at files.0 first after made files.1 files.2 scan.files (scanned_makes files.0 h s at first after made files.1 scan),
 )
 
 memory_keeps : (at : Option ℕ) (rows : List Stamped) (before after : StoreView) → KeepsHistories at before after (Ok rows) → KeepsHistories at before after (Err refusals.Memory)
 memory_keeps at rows before after (first, is_first, kept) = (
   first,
   is_first,
-  λ alone h stands. let was = kept alone h stands in record { makes = tt; leaves = was.leaves; images = was.images },
+  λ alone h stands. let was = kept alone h stands in record { makes = tt; rests = was.rests; images = was.images },
 )
 
 -- ---- and what was printed
@@ -180,7 +180,7 @@ scanned_serves at before after answer (made, trace, (first, is_first, kept), pri
   λ alone h stands.
       let was = kept alone h stands in record {
         answers = made_answers h at first before after made answer was.makes prints;
-        leaves = was.leaves;
+        rests = was.rests;
         images = was.images;
       },
 )

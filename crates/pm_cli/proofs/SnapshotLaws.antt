@@ -28,7 +28,7 @@ use Rattle.pm_snapshots.specs.Reading.{IsReading, reading_of}
 use Rattle.pm_snapshots.specs.Trace.{HasListed, HasRead, at_read}
 use Rattle.pm_snapshots.specs.declared.line.SnapshotLine.{SnapshotLine}
 use Rattle.pm_snapshots.specs.declared.phase.Phase.{Phase}
-use Rattle.pm_cli.specs.Outside.{Outside, Prints}
+use Rattle.pm_cli.specs.Outside.{HaveSame, Outside, Prints, Rests}
 use Rattle.pm_cli.specs.Snapshots.{DidSnapshots, text_of, ListsSnapshots, MayRefuse, AnswersHistory, ListsTables, made_of, MakesLines, Keeps, KeepsHistories, IsListed}
 
 -- ---- its calls
@@ -97,12 +97,19 @@ leaves_of P f store = at_ops store.ops
 pub images_of : (P : Files → Type 0) (f : Files) (first after : Option (List Op)) → Extends (λ image. image ≡ f) first after → P f → Extends P first after
 images_of P f first after images p = Extends-weaker (λ image. image ≡ f) P first after (λ image is. subst P (sym is) p) images
 
--- files that stay go on to stand for a history
-keeps : (h : History) (f : Files) (first after : StoreView) (made : Result (List SnapshotLine) Refusal) → Folder f h → Stay f first after
+-- files that stay are the same as at first
+pub rests_of : (h : History) (f : Files) (first after : StoreView) → HasFiles f first → HasFiles f after → Folder f h → Rests h first after
+rests_of h f first after was is folder = record {
+  folder = leaves_of (λ f. Folder f h) f after is folder;
+  same = leaves_of (λ g. LeavesFiles (HaveSame g) after) f first was (leaves_of (HaveSame f) f after is (λ path. refl));
+}
+
+-- and go on to stand for a history
+keeps : (h : History) (f : Files) (first after : StoreView) (made : Result (List SnapshotLine) Refusal) → HasFiles f first → Folder f h → Stay f first after
     → MakesLines h first after made → Keeps h first after made
-keeps h f first after made folder stay makes = record {
+keeps h f first after made has folder stay makes = record {
   makes = makes;
-  leaves = leaves_of (λ f. Folder f h) f after stay.here folder;
+  rests = rests_of h f first after has stay.here folder;
   images = images_of (λ f. Folder f h) f first.ops after.ops stay.images folder;
 }
 
@@ -167,7 +174,7 @@ read_keeps e before after (first, is_first, reads) = (
   λ alone h stands.
       let at = files_of (λ f. Folder f h) first stands in
       let read = reads alone at.0 h at.1 at.2 in
-      keeps h at.0 first after (Err e) at.2 read.files (caused h first after e read.cause),
+      keeps h at.0 first after (Err e) at.1 at.2 read.files (caused h first after e read.cause),
 )
 
 pub judge_keeps : (s : TableSchema) (e : Refusal) (before after : StoreView) → (e ≡ refusals.Memory) ⊎ (unbuilt s ≡ Some e)
@@ -178,7 +185,7 @@ judge_keeps s e before after why (first, is_first, reads) = (
   λ alone h stands.
       let at = files_of (λ f. Folder f h) first stands in
       let read = reads alone at.0 h at.1 at.2 in
-      keeps h at.0 first after (Err e) at.2 read.files (judged_caused h first after s e read.schema why),
+      keeps h at.0 first after (Err e) at.1 at.2 read.files (judged_caused h first after s e read.schema why),
 )
 
 listed_makes : (f : Files) (h : History) (s : TableSchema) (first after : StoreView) (result : Result Phase Refusal) → HasFiles f first
@@ -194,14 +201,14 @@ listed_keeps s result before after (first, is_first, lists) = (
   λ alone h stands.
       let at = files_of (λ f. Folder f h) first stands in
       let list = lists alone at.0 h at.1 at.2 in
-      keeps h at.0 first after (made_of result) at.2 list.files (listed_makes at.0 h s first after result at.1 list),
+      keeps h at.0 first after (made_of result) at.1 at.2 list.files (listed_makes at.0 h s first after result at.1 list),
 )
 
 memory_keeps : (lines : List SnapshotLine) (before after : StoreView) → KeepsHistories before after (Ok lines) → KeepsHistories before after (Err refusals.Memory)
 memory_keeps lines before after (first, is_first, kept) = (
   first,
   is_first,
-  λ alone h stands. let was = kept alone h stands in record { makes = tt; leaves = was.leaves; images = was.images },
+  λ alone h stands. let was = kept alone h stands in record { makes = tt; rests = was.rests; images = was.images },
 )
 
 -- ---- and what was printed
@@ -243,7 +250,7 @@ listed_serves before after answer (made, trace, (first, is_first, kept), prints)
   λ alone h stands.
       let was = kept alone h stands in record {
         answers = made_answers h first before after made answer was.makes prints;
-        leaves = was.leaves;
+        rests = was.rests;
         images = was.images;
       },
 )

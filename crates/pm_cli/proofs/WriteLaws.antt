@@ -1,5 +1,6 @@
 -- Laws of `write`: what is so of its input, of its calls, and of a history.
-use Rattle.std.proofs.Common.{◌≡◌, ◌≢◌, ◌⊎◌, inl, inr, ℕ, ◌-◌, ◌==◌, ◌++◌, Bool, true, false, if◌then◌else◌, List, [], ◌∷◌, Option, None, Some, IfSome, IsSomeAnd, Result, Ok, Err, refl, sym, ap, ◌∙◌, subst, arith, append_assoc}
+use Rattle.std.proofs.Common.{◌≡◌, ◌≢◌, ◌⊎◌, inl, inr, ℕ, suc, ◌+◌, ◌-◌, ◌≤◌, ◌==◌, ◌++◌, Bool, true, false, if◌then◌else◌, List, [], ◌∷◌, length, Option, None, Some, IfSome, IsSome, IsSomeAnd, Result, Ok, Err, refl, sym, ap, ◌∙◌, subst, arith, append_assoc}
+use Rattle.std.specs.FinMap as map
 use Rattle.std.specs.List.{AllByRecursion}
 use Rattle.std.specs.Result.{result_err}
 use Rattle.pm_base.specs.Known.{and_then}
@@ -18,7 +19,7 @@ use Rattle.pm_store.specs.Images.{Extends}
 use Rattle.pm_store.specs.Store.{StoreView}
 use Rattle.pm_store.proofs.ImageLaws.{Extends-refl, Extends-weaker}
 use Rattle.pm_machine.specs.Trace.{Event, HasTrace}
-use Rattle.pm_history.specs.History.{History, IsTableOf}
+use Rattle.pm_history.specs.History.{History, IsTableOf, no_table, table}
 use Rattle.pm_history.specs.Merge.{HistoryRow}
 use Rattle.pm_history.specs.Taken.{verdict}
 use Rattle.pm_history.specs.declared.verdict.Verdict.{Verdict as VerdictByIndex}
@@ -28,28 +29,34 @@ use Rattle.pm_input.specs.Limits.{limits}
 use Rattle.pm_input.specs.Lines.{row_lines}
 use Rattle.pm_input.specs.Rows.{faulty_column}
 use Rattle.pm_schema.specs.declared.schema.TableSchema.{TableSchema}
-use Rattle.pm_snapshot.specs.Names.{MayName}
+use Rattle.pm_snapshot.specs.Names.{MayName, greatest}
+use Rattle.pm_snapshot.specs.declared.snapshot.Snapshot.{Snapshot}
+use Rattle.pm_contents.specs.Named.{Contents, HasContents, IsNamed}
 use Rattle.pm_engines.specs.Verdict.{named, verdict_on}
 use Rattle.pm_engines.specs.declared.verdict.Verdict.{Verdict}
 use Rattle.pm_engines.specs.declared.verdict.Verdict.TheVariants.{Take, Ignore, Refuse}
+use Rattle.pm_folder.specs.Changes.{Actor}
 use Rattle.pm_folder.specs.Folder.{Folder, IsRowOf}
+use Rattle.pm_folder.specs.Ledger.{count_of}
+use Rattle.pm_folder.specs.Meaning.{HasSnapshotAt}
+use Rattle.pm_folder.specs.Paths.{snapshot_path}
 use Rattle.pm_create.specs.Making.{LeavesFiles}
 use Rattle.pm_view.specs.AllCalls.{DidRead, HasFiles, Stay, ReadsTables}
 use Rattle.pm_draft.specs.Built.{IsBuilt, unbuilt}
 use Rattle.pm_write.specs.Batch.{Groups, IsBatchOf, ReadsBatch}
 use Rattle.pm_write.specs.Taken.{all_taken, judged, no_room, refusal_in, row_at, taken_at, taken_by, taken_in, taken_of}
 use Rattle.pm_commit.specs.AllCalls as commit
-use Rattle.pm_commit.specs.AllCalls.{AppendsTables, DidAppend, HasBorne, MayBegin, MayStart}
-use Rattle.pm_commit.specs.Alone.{Beginning, GivesReason, WasUsed, with_entry}
+use Rattle.pm_commit.specs.AllCalls.{AppendsTables, DidAppend, HasBorne, MayBegin, MayStart, NamesNone}
+use Rattle.pm_commit.specs.Alone.{Beginning, GivesReason, IsUnchanged, WasUsed, with_entry}
 use Rattle.pm_commit.specs.declared.all_calls.Appended.{Appended}
 use Rattle.pm_commit.specs.declared.all_calls.Appended.TheVariants as appends
 use Rattle.pm_cli.specs.Input.{HasLines, MayRefuseInput, RefusesInput}
-use Rattle.pm_cli.specs.Outside.{Outside, Start, outside, actor, Prints}
+use Rattle.pm_cli.specs.Outside.{HaveSame, Outside, Start, outside, actor, Prints, Rests}
 use Rattle.pm_cli.specs.Snapshots as snapshots
-use Rattle.pm_cli.specs.Write.{ActsWrite, AnswersLines, AnswersWrite, BeginsWith, DidWrite, HasRows, IsWritten, Keeps, KeepsHistories, Lines, MakesOf, Spoils, StandsForEither, TakesRows, Writer, WritesLines, WritesTables, commit_of, entry_by, snapshot_of, text_of}
+use Rattle.pm_cli.specs.Write.{ActsWrite, AnswersLines, AnswersWrite, BeginsWith, DidWrite, HasRows, IsCommittedTo, IsImage, IsWritten, Keeps, KeepsHistories, Lines, MakesOf, MayStartAfter, Spoils, StandsAfterFault, StandsForEither, TakesRows, Writer, WritesLines, WritesTables, commit_of, entry_by, next_path, snapshot_of, text_of}
 use Rattle.pm_cli.specs.declared.write.Written.{Written}
 use Rattle.pm_cli.specs.declared.write.Written.TheVariants as written
-use Rattle.pm_cli.proofs.SnapshotLaws.{trace_weaker, files_of, leaves_of, images_of, caused, judged_caused}
+use Rattle.pm_cli.proofs.SnapshotLaws.{trace_weaker, files_of, leaves_of, rests_of, images_of, caused, judged_caused}
 use Rattle.pm_cli.proofs.Uncalled.{at_known, first_uncalled}
 
 -- ---- the rows that are taken
@@ -157,28 +164,41 @@ appended_trace start w lines s batch made before after t =
 
 -- ---- what its calls do to histories
 
+-- a store leaves the same files
+files_same : (f g : Files) (store : StoreView) → HasFiles f store → HasFiles g store → f ≡ g
+files_same f g store one other = at store.ops one other
+  where
+    at : (ops : Option (List Op)) → IsSomeAnd ops (λ ops. files_after ops ≡ f) → IsSomeAnd ops (λ ops. files_after ops ≡ g) → f ≡ g
+    at None one other = absurd one
+    at (Some ops) one other = sym one ∙ other
+
 -- files that stay go on to stand for the history
-stay_keeps : (start : Start) (w : Writer) (lines : Lines) (h : History) (f : Files) (first after : StoreView) (made : Result Written Refusal) → Folder f h
-    → Stay f first after → (LeavesFiles (λ f. Folder f h) after → MakesOf start w lines h first after made) → Keeps start w lines h first after made
-stay_keeps start w lines h f first after made folder stay makes = record {
-  makes = makes (leaves_of (λ f. Folder f h) f after stay.here folder);
+stay_keeps : (start : Start) (w : Writer) (lines : Lines) (h : History) (f : Files) (first after : StoreView) (made : Result Written Refusal)
+    → HasFiles f first → Folder f h → Stay f first after → (Rests h first after → MakesOf start w lines h first after made)
+    → Keeps start w lines h first after made
+stay_keeps start w lines h f first after made has folder stay makes = record {
+  makes = makes (rests_of h f first after has stay.here folder);
+  free = λ other apart starts.
+      let at = files_of (MayStart other h) first starts in
+      images_of (MayStartAfter other start w lines h) f first.ops after.ops stay.images
+      (inl (subst (MayStart other h) (files_same at.0 f first at.1 has) at.2));
   images = images_of (StandsForEither start w lines h) f first.ops after.ops stay.images (inl folder);
 }
 
-either_left : (start : Start) (w : Writer) (lines : Lines) (h : History) (store : StoreView) → LeavesFiles (λ f. Folder f h) store
-    → LeavesFiles (StandsForEither start w lines h) store
-either_left start w lines h store left =
+fault_left : (start : Start) (w : Writer) (lines : Lines) (h : History) (path : List ℕ) (store : StoreView) → LeavesFiles (λ f. Folder f h) store
+    → LeavesFiles (StandsAfterFault start w lines h path) store
+fault_left start w lines h path store left =
     let files = files_of (λ f. Folder f h) store left in
-    leaves_of (StandsForEither start w lines h) files.0 store files.1 (inl files.2)
+    leaves_of (StandsAfterFault start w lines h path) files.0 store files.1 (inl files.2)
 
 -- a listing may be refused for it
 listing_spoils : (start : Start) (w : Writer) (lines : Lines) (h : History) (first after : StoreView) (e : Refusal) → snapshots.MayRefuse h first after e
-    → LeavesFiles (λ f. Folder f h) after → Spoils start w lines h first after e
-listing_spoils start w lines h first after (refusals.StoreFault path) may left = (may, either_left start w lines h after left)
-listing_spoils start w lines h first after refusals.NoTable may left = (may, left)
-listing_spoils start w lines h first after refusals.Memory may left = left
-listing_spoils start w lines h first after (refusals.Unsupported what text) may left = (may, left)
-listing_spoils start w lines h first after other may left = absurd may
+    → Rests h first after → Spoils start w lines h first after e
+listing_spoils start w lines h first after (refusals.StoreFault path) may rests = (may, fault_left start w lines h path after rests.folder)
+listing_spoils start w lines h first after refusals.NoTable may rests = (may, rests)
+listing_spoils start w lines h first after refusals.Memory may rests = rests.folder
+listing_spoils start w lines h first after (refusals.Unsupported what text) may rests = (may, rests)
+listing_spoils start w lines h first after other may rests = absurd may
 
 pub read_keeps : (start : Start) (w : Writer) (lines : Lines) (e : Refusal) (before after : StoreView) → ReadsTables before after (Err e)
     → KeepsHistories start w lines before after (Err e)
@@ -188,7 +208,7 @@ read_keeps start w lines e before after (first, is_first, reads) = (
   λ alone h begins.
       let files = files_of (MayStart (actor start) h) first begins in
       let read = reads alone files.0 h files.1 files.2.0 in
-      stay_keeps start w lines h files.0 first after (Err e) files.2.0 read.files
+      stay_keeps start w lines h files.0 first after (Err e) files.1 files.2.0 read.files
       (λ left. listing_spoils start w lines h first after e (caused h first after e read.cause) left),
 )
 
@@ -200,7 +220,7 @@ judge_keeps start w lines s e before after why (first, is_first, reads) = (
   λ alone h begins.
       let files = files_of (MayStart (actor start) h) first begins in
       let read = reads alone files.0 h files.1 files.2.0 in
-      stay_keeps start w lines h files.0 first after (Err e) files.2.0 read.files
+      stay_keeps start w lines h files.0 first after (Err e) files.1 files.2.0 read.files
       (λ left. listing_spoils start w lines h first after e (judged_caused h first after s e read.schema why) left),
 )
 
@@ -249,17 +269,17 @@ of-lines s room (l ∷ lines) e is = elim (of-both (taken_at s room l) (taken_in
 ]
 
 line_spoils : (start : Start) (w : Writer) (lines : Lines) (h : History) (s : TableSchema) (first after : StoreView) (e : Refusal) → IsTableOf s h
-    → all_taken s lines ≡ Err e → IsOfLines e → LeavesFiles (λ f. Folder f h) after → Spoils start w lines h first after e
-line_spoils start w lines h s first after (refusals.BadLine number why column) table refused of left = ((s, table, refused), left)
-line_spoils start w lines h s first after (refusals.Retraction number column) table refused of left = ((s, table, refused), left)
-line_spoils start w lines h s first after (refusals.Limit which number) table refused of left = (inl (s, table, refused), left)
-line_spoils start w lines h s first after other table refused of left = absurd of
+    → all_taken s lines ≡ Err e → IsOfLines e → Rests h first after → Spoils start w lines h first after e
+line_spoils start w lines h s first after (refusals.BadLine number why column) is refused of left = ((s, is, refused), left)
+line_spoils start w lines h s first after (refusals.Retraction number column) is refused of left = ((s, is, refused), left)
+line_spoils start w lines h s first after (refusals.Limit which number) is refused of left = (inl (s, is, refused), left)
+line_spoils start w lines h s first after other is refused of left = absurd of
 
 why_spoils : (start : Start) (w : Writer) (lines : Lines) (h : History) (s : TableSchema) (first after : StoreView) (e : Refusal) → IsTableOf s h
-    → (e ≡ refusals.Memory) ⊎ (all_taken s lines ≡ Err e) → LeavesFiles (λ f. Folder f h) after → Spoils start w lines h first after e
-why_spoils start w lines h s first after e table (inl memory) left = subst (Spoils start w lines h first after) (sym memory) left
-why_spoils start w lines h s first after e table (inr refused) left =
-    line_spoils start w lines h s first after e table refused (of-lines s limits.rows lines e refused) left
+    → (e ≡ refusals.Memory) ⊎ (all_taken s lines ≡ Err e) → Rests h first after → Spoils start w lines h first after e
+why_spoils start w lines h s first after e is (inl memory) left = subst (Spoils start w lines h first after) (sym memory) left.folder
+why_spoils start w lines h s first after e is (inr refused) left =
+    line_spoils start w lines h s first after e is refused (of-lines s limits.rows lines e refused) left
 
 pub lines_keeps : (start : Start) (w : Writer) (lines : Lines) (s : TableSchema) (e : Refusal) (before after : StoreView)
     → (e ≡ refusals.Memory) ⊎ (all_taken s lines ≡ Err e) → ReadsTables before after (Ok s) → KeepsHistories start w lines before after (Err e)
@@ -269,7 +289,7 @@ lines_keeps start w lines s e before after why (first, is_first, reads) = (
   λ alone h begins.
       let files = files_of (MayStart (actor start) h) first begins in
       let read = reads alone files.0 h files.1 files.2.0 in
-      stay_keeps start w lines h files.0 first after (Err e) files.2.0 read.files (λ left. why_spoils start w lines h s first after e read.schema why left),
+      stay_keeps start w lines h files.0 first after (Err e) files.1 files.2.0 read.files (λ left. why_spoils start w lines h s first after e read.schema why left),
 )
 
 pub nothing_keeps : (start : Start) (w : Writer) (lines : Lines) (s : TableSchema) (before after : StoreView) → all_taken s lines ≡ Ok []
@@ -280,7 +300,7 @@ nothing_keeps start w lines s before after none (first, is_first, reads) = (
   λ alone h begins.
       let files = files_of (MayStart (actor start) h) first begins in
       let read = reads alone files.0 h files.1 files.2.0 in
-      stay_keeps start w lines h files.0 first after (Ok written.Nothing) files.2.0 read.files (λ left. ((s, read.schema, none), left)),
+      stay_keeps start w lines h files.0 first after (Ok written.Nothing) files.1 files.2.0 read.files (λ left. ((s, read.schema, none), left)),
 )
 
 -- ---- a commit
@@ -294,11 +314,17 @@ module _ (start : Start) (w : Writer) (lines : Lines) (s : TableSchema) (batch :
   takes = (s, table, t.taken)
 
   has-rows : (g : Files) → Folder g (with_entry (entry_by start w t.rows) h) → HasRows start w lines h g
-  has-rows g folder = record { rows = t.rows; takes = takes; some = t.some; folder = folder }
+  has-rows g folder = record { rows = t.rows; takes = takes; some = t.some; stands = folder }
 
   pub either-rows : (g : Files) → commit.StandsForEither b g → StandsForEither start w lines h g
-  either-rows g (inl folder) = inl folder
-  either-rows g (inr folder) = inr (has-rows g folder)
+  either-rows g (inl stands) = inl stands.folder
+  either-rows g (inr stands) = inr (has-rows g stands.folder)
+
+  pub start-rows : (other : Actor) → other ≢ actor start → NamesNone other h f → (g : Files) → commit.StandsForEither b g
+      → MayStartAfter other start w lines h g
+  start-rows other apart none g (inl stands) = inl (stands.folder, stands.free other apart none)
+  start-rows other apart none g (inr stands) =
+      inr (record { rows = t.rows; takes = takes; some = t.some; stands = (stands.folder, stands.free other apart none) })
 
   left-weaker : (P Q : Files → Type 0) → ((g : Files) → P g → Q g) → (store : StoreView) → LeavesFiles P store → LeavesFiles Q store
   left-weaker P Q weaker store left =
@@ -307,39 +333,50 @@ module _ (start : Start) (w : Writer) (lines : Lines) (s : TableSchema) (batch :
 
   -- what is so of the beginning is so at the first call
   at-first : (P : Beginning → Type 0) (first : StoreView) → HasFiles f first → P b → LeavesFiles (BeginsWith start w lines h P) first
+  unfolding takes
   at-first P first has is =
-      leaves_of (BeginsWith start w lines h P) f first has (record { rows = t.rows; batch = batch; takes = takes; some = t.some; is = is })
+      leaves_of (BeginsWith start w lines h P) f first has
+      (record { rows = t.rows; batch = batch; takes = takes; some = t.some; batch_of = t.batch_of; is = is })
 
-  fault-leaves : (path : List ℕ) (g : Files) → commit.LeavesFolder b (Err (refusals.StoreFault path)) g → StandsForEither start w lines h g
+  -- where no path has another content than at first
+  unchanged : (first after : StoreView) → HasFiles f first → LeavesFiles (λ g. Folder g h × IsUnchanged b g) after → Rests h first after
+  unchanged first after has left = record {
+    folder = left-weaker (λ g. Folder g h × IsUnchanged b g) (λ g. Folder g h) (λ g is. is.0) after left;
+    same = leaves_of (λ f. LeavesFiles (HaveSame f) after) f first has
+        (left-weaker (λ g. Folder g h × IsUnchanged b g) (HaveSame f) (λ g is. is.1) after left);
+  }
+
+  fault-leaves : (path : List ℕ) (g : Files) → commit.LeavesFolder b (Err (refusals.StoreFault path)) g → StandsAfterFault start w lines h path g
   fault-leaves path g (inl folder) = inl folder
-  fault-leaves path g (inr (folder, at)) = inr (has-rows g folder)
+  fault-leaves path g (inr (folder, at)) = inr (at, has-rows g folder)
 
   spoiled : (first after : StoreView) (e : Refusal) → HasFiles f first → commit.AppendsTable b s first after (Err e) → Spoils start w lines h first after e
   spoiled first after refusals.Memory has does = does.leaves
   spoiled first after (refusals.StoreFault path) has does =
-      (does.counted, left-weaker (commit.LeavesFolder b (Err (refusals.StoreFault path))) (StandsForEither start w lines h) (fault-leaves path) after does.leaves)
+      (does.counted, left-weaker (commit.LeavesFolder b (Err (refusals.StoreFault path))) (StandsAfterFault start w lines h path) (fault-leaves path) after does.leaves)
   spoiled first after (refusals.SessionUsed path) has does = (at-first (λ b. WasUsed b path) first has does.says, does.leaves)
   spoiled first after (refusals.Fenced base fence) has does = (
     at-first (λ b. GivesReason b (Some (refusals.Fenced base fence))) first has does.says,
-    left-weaker (commit.LeavesFolder b (Err (refusals.Fenced base fence))) (λ g. Folder g h) (λ g is. is.0) after does.leaves,
+    unchanged first after has does.leaves,
   )
   spoiled first after (refusals.Limit which number) has does = (
     inr (at-first (λ b. GivesReason b (Some (refusals.Limit which number))) first has does.says),
-    left-weaker (commit.LeavesFolder b (Err (refusals.Limit which number))) (λ g. Folder g h) (λ g is. is.0) after does.leaves,
+    unchanged first after has does.leaves,
   )
   spoiled first after other has does = absurd does.says
 
   pub commit-makes : (first after : StoreView) (made : Result Appended Refusal) → HasFiles f first → commit.AppendsTable b s first after made
       → MakesOf start w lines h first after (written_of made)
   commit-makes first after (Ok appends.Already) has does = (
-    at-first (λ b. HasBorne b.own.author b.files b.history) first has does.says,
-    left-weaker (commit.LeavesFolder b (Ok appends.Already)) (λ g. Folder g h) (λ g is. is.0) after does.leaves,
+    does.says.0,
+    at-first (λ b. HasBorne b.own.author b.files b.history) first has does.says.1,
+    unchanged first after has does.leaves,
   )
   commit-makes first after (Ok (appends.Committed id)) has does = (
     does.says.0,
-    at-first (λ b. GivesReason b None) first has does.says.1,
-    left-weaker (λ g. Folder g (with_entry (entry_by start w t.rows) h)) (HasRows start w lines h) has-rows after does.leaves,
-    Extends-weaker (λ g. Folder g (with_entry (entry_by start w t.rows) h)) (HasRows start w lines h) after.ops after.ops has-rows does.settles,
+    left-weaker (commit.LeavesFolder b (Ok (appends.Committed id))) (λ g. LeavesFiles (BeginsWith start w lines h (IsCommittedTo g)) first)
+        (λ g is. at-first (IsCommittedTo g) first has (record { allowed = does.says.1; bears = is.1 })) after does.leaves,
+    left-weaker (commit.LeavesFolder b (Ok (appends.Committed id))) (HasRows start w lines h) (λ g is. has-rows g is.0) after does.leaves,
   )
   commit-makes first after (Err e) has does = spoiled first after e has does
 
@@ -364,7 +401,54 @@ appended_keeps fits start w lines s batch made before after t may (first, is_fir
         makes = commit-makes start w lines s batch t h files.0 does.schema first after made files.1 does;
         images = Extends-weaker (commit.StandsForEither at) (StandsForEither start w lines h) first.ops after.ops
             (either-rows start w lines s batch t h files.0 does.schema) does.images;
+        free = λ other apart starts.
+            let free = files_of (MayStart other h) first starts in
+            let none : NamesNone other h files.0 = subst (NamesNone other h) (files_same free.0 files.0 first free.1 files.1) free.2.1 in
+            Extends-weaker (commit.StandsForEither at) (MayStartAfter other start w lines h) first.ops after.ops
+            (start-rows start w lines s batch t h files.0 does.schema other apart none) does.images;
       },
+)
+
+-- ---- what a crash may leave
+
+-- the next snapshot is there only where the rows are
+pub image_of : (start : Start) (w : Writer) (lines : Lines) (h : History) (f : Files) → StandsForEither start w lines h f → IsImage start w lines h f
+image_of start w lines h f either = record { either = either; published = λ within there. published_of h either within there }
+  where
+    none_there : (o : Option (List ℕ)) → o ≡ None → IsSome o → ⊥
+    none_there None is there = let no : IsSome {T = List ℕ} None = there in cc
+    none_there (Some x) is there = let no : Some x ≡ None = is in cc
+
+    before : (h : History) → Folder f h → count_of h + 1 ≤ greatest → IsSome (map.get f (next_path h)) → ⊥
+    before no_table folder within there = none_there (map.get f (snapshot_path 1)) (folder.snapshots 1 within) there
+    before (table s entries) folder within there =
+        let n = length entries in
+        let more : n + 1 ≡ suc n = omega arith in
+        let here : HasSnapshotAt f s (suc n) = subst (λ (id : ℕ). IsSome (map.get f (snapshot_path id))) more there in
+        let high = ((folder.snapshots.exact (suc n) (omega (arith, within))).0 here).1 in
+        omega (arith, high)
+
+    published_of : (h : History) → StandsForEither start w lines h f → count_of h + 1 ≤ greatest → IsSome (map.get f (next_path h)) → HasRows start w lines h f
+    published_of h (inl folder) within there = absurd (before h folder within there)
+    published_of h (inr rows) within there = rows
+
+images_are : (start : Start) (w : Writer) (lines : Lines) (h : History) (first after : Option (List Op)) → Extends (StandsForEither start w lines h) first after
+    → Extends (IsImage start w lines h) first after
+images_are start w lines h first after images =
+    Extends-weaker (StandsForEither start w lines h) (IsImage start w lines h) first after (image_of start w lines h) images
+
+-- what the law of the same contents says
+abbrev pub SameContents : Type 0
+SameContents = (f g : Files) (s : TableSchema) (x : Snapshot) (c : Contents) → ((path : List ℕ) → IsNamed s x c path → map.get g path ≡ map.get f path)
+    → HasContents f s x c → HasContents g s x c
+
+-- who may start may do so where no file has another content
+pub same_starts : SameContents → (me : Actor) (h : History) (f g : Files) → MayStart me h f → HaveSame f g → Folder g h → MayStart me h g
+same_starts law me h f g (folder, none) same stands = (
+  stands,
+  λ s id path table low high (x, c, ((bytes, there, reads), has), is) by.
+      none s id path table low high
+      (x, c, ((bytes, sym (same (snapshot_path id)) ∙ there, reads), law g f s x c (λ path named. sym (same path)) has), is) by,
 )
 
 -- ---- and what was printed
@@ -442,7 +526,11 @@ refused_serves start w before after out store e refuses = (
           (e, refl, at_known (λ bytes. RefusesInput bytes before after e) before.left bytes is refuses, record { store = refl; out = refl }),
           leaves_of (λ f. Folder f h) files.0 store files.1 files.2.0,
         );
-        images = images_left (StandsForEither start w (row_lines bytes) h) files.0 store files.1 (inl files.2.0);
+        images = images_are start w (row_lines bytes) h store.ops store.ops
+            (images_left (StandsForEither start w (row_lines bytes) h) files.0 store files.1 (inl files.2.0));
+        free = λ other apart starts.
+            let free = files_of (MayStart other h) store starts in
+            images_left (MayStartAfter other start w (row_lines bytes) h) free.0 store free.1 (inl free.2);
       },
 )
 
@@ -471,7 +559,10 @@ lines_serve start w lines before after answer read (made, trace, (first, is_firs
       let was = kept alone h begins in
       let answers = made_answers start w lines h first before after made answer was.makes prints in record {
         answers = inr (has.within, has.left, subst (λ (lines : Lines). AnswersLines start w lines h first before after answer) has.are answers);
-        images = subst (λ (lines : Lines). Extends (StandsForEither start w lines h) first.ops after.store.ops) has.are was.images;
+        images = subst (λ (lines : Lines). Extends (IsImage start w lines h) first.ops after.store.ops) has.are
+            (images_are start w lines h first.ops after.store.ops was.images);
+        free = λ other apart starts. subst (λ (lines : Lines). Extends (MayStartAfter other start w lines h) first.ops after.store.ops) has.are
+            (was.free other apart starts);
       },
 )
 

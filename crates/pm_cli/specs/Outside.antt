@@ -1,13 +1,18 @@
 -- What a command has to do with, what it prints and says there, and how it ends.
 use Rattle.std.specs.Prelude.{◌≡◌, ◌⊎◌, ℕ, ℤ, ◌≤◌, List, Option, None, Some}
+use Rattle.std.specs.FinMap as map
 use Rattle.pm_base.specs.Faults.{Rose}
 use Rattle.pm_base.specs.Known.{and_then}
 use Rattle.pm_values.specs.declared.refusal.Refusal.{Refusal}
 use Rattle.pm_values.specs.declared.refusal.Refusal.TheVariants as refusals
 use Rattle.pm_io.specs.Sink.{SinkView, SinkFailed, TookPrefix}
 use Rattle.pm_io.specs.Source.{SourceView, SourceFailed}
+use Rattle.pm_store.specs.Files.{Files}
 use Rattle.pm_store.specs.Store.{StoreView, IsLater}
+use Rattle.pm_history.specs.History.{History}
 use Rattle.pm_folder.specs.Changes.{Actor}
+use Rattle.pm_folder.specs.Folder.{Folder}
+use Rattle.pm_create.specs.Making.{LeavesFiles}
 use Rattle.pm_report.specs.Report.{code_of, report_text}
 
 -- what a command is given beside its words: the bytes of its session, and the moment
@@ -75,3 +80,14 @@ Said None before after = after ≡ before
 Said (Some refusal) before after =
     (after.taken ≡ and_then before.taken (report_text refusal))
     ⊎ (SinkFailed before after × TookPrefix before.taken after.taken (report_text refusal))
+
+-- ---- what stays
+
+-- no path has another content
+abbrev pub HaveSame : Files → Files → Type 0
+HaveSame f g = (path : List ℕ) → map.get g path ≡ map.get f path
+
+-- the folder goes on to stand for the history, and no path has another content than at the first call
+pub record Rests (h : History) (first after : StoreView) : Type 0 where
+  pub folder : LeavesFiles (λ f. Folder f h) after
+  pub same : LeavesFiles (λ f. LeavesFiles (HaveSame f) after) first

@@ -1,5 +1,6 @@
 -- What the command `scan` answers, what it prints, and that it leaves a folder as it is.
-use Rattle.std.specs.Prelude.{◌≡◌, ◌⊎◌, ℕ, ◌<◌, ◌≤◌, List, [], length, Option, None, Some, Result, Ok, Err}
+use Rattle.std.specs.Prelude.{◌≡◌, ◌⊎◌, ℕ, ◌<◌, ◌≤◌, List, [], length, Option, None, Some, IsSome, Result, Ok, Err}
+use Rattle.std.specs.FinMap as map
 use Rattle.std.specs.Result.{result_err}
 use Rattle.pm_base.specs.Known.{and_then}
 use Rattle.pm_values.specs.declared.record.Stamped.{Stamped}
@@ -15,15 +16,14 @@ use Rattle.pm_history.specs.Merged.{scan_text}
 use Rattle.pm_schema.specs.declared.schema.TableSchema.{TableSchema}
 use Rattle.pm_folder.specs.Folder.{Folder}
 use Rattle.pm_folder.specs.Ledger.{count_of}
-use Rattle.pm_folder.specs.Meaning.{HasSnapshotAt}
 use Rattle.pm_create.specs.Making.{LeavesFiles}
 use Rattle.pm_view.specs.Reader.{schemas_call}
 use Rattle.pm_view.specs.Trace as reader
 use Rattle.pm_draft.specs.Built.{IsBuilt}
 use Rattle.pm_shown.specs.Shown.{lines_of}
 use Rattle.pm_scan.specs.AllCalls as scanner
-use Rattle.pm_scan.specs.AllCalls.{id_of, PrintsScan}
-use Rattle.pm_cli.specs.Outside.{Outside, Prints}
+use Rattle.pm_scan.specs.AllCalls.{id_of, path_of, PrintsScan}
+use Rattle.pm_cli.specs.Outside.{Outside, Prints, Rests}
 use Rattle.pm_cli.specs.Snapshots as snapshots
 use Rattle.pm_cli.specs.Snapshots.{EndsAtSchema}
 
@@ -50,14 +50,14 @@ Scans at before after answer =
 
 -- ---- a history that stands at its first call, where nobody else acts from then on
 
--- the snapshot of a table has gone from the files
+-- the file of a table's snapshot has gone
 abbrev pub HasGone : History → ℕ → StoreView → Type 0
-HasGone h id first = (s : TableSchema) × IsTableOf s h × LeavesFiles (λ f. HasSnapshotAt f s id → ⊥) first
+HasGone h id first = (s : TableSchema) × IsTableOf s h × LeavesFiles (λ f. map.get f (path_of s id) ≡ None) first
 
--- the snapshot is one of the history's, and is there, or is the origin
+-- the snapshot is one of the history's, and its file is there
 abbrev pub IsThere : History → ℕ → StoreView → Type 0
 IsThere h id first = (id ≤ count_of h)
-    × ((id ≡ 0) ⊎ ((s : TableSchema) × IsTableOf s h × LeavesFiles (λ f. HasSnapshotAt f s id) first))
+    × ((s : TableSchema) × IsTableOf s h × LeavesFiles (λ f. IsSome (map.get f (path_of s id))) first)
 
 -- What a history may be refused for: the snapshot that is asked for is above the newest, or has gone; or what a listing
 -- may be refused for.
@@ -88,11 +88,11 @@ AnswersHistory h at first before after (Some (refusals.SinkFault snapshot)) =
     × PrintsPrefix h at before.out after.out
 AnswersHistory h at first before after (Some e) = MayRefuse h at first after.store e
 
--- what `scan` does to a history: the folder goes on to stand for it, and each image does
+-- what `scan` does to a history: the folder goes on to stand for it, unchanged, and each image does
 pub record ScansTable (h : History) (at : Option ℕ) (first : StoreView) (before after : Outside)
     (answer : Option Refusal) : Type 0 where
   pub answers : AnswersHistory h at first before after answer
-  pub leaves : LeavesFiles (λ f. Folder f h) after.store
+  pub rests : Rests h first after.store
   pub images : Extends (λ f. Folder f h) first.ops after.store.ops
 
 -- what it promises of histories, from its first call of the store on
@@ -113,7 +113,7 @@ MakesRows h at first after (Err e) = MayRefuse h at first after e
 pub record Keeps (h : History) (at : Option ℕ) (first after : StoreView) (made : Result (List Stamped) Refusal)
     : Type 0 where
   pub makes : MakesRows h at first after made
-  pub leaves : LeavesFiles (λ f. Folder f h) after
+  pub rests : Rests h first after
   pub images : Extends (λ f. Folder f h) first.ops after.ops
 
 -- Private: and to histories

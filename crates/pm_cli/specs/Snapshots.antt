@@ -23,7 +23,7 @@ use Rattle.pm_snapshots.specs.Lister.{lines_of}
 use Rattle.pm_snapshots.specs.Trace.{Has, HasListed, Shows}
 use Rattle.pm_snapshots.specs.declared.line.SnapshotLine.{SnapshotLine}
 use Rattle.pm_snapshots.specs.declared.phase.Phase.{Phase}
-use Rattle.pm_cli.specs.Outside.{Outside, Prints}
+use Rattle.pm_cli.specs.Outside.{Outside, Prints, Rests}
 
 -- they end with the schema, which isn't built, or memory ran out for saying so
 abbrev pub EndsAtSchema : Refusal → List Event → Type 0
@@ -75,11 +75,11 @@ AnswersHistory h first before after (Some (refusals.SinkFault snapshot)) =
     × TookPrefix before.out.taken after.out.taken (snapshots_text lines))
 AnswersHistory h first before after (Some e) = MayRefuse h first after.store e
 
--- what `snapshots` does to a history: the folder goes on to stand for it, and each image does
+-- what `snapshots` does to a history: the folder goes on to stand for it, unchanged, and each image does
 pub record ListsTable (h : History) (first : StoreView) (before after : Outside) (answer : Option Refusal)
     : Type 0 where
   pub answers : AnswersHistory h first before after answer
-  pub leaves : LeavesFiles (λ f. Folder f h) after.store
+  pub rests : Rests h first after.store
   pub images : Extends (λ f. Folder f h) first.ops after.store.ops
 
 -- what it promises of histories, from its first call of the store on
@@ -104,7 +104,7 @@ MakesLines h first after (Err e) = MayRefuse h first after e
 -- Private: what the calls of `snapshots` do to a history
 pub record Keeps (h : History) (first after : StoreView) (made : Result (List SnapshotLine) Refusal) : Type 0 where
   pub makes : MakesLines h first after made
-  pub leaves : LeavesFiles (λ f. Folder f h) after
+  pub rests : Rests h first after
   pub images : Extends (λ f. Folder f h) first.ops after.ops
 
 -- Private: and to histories

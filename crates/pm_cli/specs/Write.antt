@@ -1,6 +1,7 @@
 -- What the command `write` answers, what it prints, and what it does to a history.
-use Rattle.std.specs.Prelude.{◌≡◌, ◌≢◌, ◌⊎◌, ℕ, ℤ, pos, ◌+◌, min, List, [], ◌∷◌, ◌++◌, codes, decimal, is_some}
-use Rattle.std.specs.Prelude.{Option, None, Some, Result, Ok, Err}
+use Rattle.std.specs.Prelude.{◌≡◌, ◌≢◌, ◌⊎◌, ℕ, ℤ, pos, ◌+◌, ◌≤◌, min, List, [], ◌∷◌, ◌++◌, codes, decimal, is_some}
+use Rattle.std.specs.Prelude.{Option, None, Some, IsSome, Result, Ok, Err}
+use Rattle.std.specs.FinMap as map
 use Rattle.std.specs.Result.{result_err}
 use Rattle.uuid.specs.Text.{hyphenated_text, hyphen, lower}
 use Rattle.pm_base.specs.Faults.{Rose}
@@ -20,9 +21,11 @@ use Rattle.pm_history.specs.Merge.{HistoryRow}
 use Rattle.pm_input.specs.Limits.{limits, IsWithin}
 use Rattle.pm_input.specs.Lines.{row_lines}
 use Rattle.pm_schema.specs.declared.schema.TableSchema.{TableSchema}
+use Rattle.pm_snapshot.specs.Names.{greatest}
 use Rattle.pm_folder.specs.Changes.{Actor}
 use Rattle.pm_folder.specs.Folder.{Folder}
 use Rattle.pm_folder.specs.Ledger.{count_of}
+use Rattle.pm_folder.specs.Paths.{snapshot_path}
 use Rattle.pm_create.specs.Making.{LeavesFiles}
 use Rattle.pm_view.specs.Reader.{schemas_call}
 use Rattle.pm_view.specs.Trace as reader
@@ -30,13 +33,13 @@ use Rattle.pm_draft.specs.Built.{IsBuilt, unbuilt}
 use Rattle.pm_write.specs.Batch.{Groups, IsBatchOf}
 use Rattle.pm_write.specs.Taken.{all_taken}
 use Rattle.pm_append.specs.declared.newest.Author.{Author}
-use Rattle.pm_commit.specs.AllCalls.{DidAppend, Has, HasBorne, MayStart}
+use Rattle.pm_commit.specs.AllCalls.{BearsCommit, DidAppend, Has, HasBorne, MayStart}
 use Rattle.pm_commit.specs.Alone.{Beginning, GivesReason, WasUsed, with_entry}
 use Rattle.pm_commit.specs.Own.{OwnView, new_author, new_own}
 use Rattle.pm_commit.specs.declared.all_calls.Appended.{Appended}
 use Rattle.pm_commit.specs.declared.all_calls.Appended.TheVariants as appends
 use Rattle.pm_cli.specs.Input.{MayRefuseInput, RefusesInput}
-use Rattle.pm_cli.specs.Outside.{Outside, Start, actor, IsUntouched, Prints}
+use Rattle.pm_cli.specs.Outside.{Outside, Start, actor, IsUntouched, Prints, Rests}
 use Rattle.pm_cli.specs.Snapshots.{EndsAtSchema}
 use Rattle.pm_cli.specs.declared.write.Written.{Written}
 use Rattle.pm_cli.specs.declared.write.Written.TheVariants as written
@@ -157,33 +160,61 @@ pub record BeginsWith (start : Start) (w : Writer) (lines : Lines) (h : History)
   pub batch : Groups
   pub takes : TakesRows h lines rows
   pub some : rows ≢ []
+  pub batch_of : IsBatchOf takes.0 rows batch
   pub is : P (record { own = commit_of start w batch; rows = rows; files = f; history = h })
 
--- files stand for the history with some rows of the lines at its end, as one entry
-pub record HasRows (start : Start) (w : Writer) (lines : Lines) (h : History) (f : Files) : Type 0 where
+-- this is so of the files and of the history with some rows of the lines at its end, as one entry
+pub record HasRowsAs (Stands : History → Files → Type 0) (start : Start) (w : Writer) (lines : Lines) (h : History)
+    (f : Files) : Type 0 where
   pub rows : List HistoryRow
   pub takes : TakesRows h lines rows
   pub some : rows ≢ []
-  pub folder : Folder f (with_entry (entry_by start w rows) h)
+  pub stands : Stands (with_entry (entry_by start w rows) h) f
+
+-- files stand for it
+abbrev pub HasRows : Start → Writer → Lines → History → Files → Type 0
+HasRows start w lines h f = HasRowsAs (λ h f. Folder f h) start w lines h f
 
 -- files stand for a history, or for it with the rows of the lines at its end
 abbrev pub StandsForEither : Start → Writer → Lines → History → Files → Type 0
 StandsForEither start w lines h f = Folder f h ⊎ HasRows start w lines h f
 
+-- and an actor may start there, as no snapshot names a file of its name
+abbrev pub MayStartAfter : Actor → Start → Writer → Lines → History → Files → Type 0
+MayStartAfter other start w lines h f = MayStart other h f ⊎ HasRowsAs (MayStart other) start w lines h f
+
+-- the path of the snapshot that the commit publishes
+abbrev pub next_path : History → List ℕ
+next_path h = snapshot_path (count_of h + 1)
+
+-- What a crash may leave: files that stand for a history, or for it with the rows at its end; and for the latter from
+-- the publish on, which put the next snapshot there.
+pub record IsImage (start : Start) (w : Writer) (lines : Lines) (h : History) (f : Files) : Type 0 where
+  pub either : StandsForEither start w lines h f
+  pub published : count_of h + 1 ≤ greatest → IsSome (map.get f (next_path h)) → HasRows start w lines h f
+
 -- the history stays
 abbrev pub Stays : History → StoreView → Type 0
 Stays h after = LeavesFiles (λ f. Folder f h) after
 
--- What became of the lines at the end of the work, and what stands: no row is taken, and the history stays; the user
--- had committed before, as a snapshot that was there at first says, and it stays; or the rows are at its end, as each
--- image from then on has them, the id is the next one, and the newest snapshot gives no reason against the commit.
+-- The newest snapshot that was there at first gives no reason against the commit; and these files have the snapshot
+-- that appends its rows to that one.
+pub record IsCommittedTo (f : Files) (b : Beginning) : Type 0 where
+  pub allowed : GivesReason b None
+  pub bears : BearsCommit b f
+
+-- What became of the lines at the end of the work, and what stands: no row is taken, and nothing changed; a user is
+-- asked for who had committed before, as a snapshot that was there at first says, and nothing changed; or the rows are
+-- at the end of the history, and the id is the next one, whose snapshot appends them to the newest.
 abbrev pub Becomes : Start → Writer → Lines → History → StoreView → StoreView → Written → Type 0
-Becomes start w lines h first after written.Nothing = TakesRows h lines [] × Stays h after
+Becomes start w lines h first after written.Nothing = TakesRows h lines [] × Rests h first after
 Becomes start w lines h first after written.Already =
-    LeavesFiles (BeginsWith start w lines h (λ b. HasBorne b.own.author b.files b.history)) first × Stays h after
+    IsSome w.user × LeavesFiles (BeginsWith start w lines h (λ b. HasBorne b.own.author b.files b.history)) first
+    × Rests h first after
 Becomes start w lines h first after (written.Committed id) =
-    (id ≡ count_of h + 1) × LeavesFiles (BeginsWith start w lines h (λ b. GivesReason b None)) first
-    × LeavesFiles (HasRows start w lines h) after × Extends (HasRows start w lines h) after.ops after.ops
+    (id ≡ count_of h + 1)
+    × LeavesFiles (λ f. LeavesFiles (BeginsWith start w lines h (IsCommittedTo f)) first) after
+    × LeavesFiles (HasRows start w lines h) after
 
 -- a line of the input is the first that the history's table refuses
 abbrev pub RefusesLines : History → Lines → Refusal → Type 0
@@ -193,29 +224,34 @@ RefusesLines h lines e = (s : TableSchema) × IsTableOf s h × (all_taken s line
 abbrev pub GivesAgainst : Start → Writer → Lines → History → Refusal → StoreView → Type 0
 GivesAgainst start w lines h e first = LeavesFiles (BeginsWith start w lines h (λ b. GivesReason b (Some e))) first
 
+-- What stands after a fault of the store at this path: the history, or where it is that of the publish the history with
+-- the rows.
+abbrev pub StandsAfterFault : Start → Writer → Lines → History → List ℕ → Files → Type 0
+StandsAfterFault start w lines h path f = Folder f h ⊎ ((path ≡ next_path h) × HasRows start w lines h f)
+
 -- What a refusal of the work needs, and what stands after it: after a fault of the store, which was counted, the
--- history or the history with the rows; else the history. There is no table, or none that is built; a line is refused;
--- a file of the actor's name was there at first; or the newest snapshot gives this reason against the commit. No other
--- comes.
+-- history, or where it was the publish's the history with the rows; else the history, and but where memory ran out or a
+-- file of the actor's name was met nothing changed. There is no table, or none that is built; a line is refused; a file
+-- of the actor's name was there at first; or the newest snapshot gives this reason against the commit. No other comes.
 abbrev pub Spoils : Start → Writer → Lines → History → StoreView → StoreView → Refusal → Type 0
 Spoils start w lines h first after refusals.Memory = Stays h after
 Spoils start w lines h first after (refusals.StoreFault path) =
-    Rose first.faults after.faults × LeavesFiles (StandsForEither start w lines h) after
-Spoils start w lines h first after refusals.NoTable = (h ≡ no_table) × Stays h after
+    Rose first.faults after.faults × LeavesFiles (StandsAfterFault start w lines h path) after
+Spoils start w lines h first after refusals.NoTable = (h ≡ no_table) × Rests h first after
 Spoils start w lines h first after (refusals.Unsupported what text) =
-    ((s : TableSchema) × IsTableOf s h × (unbuilt s ≡ Some (refusals.Unsupported what text))) × Stays h after
+    ((s : TableSchema) × IsTableOf s h × (unbuilt s ≡ Some (refusals.Unsupported what text))) × Rests h first after
 Spoils start w lines h first after (refusals.BadLine number why column) =
-    RefusesLines h lines (refusals.BadLine number why column) × Stays h after
+    RefusesLines h lines (refusals.BadLine number why column) × Rests h first after
 Spoils start w lines h first after (refusals.Retraction number column) =
-    RefusesLines h lines (refusals.Retraction number column) × Stays h after
+    RefusesLines h lines (refusals.Retraction number column) × Rests h first after
 Spoils start w lines h first after (refusals.SessionUsed path) =
     LeavesFiles (BeginsWith start w lines h (λ b. WasUsed b path)) first × Stays h after
 Spoils start w lines h first after (refusals.Fenced base fence) =
-    GivesAgainst start w lines h (refusals.Fenced base fence) first × Stays h after
+    GivesAgainst start w lines h (refusals.Fenced base fence) first × Rests h first after
 Spoils start w lines h first after (refusals.Limit which number) =
     (RefusesLines h lines (refusals.Limit which number)
     ⊎ GivesAgainst start w lines h (refusals.Limit which number) first)
-    × Stays h after
+    × Rests h first after
 Spoils start w lines h first after other = ⊥
 
 -- The answer to a history and lines: what became of them was printed; or a prefix of that, where the sink failed, and
@@ -238,11 +274,14 @@ AnswersHistory start w bytes h first before after answer =
     ⊎ (IsWithin limits bytes × (after.input.left ≡ Some [])
     × AnswersLines start w (row_lines bytes) h first before after answer)
 
--- what `write` does to a history, and that each image has it, or has it with the rows of the input
+-- What `write` does to a history; what each image of a crash is; and that every other actor that might have started
+-- before may start after it.
 pub record WritesTable (start : Start) (w : Writer) (bytes : List ℕ) (h : History) (first : StoreView)
     (before after : Outside) (answer : Option Refusal) : Type 0 where
   pub answers : AnswersHistory start w bytes h first before after answer
-  pub images : Extends (StandsForEither start w (row_lines bytes) h) first.ops after.store.ops
+  pub images : Extends (IsImage start w (row_lines bytes) h) first.ops after.store.ops
+  pub free : (other : Actor) → other ≢ actor start → LeavesFiles (MayStart other h) first
+      → Extends (MayStartAfter other start w (row_lines bytes) h) first.ops after.store.ops
 
 -- what it promises of histories, from its first call of the store on: where no snapshot names a file of an actor of its
 -- name
@@ -264,6 +303,8 @@ pub record Keeps (start : Start) (w : Writer) (lines : Lines) (h : History) (fir
     (made : Result Written Refusal) : Type 0 where
   pub makes : MakesOf start w lines h first after made
   pub images : Extends (StandsForEither start w lines h) first.ops after.ops
+  pub free : (other : Actor) → other ≢ actor start → LeavesFiles (MayStart other h) first
+      → Extends (MayStartAfter other start w lines h) first.ops after.ops
 
 -- Private: and to histories
 abbrev pub KeepsHistories : Start → Writer → Lines → StoreView → StoreView → Result Written Refusal → Type 0

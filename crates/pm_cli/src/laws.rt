@@ -2,6 +2,8 @@
 
 ghost use Rattle.std.specs.Prelude.{◌≡◌, ◌≤◌, ℕ, List, length, Some};
 ghost use Rattle.pm_create.specs.Making.{LeavesFiles};
+ghost use Rattle.pm_commit.specs.AllCalls.{MayStart};
+ghost use Rattle.pm_folder.specs.Changes.{Actor};
 ghost use Rattle.pm_folder.specs.Folder.{Folder};
 ghost use Rattle.pm_history.specs.History.{History};
 ghost use Rattle.pm_store.specs.declared.call.Op.{Op};
@@ -9,25 +11,34 @@ ghost use Rattle.pm_store.specs.Files.{Files, files_after};
 ghost use Rattle.pm_store.specs.Images.{CrashImage, Extends};
 ghost use Rattle.pm_store.specs.Store.{StoreView};
 ghost use Rattle.pm_cli.specs.Create.{StandsForEither};
-ghost use Rattle.pm_cli.specs.Outside.{Start};
-ghost use Rattle.pm_cli.specs.Write as write;
-ghost use Rattle.pm_cli.specs.Write.{Lines, Writer};
+ghost use Rattle.pm_cli.specs.Outside.{HaveSame, Start};
+ghost use Rattle.pm_cli.specs.Write.{IsImage, Lines, MayStartAfter, Writer};
+
+use pm_contents::same_law;
 
 /// A store that has what a crash within `create` left stands for the history, or for the draft's table where there was
-/// none; one that has what a crash within `write` left, for the history, or for it with the rows of the input; and one
-/// that has what a crash within `scan` or `snapshots` left, for the history. So each promise of `run` holds again of
-/// the next command.
+/// none; one that has what a crash within `write` left, for the history, or for it with the rows of the input, as once
+/// the next snapshot is there; and one that has what a crash within `scan` or `snapshots` left, for the history. Another
+/// actor that might have started before `write` may start there, and where no file has another content. So each promise
+/// of `run` holds again of the next command.
 pub fn next_command_law()
     ensures create { (start : Start) (bytes : List ℕ) (h : History) (old new : List Op) (i : ℕ)
         (image : Files) → Extends (StandsForEither start bytes h) (Some old) (Some new) → length old ≤ i
         → CrashImage new i image → (ops : List Op) (store : StoreView) → store.ops ≡ Some ops → files_after ops ≡ image
         → LeavesFiles (StandsForEither start bytes h) store }
     ensures write { (start : Start) (w : Writer) (lines : Lines) (h : History) (old new : List Op) (i : ℕ)
-        (image : Files) → Extends (write.StandsForEither start w lines h) (Some old) (Some new) → length old ≤ i
+        (image : Files) → Extends (IsImage start w lines h) (Some old) (Some new) → length old ≤ i
         → CrashImage new i image → (ops : List Op) (store : StoreView) → store.ops ≡ Some ops → files_after ops ≡ image
-        → LeavesFiles (write.StandsForEither start w lines h) store }
+        → LeavesFiles (IsImage start w lines h) store }
+    ensures next { (other : Actor) (start : Start) (w : Writer) (lines : Lines) (h : History) (old new : List Op) (i : ℕ)
+        (image : Files) → Extends (MayStartAfter other start w lines h) (Some old) (Some new) → length old ≤ i
+        → CrashImage new i image → (ops : List Op) (store : StoreView) → store.ops ≡ Some ops → files_after ops ≡ image
+        → LeavesFiles (MayStartAfter other start w lines h) store }
+    ensures same { (me : Actor) (h : History) (f g : Files) → MayStart me h f → HaveSame f g → Folder g h → MayStart me h g }
     ensures snapshots { (h : History) (old new : List Op) (i : ℕ) (image : Files)
         → Extends (λ f. Folder f h) (Some old) (Some new) → length old ≤ i → CrashImage new i image
         → (ops : List Op) (store : StoreView) → store.ops ≡ Some ops → files_after ops ≡ image
         → LeavesFiles (λ f. Folder f h) store }
-{}
+{
+    same_law();
+}

@@ -10,7 +10,7 @@ use Rattle.pm_store.specs.Store.{StoreView, IsAlone, IsLater}
 use Rattle.pm_store.proofs.ImageLaws.{Extends-trans, Extends-weaker}
 use Rattle.pm_machine.specs.Moves.{Keeps, Moves}
 use Rattle.pm_machine.specs.Trace.{Event, HasTrace, Traces}
-use Rattle.pm_machine.proofs.AloneLaws.{Extends-end, Follows, Follows-first, Follows-meanwhile, Follows-steps, Traces-first}
+use Rattle.pm_machine.proofs.AloneLaws.{Follows, Follows-first, Follows-meanwhile, Follows-steps, Traces-first}
 use Rattle.pm_machine.proofs.Facts.{HasTrace-acts, Traces-faulted, Traces-none, image_changed}
 use Rattle.pm_history.specs.History.{Entry, History, IsTableOf, table}
 use Rattle.pm_schema.specs.declared.schema.TableSchema.{TableSchema}
@@ -24,10 +24,10 @@ use Rattle.pm_view.specs.Reader.{schemas_call}
 use Rattle.pm_view.proofs.AllCallsLemmas as schema_calls
 use Rattle.pm_view.proofs.StillLemmas.{stayed}
 use Rattle.pm_append.specs.declared.newest.Author.{Author}
-use Rattle.pm_commit.specs.AllCalls.{AppendsAlone, AppendsTables, DidAppend, Ends, Has, IsCounted, KnewFiles, KnowsFiles, LeavesFiles, LeavesFolder, MayBegin, SaysOf, SettlesFolder, StandsForEither, StoodSo}
-use Rattle.pm_commit.specs.Alone.{AloneAt, AloneRefused, Beginning, CommitterAlone, IsTryAt, KnewAlone, KnowsAlone, newest_id, own_entry, with_entry}
+use Rattle.pm_commit.specs.AllCalls.{AppendsAlone, AppendsTables, DidAppend, Ends, Has, IsCounted, IsPastOf, KnewFiles, KnowsFiles, LeavesFiles, LeavesFolder, MayBegin, NamesNone, SaysOf, StandsForEither, StandsFreely, StoodSo}
+use Rattle.pm_commit.specs.Alone.{AloneAt, AloneRefused, Beginning, CommitterAlone, IsTryAt, KnewAlone, KnowsAlone, begun_at, newest_id, own_entry, with_entry}
 use Rattle.pm_commit.specs.Committer.{IsCommitter}
-use Rattle.pm_commit.specs.Meaning.{Appends, KnowsOwn, MakesIn, MakesRows, entry_of, own_in}
+use Rattle.pm_commit.specs.Meaning.{Appends, HasCommitted, KnowsOwn, MakesIn, MakesRows, entry_of, own_in}
 use Rattle.pm_commit.specs.Own.{OwnView, actor_of, begun, begun_after}
 use Rattle.pm_commit.specs.Search.{seen_of}
 use Rattle.pm_commit.specs.Trace.{CommitterActed, Did}
@@ -37,8 +37,15 @@ use Rattle.pm_commit.specs.declared.committer.CommitStep.{CommitStep}
 use Rattle.pm_commit.specs.declared.making.Publishing.{Publishing}
 use Rattle.pm_commit.specs.declared.phase.Phase.{Phase}
 use Rattle.pm_commit.specs.declared.phase.Phase.TheVariants as phases
+use Rattle.pm_commit.proofs.AdvanceLemmas.{SameContents}
+use Rattle.pm_commit.proofs.AloneCauseLemmas.{begun-actor}
+use Rattle.pm_commit.proofs.CommittedLemmas.{bears-commit}
+use Rattle.pm_commit.proofs.FoundLemmas.{LiveEntries}
 use Rattle.pm_commit.proofs.FailLemmas.{after-failed, shows-failed}
+use Rattle.pm_commit.proofs.KnownLemmas.{count-bound}
 use Rattle.pm_commit.proofs.PastLemmas.{found}
+use Rattle.pm_commit.proofs.PublishLemmas as publish
+use Rattle.pm_commit.proofs.StillLemmas.{OthersNone}
 use Rattle.pm_commit.proofs.JoinLemmas.{Traces-join, first-stays}
 
 -- ---- the trace
@@ -67,9 +74,11 @@ was_already s own m author first after is (events, did, trace) =
 
 -- ---- the history, where nobody else acts
 
--- what the law of changes says
-abbrev pub PastLaw : Type 0
-PastLaw = (me : Actor) (f after : Files) (p q : Past) → Stands f p → Advances me f p after q → Stands after q
+-- what the laws of changes and of actors' names say
+pub record CallLaws : Type 0 where
+  pub past : (me : Actor) (f after : Files) (p q : Past) → Stands f p → Advances me f p after q → Stands after q
+  pub here : publish.NamesNone
+  pub others : OthersNone
 
 -- what is alone to the end is so up to a step, and in it
 pub alone-before : (first before after : StoreView) → IsLater first before → IsLater before after → IsAlone first after → IsAlone first before
@@ -80,10 +89,10 @@ alone-in first before after early late alone = let low = early.others in let hig
 
 -- ---- what is known before a step, and after it
 
--- the commit of a phase has the author of the entry, and the history is as it was
-record IsEntryOf (b : Beginning) (own : OwnView) (now : History) : Type 0 where
-  same : now ≡ b.history
+-- the commit of a phase has the author of the entry, and the actor of the one at the beginning
+record IsOwnOf (b : Beginning) (own : OwnView) : Type 0 where
   entry : entry_of own.author b.rows ≡ own_entry b
+  actor : actor_of own ≡ actor_of b.own
 
 begun-entry : (b : Beginning) (n : ℕ) → entry_of (begun n b.own).author b.rows ≡ own_entry b
 begun-entry b n = at b.own.lost
@@ -92,30 +101,35 @@ begun-entry b n = at b.own.lost
     at [] = refl
     at (id ∷ lost) = refl
 
-entry-as : (b : Beginning) (o own : OwnView) → o ≡ own → entry_of o.author b.rows ≡ own_entry b → entry_of own.author b.rows ≡ own_entry b
-entry-as b o own same is = subst (λ (o : OwnView). entry_of o.author b.rows ≡ own_entry b) same is
+own-as : (b : Beginning) (o own : OwnView) → o ≡ own → IsOwnOf b o → IsOwnOf b own
+own-as b o own same is = subst (IsOwnOf b) same is
 
-try-entry : (b : Beginning) (o : OwnView) (x : Publishing) → IsTryAt b o x → entry_of o.author b.rows ≡ own_entry b
-try-entry b o x ((count, is), at, reason) =
-    subst (λ (o : OwnView). entry_of o.author b.rows ≡ own_entry b) (sym is) (begun-entry b (newest_id b))
+first-own : (b : Beginning) (o : OwnView) → o ≡ b.own → IsOwnOf b o
+first-own b o is = record { entry = ap (λ (o : OwnView). entry_of o.author b.rows) is; actor = ap actor_of is }
 
-own-entry-in : (b : Beginning) (m : Phase) (own : OwnView) (f : Files) (now : History) → own_in m ≡ Some own → AloneAt b m f now → IsEntryOf b own now
-own-entry-in b (phases.Names o s) own f now is (same, (unchanged, is_own)) =
-    record { same = same; entry = entry-as b o own (let e : o ≡ own = cc in e) (ap (λ (o : OwnView). entry_of o.author b.rows) is_own) }
-own-entry-in b (phases.View o m) own f now is (same, (unchanged, is_own, reads)) =
-    record { same = same; entry = entry-as b o own (let e : o ≡ own = cc in e) (ap (λ (o : OwnView). entry_of o.author b.rows) is_own) }
-own-entry-in b (phases.Search o q) own f now is (same, (unchanged, is_own, sees)) =
-    record {
-      same = same;
-      entry = entry-as b o own (let e : o ≡ own = cc in e) (ap (λ (o : OwnView). entry_of o.author b.rows) is_own ∙ begun-entry b (newest_id b));
-    }
-own-entry-in b (phases.Create o making) own f now is (same, (try, untouched)) =
-    record { same = same; entry = entry-as b o own (let e : o ≡ own = cc in e) (try-entry b o making.publishing try) }
-own-entry-in b (phases.Publish o x) own f now is (same, try) =
-    record { same = same; entry = entry-as b o own (let e : o ≡ own = cc in e) (try-entry b o x try) }
-own-entry-in b (phases.Committed author id) own f now is at = absurd (let clash = is in cc)
-own-entry-in b (phases.Already author) own f now is at = absurd (let clash = is in cc)
-own-entry-in b phases.Over own f now is at = absurd (let clash = is in cc)
+begun-own : (b : Beginning) (o : OwnView) → o ≡ begun_at b → IsOwnOf b o
+begun-own b o is = record {
+  entry = ap (λ (o : OwnView). entry_of o.author b.rows) is ∙ begun-entry b (newest_id b);
+  actor = ap actor_of is ∙ begun-actor b.own (newest_id b);
+}
+
+try-own : (b : Beginning) (o : OwnView) (x : Publishing) → IsTryAt b o x → IsOwnOf b o
+try-own b o x ((count, is), at, reason) = record {
+  entry = ap (λ (o : OwnView). entry_of o.author b.rows) is ∙ begun-entry b (newest_id b);
+  actor = ap actor_of is ∙ begun-actor b.own (newest_id b);
+}
+
+-- and the history is as it was
+own-in : (b : Beginning) (m : Phase) (own : OwnView) (f : Files) (now : History) → own_in m ≡ Some own → AloneAt b m f now → (now ≡ b.history) × IsOwnOf b own
+own-in b (phases.Names o s) own f now is (same, (unchanged, is_own)) = (same, own-as b o own (let e : o ≡ own = cc in e) (first-own b o is_own))
+own-in b (phases.View o m) own f now is (same, (unchanged, is_own, reads)) = (same, own-as b o own (let e : o ≡ own = cc in e) (first-own b o is_own))
+own-in b (phases.Search o q) own f now is (same, (unchanged, is_own, sees, asked)) = (same, own-as b o own (let e : o ≡ own = cc in e) (begun-own b o is_own))
+own-in b (phases.Create o making) own f now is (same, (try, untouched)) =
+    (same, own-as b o own (let e : o ≡ own = cc in e) (try-own b o making.publishing try))
+own-in b (phases.Publish o x) own f now is (same, try) = (same, own-as b o own (let e : o ≡ own = cc in e) (try-own b o x try))
+own-in b (phases.Committed author id) own f now is at = absurd (let clash = is in cc)
+own-in b (phases.Already author) own f now is at = absurd (let clash = is in cc)
+own-in b phases.Over own f now is at = absurd (let clash = is in cc)
 
 -- in each phase the history has the entry more, or is as it was
 either-at : (b : Beginning) (m : Phase) (f : Files) (now : History) → AloneAt b m f now → (now ≡ b.history) ⊎ (now ≡ with_entry (own_entry b) b.history)
@@ -128,16 +142,16 @@ either-at b (phases.Publish own x) f now at = inl at.0
 either-at b (phases.Already author) f now at = inl at.0
 either-at b phases.Over f now at = inl at.0
 
-stands-either : (b : Beginning) (now : History) (f : Files) → Folder f now → (now ≡ b.history) ⊎ (now ≡ with_entry (own_entry b) b.history) → StandsForEither b f
-stands-either b now f folder (inl same) = inl (subst (Folder f) same folder)
-stands-either b now f folder (inr same) = inr (subst (Folder f) same folder)
+stands-either : (b : Beginning) (now : History) (f : Files) → StandsFreely b now f → (now ≡ b.history) ⊎ (now ≡ with_entry (own_entry b) b.history) → StandsForEither b f
+stands-either b now f stands (inl same) = inl (subst (λ (h : History). StandsFreely b h f) same stands)
+stands-either b now f stands (inr same) = inr (subst (λ (h : History). StandsFreely b h f) same stands)
 
 -- what the commit changes adds its entry, or leaves the history
-either-by : (b : Beginning) (now later : History) (own : OwnView) → IsEntryOf b own now → Appends own b.rows now later
+either-by : (b : Beginning) (now later : History) (own : OwnView) → now ≡ b.history → IsOwnOf b own → Appends own b.rows now later
     → (later ≡ b.history) ⊎ (later ≡ with_entry (own_entry b) b.history)
-either-by b now later own is (inl stays) = inl (stays ∙ is.same)
-either-by b now later own is (inr (s, es, at, appended)) =
-    inr (appended ∙ ap (λ (x : Entry). table s (es ++ x ∷ [])) is.entry ∙ ap (with_entry (own_entry b)) (sym at ∙ is.same))
+either-by b now later own same is (inl stays) = inl (stays ∙ same)
+either-by b now later own same is (inr (s, es, at, appended)) =
+    inr (appended ∙ ap (λ (x : Entry). table s (es ++ x ∷ [])) is.entry ∙ ap (with_entry (own_entry b)) (sym at ∙ same))
 
 -- the snapshots that were known are known as they were
 stood-on : (me : Actor) (f after : Files) (b : Beginning) (p q : Past) → p.history ≡ b.history → StoodSo b p → Advances me f p after q → StoodSo b q
@@ -149,20 +163,38 @@ stood-on me f after b p q same stood advances = λ id known within.
     } in
     advances.same id was ∙ stood id was within
 
-module _ (law : PastLaw) (b : Beginning) (known : Option (List Op)) where
+module _ (laws : CallLaws) (b : Beginning) where
+  -- files that stand for what is known stand freely
+  freely : (f : Files) (p : Past) → Stands f p → IsPastOf b p → StandsFreely b p.history f
+  freely f p stands past = record {
+    folder = stands.folder;
+    free = λ other apart none s id path table low high names by.
+        let most = count-bound f p s stands table in
+        laws.here other f p s id path stands table (omega (arith, high, most)) (past.others other apart none) names by;
+  }
+
+  past-on : (own : OwnView) (f after : Files) (p q : Past) → Stands f p → p.history ≡ b.history → IsOwnOf b own → IsPastOf b p
+      → Advances (actor_of own) f p after q → IsPastOf b q
+  past-on own f after p q stands same is past advances = record {
+    stood = stood-on (actor_of own) f after b p q same past.stood advances;
+    others = λ other apart none. laws.others other (actor_of own) f after p q stands advances (λ e. apart (e ∙ is.actor)) (past.others other apart none);
+  }
+
+module _ (laws : CallLaws) (b : Beginning) (known : Option (List Op)) where
   -- a change that a phase's commit makes, from files that stand for what is known
-  changed : (m : Phase) (f after : Files) (p q : Past) → Stands f p → StoodSo b p → AloneAt b m f p.history → MakesRows b.rows m f p after q
-      → Stands after q × StoodSo b q × StandsForEither b after
-  changed m f after p q stands stood at makes = by (own_in m) refl makes
+  changed : (m : Phase) (f after : Files) (p q : Past) → Stands f p → IsPastOf b p → AloneAt b m f p.history → MakesRows b.rows m f p after q
+      → Stands after q × IsPastOf b q × StandsForEither b after
+  changed m f after p q stands past at makes = by (own_in m) refl makes
     where
-      by : (o : Option OwnView) → own_in m ≡ o → MakesIn o b.rows f p after q → Stands after q × StoodSo b q × StandsForEither b after
+      by : (o : Option OwnView) → own_in m ≡ o → MakesIn o b.rows f p after q → Stands after q × IsPastOf b q × StandsForEither b after
       by None is makes = absurd makes
       by (Some own) is makes =
-          let entry = own-entry-in b m own f p.history is at in
-          let then = law _ f after p q stands makes.advances in
-          let stays = stood-on _ f after b p q entry.same stood makes.advances in
-          let image = stands-either b q.history after then.folder (either-by b p.history q.history own entry makes.appends) in
-          (then, stays, image)
+          let own_is = own-in b m own f p.history is at in
+          let then = laws.past _ f after p q stands makes.advances in
+          let past_then = past-on laws b own f after p q stands own_is.0 own_is.1 past makes.advances in
+          let image = stands-either b q.history after (freely laws b after q then past_then)
+          (either-by b p.history q.history own own_is.0 own_is.1 makes.appends) in
+          (then, past_then, image)
 
   pub followed : (old new : Phase) (before after : StoreView) (result : Result CommitStep Refusal) → IsAlone before after
       → CommitterAlone old new before after result → Follows (StandsForEither b) known before (KnewFiles b old)
@@ -205,19 +237,22 @@ module _ (law : PastLaw) (b : Beginning) (known : Option (List Op)) where
 
       with-image : (known : Option (List Op)) → Has known → IsSomeAnd known (λ ops. StandsForEither b (files_after ops) × KnewFiles b m (files_after ops))
       with-image None none = none
-      with-image (Some ops) here =
-          (stands-either b here.0.history (files_after ops) here.1.folder (either-at b m (files_after ops) here.0.history here.3.1), here)
+      with-image (Some ops) here = (
+        stands-either b here.0.history (files_after ops) (freely laws b (files_after ops) here.0 here.1 here.2)
+            (either-at b m (files_after ops) here.0.history here.3.1),
+        here,
+      )
 
 -- what was known of the files at the beginning, and is known before a step
 abbrev pub HasFollowed : Phase → Phase → StoreView → StoreView → Type 0
 HasFollowed first m before now = (b : Beginning) → IsAlone before now → LeavesFiles (KnewFiles b first) before
     → Follows (StandsForEither b) before.ops now (KnewFiles b m)
 
-pub followed-none : PastLaw → (m : Phase) (store : StoreView) → HasFollowed m m store store
+pub followed-none : CallLaws → (m : Phase) (store : StoreView) → HasFollowed m m store store
 followed-none law m store = λ b alone here. followed-first law b store.ops m store refl here
 
 -- and is known after it
-pub followed-on : PastLaw → (first old new : Phase) (start before after : StoreView) (result : Result CommitStep Refusal) → IsLater start before
+pub followed-on : CallLaws → (first old new : Phase) (start before after : StoreView) (result : Result CommitStep Refusal) → IsLater start before
     → IsLater before after → HasFollowed first old start before → CommitterAlone old new before after result → (b : Beginning) → IsAlone start after
     → LeavesFiles (KnewFiles b first) start → Follows (StandsForEither b) start.ops after (KnowsFiles b new result)
 followed-on law first old new start before after result early late so moves b alone here =
@@ -237,13 +272,16 @@ module _ (b : Beginning) (start after : StoreView) where
     subst (λ (known : Option (List Op)). Extends (StandsForEither b) start.ops known) (sym so.is) so.images,
   )
 
-  pub left-committed : (m : Phase) (by : Author) (id : ℕ) → m ≡ phases.Committed by id → Follows (StandsForEither b) start.ops after (KnewFiles b m)
-      → Leaves (Ok (appends.Committed id))
-  left-committed m by id is =
+  pub left-committed : SameContents → LiveEntries → (m : Phase) (by : Author) (id : ℕ) → m ≡ phases.Committed by id
+      → Follows (StandsForEither b) start.ops after (KnewFiles b m) → Leaves (Ok (appends.Committed id))
+  left-committed same live_law m by id is =
       at-end (Ok (appends.Committed id)) (KnewFiles b m) (λ f here.
       let known = subst (λ (m : Phase). KnewAlone b m f here.0) is here.3 in
       let at = known.1 in
-      (subst (Folder f) at.0 here.1.folder, (at.1.1, at.1.2)))
+      let has = subst (λ (a : Author). HasCommitted a b.rows id here.0) at.1.0 known.0.1 in (
+        (subst (Folder f) at.0 here.1.folder, bears-commit same live_law b f here.0 here.1 here.2.stood at.0 id at.1.1 has),
+        (at.1.1, at.1.2),
+      ))
 
   -- which base an author has says nothing of its earlier commits
   begun-seen : (x : Snapshot) (n : ℕ) → seen_of (begun n b.own).author x ≡ seen_of b.own.author x
@@ -262,14 +300,17 @@ module _ (b : Beginning) (start after : StoreView) where
       let earlier = known.0.1 in
       let within : earlier.id ≤ newest_id b = subst (λ (h : History). earlier.id ≤ count_of h) at.0 earlier.known.to in (
         (subst (Folder f) at.0 here.1.folder, at.1.0),
-        record {
-          id = earlier.id;
-          after_origin = earlier.known.after_origin;
-          within = within;
-          snapshot = earlier.snapshot;
-          there = subst (λ (f : Files). SnapshotAt f earlier.id earlier.snapshot) (here.2 earlier.id earlier.known within) earlier.stood;
-          reached = sym (ap (λ (a : Author). seen_of a earlier.snapshot) at.1.1 ∙ begun-seen earlier.snapshot (newest_id b)) ∙ earlier.reached;
-        },
+        (
+          at.1.2,
+          record {
+            id = earlier.id;
+            after_origin = earlier.known.after_origin;
+            within = within;
+            snapshot = earlier.snapshot;
+            there = subst (λ (f : Files). SnapshotAt f earlier.id earlier.snapshot) (here.2.stood earlier.id earlier.known within) earlier.stood;
+            reached = sym (ap (λ (a : Author). seen_of a earlier.snapshot) at.1.1 ∙ begun-seen earlier.snapshot (newest_id b)) ∙ earlier.reached;
+          },
+        ),
       ))
 
   refused-leaves : (refusal : Refusal) (f : Files) (p : Past) → Folder f p.history → AloneRefused b refusal f p
@@ -302,34 +343,22 @@ first-known : (s : TableSchema) (b : Beginning) (f : Files) → f ≡ b.files �
     → IsTableOf s b.history → KnewFiles b (phases.Names b.own s) f
 first-known s b f same is begin table_is =
     let was = found b.files b.history begin.start.0 in
-    let named : HasNamedNone (actor_of b.own) was.past = λ t id path at known names by.
-    begin.start.1 t id path (subst (IsTableOf t) was.history at) known.after_origin (subst (λ (h : History). id ≤ count_of h) was.history known.to)
+    let named : (who : Actor) → NamesNone who b.history b.files → HasNamedNone who was.past = λ who none t id path at known names by.
+    none t id path (subst (IsTableOf t) was.history at) known.after_origin (subst (λ (h : History). id ≤ count_of h) was.history known.to)
     (subst (λ (f : Files). Names f t id path) (was.stood id) names) by in
     let knows : KnowsOwn b.own b.rows s was.past = record {
       is_table = subst (IsTableOf s) (sym was.history) table_is;
       fit = begin.fit;
       batch = begin.batch;
       may = begin.may;
-      unnamed = named;
+      unnamed = named (actor_of b.own) begin.start.1;
       from = subst (λ (n : ℕ). n ≤ count_of was.past.history) (sym begin.no_base) (omega arith);
     } in (
       was.past,
       subst (λ (f : Files). Stands f was.past) (sym same) was.stands,
-      (λ id known within. was.stood id),
+      record { stood = λ id known within. was.stood id; others = λ other apart none. named other none },
       ((is, knows), (was.history, ((λ path. ap (λ (f : Files). map.get f path) same), refl))),
     )
-
-settled : (b : Beginning) (result : Result Appended Refusal) (after : StoreView) → LeavesFiles (λ f. LeavesFolder b result f × SaysOf b result) after
-    → SettlesFolder b result after
-settled b (Ok (appends.Committed id)) after left = at after.ops refl left
-  where
-    at : (known : Option (List Op)) → after.ops ≡ known
-        → IsSomeAnd known (λ ops. LeavesFolder b (Ok (appends.Committed id)) (files_after ops) × SaysOf b (Ok (appends.Committed id)))
-        → Extends (λ f. Folder f (with_entry (own_entry b) b.history)) after.ops after.ops
-    at None is none = absurd none
-    at (Some ops) is here = Extends-end (λ f. Folder f (with_entry (own_entry b) b.history)) after.ops ops is here.0
-settled b (Ok appends.Already) after left = tt
-settled b (Err refusal) after left = tt
 
 leaves-of : (b : Beginning) (result : Result Appended Refusal) (known : Option (List Op))
     → IsSomeAnd known (λ ops. LeavesFolder b result (files_after ops) × SaysOf b result)
@@ -380,9 +409,8 @@ appended-history s own m result before middle after is committer (earlier, has, 
                 leaves = parts.0;
                 images = Extends-trans (StandsForEither b) first.ops middle.ops after.ops
                     (Extends-weaker (λ f. f ≡ b.files) (StandsForEither b) first.ops middle.ops
-                    (λ f same. inl (subst (λ (f : Files). Folder f b.history) (sym same) begin.start.0)) stay.0.images)
+                    (λ f same. inl (subst (StandsFreely b b.history) (sym same) (record { folder = begin.start.0; free = λ other apart none. none }))) stay.0.images)
                     left.1;
-                settles = settled b result after left.0;
                 says = parts.1;
                 counted = counted s own result (event ∷ events) later first middle after moment.2 rest ends;
               },

@@ -203,13 +203,13 @@ calm-caused laws causes b (phases.View own m) answer refusal f p calm stands ((c
     (reads-newest laws.joined laws.lists f p s (newest_id b) stands (ap count_of (sym same)) m answer to reads reading newest goes) told in
     subst (λ (g : Files). AloneRefused b refusal g p) (sym rests)
     (ready-caused laws b f p stands same causes call answer refusal own s m reads known.is_table reading origin unchanged is at told to goes newest_to on)))
-calm-caused laws causes b (phases.Search own q) (answers.Found None) refusal f p calm stands (known, (same, (unchanged, is, sees))) on = λ told.
+calm-caused laws causes b (phases.Search own q) (answers.Found None) refusal f p calm stands (known, (same, (unchanged, is, sees, asked))) on = λ told.
     make-caused laws b f p stands same own q.found refusal unchanged is sees on
 calm-caused laws causes b (phases.Search own q) (answers.Found (Some bytes)) refusal f p calm stands (known, (same, alone)) (inl memory) = λ told.
     forgotten laws b f p stands same refusal memory
 calm-caused laws causes b (phases.Search own q) (answers.Found (Some bytes)) refusal f p calm stands (((may, few, ids), (known, is_found)), alone) (inr (inl (bad, is))) = λ told.
     absurd (good-snapshot f p q.found.schema q.id bytes stands known.is_table ids.0.0 ids.0.1 told bad)
-calm-caused laws causes b (phases.Search own q) (answers.Found (Some bytes)) refusal f p calm stands (known, (same, (unchanged, is, sees))) (inr (inr (x, reads, on))) = λ told.
+calm-caused laws causes b (phases.Search own q) (answers.Found (Some bytes)) refusal f p calm stands (known, (same, (unchanged, is, sees, asked))) (inr (inr (x, reads, on))) = λ told.
     hears-any (AloneRefused b refusal f p) own q.found q.left (seen_of own.author x) refusal
     (make-caused laws b f p stands same own q.found refusal unchanged is sees) on
 calm-caused laws causes b (phases.Create own making) (answers.Made created.Created) refusal f p calm stands known on = absurd (err-ok refusal _ on)

@@ -35,7 +35,7 @@ use Rattle.pm_append.specs.declared.newest.CommitFile.{CommitFile}
 use Rattle.pm_commit.specs.Alone.{AloneAt, AloneRefused, AreUntouched, Beginning, IsTryAt, IsUnchanged, KnewAlone, KnowsAlone, ReadsNewest, SeesNewest, begun_at, newest_id, own_entry, with_entry}
 use Rattle.pm_commit.specs.Committer.{After, AfterReader, Goes, Hears, Makes, Outcome, Refuses, Seeks, Stops, Tries, TriesIf, create_next, first_of_try, found_in, next_call, publish_call, publishing_of}
 use Rattle.pm_commit.specs.Meaning.{Appends, KnowsTry, MakesRows, entry_of}
-use Rattle.pm_commit.specs.Own.{OwnView, begun, with_named}
+use Rattle.pm_commit.specs.Own.{OwnView, begun, begun_after, with_named}
 use Rattle.pm_commit.specs.Search.{older_ids, seen_in, seen_of}
 use Rattle.pm_commit.specs.Trace.{IsLost}
 use Rattle.pm_commit.specs.declared.found.Found.{Found}
@@ -79,24 +79,33 @@ module _ (b : Beginning) (f : Files) (now : History) (same : now ≡ b.history) 
           (found, sees, subst (λ (o : OwnView). refusal_of found.newest o.author o.batch ≡ None) is allowed),
         ) (all-untouched made.files.items))
 
-    seeks-alone : (own : OwnView) (found : Found) (left : List ℕ) (new : Phase) → own ≡ begun_at b → SeesNewest b found → Seeks own found left (Ok new)
-        → AloneAt b new f now
-    seeks-alone own found [] new is sees on = makes-alone own found new is sees on
-    seeks-alone own found (id ∷ left) new is sees (few, to) = to-alone _ new (ok-same new _ to) (same, (unchanged, is, sees))
+    seeks-alone : (own : OwnView) (found : Found) (left : List ℕ) (new : Phase) → own ≡ begun_at b → SeesNewest b found → b.own.check ≡ true
+        → Seeks own found left (Ok new) → AloneAt b new f now
+    seeks-alone own found [] new is sees asked on = makes-alone own found new is sees on
+    seeks-alone own found (id ∷ left) new is sees asked (few, to) = to-alone _ new (ok-same new _ to) (same, (unchanged, is, sees, asked))
 
-    hears-alone : (own : OwnView) (found : Found) (left : List ℕ) (said : Seen) (new : Phase) → own ≡ begun_at b → SeesNewest b found
+    hears-alone : (own : OwnView) (found : Found) (left : List ℕ) (said : Seen) (new : Phase) → own ≡ begun_at b → SeesNewest b found → b.own.check ≡ true
         → Hears own found left said (Ok new) → AloneAt b new f now
-    hears-alone own found left seen.Other new is sees on = seeks-alone own found left new is sees on
-    hears-alone own found left seen.Below new is sees on = makes-alone own found new is sees on
-    hears-alone own found left seen.Reached new is sees to =
-        to-alone _ new (ok-same new _ to) (same, (unchanged, ap (λ (o : OwnView). o.author) is))
+    hears-alone own found left seen.Other new is sees asked on = seeks-alone own found left new is sees asked on
+    hears-alone own found left seen.Below new is sees asked on = makes-alone own found new is sees on
+    hears-alone own found left seen.Reached new is sees asked to =
+        to-alone _ new (ok-same new _ to) (same, (unchanged, ap (λ (o : OwnView). o.author) is, asked))
+
+    -- whether an earlier commit is looked for says the beginning
+    begun-check : (own : OwnView) → own ≡ begun_at b → own.check ≡ b.own.check
+    begun-check own is = ap (λ (o : OwnView). o.check) is ∙ at b.own.lost
+      where
+        at : (lost : List ℕ) → (begun_after lost (newest_id b) b.own).check ≡ b.own.check
+        at [] = refl
+        at (id ∷ lost) = refl
 
     tries-alone : (own : OwnView) (v : View) (new : Phase) → own ≡ begun_at b → SeesNewest b (found_in v) → Tries own v (Ok new) → AloneAt b new f now
-    tries-alone own v new is sees on = at own.check on
+    tries-alone own v new is sees on = at own.check refl on
       where
-        at : (check : Bool) → TriesIf check own v (Ok new) → AloneAt b new f now
-        at true on = hears-alone own (found_in v) (older_ids v.listed.items) (seen_in own.author v.snapshot) new is sees on
-        at false on = makes-alone own (found_in v) new is sees on
+        at : (check : Bool) → own.check ≡ check → TriesIf check own v (Ok new) → AloneAt b new f now
+        at true asked on =
+            hears-alone own (found_in v) (older_ids v.listed.items) (seen_in own.author v.snapshot) new is sees (sym (begun-check own is) ∙ asked) on
+        at false asked on = makes-alone own (found_in v) new is sees on
 
     view-alone : (own : OwnView) (m : view_phase.Phase) (new : Phase) → own ≡ b.own → ReadsNewest (newest_id b) m
         → ◌≡◌ {A = Outcome} (Ok new) (Ok (phases.View own m)) → AloneAt b new f now
@@ -165,10 +174,10 @@ module _ (laws : Laws) (causes : ReaderCauses) (parts : PathParts) (b : Beginnin
       subst (λ (g : Files). AloneAt b new g p.history) (sym rests) (reader-alone b f p.history same unchanged own to new is newest_to
       (λ v ready. view-sees laws b f p stands same causes call answer s m v reads known.is_table reading origin unchanged at told
       (subst (reader.Goes m answer) ready goes) (subst (ReadsNewest (newest_id b)) ready newest_to)) after)))
-  alone-on (phases.Search own q) (answers.Found None) new f p calm on stands (known, (same, (unchanged, is, sees))) = λ told.
+  alone-on (phases.Search own q) (answers.Found None) new f p calm on stands (known, (same, (unchanged, is, sees, asked))) = λ told.
       makes-alone b f p.history same unchanged own q.found new is sees on
-  alone-on (phases.Search own q) (answers.Found (Some bytes)) new f p calm (x, reads, on) stands (known, (same, (unchanged, is, sees))) = λ told.
-      hears-alone b f p.history same unchanged own q.found q.left (seen_of own.author x) new is sees on
+  alone-on (phases.Search own q) (answers.Found (Some bytes)) new f p calm (x, reads, on) stands (known, (same, (unchanged, is, sees, asked))) = λ told.
+      hears-alone b f p.history same unchanged own q.found q.left (seen_of own.author x) new is sees asked on
   alone-on (phases.Create own making) (answers.Made creates.Created) new f p calm to stands ((tried, (known, is_try)), (same, (is, untouched))) = λ told.
       let call : Call = calls.Create making.next.path making.next.bytes in
       let puts : Puts f making.next.path (Some making.next.bytes) (carried call f) = Answers-Changed call (answers.Made creates.Created) f told in

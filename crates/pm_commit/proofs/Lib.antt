@@ -6,6 +6,7 @@ mod AloneLemmas
 mod ApartLemmas
 mod BatchLemmas
 mod CauseLemmas
+mod CommittedLemmas
 mod CommitterLemmas
 mod CreateLemmas
 mod Facts

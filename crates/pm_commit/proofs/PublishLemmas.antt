@@ -1,5 +1,5 @@
 -- The publish of a try whose files are all there appends its entry to the history, while the newest snapshot stands.
-use Rattle.std.proofs.Common.{◌≡◌, inl, inr, ℕ, zero, suc, ◌+◌, ◌-◌, ◌<◌, ◌≤◌, nat_le, Bool, true, false, ◌&&◌, if◌then◌else◌, List, [], length, Option, None, Some, is_none, is_some, IsSome, IsSomeAnd, refl, sym, ap, ◌∙◌, subst, arith}
+use Rattle.std.proofs.Common.{◌≡◌, inl, inr, ℕ, zero, suc, ◌+◌, ◌-◌, ◌<◌, ◌≤◌, nat_le, Bool, true, false, ◌&&◌, if◌then◌else◌, List, [], ◌∷◌, ◌++◌, length, length-append, Option, None, Some, is_none, is_some, IsSome, IsSomeAnd, refl, sym, ap, ◌∙◌, subst, arith}
 use Rattle.std.specs.FinMap as map
 use Rattle.std.specs.List.{AllByRecursion}
 use Rattle.std.proofs.lemmas.Bool.Decides.{nat_tests}
@@ -15,7 +15,7 @@ use Rattle.pm_snapshot.specs.Names.{greatest}
 use Rattle.pm_folder.specs.Changes.{Actor, IsNamedBy, NamesOwn, appended}
 use Rattle.pm_folder.specs.Commits.{IsAppend, Names}
 use Rattle.pm_folder.specs.Folder.{Folder, HasTable}
-use Rattle.pm_folder.specs.Ledger.{Advances, HasNamedNone, KnowsTable, Past, Stands, count_of}
+use Rattle.pm_folder.specs.Ledger.{Advances, HasNamedNone, IsKnown, KnowsTable, Past, Stands, count_of}
 use Rattle.pm_folder.specs.Meaning.{HasSnapshotAt}
 use Rattle.pm_folder.specs.Paths.{snapshot_file, snapshot_path}
 use Rattle.pm_folder.proofs.HoldLemmas.{OneContents}
@@ -23,18 +23,19 @@ use Rattle.pm_folder.proofs.LedgerFacts.{at-table, count-is}
 use Rattle.pm_table_view.specs.Reader.{origin_name, origin_path}
 use Rattle.pm_table_view.specs.declared.view.View.{View}
 use Rattle.pm_write.specs.Batch.{Groups, IsBatchOf}
-use Rattle.pm_append.specs.Commit.{Attempt, IsAsMade, IsFoundAs, IsReady}
+use Rattle.pm_append.specs.Commit.{Attempt, HasAppended, IsAsMade, IsFoundAs, IsReady}
 use Rattle.pm_append.specs.declared.newest.Author.{Author}
 use Rattle.pm_append.specs.declared.newest.Newest.{Newest}
 use Rattle.pm_commit.specs.Alone.{with_entry}
 use Rattle.pm_commit.specs.Committer.{after_path, newest_in}
-use Rattle.pm_commit.specs.Meaning.{HasEntry, IsPut, KnowsOwn, KnowsTry, MakesOwn, entry_of}
+use Rattle.pm_commit.specs.Meaning.{HasCommitted, HasEntry, IsPut, KnowsOwn, KnowsTry, MakesOwn, entry_of}
 use Rattle.pm_commit.specs.Own.{IsTried, OwnView, actor_of}
 use Rattle.pm_commit.specs.declared.found.Found.{Found}
 use Rattle.pm_commit.specs.declared.making.Publishing.{Publishing}
 use Rattle.pm_commit.proofs.AdvanceLemmas.{NamedPaths, SameContents, append-advances, later_past, same-advances}
 use Rattle.pm_commit.proofs.FoundLemmas.{LiveEntries, found-there}
 use Rattle.pm_commit.proofs.MadeLemmas.{allowed-id}
+use Rattle.pm_commit.proofs.StillLemmas.{found-still}
 
 -- ---- what the laws of lower crates say
 
@@ -53,7 +54,7 @@ abbrev pub AppendsTry : Type 0
 AppendsTry = (me : Actor) (f after : Files) (s : TableSchema) (entries : List Entry) (t : Attempt) → (ready : IsReady me f s entries t)
     → map.get f (snapshot_path (suc (length entries))) ≡ None → Puts f (snapshot_path (suc (length entries))) (Some t.made.text) after
     → IsAppend f after s entries (append t.author.user t.author.identifier t.rows) × NamesOwn me f after s (length entries)
-    × IsAsMade after s (suc (length entries)) t ready.made
+    × IsAsMade after s (suc (length entries)) t ready.made × HasAppended after s t.newest t.author (length t.rows)
 
 -- ---- nothing changes
 
@@ -190,15 +191,41 @@ module _ (one : OneContents) (same : SameContents) (paths : NamedPaths) (live_la
         ap (λ (a : Author). append a.user a.identifier t.rows) is_try.same_author
         ∙ ap (λ (rs : List HistoryRow). append own.author.user own.author.identifier rs) is_try.same_rows
 
-    appends : IsAppend f after s entries e × NamesOwn (actor_of own) f after s (length entries)
+    appends : IsAppend f after s entries e × NamesOwn (actor_of own) f after s (length entries) × HasAppended after s t.newest own.author (length rows)
     appends =
-        let all = append_law (actor_of own) f after s entries t ready absent-next puts in
-        (subst (λ (e : Entry). IsAppend f after s entries e) same-entry all.0, all.1)
+        let all = append_law (actor_of own) f after s entries t ready absent-next puts in (
+          subst (λ (e : Entry). IsAppend f after s entries e) same-entry all.0,
+          all.1,
+          subst (λ (a : Author). HasAppended after s t.newest a (length rows)) is_try.same_author
+              (subst (λ (rs : List HistoryRow). HasAppended after s t.newest t.author (length rs)) is_try.same_rows all.3),
+        )
 
     bound : suc (length entries) ≤ greatest
     bound = let last = newest-is in let low = below in omega (arith, last, low)
 
-    pub published-makes : (later : Past) × MakesOwn own rows f p after later × HasEntry own.author rows x.id later × IsNext later
+    -- the snapshot wasn't known, and is the commit's
+    committed : (q : Past) → Advances (actor_of own) f p after q → q.history ≡ table s (entries ++ e ∷ []) → HasEntry own.author rows x.id q
+        → HasCommitted own.author rows x.id q
+    committed q advances now has =
+        let size : count_of q.history ≡ suc (length entries) =
+        ap count_of now ∙ length-append entries (e ∷ []) ∙ (let more : length entries + 1 ≡ suc (length entries) = omega arith in more) in
+        let known : IsKnown q x.id = record {
+          after_origin = (let next = next-is in omega (arith, next));
+          from = (let start = own-table.3.start in let first = advances.first in let next = next-is in omega (arith, start, first, next));
+          to = (let next = next-is in omega (arith, next, size));
+        } in
+        let fresh : IsKnown p x.id → ⊥ = λ was. (let high = was.to in let next = next-is in let size = many in absurd (omega (arith, high, next, size))) in
+        record {
+          entry = has;
+          known = known;
+          found = record { schema = s; newest = t.newest };
+          is_found = found-still (actor_of own) f after p q advances (record { schema = s; newest = t.newest }) is_try.found;
+          is_table = subst (IsTableOf s) (sym now) refl;
+          next = id-is;
+          stood = subst (λ (g : Files). HasAppended g s t.newest own.author (length rows)) (sym (advances.stood x.id known fresh)) appends.2;
+        }
+
+    pub published-makes : (later : Past) × MakesOwn own rows f p after later × HasCommitted own.author rows x.id later × IsNext later
     published-makes =
         let q = later_past p s entries e after in
         let change = appended s entries own.author.user own.author.identifier rows t.made.text newest-there bound absent-next puts known.fit appends.0 appends.1 in
@@ -207,7 +234,7 @@ module _ (one : OneContents) (same : SameContents) (paths : NamedPaths) (live_la
         puts appends.1 change in (
           q,
           record { advances = advances; appends = inr (s, entries, own-table.1, refl) },
-          (s, entries, [], refl, (let next = next-is in omega (arith, next))),
+          committed q advances refl (s, entries, [], refl, (let next = next-is in omega (arith, next))),
           (
             ap (with_entry e) (sym own-table.1),
             (let next = next-is in let size = many in omega (arith, next, size)),
@@ -217,7 +244,7 @@ module _ (one : OneContents) (same : SameContents) (paths : NamedPaths) (live_la
   -- the publish, carried out whole
   pub publish-whole : (a b : Option (List ℕ)) → map.get f (snapshot_path x.id) ≡ a → map.get f (after_path s x.id) ≡ b
       → (later : Past) × MakesOwn own rows f p (if is_none a && is_some b then map.insert f (snapshot_path x.id) x.text else f) later
-      × (published.Created ≡ published_at a b → HasEntry own.author rows x.id later × IsNext later)
+      × (published.Created ≡ published_at a b → HasCommitted own.author rows x.id later × IsNext later)
   publish-whole (Some found) b is_a is_b = (p, own-same own rows f f p (λ q. refl), λ told. absurd (let clash = told in cc))
   publish-whole None None is_a is_b = (p, own-same own rows f f p (λ q. refl), λ told. absurd (let clash = told in cc))
   publish-whole None (Some present) is_a is_b =

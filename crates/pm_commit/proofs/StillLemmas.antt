@@ -15,9 +15,10 @@ use Rattle.pm_contents.specs.Lists.{HasEntries}
 use Rattle.pm_table_view.specs.Meaning.{IsViewIn, view_origin, view_snapshot}
 use Rattle.pm_table_view.specs.declared.view.View.{View}
 use Rattle.pm_table_view.proofs.Facts as reader_facts
+use Rattle.pm_append.specs.Commit.{HasAppended}
 use Rattle.pm_append.specs.declared.newest.Author.{Author}
 use Rattle.pm_append.specs.declared.newest.CommitFile.{CommitFile}
-use Rattle.pm_commit.specs.Meaning.{HasEarlier, HasEntry, IsFoundIn, IsOtherThan, IsPut, Knows, KnowsIn, KnowsOwn, KnowsTry, entry_of}
+use Rattle.pm_commit.specs.Meaning.{HasCommitted, HasEarlier, HasEntry, IsFoundIn, IsOtherThan, IsPut, Knows, KnowsIn, KnowsOwn, KnowsTry, entry_of}
 use Rattle.pm_commit.specs.Own.{OwnView, actor_of}
 use Rattle.pm_commit.specs.declared.found.Found.{Found}
 use Rattle.pm_commit.specs.declared.making.Publishing.{Publishing}
@@ -33,6 +34,23 @@ count-grows no_table later goes = omega arith
 count-grows (table s entries) no_table goes = absurd goes
 count-grows (table s entries) (table t later) (same, more, is) = let size = ap length is in let both = length-append entries more in omega (arith, size, both)
 
+-- what a try found stays as it was, whoever acts
+module _ (actor : Actor) (f after : Files) (p q : Past) (advances : Advances actor f p after q) where
+  view-still : (v : View) → IsViewIn p v → IsViewIn q v
+  view-still v (view_origin is) = view_origin is
+  view-still v (view_snapshot x base delta entries live stood has leaves is) =
+      view_snapshot x base delta entries live (reader_facts.stood_still actor f after p q v.schema x advances stood)
+      (subst (λ (g : Files). HasEntries g v.schema x base delta entries) (sym (advances.same x.id stood.known)) has) leaves is
+
+  pub found-still : (found : Found) → IsFoundIn p found → IsFoundIn q found
+  found-still found is_found = record {
+    view = is_found.view;
+    is = is_found.is;
+    wanted = is_found.wanted;
+    stood = view-still is_found.view is_found.stood;
+    origin = is_found.origin;
+  }
+
 module _ (law : OthersNone) (rows : List HistoryRow) (other : Actor) (f after : Files) (p q : Past) (stands : Stands f p) (advances : Advances other f p after q) where
   own-still : (own : OwnView) (s : TableSchema) → actor_of own ≢ other → KnowsOwn own rows s p → KnowsOwn own rows s q
   own-still own s apart known = record {
@@ -47,21 +65,6 @@ module _ (law : OthersNone) (rows : List HistoryRow) (other : Actor) (f after : 
         omega (arith, low, more));
   }
 
-  view-still : (v : View) → IsViewIn p v → IsViewIn q v
-  view-still v (view_origin is) = view_origin is
-  view-still v (view_snapshot x base delta entries live stood has leaves is) =
-      view_snapshot x base delta entries live (reader_facts.stood_still other f after p q v.schema x advances stood)
-      (subst (λ (g : Files). HasEntries g v.schema x base delta entries) (sym (advances.same x.id stood.known)) has) leaves is
-
-  found-still : (found : Found) → IsFoundIn p found → IsFoundIn q found
-  found-still found is_found = record {
-    view = is_found.view;
-    is = is_found.is;
-    wanted = is_found.wanted;
-    stood = view-still is_found.view is_found.stood;
-    origin = is_found.origin;
-  }
-
   puts-still : (files : List CommitFile) → AllByRecursion (IsPut f) files → AllByRecursion (IsPut after) files
   puts-still [] all = tt
   puts-still (file ∷ files) (is, rest) =
@@ -74,7 +77,7 @@ module _ (law : OthersNone) (rows : List HistoryRow) (other : Actor) (f after : 
     same_rows = is_try.same_rows;
     same_batch = is_try.same_batch;
     same_author = is_try.same_author;
-    found = found-still (record { schema = x.schema; newest = is_try.attempt.newest }) is_try.found;
+    found = found-still other f after p q advances (record { schema = x.schema; newest = is_try.attempt.newest }) is_try.found;
     names = is_try.names;
     made = is_try.made;
     allowed = is_try.allowed;
@@ -99,6 +102,17 @@ module _ (law : OthersNone) (rows : List HistoryRow) (other : Actor) (f after : 
         is,
       )
 
+  committed-still : (author : Author) (id : ℕ) → HasCommitted author rows id p → HasCommitted author rows id q
+  committed-still author id has = record {
+    entry = entry-still author id has.entry;
+    known = known-still other f after p q id advances has.known;
+    found = has.found;
+    is_found = found-still other f after p q advances has.found has.is_found;
+    is_table = reader_facts.table_still other f after p q has.found.schema advances has.is_table;
+    next = has.next;
+    stood = subst (λ (g : Files). HasAppended g has.found.schema has.found.newest author (length rows)) (sym (advances.same id has.known)) has.stood;
+  }
+
   earlier-still : (author : Author) → HasEarlier author p → HasEarlier author q
   earlier-still author has = record {
     id = has.id;
@@ -113,13 +127,13 @@ module _ (law : OthersNone) (rows : List HistoryRow) (other : Actor) (f after : 
   in-still (phases.View own m) apart (s, reads, known, reading, origin) =
       (s, reads, own-still own s apart known, reader_facts.knows_still m other f after p q stands advances reading, origin)
   in-still (phases.Search own searching) apart (known, is_found) =
-      (own-still own searching.found.schema apart known, found-still searching.found is_found)
+      (own-still own searching.found.schema apart known, found-still other f after p q advances searching.found is_found)
   in-still (phases.Create own making) apart (known, is_try) = (
     own-still own making.publishing.schema apart known,
     try-still own making.publishing (making.next ∷ making.rest) known.is_table is_try,
   )
   in-still (phases.Publish own x) apart (known, is_try) = (own-still own x.schema apart known, try-still own x [] known.is_table is_try)
-  in-still (phases.Committed author id) apart known = entry-still author id known
+  in-still (phases.Committed author id) apart known = committed-still author id known
   in-still (phases.Already author) apart known = earlier-still author known
   in-still phases.Over apart known = tt
 

@@ -1,5 +1,5 @@
 -- What the calls of a committer show.
-use Rattle.std.proofs.Common.{◌≡◌, inl, inr, ℕ, ◌+◌, Bool, true, false, if◌then◌else◌, List, [], ◌∷◌, ◌++◌, length, length-append, Option, None, Some, IsSome, IfSome, Ok, Err, refl, sym, ap, ◌∙◌, subst, append_assoc, arith}
+use Rattle.std.proofs.Common.{◌≡◌, inl, inr, ℕ, ◌+◌, ◌<◌, Bool, true, false, if◌then◌else◌, List, [], ◌∷◌, ◌++◌, length, Option, None, Some, IsSome, IfSome, Ok, Err, refl, sym, ap, ◌∙◌, subst, append_assoc}
 use Rattle.std.proofs.lemmas.List.{append-nil}
 use Rattle.std.proofs.lemmas.Option.{IfSome_then}
 use Rattle.pm_values.specs.declared.refusal.Refusal.{Refusal}
@@ -38,9 +38,9 @@ use Rattle.pm_append.specs.declared.newest.CommitFile.{CommitFile}
 use Rattle.pm_append.specs.declared.newest.Newest.{Newest}
 use Rattle.pm_commit.specs.Committer.{After, AfterReader, Goes, Hears, Loses, Makes, Outcome, Refuses, Seeks, Stops, Tries, TriesIf, create_next, first_of_try, found_in, manifests_call, newest_in, newest_of, next_call, publish_call, publishing_of}
 use Rattle.pm_commit.specs.Marks.{FindsUsed}
-use Rattle.pm_commit.specs.Own.{OwnView, begun, with_lost}
+use Rattle.pm_commit.specs.Own.{OwnView, begun, begun_after, tries, with_lost}
 use Rattle.pm_commit.specs.Search.{SearchingView, older_ids, seen_in, seen_of}
-use Rattle.pm_commit.specs.Trace.{AfterLost, Did, DidInTry, DidSoFar, FindsReason, HasSearch, HasTry, HaveCreated, HaveLost, HavePassed, IsLost, IsNoCommit, MayCommit, Meets, Searched, Shows, ShowsOwn, Views, after_answer, at_newest, at_older, before_call, creates, has_listed, has_lost, is_absent, is_below, is_none, listed_manifests, lost_by, named_by, not_asked, publishes}
+use Rattle.pm_commit.specs.Trace.{AfterLost, Did, DidInTry, DidSoFar, FindsReason, HasSearch, HasTry, HaveCreated, HaveLost, HavePassed, IsLost, IsNoCommit, LosesTry, MayCommit, Meets, Searched, Shows, ShowsOwn, Views, after_answer, at_newest, at_older, before_call, creates, has_listed, has_lost, is_absent, is_below, is_none, listed_manifests, lost_by, named_by, not_asked, publishes}
 use Rattle.pm_commit.specs.declared.search.Seen.{Seen}
 use Rattle.pm_commit.specs.declared.search.Seen.TheVariants as seen
 use Rattle.pm_commit.specs.declared.found.Found.{Found}
@@ -330,29 +330,47 @@ module _ (s : TableSchema) where
     begin-try p own lost = (p, own, [], lost, (refl, (refl, refl, tt)), sym (append-nil own))
 
     -- a publish was lost
-    lose : (p : OwnView) (v : View) (made : Append) (x : Publishing) (answer : Published) (earlier later own : List Event) → HaveLost s first p earlier
-        → HasTry s p v made [] later → x ≡ publishing_of s made → IsLost answer → own ≡ earlier ++ later
+    lost-try : (p : OwnView) (v : View) (made : Append) (x : Publishing) (answer : Published) (later : List Event) → HasTry s p v made [] later
+        → x ≡ publishing_of s made → IsLost answer → LosesTry s p v made (later ++ publishes x answer ∷ [])
+    lost-try p v made x answer later tried same is_lost =
+        (answer, later, tried, is_lost, ap (λ (x : Publishing). later ++ publishes x answer ∷ []) same)
+
+    lost-calls : (event : Event) (earlier later own : List Event) → own ≡ earlier ++ later → own ++ event ∷ [] ≡ earlier ++ (later ++ event ∷ [])
+    lost-calls event earlier later own is = ap (λ (own : List Event). own ++ event ∷ []) is ∙ append_assoc earlier later (event ∷ [])
+
+    -- once a try has named its files the ids that were lost are the same
+    begun-lost : (n : ℕ) (p : OwnView) → (begun n p).lost ≡ p.lost
+    begun-lost n p = at p.lost
+      where
+        at : (lost : List ℕ) → (begun_after lost n p).lost ≡ p.lost
+        at [] = refl
+        at (id ∷ lost) = refl
+
+    same-lost : (p : OwnView) (v : View) (made : Append) (o : OwnView) → o ≡ named_by p v made → o.lost ≡ p.lost
+    same-lost p v made o same = ap (λ (o : OwnView). o.lost) same ∙ begun-lost v.id p
+
+    lose : (p : OwnView) (v : View) (made : Append) (x : Publishing) (answer : Published) (earlier later own : List Event) → length p.lost + 1 < tries
+        → HaveLost s first p earlier → HasTry s p v made [] later → x ≡ publishing_of s made → IsLost answer → own ≡ earlier ++ later
         → HaveLost s first (lost_by p v made) (own ++ publishes x answer ∷ [])
-    lose p v made x answer earlier later own lost tried same is_lost is =
-        let event : Event = publishes (publishing_of s made) answer in
-        let calls_are : own ++ publishes x answer ∷ [] ≡ earlier ++ (later ++ event ∷ []) =
-        ap (λ (x : Publishing). own ++ publishes x answer ∷ []) same ∙ ap (λ (own : List Event). own ++ event ∷ []) is ∙ append_assoc earlier later (event ∷ []) in
-        subst (HaveLost s first (lost_by p v made)) (sym calls_are) (has_lost p v made answer earlier later lost tried is_lost)
+    lose p v made x answer earlier later own few lost tried same is_lost is =
+        subst (HaveLost s first (lost_by p v made)) (sym (lost-calls (publishes x answer) earlier later own is))
+        (has_lost p v made earlier (later ++ publishes x answer ∷ []) few lost (lost-try p v made x answer later tried same is_lost))
 
     lost-same : (p : OwnView) (v : View) (made : Append) (o : OwnView) (x : Publishing) → o ≡ named_by p v made → x ≡ publishing_of s made
         → with_lost x.id o ≡ lost_by p v made
     lost-same p v made o x same is = ap (λ (o : OwnView). with_lost x.id o) same ∙ ap (λ (x : Publishing). with_lost x.id (named_by p v made)) is
 
-    lost-on : (o : OwnView) (x : Publishing) (answer : Published) (new : Phase) (own : List Event) → IsLost answer
+    lost-on : (o : OwnView) (x : Publishing) (answer : Published) (new : Phase) (own : List Event) → IsLost answer → length o.lost + 1 < tries
         → AfterLost s first (DidInTry s (phases.Publish o x)) own → new ≡ first_of_try (with_lost x.id o) x.schema
         → Did s first new (own ++ publishes x answer ∷ [])
-    lost-on o x answer new own is_lost (p, earlier, later, lost, (v, made, same, is_x, tried), is) on =
+    lost-on o x answer new own is_lost left (p, earlier, later, lost, (v, made, same, is_x, tried), is) on =
+        let few : length p.lost + 1 < tries = subst (λ (ids : List ℕ). length ids + 1 < tries) (same-lost p v made o same) left in
         let next : OwnView = lost_by p v made in
         let is_next : new ≡ first_of_try next s =
         on ∙ ap (λ (t : TableSchema). first_of_try (with_lost x.id o) t) (ap (λ (x : Publishing). x.schema) is_x)
         ∙ ap (λ (o : OwnView). first_of_try o s) (lost-same p v made o x same is_x) in
         subst (λ (m : Phase). Did s first m (own ++ publishes x answer ∷ [])) (sym is_next)
-        (begin-try next (own ++ publishes x answer ∷ []) (lose p v made x answer earlier later own lost tried is_x is_lost is))
+        (begin-try next (own ++ publishes x answer ∷ []) (lose p v made x answer earlier later own few lost tried is_x is_lost is))
 
     went-on : Joined → (m : Phase) (answer : Answer) (new : Phase) (own : List Event) → After m answer (Ok new) → Did s first m own
         → IfSome (next_call m) (λ call. MayAnswer call answer → Did s first new (own ++ answered call answer ∷ []))
@@ -398,8 +416,8 @@ module _ (s : TableSchema) where
           ap (λ (x : Publishing). x.id) is_x,
           ap (λ (x : Publishing). later ++ publishes x published.Created ∷ []) is_x,
         )) did)
-    went-on law (phases.Publish o x) (answers.Published published.Exists) new own (left, is) did = λ may. lost-on o x published.Exists new own tt did is
-    went-on law (phases.Publish o x) (answers.Published published.AfterGone) new own (left, is) did = λ may. lost-on o x published.AfterGone new own tt did is
+    went-on law (phases.Publish o x) (answers.Published published.Exists) new own (left, is) did = λ may. lost-on o x published.Exists new own tt left did is
+    went-on law (phases.Publish o x) (answers.Published published.AfterGone) new own (left, is) did = λ may. lost-on o x published.AfterGone new own tt left did is
     went-on law m answer new own after did = absurd after
 
     -- ---- refusals
@@ -482,11 +500,17 @@ module _ (s : TableSchema) where
     refused-lost o x answer refusal own is_lost none did (inl memory) =
         forgot (phases.Publish o x) (publish_call x) (answers.Published answer) refusal own did refl tt none memory
     refused-lost o x answer refusal own is_lost none (p, earlier, later, lost, (v, made, same, is_x, tried), is) (inr (last, contended)) =
-        let next : OwnView = lost_by p v made in
-        let ids : next.lost ≡ o.lost ++ x.id ∷ [] = sym (ap (λ (o : OwnView). o.lost) (lost-same p v made o x same is_x)) in
-        let many = length-append o.lost (x.id ∷ []) in
-        as-shown refusal (refusals.Contended (o.lost ++ x.id ∷ [])) _ contended
-        (next, lose p v made x answer earlier later own lost tried is_x is_lost is, ids, (let eleven = last in omega (arith, many, eleven)))
+        let ids_are : o.lost ≡ p.lost = same-lost p v made o same in
+        let ids : o.lost ++ x.id ∷ [] ≡ p.lost ++ made.id ∷ [] =
+        ap (λ (ids : List ℕ). ids ++ x.id ∷ []) ids_are ∙ ap (λ (x : Publishing). p.lost ++ x.id ∷ []) is_x in
+        as-shown refusal (refusals.Contended (o.lost ++ x.id ∷ [])) _ contended (
+          p,
+          earlier,
+          later ++ publishes x answer ∷ [],
+          lost,
+          (v, made, lost-try p v made x answer later tried is_x is_lost, subst (λ (ids : List ℕ). length ids + 1 ≡ tries) ids_are last, ids),
+          lost-calls (publishes x answer) earlier later own is,
+        )
 
     refused-on : Joined → (m : Phase) (call : Call) (answer : Answer) (refusal : Refusal) (own : List Event) → After m answer (Err refusal) → Did s first m own
         → next_call m ≡ Some call → MayAnswer call answer → Shows s first refusal (own ++ answered call answer ∷ [])

@@ -1,6 +1,6 @@
 -- All calls of a committer, from those that read the table's schema on: what they are, and what they do to a history
 -- that stands at the first of them, where nobody else acts from then on.
-use Rattle.std.specs.Prelude.{◌≡◌, ◌⊎◌, ℕ, ◌+◌, ◌≤◌, List, ◌++◌, None, Some, IsSomeAnd, IfErr, Result, Ok, Err}
+use Rattle.std.specs.Prelude.{◌≡◌, ◌≢◌, ◌⊎◌, ℕ, ◌+◌, ◌≤◌, List, ◌++◌, length, true, None, Some, IsSomeAnd, IfErr, Result, Ok, Err}
 use Rattle.std.specs.List.{AllByRecursion}
 use Rattle.pm_base.specs.Faults.{Rose}
 use Rattle.pm_values.specs.declared.refusal.Refusal.{Refusal}
@@ -17,7 +17,7 @@ use Rattle.pm_snapshot.specs.declared.snapshot.Snapshot.{Snapshot}
 use Rattle.pm_folder.specs.Changes.{Actor, IsNamedBy}
 use Rattle.pm_folder.specs.Commits.{Names}
 use Rattle.pm_folder.specs.Folder.{Folder, IsRowOf}
-use Rattle.pm_folder.specs.Ledger.{IsKnown, Past, Stands, count_of}
+use Rattle.pm_folder.specs.Ledger.{HasNamedNone, IsKnown, Past, Stands, count_of}
 use Rattle.pm_folder.specs.Meaning.{SnapshotAt}
 use Rattle.pm_folder.specs.Paths.{snapshot_path}
 use Rattle.pm_view.specs.AllCalls.{HasFiles}
@@ -25,14 +25,16 @@ use Rattle.pm_view.specs.Reader.{schemas_call}
 use Rattle.pm_view.specs.Trace as schema
 use Rattle.pm_view.specs.declared.phase.Phase.TheVariants as readers
 use Rattle.pm_write.specs.Batch.{IsBatchOf}
+use Rattle.pm_append.specs.Commit.{HasAppended}
 use Rattle.pm_append.specs.declared.newest.Author.{Author}
-use Rattle.pm_commit.specs.Alone.{Beginning, GivesReason, IsUnchanged, KnewAlone, KnowsAlone, WasUsed, newest_id, own_entry}
-use Rattle.pm_commit.specs.Alone.{with_entry}
+use Rattle.pm_commit.specs.Alone.{Beginning, GivesReason, IsUnchanged, KnewAlone, KnowsAlone, SeesNewest, WasUsed, begun_at}
+use Rattle.pm_commit.specs.Alone.{newest_id, own_entry, with_entry}
 use Rattle.pm_commit.specs.Own.{OwnView, actor_of}
 use Rattle.pm_commit.specs.Search.{seen_of}
 use Rattle.pm_commit.specs.Trace.{Did, Shows}
 use Rattle.pm_commit.specs.declared.all_calls.Appended.{Appended}
 use Rattle.pm_commit.specs.declared.all_calls.Appended.TheVariants as appends
+use Rattle.pm_commit.specs.declared.found.Found.{Found}
 use Rattle.pm_commit.specs.declared.phase.Phase.{Phase}
 use Rattle.pm_commit.specs.declared.phase.Phase.TheVariants as phases
 use Rattle.pm_commit.specs.declared.search.Seen.TheVariants as seen
@@ -78,27 +80,34 @@ pub record MayBegin (s : TableSchema) (b : Beginning) : Type 0 where
 
 -- ---- what it is at the end
 
+-- The files stand for a history; and whoever but the actor of the commit had made none of the files that snapshots name
+-- at the beginning has made none of those that they name now.
+pub record StandsFreely (b : Beginning) (h : History) (f : Files) : Type 0 where
+  pub folder : Folder f h
+  pub free : (other : Actor) → other ≢ actor_of b.own → NamesNone other b.history b.files → NamesNone other h f
+
 -- files stand for the history, or for it with the entry
 abbrev pub StandsForEither : Beginning → Files → Type 0
-StandsForEither b f = Folder f b.history ⊎ Folder f (with_entry (own_entry b) b.history)
+StandsForEither b f = StandsFreely b b.history f ⊎ StandsFreely b (with_entry (own_entry b) b.history) f
 
--- What an answer leaves of the files: they stand for the history with the entry, once that is committed, and for the
--- history else; but that after a fault of the store in the publish of the next snapshot the entry is there or not.
--- Where it was committed before, or there is a reason against it, no path has another content.
+-- the snapshot after the newest is there, and to its last field the one that appends the rows to what the newest one was
+-- at the beginning
+abbrev pub BearsCommit : Beginning → Files → Type 0
+BearsCommit b f = (found : Found) × SeesNewest b found
+    × HasAppended f found.schema found.newest (begun_at b).author (length b.rows)
+
+-- What an answer leaves of the files: they stand for the history with the entry, once that is committed, and have its
+-- snapshot; and they stand for the history else, but that after a fault of the store in the publish of the next snapshot
+-- the entry is there or not. Where it was committed before, or there is a reason against it, no path has another
+-- content.
 abbrev pub LeavesFolder : Beginning → Result Appended Refusal → Files → Type 0
-LeavesFolder b (Ok (appends.Committed id)) f = Folder f (with_entry (own_entry b) b.history)
+LeavesFolder b (Ok (appends.Committed id)) f = Folder f (with_entry (own_entry b) b.history) × BearsCommit b f
 LeavesFolder b (Ok appends.Already) f = Folder f b.history × IsUnchanged b f
 LeavesFolder b (Err (refusals.StoreFault path)) f = Folder f b.history
     ⊎ (Folder f (with_entry (own_entry b) b.history) × (path ≡ snapshot_path (newest_id b + 1)))
 LeavesFolder b (Err (refusals.Fenced base fence)) f = Folder f b.history × IsUnchanged b f
 LeavesFolder b (Err (refusals.Limit which number)) f = Folder f b.history × IsUnchanged b f
 LeavesFolder b (Err other) f = Folder f b.history
-
--- once the entry is committed each image from then on has it
-abbrev pub SettlesFolder : Beginning → Result Appended Refusal → StoreView → Type 0
-SettlesFolder b (Ok (appends.Committed id)) after =
-    Extends (λ f. Folder f (with_entry (own_entry b) b.history)) after.ops after.ops
-SettlesFolder b other after = Unit {0}
 
 -- a snapshot of the files bears the author's user, and an identifier that isn't smaller
 pub record HasBorne (author : Author) (f : Files) (h : History) : Type 0 where
@@ -109,12 +118,13 @@ pub record HasBorne (author : Author) (f : Files) (h : History) : Type 0 where
   pub there : SnapshotAt f id snapshot
   pub reached : seen_of author snapshot ≡ seen.Reached
 
--- What an answer says of the beginning: the id is the next one, and there is no reason against the commit; the author
--- committed before; a file of the actor's name was there; or this is the first reason against it. A fault of the store
--- says nothing of it, and nor does it that memory ran out. No other refusal comes.
+-- What an answer says of the beginning: the id is the next one, and there is no reason against the commit; an earlier
+-- commit was to be looked for, and the author committed before; a file of the actor's name was there; or this is the
+-- first reason against it. A fault of the store says nothing of it, and nor does it that memory ran out. No other
+-- refusal comes.
 abbrev pub SaysOf : Beginning → Result Appended Refusal → Type 0
 SaysOf b (Ok (appends.Committed id)) = (id ≡ newest_id b + 1) × GivesReason b None
-SaysOf b (Ok appends.Already) = HasBorne b.own.author b.files b.history
+SaysOf b (Ok appends.Already) = (b.own.check ≡ true) × HasBorne b.own.author b.files b.history
 SaysOf b (Err refusals.Memory) = Unit {0}
 SaysOf b (Err (refusals.StoreFault path)) = Unit {0}
 SaysOf b (Err (refusals.SessionUsed path)) = WasUsed b path
@@ -137,7 +147,6 @@ pub record AppendsTable (b : Beginning) (s : TableSchema) (first after : StoreVi
   pub schema : IsTableOf s b.history
   pub leaves : LeavesFiles (LeavesFolder b result) after
   pub images : Extends (StandsForEither b) first.ops after.ops
-  pub settles : SettlesFolder b result after
   pub says : SaysOf b result
   pub counted : IfErr result (IsCounted first after)
 
@@ -154,12 +163,17 @@ AppendsTables s own before after result =
 abbrev pub StoodSo : Beginning → Past → Type 0
 StoodSo b p = (id : ℕ) → IsKnown p id → id ≤ newest_id b → p.stood id ≡ b.files
 
+-- Private: each such snapshot stood so, and others than its actor who had named none of their files have named none
+pub record IsPastOf (b : Beginning) (p : Past) : Type 0 where
+  pub stood : StoodSo b p
+  pub others : (other : Actor) → other ≢ actor_of b.own → NamesNone other b.history b.files → HasNamedNone other p
+
 -- Private: files stand for what is known in a phase of a committer; and after a step
 abbrev pub KnewFiles : Beginning → Phase → Files → Type 0
-KnewFiles b m f = (p : Past) × Stands f p × StoodSo b p × KnewAlone b m f p
+KnewFiles b m f = (p : Past) × Stands f p × IsPastOf b p × KnewAlone b m f p
 
 abbrev pub KnowsFiles : {X : Type 0} → Beginning → Phase → Result X Refusal → Files → Type 0
-KnowsFiles b m result f = (p : Past) × Stands f p × StoodSo b p × KnowsAlone b m result f p
+KnowsFiles b m result f = (p : Past) × Stands f p × IsPastOf b p × KnowsAlone b m result f p
 
 -- Private: what all calls that are left leave of what is known in a phase
 abbrev pub AppendsAlone : Beginning → Phase → StoreView → StoreView → Result Appended Refusal → Type 0

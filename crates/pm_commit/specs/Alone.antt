@@ -1,5 +1,5 @@
 -- What a committer does to a history where nobody else acts.
-use Rattle.std.specs.Prelude.{◌≡◌, ◌⊎◌, ℕ, ◌+◌, List, [], ◌∷◌, ◌++◌, codes, Option, None, Some, IsSome, Result}
+use Rattle.std.specs.Prelude.{◌≡◌, ◌⊎◌, ℕ, ◌+◌, List, [], ◌∷◌, ◌++◌, codes, true, Option, None, Some, IsSome, Result}
 use Rattle.std.specs.Prelude.{Ok, Err}
 use Rattle.std.specs.FinMap as map
 use Rattle.std.specs.List.{AllByRecursion}
@@ -96,13 +96,14 @@ IsTryAt b own x =
 abbrev pub AloneIn : Beginning → Phase → Files → Type 0
 AloneIn b (phases.Names own s) f = IsUnchanged b f × (own ≡ b.own)
 AloneIn b (phases.View own m) f = IsUnchanged b f × (own ≡ b.own) × ReadsNewest (newest_id b) m
-AloneIn b (phases.Search own q) f = IsUnchanged b f × (own ≡ begun_at b) × SeesNewest b q.found
+AloneIn b (phases.Search own q) f =
+    IsUnchanged b f × (own ≡ begun_at b) × SeesNewest b q.found × (b.own.check ≡ true)
 AloneIn b (phases.Create own making) f =
     IsTryAt b own making.publishing × AreUntouched b (making.next ∷ making.rest) f
 AloneIn b (phases.Publish own x) f = IsTryAt b own x
 AloneIn b (phases.Committed author id) f =
     (author ≡ (begun_at b).author) × (id ≡ newest_id b + 1) × GivesReason b None
-AloneIn b (phases.Already author) f = IsUnchanged b f × (author ≡ (begun_at b).author)
+AloneIn b (phases.Already author) f = IsUnchanged b f × (author ≡ (begun_at b).author) × (b.own.check ≡ true)
 AloneIn b phases.Over f = Unit {0}
 
 -- the history has the entry more once the snapshot is committed, and is the same before that

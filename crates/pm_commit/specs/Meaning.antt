@@ -24,7 +24,7 @@ use Rattle.pm_table_view.specs.declared.phase.Phase as view_phase
 use Rattle.pm_table_view.specs.declared.phase.Phase.TheVariants as readers
 use Rattle.pm_table_view.specs.declared.view.View.{View}
 use Rattle.pm_write.specs.Batch.{IsBatchOf}
-use Rattle.pm_append.specs.Commit.{Attempt, MakesNames}
+use Rattle.pm_append.specs.Commit.{Attempt, HasAppended, MakesNames}
 use Rattle.pm_append.specs.Files.{IsAppendOf}
 use Rattle.pm_append.specs.Refusals.{refusal_of}
 use Rattle.pm_append.specs.declared.newest.Author.{Author}
@@ -130,6 +130,17 @@ abbrev pub HasEntry : Author → List HistoryRow → ℕ → Past → Type 0
 HasEntry author rows id p = (s : TableSchema) × (before after : List Entry)
     × (p.history ≡ table s (before ++ entry_of author rows ∷ after)) × (id ≡ length before + 1)
 
+-- The snapshot with this id is the commit's: the history has its entry, and, as the snapshot stood, it was to its last
+-- field the one that appends these rows to the snapshot before it, which a try had found.
+pub record HasCommitted (author : Author) (rows : List HistoryRow) (id : ℕ) (p : Past) : Type 0 where
+  pub entry : HasEntry author rows id p
+  pub known : IsKnown p id
+  pub found : Found
+  pub is_found : IsFoundIn p found
+  pub is_table : IsTableOf found.schema p.history
+  pub next : id ≡ found.newest.id + 1
+  pub stood : HasAppended (p.stood id) found.schema found.newest author (length rows)
+
 -- a snapshot that was committed bore, as it stood, the author's user and an identifier that isn't smaller
 pub record HasEarlier (author : Author) (p : Past) : Type 0 where
   pub id : ℕ
@@ -147,7 +158,7 @@ KnowsIn rows (phases.Search own q) f p = KnowsOwn own rows q.found.schema p × I
 KnowsIn rows (phases.Create own making) f p = KnowsOwn own rows making.publishing.schema p
     × KnowsTry own rows making.publishing (making.next ∷ making.rest) f p
 KnowsIn rows (phases.Publish own x) f p = KnowsOwn own rows x.schema p × KnowsTry own rows x [] f p
-KnowsIn rows (phases.Committed author id) f p = HasEntry author rows id p
+KnowsIn rows (phases.Committed author id) f p = HasCommitted author rows id p
 KnowsIn rows (phases.Already author) f p = HasEarlier author p
 KnowsIn rows phases.Over f p = Unit {0}
 

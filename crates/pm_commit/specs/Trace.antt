@@ -1,5 +1,5 @@
 -- The own calls of a committer, and what they show.
-use Rattle.std.specs.Prelude.{◌≡◌, ◌⊎◌, ℕ, ◌+◌, List, [], ◌∷◌, ◌++◌, length, true, false, None, Some, IsSome, Ok, Err}
+use Rattle.std.specs.Prelude.{◌≡◌, ◌⊎◌, ℕ, ◌+◌, ◌<◌, List, [], ◌∷◌, ◌++◌, length, true, false, None, Some, IsSome, Ok, Err}
 use Rattle.std.specs.Prelude.{Result, IfErr}
 use Rattle.pm_values.specs.declared.refusal.Refusal.{Refusal}
 use Rattle.pm_values.specs.declared.refusal.Refusal.TheVariants as refusals
@@ -131,13 +131,18 @@ IsLost published.Created = ⊥
 IsLost published.Exists = Unit {0}
 IsLost published.AfterGone = Unit {0}
 
--- The manifests were listed and had no name of the actor's, and then each try was lost: this is the commit after them.
+-- a try was made, and its publish lost
+abbrev pub LosesTry : TableSchema → OwnView → View → Append → List Event → Type 0
+LosesTry s o v made own = (answer : Published) × (tried : List Event) × HasTry s o v made [] tried × IsLost answer
+    × (own ≡ tried ++ publishes (publishing_of s made) answer ∷ [])
+
+-- The manifests were listed and had no name of the actor's, and then each try was lost, and a try is left: this is the
+-- commit after them.
 pub data HaveLost (s : TableSchema) (first : OwnView) : OwnView → List Event → Type 0 where
   has_listed : (names : Names) → FindsUsed first.names names.items None
       → HaveLost s first first (listed_manifests names ∷ [])
-  has_lost : (o : OwnView) (v : View) (made : Append) (answer : Published) (earlier tried : List Event)
-      → HaveLost s first o earlier → HasTry s o v made [] tried → IsLost answer
-      → HaveLost s first (lost_by o v made) (earlier ++ (tried ++ publishes (publishing_of s made) answer ∷ []))
+  has_lost : (o : OwnView) (v : View) (made : Append) (earlier later : List Event) → length o.lost + 1 < tries
+      → HaveLost s first o earlier → LosesTry s o v made later → HaveLost s first (lost_by o v made) (earlier ++ later)
 
 -- and then came these calls of one more try
 abbrev pub AfterLost : TableSchema → OwnView → (OwnView → List Event → Type 0) → List Event → Type 0
@@ -181,9 +186,14 @@ Misreads s path place o own = (v : View) × (id : ℕ) × (left bytes : List ℕ
     × HasSearch s o v (λ o v. Searched o v (id ∷ left)) earlier × (snapshot_in id bytes ≡ Err faults.Bad)
     × (path ≡ snapshot_path id) × (place ≡ 0) × (own ≡ earlier ++ read_file path (Some bytes) ∷ [])
 
+-- the last try was lost, and these ids were with it
+abbrev pub LosesLast : TableSchema → List ℕ → OwnView → List Event → Type 0
+LosesLast s ids o own = (v : View) × (made : Append) × LosesTry s o v made own × (length o.lost + 1 ≡ tries)
+    × (ids ≡ o.lost ++ made.id ∷ [])
+
 -- eleven tries were lost
 abbrev pub IsContended : TableSchema → OwnView → List ℕ → List Event → Type 0
-IsContended s first ids own = (o : OwnView) × HaveLost s first o own × (o.lost ≡ ids) × (length ids ≡ tries)
+IsContended s first ids own = AfterLost s first (LosesLast s ids) own
 
 -- the calls of the try, begun as this, in each of its phases
 abbrev pub DidInTry : TableSchema → Phase → OwnView → List Event → Type 0

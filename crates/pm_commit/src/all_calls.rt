@@ -12,8 +12,10 @@ ghost use Rattle.pm_commit.specs.Trace.{Did};
 ghost use Rattle.pm_commit.specs.declared.phase.Phase.TheVariants as phases;
 
 use crate::committer::{CommitStep, Committer};
-use pm_folder::past_law;
+use pm_contents::same_law;
+use pm_folder::{past_law, unnamed_law};
 use pm_store::FileStore;
+use pm_table_view::entries_law;
 use pm_values::Refusal;
 use std::alloc::Global;
 
@@ -57,6 +59,9 @@ fn make_calls<F: FileStore>(
     ensures later { IsLater (F.seen store.old) (F.seen store.new) }
 {
     past_law();
+    unnamed_law();
+    same_law();
+    entries_law();
     let mut committer = committer;
     loop {
         match committer.step(alloc, store) {

@@ -1,5 +1,5 @@
 -- All calls of a scanner, and what they say where nobody else acts.
-use Rattle.std.proofs.Common.{◌≡◌, ◌≢◌, ◌⊎◌, inl, inr, ℕ, ◌<◌, ◌≤◌, List, [], ◌∷◌, ◌++◌, length, take, Option, None, Some, Result, Ok, Err, Vec, refl, sym, ap, subst, ◌∙◌, arith, append_assoc, append-nil}
+use Rattle.std.proofs.Common.{◌≡◌, ◌≢◌, inl, inr, ℕ, ◌<◌, ◌≤◌, List, [], ◌∷◌, ◌++◌, length, take, Option, None, Some, IsSome, Result, Ok, Err, Vec, refl, sym, ap, subst, ◌∙◌, arith, append_assoc, append-nil}
 use Rattle.std.specs.FinMap as map
 use Rattle.std.specs.Global.{Global}
 use Rattle.pm_base.specs.Faults.{Rose}
@@ -38,7 +38,7 @@ use Rattle.pm_table_view.specs.Trace as reader
 use Rattle.pm_table_view.specs.Trace.{HasView, of_origin, of_snapshot, read_file}
 use Rattle.pm_table_view.specs.declared.phase.Phase.TheVariants as readers
 use Rattle.pm_table_view.specs.declared.view.View.{View}
-use Rattle.pm_scan.specs.AllCalls.{DidScan, Ends, Has, IsCaused, IsThere, PrintsScan, ScansTables, asked_at, id_of, wanted_of}
+use Rattle.pm_scan.specs.AllCalls.{DidScan, Ends, Has, IsCaused, IsThere, PrintsScan, ScansTables, asked_at, id_of, path_of, wanted_of}
 use Rattle.pm_scan.specs.Collected.{Collected, RefusesFile, nothing_of}
 use Rattle.pm_scan.specs.Jobs.{all_jobs, job_of}
 use Rattle.pm_scan.specs.Meaning.{HaveTaken}
@@ -49,11 +49,11 @@ use Rattle.pm_scan.specs.declared.phase.Phase.{Phase}
 use Rattle.pm_scan.specs.declared.phase.Phase.TheVariants as phases
 use Rattle.pm_scan.specs.declared.scanner.ScanStep.{ScanStep}
 use Rattle.pm_scan.specs.declared.scanner.ScanStep.TheVariants as steps
-use Rattle.pm_scan.proofs.KnownLemmas.{has-snapshot, taken-schema}
+use Rattle.pm_scan.proofs.KnownLemmas.{taken-schema}
 use Rattle.pm_scan.proofs.NextLemmas.{FollowsOn, next-group}
 use Rattle.pm_scan.proofs.ScanLemmas.{each-own}
 use Rattle.pm_scan.proofs.TakenLemmas.{Laws, file-refused}
-use Rattle.pm_scan.proofs.ViewCallsLemmas.{FailsLast, ViewLaws, asked_up_to, committed, entries_of, latest_is, live_of_part, part_at, reads_at, still_join, still_more, told_join, view_damaged_at, view_failed, view_gone_at, view_misreads_at, view_shows_still, view_still}
+use Rattle.pm_scan.proofs.ViewCallsLemmas.{FailsLast, ViewLaws, absent_gone, asked_up_to, committed, entries_of, latest_is, live_of_part, part_at, path_is, reads_at, still_join, still_more, told_join, view_damaged_at, view_failed, view_gone_at, view_misreads_at, view_shows_still, view_still}
 use Rattle.pm_scan.proofs.ViewLemmas.{no-groups, scanned-origin, scanned-view}
 
 -- ---- they change nothing, and the first lists the schemas
@@ -143,6 +143,9 @@ pub record AllLaws : Type 0 where
 some_gone : (found : Option (List ℕ)) (bytes : List ℕ) → found ≡ Some bytes → None ≡ found → ⊥
 some_gone found bytes is none = cc
 
+some_there : (f : Files) (path bytes : List ℕ) → map.get f path ≡ Some bytes → IsSome (map.get f path)
+some_there f path bytes is = subst IsSome (sym is) refl
+
 -- a scan lists the snapshots first
 pub begins : (at : Option ℕ) → ListsFirst (wanted_of at)
 begins None = tt
@@ -227,12 +230,12 @@ module _ (laws : AllLaws) (f : Files) (s : TableSchema) (entries : List Entry) (
 
   text_in : (v : View) (c : Collected) (rows : List Stamped) (own : List Event) → (part : HasPart a v c [] own) → HaveTaken f (all_jobs v.schema v.groups.entries) (nothing_of v.schema) c
       → IsMerge (meaning_of v.schema) c.shown rows → HasView a v part.first → AreTold f part.first
-      → IsAsked (wanted_of at) (length entries) v.id × ((v.id ≡ 0) ⊎ HasSnapshotAt f s v.id) × (lines_of rows ≡ scan_text s (rows_up_to entries v.id))
+      → IsAsked (wanted_of at) (length entries) v.id × IsSome (map.get f (path_of s v.id)) × (lines_of rows ≡ scan_text s (rows_up_to entries v.id))
   text_in v c rows own part taken merge (of_origin bytes view reads) told =
       let w = wanted_of at in
-      let asked = (reads_at laws.views f s entries folder w (begins at) 0 (origin_path s) (Some bytes) part.first reads told).0 in (
-        subst (IsAsked w (length entries)) (sym view.id) asked,
-        inl view.id,
+      let origin = reads_at laws.views f s entries folder w (begins at) 0 (origin_path s) (Some bytes) part.first reads told in (
+        subst (IsAsked w (length entries)) (sym view.id) origin.0,
+        subst (λ (id : ℕ). IsSome (map.get f (path_of s id))) (sym view.id) (some_there f (origin_path s) bytes (sym origin.1)),
         scanned-origin laws.scans f s entries v.groups.entries c rows declared view.groups
             (subst (λ (t : TableSchema). HaveTaken f (all_jobs t v.groups.entries) (nothing_of t) c) view.schema taken)
             (subst (λ (t : TableSchema). IsMerge (meaning_of t) c.shown rows) view.schema merge)
@@ -243,7 +246,9 @@ module _ (laws : AllLaws) (f : Files) (s : TableSchema) (entries : List Entry) (
       let p = part_at laws.views f s entries folder w (begins at) x metas [] es part.first read told in
       let is = committed laws.views f s entries folder w (begins at) x p.at in (
         subst (IsAsked w (length entries)) (sym view.id) p.at.asked,
-        inr (subst (HasSnapshotAt f s) (sym view.id) (has-snapshot f s x.id p.at.there.0 p.at.least p.at.there.1)),
+        subst (λ (id : ℕ). IsSome (map.get f (path_of s id))) (sym view.id)
+            (some_there f (path_of s x.id) p.at.there.0
+            (ap (map.get f) (path_is laws.views f s entries folder w (begins at) x.id p.at.least) ∙ p.at.there.1)),
         scanned-view laws.scans laws.views.contents f s entries x.id x p.base p.delta es live v.groups.entries c rows declared is p.at.there
             (entries_of laws.views f s entries folder w (begins at) x metas es p) left view.order view.groups
             (subst (λ (t : TableSchema). HaveTaken f (all_jobs t v.groups.entries) (nothing_of t) c) view.schema taken)
@@ -266,7 +271,7 @@ module _ (laws : AllLaws) (f : Files) (s : TableSchema) (entries : List Entry) (
       let same : v.id ≡ id_of at (length entries) = asked_id at (length entries) v.id text.0 in (
         (
           subst (λ (id : ℕ). id ≤ length entries) same (asked_up_to (wanted_of at) (length entries) v.id text.0),
-          subst (λ (id : ℕ). (id ≡ 0) ⊎ HasSnapshotAt f s id) same text.1,
+          subst (λ (id : ℕ). IsSome (map.get f (path_of s id))) same text.1,
         ),
         text.2 ∙ ap (λ (id : ℕ). scan_text s (rows_up_to entries id)) same,
       )
@@ -293,7 +298,8 @@ module _ (laws : AllLaws) (f : Files) (s : TableSchema) (entries : List Entry) (
       (asked.0, latest_is laws.views f s entries folder (wanted_of at) (begins at) latest names.items newest listing, asked.1)
   view_caused first after (refusals.Expired id) own shows told rose =
       let gone = view_gone_at laws.views f s entries folder (wanted_of at) (begins at) id own shows told in
-      (asked_gone at id gone.0 gone.1, asked_up_to (wanted_of at) (length entries) id gone.0, gone.1)
+      let none = absent_gone laws.views f s entries folder (wanted_of at) (begins at) id gone.1 in
+      (asked_gone at id gone.0 none, asked_up_to (wanted_of at) (length entries) id gone.0, gone.1)
   view_caused first after (refusals.Damaged path place) own shows told rose =
       absurd (view_damaged_at laws.views f s entries folder (wanted_of at) (begins at) path place own shows told)
   view_caused first after (refusals.Unsupported what text) own shows told rose =

@@ -1,5 +1,5 @@
 -- Which refusals a folder that stands can show a scanner, whatever others do between its calls.
-use Rattle.std.proofs.Common.{◌≡◌, ◌⊎◌, inl, inr, ℕ, zero, suc, ◌≤◌, List, [], ◌∷◌, ◌++◌, take, Option, None, Some, refl, sym, ap, ◌∙◌, subst, arith}
+use Rattle.std.proofs.Common.{◌≡◌, inl, inr, ℕ, zero, suc, ◌≤◌, List, [], take, None, Some, sym, ap, ◌∙◌, subst, arith}
 use Rattle.std.specs.FinMap as map
 use Rattle.pm_values.specs.declared.group.Group.{Group}
 use Rattle.pm_values.specs.declared.refusal.Refusal.{Refusal}
@@ -22,9 +22,9 @@ use Rattle.pm_table_view.specs.Meaning as reader_meaning
 use Rattle.pm_table_view.specs.Meaning.{HasGone, MayRefuse}
 use Rattle.pm_table_view.specs.Reader as reader
 use Rattle.pm_table_view.specs.declared.phase.Phase as view_phase
-use Rattle.pm_scan.specs.Collected.{Collected, RefusesFile, nothing_of}
-use Rattle.pm_scan.specs.Jobs.{all_jobs, job_of}
-use Rattle.pm_scan.specs.Meaning.{HaveTaken, IsReadingOf, Knows}
+use Rattle.pm_scan.specs.Collected.{RefusesFile, nothing_of}
+use Rattle.pm_scan.specs.Jobs.{job_of}
+use Rattle.pm_scan.specs.Meaning.{IsReadingOf, Knows}
 use Rattle.pm_scan.specs.Reading.{ReadingView}
 use Rattle.pm_scan.specs.Scanner.{next_call, Shown}
 use Rattle.pm_scan.specs.declared.job.Job.{Job}

@@ -49,6 +49,7 @@ use Rattle.pm_table_view.specs.declared.asked.Wanted.{Wanted}
 use Rattle.pm_table_view.specs.declared.asked.Wanted.TheVariants as wants
 use Rattle.pm_table_view.specs.declared.view.View.{View}
 use Rattle.pm_table_view.proofs.Facts.{Joined, OneList}
+use Rattle.pm_scan.specs.AllCalls.{path_of}
 use Rattle.pm_scan.proofs.ViewLemmas.{OneContents, same-live}
 
 -- ---- they change nothing
@@ -547,22 +548,27 @@ module _ (laws : ViewLaws) (f : Files) (s : TableSchema) (entries : List History
       runs.disjoint o.0 file (two_in o.0 file runs.files ((own.exact o.0).1 ((are.exact o.0).0 both.0)) ((own.exact file).1 ((are.exact file).0 both.1))
       (λ same. are.apart o.0 file o.1 o.2.level (ap (λ (m : FileMeta). m.name) same))) o.2
 
-  absent_gone : (id : ℕ) → 1 ≤ id → None ≡ map.get f (snapshot_path id) → HasSnapshotAt f s id → ⊥
-  absent_gone zero least none there = omega (arith, least)
-  absent_gone (suc id) least none there = some-none (map.get f (snapshot_path (suc id))) there (sym none)
-
-  origin_gone : (o : Option (List ℕ)) → None ≡ map.get f (snapshot_file (origin_name o)) → IsSomeAnd o (λ origin. IsSome (map.get f (snapshot_file origin))) → ⊥
+  origin_gone : (o : Option (List ℕ)) → map.get f (snapshot_file (origin_name o)) ≡ None → IsSomeAnd o (λ origin. IsSome (map.get f (snapshot_file origin))) → ⊥
   origin_gone None none there = there
-  origin_gone (Some name) none there = some-none (map.get f (snapshot_file name)) there (sym none)
+  origin_gone (Some name) none there = some-none (map.get f (snapshot_file name)) there none
 
-  pub view_gone_at : (id : ℕ) (own : List Event) → IsGone a id own → AreTold f own → IsAsked w (length entries) id × (HasSnapshotAt f s id → ⊥)
+  -- a snapshot whose file is absent isn't there
+  pub absent_gone : (id : ℕ) → map.get f (path_of s id) ≡ None → HasSnapshotAt f s id → ⊥
+  absent_gone zero none there = origin_gone s.origin none there
+  absent_gone (suc id) none there = some-none (map.get f (snapshot_path (suc id))) there none
+
+  pub path_is : (id : ℕ) → 1 ≤ id → path_of s id ≡ snapshot_path id
+  path_is zero least = absurd (omega (arith, least))
+  path_is (suc id) least = refl
+
+  pub view_gone_at : (id : ℕ) (own : List Event) → IsGone a id own → AreTold f own → IsAsked w (length entries) id × (map.get f (path_of s id) ≡ None)
   view_gone_at id own (gone_origin first reads) told =
       let at = reads_at 0 (origin_path s) None own reads told in (
         subst (λ (n : ℕ). IsAsked w (length entries) n) (sym first) at.0,
-        subst (λ (n : ℕ). HasSnapshotAt f s n → ⊥) (sym first) (origin_gone s.origin at.1),
+        subst (λ (n : ℕ). map.get f (path_of s n) ≡ None) (sym first) (sym at.1),
       )
   view_gone_at id own (gone_snapshot least reads) told =
-      let at = reads_at id (snapshot_path id) None own reads told in (at.0, absent_gone id least at.1)
+      let at = reads_at id (snapshot_path id) None own reads told in (at.0, ap (map.get f) (path_is id least) ∙ sym at.1)
   view_gone_at id own (gone_again path again) told = absurd (again_at id path None own again told)
 
   damaged_not : (path : List ℕ) (place : ℕ) → refusals.Damaged path place ≢ refusals.Memory

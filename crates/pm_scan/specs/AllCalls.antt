@@ -1,7 +1,8 @@
 -- All calls of a scanner of a table whose schema was read, one after another: what they are, and what they say of a
 -- history that stands at the first call of that reading, where nobody else acts from then on.
-use Rattle.std.specs.Prelude.{◌≡◌, ◌⊎◌, ℕ, ◌<◌, ◌≤◌, List, ◌++◌, length, Option, None, Some, Result, Ok, Err, IfOk}
-use Rattle.std.specs.Prelude.{IfErr, Vec}
+use Rattle.std.specs.Prelude.{◌≡◌, ℕ, zero, suc, ◌<◌, ◌≤◌, List, ◌++◌, length, Option, None, Some, IsSome, Result, Ok, Err}
+use Rattle.std.specs.Prelude.{IfOk, IfErr, Vec}
+use Rattle.std.specs.FinMap as map
 use Rattle.std.specs.Global.{Global}
 use Rattle.pm_base.specs.Faults.{Rose}
 use Rattle.pm_values.specs.declared.record.Stamped.{Stamped}
@@ -16,13 +17,14 @@ use Rattle.pm_history.specs.Merged.{scan_text}
 use Rattle.pm_schema.specs.declared.schema.TableSchema.{TableSchema}
 use Rattle.pm_folder.specs.Folder.{Folder}
 use Rattle.pm_folder.specs.Ledger.{count_of}
-use Rattle.pm_folder.specs.Meaning.{HasSnapshotAt}
+use Rattle.pm_folder.specs.Paths.{snapshot_path}
 use Rattle.pm_shown.specs.Shown.{lines_of}
 use Rattle.pm_view.specs.AllCalls.{HasFiles, Stay}
 use Rattle.pm_view.specs.Reader.{schemas_call}
 use Rattle.pm_view.specs.Trace as schema
 use Rattle.pm_view.specs.declared.phase.Phase.TheVariants as readers
 use Rattle.pm_table_view.specs.Asked.{Asked, asked_of}
+use Rattle.pm_table_view.specs.Reader.{origin_path}
 use Rattle.pm_table_view.specs.declared.asked.Wanted.{Wanted}
 use Rattle.pm_table_view.specs.declared.asked.Wanted.TheVariants as wants
 use Rattle.pm_scan.specs.Trace.{HasScan, Shows}
@@ -60,9 +62,14 @@ abbrev pub id_of : Option ℕ → ℕ → ℕ
 id_of None latest = latest
 id_of (Some id) latest = id
 
--- the snapshot is one of the history's, and is there, or is the origin
+-- the path of a snapshot's file: that of the origin at 0
+abbrev pub path_of : TableSchema → ℕ → List ℕ
+path_of s zero = origin_path s
+path_of s (suc id) = snapshot_path (suc id)
+
+-- the snapshot is one of the history's, and its file is there
 abbrev pub IsThere : Files → TableSchema → History → ℕ → Type 0
-IsThere f s h id = (id ≤ count_of h) × ((id ≡ 0) ⊎ HasSnapshotAt f s id)
+IsThere f s h id = (id ≤ count_of h) × IsSome (map.get f (path_of s id))
 
 -- the rows print the scan of the history's table at the snapshot that is asked for
 abbrev pub PrintsScan : History → Option ℕ → List Stamped → Type 0
@@ -76,7 +83,7 @@ IsCaused f s h at first after refusals.Memory = Unit {0}
 IsCaused f s h at first after (refusals.StoreFault path) = Rose first.faults after.faults
 IsCaused f s h at first after (refusals.NoSnapshot id latest) = (at ≡ Some id) × (latest ≡ count_of h) × (latest < id)
 IsCaused f s h at first after (refusals.Expired id) =
-    (at ≡ Some id) × (id ≤ count_of h) × (HasSnapshotAt f s id → ⊥)
+    (at ≡ Some id) × (id ≤ count_of h) × (map.get f (path_of s id) ≡ None)
 IsCaused f s h at first after other = ⊥
 
 -- What a scan is where the files stand for a history at the first call, and nobody else acts from then on: the files

@@ -9,7 +9,7 @@ loop-id-init g c =
     let seen = g.F.FileStore.seen in
     record {
       trace = λ s own first begun. begun;
-      alone = followed-none c.past_law.ensures c.args.committer (seen c.args.store.now);
+      alone = followed-none (record { past = c.past_law.ensures; here = c.unnamed_law.ensures.here; others = c.unnamed_law.ensures.others }) c.args.committer (seen c.args.store.now);
       left = search rules;
       later = search rules;
     }
@@ -20,7 +20,7 @@ loop-id-preserved g c =
     record {
       trace = λ s own first begun. went_further s own c.loop-id.committer c.step.new.self first (seen c.loop-id.store) (seen c.step.new.store)
           steps.More (c.loop-id.invariant.trace s own first begun) c.in-Ok-More.ensures.acts c.step.ensures.later;
-      alone = followed-on c.past_law.ensures c.args.committer c.loop-id.committer c.step.new.self (seen c.args.store.now) (seen c.loop-id.store)
+      alone = followed-on (record { past = c.past_law.ensures; here = c.unnamed_law.ensures.here; others = c.unnamed_law.ensures.others }) c.args.committer c.loop-id.committer c.step.new.self (seen c.args.store.now) (seen c.loop-id.store)
           (seen c.step.new.store) (Ok steps.More) c.loop-id.invariant.later c.step.ensures.later c.loop-id.invariant.alone c.in-Ok-More.ensures.alone;
       left = rw c.in-Ok-More.field-0-is at c.in-Ok-More.ensures.reaches;
       later = search rules;
@@ -40,8 +40,8 @@ returns-in-Ok-Committed-clause-alone g c = λ b alone here.
     let seen = g.F.FileStore.seen in
     let id = c.in-Ok-Committed.id in
     let reaches : Reaches (steps.Committed id) c.step.new.self = rw c.in-Ok-Committed.field-0-is at c.in-Ok-Committed.ensures.reaches in
-    left-committed b (seen c.args.store.now) (seen c.step.new.store) c.step.new.self reaches.0 id reaches.1
-    (followed-on c.past_law.ensures c.args.committer c.loop-id.committer c.step.new.self (seen c.args.store.now) (seen c.loop-id.store) (seen c.step.new.store)
+    left-committed b (seen c.args.store.now) (seen c.step.new.store) c.same_law.ensures c.entries_law.ensures c.step.new.self reaches.0 id reaches.1
+    (followed-on (record { past = c.past_law.ensures; here = c.unnamed_law.ensures.here; others = c.unnamed_law.ensures.others }) c.args.committer c.loop-id.committer c.step.new.self (seen c.args.store.now) (seen c.loop-id.store) (seen c.step.new.store)
     (Ok (steps.Committed id)) c.loop-id.invariant.later c.step.ensures.later c.loop-id.invariant.alone c.in-Ok-Committed.ensures.alone
     b alone here)
 
@@ -58,7 +58,7 @@ returns-in-Ok-Already-clause-alone g c = λ b alone here.
     let seen = g.F.FileStore.seen in
     let reaches : Reaches steps.Already c.step.new.self = rw c.in-Ok-Already.field-0-is at c.in-Ok-Already.ensures.reaches in
     left-already b (seen c.args.store.now) (seen c.step.new.store) c.step.new.self reaches.0 reaches.1
-    (followed-on c.past_law.ensures c.args.committer c.loop-id.committer c.step.new.self (seen c.args.store.now) (seen c.loop-id.store) (seen c.step.new.store)
+    (followed-on (record { past = c.past_law.ensures; here = c.unnamed_law.ensures.here; others = c.unnamed_law.ensures.others }) c.args.committer c.loop-id.committer c.step.new.self (seen c.args.store.now) (seen c.loop-id.store) (seen c.step.new.store)
     (Ok steps.Already) c.loop-id.invariant.later c.step.ensures.later c.loop-id.invariant.alone c.in-Ok-Already.ensures.alone
     b alone here)
 
@@ -72,6 +72,6 @@ pub returns-in-Err-clause-alone : goal.returns-in-Err-clause-alone
 returns-in-Err-clause-alone g c = λ b alone here.
     let seen = g.F.FileStore.seen in
     left-refused b (seen c.args.store.now) (seen c.step.new.store) c.step.new.self c.in-Err.refusal
-    (followed-on c.past_law.ensures c.args.committer c.loop-id.committer c.step.new.self (seen c.args.store.now) (seen c.loop-id.store) (seen c.step.new.store)
+    (followed-on (record { past = c.past_law.ensures; here = c.unnamed_law.ensures.here; others = c.unnamed_law.ensures.others }) c.args.committer c.loop-id.committer c.step.new.self (seen c.args.store.now) (seen c.loop-id.store) (seen c.step.new.store)
     (Err c.in-Err.refusal) c.loop-id.invariant.later c.step.ensures.later c.loop-id.invariant.alone c.in-Err.ensures.alone
     b alone here)

@@ -1,0 +1,139 @@
+-- The snapshot that a committer has committed where nobody else acts, as the files have it.
+use Rattle.std.proofs.Common.{◌≡◌, inl, inr, ℕ, zero, suc, ◌+◌, ◌≤◌, Bool, true, false, List, [], ◌∷◌, ◌++◌, length, length-append, Contains, IsSome}
+use Rattle.std.proofs.Common.{refl, sym, ap, ◌∙◌, subst, arith}
+use Rattle.std.specs.FinMap as map
+use Rattle.std.proofs.lemmas.List.Elements.{Contains-append_left, Contains-append_right}
+use Rattle.pm_store.specs.Files.{Files}
+use Rattle.pm_history.specs.History.{Entry, History, IsTableOf, no_table, table}
+use Rattle.pm_schema.specs.declared.schema.TableSchema.{TableSchema}
+use Rattle.pm_snapshot.specs.declared.snapshot.Snapshot.{Snapshot}
+use Rattle.pm_manifest.specs.declared.entry.Entry as files
+use Rattle.pm_manifest.specs.declared.entry.ManifestMeta.{ManifestMeta}
+use Rattle.pm_contents.specs.Lists.{HaveEntries, IsManifest, manifest_path}
+use Rattle.pm_contents.specs.Named as named
+use Rattle.pm_contents.specs.Named.{Contents, HasContents, IsNamed}
+use Rattle.pm_folder.specs.Commits.{HasCommit}
+use Rattle.pm_folder.specs.Ledger.{Past, Stands, count_of}
+use Rattle.pm_folder.specs.Meaning.{HasSnapshotAt}
+use Rattle.pm_folder.specs.Paths.{snapshot_path}
+use Rattle.pm_folder.proofs.LedgerFacts.{at-table}
+use Rattle.pm_append.specs.Commit.{AreBaseIf, HasAppended}
+use Rattle.pm_append.specs.Files.{merges}
+use Rattle.pm_append.specs.Snapshot.{new_snapshot}
+use Rattle.pm_append.specs.declared.newest.Author.{Author}
+use Rattle.pm_append.specs.declared.newest.Newest.{Newest}
+use Rattle.pm_commit.specs.AllCalls.{BearsCommit, StoodSo}
+use Rattle.pm_commit.specs.Alone.{Beginning, SeesNewest, begun_at, newest_id, own_entry, with_entry}
+use Rattle.pm_commit.specs.Meaning.{HasCommitted}
+use Rattle.pm_commit.proofs.AdvanceLemmas.{SameContents}
+use Rattle.pm_commit.proofs.FoundLemmas.{LiveEntries, found-stood}
+use Rattle.pm_commit.proofs.NewestLemmas.{newest-at}
+
+-- ---- files that have the same contents at the paths that a snapshot names
+
+-- manifests have the same entries
+manifest-held : (f g : Files) (s : TableSchema) (meta : ManifestMeta) (es : List files.Entry)
+    → map.get g (manifest_path meta.name) ≡ map.get f (manifest_path meta.name) → IsManifest f s meta.name es → IsManifest g s meta.name es
+manifest-held f g s meta es held is = record { bytes = is.bytes; there = held ∙ is.there; read = is.read }
+
+entries-held : (f g : Files) (s : TableSchema) (metas : List ManifestMeta) (es : List files.Entry)
+    → ((meta : ManifestMeta) → Contains metas meta → map.get g (manifest_path meta.name) ≡ map.get f (manifest_path meta.name))
+    → HaveEntries f s metas es → HaveEntries g s metas es
+entries-held f g s [] es held none = none
+entries-held f g s (meta ∷ metas) es held (own, later, split, is, have) = (
+  own,
+  later,
+  split,
+  manifest-held f g s meta own (held meta (0, omega arith, refl)) is,
+  entries-held f g s metas later (λ m h. held m (Contains-append_right (meta ∷ []) metas m h)) have,
+)
+
+base-held : (f g : Files) (s : TableSchema) (newest : Newest) (b : Bool) (metas : List ManifestMeta)
+    → ((meta : ManifestMeta) → Contains metas meta → map.get g (manifest_path meta.name) ≡ map.get f (manifest_path meta.name))
+    → AreBaseIf b f s newest metas → AreBaseIf b g s newest metas
+base-held f g s newest false metas held is = is
+base-held f g s newest true [] held none = none
+base-held f g s newest true (meta ∷ []) held (some, is) = (some, manifest-held f g s meta newest.live.items (held meta (0, omega arith, refl)) is)
+base-held f g s newest true (meta ∷ other ∷ metas) held is = absurd is
+
+-- so the snapshot is there in both
+pub appended-held : SameContents → (f g : Files) (s : TableSchema) (newest : Newest) (author : Author) (count : ℕ)
+    → (has : HasAppended f s newest author count)
+    → ((path : List ℕ) → (path ≡ snapshot_path (newest.id + 1)) → map.get g path ≡ map.get f path)
+    → ((path : List ℕ) → IsNamed s (new_snapshot s newest author has.added has.lists) has.contents path → map.get g path ≡ map.get f path)
+    → HasAppended g s newest author count
+appended-held same f g s newest author count has own held =
+    let x : Snapshot = new_snapshot s newest author has.added has.lists in
+    let c : Contents = has.contents in
+    let at : (meta : ManifestMeta) → Contains (c.base ++ c.delta) meta → map.get g (manifest_path meta.name) ≡ map.get f (manifest_path meta.name) =
+    λ meta h. held (manifest_path meta.name) (named.manifest meta (inl h)) in
+    record {
+      added = has.added;
+      lists = has.lists;
+      contents = c;
+      commit = (
+        (has.commit.0.0, own (snapshot_path (newest.id + 1)) refl ∙ has.commit.0.1, has.commit.0.2),
+        same f g s x c held has.commit.1,
+      );
+      base = base-held f g s newest (merges s newest.manifests.items) c.base (λ meta h. at meta (Contains-append_left c.base c.delta meta h)) has.base;
+      delta = entries-held f g s c.delta has.added (λ meta h. at meta (Contains-append_right c.base c.delta meta h)) has.delta;
+      adds = has.adds;
+      few = has.few;
+    }
+
+-- ---- at the end of a commit
+
+-- of a history with an entry more
+table-before : (s : TableSchema) (e : Entry) (h : History) → IsTableOf s (with_entry e h) → IsTableOf s h
+table-before s e no_table is = is
+table-before s e (table t es) is = is
+
+count-more : (s : TableSchema) (e : Entry) (h : History) → IsTableOf s h → count_of (with_entry e h) ≡ count_of h + 1
+count-more s e no_table is = absurd is
+count-more s e (table t es) is = length-append es (e ∷ [])
+
+snapshot-there : (f : Files) (s : TableSchema) (id : ℕ) → 1 ≤ id → HasSnapshotAt f s id → IsSome (map.get f (snapshot_path id))
+snapshot-there f s zero least there = absurd (omega (arith, least))
+snapshot-there f s (suc k) least there = there
+
+module _ (same : SameContents) (live_law : LiveEntries) (b : Beginning) (f : Files) (p : Past) (stands : Stands f p) (so : StoodSo b p)
+    (now : p.history ≡ with_entry (own_entry b) b.history) (id : ℕ) (next : id ≡ newest_id b + 1) (has : HasCommitted (begun_at b).author b.rows id p) where
+  abbrev s : TableSchema
+  s = has.found.schema
+
+  abbrev newest : Newest
+  newest = has.found.newest
+
+  newest-is : newest.id ≡ newest_id b
+  newest-is = let one = has.next in let two = next in omega (arith, one, two)
+
+  was-table : IsTableOf s b.history
+  was-table = table-before s (own_entry b) b.history (subst (IsTableOf s) now has.is_table)
+
+  -- the newest snapshot was found as it was at the beginning
+  sees : SeesNewest b has.found
+  sees = record {
+    is_table = was-table;
+    id = newest-is;
+    as_is = found-stood live_law f b.files p has.found stands has.is_found (λ id known is. so id known (let last = newest-is in omega (arith, is, last)));
+  }
+
+  -- the snapshot after it is there
+  here : HasSnapshotAt f s id
+  here = subst (HasSnapshotAt f s) (ap count_of now ∙ count-more s (own_entry b) b.history was-table ∙ sym next) (newest-at f p s stands has.is_table)
+
+  abbrev x : Snapshot
+  x = new_snapshot s newest (begun_at b).author has.stood.added has.stood.lists
+
+  stood-commit : HasCommit (p.stood id) s id x has.stood.contents
+  stood-commit = subst (λ (n : ℕ). HasCommit (p.stood id) s n x has.stood.contents) (sym has.next) has.stood.commit
+
+  pub bears-commit : BearsCommit b f
+  bears-commit =
+      let kept = ((at-table f p s stands has.is_table).3.kept id has.known).there here in (
+        has.found,
+        sees,
+        appended-held same (p.stood id) f s newest (begun_at b).author (length b.rows) has.stood
+            (λ path is. kept path (inl (is ∙ ap snapshot_path (sym has.next))))
+            (λ path names. kept path (inr (inr (x, has.stood.contents, stood-commit, names)))),
+      )
