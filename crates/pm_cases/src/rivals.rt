@@ -49,9 +49,9 @@ fn is_due(when: &str, call: u64, is_publish: bool) -> bool {
 }
 
 /// What another does: it takes a file away, puts one in place, or runs a command, which writes a row of key 1.
-fn carry_out(
+fn carry_out<F: FileStore>(
     alloc: Global,
-    store: &mut MemStore,
+    store: &mut F,
     session: u8,
     what: &str,
 ) -> Result<(), AllocError> {
@@ -74,7 +74,7 @@ fn carry_out(
 }
 
 /// Takes a file away where it is there.
-fn take_file(alloc: Global, store: &mut MemStore, path: &str) -> Result<(), AllocError> {
+fn take_file<F: FileStore>(alloc: Global, store: &mut F, path: &str) -> Result<(), AllocError> {
     match store.remove(alloc, path) {
         Ok(_) => Ok(()),
         Err(_) => Err(AllocError),
@@ -164,7 +164,11 @@ pub fn answer(alloc: Global, arguments: &str) -> Result<Option<String>, AllocErr
 }
 
 /// Makes the table, and commits a row of key 1 so many times.
-fn make_table(alloc: Global, store: &mut MemStore, commits: u8) -> Result<(), AllocError> {
+pub(crate) fn make_table<F: FileStore>(
+    alloc: Global,
+    store: &mut F,
+    commits: u8,
+) -> Result<(), AllocError> {
     let draft = Vec::from_slice(alloc, DRAFT.as_bytes())?;
     run_command(alloc, store, 1, "create", draft)?;
     for session in 0..commits {
@@ -174,7 +178,10 @@ fn make_table(alloc: Global, store: &mut MemStore, commits: u8) -> Result<(), Al
 }
 
 /// The rows that a store's table shows, its snapshots, and the names of its data files.
-fn print_table(alloc: Global, store: &mut MemStore) -> Result<String, AllocError> {
+pub(crate) fn print_table<F: FileStore>(
+    alloc: Global,
+    store: &mut F,
+) -> Result<String, AllocError> {
     let rows = run_command(alloc, store, 1, "scan", Vec::new(alloc))?;
     let snapshots = run_command(alloc, store, 1, "snapshots", Vec::new(alloc))?;
     let mut text = format!(in alloc; "{rows} | {snapshots} |")?;
