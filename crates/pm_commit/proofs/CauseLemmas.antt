@@ -143,14 +143,14 @@ make-caused own found f p refusal is_found (inr reason) =
     denied-by own f p refusal (is-reason found.newest own.author own.batch refusal reason) (found, own.author.base, is_found, inr refl, reason)
 
 -- and of one that sets it
-begin-caused : (own : OwnView) (n : ℕ) (found : Found) (f : Files) (p : Past) (refusal : Refusal) → IsFoundIn p found → Makes (begun n own) found (Err refusal)
-    → MayRefuseOwn own f p refusal
-begin-caused own n found f p refusal is_found = at own.lost refl
+begin-caused : (own : OwnView) (n : ℕ) (found : Found) (f : Files) (p : Past) (refusal : Refusal) → n ≡ found.newest.id → IsFoundIn p found
+    → Makes (begun n own) found (Err refusal) → MayRefuseOwn own f p refusal
+begin-caused own n found f p refusal newest is_found = at own.lost refl
   where
     at : (lost : List ℕ) → own.lost ≡ lost → Makes (begun_after lost n own) found (Err refusal) → MayRefuseOwn own f p refusal
     at [] none (inl memory) = forgotten own f p refusal memory
     at [] none (inr reason) =
-        denied-by own f p refusal (is-reason found.newest (begun_after [] n own).author own.batch refusal reason) (found, n, is_found, inl none, reason)
+        denied-by own f p refusal (is-reason found.newest (begun_after [] n own).author own.batch refusal reason) (found, n, is_found, inl (none, newest), reason)
     at (id ∷ lost) some made = make-caused own found f p refusal is_found made
 
 -- ---- a reader's refusals
@@ -209,7 +209,7 @@ module _ (laws : Laws) (causes : ReaderCauses) (rows : List HistoryRow) (call : 
   ready-caused own s m (readers.Again a id path) reads reading origin at told goes on = absurd (err-ok refusal _ on)
   ready-caused own s m (readers.Ready v) reads reading origin at told goes on =
       tries-any (MayRefuseOwn own f p refusal) (begun v.id own) v refusal
-      (begin-caused own v.id (found_in v) f p refusal (view-found s m v reads reading origin at told goes)) on
+      (begin-caused own v.id (found_in v) f p refusal refl (view-found s m v reads reading origin at told goes)) on
   ready-caused own s m readers.Over reads reading origin at told goes on = absurd (err-ok refusal _ on)
 
 lost-caused : (own : OwnView) (s : TableSchema) (id : ℕ) (f : Files) (p : Past) (refusal : Refusal) → Loses own s id (Err refusal) → MayRefuseOwn own f p refusal

@@ -40,7 +40,7 @@ use Rattle.pm_commit.specs.Committer.{After, AfterReader, Goes, Hears, Loses, Ma
 use Rattle.pm_commit.specs.Marks.{FindsUsed}
 use Rattle.pm_commit.specs.Own.{OwnView, begun, begun_after, tries, with_lost}
 use Rattle.pm_commit.specs.Search.{SearchingView, older_ids, seen_in, seen_of}
-use Rattle.pm_commit.specs.Trace.{AfterLost, Did, DidInTry, DidSoFar, FindsReason, HasSearch, HasTry, HaveCreated, HaveLost, HavePassed, IsLost, IsNoCommit, LosesTry, MayCommit, Meets, Searched, Shows, ShowsOwn, Views, after_answer, at_newest, at_older, before_call, creates, has_listed, has_lost, is_absent, is_below, is_none, listed_manifests, lost_by, named_by, not_asked, publishes}
+use Rattle.pm_commit.specs.Trace.{AfterLost, Did, DidInTry, DidSoFar, FindsReason, HasSearch, HasTry, HaveCreated, HaveLost, HavePassed, IsLost, MayTakeMemory, LosesTry, MayCommit, Meets, Searched, Shows, ShowsOwn, Views, after_answer, at_newest, at_older, before_call, creates, has_listed, has_lost, is_absent, is_below, is_none, listed_manifests, lost_by, named_by, not_asked, publishes}
 use Rattle.pm_commit.specs.declared.search.Seen.{Seen}
 use Rattle.pm_commit.specs.declared.search.Seen.TheVariants as seen
 use Rattle.pm_commit.specs.declared.found.Found.{Found}
@@ -91,16 +91,16 @@ call-same one other e = cc
 pub some-at : (next : Option Call) (call : Call) (P : Call → Type 0) → next ≡ Some call → IfSome next P → P call
 some-at next call P is all = subst (λ (o : Option Call). IfSome o P) is all
 
--- a reader's answer publishes nothing
-listed-no : (folder : List ℕ) (answer : Answer) → MayAnswer (calls.List folder) answer → IsNoCommit answer
+-- a reader's answer tells of no create, and publishes nothing
+listed-no : (folder : List ℕ) (answer : Answer) → MayAnswer (calls.List folder) answer → MayTakeMemory answer
 listed-no folder (answers.Listed names) may = tt
 listed-no folder answer may = absurd may
 
-read-no : (path : List ℕ) (answer : Answer) → MayAnswer (calls.Read path) answer → IsNoCommit answer
+read-no : (path : List ℕ) (answer : Answer) → MayAnswer (calls.Read path) answer → MayTakeMemory answer
 read-no path (answers.Found found) may = tt
 read-no path answer may = absurd may
 
-reader-no : (m : view_phase.Phase) (answer : Answer) → IfSome (reader.next_call m) (λ call. MayAnswer call answer → IsNoCommit answer)
+reader-no : (m : view_phase.Phase) (answer : Answer) → IfSome (reader.next_call m) (λ call. MayAnswer call answer → MayTakeMemory answer)
 reader-no (readers.List a) answer = listed-no snapshot_folder answer
 reader-no (readers.Origin q) answer = read-no (origin_path q.asked.schema) answer
 reader-no (readers.Snapshot q id) answer = read-no (snapshot_path id) answer
@@ -427,7 +427,7 @@ module _ (s : TableSchema) where
 
     -- memory ran out after an answer
     forgot : (m : Phase) (call : Call) (answer : Answer) (refusal : Refusal) (own : List Event) → DidSoFar s first m own → next_call m ≡ Some call → MayAnswer call answer
-        → IsNoCommit answer → refusal ≡ refusals.Memory → Shows s first refusal (own ++ answered call answer ∷ [])
+        → MayTakeMemory answer → refusal ≡ refusals.Memory → Shows s first refusal (own ++ answered call answer ∷ [])
     forgot m call answer refusal own did is may none memory =
         as-shown refusal refusals.Memory _ memory (after_answer m call answer own did is may none refl)
 
@@ -439,7 +439,7 @@ module _ (s : TableSchema) where
 
     -- no files are made after an event: memory ran out, or there is a reason
     refused-make : (m : Phase) (call : Call) (answer : Answer) (p : OwnView) (v : View) (refusal : Refusal) (earlier later own : List Event) → DidSoFar s first m own
-        → next_call m ≡ Some call → MayAnswer call answer → IsNoCommit answer → HaveLost s first p earlier → own ≡ earlier ++ later
+        → next_call m ≡ Some call → MayAnswer call answer → MayTakeMemory answer → HaveLost s first p earlier → own ≡ earlier ++ later
         → HasSearch s p v MayCommit (later ++ answered call answer ∷ []) → Makes (begun v.id p) (found_in v) (Err refusal)
         → Shows s first refusal (own ++ answered call answer ∷ [])
     refused-make m call answer p v refusal earlier later own did at may none lost is searched (inl memory) = forgot m call answer refusal own did at may none memory
@@ -454,7 +454,7 @@ module _ (s : TableSchema) where
         )
 
     refused-hear : (m : Phase) (call : Call) (answer : Answer) (p : OwnView) (v : View) (left : List ℕ) (said : Seen) (refusal : Refusal) (earlier later own : List Event)
-        → DidSoFar s first m own → next_call m ≡ Some call → MayAnswer call answer → IsNoCommit answer → HaveLost s first p earlier → own ≡ earlier ++ later
+        → DidSoFar s first m own → next_call m ≡ Some call → MayAnswer call answer → MayTakeMemory answer → HaveLost s first p earlier → own ≡ earlier ++ later
         → (said ≡ seen.Other → HasSearch s p v (λ o v. Searched o v left) (later ++ answered call answer ∷ []))
         → HasSearch s p v (λ o v. Meets o v said) (later ++ answered call answer ∷ [])
         → Hears (begun v.id p) (found_in v) left said (Err refusal) → Shows s first refusal (own ++ answered call answer ∷ [])
@@ -469,7 +469,7 @@ module _ (s : TableSchema) where
 
     -- the view is ready, and no files are made for it
     refused-ready : (m : Phase) (call : Call) (answer : Answer) (p : OwnView) (v : View) (refusal : Refusal) (earlier later own : List Event) → DidSoFar s first m own
-        → next_call m ≡ Some call → MayAnswer call answer → IsNoCommit answer → HaveLost s first p earlier → own ≡ earlier ++ later
+        → next_call m ≡ Some call → MayAnswer call answer → MayTakeMemory answer → HaveLost s first p earlier → own ≡ earlier ++ later
         → Views s v (later ++ answered call answer ∷ []) → Tries (begun v.id p) v (Err refusal) → Shows s first refusal (own ++ answered call answer ∷ [])
     refused-ready m call answer p v refusal earlier later own did at may none lost is viewed = by_test (begun v.id p).check refl
       where
@@ -481,7 +481,7 @@ module _ (s : TableSchema) where
             refused-make m call answer p v refusal earlier later own did at may none lost is (search-none p v MayCommit _ viewed (not_asked unasked refl)) on
 
     refused-reader : (m : Phase) (call : Call) (answer : Answer) (p o : OwnView) (to : view_phase.Phase) (refusal : Refusal) (earlier later own : List Event)
-        → DidSoFar s first m own → next_call m ≡ Some call → MayAnswer call answer → IsNoCommit answer → HaveLost s first p earlier → own ≡ earlier ++ later → o ≡ p
+        → DidSoFar s first m own → next_call m ≡ Some call → MayAnswer call answer → MayTakeMemory answer → HaveLost s first p earlier → own ≡ earlier ++ later → o ≡ p
         → reader_trace.Did (newest_of s) to (later ++ answered call answer ∷ []) → AfterReader o to (Err refusal) → Shows s first refusal (own ++ answered call answer ∷ [])
     refused-reader m call answer p o (readers.List a) refusal earlier later own did at may none lost is same did_to on = absurd (err-ok refusal _ on)
     refused-reader m call answer p o (readers.Origin q) refusal earlier later own did at may none lost is same did_to on = absurd (err-ok refusal _ on)
@@ -495,7 +495,7 @@ module _ (s : TableSchema) where
     refused-reader m call answer p o readers.Over refusal earlier later own did at may none lost is same did_to on = absurd (err-ok refusal _ on)
 
     -- eleven tries were lost
-    refused-lost : (o : OwnView) (x : Publishing) (answer : Published) (refusal : Refusal) (own : List Event) → IsLost answer → IsNoCommit (answers.Published answer)
+    refused-lost : (o : OwnView) (x : Publishing) (answer : Published) (refusal : Refusal) (own : List Event) → IsLost answer → MayTakeMemory (answers.Published answer)
         → AfterLost s first (DidInTry s (phases.Publish o x)) own → Loses o x.schema x.id (Err refusal) → Shows s first refusal (own ++ publishes x answer ∷ [])
     refused-lost o x answer refusal own is_lost none did (inl memory) =
         forgot (phases.Publish o x) (publish_call x) (answers.Published answer) refusal own did refl tt none memory

@@ -90,8 +90,8 @@ pub record StandsFreely (b : Beginning) (h : History) (f : Files) : Type 0 where
 abbrev pub StandsForEither : Beginning → Files → Type 0
 StandsForEither b f = StandsFreely b b.history f ⊎ StandsFreely b (with_entry (own_entry b) b.history) f
 
--- the snapshot after the newest is there, and to its last field the one that appends the rows to what the newest one was
--- at the beginning
+-- the snapshot after the newest is there, and to its last field but the names of its lists the one that appends the rows
+-- to what the newest one was at the beginning
 abbrev pub BearsCommit : Beginning → Files → Type 0
 BearsCommit b f = (found : Found) × SeesNewest b found
     × HasAppended f found.schema found.newest (begun_at b).author (length b.rows)

@@ -116,7 +116,7 @@ AloneAt b m f now = (now ≡ history_in b m) × AloneIn b m f
 
 -- ---- its refusals
 
--- a file of the actor's name was there at the beginning: one that is listed, or one that it was to create
+-- a file was there at the beginning: a listed one that has the actor's mark, or one that the actor named
 abbrev pub WasUsed : Beginning → List ℕ → Type 0
 WasUsed b path =
     ((names : List (List ℕ)) × IsListing (codes "manifest") names b.files × FindsUsed b.own.names names (Some path))

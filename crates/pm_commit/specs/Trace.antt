@@ -214,16 +214,17 @@ abbrev pub DidSoFar : TableSchema → OwnView → Phase → List Event → Type 
 DidSoFar s first (phases.Names o t) own = (o ≡ first) × (t ≡ s) × (own ≡ [])
 DidSoFar s first m own = AfterLost s first (DidInTry s m) own
 
--- an answer by which the snapshot isn't published
-abbrev pub IsNoCommit : Answer → Type 0
-IsNoCommit (answers.Published published.Created) = ⊥
-IsNoCommit answer = Unit {0}
+-- what follows the answer may take memory: not where it tells of a create, nor where the snapshot is published
+abbrev pub MayTakeMemory : Answer → Type 0
+MayTakeMemory (answers.Made made) = ⊥
+MayTakeMemory (answers.Published published.Created) = ⊥
+MayTakeMemory answer = Unit {0}
 
--- memory ran out before a call, or after an answer by which the snapshot isn't published
+-- memory ran out before a call, or after an answer that it is taken for
 pub data MayEnd (s : TableSchema) (first : OwnView) (own : List Event) : Type 0 where
   before_call : (m : Phase) → IsSome (next_call m) → DidSoFar s first m own → MayEnd s first own
   after_answer : (m : Phase) (call : Call) (answer : Answer) (earlier : List Event) → DidSoFar s first m earlier
-      → next_call m ≡ Some call → MayAnswer call answer → IsNoCommit answer
+      → next_call m ≡ Some call → MayAnswer call answer → MayTakeMemory answer
       → own ≡ earlier ++ answered call answer ∷ [] → MayEnd s first own
 
 -- the last call failed, and names its path

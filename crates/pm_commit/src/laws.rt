@@ -70,8 +70,9 @@ pub fn known_law()
 }
 
 /// Whatever others do between its calls, a folder that stands shows a committer no refusal but that memory ran out;
-/// that the newest snapshot has gone; that a file of its actor's name was there before; that its base was fenced or a
-/// limit would be exceeded; or that eleven tries were lost. So E10 and E11 never come of such a folder.
+/// that the newest snapshot has gone; that a name that is listed has its actor's mark, or a file was there; that the
+/// newest snapshot has fenced its base or leaves it no room; or that eleven tries were lost. So E10 and E11 never come
+/// of such a folder.
 pub fn causes_law()
     ensures { (rows : List HistoryRow) (m new : Phase) (call : Call) (answer : Answer) (refusal : Refusal) (f : Files)
         (p : Past) → Stands f p → Knows rows m f p → next_call m ≡ Some call → Answers call answer f
