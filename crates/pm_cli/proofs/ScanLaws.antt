@@ -22,7 +22,7 @@ use Rattle.pm_scan.specs.Trace.{at_part}
 use Rattle.pm_cli.specs.Outside.{Outside, Prints}
 use Rattle.pm_cli.specs.Snapshots as snapshots
 use Rattle.pm_cli.specs.Scan.{DidScan, GoesOnAs, text_of, Scans, MayRefuse, IsThere, PrintsTable, PrintsPrefix, AnswersHistory, ScansTables, MakesRows, Keeps, KeepsHistories, IsScanned}
-use Rattle.pm_cli.proofs.SnapshotLaws.{trace_weaker, files_of, leaves_of, rests_of, images_of, caused, judged_caused}
+use Rattle.pm_cli.proofs.SnapshotLaws.{trace_weaker, files_of, leaves_of, rests_of, images_rest, caused, judged_caused}
 
 -- ---- its calls
 
@@ -56,7 +56,7 @@ keeps : (h : History) (at : Option ℕ) (f : Files) (first after : StoreView) (m
 keeps h at f first after made has folder stay makes = record {
   makes = makes;
   rests = rests_of h f first after has stay.here folder;
-  images = images_of (λ f. Folder f h) f first.ops after.ops stay.images folder;
+  images = images_rest h f first after has folder stay.images;
 }
 
 -- ---- what a history may be refused for

@@ -28,7 +28,7 @@ use Rattle.pm_snapshots.specs.Reading.{IsReading, reading_of}
 use Rattle.pm_snapshots.specs.Trace.{HasListed, HasRead, at_read}
 use Rattle.pm_snapshots.specs.declared.line.SnapshotLine.{SnapshotLine}
 use Rattle.pm_snapshots.specs.declared.phase.Phase.{Phase}
-use Rattle.pm_cli.specs.Outside.{HaveSame, Outside, Prints, Rests}
+use Rattle.pm_cli.specs.Outside.{HaveSame, ImagesRest, Outside, Prints, Rests}
 use Rattle.pm_cli.specs.Snapshots.{DidSnapshots, text_of, ListsSnapshots, MayRefuse, AnswersHistory, ListsTables, made_of, MakesLines, Keeps, KeepsHistories, IsListed}
 
 -- ---- its calls
@@ -104,13 +104,20 @@ rests_of h f first after was is folder = record {
   same = leaves_of (λ g. LeavesFiles (HaveSame g) after) f first was (leaves_of (HaveSame f) f after is (λ path. refl));
 }
 
+-- and so are they in each image of a crash
+pub images_rest : (h : History) (f : Files) (first after : StoreView) → HasFiles f first → Folder f h → Extends (λ image. image ≡ f) first.ops after.ops
+    → ImagesRest h first after
+images_rest h f first after has folder images =
+    leaves_of (λ f. Extends (λ g. Folder g h × HaveSame f g) first.ops after.ops) f first has
+    (images_of (λ g. Folder g h × HaveSame f g) f first.ops after.ops images (folder, λ path. refl))
+
 -- and go on to stand for a history
 keeps : (h : History) (f : Files) (first after : StoreView) (made : Result (List SnapshotLine) Refusal) → HasFiles f first → Folder f h → Stay f first after
     → MakesLines h first after made → Keeps h first after made
 keeps h f first after made has folder stay makes = record {
   makes = makes;
   rests = rests_of h f first after has stay.here folder;
-  images = images_of (λ f. Folder f h) f first.ops after.ops stay.images folder;
+  images = images_rest h f first after has folder stay.images;
 }
 
 -- ---- what a history may be refused for

@@ -8,6 +8,7 @@ use Rattle.pm_values.specs.declared.refusal.Refusal.TheVariants as refusals
 use Rattle.pm_io.specs.Sink.{SinkView, SinkFailed, TookPrefix}
 use Rattle.pm_io.specs.Source.{SourceView, SourceFailed}
 use Rattle.pm_store.specs.Files.{Files}
+use Rattle.pm_store.specs.Images.{Extends}
 use Rattle.pm_store.specs.Store.{StoreView, IsLater}
 use Rattle.pm_history.specs.History.{History}
 use Rattle.pm_folder.specs.Changes.{Actor}
@@ -91,3 +92,7 @@ HaveSame f g = (path : List ℕ) → map.get g path ≡ map.get f path
 pub record Rests (h : History) (first after : StoreView) : Type 0 where
   pub folder : LeavesFiles (λ f. Folder f h) after
   pub same : LeavesFiles (λ f. LeavesFiles (HaveSame f) after) first
+
+-- and so is it with each image of a crash
+abbrev pub ImagesRest : History → StoreView → StoreView → Type 0
+ImagesRest h first after = LeavesFiles (λ f. Extends (λ g. Folder g h × HaveSame f g) first.ops after.ops) first

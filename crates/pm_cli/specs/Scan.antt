@@ -8,7 +8,6 @@ use Rattle.pm_values.specs.declared.refusal.Refusal.{Refusal}
 use Rattle.pm_values.specs.declared.refusal.Refusal.TheVariants as refusals
 use Rattle.pm_io.specs.Sink.{SinkView, SinkFailed, TookPrefix}
 use Rattle.pm_store.specs.Answers.{IsFirst}
-use Rattle.pm_store.specs.Images.{Extends}
 use Rattle.pm_store.specs.Store.{StoreView, IsAlone}
 use Rattle.pm_machine.specs.Trace.{Event, HasTrace}
 use Rattle.pm_history.specs.History.{History, IsTableOf, no_table, table, rows_up_to}
@@ -23,7 +22,7 @@ use Rattle.pm_draft.specs.Built.{IsBuilt}
 use Rattle.pm_shown.specs.Shown.{lines_of}
 use Rattle.pm_scan.specs.AllCalls as scanner
 use Rattle.pm_scan.specs.AllCalls.{id_of, path_of, PrintsScan}
-use Rattle.pm_cli.specs.Outside.{Outside, Prints, Rests}
+use Rattle.pm_cli.specs.Outside.{ImagesRest, Outside, Prints, Rests}
 use Rattle.pm_cli.specs.Snapshots as snapshots
 use Rattle.pm_cli.specs.Snapshots.{EndsAtSchema}
 
@@ -93,7 +92,7 @@ pub record ScansTable (h : History) (at : Option ℕ) (first : StoreView) (befor
     (answer : Option Refusal) : Type 0 where
   pub answers : AnswersHistory h at first before after answer
   pub rests : Rests h first after.store
-  pub images : Extends (λ f. Folder f h) first.ops after.store.ops
+  pub images : ImagesRest h first after.store
 
 -- what it promises of histories, from its first call of the store on
 abbrev pub ScansTables : Option ℕ → Outside → Outside → Option Refusal → Type 0
@@ -114,7 +113,7 @@ pub record Keeps (h : History) (at : Option ℕ) (first after : StoreView) (made
     : Type 0 where
   pub makes : MakesRows h at first after made
   pub rests : Rests h first after
-  pub images : Extends (λ f. Folder f h) first.ops after.ops
+  pub images : ImagesRest h first after
 
 -- Private: and to histories
 abbrev pub KeepsHistories : Option ℕ → StoreView → StoreView → Result (List Stamped) Refusal → Type 0

@@ -7,7 +7,6 @@ use Rattle.pm_values.specs.declared.refusal.Refusal.{Refusal}
 use Rattle.pm_values.specs.declared.refusal.Refusal.TheVariants as refusals
 use Rattle.pm_io.specs.Sink.{SinkView, SinkFailed, TookPrefix}
 use Rattle.pm_store.specs.Answers.{IsFirst}
-use Rattle.pm_store.specs.Images.{Extends}
 use Rattle.pm_store.specs.Store.{StoreView, IsAlone}
 use Rattle.pm_machine.specs.Trace.{Event, HasTrace}
 use Rattle.pm_history.specs.History.{History, IsTableOf, no_table}
@@ -23,7 +22,7 @@ use Rattle.pm_snapshots.specs.Lister.{lines_of}
 use Rattle.pm_snapshots.specs.Trace.{Has, HasListed, Shows}
 use Rattle.pm_snapshots.specs.declared.line.SnapshotLine.{SnapshotLine}
 use Rattle.pm_snapshots.specs.declared.phase.Phase.{Phase}
-use Rattle.pm_cli.specs.Outside.{Outside, Prints, Rests}
+use Rattle.pm_cli.specs.Outside.{ImagesRest, Outside, Prints, Rests}
 
 -- they end with the schema, which isn't built, or memory ran out for saying so
 abbrev pub EndsAtSchema : Refusal → List Event → Type 0
@@ -80,7 +79,7 @@ pub record ListsTable (h : History) (first : StoreView) (before after : Outside)
     : Type 0 where
   pub answers : AnswersHistory h first before after answer
   pub rests : Rests h first after.store
-  pub images : Extends (λ f. Folder f h) first.ops after.store.ops
+  pub images : ImagesRest h first after.store
 
 -- what it promises of histories, from its first call of the store on
 abbrev pub ListsTables : Outside → Outside → Option Refusal → Type 0
@@ -105,7 +104,7 @@ MakesLines h first after (Err e) = MayRefuse h first after e
 pub record Keeps (h : History) (first after : StoreView) (made : Result (List SnapshotLine) Refusal) : Type 0 where
   pub makes : MakesLines h first after made
   pub rests : Rests h first after
-  pub images : Extends (λ f. Folder f h) first.ops after.ops
+  pub images : ImagesRest h first after
 
 -- Private: and to histories
 abbrev pub KeepsHistories : StoreView → StoreView → Result (List SnapshotLine) Refusal → Type 0

@@ -204,8 +204,8 @@ pub record IsCommittedTo (f : Files) (b : Beginning) : Type 0 where
   pub bears : BearsCommit b f
 
 -- What became of the lines at the end of the work, and what stands: no row is taken, and nothing changed; a user is
--- asked for who had committed before, as a snapshot that was there at first says, and nothing changed; or the rows are
--- at the end of the history, and the id is the next one, whose snapshot appends them to the newest.
+-- asked for of whom a snapshot that was there at first bears an identifier that isn't smaller, and nothing changed; or
+-- the rows are at the end of the history, and the id is the next one, whose snapshot appends them to the newest.
 abbrev pub Becomes : Start → Writer → Lines → History → StoreView → StoreView → Written → Type 0
 Becomes start w lines h first after written.Nothing = TakesRows h lines [] × Rests h first after
 Becomes start w lines h first after written.Already =

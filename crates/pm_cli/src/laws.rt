@@ -18,9 +18,10 @@ use pm_contents::same_law;
 
 /// A store that has what a crash within `create` left stands for the history, or for the draft's table where there was
 /// none; one that has what a crash within `write` left, for the history, or for it with the rows of the input, as once
-/// the next snapshot is there; and one that has what a crash within `scan` or `snapshots` left, for the history. Another
-/// actor that might have started before `write` may start there, and where no file has another content. So each promise
-/// of `run` holds again of the next command.
+/// the next snapshot is there; and one that has what a crash within `scan` or `snapshots` left, for the history, and no
+/// path has another content. Another actor that might have started before `write` may start there, and wherever no path
+/// has another content. So what `run` promises of a history holds again of the next `write`, `scan` or `snapshots`, and
+/// after a crash within one of these.
 pub fn next_command_law()
     ensures create { (start : Start) (bytes : List ℕ) (h : History) (old new : List Op) (i : ℕ)
         (image : Files) → Extends (StandsForEither start bytes h) (Some old) (Some new) → length old ≤ i
@@ -35,10 +36,10 @@ pub fn next_command_law()
         → CrashImage new i image → (ops : List Op) (store : StoreView) → store.ops ≡ Some ops → files_after ops ≡ image
         → LeavesFiles (MayStartAfter other start w lines h) store }
     ensures same { (me : Actor) (h : History) (f g : Files) → MayStart me h f → HaveSame f g → Folder g h → MayStart me h g }
-    ensures snapshots { (h : History) (old new : List Op) (i : ℕ) (image : Files)
-        → Extends (λ f. Folder f h) (Some old) (Some new) → length old ≤ i → CrashImage new i image
+    ensures rests { (h : History) (f : Files) (old new : List Op) (i : ℕ) (image : Files)
+        → Extends (λ g. Folder g h × HaveSame f g) (Some old) (Some new) → length old ≤ i → CrashImage new i image
         → (ops : List Op) (store : StoreView) → store.ops ≡ Some ops → files_after ops ≡ image
-        → LeavesFiles (λ f. Folder f h) store }
+        → LeavesFiles (λ g. Folder g h × HaveSame f g) store }
 {
     same_law();
 }

@@ -1,5 +1,6 @@
 use Rattle.pm_folder.specs.Folder.{Folder}
 use Rattle.pm_cli.specs.Create.{StandsForEither}
+use Rattle.pm_cli.specs.Outside.{HaveSame}
 use Rattle.pm_cli.specs.Write.{IsImage, MayStartAfter}
 use Rattle.pm_cli.proofs.Uncalled.{next_stands}
 use Rattle.pm_cli.proofs.WriteLaws.{same_starts}
@@ -11,8 +12,8 @@ returns-clause-create c start bytes h = next_stands (StandsForEither start bytes
 pub returns-clause-write : goal.returns-clause-write
 returns-clause-write c start w lines h = next_stands (IsImage start w lines h)
 
-pub returns-clause-snapshots : goal.returns-clause-snapshots
-returns-clause-snapshots c h = next_stands (λ f. Folder f h)
+pub returns-clause-rests : goal.returns-clause-rests
+returns-clause-rests c h f = next_stands (λ g. Folder g h × HaveSame f g)
 
 pub returns-clause-next : goal.returns-clause-next
 returns-clause-next c other start w lines h = next_stands (MayStartAfter other start w lines h)
