@@ -15,7 +15,7 @@
 //! | `batch` | columns, a text | how many rows it has, and each as it is printed; or what refuses its first bad line |
 //! | `store` | `memory`, `fails` and a plan, or `folder` and a name; calls | their answers |
 //! | `rivals` | how many commits a table has, words, an input, what others do before calls | see `rivals.rt` |
-//! | `writers` | a name, how many commits the table has, two row lines | two writers of that folder in turn, see `writers.rt` |
+//! | `writers` | a name, the table's commits, two row lines | two writers of that folder in turn, see `writers.rt` |
 //! | `folder` | a name, a draft | `create` through one store of that folder and through another, then `snapshots` |
 //! | `scanned` | a name; paths, each with a file's bytes | `scan` of that folder, in which these files were created |
 //! | `refusal` | its kind and its parts | its status and its line |

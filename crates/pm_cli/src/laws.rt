@@ -31,11 +31,12 @@ pub fn next_command_law()
         (image : Files) → Extends (IsImage start w lines h) (Some old) (Some new) → length old ≤ i
         → CrashImage new i image → (ops : List Op) (store : StoreView) → store.ops ≡ Some ops → files_after ops ≡ image
         → LeavesFiles (IsImage start w lines h) store }
-    ensures next { (other : Actor) (start : Start) (w : Writer) (lines : Lines) (h : History) (old new : List Op) (i : ℕ)
-        (image : Files) → Extends (MayStartAfter other start w lines h) (Some old) (Some new) → length old ≤ i
+    ensures next { (other : Actor) (start : Start) (w : Writer) (lines : Lines) (h : History) (old new : List Op)
+        (i : ℕ) (image : Files) → Extends (MayStartAfter other start w lines h) (Some old) (Some new) → length old ≤ i
         → CrashImage new i image → (ops : List Op) (store : StoreView) → store.ops ≡ Some ops → files_after ops ≡ image
         → LeavesFiles (MayStartAfter other start w lines h) store }
-    ensures same { (me : Actor) (h : History) (f g : Files) → MayStart me h f → HaveSame f g → Folder g h → MayStart me h g }
+    ensures same { (me : Actor) (h : History) (f g : Files) → MayStart me h f → HaveSame f g → Folder g h
+        → MayStart me h g }
     ensures rests { (h : History) (f : Files) (old new : List Op) (i : ℕ) (image : Files)
         → Extends (λ g. Folder g h × HaveSame f g) (Some old) (Some new) → length old ≤ i → CrashImage new i image
         → (ops : List Op) (store : StoreView) → store.ops ≡ Some ops → files_after ops ≡ image

@@ -90,16 +90,16 @@ pub record StandsFreely (b : Beginning) (h : History) (f : Files) : Type 0 where
 abbrev pub StandsForEither : Beginning → Files → Type 0
 StandsForEither b f = StandsFreely b b.history f ⊎ StandsFreely b (with_entry (own_entry b) b.history) f
 
--- the snapshot after the newest is there, and to its last field but the names of its lists the one that appends the rows
--- to what the newest one was at the beginning
+-- the snapshot after the newest is there, and to its last field but the names of its lists it is the one that appends
+-- the rows to what the newest one was at the beginning
 abbrev pub BearsCommit : Beginning → Files → Type 0
 BearsCommit b f = (found : Found) × SeesNewest b found
     × HasAppended f found.schema found.newest (begun_at b).author (length b.rows)
 
 -- What an answer leaves of the files: they stand for the history with the entry, once that is committed, and have its
--- snapshot; and they stand for the history else, but that after a fault of the store in the publish of the next snapshot
--- the entry is there or not. Where it was committed before, or there is a reason against it, no path has another
--- content.
+-- snapshot; and they stand for the history else, but that after a fault of the store in the publish of the next
+-- snapshot the entry is there or not. Where it was committed before, or there is a reason against it, no path has
+-- another content.
 abbrev pub LeavesFolder : Beginning → Result Appended Refusal → Files → Type 0
 LeavesFolder b (Ok (appends.Committed id)) f = Folder f (with_entry (own_entry b) b.history) × BearsCommit b f
 LeavesFolder b (Ok appends.Already) f = Folder f b.history × IsUnchanged b f

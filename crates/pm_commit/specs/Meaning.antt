@@ -184,7 +184,7 @@ IsMet own f path =
     ((names : List (List ℕ)) × IsListing (codes "manifest") names f × FindsUsed own.names names (Some path))
     ⊎ ((bytes : List ℕ) × (map.get f path ≡ Some bytes))
 
--- a snapshot as it stood is a reason against the commit, whose base is its id in the first try, and stays the same later
+-- a snapshot as it stood is a reason against the commit, whose base is its id in the first try, and stays that later
 abbrev pub IsDenied : OwnView → Past → Refusal → Type 0
 IsDenied own p refusal = (found : Found) × (base : ℕ) × IsFoundIn p found
     × (((own.lost ≡ []) × (base ≡ found.newest.id)) ⊎ (base ≡ own.author.base))
