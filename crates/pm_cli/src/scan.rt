@@ -31,7 +31,7 @@ pub(crate) fn run_scan<W: Sink, F: FileStore>(
     ensures store_later { IsLater (F.seen store.old) (F.seen store.new) }
 {
     let rows = scan_built(alloc, snapshot, store)?;
-    let text = print_rows(alloc, rows.as_slice())?;
+    let text = print_rows(alloc, rows)?;
     print(out, &text, None)
 }
 

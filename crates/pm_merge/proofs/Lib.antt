@@ -1,2 +1,3 @@
 mod MergeLemmas
+mod MergingLemmas
 mod PairLemmas

@@ -1,12 +1,9 @@
 -- What two runs that became one have of each key.
-use Rattle.std.proofs.Common.{◌≡◌, ◌≢◌, ℕ, Option, Some, None, append_assoc, ◌<◌, length, drop, List, [], ◌∷◌, ◌++◌, map, max, true, false, cond, refl, sym, ap, subst, ◌∙◌, arith, append-nil}
+use Rattle.std.proofs.Common.{◌≡◌, ◌≢◌, ℕ, List, [], ◌∷◌, ◌++◌, map, max, true, false, cond, refl, sym, ap, subst, ◌∙◌, arith, append-nil}
 use Rattle.std.specs.List.{AllByRecursion}
-use Rattle.std.specs.Prelude.{option_to_list}
-use Rattle.pm_base.proofs.Laws.{AllByRecursion-push}
 use Rattle.std.specs.List.Sorted.{IsStrictlySortedBy}
-use Rattle.std.specs.Ordering.{eq_by_cmp, is_eq, ordering_reverse}
-use Rattle.std.specs.declared.cmp.Ordering.{Ordering}
-use Rattle.std.specs.declared.cmp.Ordering.TheVariants.{Less, Equal, Greater}
+use Rattle.std.specs.Ordering.{eq_by_cmp}
+use Rattle.std.specs.declared.cmp.Ordering.TheVariants.{Less}
 use Rattle.pm_values.specs.Order.{Values, key_cmp, key_total}
 use Rattle.pm_values.specs.declared.record.Stamped.{Stamped}
 use Rattle.pm_history.specs.Merge.{HistoryRow}
@@ -14,8 +11,7 @@ use Rattle.pm_engine.specs.Covers.{Holds, IsRising, Run, of_key}
 use Rattle.pm_engine.specs.Meaning.{Meaning}
 use Rattle.pm_engine.specs.Reducing.{IsCombined, greatest_number}
 use Rattle.pm_engine.proofs.Rising.{apart, tied}
-use Rattle.pm_merge.specs.Pairs.{ComparesFirst, HasNumber, IsBefore, Merges, MovesBelow, MovesFirst, Puts, TakesOlder, TakesUpTo, ends, older_first, newer_first, both_first}
-use Rattle.pm_merge.specs.declared.pairs.Pair.{Pair}
+use Rattle.pm_merge.specs.Pairs.{HasNumber, IsBefore, Merges, ends, older_first, newer_first, both_first}
 
 -- ---- rising keys
 
@@ -192,102 +188,3 @@ at-kept m old new own [] newer s at one two of_older of_newer e = subst (λ o. A
 at-kept m old new own (x ∷ []) [] s at one two of_older of_newer e = subst (λ n. AtKey m (s ∷ []) n own) (no_row new two) (subst (λ o. AtKey m o new own) (of_older e) at)
 at-kept m old new own (x ∷ []) (y ∷ ys) s at one two of_older of_newer e = cc
 at-kept m old new own (x ∷ z ∷ zs) newer s at one two of_older of_newer e = cc
-
--- ---- the single steps
-
--- older rows that are below a newer one go first
-pub merges-below : (m : Meaning) (below older newer rest : Run) (row : Stamped) → AllByRecursion (λ (s : Stamped). key_cmp s.key row.key ≡ Less) below
-    → Merges m older (row ∷ newer) rest → Merges m (below ++ older) (row ∷ newer) (below ++ rest)
-merges-below m [] older newer rest row all made = made
-merges-below m (s ∷ ss) older newer rest row all made = older_first s row (ss ++ older) newer (ss ++ rest) all.0 (merges-below m ss older newer rest row all.1 made)
-
--- what is made so far goes on to the whole run
-abbrev pub GoesOn : Meaning → Run → Run → Pair → Type 0
-GoesOn m older done pair = (newer rest : Run) → Merges m pair.older.items newer rest → Merges m older (done ++ newer) (pair.run.items ++ rest)
-
-goes_on-all : (m : Meaning) (older done : Run) (pair : Pair) → GoesOn m older done pair → Merges m older done (pair.run.items ++ pair.older.items)
-goes_on-all m older done pair so_far = subst (λ xs. Merges m older xs (pair.run.items ++ pair.older.items)) (append-nil done) (so_far [] pair.older.items (ends pair.older.items))
-
-pub goes_on-whole : (m : Meaning) (older newer done left run : Run) (pair : Pair) → GoesOn m older done pair → done ≡ newer → left ≡ pair.older.items → run ≡ pair.run.items ++ left → Merges m older newer run
-goes_on-whole m older newer done left run pair so_far all is made =
-    subst (Merges m older newer) (ap (λ xs. pair.run.items ++ xs) (sym is) ∙ sym made)
-    (subst (λ xs. Merges m older xs (pair.run.items ++ pair.older.items)) all (goes_on-all m older done pair so_far))
-
--- the first of the older rows is below the key, and so one more goes into the run
-pub moves-first : (key : Values) (start old new : Pair) (order : Ordering) → MovesBelow key start old → ComparesFirst key old.older.items order → order ≡ Less → MovesFirst old.older.items old.run.items new
-    → MovesBelow key start new
-moves-first key start old new order so_far compares less moves = by_first old.older.items refl compares moves
-  where
-    by_first : (older : Run) → old.older.items ≡ older → ComparesFirst key older order → MovesFirst older old.run.items new → MovesBelow key start new
-    by_first [] is compares moves = let no : Less ≡ Greater = sym less ∙ compares in cc
-    by_first (s ∷ ss) is compares moves = record {
-      below = so_far.below ++ s ∷ [];
-      taken = so_far.taken ∙ ap (λ xs. so_far.below ++ xs) (is ∙ ap (λ xs. s ∷ xs) (sym moves.0)) ∙ sym (append_assoc so_far.below (s ∷ []) new.older.items);
-      put = moves.1 ∙ ap (λ xs. xs ++ s ∷ []) so_far.put ∙ append_assoc start.run.items so_far.below (s ∷ []);
-      are_below = AllByRecursion-push (λ (t : Stamped). key_cmp t.key key ≡ Less) so_far.below s so_far.are_below (sym compares ∙ less);
-    }
-
--- and fewer are left
-pub moves-fewer : (key : Values) (old new : Pair) (order : Ordering) → ComparesFirst key old.older.items order → order ≡ Less → MovesFirst old.older.items old.run.items new
-    → length new.older.items < length old.older.items
-moves-fewer key old new order compares less moves = by_first old.older.items refl compares moves
-  where
-    by_first : (older : Run) → old.older.items ≡ older → ComparesFirst key older order → MovesFirst older old.run.items new → length new.older.items < length old.older.items
-    by_first [] is compares moves = let no : Less ≡ Greater = sym less ∙ compares in cc
-    by_first (s ∷ ss) is compares moves = omega (arith, ap length is, ap length moves.0)
-
--- the row that has the key ends it
-longer : (s : Stamped) (ss : Run) → s ∷ ss ≡ ss → ⊥
-longer s ss e = omega (arith, ap length e)
-
-pub takes-equal : (key : Values) (start old new : Pair) (order : Ordering) (r : Option Stamped) → MovesBelow key start old → ComparesFirst key old.older.items order → order ≡ Equal
-    → old.older.items ≡ option_to_list r ++ new.older.items → new.older.items ≡ drop 1 old.older.items → new.run.items ≡ old.run.items → TakesUpTo key start new r
-takes-equal key start old new order (Some s) so_far compares equal parts rest same = record {
-  middle = old;
-  moves = so_far;
-  takes = (parts, sym (subst (λ xs. ComparesFirst key xs order) parts compares) ∙ equal);
-  same = same;
-}
-takes-equal key start old new order None so_far compares equal parts rest same = absurd (by_first old.older.items compares (parts ∙ rest))
-  where
-    by_first : (older : Run) → ComparesFirst key older order → older ≡ drop 1 older → ⊥
-    by_first [] compares e = let no : Equal ≡ Greater = sym equal ∙ compares in cc
-    by_first (s ∷ ss) compares e = longer s ss e
-
--- or the first one above it
-pub takes-greater : (key : Values) (start old : Pair) (order : Ordering) → MovesBelow key start old → ComparesFirst key old.older.items order → (order ≡ Less → ⊥) → (order ≡ Equal → ⊥)
-    → TakesUpTo key start old None
-takes-greater key start old order so_far compares less equal = record { middle = old; moves = so_far; takes = (refl, before old.older.items compares); same = refl }
-  where
-    greater : (o : Ordering) → order ≡ o → order ≡ Greater
-    greater Less e = absurd (less e)
-    greater Equal e = absurd (equal e)
-    greater Greater e = e
-
-    before : (older : Run) → ComparesFirst key older order → IsBefore key older
-    before [] compares = tt
-    before (s ∷ ss) compares = key_total.antisymm key s.key ∙ ap ordering_reverse (sym compares ∙ greater order refl)
-
--- what was moved and one row more
-puts-from : (m : Meaning) (row s : Stamped) (old mid new : Pair) → MovesBelow row.key old mid → new.run.items ≡ mid.run.items ++ s ∷ []
-    → ((newer rest : Run) → Merges m new.older.items newer rest → Merges m mid.older.items (row ∷ newer) (s ∷ rest)) → Puts m row old new
-puts-from m row s old mid new moves pushed step = record {
-  added = moves.below ++ s ∷ [];
-  put = pushed ∙ ap (λ xs. xs ++ s ∷ []) moves.put ∙ append_assoc old.run.items moves.below (s ∷ []);
-  merges = λ newer rest made.
-      subst (λ xs. Merges m xs (row ∷ newer) ((moves.below ++ s ∷ []) ++ rest)) (sym moves.taken)
-      (subst (Merges m (moves.below ++ mid.older.items) (row ∷ newer)) (sym (append_assoc moves.below (s ∷ []) rest))
-      (merges-below m moves.below mid.older.items newer (s ∷ rest) row moves.are_below (step newer rest made)));
-}
-
-pub puts-one : (m : Meaning) (row s : Stamped) (older : Option Stamped) (old taken new : Pair) → TakesUpTo row.key old taken older → TakesOlder m older row s
-    → new.older.items ≡ taken.older.items → new.run.items ≡ taken.run.items ++ s ∷ [] → Puts m row old new
-puts-one m row s (Some a) old taken new up_to both same pushed =
-    puts-from m row s old up_to.middle new up_to.moves (pushed ∙ ap (λ xs. xs ++ s ∷ []) up_to.same)
-    (λ newer rest made. subst (λ xs. Merges m xs (row ∷ newer) (s ∷ rest)) (ap (λ xs. a ∷ xs) same ∙ sym up_to.takes.0)
-    (both_first a row s new.older.items newer rest (tied a.key row.key (ap is_eq up_to.takes.1)) both made))
-puts-one m row s None old taken new up_to is same pushed =
-    puts-from m row s old up_to.middle new up_to.moves (pushed ∙ ap (λ xs. xs ++ s ∷ []) up_to.same)
-    (λ newer rest made. subst (λ xs. Merges m xs (row ∷ newer) (s ∷ rest)) (same ∙ sym up_to.takes.0)
-    (subst (λ (x : Stamped). Merges m new.older.items (row ∷ newer) (x ∷ rest)) (sym is)
-    (newer_first row new.older.items newer rest (subst (IsBefore row.key) (sym same) up_to.takes.1) made)))

@@ -1,8 +1,7 @@
 -- Private: the single steps of merging.
-use Rattle.std.specs.Prelude.{◌≡◌, ◌≢◌, List, [], ◌∷◌, ◌++◌, ⊤, true, Option, Some, None}
-use Rattle.std.specs.List.{AllByRecursion, AllZip, flat_map}
-use Rattle.std.specs.declared.cmp.Ordering.{Ordering}
-use Rattle.std.specs.declared.cmp.Ordering.TheVariants.{Less, Equal, Greater}
+use Rattle.std.specs.Prelude.{◌≡◌, ◌≢◌, List, [], ◌∷◌, ⊤, true}
+use Rattle.std.specs.List.{AllZip, flat_map}
+use Rattle.std.specs.declared.cmp.Ordering.TheVariants.{Less}
 use Rattle.pm_values.specs.Order.{Values, key_cmp}
 use Rattle.pm_values.specs.declared.record.Stamped.{Stamped}
 use Rattle.pm_history.specs.Merge.{HistoryRow}
@@ -10,7 +9,6 @@ use Rattle.pm_engine.specs.Covers.{Holds, IsRising, Run, of_key, row_of}
 use Rattle.pm_engine.specs.Meaning.{HasNoEffect, IsTaken, Meaning}
 use Rattle.pm_engine.specs.Reducing.{IsCombined, greatest_number}
 use Rattle.pm_merge.specs.Merge.{all_rows}
-use Rattle.pm_merge.specs.declared.pairs.Pair.{Pair}
 
 -- Private: the key is below the first one of the run, if there is one
 abbrev pub IsBefore : Values → Run → Type 0
@@ -50,44 +48,3 @@ pub record Joins (m : Meaning) (runs : List Run) (run : Run) : Type 0 where
 abbrev pub DropsNoEffect : Meaning → Stamped → Type 0
 DropsNoEffect m s =
     m.drops (row_of s) ≡ true → (key : Values) → IsTaken m key (row_of s) → HasNoEffect m key (row_of s ∷ [])
-
--- Private: the order in which the first row and the key stand; where there is no row, it is as if one were above
-abbrev pub ComparesFirst : Values → Run → Ordering → Type 0
-ComparesFirst key [] order = order ≡ Greater
-ComparesFirst key (s ∷ ss) order = order ≡ key_cmp s.key key
-
--- Private: the first of the older rows, if one is left, went into the run
-abbrev pub MovesFirst : Run → Run → Pair → Type 0
-MovesFirst [] run new = (new.older.items ≡ []) × (new.run.items ≡ run)
-MovesFirst (s ∷ ss) run new = (new.older.items ≡ ss) × (new.run.items ≡ run ++ s ∷ [])
-
--- Private: the row is as it was, or was combined with the older one of its key
-abbrev pub TakesOlder : Meaning → Option Stamped → Stamped → Stamped → Type 0
-TakesOlder m None row s = s ≡ row
-TakesOlder m (Some older) row s = IsCombined m older row s
-
--- Private: older rows that are below the key went into the run
-pub record MovesBelow (key : Values) (old new : Pair) : Type 0 where
-  pub below : Run
-  pub taken : old.older.items ≡ below ++ new.older.items
-  pub put : new.run.items ≡ old.run.items ++ below
-  pub are_below : AllByRecursion (λ (s : Stamped). key_cmp s.key key ≡ Less) below
-
--- Private: of rows none of which is below the key, the one that has it was taken, if there is one
-abbrev pub TakesTied : Values → Run → Option Stamped → Run → Type 0
-TakesTied key older (Some s) left = (older ≡ s ∷ left) × (key_cmp s.key key ≡ Equal)
-TakesTied key older None left = (older ≡ left) × IsBefore key left
-
--- Private: older rows that are below the key went into the run, and then the one that has it was taken
-pub record TakesUpTo (key : Values) (old new : Pair) (tied : Option Stamped) : Type 0 where
-  pub middle : Pair
-  pub moves : MovesBelow key old middle
-  pub takes : TakesTied key middle.older.items tied new.older.items
-  pub same : new.run.items ≡ middle.run.items
-
--- Private: a newer row and the older ones up to its key went into the run
-pub record Puts (m : Meaning) (row : Stamped) (old new : Pair) : Type 0 where
-  pub added : Run
-  pub put : new.run.items ≡ old.run.items ++ added
-  pub merges : (newer rest : Run) → Merges m new.older.items newer rest
-      → Merges m old.older.items (row ∷ newer) (added ++ rest)

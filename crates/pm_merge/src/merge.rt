@@ -1,16 +1,14 @@
 //! Several runs made into one.
 
 ghost use Rattle.std.specs.Prelude.{◌≡◌, ◌≤◌, ◌∷◌, [], List, All, IfOk, true, false};
-ghost use Rattle.std.specs.Vec.{vec_len};
 ghost use Rattle.pm_history.specs.Merge.{HistoryRow};
 ghost use Rattle.pm_engine.specs.Covers.{Run, IsRising, Covers, CoversAll};
-ghost use Rattle.pm_engine.specs.Meaning.{Meaning};
 ghost use Rattle.pm_engine.specs.Reducing.{HasGreatestNumbers};
 ghost use Rattle.pm_merge.specs.Merge.{runs_of, all_rows, IsMerge, Replaces, ReplacesOldest, without_droppable};
 ghost use Rattle.pm_merge.specs.Pairs.{Joins};
 
 use crate::drops::without_droppable;
-use crate::pairs::merge_two;
+use crate::merging::{joined, most_rows};
 use pm_engine::MergeEngine;
 use pm_values::Stamped;
 use std::alloc::{AllocError, Global};
@@ -42,7 +40,7 @@ pub fn merge_runs<E: MergeEngine>(
         × IsMerge (E.meaning engine.now) (runs_of older_first.items) merged
         × (run.items ≡ without_droppable (E.meaning engine.now) merged)) }
 {
-    let merged = joined(alloc, engine, older_first)?;
+    let merged = merged(alloc, engine, older_first)?;
     if drop {
         without_droppable(alloc, engine, merged)
     } else {
@@ -50,8 +48,8 @@ pub fn merge_runs<E: MergeEngine>(
     }
 }
 
-/// One run of several, by halves.
-fn joined<E: MergeEngine>(
+/// One run of several, in time and memory about linear in their rows.
+fn merged<E: MergeEngine>(
     alloc: Global,
     engine: &E,
     older_first: Vec<Vec<Stamped>>,
@@ -59,26 +57,10 @@ fn joined<E: MergeEngine>(
     requires { All IsRising (runs_of older_first.items) }
     ensures { IfOk result (λ run. Joins (E.meaning engine.now) (runs_of older_first.items) run.items) }
 {
-    let mut runs = older_first;
-    let half = runs.len() / 2;
-    if half == 0 {
-        return Ok(only(alloc, runs));
+    let mut run = Vec::with_capacity(alloc, most_rows(&older_first))?;
+    let mut merging = joined(alloc, engine, older_first)?;
+    while let Some(row) = merging.next(alloc, engine)? {
+        run.push(row)?;
     }
-    let newer = runs.split_off(half)?;
-    let older = joined(alloc, engine, runs)?;
-    let newer = joined(alloc, engine, newer)?;
-    merge_two(alloc, engine, older, newer)
-}
-
-/// The only run, or one without a row.
-fn only(alloc: Global, runs: Vec<Vec<Stamped>>) -> Vec<Stamped>
-    requires one { vec_len runs ≤ 1 }
-    requires rising { All IsRising (runs_of runs.items) }
-    ensures { (m : Meaning) → Joins m (runs_of runs.items) result.items }
-{
-    let mut runs = runs;
-    match runs.pop() {
-        Some(run) => run,
-        None => Vec::new(alloc),
-    }
+    Ok(run)
 }

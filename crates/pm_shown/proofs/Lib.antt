@@ -3,4 +3,4 @@ mod ShownLemmas
 mod ScanLemmas
 mod TextLemmas
 mod PlainLemmas
-mod RoundLemmas
+mod GivenLemmas

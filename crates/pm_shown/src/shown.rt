@@ -6,10 +6,9 @@ ghost use Rattle.pm_merge.specs.Merge.{runs_of};
 ghost use Rattle.pm_shown.specs.Shown.{IsShown, only_shown};
 
 use pm_engine::{MergeEngine, Stored};
-use pm_merge::merge_runs;
+use pm_merge::{Merging, most_rows};
 use pm_values::Stamped;
 use std::alloc::{AllocError, Global};
-use std::collections::VecDeque;
 
 /// The rows of a group that show, of its runs, the oldest first.
 pub fn shown_rows<E: MergeEngine>(
@@ -22,27 +21,18 @@ pub fn shown_rows<E: MergeEngine>(
         IsShown (E.meaning engine.now) (runs_of older_first.items) shown.items) }
     ensures rising { IfOk result (λ shown. IsRising shown.items) }
 {
-    let merged = merge_runs(alloc, engine, older_first, false)?;
-    only_shown(engine, merged)
-}
-
-/// The rows of a run that show by themselves. They go round in the place where they lie.
-fn only_shown<E: MergeEngine>(engine: &E, run: Vec<Stamped>) -> Result<Vec<Stamped>, AllocError>
-    ensures { IfOk result (λ shown. shown.items ≡ only_shown (E.meaning engine.now) run.items) }
-{
-    let mut rows = VecDeque::from(run);
-    for _ in 0..rows.len() {
-        if let Some(row) = rows.pop_front() {
-            keep(engine, &mut rows, row)?;
-        }
+    let mut shown = Vec::with_capacity(alloc, most_rows(&older_first))?;
+    let mut merging = Merging::of(alloc, engine, older_first)?;
+    while let Some(row) = merging.next(alloc, engine)? {
+        keep(engine, &mut shown, row)?;
     }
-    Ok(Vec::from(rows))
+    Ok(shown)
 }
 
 /// Takes one stored row more, if it shows.
 fn keep<E: MergeEngine>(
     engine: &E,
-    shown: &mut VecDeque<Stamped>,
+    shown: &mut Vec<Stamped>,
     stamped: Stamped,
 ) -> Result<(), AllocError>
     ensures { OnOk result
@@ -59,7 +49,7 @@ fn keep<E: MergeEngine>(
     if !shows {
         return Ok(());
     }
-    shown.push_back(Stamped {
+    shown.push(Stamped {
         key,
         seq,
         kind: stored.kind,

@@ -22,5 +22,5 @@ pub returns-clause-scanned : goal.returns-clause-scanned
 returns-clause-scanned g c =
     printed_scanned c.args.snapshot c.in_ok-rows.rows.items c.deref.result.now (g.W.Sink.seen c.args.out.now)
     (g.W.Sink.seen c.print.new.out) (g.F.FileStore.seen c.args.store.now) (g.F.FileStore.seen c.scan_built.new.store)
-    (result_err c.print.result) (c.deref.ensures.value ∙ (rw c.as_slice.ensures.value at c.in_ok-text.ensures))
+    (result_err c.print.result) (c.deref.ensures.value ∙ c.in_ok-text.ensures)
     c.in_ok-rows.ensures.trace c.in_ok-rows.ensures.history c.print.ensures.prints

@@ -2,7 +2,7 @@ use Rattle.std.proofs.Common.{◌≡◌, [], ◌∷◌, ◌++◌, List, Vec, Glo
 use Rattle.std.proofs.lemmas.List.{nil_from_length}
 use Rattle.pm_values.specs.declared.record.Stamped.{Stamped}
 use Rattle.pm_merge.proofs.MergeLemmas.{joins-empty, joins-last}
-use Rattle.pm_merge.proofs.merge.only.Goals as goal
+use Rattle.pm_merge.proofs.merging.only.Goals as goal
 
 -- there is one
 pub returns-in-Some : goal.returns-in-Some
