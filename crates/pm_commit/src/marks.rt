@@ -42,7 +42,14 @@ fn mark_of(alloc: Global, maker: &Names) -> Result<Txt, AllocError>
 fn has_mark(name: &Txt, mark: &Txt) -> bool
     ensures { IsTrue result ↔ HasSubslice name.now mark.now }
 {
-    name.as_str().contains(mark.as_str())
+    has_text(name.as_str(), mark.as_str())
+}
+
+/// Whether a text contains another.
+fn has_text(text: &str, part: &str) -> bool
+    ensures { IsTrue result ↔ HasSubslice text.now part.now }
+{
+    text.contains(part)
 }
 
 /// The path of a file in the folder of manifests.
