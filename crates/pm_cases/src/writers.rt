@@ -129,7 +129,7 @@ fn committer_of<F: FileStore>(
             let mut session = [0; 16];
             session[15] = SESSION;
             let names = Names::new(session, actor, 0);
-            Ok(Committer::new(alloc, schema, batch, user, 0, false, names, 1000))
+            Ok(Committer::new(schema, batch, user, 0, false, names, 1000))
         }
         Err(refusal) => {
             drop(user);

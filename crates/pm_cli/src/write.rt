@@ -168,9 +168,7 @@ fn committer_of(
     let user = user_of(alloc, session, 0, user)?;
     let identifier = identifier_of(identifier);
     let names = names_of(session);
-    Ok(Committer::new(
-        alloc, schema, batch, user, identifier, check, names, now_millis,
-    ))
+    Ok(Committer::new(schema, batch, user, identifier, check, names, now_millis))
 }
 
 /// The user that is asked for, or the actor.

@@ -213,8 +213,7 @@ module _ (laws : Laws) (causes : ReaderCauses) (rows : List HistoryRow) (call : 
   ready-caused own s m readers.Over reads reading origin at told goes on = absurd (err-ok refusal _ on)
 
 lost-caused : (own : OwnView) (s : TableSchema) (id : ℕ) (f : Files) (p : Past) (refusal : Refusal) → Loses own s id (Err refusal) → MayRefuseOwn own f p refusal
-lost-caused own s id f p refusal (inl memory) = forgotten own f p refusal memory
-lost-caused own s id f p refusal (inr (last, is)) =
+lost-caused own s id f p refusal (last, is) =
     let many = length-append own.lost (id ∷ []) in
     subst (MayRefuseOwn own f p) (sym is) (id, refl, (let eleven = last in omega (arith, many, eleven)))
 

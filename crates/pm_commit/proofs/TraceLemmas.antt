@@ -495,11 +495,9 @@ module _ (s : TableSchema) where
     refused-reader m call answer p o readers.Over refusal earlier later own did at may none lost is same did_to on = absurd (err-ok refusal _ on)
 
     -- eleven tries were lost
-    refused-lost : (o : OwnView) (x : Publishing) (answer : Published) (refusal : Refusal) (own : List Event) → IsLost answer → MayTakeMemory (answers.Published answer)
+    refused-lost : (o : OwnView) (x : Publishing) (answer : Published) (refusal : Refusal) (own : List Event) → IsLost answer
         → AfterLost s first (DidInTry s (phases.Publish o x)) own → Loses o x.schema x.id (Err refusal) → Shows s first refusal (own ++ publishes x answer ∷ [])
-    refused-lost o x answer refusal own is_lost none did (inl memory) =
-        forgot (phases.Publish o x) (publish_call x) (answers.Published answer) refusal own did refl tt none memory
-    refused-lost o x answer refusal own is_lost none (p, earlier, later, lost, (v, made, same, is_x, tried), is) (inr (last, contended)) =
+    refused-lost o x answer refusal own is_lost (p, earlier, later, lost, (v, made, same, is_x, tried), is) (last, contended) =
         let ids_are : o.lost ≡ p.lost = same-lost p v made o same in
         let ids : o.lost ++ x.id ∷ [] ≡ p.lost ++ made.id ∷ [] =
         ap (λ (ids : List ℕ). ids ++ x.id ∷ []) ids_are ∙ ap (λ (x : Publishing). p.lost ++ x.id ∷ []) is_x in
@@ -584,10 +582,10 @@ module _ (s : TableSchema) where
     refused-on law (phases.Publish o x) call (answers.Published published.Created) refusal own is did at may = absurd (err-ok refusal _ is)
     refused-on law (phases.Publish o x) call (answers.Published published.Exists) refusal own on did at may =
         subst (λ (call : Call). Shows s first refusal (own ++ answered call (answers.Published published.Exists) ∷ [])) (call-same (publish_call x) call at)
-        (refused-lost o x published.Exists refusal own tt tt did on)
+        (refused-lost o x published.Exists refusal own tt did on)
     refused-on law (phases.Publish o x) call (answers.Published published.AfterGone) refusal own on did at may =
         subst (λ (call : Call). Shows s first refusal (own ++ answered call (answers.Published published.AfterGone) ∷ [])) (call-same (publish_call x) call at)
-        (refused-lost o x published.AfterGone refusal own tt tt did on)
+        (refused-lost o x published.AfterGone refusal own tt did on)
     refused-on law m call answer refusal own after did at may = absurd after
 
     -- before its end

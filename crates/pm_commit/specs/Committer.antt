@@ -243,11 +243,11 @@ AfterOlder own q bytes (Err refusal) = (refusal ≡ refusals.Memory)
     ⊎ ((snapshot_in q.id bytes ≡ Err faults.Bad) × (refusal ≡ refusals.Damaged (snapshot_path q.id) 0))
     ⊎ ((x : Snapshot) × (snapshot_in q.id bytes ≡ Ok x) × Hears own q.found q.left (seen_of own.author x) (Err refusal))
 
--- an id was lost to others: the next try begins, or it was the last; or memory ran out
+-- an id was lost to others: the next try begins, or it was the last
 abbrev pub Loses : OwnView → TableSchema → ℕ → Outcome → Type 0
 Loses own s id (Ok later) = (length own.lost + 1 < tries) × (later ≡ first_of_try (with_lost id own) s)
-Loses own s id (Err refusal) = (refusal ≡ refusals.Memory)
-    ⊎ ((length own.lost + 1 ≡ tries) × (refusal ≡ refusals.Contended (own.lost ++ id ∷ [])))
+Loses own s id (Err refusal) =
+    (length own.lost + 1 ≡ tries) × (refusal ≡ refusals.Contended (own.lost ++ id ∷ []))
 
 -- What an answer leads to. A search ends where an older snapshot is absent.
 abbrev pub After : Phase → Answer → Outcome → Type 0

@@ -214,10 +214,10 @@ abbrev pub DidSoFar : TableSchema → OwnView → Phase → List Event → Type 
 DidSoFar s first (phases.Names o t) own = (o ≡ first) × (t ≡ s) × (own ≡ [])
 DidSoFar s first m own = AfterLost s first (DidInTry s m) own
 
--- what follows the answer may take memory: not where it tells of a create, nor where the snapshot is published
+-- what follows the answer may take memory: not where it tells of a create, nor of a publish
 abbrev pub MayTakeMemory : Answer → Type 0
 MayTakeMemory (answers.Made made) = ⊥
-MayTakeMemory (answers.Published published.Created) = ⊥
+MayTakeMemory (answers.Published answer) = ⊥
 MayTakeMemory answer = Unit {0}
 
 -- memory ran out before a call, or after an answer that it is taken for

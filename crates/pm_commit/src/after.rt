@@ -16,7 +16,7 @@ ghost use Rattle.pm_schema.specs.declared.schema.TableSchema.{TableSchema as Sch
 ghost use Rattle.pm_commit.specs.declared.phase.Phase.TheVariants as phases;
 
 use crate::found::Found;
-use crate::lost::{TRIES, ids_of};
+use crate::lost::TRIES;
 use crate::making::{Making, Publishing};
 use crate::marks::used_path;
 use crate::own::Own;
@@ -311,7 +311,7 @@ pub(crate) fn after_create(own: Own, making: Making, made: Made) -> Result<Phase
     }
 }
 
-/// What follows once the publish was answered. It takes no memory where the snapshot was published.
+/// What follows once the publish was answered. It takes no memory.
 pub(crate) fn after_publish(
     own: Own,
     publishing: Publishing,
@@ -348,15 +348,11 @@ fn after_lost(own: Own, schema: TableSchema, id: u64) -> Result<Phase, Refusal>
     ensures { Loses own schema id result }
 {
     let mut own = own;
-    if own.lost.push(id).is_err() {
-        drop(own);
-        drop(schema);
-        return Err(Refusal::Memory);
-    }
+    own.lost.push(id);
     if own.lost.len() < TRIES {
         return Ok(begin(own, schema));
     }
-    let ids = ids_of(own.lost.as_slice());
+    let ids = own.lost.ids();
     drop(own);
     drop(schema);
     Err(Refusal::Contended { ids })

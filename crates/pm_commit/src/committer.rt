@@ -58,7 +58,6 @@ impl Committer {
     /// The committer of a batch that isn't empty, to the table with this schema, which was just read, by a user with an
     /// identifier, and at that moment. `check` says that an earlier commit of the user is looked for.
     pub fn new(
-        alloc: Global,
         schema: TableSchema,
         batch: Batch,
         user: Txt,
@@ -76,7 +75,7 @@ impl Committer {
         batch_law();
         Committer {
             phase: Phase::Names {
-                own: Own::new(alloc, batch, user, identifier, check, names, now_millis),
+                own: Own::new(batch, user, identifier, check, names, now_millis),
                 schema,
             },
         }

@@ -3,11 +3,11 @@
 ghost use Rattle.std.specs.Prelude.{◌≡◌};
 ghost use Rattle.pm_commit.specs.Own.{begun, new_author, new_own};
 
+use crate::lost::Lost;
 use pm_append::Author;
 use pm_base::Txt;
 use pm_values::Names;
 use pm_write::Batch;
-use std::alloc::Global;
 use std::marker::Model;
 
 /// What is appended and by whom, whether an earlier commit of the user is looked for, the maker of names, and the ids
@@ -18,7 +18,7 @@ pub struct Own {
     pub(crate) author: Author,
     pub(crate) check: bool,
     pub(crate) names: Names,
-    pub(crate) lost: Vec<u64>,
+    pub(crate) lost: Lost,
 }
 
 impl Model for Own {
@@ -26,13 +26,12 @@ impl Model for Own {
 
     ghost Value = { OwnView };
 
-    ghost view = { λ o. own_of o.batch o.author o.check o.names o.lost.items };
+    ghost view = { λ o. own_of o.batch o.author o.check o.names o.lost };
 }
 
 impl Own {
     /// Before its first try, at that moment.
     pub(crate) fn new(
-        alloc: Global,
         batch: Batch,
         user: Txt,
         identifier: i64,
@@ -54,7 +53,7 @@ impl Own {
             },
             check,
             names,
-            lost: Vec::new(alloc),
+            lost: Lost::new(),
         }
     }
 
