@@ -81,6 +81,13 @@ impl FileReader {
         &self.kind
     }
 
+    /// All bytes of the file.
+    pub fn bytes(&self) -> &[u8]
+        ensures { result.now ≡ self.now.bytes }
+    {
+        self.bytes.as_bytes()
+    }
+
     /// Where the first block begins, or the end of a file without blocks.
     pub fn first(&self) -> usize
         ensures first { result ≡ self.now.first }
