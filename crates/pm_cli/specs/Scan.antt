@@ -3,7 +3,6 @@ use Rattle.std.specs.Prelude.{◌≡◌, ◌⊎◌, ℕ, ◌<◌, ◌≤◌, Lis
 use Rattle.std.specs.FinMap as map
 use Rattle.std.specs.Result.{result_err}
 use Rattle.pm_base.specs.Known.{and_then}
-use Rattle.pm_values.specs.declared.record.Stamped.{Stamped}
 use Rattle.pm_values.specs.declared.refusal.Refusal.{Refusal}
 use Rattle.pm_values.specs.declared.refusal.Refusal.TheVariants as refusals
 use Rattle.pm_io.specs.Sink.{SinkView, SinkFailed, TookPrefix}
@@ -19,7 +18,6 @@ use Rattle.pm_create.specs.Making.{LeavesFiles}
 use Rattle.pm_view.specs.Reader.{schemas_call}
 use Rattle.pm_view.specs.Trace as reader
 use Rattle.pm_draft.specs.Built.{IsBuilt}
-use Rattle.pm_shown.specs.Shown.{lines_of}
 use Rattle.pm_scan.specs.AllCalls as scanner
 use Rattle.pm_scan.specs.AllCalls.{id_of, path_of, PrintsScan}
 use Rattle.pm_cli.specs.Outside.{ImagesRest, Outside, Prints, Rests}
@@ -27,24 +25,24 @@ use Rattle.pm_cli.specs.Snapshots as snapshots
 use Rattle.pm_cli.specs.Snapshots.{EndsAtSchema}
 
 -- they go on from the schema, which is built, and are those of a scan with this answer
-abbrev pub GoesOnAs : Option ℕ → Result (List Stamped) Refusal → List Event → Type 0
+abbrev pub GoesOnAs : Option ℕ → Result (List ℕ) Refusal → List Event → Type 0
 GoesOnAs at made own = (s : TableSchema) × IsBuilt s × scanner.DidScan s at made own
 
--- Its calls of the store, by what it made: the rows of a table that is built, at the snapshot; or they show why no
--- schema was read, or end with the schema, or later.
-abbrev pub DidScan : Option ℕ → Result (List Stamped) Refusal → List Event → Type 0
-DidScan at (Ok rows) own = GoesOnAs at (Ok rows) own
+-- Its calls of the store, by what it made: the text of the scan of a table that is built, at the snapshot; or they show
+-- why no schema was read, or end with the schema, or later.
+abbrev pub DidScan : Option ℕ → Result (List ℕ) Refusal → List Event → Type 0
+DidScan at (Ok text) own = GoesOnAs at (Ok text) own
 DidScan at (Err e) own = reader.Shows e own ⊎ (EndsAtSchema e own ⊎ GoesOnAs at (Err e) own)
 
 -- the text of what it made
-abbrev pub text_of : Result (List Stamped) Refusal → List ℕ
-text_of (Ok rows) = lines_of rows
+abbrev pub text_of : Result (List ℕ) Refusal → List ℕ
+text_of (Ok text) = text
 text_of (Err e) = []
 
 -- what `scan` answers, where it is asked for the newest snapshot or for the one with an id
 abbrev pub Scans : Option ℕ → Outside → Outside → Option Refusal → Type 0
 Scans at before after answer =
-    (made : Result (List Stamped) Refusal) × HasTrace (DidScan at made) before.store after.store
+    (made : Result (List ℕ) Refusal) × HasTrace (DidScan at made) before.store after.store
     × Prints (text_of made) None (result_err made) before.out after.out answer
 
 -- ---- a history that stands at its first call, where nobody else acts from then on
@@ -104,19 +102,19 @@ ScansTables at before after answer =
 -- ---- before anything is printed
 
 -- Private: what was made of a history
-abbrev pub MakesRows : History → Option ℕ → StoreView → StoreView → Result (List Stamped) Refusal → Type 0
-MakesRows h at first after (Ok rows) = IsThere h (id_of at (count_of h)) first × PrintsScan h at rows
-MakesRows h at first after (Err e) = MayRefuse h at first after e
+abbrev pub MakesText : History → Option ℕ → StoreView → StoreView → Result (List ℕ) Refusal → Type 0
+MakesText h at first after (Ok text) = IsThere h (id_of at (count_of h)) first × PrintsScan h at text
+MakesText h at first after (Err e) = MayRefuse h at first after e
 
 -- Private: what the calls of `scan` do to a history
-pub record Keeps (h : History) (at : Option ℕ) (first after : StoreView) (made : Result (List Stamped) Refusal)
+pub record Keeps (h : History) (at : Option ℕ) (first after : StoreView) (made : Result (List ℕ) Refusal)
     : Type 0 where
-  pub makes : MakesRows h at first after made
+  pub makes : MakesText h at first after made
   pub rests : Rests h first after
   pub images : ImagesRest h first after
 
 -- Private: and to histories
-abbrev pub KeepsHistories : Option ℕ → StoreView → StoreView → Result (List Stamped) Refusal → Type 0
+abbrev pub KeepsHistories : Option ℕ → StoreView → StoreView → Result (List ℕ) Refusal → Type 0
 KeepsHistories at before after made =
     (first : StoreView) × IsFirst schemas_call before first after
     × (IsAlone first after → (h : History) → LeavesFiles (λ f. Folder f h) first → Keeps h at first after made)
@@ -124,5 +122,5 @@ KeepsHistories at before after made =
 -- Private: the calls of `scan`, what they do to histories, and what was printed
 abbrev pub IsScanned : Option ℕ → SinkView → SinkView → StoreView → StoreView → Option Refusal → Type 0
 IsScanned at out out_after store store_after answer =
-    (made : Result (List Stamped) Refusal) × HasTrace (DidScan at made) store store_after
+    (made : Result (List ℕ) Refusal) × HasTrace (DidScan at made) store store_after
     × KeepsHistories at store store_after made × Prints (text_of made) None (result_err made) out out_after answer

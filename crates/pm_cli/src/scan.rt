@@ -3,7 +3,7 @@
 ghost use Rattle.std.specs.Result.{result_err};
 ghost use Rattle.pm_io.specs.Sink.{SinkLater};
 ghost use Rattle.pm_machine.specs.Trace.{HasTrace};
-ghost use Rattle.pm_scan.specs.AllCalls.{rows_in};
+ghost use Rattle.pm_scan.specs.AllCalls.{text_in};
 ghost use Rattle.pm_store.specs.Store.{IsLater};
 ghost use Rattle.pm_cli.specs.Scan.{DidScan, IsScanned, KeepsHistories};
 
@@ -12,13 +12,12 @@ use crate::snapshots::judge;
 use pm_engines::declared_law;
 use pm_io::Sink;
 use pm_scan::scan_table;
-use pm_shown::print_rows;
 use pm_store::FileStore;
-use pm_values::{Refusal, Stamped};
+use pm_values::Refusal;
 use pm_view::read_table_schema;
 use std::alloc::Global;
 
-/// Prints the rows of a table at its newest snapshot, or at the one with that id.
+/// Prints the scan of a table at its newest snapshot, or at the one with that id.
 pub(crate) fn run_scan<W: Sink, F: FileStore>(
     alloc: Global,
     snapshot: Option<u64>,
@@ -30,19 +29,18 @@ pub(crate) fn run_scan<W: Sink, F: FileStore>(
     ensures out_later { SinkLater (W.seen out.old) (W.seen out.new) }
     ensures store_later { IsLater (F.seen store.old) (F.seen store.new) }
 {
-    let rows = scan_built(alloc, snapshot, store)?;
-    let text = print_rows(alloc, rows)?;
+    let text = scan_built(alloc, snapshot, store)?;
     print(out, &text, None)
 }
 
-/// The rows of a table that is built.
+/// The text of the scan of a table that is built.
 fn scan_built<F: FileStore>(
     alloc: Global,
     snapshot: Option<u64>,
     store: &mut F,
-) -> Result<Vec<Stamped>, Refusal>
-    ensures trace { HasTrace (DidScan snapshot (rows_in result)) (F.seen store.old) (F.seen store.new) }
-    ensures history { KeepsHistories snapshot (F.seen store.old) (F.seen store.new) (rows_in result) }
+) -> Result<Vec<u8>, Refusal>
+    ensures trace { HasTrace (DidScan snapshot (text_in result)) (F.seen store.old) (F.seen store.new) }
+    ensures history { KeepsHistories snapshot (F.seen store.old) (F.seen store.new) (text_in result) }
     ensures later { IsLater (F.seen store.old) (F.seen store.new) }
 {
     let schema = read_table_schema(alloc, store)?;

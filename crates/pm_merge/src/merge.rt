@@ -5,11 +5,15 @@ ghost use Rattle.pm_history.specs.Merge.{HistoryRow};
 ghost use Rattle.pm_engine.specs.Covers.{Run, IsRising, Covers, CoversAll};
 ghost use Rattle.pm_engine.specs.Reducing.{HasGreatestNumbers};
 ghost use Rattle.pm_merge.specs.Merge.{runs_of, all_rows, IsMerge, Replaces, ReplacesOldest, without_droppable};
+ghost use Rattle.pm_merge.specs.Merging.{HaveRuns};
 ghost use Rattle.pm_merge.specs.Pairs.{Joins};
+ghost use Rattle.pm_merge.specs.Source.{gives_rows};
 
 use crate::drops::without_droppable;
-use crate::merging::{joined, most_rows};
+use crate::merging::joined;
+use crate::source::RunRows;
 use pm_engine::MergeEngine;
+use pm_seen::RowSlot;
 use pm_values::Stamped;
 use std::alloc::{AllocError, Global};
 
@@ -58,9 +62,35 @@ fn merged<E: MergeEngine>(
     ensures { IfOk result (λ run. Joins (E.meaning engine.now) (runs_of older_first.items) run.items) }
 {
     let mut run = Vec::with_capacity(alloc, most_rows(&older_first))?;
-    let mut merging = joined(alloc, engine, older_first)?;
-    while let Some(row) = merging.next(alloc, engine)? {
-        run.push(row)?;
+    let mut merging = joined(alloc, engine, sources_of(alloc, older_first)?)?;
+    let mut slot = Box::new(alloc, RowSlot::new(alloc))?;
+    loop {
+        merging.fill(alloc, engine, &mut slot)?;
+        match slot.take(alloc)? {
+            Some(row) => run.push(row)?,
+            None => return Ok(run),
+        }
     }
-    Ok(run)
+}
+
+/// The rows of each of the runs.
+fn sources_of(alloc: Global, runs: Vec<Vec<Stamped>>) -> Result<Vec<RunRows>, AllocError>
+    ensures { IfOk result (λ sources. HaveRuns gives_rows sources.items (runs_of runs.items)) }
+{
+    let mut sources = Vec::with_capacity(alloc, runs.len())?;
+    for run in runs {
+        sources.push(RunRows {
+            rows: run.into_iter(),
+        })?;
+    }
+    Ok(sources)
+}
+
+/// How many rows the runs have, which is how many their run has at most.
+fn most_rows(runs: &[Vec<Stamped>]) -> usize {
+    let mut most: usize = 0;
+    for run in runs {
+        most = most.saturating_add(run.len());
+    }
+    most
 }

@@ -1,88 +1,73 @@
 //! Runs that are made into one run, row by row.
 
-ghost use Rattle.std.specs.Prelude.{◌≡◌, ◌+◌, ◌≤◌, None, All, IfOk, OnOk, length, option_to_list};
+ghost use Rattle.std.specs.Prelude.{◌≡◌, ◌+◌, ◌≤◌, List, None, All, IfOk, OnOk, length, option_to_list};
 ghost use Rattle.std.specs.Vec.{vec_len};
 ghost use Rattle.pm_engine.specs.Covers.{Run, IsRising};
 ghost use Rattle.pm_engine.specs.Meaning.{Meaning};
-ghost use Rattle.pm_merge.specs.Merge.{runs_of, IsMerge};
-ghost use Rattle.pm_merge.specs.Merging.{rows_left, CombineFirst, GivesNext, OrdersFirst, Pairs, StillGives};
+ghost use Rattle.pm_merge.specs.Merge.{IsMerge};
+ghost use Rattle.pm_merge.specs.Merging.{rows_left, CombineFirst, GivesNext, HaveRuns, Pairs, StillGives};
 ghost use Rattle.pm_merge.specs.Pairs.{Joins};
 
+use crate::place::RowPlace;
+use crate::source::RowSource;
 use pm_engine::{MergeEngine, combined};
-use pm_values::Stamped;
 use std::alloc::{AllocError, Global};
 use std::cmp::Ordering;
 use std::mem;
-use std::vec::IntoIter;
 
-/// The rows of one run, or of an older and a newer one that are merged, with the first row of each that wasn't given
-/// yet, or none where it has no more.
+/// No row, or the rows of one source, or of an older and a newer one that are merged, with the first row of each that
+/// wasn't given yet, or none where it has no more. These are in boxes, so that a row is moved by a pointer.
 #[derive(Drop)]
-pub enum Merging {
-    One(IntoIter<Stamped, Global>),
+pub enum Merging<P, S> {
+    Nothing,
+    One(S),
     Two {
-        older: Box<Merging>,
-        newer: Box<Merging>,
-        first_older: Option<Stamped>,
-        first_newer: Option<Stamped>,
+        older: Box<Merging<P, S>>,
+        newer: Box<Merging<P, S>>,
+        first_older: Box<P>,
+        first_newer: Box<P>,
     },
 }
 
-impl Merging {
-    /// The rows of the run that the runs are made into, the oldest first: what they have of a key is combined. It takes
-    /// time and memory by the number of runs, and moves their rows.
+impl<P: RowPlace, S: RowSource<P>> Merging<P, S> {
+    /// The rows of the run that the runs of sources are made into, the oldest first: what they have of a key is
+    /// combined. It takes time and memory by the number of sources.
     pub fn of<E: MergeEngine>(
         alloc: Global,
         engine: &E,
-        older_first: Vec<Vec<Stamped>>,
-    ) -> Result<Merging, AllocError>
-        requires { All IsRising (runs_of older_first.items) }
-        ensures { IfOk result (λ merging. (run : Run) → StillGives (E.meaning engine.now) merging run
-            → IsMerge (E.meaning engine.now) (runs_of older_first.items) run) }
+        older_first: Vec<S>,
+    ) -> Result<Merging<P, S>, AllocError>
+        ensures { IfOk result (λ merging. (runs : List Run) (run : Run) → All IsRising runs
+            → HaveRuns S.gives older_first.items runs → StillGives (E.meaning engine.now) P.held S.gives merging run
+            → IsMerge (E.meaning engine.now) runs run) }
     {
         joined(alloc, engine, older_first)
     }
 
-    /// The next row, or none at the end, in about as many comparisons as the number of runs can be halved. Where memory
-    /// runs out, nothing is said of what is left.
-    pub fn next<E: MergeEngine>(
+    /// Puts the next row into an empty place, or none at the end, in about as many comparisons as the number of runs
+    /// can be halved. Where memory runs out, nothing is said of what is left.
+    pub fn fill<E: MergeEngine>(
         &mut self,
         alloc: Global,
         engine: &E,
-    ) -> Result<Option<Stamped>, AllocError>
-        ensures gives { IfOk result (λ next. GivesNext (E.meaning engine.now) self.old self.new next) }
-        ensures fewer { IfOk result (λ next.
-            length (option_to_list next) + rows_left self.new ≤ rows_left self.old) }
-    {
-        let mut next = None;
-        self.fill(alloc, engine, &mut next)?;
-        Ok(next)
-    }
-
-    /// Puts the next row into an empty slot, or none at the end. So a row is moved from slot to slot, and nothing as
-    /// long is returned.
-    fn fill<E: MergeEngine>(
-        &mut self,
-        alloc: Global,
-        engine: &E,
-        slot: &mut Option<Stamped>,
+        slot: &mut Box<P>,
     ) -> Result<(), AllocError>
-        requires { slot.old ≡ None }
-        ensures gives { OnOk result (GivesNext (E.meaning engine.now) self.old self.new slot.new) }
+        requires { P.held slot.old.value ≡ None }
+        ensures gives { OnOk result
+            (GivesNext (E.meaning engine.now) P.held S.gives self.old self.new (P.held slot.new.value)) }
         ensures fewer { OnOk result
-            (length (option_to_list slot.new) + rows_left self.new ≤ rows_left self.old) }
+            (length (option_to_list (P.held slot.new.value)) + rows_left P.held S.left self.new
+            ≤ rows_left P.held S.left self.old) }
     {
         match self {
-            Merging::One(rows) => {
-                *slot = rows.next();
-                Ok(())
-            }
+            Merging::Nothing => Ok(()),
+            Merging::One(source) => source.fill(alloc, slot.as_mut()),
             Merging::Two {
                 older,
                 newer,
                 first_older,
                 first_newer,
-            } => match first_order(first_older, first_newer) {
+            } => match first_older.order(first_newer) {
                 Some(Ordering::Less) => {
                     mem::swap(slot, first_older);
                     older.fill(alloc, engine, first_older)
@@ -92,7 +77,13 @@ impl Merging {
                     newer.fill(alloc, engine, first_newer)
                 }
                 Some(Ordering::Equal) => {
-                    combine(alloc, engine, first_older, first_newer, slot)?;
+                    combine(
+                        alloc,
+                        engine,
+                        first_older.as_mut(),
+                        first_newer.as_mut(),
+                        slot.as_mut(),
+                    )?;
                     older.fill(alloc, engine, first_older)?;
                     newer.fill(alloc, engine, first_newer)
                 }
@@ -102,70 +93,63 @@ impl Merging {
     }
 }
 
-/// Puts two rows of one key into an empty slot, as one.
-fn combine<E: MergeEngine>(
+/// Puts two rows of one key into an empty place, as one, and takes them from theirs. It isn't inlined, so that `fill`
+/// has no room for rows.
+#[inline(never)]
+fn combine<P: RowPlace, E: MergeEngine>(
     alloc: Global,
     engine: &E,
-    older: &mut Option<Stamped>,
-    newer: &mut Option<Stamped>,
-    slot: &mut Option<Stamped>,
+    older: &mut P,
+    newer: &mut P,
+    slot: &mut P,
 ) -> Result<(), AllocError>
-    requires { slot.old ≡ None }
-    ensures combines { OnOk result (CombineFirst (E.meaning engine.now) older.old newer.old slot.new) }
-    ensures takes { OnOk result ((older.new ≡ None) × (newer.new ≡ None)) }
+    requires { P.held slot.old ≡ None }
+    ensures combines { OnOk result
+        (CombineFirst (E.meaning engine.now) (P.held older.old) (P.held newer.old) (P.held slot.new)) }
+    ensures takes { OnOk result ((P.held older.new ≡ None) × (P.held newer.new ≡ None)) }
 {
-    if let (Some(older), Some(newer)) = (older.take(), newer.take()) {
-        *slot = Some(combined(alloc, engine, older, newer)?);
+    if let (Some(older), Some(newer)) = (older.take(alloc)?, newer.take(alloc)?) {
+        slot.put(combined(alloc, engine, older, newer)?);
     }
     Ok(())
 }
 
-/// How the first rows compare by their keys, as if a run with no more had one above all; none where both have no more.
-fn first_order(older: &Option<Stamped>, newer: &Option<Stamped>) -> Option<Ordering>
-    ensures { OrdersFirst older.now newer.now result }
-{
-    match (older, newer) {
-        (Some(older), Some(newer)) => Some(older.key.cmp(&newer.key)),
-        (Some(_), None) => Some(Ordering::Less),
-        (None, Some(_)) => Some(Ordering::Greater),
-        (None, None) => None,
-    }
-}
-
-/// The runs, the oldest first, by halves.
-pub(crate) fn joined<E: MergeEngine>(
+/// The runs of sources, the oldest first, by halves.
+pub(crate) fn joined<P: RowPlace, S: RowSource<P>, E: MergeEngine>(
     alloc: Global,
     engine: &E,
-    older_first: Vec<Vec<Stamped>>,
-) -> Result<Merging, AllocError>
-    requires { All IsRising (runs_of older_first.items) }
-    ensures { IfOk result (λ merging. (run : Run) → StillGives (E.meaning engine.now) merging run
-        → Joins (E.meaning engine.now) (runs_of older_first.items) run) }
+    older_first: Vec<S>,
+) -> Result<Merging<P, S>, AllocError>
+    ensures { IfOk result (λ merging. (runs : List Run) (run : Run) → All IsRising runs
+        → HaveRuns S.gives older_first.items runs → StillGives (E.meaning engine.now) P.held S.gives merging run
+        → Joins (E.meaning engine.now) runs run) }
 {
-    let mut runs = older_first;
-    let half = runs.len() / 2;
+    let mut sources = older_first;
+    let half = sources.len() / 2;
     if half == 0 {
-        return Ok(Merging::One(only(alloc, runs).into_iter()));
+        return Ok(only(sources));
     }
-    let newer = runs.split_off(half)?;
-    let older = joined(alloc, engine, runs)?;
+    let newer = sources.split_off(half)?;
+    let older = joined(alloc, engine, sources)?;
     let newer = joined(alloc, engine, newer)?;
     pair_of(alloc, engine, older, newer)
 }
 
 /// An older and a newer one that are merged.
-fn pair_of<E: MergeEngine>(
+fn pair_of<P: RowPlace, S: RowSource<P>, E: MergeEngine>(
     alloc: Global,
     engine: &E,
-    older: Merging,
-    newer: Merging,
-) -> Result<Merging, AllocError>
-    ensures { IfOk result (Pairs (E.meaning engine.now) older newer) }
+    older: Merging<P, S>,
+    newer: Merging<P, S>,
+) -> Result<Merging<P, S>, AllocError>
+    ensures { IfOk result (Pairs (E.meaning engine.now) P.held S.gives older newer) }
 {
     let mut older = Box::new(alloc, older)?;
     let mut newer = Box::new(alloc, newer)?;
-    let first_older = older.next(alloc, engine)?;
-    let first_newer = newer.next(alloc, engine)?;
+    let mut first_older = Box::new(alloc, P::empty(alloc))?;
+    let mut first_newer = Box::new(alloc, P::empty(alloc))?;
+    older.fill(alloc, engine, &mut first_older)?;
+    newer.fill(alloc, engine, &mut first_newer)?;
     Ok(Merging::Two {
         older,
         newer,
@@ -174,24 +158,15 @@ fn pair_of<E: MergeEngine>(
     })
 }
 
-/// The only run, or one without a row.
-fn only(alloc: Global, runs: Vec<Vec<Stamped>>) -> Vec<Stamped>
-    requires one { vec_len runs ≤ 1 }
-    requires rising { All IsRising (runs_of runs.items) }
-    ensures { (m : Meaning) → Joins m (runs_of runs.items) result.items }
+/// The only source, or no row.
+fn only<P: RowPlace, S: RowSource<P>>(sources: Vec<S>) -> Merging<P, S>
+    requires { vec_len sources ≤ 1 }
+    ensures { (m : Meaning) (runs : List Run) (run : Run) → All IsRising runs → HaveRuns S.gives sources.items runs
+        → StillGives m P.held S.gives result run → Joins m runs run }
 {
-    let mut runs = runs;
-    match runs.pop() {
-        Some(run) => run,
-        None => Vec::new(alloc),
+    let mut sources = sources;
+    match sources.pop() {
+        Some(source) => Merging::One(source),
+        None => Merging::Nothing,
     }
-}
-
-/// How many rows the runs have, which is how many their run has at most.
-pub fn most_rows(runs: &[Vec<Stamped>]) -> usize {
-    let mut most: usize = 0;
-    for run in runs {
-        most = most.saturating_add(run.len());
-    }
-    most
 }

@@ -1,33 +1,28 @@
 -- Rows that are read straight from bytes are those of the data that the bytes are.
-use Rattle.std.proofs.Common.{◌≡◌, ℕ, suc, ◌+◌, ◌-◌, ◌<◌, ◌≤◌, ℤ, pos, negsuc, Bool, true, false, List, [], ◌∷◌, ◌++◌, length, get_or, map, take, drop, Option, None, Some, Ok, Err, inl, inr, refl, sym, ap, subst, ◌∙◌, append_assoc, append-nil, arith}
-use Rattle.std.specs.Prelude.{IsTrue}
+use Rattle.std.proofs.Common.{◌≡◌, ℕ, ◌+◌, ◌-◌, ◌<◌, ◌≤◌, pos, Bool, true, List, [], ◌∷◌, ◌++◌, length, get_or, map, take, drop, Option, Ok, refl, sym, ap, subst, ◌∙◌, append_assoc, arith}
 use Rattle.std.proofs.lemmas.List.{length-append, length-drop, length-take-le, map-append, take_all, take-append-drop, drop_at}
 use Rattle.std.proofs.Math.Seq.{take-append_seam}
 use Rattle.pm_avro_schema.specs.Avro as avro
 use Rattle.pm_avro_schema.specs.Avro.{Avro}
 use Rattle.pm_avro_schema.specs.View.{fields_of}
-use Rattle.pm_avro_data.specs.Datum.{Data, int, items_of, long, null, union_of}
-use Rattle.pm_avro_data.specs.HasType.{HasType}
+use Rattle.pm_avro_data.specs.Datum.{Data, items_of, long}
 use Rattle.pm_avro_data.specs.IsDatum.{AreFields, AreItems, IsDatum}
 use Rattle.pm_avro_data.specs.Number.{IsInt, IsLong}
 use Rattle.pm_avro_data.proofs.Facts.{Follows, datum_follows, datum_typed}
 use Rattle.pm_avro_file.specs.Container.{IsBlock, magic, metadata}
 use Rattle.pm_avro_file.specs.Reader.{HasBlock, IsOpened, Reader}
 use Rattle.pm_history.specs.Merge.{key_of}
-use Rattle.pm_values.specs.Fits.{IsInType}
-use Rattle.pm_values.specs.Kind.{code_of, kind_from}
+use Rattle.pm_values.specs.Kind.{code_of}
 use Rattle.pm_values.specs.Order.{Values}
-use Rattle.pm_values.specs.declared.column.ColType.{ColType}
-use Rattle.pm_values.specs.declared.kind.Kind.{Kind}
 use Rattle.pm_values.specs.declared.record.Stamped.{Stamped}
 use Rattle.pm_values.specs.declared.value.Value.{Value}
-use Rattle.pm_values.specs.declared.value.Value.TheVariants.{Null, Bool as Truth, Int as Whole, Text as Words, Bytes as Octets, Day, Millis}
 use Rattle.pm_run.specs.declared.form.Field.{Field}
-use Rattle.pm_run.specs.Direct.{AreCells, AreRows, IsCell, IsRow, IsScalar, IsWritten}
+use Rattle.pm_run.specs.declared.direct.Direct.{Direct}
+use Rattle.pm_run.specs.Direct.{AreCells, AreRows, HasContent, IsCell, IsDirect, IsRow}
 use Rattle.pm_run.specs.Form.{Form}
-use Rattle.pm_run.specs.Kinds.{field_type, or_null, run_type, typed_field, value_type}
-use Rattle.pm_run.specs.Order.{following, last_key, may_follow}
-use Rattle.pm_run.specs.Row.{agree, most_sequence, optional_data, row_data, row_in, scalar_data, value_data, values_data}
+use Rattle.pm_run.specs.Kinds.{field_type, run_type, typed_field}
+use Rattle.pm_run.specs.Order.{last_key, may_follow}
+use Rattle.pm_run.specs.Row.{agree, most_sequence, row_data, row_in, value_data, values_data}
 use Rattle.pm_run.specs.Rows.{Opened, all_judged, judged, placed}
 use Rattle.pm_run.specs.Typed.{FitFields, FitsField, HaveFields, IsWritable}
 use Rattle.pm_run.proofs.AgainLemmas.{row_back}
@@ -163,30 +158,33 @@ module _ (bytes : List ℕ) (offset count size : ℕ) (middle left marker rest :
   pub rest_within : length rest ≤ length bytes
   rest_within = omega (arith, ap length follows.parts, length-append follows.prefix rest)
 
-  pub block_read : (o : Opened) (f : Form) (changes : Bool) (before : Option Values) (rows : List Stamped) → o.form ≡ f → o.changes ≡ changes → IsWritten f changes o.file.kind
-      → bytes ≡ o.file.bytes → marker ≡ o.file.marker → count ≤ size → size ≤ length left → AreRows f changes before rows (take size left) [] → length rows ≡ count
-      → (ds : List Data) × HasBlock o.file.kind o.file.marker o.file.bytes offset ds (length bytes - length rest) × (judged o before (placed offset ds) ≡ all_judged rows)
-  block_read o f changes before rows form kinds written same mark le room all many =
-      let (ds, as_many, items, is) = all o offset form kinds written in
+  pub block_read : (r : Reader) (ds : List Data) → bytes ≡ r.bytes → marker ≡ r.marker → count ≤ size → size ≤ length left → length ds ≡ count → AreItems (IsDatum r.kind) ds (take size left) []
+      → HasBlock r.kind r.marker r.bytes offset ds (length bytes - length rest)
+  block_read r ds same mark le room many items =
       let long_enough : length (take size left) ≡ size = length-take-le size left room in
-      let block : IsBlock o.file.kind marker ds (drop offset bytes) rest = record {
+      let block : IsBlock r.kind marker ds (drop offset bytes) rest = record {
         middle = middle;
         left = left;
         content = take size left;
-        count = subst (λ (n : ℕ). IsLong (pos n) (drop offset bytes) middle) (sym (as_many ∙ many)) counted;
+        count = subst (λ (n : ℕ). IsLong (pos n) (drop offset bytes) middle) (sym many) counted;
         size = subst (λ (n : ℕ). IsLong (pos n) middle left) (sym long_enough) sized;
-        within = omega (arith, as_many, many, long_enough);
+        within = omega (arith, many, long_enough);
         each = items;
         marked = left_parts;
       } in
-      let at : IsBlock o.file.kind marker ds (drop offset bytes) (drop (length bytes - length rest) bytes) =
-      subst (λ (bs : List ℕ). IsBlock o.file.kind marker ds (drop offset bytes) bs) (sym (at_end bytes rest follows)) block in
-      let here : HasBlock o.file.kind marker bytes offset ds (length bytes - length rest) = record { within = omega arith; block = at } in (
-        ds,
-        subst (λ (bs : List ℕ). HasBlock o.file.kind o.file.marker bs offset ds (length bytes - length rest)) same
-            (subst (λ (m : List ℕ). HasBlock o.file.kind m bytes offset ds (length bytes - length rest)) mark here),
-        is,
-      )
+      let at : IsBlock r.kind marker ds (drop offset bytes) (drop (length bytes - length rest) bytes) =
+      subst (λ (bs : List ℕ). IsBlock r.kind marker ds (drop offset bytes) bs) (sym (at_end bytes rest follows)) block in
+      let here : HasBlock r.kind marker bytes offset ds (length bytes - length rest) = record { within = omega arith; block = at } in
+      subst (λ (bs : List ℕ). HasBlock r.kind r.marker bs offset ds (length bytes - length rest)) same
+      (subst (λ (m : List ℕ). HasBlock r.kind m bytes offset ds (length bytes - length rest)) mark here)
+
+-- the rows of a block, after one with the key before
+pub block_rows : (d : Direct) (bytes : List ℕ) (offset count : ℕ) (content : List ℕ) (next : ℕ) → HasContent d bytes offset count content next → (o : Opened) (f : Form) (changes : Bool) (before : Option Values)
+    (rows : List Stamped) → o.form ≡ f → o.changes ≡ changes → o.file.bytes ≡ bytes → IsDirect d f changes o.file → AreRows f changes before rows content []
+    → length rows ≡ count → (ds : List Data) × HasBlock o.file.kind o.file.marker o.file.bytes offset ds next × (judged o before (placed offset ds) ≡ all_judged rows)
+block_rows d bytes offset count content next has o f changes before rows form kinds same direct all many =
+    let (ds, as_many, items, is) = all o offset form kinds direct.written in
+    (ds, has f changes o.file ds same direct (as_many ∙ many) items, is)
 
 -- ---- the marker of a file
 

@@ -1,5 +1,5 @@
 -- Numbers in three groups and in four.
-use Rattle.std.proofs.Common.{◌≡◌, ℕ, ◌+◌, ◌-◌, ◌*◌, ◌<◌, ◌≤◌, List, ◌∷◌, inl, inr, refl, sym, subst, arith}
+use Rattle.std.proofs.Common.{◌≡◌, ℕ, ◌+◌, ◌*◌, ◌<◌, ◌≤◌, List, ◌∷◌, inl, inr, refl, sym, subst}
 use Rattle.pm_avro_data.specs.Number.{AreGroups}
 
 -- a group before those of what is above it

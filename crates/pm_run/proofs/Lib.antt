@@ -5,6 +5,8 @@ mod CellLemmas
 mod ValueLemmas
 mod OrderLemmas
 mod TypeLemmas
+mod JudgeLemmas
+mod LyingLemmas
 mod LoopLemmas
 mod AgainLemmas
 mod AppendLemmas

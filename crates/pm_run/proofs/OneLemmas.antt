@@ -31,6 +31,13 @@ use Rattle.pm_run.proofs.OrderLemmas.{both, in_order-first}
 
 -- ---- rows that were read are in order
 
+pub following_same : (changes : Bool) (before : Option Values) (y x : Stamped) → following changes before y ≡ Ok x → y ≡ x
+following_same changes before y x e = by_test (may_follow changes before y.key) e
+  where
+    by_test : (b : Bool) → (if b then Ok y else Err Bad) ≡ Ok x → y ≡ x
+    by_test true e = cc
+    by_test false e = cc
+
 following_may : (changes : Bool) (before : Option Values) (y x : Stamped) → following changes before y ≡ Ok x → may_follow changes before x.key ≡ true
 following_may changes before y x e = by_test (may_follow changes before y.key) refl e
   where
@@ -133,12 +140,12 @@ module _ (o : Opened) where
 
   module _ (one : (t : Avro) (ds es : List Data) (marker source rest other : List ℕ) → IsBlock t marker ds source rest → IsBlock t marker es source other → (ds ≡ es) × (rest ≡ other)) where
     -- the offsets after a block are one
-    next_same : (offset m n : ℕ) (ds es : List Data) → HasBlock o.file.kind o.file.marker o.file.bytes offset ds m → HasBlock o.file.kind o.file.marker o.file.bytes offset es n → (ds ≡ es) × (m ≡ n)
+    pub next_same : (offset m n : ℕ) (ds es : List Data) → HasBlock o.file.kind o.file.marker o.file.bytes offset ds m → HasBlock o.file.kind o.file.marker o.file.bytes offset es n → (ds ≡ es) × (m ≡ n)
     next_same offset m n ds es a b =
         let p = one o.file.kind ds es o.file.marker (drop offset o.file.bytes) (drop m o.file.bytes) (drop n o.file.bytes) a.block b.block in
         (p.0, omega (arith, a.within, b.within, ap length p.1, length-drop m o.file.bytes, length-drop n o.file.bytes))
 
-    no_more : (offset next : ℕ) (ds : List Data) (end : Option Refusal) → HasBlock o.file.kind o.file.marker o.file.bytes offset ds next → StopsAt o offset end → ⊥
+    pub no_more : (offset next : ℕ) (ds : List Data) (end : Option Refusal) → HasBlock o.file.kind o.file.marker o.file.bytes offset ds next → StopsAt o offset end → ⊥
     no_more offset next ds None block stops =
         omega (arith, stops, block.within, block_moves o.file.kind o.file.marker o.file.bytes offset ds next block)
     no_more offset next ds (Some e) block stops = stops.1.none ds (drop next o.file.bytes) block.block
@@ -202,7 +209,7 @@ module _ (o : Opened) where
 abbrev OneOpening : Type 0
 OneOpening = (bytes : List ℕ) (r s : Result Reader AvroFault) → Opens bytes r → Opens bytes s → r ≢ Err Memory → s ≢ Err Memory → r ≡ s
 
-abbrev OneBlock : Type 0
+abbrev pub OneBlock : Type 0
 OneBlock = (t : Avro) (ds es : List Data) (marker source rest other : List ℕ) → IsBlock t marker ds source rest → IsBlock t marker es source other → (ds ≡ es) × (rest ≡ other)
 
 opened_same : OneOpening → (bytes : List ℕ) (r s : Reader) → Opens bytes (Ok r) → Opens bytes (Ok s) → r ≡ s

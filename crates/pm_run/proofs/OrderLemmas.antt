@@ -27,7 +27,7 @@ unfolding IsStrictlySortedBy
 rising_in_order [] rising = refl
 rising_in_order (x ∷ rows) rising = rising_after x.key rows rising.0 rising.1
 
-from_none : (changes : Bool) (before : Option Values) (rows : List Stamped) → are_in_order changes before rows ≡ true → are_in_order changes None rows ≡ true
+pub from_none : (changes : Bool) (before : Option Values) (rows : List Stamped) → are_in_order changes before rows ≡ true → are_in_order changes None rows ≡ true
 from_none changes before [] e = refl
 from_none changes before (x ∷ rows) e = (and_parts (may_follow changes before x.key) (are_in_order changes (Some x.key) rows) e).1
 

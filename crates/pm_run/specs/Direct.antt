@@ -1,5 +1,5 @@
 -- Private: rows that are read straight from the bytes of a file that is as it is written.
-use Rattle.std.specs.Prelude.{◌≡◌, ◌≤◌, ℕ, List, [], ◌∷◌, Bool, true, Option, Some, None, Ok, length, map}
+use Rattle.std.specs.Prelude.{◌≡◌, ℕ, List, [], Bool, true, Option, Some, None, Ok, length, map}
 use Rattle.pm_values.specs.Fits.{IsInType}
 use Rattle.pm_values.specs.Order.{Values}
 use Rattle.pm_values.specs.declared.column.ColType.{ColType}
@@ -10,7 +10,7 @@ use Rattle.pm_avro_schema.specs.Avro.{Avro}
 use Rattle.pm_avro_schema.specs.View.{fields_of}
 use Rattle.pm_avro_data.specs.Datum.{Data, items_of}
 use Rattle.pm_avro_data.specs.IsDatum.{AreFields, AreItems, IsDatum}
-use Rattle.pm_avro_file.specs.Reader.{Reader}
+use Rattle.pm_avro_file.specs.Reader.{HasBlock, Reader}
 use Rattle.pm_record.specs.Record.{all_differ}
 use Rattle.pm_run.specs.declared.direct.Direct.{Direct}
 use Rattle.pm_run.specs.declared.form.Field.{Field}
@@ -52,9 +52,8 @@ AreRows f changes before rows source rest = (o : Opened) (offset : ℕ) → o.fo
     → (ds : List Data) × (length ds ≡ length rows) × AreItems (IsDatum o.file.kind) ds source rest
     × (judged o before (placed offset ds) ≡ all_judged rows)
 
--- Private: the bytes and the marker are those of an opened file that is as what is written of a form
+-- Private: the marker is that of an opened file that is as what is written of a form
 pub record IsDirect (d : Direct) (f : Form) (changes : Bool) (r : Reader) : Type 0 where
-  pub bytes : d.bytes ≡ r.bytes
   pub marker : d.marker.items ≡ r.marker
   pub written : IsWritten f changes r.kind
 
@@ -62,3 +61,10 @@ pub record IsDirect (d : Direct) (f : Form) (changes : Bool) (r : Reader) : Type
 abbrev pub IsDirectOr : Option Direct → Form → Bool → Reader → Type 0
 IsDirectOr None f changes r = Unit {0}
 IsDirectOr (Some d) f changes r = IsDirect d f changes r
+
+-- Private: of a file of these bytes the block at an offset has so many data, in this content, and ends at the next
+-- offset, if they are data
+abbrev pub HasContent : Direct → List ℕ → ℕ → ℕ → List ℕ → ℕ → Type 0
+HasContent d bytes offset count content next = (f : Form) (changes : Bool) (r : Reader) (ds : List Data)
+    → r.bytes ≡ bytes → IsDirect d f changes r → length ds ≡ count → AreItems (IsDatum r.kind) ds content []
+    → HasBlock r.kind r.marker r.bytes offset ds next

@@ -10,7 +10,8 @@ use Rattle.pm_avro_file.specs.Reader.{HasBlock, HasNoBlock}
 use Rattle.pm_run.specs.declared.reader.Found.{Found}
 use Rattle.pm_run.specs.declared.row_reader.RowsRead.{RowsRead}
 use Rattle.pm_run.specs.Reader.{RunView, StillGives, UnlessMemory}
-use Rattle.pm_run.specs.Rows.{Opened, Judged, Follow, judged, placed}
+use Rattle.pm_run.specs.Order.{last_key}
+use Rattle.pm_run.specs.Rows.{Opened, Judged, Follow, all_judged, judged, placed}
 
 -- Private: what was read of the block at an offset
 abbrev pub judged_read : RowsRead → Judged
@@ -43,3 +44,16 @@ FindsRows o offset before (Ok (Some f)) = (f.next ≤ length o.file.bytes)
     × ((rows : List Stamped) (end : Option Refusal) → StillGives (after_first o f) rows end
     → Follow o offset before (f.first ∷ rows) end)
 FindsRows o offset before (Err e) = UnlessMemory e (Follow o offset before [] (Some e))
+
+-- Private: the block at an offset has rows, after one with the key before, none of which is refused; this is the key of
+-- the last of them, or of that one, how many they are, and the next offset
+abbrev pub JudgesBlock : Opened → ℕ → Option Values → Option Values → ℕ → ℕ → Type 0
+JudgesBlock o offset before last count next = (ds : List Data) × (rows : List Stamped)
+    × HasBlock o.file.kind o.file.marker o.file.bytes offset ds next
+    × (judged o before (placed offset ds) ≡ all_judged rows) × (last ≡ last_key before rows) × (length rows ≡ count)
+
+-- Private: all rows of an opened file follow one with the key before, and this is the key of the last of them, or of
+-- that one, and how many they are
+abbrev pub Judges : Opened → Option Values → Option Values → ℕ → Type 0
+Judges o before last count = (rows : List Stamped) × Follow o o.file.first before rows None
+    × (last ≡ last_key before rows) × (length rows ≡ count)

@@ -93,7 +93,6 @@ abbrev pub Appends : Opened → List Stamped → List Stamped → Type 0
 Appends o before after = (more : List Stamped) × (after ≡ before ++ more)
     × Follow o o.file.first (last_key None before) more None
 
--- why not all were: some of them were put to those before, and this refusal comes after these
-abbrev pub MayNotAppend : Opened → List Stamped → List Stamped → Refusal → Type 0
-MayNotAppend o before after e = (more : List Stamped) × (after ≡ before ++ more)
-    × UnlessMemory e (Follow o o.file.first (last_key None before) more (Some e))
+-- why not all rows of an opened file follow one with the key before: this refusal comes after some of them
+abbrev pub StopsAfter : Opened → Option Values → Refusal → Type 0
+StopsAfter o before e = (more : List Stamped) × UnlessMemory e (Follow o o.file.first before more (Some e))

@@ -4,67 +4,110 @@
 ghost use Rattle.std.specs.Prelude.{◌≡◌, ◌≢◌, ◌≤◌, ◌-◌, ◌++◌, List, [], ℕ, Ok, Some, IfOk, IfSome};
 ghost use Rattle.std.specs.Prelude.{MatchOption, drop, length, pos, take};
 ghost use Rattle.pm_avro_data.specs.Number.{IsInt, IsLong};
-ghost use Rattle.pm_avro_file.specs.Reader.{Opens};
+ghost use Rattle.pm_avro_file.specs.Reader.{IsOpened};
 ghost use Rattle.pm_values.specs.Kind.{code_of};
-ghost use Rattle.pm_run.specs.Direct.{AreCells, AreRows, IsCell, IsDirect, IsDirectOr, IsRow, IsWritten};
-ghost use Rattle.pm_run.specs.Finding.{ReadsBlock};
+ghost use Rattle.pm_run.specs.Direct.{AreCells, AreRows, HasContent, IsCell, IsDirect, IsDirectOr, IsRow, IsWritten};
+ghost use Rattle.pm_run.specs.Finding.{JudgesBlock, ReadsBlock};
 ghost use Rattle.pm_run.specs.Row.{most_sequence};
 ghost use Rattle.pm_run.specs.Rows.{Opened};
+ghost use Rattle.pm_seen.specs.Seen.{seen_value};
 
 use crate::form::{Field, TableForm};
-use crate::leaf::{read_int, read_long, read_scalar, read_size};
+use crate::judge::judge_rows;
+use crate::leaf::{read_int, read_long, read_size, see_scalar};
 use crate::row_reader::{MOST_SEQUENCE, RowsRead, agree, last_key, may_follow, own_key};
 use crate::same::is_written;
 use pm_avro_file::FileReader;
-use pm_base::Blob;
+use pm_seen::{Seen, copied};
 use pm_values::{Key, Kind, Row, Stamped, Value};
 use std::alloc::{AllocError, Global};
 
 /// How many bytes a file's marker has.
 const MARKER: usize = 16;
 
-/// The bytes of a file, and the marker that ends its blocks.
+/// The marker that ends the blocks of a file that is as it is written here.
 #[derive(Drop)]
 pub(crate) struct Direct {
-    pub(crate) bytes: Blob,
     pub(crate) marker: Vec<u8>,
 }
 
 impl Direct {
-    /// The bytes of an opened file of a table of this form, if it is as it is written.
+    /// The marker of an opened file of a table of this form, if it is as it is written.
     pub(crate) fn of(
         alloc: Global,
         form: &TableForm,
         changes: bool,
-        bytes: Blob,
         file: &FileReader,
     ) -> Result<Option<Direct>, AllocError>
-        requires { Opens bytes (Ok file.now) }
+        requires { IsOpened file.now.bytes file.now }
         ensures { IfOk result (λ direct. IsDirectOr direct form.now changes file.now) }
     {
         if !is_written(alloc, file.kind(), form, changes)? {
             return Ok(None);
         }
-        let Some(marker) = marker_before(bytes.as_bytes(), file.first()) else {
+        let Some(marker) = marker_before(file.bytes(), file.first()) else {
             return Ok(None);
         };
         let marker = Vec::from_slice(alloc, marker)?;
-        Ok(Some(Direct { bytes, marker }))
+        Ok(Some(Direct { marker }))
     }
 
-    /// The rows of the block at an offset, after one with the key before, and the offset after it.
+    /// The rows of the block at an offset of the file's bytes, after one with the key before, and the offset after it.
     pub(crate) fn read_block(
         &self,
         alloc: Global,
         form: &TableForm,
         changes: bool,
+        bytes: &[u8],
         offset: usize,
         before: &Option<Key>,
     ) -> Option<(RowsRead, usize)>
         ensures { IfSome result (λ read. (o : Opened) → o.form ≡ form.now → o.changes ≡ changes
-            → IsDirect self.now form.now changes o.file → ReadsBlock o offset before.now (Ok (Some read))) }
+            → o.file.bytes ≡ bytes.now → IsDirect self.now form.now changes o.file
+            → ReadsBlock o offset before.now (Ok (Some read))) }
     {
-        let bytes = self.bytes.as_bytes();
+        let (count, content, next) = self.content(alloc, bytes, offset)?;
+        let rows = read_rows(alloc, form, changes, before, count, content)?;
+        let read = RowsRead {
+            rows,
+            refusal: None,
+        };
+        Some((read, next))
+    }
+
+    /// Judges the rows of the block at an offset of the file's bytes, after one with the key before: the key of the
+    /// last of them or of that one, how many they are, and the offset after the block. A block without rows isn't
+    /// judged here.
+    pub(crate) fn judge_block(
+        &self,
+        alloc: Global,
+        form: &TableForm,
+        changes: bool,
+        bytes: &[u8],
+        offset: usize,
+        before: &Option<Key>,
+    ) -> Option<(Option<Key>, usize, usize)>
+        ensures { IfSome result (λ judged. (o : Opened) → o.form ≡ form.now → o.changes ≡ changes
+            → o.file.bytes ≡ bytes.now → IsDirect self.now form.now changes o.file
+            → JudgesBlock o offset before.now judged.0 judged.1 judged.2) }
+    {
+        let (count, content, next) = self.content(alloc, bytes, offset)?;
+        if count == 0 {
+            return None;
+        }
+        let last = judge_rows(alloc, form, changes, before, count, content)?;
+        Some((last, count, next))
+    }
+
+    /// How many rows the block at an offset of the file's bytes has, their bytes, and the offset after it.
+    pub(crate) fn content<'b>(
+        &self,
+        alloc: Global,
+        bytes: &'b [u8],
+        offset: usize,
+    ) -> Option<(usize, &'b [u8], usize)>
+        ensures { IfSome result (λ found. HasContent self.now bytes.now offset found.0 found.1.now found.2) }
+    {
         if bytes.len() < offset {
             return None;
         }
@@ -75,12 +118,7 @@ impl Direct {
         }
         let (content, after) = left.split_at(size);
         let rest = after_prefix(self.marker.as_slice(), after)?;
-        let rows = read_rows(alloc, form, changes, before, count, content)?;
-        let read = RowsRead {
-            rows,
-            refusal: None,
-        };
-        Some((read, bytes.len() - rest.len()))
+        Some((count, content, bytes.len() - rest.len()))
     }
 }
 
@@ -153,7 +191,8 @@ fn read_row<'b>(alloc: Global, form: &TableForm, bytes: &'b [u8]) -> Option<(Sta
 }
 
 /// The sequence number that the bytes begin with, and the rest.
-fn read_sequence(alloc: Global, bytes: &[u8]) -> Option<(u64, &[u8])>
+#[inline(always)]
+pub(crate) fn read_sequence(alloc: Global, bytes: &[u8]) -> Option<(u64, &[u8])>
     ensures long { IfSome result (λ x. IsLong (pos x.0) bytes.now x.1.now) }
     ensures within { IfSome result (λ x. x.0 ≤ most_sequence) }
 {
@@ -167,7 +206,8 @@ fn read_sequence(alloc: Global, bytes: &[u8]) -> Option<(u64, &[u8])>
 }
 
 /// The kind whose number the bytes begin with, and the rest.
-fn read_kind(alloc: Global, bytes: &[u8]) -> Option<(Kind, &[u8])>
+#[inline(always)]
+pub(crate) fn read_kind(alloc: Global, bytes: &[u8]) -> Option<(Kind, &[u8])>
     ensures { IfSome result (λ x. IsInt (pos (code_of x.0)) bytes.now x.1.now) }
 {
     let (number, rest) = read_int(alloc, bytes)?;
@@ -192,17 +232,30 @@ fn read_values<'b>(
     Some((values, rest))
 }
 
-/// The value of a field that the bytes begin with, and the rest. That of one that may be null stands after the index
-/// of its branch.
+/// The value of a field that the bytes begin with, and the rest.
 fn read_value<'b>(alloc: Global, field: &Field, bytes: &'b [u8]) -> Option<(Value, &'b [u8])>
     ensures { IfSome result (λ x. IsCell field.now x.0 bytes.now x.1.now) }
 {
+    let (seen, rest) = see_value(alloc, field, bytes)?;
+    Some((copied(alloc, seen).ok()?, rest))
+}
+
+/// The value of a field that the bytes begin with, where it lies, and the rest. That of one that may be null stands
+/// after the index of its branch.
+#[inline(always)]
+pub(crate) fn see_value<'b>(
+    alloc: Global,
+    field: &Field,
+    bytes: &'b [u8],
+) -> Option<(Seen<'b>, &'b [u8])>
+    ensures { IfSome result (λ x. IsCell field.now (seen_value x.0) bytes.now x.1.now) }
+{
     if !field.nullable {
-        return read_scalar(alloc, field.kind, bytes);
+        return see_scalar(alloc, field.kind, bytes);
     }
     match bytes.split_first()? {
-        (0, rest) => Some((Value::Null, rest)),
-        (2, rest) => read_scalar(alloc, field.kind, rest),
+        (0, rest) => Some((Seen::Null, rest)),
+        (2, rest) => see_scalar(alloc, field.kind, rest),
         _ => None,
     }
 }

@@ -33,10 +33,13 @@ pub(crate) struct TableForm {
     pub(crate) places: Vec<usize>,
     /// The indexes of the primary key's columns, in its order.
     pub(crate) primary: Vec<usize>,
+    /// Whether these are the places, as where the table has no partition columns.
+    pub(crate) whole: bool,
     pub(crate) engine: EngineKind,
 }
 
 impl Model for TableForm {
+    ghost use Rattle.std.specs.Prelude.{◌≡◌, true};
     ghost use Rattle.pm_run.specs.Form.{Form};
 
     ghost Value = { Form };
@@ -48,6 +51,8 @@ impl Model for TableForm {
       primary = f.primary.items;
       engine = f.engine;
     } };
+
+    ghost invariant = { λ f. f.whole ≡ true → f.places.items ≡ f.primary.items };
 }
 
 impl TableForm {
@@ -58,12 +63,18 @@ impl TableForm {
         let columns = schema.columns.as_slice();
         let partition = schema.partition.as_slice();
         let primary = schema.primary.as_slice();
+        let columns = fields_of(alloc, columns)?;
+        let keys = key_fields(alloc, schema.columns.as_slice(), partition, primary)?;
+        let places = key_places(alloc, schema, partition, primary)?;
+        let primary = indexes_of(alloc, schema, primary)?;
+        let whole = places.as_slice() == primary.as_slice();
         Ok(TableForm {
-            columns: fields_of(alloc, columns)?,
-            keys: key_fields(alloc, columns, partition, primary)?,
-            places: key_places(alloc, schema, partition, primary)?,
-            primary: indexes_of(alloc, schema, primary)?,
+            columns,
+            keys,
+            places,
+            primary,
             engine: schema.options.engine,
+            whole,
         })
     }
 

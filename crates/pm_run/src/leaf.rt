@@ -7,11 +7,12 @@ ghost use Rattle.pm_avro_data.specs.Number.{AreGroups, IsInt, IsLong};
 ghost use Rattle.pm_avro_data.specs.Reading.{unzigzag};
 ghost use Rattle.pm_run.specs.Direct.{IsScalar};
 ghost use Rattle.pm_run.specs.Rows.{AreBytes};
+ghost use Rattle.pm_seen.specs.Seen.{seen_value};
 
 use pm_avro_data::{Datum, decode};
 use pm_avro_schema::AvroType;
-use pm_base::{Blob, Txt};
-use pm_values::{ColType, Value};
+use pm_seen::Seen;
+use pm_values::ColType;
 use std::alloc::Global;
 use std::str;
 
@@ -22,6 +23,7 @@ const FIRST_DAY: i32 = -719162;
 const LAST_DAY: i32 = 2932896;
 
 /// The number in at most four groups that the bytes begin with, and the rest.
+#[inline(always)]
 fn read_groups(bytes: &[u8]) -> Option<(u64, &[u8])>
     ensures groups { IfSome result (λ x. AreGroups x.0 bytes.now x.1.now) }
     ensures short { IfSome result (λ x. length bytes.now ≤ length x.1.now + 4) }
@@ -52,6 +54,7 @@ fn read_groups(bytes: &[u8]) -> Option<(u64, &[u8])>
 }
 
 /// The integer that a number stands for.
+#[inline(always)]
 fn from_zigzag(number: u64) -> i64
     ensures { result ≡ unzigzag number }
 {
@@ -60,6 +63,7 @@ fn from_zigzag(number: u64) -> i64
 }
 
 /// The long that the bytes begin with, and the rest.
+#[inline(always)]
 pub(crate) fn read_long(alloc: Global, bytes: &[u8]) -> Option<(i64, &[u8])>
     ensures { IfSome result (λ x. IsLong x.0 bytes.now x.1.now) }
 {
@@ -70,6 +74,7 @@ pub(crate) fn read_long(alloc: Global, bytes: &[u8]) -> Option<(i64, &[u8])>
 }
 
 /// The same of a long in any number of groups.
+#[inline(never)]
 fn read_wide_long(alloc: Global, bytes: &[u8]) -> Option<(i64, &[u8])>
     ensures { IfSome result (λ x. IsLong x.0 bytes.now x.1.now) }
 {
@@ -80,6 +85,7 @@ fn read_wide_long(alloc: Global, bytes: &[u8]) -> Option<(i64, &[u8])>
 }
 
 /// The int that the bytes begin with, and the rest.
+#[inline(always)]
 pub(crate) fn read_int(alloc: Global, bytes: &[u8]) -> Option<(i32, &[u8])>
     ensures { IfSome result (λ x. IsInt x.0 bytes.now x.1.now) }
 {
@@ -90,6 +96,7 @@ pub(crate) fn read_int(alloc: Global, bytes: &[u8]) -> Option<(i32, &[u8])>
 }
 
 /// The same of an int in any number of groups.
+#[inline(never)]
 fn read_wide_int(alloc: Global, bytes: &[u8]) -> Option<(i32, &[u8])>
     ensures { IfSome result (λ x. IsInt x.0 bytes.now x.1.now) }
 {
@@ -100,6 +107,7 @@ fn read_wide_int(alloc: Global, bytes: &[u8]) -> Option<(i32, &[u8])>
 }
 
 /// The size that the bytes begin with, a long that isn't negative, and the rest.
+#[inline(always)]
 pub(crate) fn read_size(alloc: Global, bytes: &[u8]) -> Option<(usize, &[u8])>
     ensures { IfSome result (λ x. IsLong (pos x.0) bytes.now x.1.now) }
 {
@@ -111,6 +119,7 @@ pub(crate) fn read_size(alloc: Global, bytes: &[u8]) -> Option<(usize, &[u8])>
 }
 
 /// The bytes that stand first, with their length, where they lie, and the rest.
+#[inline(always)]
 fn read_bytes(alloc: Global, bytes: &[u8]) -> Option<(&[u8], &[u8])>
     ensures { IfSome result (λ x. IsBytes x.0.now bytes.now x.1.now) }
 {
@@ -121,23 +130,23 @@ fn read_bytes(alloc: Global, bytes: &[u8]) -> Option<(&[u8], &[u8])>
     Some(rest.split_at(size))
 }
 
-/// The text that the bytes begin with, and the rest.
-fn read_text(alloc: Global, bytes: &[u8]) -> Option<(Txt, &[u8])>
-    ensures { IfSome result (λ x. IsText x.0 bytes.now x.1.now) }
+/// The text that the bytes begin with, where it lies, and the rest.
+#[inline(always)]
+fn read_text(alloc: Global, bytes: &[u8]) -> Option<(&str, &[u8])>
+    ensures { IfSome result (λ x. IsText x.0.now bytes.now x.1.now) }
 {
     let (content, rest) = read_bytes(alloc, bytes)?;
-    let text = str::from_utf8(content).ok()?;
-    Some((Txt::from_str(alloc, text).ok()?, rest))
+    Some((str::from_utf8(content).ok()?, rest))
 }
 
-/// The bytes that stand first, with their length, copied, and the rest.
-fn read_blob(alloc: Global, bytes: &[u8]) -> Option<(Blob, &[u8])>
-    ensures bytes { IfSome result (λ x. IsBytes x.0 bytes.now x.1.now) }
-    ensures each { IfSome result (λ x. AreBytes x.0) }
+/// The bytes that stand first, with their length, where they lie, and the rest.
+fn read_blob(alloc: Global, bytes: &[u8]) -> Option<(&[u8], &[u8])>
+    ensures bytes { IfSome result (λ x. IsBytes x.0.now bytes.now x.1.now) }
+    ensures each { IfSome result (λ x. AreBytes x.0.now) }
 {
     let (content, rest) = read_bytes(alloc, bytes)?;
     known_bytes(content);
-    Some((Blob::from_slice(alloc, content).ok()?, rest))
+    Some((content, rest))
 }
 
 /// States for clauses that each of these numbers is a byte.
@@ -146,12 +155,12 @@ pub(crate) fn known_bytes(bytes: &[u8])
 {}
 
 /// The value of a boolean that the bytes begin with, and the rest.
-fn read_boolean(bytes: &[u8]) -> Option<(Value, &[u8])>
-    ensures { IfSome result (λ x. IsScalar ColType.Boolean x.0 bytes.now x.1.now) }
+fn read_boolean(bytes: &[u8]) -> Option<(Seen, &[u8])>
+    ensures { IfSome result (λ x. IsScalar ColType.Boolean (seen_value x.0) bytes.now x.1.now) }
 {
     match bytes.split_first()? {
-        (0, rest) => Some((Value::Bool(false), rest)),
-        (1, rest) => Some((Value::Bool(true), rest)),
+        (0, rest) => Some((Seen::Bool(false), rest)),
+        (1, rest) => Some((Seen::Bool(true), rest)),
         _ => None,
     }
 }
@@ -169,15 +178,16 @@ fn read_within(alloc: Global, low: i32, high: i32, bytes: &[u8]) -> Option<(i32,
     }
 }
 
-/// The value of a column's type that the bytes begin with, which isn't null, and the rest.
-pub(crate) fn read_scalar(alloc: Global, kind: ColType, bytes: &[u8]) -> Option<(Value, &[u8])>
-    ensures { IfSome result (λ x. IsScalar kind x.0 bytes.now x.1.now) }
+/// The value of a column's type that the bytes begin with, which isn't null, where it lies, and the rest.
+#[inline(always)]
+pub(crate) fn see_scalar(alloc: Global, kind: ColType, bytes: &[u8]) -> Option<(Seen, &[u8])>
+    ensures { IfSome result (λ x. IsScalar kind (seen_value x.0) bytes.now x.1.now) }
 {
     match kind {
         ColType::Boolean => read_boolean(bytes),
         ColType::TinyInt => {
             let (number, rest) = read_within(alloc, i32::from(i8::MIN), i32::from(i8::MAX), bytes)?;
-            Some((Value::Int(i64::from(number)), rest))
+            Some((Seen::Int(i64::from(number)), rest))
         }
         ColType::SmallInt => {
             let (number, rest) = read_within(
@@ -186,31 +196,31 @@ pub(crate) fn read_scalar(alloc: Global, kind: ColType, bytes: &[u8]) -> Option<
                 i32::from(i16::MAX),
                 bytes,
             )?;
-            Some((Value::Int(i64::from(number)), rest))
+            Some((Seen::Int(i64::from(number)), rest))
         }
         ColType::Int => {
             let (number, rest) = read_int(alloc, bytes)?;
-            Some((Value::Int(i64::from(number)), rest))
+            Some((Seen::Int(i64::from(number)), rest))
         }
         ColType::BigInt => {
             let (number, rest) = read_long(alloc, bytes)?;
-            Some((Value::Int(number), rest))
+            Some((Seen::Int(number), rest))
         }
         ColType::Text => {
             let (text, rest) = read_text(alloc, bytes)?;
-            Some((Value::Text(text), rest))
+            Some((Seen::Text(text), rest))
         }
         ColType::Bytes => {
             let (content, rest) = read_blob(alloc, bytes)?;
-            Some((Value::Bytes(content), rest))
+            Some((Seen::Bytes(content), rest))
         }
         ColType::Date => {
             let (day, rest) = read_within(alloc, FIRST_DAY, LAST_DAY, bytes)?;
-            Some((Value::Day(day), rest))
+            Some((Seen::Day(day), rest))
         }
         ColType::Timestamp => {
             let (millis, rest) = read_long(alloc, bytes)?;
-            Some((Value::Millis(millis), rest))
+            Some((Seen::Millis(millis), rest))
         }
     }
 }

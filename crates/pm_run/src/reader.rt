@@ -1,20 +1,23 @@
 //! Files of runs and changelogs that are read row by row or block by block.
 
-ghost use Rattle.std.specs.Prelude.{◌≡◌, ◌≤◌, [], None, Some, Ok, IfErr, IfOk, IfSome, OnOk, false, length};
+ghost use Rattle.std.specs.Prelude.{◌≡◌, ◌≤◌, ℕ, List, [], None, Some, Ok, IfErr, IfOk, IfSome, OnOk, false, length};
+ghost use Rattle.std.specs.Prelude.{option_copied};
 ghost use Rattle.pm_record.specs.File.{IsMemoryOr};
 ghost use Rattle.pm_values.specs.declared.refusal.Refusal.TheVariants.{Damaged};
 ghost use Rattle.pm_schema.specs.Stated.{schema_path};
 ghost use Rattle.pm_run.specs.Direct.{IsDirectOr};
 ghost use Rattle.pm_run.specs.Order.{last_key};
-ghost use Rattle.pm_run.specs.Finding.{FindsRows, ReadsBlock};
-ghost use Rattle.pm_run.specs.Reader.{Appends, GivesBlock, GivesNext, MayNotAppend, OpensRun, before_first};
+ghost use Rattle.pm_run.specs.Finding.{FindsRows, Judges, ReadsBlock};
+ghost use Rattle.pm_run.specs.Reader.{GivesBlock, GivesNext, OpensRun, StopsAfter, before_first};
 ghost use Rattle.pm_run.specs.RowReader.{reader_in};
-ghost use Rattle.pm_run.specs.Rows.{AreBytes, Opened, opened_as};
+ghost use Rattle.pm_run.specs.Rows.{AreBytes, Follow, Opened, opened_as};
 
 use crate::direct::Direct;
 use crate::form::TableForm;
+use crate::judged::JudgedFile;
+use crate::laws::one_list_law;
 use crate::leaf::known_bytes;
-use crate::row_reader::{RowReader, RowsRead};
+use crate::row_reader::{RowReader, RowsRead, last_key};
 use pm_avro_file::FileReader;
 use pm_avro_schema::AvroFault;
 use pm_base::{Blob, Txt};
@@ -99,10 +102,9 @@ impl RunReader {
             return Err(other_schema(alloc, schema_id));
         }
         known_bytes(bytes.as_bytes());
-        let copy = bytes.copy(alloc)?;
         let file = open_file(alloc, path, bytes)?;
         let form = TableForm::of(alloc, schema)?;
-        let direct = Direct::of(alloc, &form, changes, copy, &file)?;
+        let direct = Direct::of(alloc, &form, changes, &file)?;
         match RowReader::of(alloc, file.kind(), form, changes)? {
             Some(rows) => Ok(RunReader::before_first(alloc, path, rows, direct, file)?),
             None => Err(damaged(alloc, path, 0)),
@@ -185,20 +187,63 @@ impl RunReader {
         }
     }
 
-    /// Adds all rows of the file to those of the files before it in its run, the last of which the first has to follow.
-    /// Refusals are those of `next`; the rows that come before one were added.
-    pub fn append_rows(&self, alloc: Global, rows: &mut Vec<Stamped>) -> Result<(), Refusal>
-        ensures appends { OnOk result (Appends self.now.opened rows.old.items rows.new.items) }
-        ensures refuses { IfErr result (MayNotAppend self.now.opened rows.old.items rows.new.items) }
+    /// All rows of the file, of which the first has to follow one with the key before, and the key of the last of them,
+    /// or that one. Refusals are those of `next`.
+    pub fn rows_after(
+        &self,
+        alloc: Global,
+        before: &Option<Key>,
+    ) -> Result<(Vec<Stamped>, Option<Key>), Refusal>
+        ensures follow { IfOk result
+            (λ read. Follow self.now.opened self.now.opened.file.first before.now read.0.items None) }
+        ensures last { IfOk result (λ read. read.1 ≡ last_key before.now read.0.items) }
+        ensures refuses { IfErr result (StopsAfter self.now.opened before.now) }
     {
-        append_rows(
+        rows_after(
             alloc,
             self.path.as_str(),
             &self.rows,
             &self.direct,
             &self.file,
-            rows,
+            before,
         )
+    }
+
+    /// The file with its rows and the key of the last of them, or the key before: all were judged where they lie in its
+    /// bytes, and the first may follow one with the key before. The reader again where that isn't known: for a file
+    /// that isn't as it is written here or has a refusal, for a table with partition columns, and where memory runs
+    /// out.
+    pub fn judged(
+        self,
+        alloc: Global,
+        before: &Option<Key>,
+    ) -> Result<(JudgedFile, Option<Key>), RunReader>
+        ensures follow { IfOk result
+            (λ found. Follow self.opened self.opened.file.first before.now found.0 None) }
+        ensures last { IfOk result (λ found. found.1 ≡ last_key before.now found.0) }
+        ensures again { IfErr result (λ reader. reader ≡ self) }
+    {
+        one_list_law();
+        match judge_file(alloc, &self.rows, &self.direct, &self.file, before) {
+            Some((last, count)) => Ok((JudgedFile::new(self, count), last)),
+            None => Err(self),
+        }
+    }
+
+    /// All bytes of the file.
+    pub(crate) fn bytes(&self) -> &[u8]
+        ensures { result.now ≡ self.now.opened.file.bytes }
+    {
+        self.file.bytes()
+    }
+
+    /// The form of the table, and the marker of the file where it is as it is written here.
+    pub(crate) fn form_and_direct(&self) -> (&TableForm, Option<&Direct>)
+        ensures form { result.0.now ≡ self.now.opened.form }
+        ensures direct { IsDirectOr (option_copied result.1) self.now.opened.form self.now.opened.changes
+            self.now.opened.file }
+    {
+        (&self.rows.form, self.direct.as_ref())
     }
 
     /// The offset of the first block, or of the end.
@@ -279,7 +324,7 @@ fn find_rows(
     let mut offset = offset;
     while let Some((read, next)) = read_block(alloc, path, reader, direct, file, offset, before)? {
         let RowsRead { rows, refusal } = read;
-        let last = copied_last(alloc, &rows)?;
+        let last = last_of(alloc, None, &rows)?;
         let mut later = rows.into_iter();
         if let Some(first) = later.next() {
             return Ok(Some(Found {
@@ -298,63 +343,93 @@ fn find_rows(
     Ok(None)
 }
 
-/// Adds the rows of a file to those before them in a run.
-fn append_rows(
+/// The rows of a file, after one with the key before, and the key of the last of them, or that one.
+fn rows_after(
     alloc: Global,
     path: &str,
     reader: &RowReader,
     direct: &Option<Direct>,
     file: &FileReader,
-    rows: &mut Vec<Stamped>,
-) -> Result<(), Refusal>
+    before: &Option<Key>,
+) -> Result<(Vec<Stamped>, Option<Key>), Refusal>
     requires of_kind { Some reader.now ≡ reader_in reader.now.form reader.now.changes file.now.kind }
     requires direct { IsDirectOr direct.now reader.now.form reader.now.changes file.now }
-    ensures appends { OnOk result
-        (Appends (opened_as path.now reader.now.form reader.now.changes file.now) rows.old.items rows.new.items) }
+    ensures follow { IfOk result (λ read.
+        Follow (opened_as path.now reader.now.form reader.now.changes file.now) file.now.first before.now read.0.items
+        None) }
+    ensures last { IfOk result (λ read. read.1 ≡ last_key before.now read.0.items) }
     ensures refuses { IfErr result
-        (MayNotAppend (opened_as path.now reader.now.form reader.now.changes file.now) rows.old.items
-        rows.new.items) }
+        (StopsAfter (opened_as path.now reader.now.form reader.now.changes file.now) before.now) }
 {
+    let mut rows = Vec::new(alloc);
+    let mut last = copied_key(alloc, before)?;
     let mut offset = file.first();
-    while let Some((read, after)) = read_after(alloc, path, reader, direct, file, offset, rows)? {
+    while let Some((read, after)) = read_block(alloc, path, reader, direct, file, offset, &last)? {
         let RowsRead { rows: own, refusal } = read;
-        let mut own = own;
-        rows.append(&mut own)?;
         if let Some(refusal) = refusal {
             return Err(refusal);
         }
+        last = last_of(alloc, last, &own)?;
+        let mut own = own;
+        rows.append(&mut own)?;
         offset = after;
     }
-    Ok(())
+    Ok((rows, last))
 }
 
-/// The rows of the block at an offset, after these rows, and the offset after it; none at the end.
-fn read_after(
+/// Judges the rows of a file that is as it is written here, after one with the key before, where they lie: the key of
+/// the last of them, or of that one, and how many they are.
+fn judge_file(
     alloc: Global,
-    path: &str,
-    reader: &RowReader,
+    rows: &RowReader,
     direct: &Option<Direct>,
     file: &FileReader,
-    offset: usize,
-    rows: &[Stamped],
-) -> Result<Option<(RowsRead, usize)>, Refusal>
-    requires within { offset ≤ length file.now.bytes }
-    requires of_kind { Some reader.now ≡ reader_in reader.now.form reader.now.changes file.now.kind }
-    requires direct { IsDirectOr direct.now reader.now.form reader.now.changes file.now }
-    ensures { ReadsBlock (opened_as path.now reader.now.form reader.now.changes file.now) offset
-        (last_key None rows.now) result }
+    before: &Option<Key>,
+) -> Option<(Option<Key>, usize)>
+    requires { IsDirectOr direct.now rows.now.form rows.now.changes file.now }
+    ensures { IfSome result (λ judged. (path : List ℕ)
+        → Judges (opened_as path rows.now.form rows.now.changes file.now) before.now judged.0 judged.1) }
 {
-    let before = copied_last(alloc, rows)?;
-    read_block(alloc, path, reader, direct, file, offset, &before)
+    let Some(direct) = direct else {
+        return None;
+    };
+    let mut last = copied_key(alloc, before).ok()?;
+    let mut count: usize = 0;
+    let mut offset = file.first();
+    let bytes = file.bytes();
+    while offset != bytes.len() {
+        let (key, own, end) = direct.judge_block(
+            alloc,
+            &rows.form,
+            rows.changes,
+            bytes,
+            offset,
+            &last,
+        )?;
+        last = key;
+        count = count.checked_add(own)?;
+        offset = end;
+    }
+    Some((last, count))
 }
 
-/// The key of the last row.
-fn copied_last(alloc: Global, rows: &[Stamped]) -> Result<Option<Key>, AllocError>
-    ensures { IfOk result (λ last. last ≡ last_key None rows.now) }
+/// A copy of a key, if there is one.
+fn copied_key(alloc: Global, key: &Option<Key>) -> Result<Option<Key>, AllocError>
+    ensures { IfOk result (λ copy. copy ≡ key.now) }
+{
+    match key {
+        Some(key) => Ok(Some(key.copy(alloc)?)),
+        None => Ok(None),
+    }
+}
+
+/// The key of the last row, or the one before.
+fn last_of(alloc: Global, before: Option<Key>, rows: &[Stamped]) -> Result<Option<Key>, AllocError>
+    ensures { IfOk result (λ last. last ≡ last_key before rows.now) }
 {
     match rows.last() {
         Some(row) => Ok(Some(row.key.copy(alloc)?)),
-        None => Ok(None),
+        None => Ok(before),
     }
 }
 
@@ -373,7 +448,7 @@ fn read_block(
     requires direct { IsDirectOr direct.now rows.now.form rows.now.changes file.now }
     ensures { ReadsBlock (opened_as path.now rows.now.form rows.now.changes file.now) offset before.now result }
 {
-    if let Some(found) = read_direct(alloc, rows, direct, offset, before) {
+    if let Some(found) = read_direct(alloc, rows, direct, file.bytes(), offset, before) {
         return Ok(Some(found));
     }
     match file.block_at(alloc, offset) {
@@ -392,15 +467,16 @@ fn read_direct(
     alloc: Global,
     rows: &RowReader,
     direct: &Option<Direct>,
+    bytes: &[u8],
     offset: usize,
     before: &Option<Key>,
 ) -> Option<(RowsRead, usize)>
     ensures { IfSome result (λ read. (o : Opened) → o.form ≡ rows.now.form → o.changes ≡ rows.now.changes
-        → IsDirectOr direct.now rows.now.form rows.now.changes o.file
+        → o.file.bytes ≡ bytes.now → IsDirectOr direct.now rows.now.form rows.now.changes o.file
         → ReadsBlock o offset before.now (Ok (Some read))) }
 {
     match direct {
-        Some(direct) => direct.read_block(alloc, &rows.form, rows.changes, offset, before),
+        Some(direct) => direct.read_block(alloc, &rows.form, rows.changes, bytes, offset, before),
         None => None,
     }
 }

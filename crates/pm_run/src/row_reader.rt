@@ -183,7 +183,7 @@ pub(crate) fn own_key(
     requires { agree form.now.places row.now values.items ≡ true }
     ensures { IfOk result (λ key. key ≡ key_of form.now.primary row.now) }
 {
-    if form.places.as_slice() == form.primary.as_slice() {
+    if form.whole {
         Ok(Key::new(values))
     } else {
         key_of(alloc, &form.primary, row)

@@ -3,7 +3,6 @@ use Rattle.std.proofs.Common.{◌≡◌, ◌⊎◌, inl, inr, ℕ, ◌<◌, ◌�
 use Rattle.std.specs.BTreeMap.{IsOrdered}
 use Rattle.std.specs.Global.{Global}
 use Rattle.pm_values.specs.GroupOrder.{group_cmp}
-use Rattle.pm_values.specs.declared.record.Stamped.{Stamped}
 use Rattle.pm_values.specs.declared.refusal.Refusal.{Refusal}
 use Rattle.pm_values.specs.declared.refusal.Refusal.TheVariants as refusals
 use Rattle.pm_store.specs.declared.answer.Answer.{Answer}
@@ -22,7 +21,7 @@ use Rattle.pm_table_view.specs.declared.phase.Phase as view_phase
 use Rattle.pm_table_view.specs.declared.phase.Phase.TheVariants as readers
 use Rattle.pm_table_view.specs.declared.view.View.{View}
 use Rattle.pm_engine.specs.OfSchema.{meaning_of}
-use Rattle.pm_merge.specs.Merge.{IsMerge}
+use Rattle.pm_shown.specs.Shown.{PrintsGroups}
 use Rattle.pm_scan.specs.Collected.{Collected, Takes, nothing_of}
 use Rattle.pm_scan.specs.Jobs.{all_jobs}
 use Rattle.pm_scan.specs.Reading.{ReadingView}
@@ -98,10 +97,10 @@ if_err (Err e) P Q weaker is = weaker e is
 
 -- ---- the files are read
 
--- no file is left, and the rows are merged
-pub rows_ready : (id : ℕ) (c : Collected) (left : List Job) (all : Vec Stamped Global) → left ≡ [] → IsMerge (meaning_of c.schema) c.shown all.items
-    → GoesOn id c left (phases.Ready id all)
-rows_ready id c left all none merge = subst (λ (jobs : List Job). GoesOn id c jobs (phases.Ready id all)) (sym none) (all, merge, refl)
+-- no file is left, and the groups are printed
+pub text_ready : (id : ℕ) (c : Collected) (left : List Job) (text : Vec ℕ Global) → left ≡ [] → PrintsGroups (meaning_of c.schema) c.groups text.items
+    → GoesOn id c left (phases.Ready id text)
+text_ready id c left text none prints = subst (λ (jobs : List Job). GoesOn id c jobs (phases.Ready id text)) (sym none) (text, prints, refl)
 
 -- nothing is collected of a view that is ready, and all its files are left
 pub start_on : (v : View) (c : Collected) (jobs : List Job) (later : Phase) → c ≡ nothing_of v.schema → jobs ≡ all_jobs v.schema v.groups.entries → length jobs ≤ most

@@ -4,7 +4,6 @@ use Rattle.std.specs.FinMap as map
 use Rattle.std.specs.Global.{Global}
 use Rattle.pm_base.specs.Faults.{Rose}
 use Rattle.pm_values.specs.declared.group.Group.{Group}
-use Rattle.pm_values.specs.declared.record.Stamped.{Stamped}
 use Rattle.pm_values.specs.declared.refusal.Refusal.{Refusal}
 use Rattle.pm_values.specs.declared.refusal.Refusal.TheVariants as refusals
 use Rattle.pm_store.specs.declared.call.Call.TheVariants as calls
@@ -18,8 +17,7 @@ use Rattle.pm_history.specs.Merged.{scan_text}
 use Rattle.pm_schema.specs.Again.{IsDeclared}
 use Rattle.pm_schema.specs.declared.schema.TableSchema.{TableSchema}
 use Rattle.pm_engine.specs.OfSchema.{meaning_of}
-use Rattle.pm_merge.specs.Merge.{IsMerge}
-use Rattle.pm_shown.specs.Shown.{lines_of}
+use Rattle.pm_shown.specs.Shown.{PrintsGroups}
 use Rattle.pm_contents.specs.Groups.{GroupRuns}
 use Rattle.pm_contents.specs.Runs.{data_path}
 use Rattle.pm_folder.specs.Folder.{Folder, HasTable}
@@ -108,15 +106,15 @@ shows_still : (a : Asked) (refusal : Refusal) (own : List Event) → Shows a ref
 shows_still a refusal own (inl shows) = view_shows_still a refusal own shows
 shows_still a refusal own (inr shows) = files_shows_still a refusal own shows
 
-ends_still : (a : Asked) (result : Result (List Stamped) Refusal) (own : List Event) → Ends a result own → AreStill own
-ends_still a (Ok rows) own (id, scan) = part_still a scan.view scan.collected [] own scan.all_read
+ends_still : (a : Asked) (result : Result (List ℕ) Refusal) (own : List Event) → Ends a result own → AreStill own
+ends_still a (Ok text) own (id, scan) = part_still a scan.view scan.collected [] own scan.all_read
 ends_still a (Err refusal) own shows = shows_still a refusal own shows
 
 calls_join : (own more : List Event) → AreCalls own → AreStill more → AreCalls (own ++ more)
 calls_join [] more (still, begins) then = absurd begins
 calls_join (event ∷ own) more (still, begins) then = (still_join (event ∷ own) more still then, begins)
 
-did_calls : (s : TableSchema) (at : Option ℕ) (result : Result (List Stamped) Refusal) (own : List Event) → DidScan s at result own → MayCall own
+did_calls : (s : TableSchema) (at : Option ℕ) (result : Result (List ℕ) Refusal) (own : List Event) → DidScan s at result own → MayCall own
 did_calls s at result own (earlier, later, has, is, does) =
     may_call own (subst AreCalls (sym is) (calls_join earlier later (schema.ready_calls s earlier has) (ends_still (asked_at s at) result later does)))
 
@@ -226,22 +224,22 @@ module _ (laws : AllLaws) (f : Files) (s : TableSchema) (entries : List Entry) (
       other (file-refused laws.scans.rows f s n.group n.file n.own n.end bytes c.rows refusal n.has
       (sym (got.2 ∙ ap (λ (job : Job). map.get f job.path) n.is)) n.rising of_file)
 
-  -- ---- the rows
+  -- ---- the text
 
-  text_in : (v : View) (c : Collected) (rows : List Stamped) (own : List Event) → (part : HasPart a v c [] own) → HaveTaken f (all_jobs v.schema v.groups.entries) (nothing_of v.schema) c
-      → IsMerge (meaning_of v.schema) c.shown rows → HasView a v part.first → AreTold f part.first
-      → IsAsked (wanted_of at) (length entries) v.id × IsSome (map.get f (path_of s v.id)) × (lines_of rows ≡ scan_text s (rows_up_to entries v.id))
-  text_in v c rows own part taken merge (of_origin bytes view reads) told =
+  view_text : (v : View) (c : Collected) (text : List ℕ) (own : List Event) → (part : HasPart a v c [] own) → HaveTaken f (all_jobs v.schema v.groups.entries) (nothing_of v.schema) c
+      → PrintsGroups (meaning_of v.schema) c.groups text → HasView a v part.first → AreTold f part.first
+      → IsAsked (wanted_of at) (length entries) v.id × IsSome (map.get f (path_of s v.id)) × (text ≡ scan_text s (rows_up_to entries v.id))
+  view_text v c text own part taken prints (of_origin bytes view reads) told =
       let w = wanted_of at in
       let origin = reads_at laws.views f s entries folder w (begins at) 0 (origin_path s) (Some bytes) part.first reads told in (
         subst (IsAsked w (length entries)) (sym view.id) origin.0,
         subst (λ (id : ℕ). IsSome (map.get f (path_of s id))) (sym view.id) (some_there f (origin_path s) bytes (sym origin.1)),
-        scanned-origin laws.scans f s entries v.groups.entries c rows declared view.groups
+        scanned-origin laws.scans f s entries v.groups.entries c text declared view.groups
             (subst (λ (t : TableSchema). HaveTaken f (all_jobs t v.groups.entries) (nothing_of t) c) view.schema taken)
-            (subst (λ (t : TableSchema). IsMerge (meaning_of t) c.shown rows) view.schema merge)
+            (subst (λ (t : TableSchema). PrintsGroups (meaning_of t) c.groups text) view.schema prints)
             ∙ ap (λ (id : ℕ). scan_text s (rows_up_to entries id)) (sym view.id),
       )
-  text_in v c rows own part taken merge (of_snapshot x metas es live read left view) told =
+  view_text v c text own part taken prints (of_snapshot x metas es live read left view) told =
       let w = wanted_of at in
       let p = part_at laws.views f s entries folder w (begins at) x metas [] es part.first read told in
       let is = committed laws.views f s entries folder w (begins at) x p.at in (
@@ -249,31 +247,31 @@ module _ (laws : AllLaws) (f : Files) (s : TableSchema) (entries : List Entry) (
         subst (λ (id : ℕ). IsSome (map.get f (path_of s id))) (sym view.id)
             (some_there f (path_of s x.id) p.at.there.0
             (ap (map.get f) (path_is laws.views f s entries folder w (begins at) x.id p.at.least) ∙ p.at.there.1)),
-        scanned-view laws.scans laws.views.contents f s entries x.id x p.base p.delta es live v.groups.entries c rows declared is p.at.there
+        scanned-view laws.scans laws.views.contents f s entries x.id x p.base p.delta es live v.groups.entries c text declared is p.at.there
             (entries_of laws.views f s entries folder w (begins at) x metas es p) left view.order view.groups
             (subst (λ (t : TableSchema). HaveTaken f (all_jobs t v.groups.entries) (nothing_of t) c) view.schema taken)
-            (subst (λ (t : TableSchema). IsMerge (meaning_of t) c.shown rows) view.schema merge)
+            (subst (λ (t : TableSchema). PrintsGroups (meaning_of t) c.groups text) view.schema prints)
             ∙ ap (λ (id : ℕ). scan_text s (rows_up_to entries id)) (sym view.id),
       )
 
-  pub rows_at : (id : ℕ) (rows : List Stamped) (own : List Event) → HasScan a id rows own → AreTold f own
-      → IsThere f s (table s entries) (id_of at (length entries)) × PrintsScan (table s entries) at rows
-  rows_at id rows own scan told =
+  pub text_at : (id : ℕ) (text : List ℕ) (own : List Event) → HasScan a id text own → AreTold f own
+      → IsThere f s (table s entries) (id_of at (length entries)) × PrintsScan (table s entries) at text
+  text_at id text own scan told =
       let v = scan.view in
       let c = scan.collected in
       let part = scan.all_read in
       let read = taken_at v c [] own part told in
       let taken : HaveTaken f (all_jobs v.schema v.groups.entries) (nothing_of v.schema) c =
       subst (λ (jobs : List Job). HaveTaken f jobs (nothing_of v.schema) c) (sym (part.parts ∙ append-nil part.done)) read in
-      let merge : IsMerge (meaning_of v.schema) c.shown rows =
-      subst (λ (t : TableSchema). IsMerge (meaning_of t) c.shown rows) (taken-schema f part.done (nothing_of v.schema) c read) scan.merged in
-      let text = text_in v c rows own part taken merge part.viewed (halves v c [] own part told).0 in
-      let same : v.id ≡ id_of at (length entries) = asked_id at (length entries) v.id text.0 in (
+      let prints : PrintsGroups (meaning_of v.schema) c.groups text =
+      subst (λ (t : TableSchema). PrintsGroups (meaning_of t) c.groups text) (taken-schema f part.done (nothing_of v.schema) c read) scan.prints in
+      let got = view_text v c text own part taken prints part.viewed (halves v c [] own part told).0 in
+      let same : v.id ≡ id_of at (length entries) = asked_id at (length entries) v.id got.0 in (
         (
-          subst (λ (id : ℕ). id ≤ length entries) same (asked_up_to (wanted_of at) (length entries) v.id text.0),
-          subst (λ (id : ℕ). IsSome (map.get f (path_of s id))) same text.1,
+          subst (λ (id : ℕ). id ≤ length entries) same (asked_up_to (wanted_of at) (length entries) v.id got.0),
+          subst (λ (id : ℕ). IsSome (map.get f (path_of s id))) same got.1,
         ),
-        text.2 ∙ ap (λ (id : ℕ). scan_text s (rows_up_to entries id)) same,
+        got.2 ∙ ap (λ (id : ℕ). scan_text s (rows_up_to entries id)) same,
       )
 
   -- ---- the refusals
@@ -339,10 +337,10 @@ tabled f s (table t entries) folder is = record {
   folder = subst (λ (t : TableSchema). HasTable f t entries) is folder;
 }
 
-pub scanned_history : AllLaws → (s : TableSchema) (at : Option ℕ) (result : Result (List Stamped) Refusal) (before after : StoreView) → IsDeclared s
+pub scanned_history : AllLaws → (s : TableSchema) (at : Option ℕ) (result : Result (List ℕ) Refusal) (before after : StoreView) → IsDeclared s
     → HasTrace (DidScan s at result) before after → ScansTables s at before after result
-scanned_history laws s at (Ok rows) before after declared (own, (earlier, later, has, is, (id, scan)), trace) =
-    let may = did_calls s at (Ok rows) own (earlier, later, has, is, (id, scan)) in
+scanned_history laws s at (Ok text) before after declared (own, (earlier, later, has, is, (id, scan)), trace) =
+    let may = did_calls s at (Ok text) own (earlier, later, has, is, (id, scan)) in
     let moment = Traces-first schemas_call own before after may.1 trace in (
       moment.0,
       moment.1,
@@ -351,12 +349,12 @@ scanned_history laws s at (Ok rows) before after declared (own, (earlier, later,
           let told = told_join f earlier later (subst (AreTold f) is stay.1) in
           let table_is = schema.ready_at f h folder s earlier has told.0 in
           let t = tabled f s h folder table_is in
-          let got = rows_at laws f s t.entries t.folder declared at id rows later scan told.1 in
+          let got = text_at laws f s t.entries t.folder declared at id text later scan told.1 in
           record {
             files = stay.0;
             schema = table_is;
             there = subst (λ (h : History). IsThere f s h (id_of at (count_of h))) (sym t.is) got.0;
-            rows = subst (λ (h : History). PrintsScan h at rows) (sym t.is) got.1;
+            text = subst (λ (h : History). PrintsScan h at text) (sym t.is) got.1;
             cause = tt;
           },
     )
@@ -374,7 +372,7 @@ scanned_history laws s at (Err refusal) before after declared (own, (earlier, la
             files = stay.0;
             schema = table_is;
             there = tt;
-            rows = tt;
+            text = tt;
             cause = subst (λ (h : History). IsCaused f s h at moment.0 after refusal) (sym t.is)
                 (caused laws f s t.entries t.folder declared at moment.0 after refusal later shows told.1 (rose_after earlier later own moment.0 after is moment.2));
           },
@@ -397,11 +395,11 @@ was_refused a old new first before after refusal trace acted later =
     let t = HasTrace-acts {did = Did a old} {before = before} trace (acted a) later in
     (t.0, t.1.1, t.2)
 
-pub was_done : (a : Asked) (m : Phase) (id : ℕ) (rows : Vec Stamped Global) (first after : StoreView) → m ≡ phases.Ready id rows → HasTrace (Did a m) first after
-    → HasTrace (Ends a (Ok rows.items)) first after
-was_done a m id rows first after is (own, did, trace) = (own, (id, subst (λ (m : Phase). Did a m own) is did), trace)
+pub was_done : (a : Asked) (m : Phase) (id : ℕ) (text : Vec ℕ Global) (first after : StoreView) → m ≡ phases.Ready id text → HasTrace (Did a m) first after
+    → HasTrace (Ends a (Ok text.items)) first after
+was_done a m id text first after is (own, did, trace) = (own, (id, subst (λ (m : Phase). Did a m own) is did), trace)
 
--- a step that went on leaves a call, or the rows are ready
+-- a step that went on leaves a call, or the text is ready
 pub call_left : (step : ScanStep) (m : Phase) → Reaches step m → ¬ IsReady m → 0 < calls_left m
 call_left steps.More m reaches not = reaches
 call_left steps.Ready m reaches not = absurd (not reaches)
@@ -419,7 +417,7 @@ Traces-join own (event ∷ more) first middle after trace (next, ended, early, r
     (Traces-join (own ++ event ∷ []) more first next after (Traces-push own event first middle next trace ended early) rest)
 
 -- the calls go on from those that read the schema
-pub went_on : (s : TableSchema) (at : Option ℕ) (result : Result (List Stamped) Refusal) (first middle after : StoreView) → HasTrace (Has s) first middle
+pub went_on : (s : TableSchema) (at : Option ℕ) (result : Result (List ℕ) Refusal) (first middle after : StoreView) → HasTrace (Has s) first middle
     → HasTrace (Ends (asked_at s at) result) middle after → HasTrace (DidScan s at result) first after
 went_on s at result first middle after (earlier, has, trace) (later, does, rest) =
     (earlier ++ later, (earlier, later, has, refl, does), Traces-join earlier later first middle after trace rest)

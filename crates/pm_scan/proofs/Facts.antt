@@ -23,9 +23,8 @@ use Rattle.pm_machine.specs.Step.{path_of, Answered, Stepped, Rested, Went, Refu
 use Rattle.pm_machine.specs.Trace.{Event, Recounts, answered, faulted}
 use Rattle.pm_history.specs.History.{IsTableOf}
 use Rattle.pm_schema.specs.declared.schema.TableSchema.{TableSchema}
-use Rattle.pm_engine.specs.Covers.{Run}
 use Rattle.pm_engine.specs.OfSchema.{meaning_of}
-use Rattle.pm_merge.specs.Merge.{IsMerge}
+use Rattle.pm_shown.specs.Shown.{PrintsGroups}
 use Rattle.pm_folder.specs.Changes.{Actor}
 use Rattle.pm_folder.specs.Ledger.{Advances, Past, Stands}
 use Rattle.pm_folder.specs.Paths.{snapshot_path}
@@ -60,12 +59,12 @@ use Rattle.pm_scan.proofs.KeptLemmas.{reading-kept, scan-kept}
 pub record FileLaws : Type 0 where
   pub first : (p : Past) (v : View) (job : Job) (jobs : List Job) → IsTableOf v.schema p.history → IsViewIn p v → IsOrdered group_cmp v.groups
       → all_jobs v.schema v.groups.entries ≡ job ∷ jobs → IsReadingOf p (reading_of v.id (nothing_of v.schema) job jobs)
-  pub all : (f : Files) (p : Past) (v : View) → Stands f p → IsTableOf v.schema p.history → IsViewIn p v → IsOrdered group_cmp v.groups → (c : Collected) (rows : Run)
-      → HaveTaken (p.stood v.id) (all_jobs v.schema v.groups.entries) (nothing_of v.schema) c → IsMerge (meaning_of c.schema) c.shown rows → IsScan p v.id rows
+  pub all : (f : Files) (p : Past) (v : View) → Stands f p → IsTableOf v.schema p.history → IsViewIn p v → IsOrdered group_cmp v.groups → (c : Collected) (text : List ℕ)
+      → HaveTaken (p.stood v.id) (all_jobs v.schema v.groups.entries) (nothing_of v.schema) c → PrintsGroups (meaning_of c.schema) c.groups text → IsScan p v.id text
   pub more : (f : Files) (p : Past) → Stands f p → (r : ReadingView) → IsReadingOf p r → (bytes : List ℕ) (c : Collected) (job : Job) (jobs : List Job)
       → map.get f r.next.path ≡ Some bytes → Takes r.next bytes r.collected c → r.rest ≡ job ∷ jobs → IsReadingOf p (reading_of r.id c job jobs)
-  pub last : (f : Files) (p : Past) → Stands f p → (r : ReadingView) → IsReadingOf p r → (bytes : List ℕ) (c : Collected) (rows : Run)
-      → map.get f r.next.path ≡ Some bytes → Takes r.next bytes r.collected c → r.rest ≡ [] → IsMerge (meaning_of c.schema) c.shown rows → IsScan p r.id rows
+  pub last : (f : Files) (p : Past) → Stands f p → (r : ReadingView) → IsReadingOf p r → (bytes : List ℕ) (c : Collected) (text : List ℕ)
+      → map.get f r.next.path ≡ Some bytes → Takes r.next bytes r.collected c → r.rest ≡ [] → PrintsGroups (meaning_of c.schema) c.groups text → IsScan p r.id text
   pub gone : (f : Files) (p : Past) → Stands f p → (r : ReadingView) → IsReadingOf p r → map.get f r.next.path ≡ None → (s : TableSchema) × HasGone f p s r.id
 
 -- ---- its calls change nothing
@@ -77,7 +76,7 @@ changes_on : Joined → OneList → (m : Phase) (f : Files) (p : Past) → Stand
 changes_on law one (phases.View r) f p stands known = (reader_facts.sound law one).changes r f p stands known
 changes_on law one (phases.Files r) f p stands known = λ effect. (p, kept f _ p (read_effect r.next.path effect f))
 changes_on law one (phases.Again id path) f p stands known = λ effect. (p, kept f _ p (read_effect (snapshot_path id) effect f))
-changes_on law one (phases.Ready id rows) f p stands known = tt
+changes_on law one (phases.Ready id text) f p stands known = tt
 changes_on law one phases.Over f p stands known = tt
 
 -- ---- what it knows
@@ -85,10 +84,10 @@ changes_on law one phases.Over f p stands known = tt
 -- once the view is ready
 start_known : FileLaws → (v : View) (jobs : List Job) (new : Phase) (f g : Files) (p : Past) → Stands f p → IsOrdered group_cmp v.groups → IsTableOf v.schema p.history
     → IsViewIn p v → all_jobs v.schema v.groups.entries ≡ jobs → GoesOn v.id (nothing_of v.schema) jobs new → Knows new g p
-start_known laws v [] new f g p stands order table is_view parts (rows, merge, is) =
+start_known laws v [] new f g p stands order table is_view parts (text, prints, is) =
     let none : HaveTaken (p.stood v.id) (all_jobs v.schema v.groups.entries) (nothing_of v.schema) (nothing_of v.schema) =
     subst (λ (jobs : List Job). HaveTaken (p.stood v.id) jobs (nothing_of v.schema) (nothing_of v.schema)) (sym parts) refl in
-    subst (λ (m : Phase). Knows m g p) (sym is) (laws.all f p v stands table is_view order (nothing_of v.schema) rows.items none merge)
+    subst (λ (m : Phase). Knows m g p) (sym is) (laws.all f p v stands table is_view order (nothing_of v.schema) text.items none prints)
 start_known laws v (job ∷ jobs) new f g p stands order table is_view parts is =
     subst (λ (m : Phase). Knows m g p) (sym is) (laws.first p v job jobs table is_view order parts)
 
@@ -115,8 +114,8 @@ reader_leads laws r to new f g p stands after (later, stays, known) =
 -- once the next file was read
 file_known : FileLaws → (f : Files) (p : Past) → Stands f p → (r : ReadingView) → IsReadingOf p r → (bytes : List ℕ) (c : Collected) (jobs : List Job) (new : Phase)
     → map.get f r.next.path ≡ Some bytes → Takes r.next bytes r.collected c → r.rest ≡ jobs → GoesOn r.id c jobs new → Knows new f p
-file_known laws f p stands r known bytes c [] new there takes rest (rows, merge, is) =
-    subst (λ (m : Phase). Knows m f p) (sym is) (laws.last f p stands r known bytes c rows.items there takes rest merge)
+file_known laws f p stands r known bytes c [] new there takes rest (text, prints, is) =
+    subst (λ (m : Phase). Knows m f p) (sym is) (laws.last f p stands r known bytes c text.items there takes rest prints)
 file_known laws f p stands r known bytes c (job ∷ jobs) new there takes rest is =
     subst (λ (m : Phase). Knows m f p) (sym is) (laws.more f p stands r known bytes c job jobs there takes rest)
 
@@ -197,8 +196,8 @@ part_none a v own viewed = record {
 
 did_on : (a : Asked) (v : View) (id : ℕ) (c : Collected) (jobs : List Job) (new : Phase) (own : List Event) → id ≡ v.id → GoesOn id c jobs new
     → HasPart a v c jobs own → Did a new own
-did_on a v id c [] new own same (rows, merge, is) part =
-    subst (λ (m : Phase). Did a m own) (sym is) (record { view = v; collected = c; is_id = same; all_read = part; merged = merge })
+did_on a v id c [] new own same (text, prints, is) part =
+    subst (λ (m : Phase). Did a m own) (sym is) (record { view = v; collected = c; is_id = same; all_read = part; prints = prints })
 did_on a v id c (job ∷ jobs) new own same is part = subst (λ (m : Phase). Did a m own) (sym is) (v, same, part)
 
 as_did : (a : Asked) (to : view_phase.Phase) (new : Phase) (own : List Event) → new ≡ phases.View to → reader_trace.Did a to own → Did a new own
@@ -264,14 +263,14 @@ failed_on law a (phases.View r) own did =
     IfSome_then (reader.next_call r) ((reader_facts.recounts law a).failed r readers.Over own refl did) (λ call shows. inl shows.1)
 failed_on law a (phases.Files r) own (v, same, part) = inr (in_file v r.collected r.next r.rest own part refl refl)
 failed_on law a (phases.Again id path) own lacks = inr (in_again id path own lacks refl refl)
-failed_on law a (phases.Ready id rows) own did = tt
+failed_on law a (phases.Ready id text) own did = tt
 failed_on law a phases.Over own did = tt
 
 stopped_on : Joined → (a : Asked) (m : Phase) (own : List Event) → IsSome (next_call m) → Did a m own → Shows a refusals.Memory own
 stopped_on law a (phases.View r) own called did = inl ((reader_facts.recounts law a).stopped r readers.Over own called refl did).1
 stopped_on law a (phases.Files r) own called (v, same, part) = inr (at_part v r.collected (r.next ∷ r.rest) part)
 stopped_on law a (phases.Again id path) own called lacks = inr (at_lack id path lacks)
-stopped_on law a (phases.Ready id rows) own called did = absurd (let clash = called in cc)
+stopped_on law a (phases.Ready id text) own called did = absurd (let clash = called in cc)
 stopped_on law a phases.Over own called did = absurd (let clash = called in cc)
 
 over_did : (a : Asked) (new : Phase) (refusal : Refusal) (own : List Event) → new ≡ phases.Over → Shows a refusal own → Did a new own × Shows a refusal own
@@ -294,7 +293,7 @@ abbrev IsAhead : ℕ → Phase → Type 0
 IsAhead n m = (calls_left m < n) × Reaches (reached_at m) m
 
 on_ahead : (id : ℕ) (c : Collected) (jobs : List Job) (new : Phase) (n : ℕ) → length jobs + 1 < n → GoesOn id c jobs new → IsAhead n new
-on_ahead id c [] new n below (rows, merge, is) =
+on_ahead id c [] new n below (text, prints, is) =
     let one : 0 + 1 < n = below in
     let less : 0 < n = omega (arith, one) in
     subst (IsAhead n) (sym is) (less, tt)
@@ -351,7 +350,7 @@ has_call : (m : Phase) → IsScanner m → 0 < calls_left m → IsSome (next_cal
 has_call (phases.View r) (has, engine) left = reader_call r has
 has_call (phases.Files r) is left = refl
 has_call (phases.Again id path) is left = refl
-has_call (phases.Ready id rows) is left = absurd (let none : 0 < 0 = left in omega (arith, none))
+has_call (phases.Ready id text) is left = absurd (let none : 0 < 0 = left in omega (arith, none))
 has_call phases.Over is left = absurd (let none : 0 < 0 = left in omega (arith, none))
 
 -- a step that goes on leaves fewer calls, and what it reached
@@ -387,7 +386,7 @@ pub knows_still : (m : Phase) (other : Actor) (f after : Files) (p q : Past) →
 knows_still (phases.View r) other f after p q stands advances known = reader_facts.knows_still r other f after p q stands advances known
 knows_still (phases.Files r) other f after p q stands advances known = reading-kept goes_on other f after p q advances r known
 knows_still (phases.Again id path) other f after p q stands advances (s, gone) = (s, gone_kept other f after p q s id stands advances gone)
-knows_still (phases.Ready id rows) other f after p q stands advances known = scan-kept goes_on other f after p q advances id rows.items known
+knows_still (phases.Ready id text) other f after p q stands advances known = scan-kept goes_on other f after p q advances id text.items known
 knows_still phases.Over other f after p q stands advances known = tt
 
 read_image : (path : List ℕ) (call : Call) (f image : Files) (p : Past) → Some (calls.Read path) ≡ Some call → MayLeave call f image → IsKept f p image p
@@ -401,5 +400,5 @@ pub images : (m : Phase) (call : Call) (f image : Files) (p : Past) → next_cal
 images (phases.View r) call f image p is left = reader_facts.images r call f image p is left
 images (phases.Files r) call f image p is left = read_image r.next.path call f image p is left
 images (phases.Again id path) call f image p is left = read_image (snapshot_path id) call f image p is left
-images (phases.Ready id rows) call f image p is left = absurd (let clash : None ≡ Some call = is in cc)
+images (phases.Ready id text) call f image p is left = absurd (let clash : None ≡ Some call = is in cc)
 images phases.Over call f image p is left = absurd (let clash : None ≡ Some call = is in cc)

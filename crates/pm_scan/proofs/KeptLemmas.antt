@@ -1,12 +1,11 @@
 -- What a scanner knows stays true, whatever others do.
-use Rattle.std.proofs.Common.{◌≡◌, ◌⊎◌, inl, inr, ℕ, ◌≤◌, ◌++◌, length, refl, sym, ap, subst, ◌∙◌, length-append, arith}
+use Rattle.std.proofs.Common.{◌≡◌, ◌⊎◌, inl, inr, ℕ, ◌≤◌, List, ◌++◌, length, refl, sym, ap, subst, ◌∙◌, length-append, arith}
 use Rattle.std.specs.List.{flat_map}
 use Rattle.std.proofs.lemmas.List.{take-append-le}
 use Rattle.pm_store.specs.Files.{Files}
 use Rattle.pm_schema.specs.declared.schema.TableSchema.{TableSchema}
 use Rattle.pm_history.specs.History.{GoesOn, History, IsTableOf, entry_rows, no_table, table}
 use Rattle.pm_history.specs.Merged.{scan_text}
-use Rattle.pm_engine.specs.Covers.{Run}
 use Rattle.pm_contents.specs.Lists.{HasEntries}
 use Rattle.pm_folder.specs.Changes.{Actor, Change}
 use Rattle.pm_folder.specs.Ledger.{Advances, IsKnown, Past, count_of}
@@ -83,15 +82,15 @@ module _ (going : Going) (me : Actor) (f after : Files) (p q : Past) (a : Advanc
   id-kept id (inl none) = inl none
   id-kept id (inr known) = inr (known-kept id known)
 
-  pub scan-kept : (id : ℕ) (rows : Run) → IsScan p id rows → IsScan q id rows
-  scan-kept id rows scan = by_later q.history refl (subst (λ h. GoesOn h q.history) scan.is_table goes) (subst (λ h. id ≤ count_of h) scan.is_table (id-within id scan.known))
+  pub scan-kept : (id : ℕ) (text : List ℕ) → IsScan p id text → IsScan q id text
+  scan-kept id text scan = by_later q.history refl (subst (λ h. GoesOn h q.history) scan.is_table goes) (subst (λ h. id ≤ count_of h) scan.is_table (id-within id scan.known))
     where
-      by_later : (later : History) → q.history ≡ later → GoesOn (table scan.schema scan.entries) later → id ≤ length scan.entries → IsScan q id rows
+      by_later : (later : History) → q.history ≡ later → GoesOn (table scan.schema scan.entries) later → id ≤ length scan.entries → IsScan q id text
       by_later no_table is on within = absurd on
       by_later (table t later) is on within = record {
         schema = scan.schema;
         entries = scan.entries ++ on.1;
         is_table = is ∙ (λ i. table (on.0 i) (on.2 i));
         known = id-kept id scan.known;
-        text = scan.text ∙ ap (λ es. scan_text scan.schema (flat_map entry_rows es)) (sym (take-append-le id scan.entries on.1 within));
+        is_text = scan.is_text ∙ ap (λ es. scan_text scan.schema (flat_map entry_rows es)) (sym (take-append-le id scan.entries on.1 within));
       }

@@ -17,8 +17,7 @@ use Rattle.pm_history.specs.History.{Entry, History, IsTableOf, no_table, rows_u
 use Rattle.pm_history.specs.Merged.{scan_text}
 use Rattle.pm_engine.specs.Covers.{Run}
 use Rattle.pm_engine.specs.OfSchema.{meaning_of}
-use Rattle.pm_merge.specs.Merge.{IsMerge}
-use Rattle.pm_shown.specs.Shown.{lines_of}
+use Rattle.pm_shown.specs.Shown.{PrintsGroups}
 use Rattle.pm_snapshot.specs.declared.snapshot.Snapshot.{Snapshot}
 use Rattle.pm_levels.specs.Runs.{RunView}
 use Rattle.pm_manifest.specs.Live.{Leaves, Live}
@@ -48,15 +47,15 @@ use Rattle.pm_scan.proofs.ViewLemmas.{OneContents, all-joined, all-parts, needed
 
 -- ---- what is collected is of the table's schema
 
-closed-schema : (end : Ends) (s : TableSchema) (shown runs : List Run) (rows : Run) (new : Collected) → Closes end (collected_of s shown runs rows) new → new.schema ≡ s
-closed-schema ends.File s shown runs rows new closes = ap (λ (c : Collected). c.schema) closes
-closed-schema ends.Run s shown runs rows new closes = ap (λ (c : Collected). c.schema) closes
-closed-schema ends.Group s shown runs rows new closes = ap (λ (c : Collected). c.schema) closes.2
+closed-schema : (end : Ends) (s : TableSchema) (kept : List (List Run)) (runs : List Run) (rows : Run) (new : Collected) → Closes end (collected_of s kept runs rows) new → new.schema ≡ s
+closed-schema ends.File s kept runs rows new closes = ap (λ (c : Collected). c.schema) closes
+closed-schema ends.Run s kept runs rows new closes = ap (λ (c : Collected). c.schema) closes
+closed-schema ends.Group s kept runs rows new closes = ap (λ (c : Collected). c.schema) closes
 
 pub taken-schema : (f : Files) (jobs : List Job) (old new : Collected) → HaveTaken f jobs old new → new.schema ≡ old.schema
 taken-schema f [] old new taken = ap (λ (c : Collected). c.schema) taken
 taken-schema f (job ∷ jobs) old new taken =
-    taken-schema f jobs taken.1 new taken.4 ∙ closed-schema job.ends old.schema old.shown old.runs (old.rows ++ taken.3.0) taken.1 taken.3.2
+    taken-schema f jobs taken.1 new taken.4 ∙ closed-schema job.ends old.schema old.groups old.runs (old.rows ++ taken.3.0) taken.1 taken.3.2
 
 -- ---- what is known of a table
 
@@ -225,34 +224,34 @@ module _ (laws : Laws) (one : OneContents) (tells : Tells) (f : Files) (p : Past
 
 -- ---- the scan
 
-view-text : Laws → OneContents → (f : Files) (p : Past) (v : View) → (own : IsOfTable f p v.schema) → IsOrdered group_cmp v.groups → (c : Collected) (all : Run)
-    → HaveTaken (p.stood v.id) (all_jobs v.schema v.groups.entries) (nothing_of v.schema) c → IsMerge (meaning_of v.schema) c.shown all → IsViewIn p v
-    → ((v.id ≡ 0) ⊎ IsKnown p v.id) × (lines_of all ≡ scan_text v.schema (rows_up_to own.entries v.id))
-view-text laws one f p v own order c all taken merge (view_origin o) =
-    (inl o.id, scanned-origin laws (p.stood v.id) v.schema own.entries v.groups.entries c all own.declared o.groups taken merge ∙ ap (λ k. scan_text v.schema (rows_up_to own.entries k)) (sym o.id))
-view-text laws one f p v own order c all taken merge (view_snapshot x base delta es live stood has left of) =
+view-text : Laws → OneContents → (f : Files) (p : Past) (v : View) → (own : IsOfTable f p v.schema) → IsOrdered group_cmp v.groups → (c : Collected) (text : List ℕ)
+    → HaveTaken (p.stood v.id) (all_jobs v.schema v.groups.entries) (nothing_of v.schema) c → PrintsGroups (meaning_of v.schema) c.groups text → IsViewIn p v
+    → ((v.id ≡ 0) ⊎ IsKnown p v.id) × (text ≡ scan_text v.schema (rows_up_to own.entries v.id))
+view-text laws one f p v own order c text taken prints (view_origin o) =
+    (inl o.id, scanned-origin laws (p.stood v.id) v.schema own.entries v.groups.entries c text own.declared o.groups taken prints ∙ ap (λ k. scan_text v.schema (rows_up_to own.entries k)) (sym o.id))
+view-text laws one f p v own order c text taken prints (view_snapshot x base delta es live stood has left of) =
     let w = of-snapshot p v x base delta es live stood has left of in (
       inr w.known,
-      scanned-view laws one (p.stood v.id) v.schema own.entries v.id w.snapshot w.base w.delta w.es w.live v.groups.entries c all own.declared (own.committed v.id w.known) w.there w.has w.left order w.groups taken merge,
+      scanned-view laws one (p.stood v.id) v.schema own.entries v.id w.snapshot w.base w.delta w.es w.live v.groups.entries c text own.declared (own.committed v.id w.known) w.there w.has w.left order w.groups taken prints,
     )
 
 -- once all files of a view were read
-pub view-scan : Laws → OneContents → Tells → (f : Files) (p : Past) (v : View) → Stands f p → IsTableOf v.schema p.history → IsViewIn p v → IsOrdered group_cmp v.groups → (c : Collected) (all : Run)
-    → HaveTaken (p.stood v.id) (all_jobs v.schema v.groups.entries) (nothing_of v.schema) c → IsMerge (meaning_of c.schema) c.shown all → IsScan p v.id all
-view-scan laws one tells f p v stands is is_view order c all taken merge =
+pub view-scan : Laws → OneContents → Tells → (f : Files) (p : Past) (v : View) → Stands f p → IsTableOf v.schema p.history → IsViewIn p v → IsOrdered group_cmp v.groups → (c : Collected) (text : List ℕ)
+    → HaveTaken (p.stood v.id) (all_jobs v.schema v.groups.entries) (nothing_of v.schema) c → PrintsGroups (meaning_of c.schema) c.groups text → IsScan p v.id text
+view-scan laws one tells f p v stands is is_view order c text taken prints =
     let own = of-table tells f p v.schema stands is in
     let schema : c.schema ≡ v.schema = taken-schema (p.stood v.id) (all_jobs v.schema v.groups.entries) (nothing_of v.schema) c taken in
-    let text = view-text laws one f p v own order c all taken (subst (λ s. IsMerge (meaning_of s) c.shown all) schema merge) is_view in
-    record { schema = v.schema; entries = own.entries; is_table = own.is_table; known = text.0; text = text.1 }
+    let scan = view-text laws one f p v own order c text taken (subst (λ s. PrintsGroups (meaning_of s) c.groups text) schema prints) is_view in
+    record { schema = v.schema; entries = own.entries; is_table = own.is_table; known = scan.0; is_text = scan.1 }
 
 -- the last one was read
-pub next-last : Laws → OneContents → Tells → (f : Files) (p : Past) → Stands f p → (r : ReadingView) → IsReadingOf p r → (bytes : List ℕ) (c : Collected) (all : Run) → paths.get f r.next.path ≡ Some bytes
-    → Takes r.next bytes r.collected c → r.rest ≡ [] → IsMerge (meaning_of c.schema) c.shown all → IsScan p r.id all
-next-last laws one tells f p stands r reading bytes c all found takes rest merge =
+pub next-last : Laws → OneContents → Tells → (f : Files) (p : Past) → Stands f p → (r : ReadingView) → IsReadingOf p r → (bytes : List ℕ) (c : Collected) (text : List ℕ) → paths.get f r.next.path ≡ Some bytes
+    → Takes r.next bytes r.collected c → r.rest ≡ [] → PrintsGroups (meaning_of c.schema) c.groups text → IsScan p r.id text
+next-last laws one tells f p stands r reading bytes c text found takes rest prints =
     let v : View = reading.view in
     let parts : all_jobs v.schema v.groups.entries ≡ reading.done ++ r.next ∷ [] = reading.parts ∙ ap (λ l. reading.done ++ r.next ∷ l) rest in
     let taken = subst (λ jobs. HaveTaken (p.stood v.id) jobs (nothing_of v.schema) c) (sym parts) (next-taken laws one tells f p stands r reading bytes c found takes) in
-    subst (λ k. IsScan p k all) (sym reading.id) (view-scan laws one tells f p v stands reading.table reading.is_view reading.order c all taken merge)
+    subst (λ k. IsScan p k text) (sym reading.id) (view-scan laws one tells f p v stands reading.table reading.is_view reading.order c text taken prints)
 
 -- the view was read, and has files
 pub view-first : (p : Past) (v : View) (job : Job) (jobs : List Job) → IsTableOf v.schema p.history → IsViewIn p v → IsOrdered group_cmp v.groups → all_jobs v.schema v.groups.entries ≡ job ∷ jobs

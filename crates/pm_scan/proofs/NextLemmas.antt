@@ -23,7 +23,7 @@ use Rattle.pm_scan.specs.Meaning.{HaveTaken}
 use Rattle.pm_scan.specs.declared.job.Ends.{Ends}
 use Rattle.pm_scan.specs.declared.job.Ends.TheVariants as ends
 use Rattle.pm_scan.specs.declared.job.Job.{Job}
-use Rattle.pm_scan.proofs.ScanLemmas.{HasOwn, one-group}
+use Rattle.pm_scan.proofs.ScanLemmas.{HasOwn, one-group, stored_runs}
 use Rattle.pm_scan.proofs.TakenLemmas.{Laws, RowLaws, file-taken, run-taken, taken-split}
 
 -- ---- rows that rise
@@ -77,9 +77,9 @@ pub record FollowsOn (f : Files) (s : TableSchema) (job : Job) (c : Collected) :
   pub rising : AreRising (c.rows ++ own)
 
 module _ (laws : RowLaws) (f : Files) (s : TableSchema) (g : Group) where
-  next-here : (m : FileMeta) (end : Ends) (own later rows : List Stamped) (shown runs : List Run) (before : Run) (job : Job) (rest jobs : List Job) (c : Collected) → HasFile f s false g m own → rows ≡ own ++ later
-      → AreRising (before ++ rows) → job_of s g end m ∷ jobs ≡ job ∷ rest → c ≡ collected_of s shown runs before → FollowsOn f s job c
-  next-here m end own later rows shown runs before job rest jobs c has split rising e same =
+  next-here : (m : FileMeta) (end : Ends) (own later rows : List Stamped) (kept : List (List Run)) (runs : List Run) (before : Run) (job : Job) (rest jobs : List Job) (c : Collected) → HasFile f s false g m own → rows ≡ own ++ later
+      → AreRising (before ++ rows) → job_of s g end m ∷ jobs ≡ job ∷ rest → c ≡ collected_of s kept runs before → FollowsOn f s job c
+  next-here m end own later rows kept runs before job rest jobs c has split rising e same =
       let all : AreRising ((before ++ own) ++ later) = subst AreRising (ap (λ (rows : List Stamped). before ++ rows) split ∙ sym (append_assoc before own later)) rising in
       record {
         group = g;
@@ -91,60 +91,60 @@ module _ (laws : RowLaws) (f : Files) (s : TableSchema) (g : Group) where
         rising = subst (λ (c : Collected). AreRising (c.rows ++ own)) (sym same) (rising-first (before ++ own) later all);
       }
 
-  next-file : (ms : List FileMeta) (rows : List Stamped) (end : Ends) (shown runs : List Run) (before : Run) (done : List Job) (job : Job) (rest : List Job) (c : Collected) → HaveFileRows f s g ms rows
-      → AreRising (before ++ rows) → file_jobs s g end ms ≡ done ++ job ∷ rest → HaveTaken f done (collected_of s shown runs before) c → FollowsOn f s job c
-  next-file [] rows end shown runs before done job rest c have rising e taken = absurd (no-job done job rest e)
-  next-file (m ∷ []) rows end shown runs before [] job rest c have rising e taken =
-      next-here m end have.0 have.1 rows shown runs before job rest [] c have.3 have.2 rising e taken
-  next-file (m ∷ []) rows end shown runs before (first ∷ done) job rest c have rising e taken =
+  next-file : (ms : List FileMeta) (rows : List Stamped) (end : Ends) (kept : List (List Run)) (runs : List Run) (before : Run) (done : List Job) (job : Job) (rest : List Job) (c : Collected) → HaveFileRows f s g ms rows
+      → AreRising (before ++ rows) → file_jobs s g end ms ≡ done ++ job ∷ rest → HaveTaken f done (collected_of s kept runs before) c → FollowsOn f s job c
+  next-file [] rows end kept runs before done job rest c have rising e taken = absurd (no-job done job rest e)
+  next-file (m ∷ []) rows end kept runs before [] job rest c have rising e taken =
+      next-here m end have.0 have.1 rows kept runs before job rest [] c have.3 have.2 rising e taken
+  next-file (m ∷ []) rows end kept runs before (first ∷ done) job rest c have rising e taken =
       absurd (no-job done job rest (job-tail (job_of s g end m) first [] (done ++ job ∷ rest) e))
-  next-file (m ∷ n ∷ ms) rows end shown runs before [] job rest c have rising e taken =
-      next-here m ends.File have.0 have.1 rows shown runs before job rest (file_jobs s g end (n ∷ ms)) c have.3 have.2 rising e taken
-  next-file (m ∷ n ∷ ms) rows end shown runs before (first ∷ done) job rest c have rising e taken =
-      let own : HaveTaken f (job_of s g ends.File m ∷ done) (collected_of s shown runs before) c =
-      subst (λ (j : Job). HaveTaken f (j ∷ done) (collected_of s shown runs before) c) (sym (job-head (job_of s g ends.File m) first (file_jobs s g end (n ∷ ms)) (done ++ job ∷ rest) e)) taken in
-      let closes : own.1 ≡ collected_of s shown runs (before ++ have.0) = file-taken laws f s g m have.0 ends.File own.0 shown runs before own.1 have.3 own.2 own.3 in
-      next-file (n ∷ ms) have.1 end shown runs (before ++ have.0) done job rest c have.4
+  next-file (m ∷ n ∷ ms) rows end kept runs before [] job rest c have rising e taken =
+      next-here m ends.File have.0 have.1 rows kept runs before job rest (file_jobs s g end (n ∷ ms)) c have.3 have.2 rising e taken
+  next-file (m ∷ n ∷ ms) rows end kept runs before (first ∷ done) job rest c have rising e taken =
+      let own : HaveTaken f (job_of s g ends.File m ∷ done) (collected_of s kept runs before) c =
+      subst (λ (j : Job). HaveTaken f (j ∷ done) (collected_of s kept runs before) c) (sym (job-head (job_of s g ends.File m) first (file_jobs s g end (n ∷ ms)) (done ++ job ∷ rest) e)) taken in
+      let closes : own.1 ≡ collected_of s kept runs (before ++ have.0) = file-taken laws f s g m have.0 ends.File own.0 kept runs before own.1 have.3 own.2 own.3 in
+      next-file (n ∷ ms) have.1 end kept runs (before ++ have.0) done job rest c have.4
       (subst AreRising (ap (λ (rows : List Stamped). before ++ rows) have.2 ∙ sym (append_assoc before have.0 have.1)) rising)
       (job-tail (job_of s g ends.File m) first (file_jobs s g end (n ∷ ms)) (done ++ job ∷ rest) e)
       (subst (λ (middle : Collected). HaveTaken f done middle c) closes own.4)
 
-  next-run : (run : RunView) (older : List RunView) (stored : List StoredRun) (shown runs : List Run) (done : List Job) (job : Job) (rest : List Job) (c : Collected) → AllByRecursion IsRun (run ∷ older)
-      → AllZip (HasRun f s g) (run ∷ older) stored → run_jobs s g (run ∷ older) ≡ done ++ job ∷ rest → HaveTaken f done (collected_of s shown runs []) c → FollowsOn f s job c
-  next-run run older [] shown runs done job rest c each read e taken = absurd read
-  next-run run [] (x ∷ xs) shown runs done job rest c each read e taken =
-      next-file run.files x.rows ends.Group shown runs [] done job rest c read.0.files read.0.rising e taken
-  next-run run (next ∷ older) (x ∷ xs) shown runs done job rest c each read e taken =
+  next-run : (run : RunView) (older : List RunView) (stored : List StoredRun) (kept : List (List Run)) (runs : List Run) (done : List Job) (job : Job) (rest : List Job) (c : Collected) → AllByRecursion IsRun (run ∷ older)
+      → AllZip (HasRun f s g) (run ∷ older) stored → run_jobs s g (run ∷ older) ≡ done ++ job ∷ rest → HaveTaken f done (collected_of s kept runs []) c → FollowsOn f s job c
+  next-run run older [] kept runs done job rest c each read e taken = absurd read
+  next-run run [] (x ∷ xs) kept runs done job rest c each read e taken =
+      next-file run.files x.rows ends.Group kept runs [] done job rest c read.0.files read.0.rising e taken
+  next-run run (next ∷ older) (x ∷ xs) kept runs done job rest c each read e taken =
       elim (where-is (file_jobs s g ends.Run run.files) (run_jobs s g (next ∷ older)) done job rest e) [
-        | inl here ↦ next-file run.files x.rows ends.Run shown runs [] done job here.0 c read.0.files read.0.rising here.1 taken
+        | inl here ↦ next-file run.files x.rows ends.Run kept runs [] done job here.0 c read.0.files read.0.rising here.1 taken
         | inr there ↦
-            let parts = taken-split f (file_jobs s g ends.Run run.files) there.0 (collected_of s shown runs []) c
-            (subst (λ (jobs : List Job). HaveTaken f jobs (collected_of s shown runs []) c) there.1 taken) in
-            let closes : parts.0 ≡ collected_of s shown (runs ++ x.rows ∷ []) [] = run-taken laws f s g run.files x.rows ends.Run shown runs parts.0 each.0.some read.0.files parts.1 in
-            next-run next older xs shown (runs ++ x.rows ∷ []) there.0 job rest c each.1 read.1 there.2
+            let parts = taken-split f (file_jobs s g ends.Run run.files) there.0 (collected_of s kept runs []) c
+            (subst (λ (jobs : List Job). HaveTaken f jobs (collected_of s kept runs []) c) there.1 taken) in
+            let closes : parts.0 ≡ collected_of s kept (runs ++ x.rows ∷ []) [] = run-taken laws f s g run.files x.rows ends.Run kept runs parts.0 each.0.some read.0.files parts.1 in
+            next-run next older xs kept (runs ++ x.rows ∷ []) there.0 job rest c each.1 read.1 there.2
             (subst (λ (middle : Collected). HaveTaken f there.0 middle c) closes parts.2)
       ]
 
-  next-runs : (own : List RunView) (stored : List StoredRun) (shown : List Run) (done : List Job) (job : Job) (rest : List Job) (c : Collected) → own ≢ [] → AllByRecursion IsRun own
-      → AllZip (HasRun f s g) own stored → run_jobs s g own ≡ done ++ job ∷ rest → HaveTaken f done (collected_of s shown [] []) c → FollowsOn f s job c
-  next-runs [] stored shown done job rest c some each read e taken = absurd (some refl)
-  next-runs (run ∷ older) stored shown done job rest c some each read e taken = next-run run older stored shown [] done job rest c each read e taken
+  next-runs : (own : List RunView) (stored : List StoredRun) (kept : List (List Run)) (done : List Job) (job : Job) (rest : List Job) (c : Collected) → own ≢ [] → AllByRecursion IsRun own
+      → AllZip (HasRun f s g) own stored → run_jobs s g own ≡ done ++ job ∷ rest → HaveTaken f done (collected_of s kept [] []) c → FollowsOn f s job c
+  next-runs [] stored kept done job rest c some each read e taken = absurd (some refl)
+  next-runs (run ∷ older) stored kept done job rest c some each read e taken = next-run run older stored kept [] done job rest c each read e taken
 
 module _ (laws : Laws) (f : Files) (s : TableSchema) (entries : List Entry) (id : ℕ) (live : Live) (has : (g : Group) → HasGroup f s entries id live g) where
-  pub next-group : (groups : List Grouped) (shown : List Run) (done : List Job) (job : Job) (rest : List Job) (c : Collected) → AllByRecursion (HasOwn live) groups
-      → all_jobs s groups ≡ done ++ job ∷ rest → HaveTaken f done (collected_of s shown [] []) c → FollowsOn f s job c
-  next-group [] shown done job rest c own e taken = absurd (no-job done job rest e)
-  next-group (group ∷ groups) shown done job rest c own e taken =
+  pub next-group : (groups : List Grouped) (kept : List (List Run)) (done : List Job) (job : Job) (rest : List Job) (c : Collected) → AllByRecursion (HasOwn live) groups
+      → all_jobs s groups ≡ done ++ job ∷ rest → HaveTaken f done (collected_of s kept [] []) c → FollowsOn f s job c
+  next-group [] kept done job rest c own e taken = absurd (no-job done job rest e)
+  next-group (group ∷ groups) kept done job rest c own e taken =
       let g = group.0 in
       let same : (has g).runs ≡ group.1 = laws.one_runs live g (has g).runs group.1 (has g).own own.0.0 in
       elim (where-is (run_jobs s g group.1) (all_jobs s groups) done job rest e) [
         | inl here ↦
-            next-runs laws.rows f s g group.1 (has g).stored shown done job here.0 c own.0.1 own.0.0.made.each
+            next-runs laws.rows f s g group.1 (has g).stored kept done job here.0 c own.0.1 own.0.0.made.each
             (subst (λ (runs : List RunView). AllZip (HasRun f s g) runs (has g).stored) same (has g).read) here.1 taken
         | inr there ↦
-            let parts = taken-split f (run_jobs s g group.1) there.0 (collected_of s shown [] []) c
-            (subst (λ (jobs : List Job). HaveTaken f jobs (collected_of s shown [] []) c) there.1 taken) in
-            let one = one-group laws f s entries id live has group shown parts.0 own.0 parts.1 in
-            next-group groups (shown ++ one.0 ∷ []) there.0 job rest c own.1 there.2
-            (subst (λ (middle : Collected). HaveTaken f there.0 middle c) one.2 parts.2)
+            let parts = taken-split f (run_jobs s g group.1) there.0 (collected_of s kept [] []) c
+            (subst (λ (jobs : List Job). HaveTaken f jobs (collected_of s kept [] []) c) there.1 taken) in
+            let one = one-group laws f s entries id live has group kept parts.0 own.0 parts.1 in
+            next-group groups (kept ++ stored_runs laws f s entries id live has g ∷ []) there.0 job rest c own.1 there.2
+            (subst (λ (middle : Collected). HaveTaken f there.0 middle c) one parts.2)
       ]

@@ -1,4 +1,4 @@
--- Rows that rise, and runs of them.
+-- Rows that rise, runs of them, and groups of runs.
 use Rattle.std.proofs.Common.{◌≡◌, ℕ, Bool, true, false, ◌&&◌, List, [], ◌∷◌, ◌++◌, reverse, Option, None, Some, Vec, refl, sym, ap, ◌∙◌, subst}
 use Rattle.std.specs.Global.{Global}
 use Rattle.std.specs.List.{All, AllByRecursion}
@@ -13,11 +13,9 @@ use Rattle.std.proofs.lemmas.List.Elements.{All-from_recursion, All-push, recurs
 use Rattle.pm_values.specs.Order.{Values, key_cmp, key_total}
 use Rattle.pm_values.specs.declared.record.Stamped.{Stamped}
 use Rattle.pm_engine.specs.Covers.{IsRising, Run}
-use Rattle.pm_merge.specs.Merge.{runs_of}
 use Rattle.pm_run.specs.Order.{are_in_order, keys_of, last_key, may_follow}
 use Rattle.pm_schema.specs.declared.schema.TableSchema.{TableSchema}
-use Rattle.pm_engine.specs.OfSchema.{meaning_of}
-use Rattle.pm_shown.specs.Shown.{IsShown}
+use Rattle.pm_shown.specs.Shown.{groups_of}
 use Rattle.pm_scan.specs.Collected.{Closes, Collected, HasMore, Takes, collected_of}
 use Rattle.pm_scan.specs.declared.job.Ends.TheVariants as ends
 use Rattle.pm_scan.specs.declared.job.Job.{Job}
@@ -77,24 +75,9 @@ rising_none = tt
 
 -- ---- runs
 
-abbrev pub Runs : Type 0
-Runs = List (Vec Stamped Global)
-
 -- one run more
-pub runs_push : (runs new : Runs) (run : Vec Stamped Global) → new ≡ runs ++ run ∷ [] → runs_of new ≡ runs_of runs ++ run.items ∷ []
-runs_push runs new run is = ap runs_of is ∙ map-append (λ (run : Vec Stamped Global). run.items) runs (run ∷ [])
-
-pub rising_push : (runs new : Runs) (run : Vec Stamped Global) → new ≡ runs ++ run ∷ [] → All IsRising (runs_of runs) → IsRising run.items → All IsRising (runs_of new)
-rising_push runs new run is all rising = subst (All IsRising) (sym (runs_push runs new run is)) (All-push IsRising (runs_of runs) run.items all rising)
-
-runs_reverse : (runs : Runs) → runs_of (reverse runs) ≡ reverse (runs_of runs)
-runs_reverse [] = refl
-runs_reverse (run ∷ runs) =
-    ap runs_of (reverse-cons run runs) ∙ map-append (λ (run : Vec Stamped Global). run.items) (reverse runs) (run ∷ [])
-    ∙ ap (λ (front : List Run). front ++ run.items ∷ []) (runs_reverse runs) ∙ sym (reverse-cons run.items (runs_of runs))
-
-pub runs_reversed : (runs new : Runs) → new ≡ reverse runs → runs_of new ≡ reverse (runs_of runs)
-runs_reversed runs new is = ap runs_of is ∙ runs_reverse runs
+pub rising_push : (runs new : List Run) (run : Run) → new ≡ runs ++ run ∷ [] → All IsRising runs → IsRising run → All IsRising new
+rising_push runs new run is all rising = subst (All IsRising) (sym is) (All-push IsRising runs run all rising)
 
 all_reverse : (runs : List Run) → AllByRecursion IsRising runs → All IsRising (reverse runs)
 all_reverse [] all = All-from_recursion IsRising [] tt
@@ -107,34 +90,42 @@ rising_reversed runs all = all_reverse runs (recursion_from_All IsRising runs al
 pub none_rising : All IsRising []
 none_rising = All-from_recursion IsRising [] tt
 
--- ---- a group ends
+-- ---- groups
 
--- once the run in hand is closed, and its group's runs are merged to the rows that it shows
-pub group_closed : (old : Collected) (s : TableSchema) (shown runs reversed after none : Runs) (rows own : Run)
-    → collected_of s (runs_of shown) (runs_of runs) rows ≡ collected_of old.schema old.shown (old.runs ++ old.rows ∷ []) []
-    → runs_of reversed ≡ reverse (runs_of runs) → IsShown (meaning_of s) (runs_of reversed) own → runs_of after ≡ runs_of shown ++ own ∷ [] → runs_of none ≡ []
-    → Closes ends.Group old (collected_of s (runs_of after) (runs_of none) rows)
-group_closed old s shown runs reversed after none rows own is turned shows pushed emptied =
-    let schema : s ≡ old.schema = ap (λ (c : Collected). c.schema) is in (
-      own,
-      subst (λ (s : TableSchema). IsShown (meaning_of s) (reverse (old.runs ++ old.rows ∷ [])) own) schema
-          (subst (λ (runs : List Run). IsShown (meaning_of s) runs own) (turned ∙ ap (λ (c : Collected). reverse c.runs) is) shows),
-      ap (λ (s : TableSchema). collected_of s (runs_of after) (runs_of none) rows) schema
-          ∙ ap (λ (shown : List Run). collected_of old.schema shown (runs_of none) rows) (pushed ∙ ap (λ (c : Collected). c.shown ++ own ∷ []) is)
-          ∙ ap (λ (runs : List Run). collected_of old.schema (old.shown ++ own ∷ []) runs rows) emptied
-          ∙ ap (λ (c : Collected). collected_of old.schema (old.shown ++ own ∷ []) [] c.rows) is,
-    )
+abbrev pub Groups : Type 0
+Groups = List (Vec Run Global)
+
+-- one group more
+groups_push : (groups new : Groups) (runs : Vec Run Global) → new ≡ groups ++ runs ∷ [] → groups_of new ≡ groups_of groups ++ runs.items ∷ []
+groups_push groups new runs is = ap groups_of is ∙ map-append (λ (runs : Vec Run Global). runs.items) groups (runs ∷ [])
+
+pub all_rising_push : (groups new : Groups) (runs : Vec Run Global) → new ≡ groups ++ runs ∷ [] → All (All IsRising) (groups_of groups) → All IsRising runs.items
+    → All (All IsRising) (groups_of new)
+all_rising_push groups new runs is all rising = subst (All (All IsRising)) (sym (groups_push groups new runs is)) (All-push (All IsRising) (groups_of groups) runs.items all rising)
+
+pub no_groups : (groups : Groups) → groups ≡ [] → All (All IsRising) (groups_of groups)
+no_groups groups none = subst (λ (groups : Groups). All (All IsRising) (groups_of groups)) (sym none) (All-from_recursion (All IsRising) [] tt)
+
+-- once the run in hand is closed, and the runs of its group are kept, the oldest first
+pub group_closed : (old : Collected) (s : TableSchema) (groups after : Groups) (runs none : List Run) (reversed : Vec Run Global) (rows : Run)
+    → collected_of s (groups_of groups) runs rows ≡ collected_of old.schema old.groups (old.runs ++ old.rows ∷ []) []
+    → reversed.items ≡ reverse runs → after ≡ groups ++ reversed ∷ [] → none ≡ [] → Closes ends.Group old (collected_of s (groups_of after) none rows)
+group_closed old s groups after runs none reversed rows is turned pushed emptied =
+    ap (λ (kept : List (List Run)). collected_of s kept none rows)
+    (groups_push groups after reversed pushed ∙ ap (λ (own : List Run). groups_of groups ++ own ∷ []) turned)
+    ∙ ap (λ (left : List Run). collected_of s (groups_of groups ++ reverse runs ∷ []) left rows) emptied
+    ∙ ap (λ (c : Collected). collected_of c.schema (c.groups ++ reverse c.runs ∷ []) [] c.rows) is
 
 -- ---- a file is taken
 
 -- once its rows were put to those in hand, and what ends with it was closed
-pub takes_from : (job : Job) (bytes : List ℕ) (old new : Collected) (s : TableSchema) (shown runs : List Run) (rows before items : Run)
-    → old ≡ collected_of s shown runs rows → before ≡ rows
+pub takes_from : (job : Job) (bytes : List ℕ) (old new : Collected) (s : TableSchema) (groups : List (List Run)) (runs : List Run) (rows before items : Run)
+    → old ≡ collected_of s groups runs rows → before ≡ rows
     → ((more : List Stamped) × HasMore s job bytes before more × (items ≡ before ++ more))
-    → Closes job.ends (collected_of s shown runs items) new → Takes job bytes old new
-takes_from job bytes old new s shown runs rows before items is same (more, has, joined) closes =
+    → Closes job.ends (collected_of s groups runs items) new → Takes job bytes old new
+takes_from job bytes old new s groups runs rows before items is same (more, has, joined) closes =
     subst (λ (old : Collected). Takes job bytes old new) (sym is) (
       more,
       subst (λ (b : Run). HasMore s job bytes b more) same has,
-      subst (λ (r : Run). Closes job.ends (collected_of s shown runs r) new) (joined ∙ ap (λ (b : Run). b ++ more) same) closes,
+      subst (λ (r : Run). Closes job.ends (collected_of s groups runs r) new) (joined ∙ ap (λ (b : Run). b ++ more) same) closes,
     )

@@ -1,4 +1,4 @@
--- What a scanner has collected of the files of a view is the merged table.
+-- What a scanner has collected of the files of a view covers its rows, so the groups print the scan of the table.
 use Rattle.std.proofs.Common.{◌≡◌, ◌≢◌, ℕ, ◌<◌, List, [], ◌∷◌, ◌++◌, length, map, filter, reverse, true, false, cond, Contains, Some, None, Less, refl, sym, ap, subst, ◌∙◌, append_assoc, append-nil, arith}
 use Rattle.std.specs.BTreeMap.{is_at}
 use Rattle.std.specs.Cmp.{tied_itself}
@@ -20,9 +20,8 @@ use Rattle.pm_history.specs.History.{Entry, rows_up_to}
 use Rattle.pm_history.specs.Merged.{scan_text}
 use Rattle.pm_engine.specs.Covers.{Covers, Run}
 use Rattle.pm_engine.specs.OfSchema.{meaning_of}
-use Rattle.pm_merge.specs.Merge.{IsMerge}
 use Rattle.pm_following.specs.Groups.{rows_in}
-use Rattle.pm_shown.specs.Shown.{GroupRuns as Covered, GroupsCover, IsShown, lines_of}
+use Rattle.pm_shown.specs.Shown.{GroupRuns as Covered, GroupsCover, PrintsGroups}
 use Rattle.pm_levels.specs.Runs.{IsRun, RunView, files_of}
 use Rattle.pm_manifest.specs.Live.{Live}
 use Rattle.pm_manifest.specs.declared.entry.Entry as files
@@ -32,7 +31,7 @@ use Rattle.pm_folder.specs.Stored.{HasGroup, HasRun, StoredRun, oldest_first}
 use Rattle.pm_scan.specs.Collected.{Collected, collected_of, nothing_of}
 use Rattle.pm_scan.specs.Jobs.{Grouped, all_jobs, run_jobs}
 use Rattle.pm_scan.specs.Meaning.{HaveTaken}
-use Rattle.pm_scan.proofs.TakenLemmas.{Laws, ShowsGroup, group-taken, taken-split}
+use Rattle.pm_scan.proofs.TakenLemmas.{Laws, group-taken, taken-split}
 
 -- ---- the groups of a view
 
@@ -103,7 +102,7 @@ filter-every (x ∷ xs) = ap (λ ys. x ∷ ys) (filter-every xs)
 
 module _ (laws : Laws) (f : Files) (s : TableSchema) (entries : List Entry) (id : ℕ) (live : Live) (has : (g : Group) → HasGroup f s entries id live g) where
   -- the stored runs of a group, the oldest first
-  abbrev stored_runs : Group → List Run
+  abbrev pub stored_runs : Group → List Run
   stored_runs g = reverse (map (λ (r : StoredRun). r.rows) (has g).stored)
 
   all_stored : (g : Group) → oldest_first (λ level. true) (has g).stored ≡ stored_runs g
@@ -112,26 +111,26 @@ module _ (laws : Laws) (f : Files) (s : TableSchema) (entries : List Entry) (id 
   abbrev covered : List Grouped → List Covered
   covered groups = map (λ (e : Grouped). (e.0, stored_runs e.0)) groups
 
-  by_runs : (g : Group) (runs : List RunView) (shown : List Run) (new : Collected) → runs ≢ [] → AllByRecursion IsRun runs → AllZip (HasRun f s g) runs (has g).stored
-      → HaveTaken f (run_jobs s g runs) (collected_of s shown [] []) new → ShowsGroup laws.rows f s g shown (map (λ (r : StoredRun). r.rows) (has g).stored) new
-  by_runs g [] shown new some each read taken = absurd (some refl)
-  by_runs g (run ∷ older) shown new some each read taken = group-taken laws.rows f s g run older (has g).stored shown [] new each read taken
+  by_runs : (g : Group) (runs : List RunView) (kept : List (List Run)) (new : Collected) → runs ≢ [] → AllByRecursion IsRun runs → AllZip (HasRun f s g) runs (has g).stored
+      → HaveTaken f (run_jobs s g runs) (collected_of s kept [] []) new → new ≡ collected_of s (kept ++ stored_runs g ∷ []) [] []
+  by_runs g [] kept new some each read taken = absurd (some refl)
+  by_runs g (run ∷ older) kept new some each read taken = group-taken laws.rows f s g run older (has g).stored kept [] new each read taken
 
-  pub one-group : (e : Grouped) (shown : List Run) (new : Collected) → HasOwn live e → HaveTaken f (run_jobs s e.0 e.1) (collected_of s shown [] []) new
-      → (own : Run) × IsShown (meaning_of s) (stored_runs e.0) own × (new ≡ collected_of s (shown ++ own ∷ []) [] [])
-  one-group e shown new own taken =
+  pub one-group : (e : Grouped) (kept : List (List Run)) (new : Collected) → HasOwn live e → HaveTaken f (run_jobs s e.0 e.1) (collected_of s kept [] []) new
+      → new ≡ collected_of s (kept ++ stored_runs e.0 ∷ []) [] []
+  one-group e kept new own taken =
       let same : (has e.0).runs ≡ e.1 = laws.one_runs live e.0 (has e.0).runs e.1 (has e.0).own own.0 in
-      by_runs e.0 e.1 shown new own.1 own.0.made.each (subst (λ runs. AllZip (HasRun f s e.0) runs (has e.0).stored) same (has e.0).read) taken
+      by_runs e.0 e.1 kept new own.1 own.0.made.each (subst (λ runs. AllZip (HasRun f s e.0) runs (has e.0).stored) same (has e.0).read) taken
 
-  groups-taken : (groups : List Grouped) (shown : List Run) (final : Collected) → AllByRecursion (HasOwn live) groups → HaveTaken f (all_jobs s groups) (collected_of s shown [] []) final
-      → (own : List Run) × (final ≡ collected_of s (shown ++ own) [] []) × AllZip (λ (p : Covered) (r : Run). IsShown (meaning_of s) p.1 r) (covered groups) own
-  groups-taken [] shown final each taken = ([], taken ∙ ap (λ l. collected_of s l [] []) (sym (append-nil shown)), tt)
-  groups-taken (e ∷ groups) shown final each taken =
-      let parts = taken-split f (run_jobs s e.0 e.1) (all_jobs s groups) (collected_of s shown [] []) final taken in
-      let one = one-group e shown parts.0 each.0 parts.1 in
-      let rest : HaveTaken f (all_jobs s groups) (collected_of s (shown ++ one.0 ∷ []) [] []) final = subst (λ c. HaveTaken f (all_jobs s groups) c final) one.2 parts.2 in
-      let later = groups-taken groups (shown ++ one.0 ∷ []) final each.1 rest in
-      (one.0 ∷ later.0, later.1 ∙ ap (λ l. collected_of s l [] []) (append_assoc shown (one.0 ∷ []) later.0), (one.1, later.2))
+  groups-taken : (groups : List Grouped) (kept : List (List Run)) (final : Collected) → AllByRecursion (HasOwn live) groups → HaveTaken f (all_jobs s groups) (collected_of s kept [] []) final
+      → final ≡ collected_of s (kept ++ map (λ (p : Covered). p.1) (covered groups)) [] []
+  groups-taken [] kept final each taken = taken ∙ ap (λ l. collected_of s l [] []) (sym (append-nil kept))
+  groups-taken (e ∷ groups) kept final each taken =
+      let parts = taken-split f (run_jobs s e.0 e.1) (all_jobs s groups) (collected_of s kept [] []) final taken in
+      let one = one-group e kept parts.0 each.0 parts.1 in
+      let rest : HaveTaken f (all_jobs s groups) (collected_of s (kept ++ stored_runs e.0 ∷ []) [] []) final = subst (λ c. HaveTaken f (all_jobs s groups) c final) one parts.2 in
+      let later = groups-taken groups (kept ++ stored_runs e.0 ∷ []) final each.1 rest in
+      later ∙ ap (λ l. collected_of s l [] []) (append_assoc kept (stored_runs e.0 ∷ []) (map (λ (p : Covered). p.1) (covered groups)))
 
   -- ---- the groups cover the rows
 
@@ -166,13 +165,11 @@ module _ (laws : Laws) (f : Files) (s : TableSchema) (entries : List Entry) (id 
 
   -- ---- the scan
 
-  -- once the files of all groups were read, in their order, the rows that the groups show, merged to one run, print the
-  -- scan of the table
-  pub scanned : (groups : List Grouped) (final : Collected) (all : Run) → IsDeclared s → IsStrictlySortedBy group_cmp (keys_of groups)
-      → ((g : Group) → GroupRuns live g (lookup (is_at (group_cmp g)) groups)) → HaveTaken f (all_jobs s groups) (nothing_of s) final → IsMerge (meaning_of s) final.shown all
-      → lines_of all ≡ scan_text s (rows_up_to entries id)
-  scanned groups final all declared rising runs taken merge =
+  -- once the files of all groups were read, in their order, what the groups print is the scan of the table
+  pub scanned : (groups : List Grouped) (final : Collected) (text : List ℕ) → IsDeclared s → IsStrictlySortedBy group_cmp (keys_of groups)
+      → ((g : Group) → GroupRuns live g (lookup (is_at (group_cmp g)) groups)) → HaveTaken f (all_jobs s groups) (nothing_of s) final → PrintsGroups (meaning_of s) final.groups text
+      → text ≡ scan_text s (rows_up_to entries id)
+  scanned groups final text declared rising runs taken prints =
       let each = each-own live groups rising (λ g own found. subst (GroupRuns live g) found (runs g)) in
-      let parts = groups-taken groups [] final each taken in
-      let shown : final.shown ≡ parts.0 = ap (λ (c : Collected). c.shown) parts.1 in
-      laws.scan s (rows_up_to entries id) (covered groups) parts.0 all declared (groups-cover groups rising runs) parts.2 (subst (λ l. IsMerge (meaning_of s) l all) shown merge)
+      let kept : final.groups ≡ map (λ (p : Covered). p.1) (covered groups) = ap (λ (c : Collected). c.groups) (groups-taken groups [] final each taken) in
+      laws.scan s (rows_up_to entries id) (covered groups) text declared (groups-cover groups rising runs) (subst (λ l. PrintsGroups (meaning_of s) l text) kept prints)

@@ -18,8 +18,7 @@ use Rattle.pm_history.specs.Merge.{HistoryRow}
 use Rattle.pm_history.specs.Merged.{scan_text}
 use Rattle.pm_engine.specs.Covers.{Run}
 use Rattle.pm_engine.specs.OfSchema.{meaning_of}
-use Rattle.pm_merge.specs.Merge.{IsMerge}
-use Rattle.pm_shown.specs.Shown.{GroupRuns as Covered, GroupsCover, IsShown, lines_of}
+use Rattle.pm_shown.specs.Shown.{GroupRuns as Covered, GroupsCover, PrintsGroups}
 use Rattle.pm_levels.specs.Runs.{IsRun, RunView}
 use Rattle.pm_manifest.specs.Live.{Live}
 use Rattle.pm_contents.specs.Runs.{AreRunsOf, data_path}
@@ -51,8 +50,8 @@ pub record RowLaws : Type 0 where
 pub record Laws : Type 0 where
   pub rows : RowLaws
   pub one_runs : (live : Live) (g : Group) (runs others : List RunView) → AreRunsOf live g runs → AreRunsOf live g others → runs ≡ others
-  pub scan : (s : TableSchema) (rows : List HistoryRow) (groups : List Covered) (shown : List Run) (all : Run) → IsDeclared s → GroupsCover s groups rows
-      → AllZip (λ (p : Covered) (own : Run). IsShown (meaning_of s) p.1 own) groups shown → IsMerge (meaning_of s) shown all → lines_of all ≡ scan_text s rows
+  pub scan : (s : TableSchema) (rows : List HistoryRow) (groups : List Covered) (text : List ℕ) → IsDeclared s → GroupsCover s groups rows
+      → PrintsGroups (meaning_of s) (map (λ (p : Covered). p.1) groups) text → text ≡ scan_text s rows
 
 -- ---- one file after another
 
@@ -156,49 +155,47 @@ module _ (laws : RowLaws) (f : Files) (s : TableSchema) (g : Group) where
       cc
 
   -- so its rows are put to those before it
-  pub file-taken : (m : FileMeta) (own : List Stamped) (end : Ends) (bytes : List ℕ) (shown runs : List Run) (before : Run) (new : Collected) → HasFile f s false g m own
-      → paths.get f (data_path s g m.name) ≡ Some bytes → Takes (job_of s g end m) bytes (collected_of s shown runs before) new → Closes end (collected_of s shown runs (before ++ own)) new
-  file-taken m own end bytes shown runs before new has there takes =
-      subst (λ rows. Closes end (collected_of s shown runs (before ++ rows)) new) (more-own m own end bytes before takes.0 has there takes.1) takes.2
+  pub file-taken : (m : FileMeta) (own : List Stamped) (end : Ends) (bytes : List ℕ) (kept : List (List Run)) (runs : List Run) (before : Run) (new : Collected) → HasFile f s false g m own
+      → paths.get f (data_path s g m.name) ≡ Some bytes → Takes (job_of s g end m) bytes (collected_of s kept runs before) new → Closes end (collected_of s kept runs (before ++ own)) new
+  file-taken m own end bytes kept runs before new has there takes =
+      subst (λ rows. Closes end (collected_of s kept runs (before ++ rows)) new) (more-own m own end bytes before takes.0 has there takes.1) takes.2
 
   -- ---- a run
 
-  files-taken : (m : FileMeta) (ms : List FileMeta) (rows : List Stamped) (end : Ends) (shown runs : List Run) (before : Run) (new : Collected) → HaveFileRows f s g (m ∷ ms) rows
-      → HaveTaken f (file_jobs s g end (m ∷ ms)) (collected_of s shown runs before) new → Closes end (collected_of s shown runs (before ++ rows)) new
-  files-taken m [] rows end shown runs before new have taken =
+  files-taken : (m : FileMeta) (ms : List FileMeta) (rows : List Stamped) (end : Ends) (kept : List (List Run)) (runs : List Run) (before : Run) (new : Collected) → HaveFileRows f s g (m ∷ ms) rows
+      → HaveTaken f (file_jobs s g end (m ∷ ms)) (collected_of s kept runs before) new → Closes end (collected_of s kept runs (before ++ rows)) new
+  files-taken m [] rows end kept runs before new have taken =
       let whole : have.0 ≡ rows = sym (have.2 ∙ ap (λ l. have.0 ++ l) have.4 ∙ append-nil have.0) in
-      let closes = file-taken m have.0 end taken.0 shown runs before taken.1 have.3 taken.2 taken.3 in
-      subst (λ r. Closes end (collected_of s shown runs (before ++ r)) new) whole (subst (λ c. Closes end (collected_of s shown runs (before ++ have.0)) c) (sym taken.4) closes)
-  files-taken m (n ∷ ms) rows end shown runs before new have taken =
-      let closes : taken.1 ≡ collected_of s shown runs (before ++ have.0) = file-taken m have.0 ends.File taken.0 shown runs before taken.1 have.3 taken.2 taken.3 in
-      let rest : HaveTaken f (file_jobs s g end (n ∷ ms)) (collected_of s shown runs (before ++ have.0)) new = subst (λ c. HaveTaken f (file_jobs s g end (n ∷ ms)) c new) closes taken.4 in
-      let later = files-taken n ms have.1 end shown runs (before ++ have.0) new have.4 rest in
-      subst (λ r. Closes end (collected_of s shown runs r) new) (append_assoc before have.0 have.1 ∙ ap (λ r. before ++ r) (sym have.2)) later
+      let closes = file-taken m have.0 end taken.0 kept runs before taken.1 have.3 taken.2 taken.3 in
+      subst (λ r. Closes end (collected_of s kept runs (before ++ r)) new) whole (subst (λ c. Closes end (collected_of s kept runs (before ++ have.0)) c) (sym taken.4) closes)
+  files-taken m (n ∷ ms) rows end kept runs before new have taken =
+      let closes : taken.1 ≡ collected_of s kept runs (before ++ have.0) = file-taken m have.0 ends.File taken.0 kept runs before taken.1 have.3 taken.2 taken.3 in
+      let rest : HaveTaken f (file_jobs s g end (n ∷ ms)) (collected_of s kept runs (before ++ have.0)) new = subst (λ c. HaveTaken f (file_jobs s g end (n ∷ ms)) c new) closes taken.4 in
+      let later = files-taken n ms have.1 end kept runs (before ++ have.0) new have.4 rest in
+      subst (λ r. Closes end (collected_of s kept runs r) new) (append_assoc before have.0 have.1 ∙ ap (λ r. before ++ r) (sym have.2)) later
 
   -- a run has a file, so it is taken whole, and closed
-  pub run-taken : (files : List FileMeta) (rows : List Stamped) (end : Ends) (shown runs : List Run) (new : Collected) → 0 < length files → HaveFileRows f s g files rows
-      → HaveTaken f (file_jobs s g end files) (collected_of s shown runs []) new → Closes end (collected_of s shown runs rows) new
-  run-taken [] rows end shown runs new some have taken = let no : 0 < 0 = some in let never : ⊥ = omega arith in absurd never
-  run-taken (m ∷ ms) rows end shown runs new some have taken = files-taken m ms rows end shown runs [] new have taken
+  pub run-taken : (files : List FileMeta) (rows : List Stamped) (end : Ends) (kept : List (List Run)) (runs : List Run) (new : Collected) → 0 < length files → HaveFileRows f s g files rows
+      → HaveTaken f (file_jobs s g end files) (collected_of s kept runs []) new → Closes end (collected_of s kept runs rows) new
+  run-taken [] rows end kept runs new some have taken = let no : 0 < 0 = some in let never : ⊥ = omega arith in absurd never
+  run-taken (m ∷ ms) rows end kept runs new some have taken = files-taken m ms rows end kept runs [] new have taken
 
   -- ---- a group
 
   abbrev rows_of : List StoredRun → List Run
   rows_of stored = map (λ (r : StoredRun). r.rows) stored
 
-  -- a group was read whole: the rows that it shows are kept
-  abbrev pub ShowsGroup : List Run → List Run → Collected → Type 0
-  ShowsGroup shown runs new = (own : Run) × IsShown (meaning_of s) (reverse runs) own × (new ≡ collected_of s (shown ++ own ∷ []) [] [])
-
-  pub group-taken : (run : RunView) (older : List RunView) (stored : List StoredRun) (shown done : List Run) (new : Collected) → AllByRecursion IsRun (run ∷ older) → AllZip (HasRun f s g) (run ∷ older) stored
-      → HaveTaken f (run_jobs s g (run ∷ older)) (collected_of s shown done []) new → ShowsGroup shown (done ++ rows_of stored) new
-  group-taken run [] [] shown done new each read taken = absurd read
-  group-taken run [] (x ∷ []) shown done new each read taken = run-taken run.files x.rows ends.Group shown done new each.0.some read.0.files taken
-  group-taken run [] (x ∷ y ∷ xs) shown done new each read taken = absurd read.1
-  group-taken run (next ∷ older) [] shown done new each read taken = absurd read
-  group-taken run (next ∷ older) (x ∷ xs) shown done new each read taken =
-      let parts = taken-split f (file_jobs s g ends.Run run.files) (run_jobs s g (next ∷ older)) (collected_of s shown done []) new taken in
-      let closes : parts.0 ≡ collected_of s shown (done ++ x.rows ∷ []) [] = run-taken run.files x.rows ends.Run shown done parts.0 each.0.some read.0.files parts.1 in
-      let rest : HaveTaken f (run_jobs s g (next ∷ older)) (collected_of s shown (done ++ x.rows ∷ []) []) new = subst (λ c. HaveTaken f (run_jobs s g (next ∷ older)) c new) closes parts.2 in
-      let later = group-taken next older xs shown (done ++ x.rows ∷ []) new each.1 read.1 rest in
-      subst (λ runs. ShowsGroup shown runs new) (append_assoc done (x.rows ∷ []) (rows_of xs)) later
+  -- a group was read whole: its runs are kept, the oldest first
+  pub group-taken : (run : RunView) (older : List RunView) (stored : List StoredRun) (kept : List (List Run)) (done : List Run) (new : Collected) → AllByRecursion IsRun (run ∷ older)
+      → AllZip (HasRun f s g) (run ∷ older) stored → HaveTaken f (run_jobs s g (run ∷ older)) (collected_of s kept done []) new
+      → new ≡ collected_of s (kept ++ reverse (done ++ rows_of stored) ∷ []) [] []
+  group-taken run [] [] kept done new each read taken = absurd read
+  group-taken run [] (x ∷ []) kept done new each read taken = run-taken run.files x.rows ends.Group kept done new each.0.some read.0.files taken
+  group-taken run [] (x ∷ y ∷ xs) kept done new each read taken = absurd read.1
+  group-taken run (next ∷ older) [] kept done new each read taken = absurd read
+  group-taken run (next ∷ older) (x ∷ xs) kept done new each read taken =
+      let parts = taken-split f (file_jobs s g ends.Run run.files) (run_jobs s g (next ∷ older)) (collected_of s kept done []) new taken in
+      let closes : parts.0 ≡ collected_of s kept (done ++ x.rows ∷ []) [] = run-taken run.files x.rows ends.Run kept done parts.0 each.0.some read.0.files parts.1 in
+      let rest : HaveTaken f (run_jobs s g (next ∷ older)) (collected_of s kept (done ++ x.rows ∷ []) []) new = subst (λ c. HaveTaken f (run_jobs s g (next ∷ older)) c new) closes parts.2 in
+      let later = group-taken next older xs kept (done ++ x.rows ∷ []) new each.1 read.1 rest in
+      later ∙ ap (λ (runs : List Run). collected_of s (kept ++ reverse runs ∷ []) [] []) (append_assoc done (x.rows ∷ []) (rows_of xs))

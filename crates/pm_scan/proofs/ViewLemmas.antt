@@ -18,10 +18,8 @@ use Rattle.pm_history.specs.History.{Entry, entry_rows, rows_up_to}
 use Rattle.pm_history.specs.Merged.{scan_text}
 use Rattle.pm_snapshot.specs.Snapshot.{snapshot_in}
 use Rattle.pm_snapshot.specs.declared.snapshot.Snapshot.{Snapshot}
-use Rattle.pm_engine.specs.Covers.{Run}
 use Rattle.pm_engine.specs.OfSchema.{meaning_of}
-use Rattle.pm_merge.specs.Merge.{IsMerge}
-use Rattle.pm_shown.specs.Shown.{GroupsCover, lines_of}
+use Rattle.pm_shown.specs.Shown.{GroupsCover, PrintsGroups}
 use Rattle.pm_levels.specs.Runs.{RunView, files_of}
 use Rattle.pm_manifest.specs.Live.{Leaves, Live, live_after}
 use Rattle.pm_manifest.specs.declared.entry.Entry as files
@@ -72,13 +70,13 @@ rows-taken : (entries : List Entry) (id : ℕ) → rows_up_to (take id entries) 
 rows-taken entries id = ap (flat_map entry_rows) (take-take id id entries (omega arith))
 
 pub scanned-view : Laws → OneContents → (f : Files) (s : TableSchema) (entries : List Entry) (id : ℕ) (x : Snapshot) (base delta : List ManifestMeta) (es : List files.Entry) (live : Live) (groups : List Grouped)
-    (final : Collected) (all : Run) → IsDeclared s → IsCommitted f s (take id entries) id → SnapshotAt f id x → HasEntries f s x base delta es → Leaves none_live es live → IsStrictlySortedBy group_cmp (keys_of groups)
-    → ((g : Group) → GroupRuns live g (lookup (is_at (group_cmp g)) groups)) → HaveTaken f (all_jobs s groups) (nothing_of s) final → IsMerge (meaning_of s) final.shown all
-    → lines_of all ≡ scan_text s (rows_up_to entries id)
-scanned-view laws one f s entries id x base delta es live groups final all declared committed there has left rising runs taken merge =
+    (final : Collected) (text : List ℕ) → IsDeclared s → IsCommitted f s (take id entries) id → SnapshotAt f id x → HasEntries f s x base delta es → Leaves none_live es live → IsStrictlySortedBy group_cmp (keys_of groups)
+    → ((g : Group) → GroupRuns live g (lookup (is_at (group_cmp g)) groups)) → HaveTaken f (all_jobs s groups) (nothing_of s) final → PrintsGroups (meaning_of s) final.groups text
+    → text ≡ scan_text s (rows_up_to entries id)
+scanned-view laws one f s entries id x base delta es live groups final text declared committed there has left rising runs taken prints =
     let same = same-live one f s (take id entries) id x base delta es live committed there has left in
     let stand : (g : Group) → HasGroup f s (take id entries) id live g = λ g. subst (λ l. HasGroup f s (take id entries) id l g) same (committed.groups g) in
-    scanned laws f s (take id entries) id live stand groups final all declared rising runs taken merge ∙ ap (scan_text s) (rows-taken entries id)
+    scanned laws f s (take id entries) id live stand groups final text declared rising runs taken prints ∙ ap (scan_text s) (rows-taken entries id)
 
 -- ---- the scan of the origin
 
@@ -100,12 +98,12 @@ nothing-covers s = record {
   others = λ g others key. ([], inl refl, record { parts = []; split = refl; holds = tt });
 }
 
-pub scanned-origin : Laws → (f : Files) (s : TableSchema) (entries : List Entry) (groups : List Grouped) (final : Collected) (all : Run) → IsDeclared s
-    → ((g : Group) → lookup (is_at (group_cmp g)) groups ≡ None) → HaveTaken f (all_jobs s groups) (nothing_of s) final → IsMerge (meaning_of s) final.shown all → lines_of all ≡ scan_text s (rows_up_to entries 0)
-scanned-origin laws f s entries groups final all declared none taken merge =
+pub scanned-origin : Laws → (f : Files) (s : TableSchema) (entries : List Entry) (groups : List Grouped) (final : Collected) (text : List ℕ) → IsDeclared s
+    → ((g : Group) → lookup (is_at (group_cmp g)) groups ≡ None) → HaveTaken f (all_jobs s groups) (nothing_of s) final → PrintsGroups (meaning_of s) final.groups text → text ≡ scan_text s (rows_up_to entries 0)
+scanned-origin laws f s entries groups final text declared none taken prints =
     let last : final ≡ nothing_of s = subst (λ gs. HaveTaken f (all_jobs s gs) (nothing_of s) final) (no-groups groups none) taken in
-    let shown : final.shown ≡ [] = ap (λ (c : Collected). c.shown) last in
-    laws.scan s [] [] [] all declared (nothing-covers s) tt (subst (λ l. IsMerge (meaning_of s) l all) shown merge) ∙ ap (scan_text s) (sym (rows-origin entries))
+    let kept : final.groups ≡ [] = ap (λ (c : Collected). c.groups) last in
+    laws.scan s [] [] text declared (nothing-covers s) (subst (λ l. PrintsGroups (meaning_of s) l text) kept prints) ∙ ap (scan_text s) (sym (rows-origin entries))
 
 -- ---- the files of a view are named
 

@@ -5,7 +5,6 @@ use Rattle.std.specs.Prelude.{IfOk, IfErr, Vec}
 use Rattle.std.specs.FinMap as map
 use Rattle.std.specs.Global.{Global}
 use Rattle.pm_base.specs.Faults.{Rose}
-use Rattle.pm_values.specs.declared.record.Stamped.{Stamped}
 use Rattle.pm_values.specs.declared.refusal.Refusal.{Refusal}
 use Rattle.pm_values.specs.declared.refusal.Refusal.TheVariants as refusals
 use Rattle.pm_store.specs.Answers.{IsFirst}
@@ -18,7 +17,6 @@ use Rattle.pm_schema.specs.declared.schema.TableSchema.{TableSchema}
 use Rattle.pm_folder.specs.Folder.{Folder}
 use Rattle.pm_folder.specs.Ledger.{count_of}
 use Rattle.pm_folder.specs.Paths.{snapshot_path}
-use Rattle.pm_shown.specs.Shown.{lines_of}
 use Rattle.pm_view.specs.AllCalls.{HasFiles, Stay}
 use Rattle.pm_view.specs.Reader.{schemas_call}
 use Rattle.pm_view.specs.Trace as schema
@@ -38,22 +36,22 @@ abbrev pub wanted_of : Option ℕ → Wanted
 wanted_of None = wants.Newest
 wanted_of (Some id) = wants.At id
 
--- the rows of an answer, wherever they lie in memory
-abbrev pub rows_in : Result (Vec Stamped Global) Refusal → Result (List Stamped) Refusal
-rows_in (Ok rows) = Ok rows.items
-rows_in (Err refusal) = Err refusal
+-- the text of an answer, wherever it lies in memory
+abbrev pub text_in : Result (Vec ℕ Global) Refusal → Result (List ℕ) Refusal
+text_in (Ok text) = Ok text.items
+text_in (Err refusal) = Err refusal
 
 -- what is asked of a scanner
 abbrev pub asked_at : TableSchema → Option ℕ → Asked
 asked_at s at = asked_of s (wanted_of at)
 
--- The calls of a scan by its answer: from those that read the schema they go on to those of the scan, which has these
--- rows, or which show the refusal.
-abbrev pub Ends : Asked → Result (List Stamped) Refusal → List Event → Type 0
-Ends a (Ok rows) own = (id : ℕ) × HasScan a id rows own
+-- The calls of a scan by its answer: from those that read the schema they go on to those of the scan, which has this
+-- text, or which show the refusal.
+abbrev pub Ends : Asked → Result (List ℕ) Refusal → List Event → Type 0
+Ends a (Ok text) own = (id : ℕ) × HasScan a id text own
 Ends a (Err refusal) own = Shows a refusal own
 
-abbrev pub DidScan : TableSchema → Option ℕ → Result (List Stamped) Refusal → List Event → Type 0
+abbrev pub DidScan : TableSchema → Option ℕ → Result (List ℕ) Refusal → List Event → Type 0
 DidScan s at result own = (earlier later : List Event) × Has s earlier × (own ≡ earlier ++ later)
     × Ends (asked_at s at) result later
 
@@ -71,10 +69,10 @@ path_of s (suc id) = snapshot_path (suc id)
 abbrev pub IsThere : Files → TableSchema → History → ℕ → Type 0
 IsThere f s h id = (id ≤ count_of h) × IsSome (map.get f (path_of s id))
 
--- the rows print the scan of the history's table at the snapshot that is asked for
-abbrev pub PrintsScan : History → Option ℕ → List Stamped → Type 0
-PrintsScan no_table at rows = ⊥
-PrintsScan (table s entries) at rows = lines_of rows ≡ scan_text s (rows_up_to entries (id_of at (length entries)))
+-- the text is the scan of the history's table at the snapshot that is asked for
+abbrev pub PrintsScan : History → Option ℕ → List ℕ → Type 0
+PrintsScan no_table at text = ⊥
+PrintsScan (table s entries) at text = text ≡ scan_text s (rows_up_to entries (id_of at (length entries)))
 
 -- What a refusal needs where the files stand for this history: the snapshot that is asked for is above the latest, or
 -- has gone; a fault of the store was counted; or memory ran out.
@@ -87,17 +85,17 @@ IsCaused f s h at first after (refusals.Expired id) =
 IsCaused f s h at first after other = ⊥
 
 -- What a scan is where the files stand for a history at the first call, and nobody else acts from then on: the files
--- stay, the rows are those of the table at the snapshot, which is there, and a refusal has its cause.
+-- stay, the text is the scan of the table at the snapshot, which is there, and a refusal has its cause.
 pub record ScansTable (f : Files) (h : History) (s : TableSchema) (at : Option ℕ) (first after : StoreView)
-    (result : Result (List Stamped) Refusal) : Type 0 where
+    (result : Result (List ℕ) Refusal) : Type 0 where
   pub files : Stay f first after
   pub schema : IsTableOf s h
-  pub there : IfOk result (λ rows. IsThere f s h (id_of at (count_of h)))
-  pub rows : IfOk result (PrintsScan h at)
+  pub there : IfOk result (λ _. IsThere f s h (id_of at (count_of h)))
+  pub text : IfOk result (PrintsScan h at)
   pub cause : IfErr result (IsCaused f s h at first after)
 
 -- what it promises of histories, from the first call on
-abbrev pub ScansTables : TableSchema → Option ℕ → StoreView → StoreView → Result (List Stamped) Refusal → Type 0
+abbrev pub ScansTables : TableSchema → Option ℕ → StoreView → StoreView → Result (List ℕ) Refusal → Type 0
 ScansTables s at before after result =
     (first : StoreView) × IsFirst schemas_call before first after
     × (IsAlone first after → (f : Files) (h : History) → HasFiles f first → Folder f h

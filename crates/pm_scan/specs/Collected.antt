@@ -4,25 +4,23 @@ use Rattle.pm_values.specs.declared.record.Stamped.{Stamped}
 use Rattle.pm_values.specs.declared.refusal.Refusal.{Refusal}
 use Rattle.pm_schema.specs.declared.schema.TableSchema.{TableSchema}
 use Rattle.pm_engine.specs.Covers.{IsRising, Run}
-use Rattle.pm_engine.specs.OfSchema.{meaning_of}
 use Rattle.pm_run.specs.Order.{last_key}
 use Rattle.pm_run.specs.Reader.{OpensRun, RunView as ReaderView}
 use Rattle.pm_run.specs.Rows.{Follow}
-use Rattle.pm_shown.specs.Shown.{IsShown}
 use Rattle.pm_scan.specs.declared.job.Ends.{Ends}
 use Rattle.pm_scan.specs.declared.job.Ends.TheVariants as ends
 use Rattle.pm_scan.specs.declared.job.Job.{Job}
 
--- of a table: the rows that each group shows which was read whole, the runs of the group in hand that were, newest
--- first, and the rows of the files that were read of the run in hand
+-- of a table: the groups that were read whole, each with its runs, the oldest first; the runs of the group in hand that
+-- were, newest first; and the rows of the files that were read of the run in hand
 pub record Collected : Type 0 where
   pub schema : TableSchema
-  pub shown : List Run
+  pub groups : List (List Run)
   pub runs : List Run
   pub rows : Run
 
-abbrev pub collected_of : TableSchema → List Run → List Run → Run → Collected
-collected_of s shown runs rows = record { schema = s; shown = shown; runs = runs; rows = rows }
+abbrev pub collected_of : TableSchema → List (List Run) → List Run → Run → Collected
+collected_of s groups runs rows = record { schema = s; groups = groups; runs = runs; rows = rows }
 
 -- nothing is collected yet
 abbrev pub nothing_of : TableSchema → Collected
@@ -30,17 +28,16 @@ nothing_of s = collected_of s [] [] []
 
 -- all runs rise
 pub record AreRisingIn (c : Collected) : Type 0 where
-  pub shown : All IsRising c.shown
+  pub groups : All (All IsRising) c.groups
   pub runs : All IsRising c.runs
   pub rows : IsRising c.rows
 
--- a file ends, and with it its run, or its group, of which the rows that show are kept
+-- a file ends, and with it its run, or its group, whose runs are kept, the oldest first
 abbrev pub Closes : Ends → Collected → Collected → Type 0
 Closes ends.File old new = new ≡ old
-Closes ends.Run old new = new ≡ collected_of old.schema old.shown (old.runs ++ old.rows ∷ []) []
-Closes ends.Group old new = (shown : Run)
-    × IsShown (meaning_of old.schema) (reverse (old.runs ++ old.rows ∷ [])) shown
-    × (new ≡ collected_of old.schema (old.shown ++ shown ∷ []) [] [])
+Closes ends.Run old new = new ≡ collected_of old.schema old.groups (old.runs ++ old.rows ∷ []) []
+Closes ends.Group old new =
+    new ≡ collected_of old.schema (old.groups ++ reverse (old.runs ++ old.rows ∷ []) ∷ []) [] []
 
 -- the file with these bytes has these rows, which follow those before them in the run
 abbrev pub HasMore : TableSchema → Job → List ℕ → Run → List Stamped → Type 0
@@ -57,4 +54,4 @@ pub data RefusesFile (s : TableSchema) (job : Job) (bytes : List ℕ) (before : 
 -- a file of these bytes is read: its rows are put to those of its run, and what ends with it is closed
 abbrev pub Takes : Job → List ℕ → Collected → Collected → Type 0
 Takes job bytes old new = (more : List Stamped) × HasMore old.schema job bytes old.rows more
-    × Closes job.ends (collected_of old.schema old.shown old.runs (old.rows ++ more)) new
+    × Closes job.ends (collected_of old.schema old.groups old.runs (old.rows ++ more)) new

@@ -9,9 +9,7 @@ use Rattle.pm_machine.specs.Moves.{Moves}
 use Rattle.pm_history.specs.History.{Entry, IsTableOf, rows_up_to, table}
 use Rattle.pm_history.specs.Merged.{scan_text}
 use Rattle.pm_schema.specs.declared.schema.TableSchema.{TableSchema}
-use Rattle.pm_engine.specs.Covers.{Run}
 use Rattle.pm_folder.specs.Ledger.{IsKnown, Past, Stands}
-use Rattle.pm_shown.specs.Shown.{lines_of}
 use Rattle.pm_table_view.specs.Meaning as reader
 use Rattle.pm_table_view.specs.Meaning.{HasGone, IsKept, IsViewIn}
 use Rattle.pm_table_view.specs.declared.view.View.{View}
@@ -45,22 +43,22 @@ pub record IsReadingOf (p : Past) (r : ReadingView) : Type 0 where
   pub parts : all_jobs view.schema view.groups.entries ≡ done ++ r.next ∷ r.rest
   pub taken : HaveTaken (p.stood view.id) done (nothing_of view.schema) r.collected
 
--- the rows are those of the merged table at the snapshot, in their order
-pub record IsScan (p : Past) (id : ℕ) (rows : Run) : Type 0 where
+-- the text is the scan of the table at the snapshot
+pub record IsScan (p : Past) (id : ℕ) (text : List ℕ) : Type 0 where
   pub schema : TableSchema
   pub entries : List Entry
   pub is_table : p.history ≡ table schema entries
   pub known : (id ≡ 0) ⊎ IsKnown p id
-  pub text : lines_of rows ≡ scan_text schema (rows_up_to entries id)
+  pub is_text : text ≡ scan_text schema (rows_up_to entries id)
 
 -- What it knows in each phase, whatever others do: what the reader of the view knows; that what it has collected is
 -- what stood at the snapshot; once a file that the snapshot names is absent, that the snapshot has gone; and in the
--- end that its rows are those of the merged table at the snapshot.
+-- end that its text is the scan of the table at the snapshot.
 abbrev pub Knows : Phase → Files → Past → Type 0
 Knows (phases.View m) f p = reader.Knows m f p
 Knows (phases.Files r) f p = IsReadingOf p r
 Knows (phases.Again id path) f p = (s : TableSchema) × HasGone f p s id
-Knows (phases.Ready id rows) f p = IsScan p id rows.items
+Knows (phases.Ready id text) f p = IsScan p id text.items
 Knows phases.Over f p = Unit {0}
 
 -- a step changes nothing, and what the scanner knows holds after it

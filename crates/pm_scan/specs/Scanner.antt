@@ -3,7 +3,6 @@ use Rattle.std.specs.Prelude.{◌≡◌, ◌⊎◌, ℕ, ◌+◌, ◌<◌, ◌�
 use Rattle.std.specs.BTreeMap.{IsOrdered}
 use Rattle.std.specs.Global.{Global}
 use Rattle.pm_values.specs.GroupOrder.{group_cmp}
-use Rattle.pm_values.specs.declared.record.Stamped.{Stamped}
 use Rattle.pm_values.specs.declared.refusal.Refusal.{Refusal}
 use Rattle.pm_values.specs.declared.refusal.Refusal.TheVariants as refusals
 use Rattle.pm_store.specs.declared.answer.Answer.{Answer}
@@ -12,7 +11,7 @@ use Rattle.pm_store.specs.declared.call.Call.{Call}
 use Rattle.pm_store.specs.declared.call.Call.TheVariants as calls
 use Rattle.pm_engine.specs.OfSchema.{meaning_of}
 use Rattle.pm_engines.specs.TableEngine.{HasEngine}
-use Rattle.pm_merge.specs.Merge.{IsMerge}
+use Rattle.pm_shown.specs.Shown.{PrintsGroups}
 use Rattle.pm_folder.specs.Paths.{snapshot_path}
 use Rattle.pm_table_view.specs.Reader as reader
 use Rattle.pm_table_view.specs.Reader.{most}
@@ -35,7 +34,7 @@ abbrev pub next_call : Phase → Option Call
 next_call (phases.View m) = reader.next_call m
 next_call (phases.Files r) = Some (calls.Read r.next.path)
 next_call (phases.Again id path) = Some (calls.Read (snapshot_path id))
-next_call (phases.Ready id rows) = None
+next_call (phases.Ready id text) = None
 next_call phases.Over = None
 
 -- how many calls are left at most, where no refusal comes
@@ -43,7 +42,7 @@ abbrev pub calls_left : Phase → ℕ
 calls_left (phases.View m) = reader.calls_left m + (most + 2)
 calls_left (phases.Files r) = length r.rest + 2
 calls_left (phases.Again id path) = 1
-calls_left (phases.Ready id rows) = 0
+calls_left (phases.Ready id text) = 0
 calls_left phases.Over = 0
 
 -- the table that a reader of a view reads has an engine
@@ -63,18 +62,17 @@ abbrev pub IsScanner : Phase → Type 0
 IsScanner (phases.View m) = (0 < reader.calls_left m) × IsEngineOf m
 IsScanner other = Unit {0}
 
--- the rows are there to be taken
+-- the text is there to be taken
 abbrev pub IsReady : Phase → Type 0
-IsReady (phases.Ready id rows) = Unit {0}
+IsReady (phases.Ready id text) = Unit {0}
 IsReady other = ⊥
 
 -- ---- what answers lead to
 
--- with this collected these files are left: the next of them is to be read, or the rows that each group shows are
--- merged to those that the scan shows
+-- with this collected these files are left: the next of them is to be read, or the text is what the groups print
 abbrev pub GoesOn : ℕ → Collected → List Job → Phase → Type 0
 GoesOn id c [] later =
-    (all : Vec Stamped Global) × IsMerge (meaning_of c.schema) c.shown all.items × (later ≡ phases.Ready id all)
+    (text : Vec ℕ Global) × PrintsGroups (meaning_of c.schema) c.groups text.items × (later ≡ phases.Ready id text)
 GoesOn id c (job ∷ jobs) later = later ≡ phases.Files (reading_of id c job jobs)
 
 -- the phase with a reader of the view: its files are to be read once it is ready
@@ -119,5 +117,5 @@ Reaches steps.More phase = 0 < calls_left phase
 Reaches steps.Ready phase = IsReady phase
 
 abbrev pub reached_at : Phase → ScanStep
-reached_at (phases.Ready id rows) = steps.Ready
+reached_at (phases.Ready id text) = steps.Ready
 reached_at other = steps.More

@@ -1,13 +1,12 @@
 -- The own calls of a scanner, and what they show.
 use Rattle.std.specs.Prelude.{◌≡◌, ◌⊎◌, ℕ, List, [], ◌∷◌, ◌++◌, Option, None, Some, Result, IfErr}
-use Rattle.pm_values.specs.declared.record.Stamped.{Stamped}
 use Rattle.pm_values.specs.declared.refusal.Refusal.{Refusal}
 use Rattle.pm_values.specs.declared.refusal.Refusal.TheVariants as refusals
 use Rattle.pm_store.specs.declared.call.Call.TheVariants as calls
 use Rattle.pm_store.specs.Store.{StoreView}
 use Rattle.pm_machine.specs.Trace.{Acts, Event, faulted}
 use Rattle.pm_engine.specs.OfSchema.{meaning_of}
-use Rattle.pm_merge.specs.Merge.{IsMerge}
+use Rattle.pm_shown.specs.Shown.{PrintsGroups}
 use Rattle.pm_folder.specs.Paths.{snapshot_path}
 use Rattle.pm_table_view.specs.Asked.{Asked}
 use Rattle.pm_table_view.specs.Trace as reader
@@ -58,13 +57,13 @@ abbrev pub ReadsAgain : Asked → ℕ → List ℕ → Option (List ℕ) → Lis
 ReadsAgain a id path found own =
     (earlier : List Event) × LacksFile a id path earlier × (own ≡ earlier ++ read_file (snapshot_path id) found ∷ [])
 
--- all files of the view were read, and the rows are those that its groups show
-pub record HasScan (a : Asked) (id : ℕ) (rows : List Stamped) (own : List Event) : Type 0 where
+-- all files of the view were read, and the text is what its groups print
+pub record HasScan (a : Asked) (id : ℕ) (text : List ℕ) (own : List Event) : Type 0 where
   pub view : View
   pub collected : Collected
   pub is_id : id ≡ view.id
   pub all_read : HasPart a view collected [] own
-  pub merged : IsMerge (meaning_of collected.schema) collected.shown rows
+  pub prints : PrintsGroups (meaning_of collected.schema) collected.groups text
 
 -- ---- what they show
 
@@ -113,7 +112,7 @@ Did a (phases.View m) own = reader.Did a m own
 Did a (phases.Files r) own =
     (v : View) × (r.id ≡ v.id) × HasPart a v r.collected (r.next ∷ r.rest) own
 Did a (phases.Again id path) own = LacksFile a id path own
-Did a (phases.Ready id rows) own = HasScan a id rows.items own
+Did a (phases.Ready id text) own = HasScan a id text.items own
 Did a phases.Over own = (refusal : Refusal) × Shows a refusal own
 
 -- Whatever was asked, its next call is the next event of its calls so far, or none was made; and a refusal is shown by

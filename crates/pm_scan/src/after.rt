@@ -149,8 +149,8 @@ fn go_on(
         }),
         None => {
             drop(rest);
-            match collected.all_rows(alloc) {
-                Ok(rows) => Ok(Phase::Ready { id, rows }),
+            match collected.text(alloc) {
+                Ok(text) => Ok(Phase::Ready { id, text }),
                 Err(_) => Err(Refusal::Memory),
             }
         }

@@ -7,7 +7,7 @@ ghost use Rattle.pm_schema.specs.Again.{IsDeclared};
 ghost use Rattle.pm_store.specs.Store.{StoreView, IsLater};
 ghost use Rattle.pm_table_view.specs.Asked.{Asked as AskedView};
 ghost use Rattle.pm_table_view.specs.declared.phase.Phase.TheVariants as readers;
-ghost use Rattle.pm_scan.specs.AllCalls.{asked_at, rows_in, DidScan, Ends, Has, ScansTables};
+ghost use Rattle.pm_scan.specs.AllCalls.{asked_at, text_in, DidScan, Ends, Has, ScansTables};
 ghost use Rattle.pm_scan.specs.Scanner.{calls_left};
 ghost use Rattle.pm_scan.specs.Trace.{Did};
 ghost use Rattle.pm_scan.specs.declared.phase.Phase.TheVariants as phases;
@@ -16,23 +16,23 @@ use crate::laws::all_calls_law;
 use crate::scanner::Scanner;
 use pm_schema::TableSchema;
 use pm_store::FileStore;
-use pm_values::{Refusal, Stamped};
+use pm_values::Refusal;
 use std::alloc::Global;
 
 /// Scans the table whose schema was just read, at its latest snapshot or the one with that id: all further calls, one
-/// after another. What it promises is said from whatever moment on that reading began.
+/// after another. It gives the text. What it promises is said from whatever moment on that reading began.
 pub fn scan_table<F: FileStore>(
     alloc: Global,
     schema: TableSchema,
     at: Option<u64>,
     store: &mut F,
-) -> Result<Vec<Stamped>, Refusal>
+) -> Result<Vec<u8>, Refusal>
     requires declared { IsDeclared schema }
     requires engine { HasEngine schema }
     ensures trace { (first : StoreView) → HasTrace (Has schema) first (F.seen store.old)
-        → HasTrace (DidScan schema at (rows_in result)) first (F.seen store.new) }
+        → HasTrace (DidScan schema at (text_in result)) first (F.seen store.new) }
     ensures history { (first : StoreView) → HasTrace (Has schema) first (F.seen store.old)
-        → ScansTables schema at first (F.seen store.new) (rows_in result) }
+        → ScansTables schema at first (F.seen store.new) (text_in result) }
     ensures later { IsLater (F.seen store.old) (F.seen store.new) }
 {
     all_calls_law();
@@ -56,10 +56,10 @@ fn make_calls<F: FileStore>(
     alloc: Global,
     scanner: Scanner,
     store: &mut F,
-) -> Result<Vec<Stamped>, Refusal>
+) -> Result<Vec<u8>, Refusal>
     requires { 0 < calls_left scanner }
     ensures trace { (a : AskedView) (first : StoreView) → HasTrace (Did a scanner) first (F.seen store.old)
-        → HasTrace (Ends a (rows_in result)) first (F.seen store.new) }
+        → HasTrace (Ends a (text_in result)) first (F.seen store.new) }
     ensures later { IsLater (F.seen store.old) (F.seen store.new) }
 {
     let mut scanner = scanner;
@@ -72,5 +72,5 @@ fn make_calls<F: FileStore>(
             }
         }
     }
-    Ok(scanner.into_rows())
+    Ok(scanner.into_text())
 }

@@ -3,8 +3,8 @@
 ghost use Rattle.std.specs.Prelude.{◌≡◌, ◌⊎◌, ◌++◌, List, IfErr, IfOk, OnOk};
 ghost use Rattle.pm_engine.specs.Covers.{IsRising};
 ghost use Rattle.pm_engine.specs.OfSchema.{meaning_of};
-ghost use Rattle.pm_merge.specs.Merge.{IsMerge};
 ghost use Rattle.pm_engines.specs.TableEngine.{HasEngine};
+ghost use Rattle.pm_shown.specs.Shown.{PrintsGroups};
 ghost use Rattle.pm_values.specs.declared.record.Stamped.{Stamped as StampedView};
 ghost use Rattle.pm_values.specs.declared.refusal.Refusal.TheVariants as refusals;
 ghost use Rattle.pm_scan.specs.Collected.{Closes, HasMore, RefusesFile, Takes, nothing_of};
@@ -13,37 +13,37 @@ ghost use Rattle.pm_scan.specs.declared.job.Ends.TheVariants as ends;
 use crate::job::{Ends, Job};
 use pm_base::Blob;
 use pm_engines::TableEngine;
-use pm_merge::merge_runs;
 use pm_run::{RunReader, order_law};
 use pm_schema::TableSchema;
-use pm_shown::shown_rows;
-use pm_values::{Refusal, Stamped};
+use pm_shown::{print_groups, shows_by_kind_law};
+use pm_stored::StoredRun;
+use pm_values::Refusal;
 use std::alloc::{AllocError, Global};
 use std::marker::Model;
 use std::mem;
 
-/// The rows that each group shows which was read whole, the runs of the group in hand that were, newest first, and the
-/// rows of the files that were read of the run in hand.
+/// The groups that were read whole, each with its runs, the oldest first; the runs of the group in hand that were,
+/// newest first; and the run in hand, as far as its files were read.
 #[derive(Drop)]
 pub struct Collected {
     engine: TableEngine,
-    shown: Vec<Vec<Stamped>>,
-    runs: Vec<Vec<Stamped>>,
-    rows: Vec<Stamped>,
+    groups: Vec<Vec<StoredRun>>,
+    runs: Vec<StoredRun>,
+    run: StoredRun,
 }
 
 impl Model for Collected {
     ghost use Rattle.pm_engines.specs.TableEngine.{schema_of};
-    ghost use Rattle.pm_merge.specs.Merge.{runs_of};
+    ghost use Rattle.pm_shown.specs.Shown.{groups_of};
     ghost use Rattle.pm_scan.specs.Collected as specs;
     ghost use Rattle.pm_scan.specs.Collected.{collected_of, AreRisingIn};
 
     ghost Value = { specs.Collected };
 
-    ghost view = { λ c. collected_of (schema_of c.engine) (runs_of c.shown.items) (runs_of c.runs.items) c.rows.items };
+    ghost view = { λ c. collected_of (schema_of c.engine) (groups_of c.groups.items) c.runs.items c.run };
 
     ghost invariant = { λ c. AreRisingIn
-        (collected_of (schema_of c.engine) (runs_of c.shown.items) (runs_of c.runs.items) c.rows.items) };
+        (collected_of (schema_of c.engine) (groups_of c.groups.items) c.runs.items c.run) };
 }
 
 impl Collected {
@@ -55,9 +55,9 @@ impl Collected {
     {
         Ok(Collected {
             engine: TableEngine::of_schema(alloc, schema)?,
-            shown: Vec::new(alloc),
+            groups: Vec::new(alloc),
             runs: Vec::new(alloc),
-            rows: Vec::new(alloc),
+            run: StoredRun::new(alloc),
         })
     }
 
@@ -68,8 +68,8 @@ impl Collected {
         ensures refuses { IfErr result (λ e. (e ≡ refusals.Memory)
             ⊎ RefusesFile self.old.schema job.now bytes self.old.rows e) }
     {
-        let before = mem::replace(&mut self.rows, Vec::new(alloc));
-        self.rows = with_rows(alloc, self.engine.schema(), job, bytes, before)?;
+        let before = mem::replace(&mut self.run, StoredRun::new(alloc));
+        self.run = with_rows(alloc, self.engine.schema(), job, bytes, before)?;
         self.close(alloc, job.ends)?;
         Ok(())
     }
@@ -89,58 +89,57 @@ impl Collected {
     fn close_run(&mut self, alloc: Global) -> Result<(), AllocError>
         ensures { OnOk result (Closes ends.Run self.old self.new) }
     {
-        let rows = mem::replace(&mut self.rows, Vec::new(alloc));
-        self.runs.push(rows)?;
+        let run = mem::replace(&mut self.run, StoredRun::new(alloc));
+        self.runs.push(run)?;
         Ok(())
     }
 
-    /// The group in hand ends, with its oldest run: the rows that it shows are kept.
+    /// The group in hand ends, with its oldest run: its runs are kept, the oldest first.
     fn close_group(&mut self, alloc: Global) -> Result<(), AllocError>
         ensures { OnOk result (Closes ends.Group self.old self.new) }
     {
         self.close_run(alloc)?;
         let mut runs = mem::replace(&mut self.runs, Vec::new(alloc));
         runs.reverse();
-        let shown = shown_rows(alloc, &self.engine, runs)?;
-        self.shown.push(shown)?;
+        self.groups.push(runs)?;
         Ok(())
     }
 
-    /// The rows that all groups show, by rising key.
-    pub(crate) fn all_rows(self, alloc: Global) -> Result<Vec<Stamped>, AllocError>
-        ensures { IfOk result (λ all. IsMerge (meaning_of self.schema) self.shown all.items) }
+    /// The text that the groups print which were read whole.
+    pub(crate) fn text(self, alloc: Global) -> Result<Vec<u8>, AllocError>
+        ensures { IfOk result (λ text. PrintsGroups (meaning_of self.schema) self.groups text.items) }
     {
         let Collected {
             engine,
-            shown,
+            groups,
             runs,
-            rows,
+            run,
         } = self;
         drop(runs);
-        drop(rows);
-        let all = merge_runs(alloc, &engine, shown, false);
+        drop(run);
+        shows_by_kind_law();
+        let text = print_groups(alloc, &engine, groups);
         drop(engine);
-        all
+        text
     }
 }
 
-/// The rows of a file that has these bytes, after those before it in its run.
+/// The run with the rows of a file that has these bytes, after those before it.
 fn with_rows(
     alloc: Global,
     schema: &TableSchema,
     job: &Job,
     bytes: Blob,
-    before: Vec<Stamped>,
-) -> Result<Vec<Stamped>, Refusal>
-    requires { IsRising before.items }
-    ensures more { IfOk result (λ rows. (more : List StampedView) × HasMore schema.now job.now bytes before.items more
-        × (rows.items ≡ before.items ++ more)) }
-    ensures rising { IfOk result (λ rows. IsRising rows.items) }
-    ensures refuses { IfErr result (λ e. (e ≡ refusals.Memory)
-        ⊎ RefusesFile schema.now job.now bytes before.items e) }
+    before: StoredRun,
+) -> Result<StoredRun, Refusal>
+    requires { IsRising before }
+    ensures more { IfOk result (λ run. (more : List StampedView) × HasMore schema.now job.now bytes before more
+        × (run ≡ before ++ more)) }
+    ensures rising { IfOk result IsRising }
+    ensures refuses { IfErr result (λ e. (e ≡ refusals.Memory) ⊎ RefusesFile schema.now job.now bytes before e) }
 {
     order_law();
-    let mut rows = before;
+    let mut run = before;
     let reader = RunReader::open(
         alloc,
         job.path.as_str(),
@@ -149,6 +148,6 @@ fn with_rows(
         bytes,
         false,
     )?;
-    reader.append_rows(alloc, &mut rows)?;
-    Ok(rows)
+    run.append(alloc, reader)?;
+    Ok(run)
 }

@@ -4,11 +4,10 @@ ghost use Rattle.std.specs.Prelude.{◌≡◌, List, [], ◌∷◌, ℕ, Option,
 ghost use Rattle.std.specs.BTreeMap.{IsOrdered};
 ghost use Rattle.std.specs.FinMap as map;
 ghost use Rattle.pm_values.specs.GroupOrder.{group_cmp};
-ghost use Rattle.pm_engine.specs.Covers.{Run};
 ghost use Rattle.pm_engine.specs.OfSchema.{meaning_of};
 ghost use Rattle.pm_history.specs.History.{IsTableOf};
-ghost use Rattle.pm_merge.specs.Merge.{IsMerge};
 ghost use Rattle.pm_schema.specs.declared.schema.TableSchema.{TableSchema};
+ghost use Rattle.pm_shown.specs.Shown.{PrintsGroups};
 ghost use Rattle.pm_folder.specs.Changes.{Actor};
 ghost use Rattle.pm_folder.specs.Ledger.{Advances, Past, Stands};
 ghost use Rattle.pm_store.specs.Answers.{Answers};
@@ -21,7 +20,6 @@ ghost use Rattle.pm_table_view.specs.declared.view.View.{View};
 ghost use Rattle.pm_machine.specs.Trace.{HasTrace};
 ghost use Rattle.pm_schema.specs.Again.{IsDeclared};
 ghost use Rattle.pm_store.specs.Store.{StoreView};
-ghost use Rattle.pm_values.specs.declared.record.Stamped.{Stamped};
 ghost use Rattle.pm_values.specs.declared.refusal.Refusal.{Refusal};
 ghost use Rattle.pm_scan.specs.AllCalls.{DidScan, ScansTables};
 ghost use Rattle.pm_scan.specs.Collected.{Collected, Takes, nothing_of};
@@ -70,22 +68,22 @@ pub fn causes_law()
 }
 
 /// What is known of a view and of its files, whatever others do: once the view was read; once its next file was; once
-/// that is absent, so that the snapshot has gone; and once all were read, so that the rows are those of the table.
+/// that is absent, so that the snapshot has gone; and once all were read, so that the text is the scan of the table.
 pub(crate) fn files_law()
     ensures first { (p : Past) (v : View) (job : Job) (jobs : List Job) → IsTableOf v.schema p.history → IsViewIn p v
         → IsOrdered group_cmp v.groups → all_jobs v.schema v.groups.entries ≡ job ∷ jobs
         → IsReadingOf p (reading_of v.id (nothing_of v.schema) job jobs) }
     ensures all { (f : Files) (p : Past) (v : View) → Stands f p → IsTableOf v.schema p.history → IsViewIn p v
-        → IsOrdered group_cmp v.groups → (c : Collected) (rows : Run)
+        → IsOrdered group_cmp v.groups → (c : Collected) (text : List ℕ)
         → HaveTaken (p.stood v.id) (all_jobs v.schema v.groups.entries) (nothing_of v.schema) c
-        → IsMerge (meaning_of c.schema) c.shown rows → IsScan p v.id rows }
+        → PrintsGroups (meaning_of c.schema) c.groups text → IsScan p v.id text }
     ensures more { (f : Files) (p : Past) → Stands f p → (r : ReadingView) → IsReadingOf p r
         → (bytes : List ℕ) (c : Collected) (job : Job) (jobs : List Job) → map.get f r.next.path ≡ Some bytes
         → Takes r.next bytes r.collected c → r.rest ≡ job ∷ jobs → IsReadingOf p (reading_of r.id c job jobs) }
     ensures last { (f : Files) (p : Past) → Stands f p → (r : ReadingView) → IsReadingOf p r
-        → (bytes : List ℕ) (c : Collected) (rows : Run) → map.get f r.next.path ≡ Some bytes
-        → Takes r.next bytes r.collected c → r.rest ≡ [] → IsMerge (meaning_of c.schema) c.shown rows
-        → IsScan p r.id rows }
+        → (bytes : List ℕ) (c : Collected) (text : List ℕ) → map.get f r.next.path ≡ Some bytes
+        → Takes r.next bytes r.collected c → r.rest ≡ [] → PrintsGroups (meaning_of c.schema) c.groups text
+        → IsScan p r.id text }
     ensures gone { (f : Files) (p : Past) → Stands f p → (r : ReadingView) → IsReadingOf p r
         → map.get f r.next.path ≡ None → (s : TableSchema) × HasGone f p s r.id }
 {
@@ -101,7 +99,7 @@ pub(crate) fn files_law()
 
 /// What all calls of a scan show of a history that stands at the first of them, where nobody else acts from then on.
 pub(crate) fn all_calls_law()
-    ensures { (s : TableSchema) (at : Option ℕ) (result : Result (List Stamped) Refusal) (before after : StoreView)
+    ensures { (s : TableSchema) (at : Option ℕ) (result : Result (List ℕ) Refusal) (before after : StoreView)
         → IsDeclared s → HasTrace (DidScan s at result) before after → ScansTables s at before after result }
 {
     joined_law();

@@ -20,18 +20,18 @@ use pm_record::one_reading_law;
 use pm_schema::TableSchema;
 use pm_store::FileStore;
 use pm_table_view::ViewReader;
-use pm_values::{Refusal, Stamped};
+use pm_values::Refusal;
 use std::alloc::Global;
 use std::marker::Model;
 
-/// What a step of a scanner reached: it goes on, or the rows are ready.
+/// What a step of a scanner reached: it goes on, or the text is ready.
 #[derive(Clone, Copy)]
 pub enum ScanStep {
     More,
     Ready,
 }
 
-/// Reads the rows of a table at a snapshot, a call of the store a step.
+/// Reads a table at a snapshot, a call of the store a step, and has the text of its scan in the end.
 #[derive(Drop)]
 pub struct Scanner {
     pub(crate) phase: Phase,
@@ -79,26 +79,26 @@ impl Scanner {
         }
     }
 
-    /// Whether the rows are ready.
+    /// Whether the text is ready.
     pub fn is_ready(&self) -> bool
         ensures { IsTrue result ↔ IsReady self.now }
     {
         matches!(self.phase, Phase::Ready { .. })
     }
 
-    /// The rows by rising key, once they are ready.
-    pub fn into_rows(self) -> Vec<Stamped>
+    /// The text of the scan, once it is ready.
+    pub fn into_text(self) -> Vec<u8>
         requires { IsReady self }
         ensures { (id : ℕ) × (self ≡ phases.Ready id result) }
     {
         let Scanner { phase } = self;
         match phase {
-            Phase::Ready { rows, .. } => rows,
+            Phase::Ready { text, .. } => text,
             _ => unreachable!(),
         }
     }
 
-    /// Makes the next call of the store. After a refusal, and once the rows are ready, no call is left.
+    /// Makes the next call of the store. After a refusal, and once the text is ready, no call is left.
     pub fn step<F: FileStore>(&mut self, alloc: Global, store: &mut F) -> Result<ScanStep, Refusal>
         requires { 0 < calls_left self.old }
         ensures moves { ScannerMoved self.old self.new (F.seen store.old) (F.seen store.new) }

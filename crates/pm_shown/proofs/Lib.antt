@@ -4,3 +4,4 @@ mod ScanLemmas
 mod TextLemmas
 mod PlainLemmas
 mod GivenLemmas
+mod SeveralLemmas

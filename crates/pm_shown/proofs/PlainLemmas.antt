@@ -1,9 +1,10 @@
 -- Lines whose texts need no escape.
-use Rattle.std.proofs.Common.{◌≡◌, ◌≢◌, ℕ, ◌+◌, ◌<◌, ◌≤◌, ℤ, pos, negsuc, List, [], ◌∷◌, ◌++◌, length, get_or, map, take, true, false, refl, sym, ap, ◌∙◌, append_assoc, append-nil, arith}
+use Rattle.std.proofs.Common.{◌≡◌, ◌≢◌, ℕ, zero, suc, ◌+◌, ◌<◌, ◌≤◌, ℤ, pos, negsuc, List, [], ◌∷◌, ◌++◌, length, get_or, map, take, true, false, refl, sym, ap, ◌∙◌, append_assoc, append-nil, arith}
 use Rattle.std.specs.Prelude.{◌==◌, codes}
+use Rattle.std.specs.List.{AllByRecursion}
 use Rattle.std.specs.Fmt.{signed_decimal}
 use Rattle.std.proofs.lemmas.Bool.{le-ltb, ne_eqb}
-use Rattle.std.proofs.lemmas.List.{take_more}
+use Rattle.std.proofs.lemmas.List.{map-append, take_more}
 use Rattle.json.specs.Print.{escape, escape_byte, quoted}
 use Rattle.serde_json.specs.Data.{number}
 use Rattle.serde_json.specs.Find.{of_integer}
@@ -14,8 +15,9 @@ use Rattle.pm_base.specs.Newline.{line}
 use Rattle.pm_rows.specs.RowText.{item_data, row_text}
 use Rattle.pm_values.specs.Order.{Values}
 use Rattle.pm_values.specs.declared.kind.Kind.TheVariants.{Insert}
-use Rattle.pm_values.specs.declared.value.Value.{Value}
-use Rattle.pm_shown.specs.Plain.{IsUnescaped, item_text, items_text}
+use Rattle.pm_seen.specs.Seen.{seen_value}
+use Rattle.pm_seen.specs.declared.seen.Seen.{Seen}
+use Rattle.pm_shown.specs.Plain.{IsPlain, IsUnescaped, item_text, items_text}
 
 -- ---- escapes
 
@@ -61,14 +63,23 @@ items_joined : (xs ys : Values) → items_text (xs ++ ys) ≡ items_text xs ++ i
 items_joined [] ys = refl
 items_joined (x ∷ xs) ys = ap (λ (bs : List ℕ). item_text x ++ bs) (items_joined xs ys) ∙ sym (append_assoc (item_text x) (items_text xs) (items_text ys))
 
+-- the value at an index is plain
+pub plain_at : (values : List Seen) (i : ℕ) (d : Seen) → i < length values → AllByRecursion IsPlain (map seen_value values) → IsPlain (seen_value (get_or values i d))
+plain_at [] i d lt all = absurd (omega (arith, lt))
+plain_at (value ∷ values) zero d lt all = all.0
+plain_at (value ∷ values) (suc i) d lt all = plain_at values i d (omega (arith, lt)) all.1
+
 -- one item more
-pub items_next : (values : Values) (i : ℕ) (value : Value) (old text more : List ℕ) → i < length values → value ≡ get_or values i value → text ≡ old ++ items_text (take i values)
-    → more ≡ text ++ item_text value → more ≡ old ++ items_text (take (i + 1) values)
-items_next values i value old text more lt is so_far pushed =
-    let parts : take (i + 1) values ≡ take i values ++ value ∷ [] = take_more values i value lt ∙ ap (λ y. take i values ++ y ∷ []) (sym is) in
-    let joined : items_text (take (i + 1) values) ≡ items_text (take i values) ++ item_text value =
-    ap items_text parts ∙ items_joined (take i values) (value ∷ []) ∙ ap (λ (bs : List ℕ). items_text (take i values) ++ bs) (append-nil (item_text value)) in
-    pushed ∙ ap (λ (bs : List ℕ). bs ++ item_text value) so_far ∙ append_assoc old (items_text (take i values)) (item_text value) ∙ ap (λ (bs : List ℕ). old ++ bs) (sym joined)
+pub items_next : (values : List Seen) (i : ℕ) (d : Seen) (old text more : List ℕ) → i < length values → text ≡ old ++ items_text (map seen_value (take i values))
+    → more ≡ text ++ item_text (seen_value (get_or values i d)) → more ≡ old ++ items_text (map seen_value (take (i + 1) values))
+items_next values i d old text more lt so_far pushed =
+    let value : Seen = get_or values i d in
+    let before : Values = map seen_value (take i values) in
+    let parts : take (i + 1) values ≡ take i values ++ value ∷ [] = take_more values i d lt in
+    let mapped : map seen_value (take (i + 1) values) ≡ before ++ seen_value value ∷ [] = ap (map seen_value) parts ∙ map-append seen_value (take i values) (value ∷ []) in
+    let joined : items_text (map seen_value (take (i + 1) values)) ≡ items_text before ++ item_text (seen_value value) =
+    ap items_text mapped ∙ items_joined before (seen_value value ∷ []) ∙ ap (λ (bs : List ℕ). items_text before ++ bs) (append-nil (item_text (seen_value value))) in
+    pushed ∙ ap (λ (bs : List ℕ). bs ++ item_text (seen_value value)) so_far ∙ append_assoc old (items_text before) (item_text (seen_value value)) ∙ ap (λ (bs : List ℕ). old ++ bs) (sym joined)
 
 -- ---- the line
 

@@ -1,5 +1,5 @@
 -- The rows of a run that has at each key what a merged table has are those of the table, and so are their lines.
-use Rattle.std.proofs.Common.{◌≡◌, List, [], ◌∷◌, ◌++◌, map, true, false, cond, ◌&&◌, Option, Some, None, Less, T, refl, sym, ap, subst, ◌∙◌}
+use Rattle.std.proofs.Common.{◌≡◌, ℕ, List, [], ◌∷◌, ◌++◌, map, true, false, cond, ◌&&◌, Option, Some, None, Less, T, refl, sym, ap, subst, ◌∙◌}
 use Rattle.std.specs.FinMap.{FinMap, entries-from_sorted, find, from_sorted, get, get-from_sorted, is_sorted, same_map, values}
 use Rattle.std.specs.FinMap.Entries.{below_all}
 use Rattle.std.specs.List.{AllByRecursion, AllZip, flat_map}
@@ -16,9 +16,10 @@ use Rattle.pm_schema.specs.declared.schema.TableSchema.{TableSchema}
 use Rattle.pm_history.specs.Merge.{HistoryRow}
 use Rattle.pm_history.specs.Merged.{merged, merged_row, scan_text}
 use Rattle.pm_engine.specs.Covers.{IsRising, Run, of_key}
+use Rattle.pm_engine.specs.Meaning.{Meaning}
 use Rattle.pm_engine.specs.OfSchema.{meaning_of}
 use Rattle.pm_merge.specs.Merge.{IsMerge}
-use Rattle.pm_shown.specs.Shown.{GroupRuns, GroupsCover, IsShown, lines_of}
+use Rattle.pm_shown.specs.Shown.{GroupRuns, GroupsCover, IsShown, PrintsGroups, lines_of}
 use Rattle.pm_shown.proofs.ScanLemmas.{all-at}
 use Rattle.pm_shown.proofs.ShownLemmas.{IsAt, IsHidden, IsWorth}
 
@@ -73,10 +74,23 @@ lines-rows : (run : Run) → lines_of run ≡ flat_map (λ (row : Values). line 
 lines-rows [] = refl
 lines-rows (x ∷ xs) = ap (λ text. line (row_text Insert x.row) ++ text) (lines-rows xs)
 
-pub scan-lines : IsWorth → IsHidden → ((s : TableSchema) (rows : List HistoryRow) (key : Values) → get (merged s rows) key ≡ merged_row s rows key)
+each-group : (m : Meaning) (groups : List GroupRuns) (shown : List Run) → AllZip (IsShown m) (map (λ (p : GroupRuns). p.1) groups) shown
+    → AllZip (λ (p : GroupRuns) (own : Run). IsShown m p.1 own) groups shown
+each-group m [] [] each = each
+each-group m [] (own ∷ owns) each = each
+each-group m (p ∷ ps) [] each = each
+each-group m (p ∷ ps) (own ∷ owns) each = (each.0, each-group m ps owns each.1)
+
+scan-lines : IsWorth → IsHidden → ((s : TableSchema) (rows : List HistoryRow) (key : Values) → get (merged s rows) key ≡ merged_row s rows key)
     → (s : TableSchema) (rows : List HistoryRow) (groups : List GroupRuns) (shown : List Run) (all : Run) → IsDeclared s → GroupsCover s groups rows
     → AllZip (λ (p : GroupRuns) (own : Run). IsShown (meaning_of s) p.1 own) groups shown → IsMerge (meaning_of s) shown all → lines_of all ≡ scan_text s rows
 scan-lines worth hidden table s rows groups shown all declared covered are is =
     lines-rows all
     ∙ ap (flat_map (λ (row : Values). line (row_text Insert row)))
     (rows-values all (merged s rows) is.rising (λ key. subst (λ at. IsAt at (of_key key all)) (sym (table s rows key)) (all-at worth hidden s rows groups shown all declared covered are is key)))
+
+pub printed-scan : IsWorth → IsHidden → ((s : TableSchema) (rows : List HistoryRow) (key : Values) → get (merged s rows) key ≡ merged_row s rows key)
+    → (s : TableSchema) (rows : List HistoryRow) (groups : List GroupRuns) (text : List ℕ) → IsDeclared s → GroupsCover s groups rows
+    → PrintsGroups (meaning_of s) (map (λ (p : GroupRuns). p.1) groups) text → text ≡ scan_text s rows
+printed-scan worth hidden table s rows groups text declared covered prints =
+    prints.lines ∙ scan-lines worth hidden table s rows groups prints.shown prints.all declared covered (each-group (meaning_of s) groups prints.shown prints.each) prints.is_merge

@@ -1,10 +1,13 @@
 -- What a scan shows of the runs of all groups, and its lines.
-use Rattle.std.specs.Prelude.{◌≡◌, ◌≢◌, ℕ, List, [], ◌∷◌, filter, map}
-use Rattle.std.specs.List.{AllByRecursion, flat_map}
+use Rattle.std.specs.Prelude.{◌≡◌, ◌≢◌, ℕ, List, [], ◌∷◌, filter, map, Vec}
+use Rattle.std.specs.List.{AllByRecursion, AllZip, flat_map}
 use Rattle.std.specs.List.Sorted.{IsStrictlySortedBy}
+use Rattle.std.specs.declared.alloc.Global.{Global}
 use Rattle.pm_base.specs.Newline.{line}
 use Rattle.pm_values.specs.GroupOrder.{group_cmp}
 use Rattle.pm_values.specs.declared.group.Group.{Group}
+use Rattle.pm_values.specs.Order.{Values}
+use Rattle.pm_values.specs.declared.kind.Kind.{Kind}
 use Rattle.pm_values.specs.declared.kind.Kind.TheVariants.{Insert}
 use Rattle.pm_values.specs.declared.record.Stamped.{Stamped}
 use Rattle.pm_rows.specs.RowText.{row_text}
@@ -27,6 +30,26 @@ IsShown m runs shown = (merged : Run) × IsMerge m runs merged × (shown ≡ onl
 -- the lines that insert the rows
 abbrev pub lines_of : Run → List ℕ
 lines_of rows = flat_map (λ (x : Stamped). line (row_text Insert x.row)) rows
+
+-- the lines of the rows that groups show, by rising key, of the runs of each group, the oldest first
+pub record PrintsGroups (m : Meaning) (groups : List (List Run)) (text : List ℕ) : Type 0 where
+  pub shown : List Run
+  pub each : AllZip (IsShown m) groups shown
+  pub all : Run
+  pub is_merge : IsMerge m shown all
+  pub lines : text ≡ lines_of all
+
+-- the lines of the rows that one group shows, of its runs, the oldest first
+abbrev pub PrintsShown : Meaning → List Run → List ℕ → Type 0
+PrintsShown m runs text = (shown : Run) × IsShown m runs shown × (text ≡ lines_of shown)
+
+-- whether a stored row shows depends on its kind alone
+abbrev pub ShowsByKind : Meaning → Type 0
+ShowsByKind m = (kind : Kind) (row other : Values) → m.shows ((kind, row) ∷ []) ≡ m.shows ((kind, other) ∷ [])
+
+-- the runs of groups without where they lie in memory
+abbrev pub groups_of : List (Vec Run Global) → List (List Run)
+groups_of = map (λ (runs : Vec Run Global). runs.items)
 
 -- a group with its runs, the oldest first
 abbrev pub GroupRuns : Type 0

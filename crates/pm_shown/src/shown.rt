@@ -1,32 +1,71 @@
 //! The rows of a group that show.
 
-ghost use Rattle.std.specs.Prelude.{◌≡◌, [], ◌∷◌, ◌++◌, All, IfOk, OnOk};
+ghost use Rattle.std.specs.Prelude.{◌≡◌, ◌+◌, ◌≤◌, [], ◌∷◌, ◌++◌, All, IfOk, OnOk, Some, length, option_to_list};
 ghost use Rattle.pm_engine.specs.Covers.{IsRising};
-ghost use Rattle.pm_merge.specs.Merge.{runs_of};
-ghost use Rattle.pm_shown.specs.Shown.{IsShown, only_shown};
+ghost use Rattle.pm_merge.specs.Merging.{rows_left, GivesNext, HaveRuns};
+ghost use Rattle.pm_seen.specs.Seen.{seen_row};
+ghost use Rattle.pm_stored.specs.Stored as stored;
+ghost use Rattle.pm_stored.specs.Stored.{StillGives};
+ghost use Rattle.pm_values.specs.Order.{Values};
+ghost use Rattle.pm_values.specs.declared.record.Stamped.{Stamped as StampedView};
+ghost use Rattle.pm_shown.specs.Next.{held};
+ghost use Rattle.pm_shown.specs.Shown.{IsShown, ShowsByKind, lines_of, only_shown};
 
+use crate::line::push_line;
 use pm_engine::{MergeEngine, Stored};
-use pm_merge::{Merging, most_rows};
-use pm_values::Stamped;
+use pm_merge::Merging;
+use pm_seen::{RowSlot, SeenRow, lend_values};
+use pm_stored::{StoredRows, StoredRun};
+use pm_values::{Kind, Row, Stamped};
 use std::alloc::{AllocError, Global};
 
-/// The rows of a group that show, of its runs, the oldest first.
-pub fn shown_rows<E: MergeEngine>(
+/// The rows of runs, each where it lies.
+pub(crate) fn sources_of<'b>(
+    alloc: Global,
+    runs: &'b [StoredRun],
+) -> Result<Vec<StoredRows<'b>>, AllocError>
+    ensures { IfOk result (λ sources. HaveRuns StillGives sources.items runs.now) }
+{
+    let mut sources = Vec::with_capacity(alloc, runs.len())?;
+    for run in runs {
+        sources.push(run.rows())?;
+    }
+    Ok(sources)
+}
+
+/// The rows of a group that show, of its runs, the oldest first, copied.
+pub(crate) fn shown_rows<E: MergeEngine>(
     alloc: Global,
     engine: &E,
-    older_first: Vec<Vec<Stamped>>,
+    older_first: &[StoredRun],
 ) -> Result<Vec<Stamped>, AllocError>
-    requires { All IsRising (runs_of older_first.items) }
-    ensures shown { IfOk result (λ shown.
-        IsShown (E.meaning engine.now) (runs_of older_first.items) shown.items) }
+    requires { All IsRising older_first.now }
+    ensures shown { IfOk result (λ shown. IsShown (E.meaning engine.now) older_first.now shown.items) }
     ensures rising { IfOk result (λ shown. IsRising shown.items) }
 {
-    let mut shown = Vec::with_capacity(alloc, most_rows(&older_first))?;
-    let mut merging = Merging::of(alloc, engine, older_first)?;
-    while let Some(row) = merging.next(alloc, engine)? {
+    let mut shown = Vec::new(alloc);
+    let mut merging = Merging::of(alloc, engine, sources_of(alloc, older_first)?)?;
+    let mut slot = Box::new(alloc, RowSlot::new(alloc))?;
+    while let Some(row) = next_row(alloc, engine, &mut merging, &mut slot)? {
         keep(engine, &mut shown, row)?;
     }
     Ok(shown)
+}
+
+/// The next row, copied, or none at the end. The place is for the rows, one after another.
+fn next_row<'b, E: MergeEngine>(
+    alloc: Global,
+    engine: &E,
+    merging: &mut Merging<RowSlot<'b>, StoredRows<'b>>,
+    slot: &mut Box<RowSlot<'b>>,
+) -> Result<Option<Stamped>, AllocError>
+    ensures gives { IfOk result (GivesNext (E.meaning engine.now) held StillGives merging.old merging.new) }
+    ensures fewer { IfOk result (λ next. length (option_to_list next) + rows_left held stored.rows_left merging.new
+        ≤ rows_left held stored.rows_left merging.old) }
+{
+    slot.clear();
+    merging.fill(alloc, engine, slot)?;
+    slot.take(alloc)
 }
 
 /// Takes one stored row more, if it shows.
@@ -56,4 +95,73 @@ fn keep<E: MergeEngine>(
         row: stored.row,
     })?;
     Ok(())
+}
+
+/// Adds the line of the row in a place, if there is one and it shows.
+pub(crate) fn push_shown<E: MergeEngine>(
+    alloc: Global,
+    engine: &E,
+    text: &mut Vec<u8>,
+    slot: &RowSlot,
+) -> Result<(), AllocError>
+    requires { ShowsByKind (E.meaning engine.now) }
+    ensures { OnOk result ((x : StampedView) → slot.now ≡ Some x
+        → text.new.items ≡ text.old.items ++ lines_of (only_shown (E.meaning engine.now) (x ∷ []))) }
+{
+    if slot.lies {
+        return push_lying(alloc, engine, text, &slot.seen);
+    }
+    match &slot.own {
+        Some(own) => push_own(alloc, engine, text, own),
+        None => Ok(()),
+    }
+}
+
+/// Adds the line of a row that lies in bytes, if it shows.
+fn push_lying<E: MergeEngine>(
+    alloc: Global,
+    engine: &E,
+    text: &mut Vec<u8>,
+    seen: &SeenRow,
+) -> Result<(), AllocError>
+    requires { ShowsByKind (E.meaning engine.now) }
+    ensures { OnOk result
+        (text.new.items ≡ text.old.items ++ lines_of (only_shown (E.meaning engine.now) (seen_row seen.now ∷ []))) }
+{
+    if shows(alloc, engine, seen.kind) {
+        push_line(alloc, text, &seen.row)
+    } else {
+        Ok(())
+    }
+}
+
+/// Adds the line of a row of its own, if it shows.
+fn push_own<E: MergeEngine>(
+    alloc: Global,
+    engine: &E,
+    text: &mut Vec<u8>,
+    own: &Stamped,
+) -> Result<(), AllocError>
+    requires { ShowsByKind (E.meaning engine.now) }
+    ensures { OnOk result
+        (text.new.items ≡ text.old.items ++ lines_of (only_shown (E.meaning engine.now) (own.now ∷ []))) }
+{
+    if shows(alloc, engine, own.kind) {
+        let mut values = Vec::new(alloc);
+        lend_values(own.row.values(), &mut values)?;
+        push_line(alloc, text, &values)
+    } else {
+        Ok(())
+    }
+}
+
+/// Whether a stored row of the kind shows.
+fn shows<E: MergeEngine>(alloc: Global, engine: &E, kind: Kind) -> bool
+    requires { ShowsByKind (E.meaning engine.now) }
+    ensures { (row : Values) → result ≡ (E.meaning engine.now).shows ((kind, row) ∷ []) }
+{
+    engine.shows(&Stored {
+        kind,
+        row: Row::new(Vec::new(alloc)),
+    })
 }

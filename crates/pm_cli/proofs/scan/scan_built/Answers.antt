@@ -1,5 +1,5 @@
 use Rattle.std.proofs.lemmas.Result.{err_from_is_err_and}
-use Rattle.pm_scan.specs.AllCalls.{rows_in}
+use Rattle.pm_scan.specs.AllCalls.{text_in}
 use Rattle.pm_cli.proofs.ScanLaws.{judge_refused, scanned_trace, read_keeps, judge_keeps, scanned_keeps}
 use Rattle.pm_cli.proofs.scan.scan_built.Goals as goal
 
@@ -26,12 +26,12 @@ returns-in_err-judge-clause-history g c =
 
 pub returns-clause-trace : goal.returns-clause-trace
 returns-clause-trace g c =
-    scanned_trace c.args.snapshot c.in_ok-schema.schema (rows_in c.scan_table.result) (g.F.FileStore.seen c.args.store.now)
+    scanned_trace c.args.snapshot c.in_ok-schema.schema (text_in c.scan_table.result) (g.F.FileStore.seen c.args.store.now)
     (g.F.FileStore.seen c.scan_table.new.store) c.in_ok-judge.ensures.built
     (c.scan_table.ensures.trace (g.F.FileStore.seen c.args.store.now) c.in_ok-schema.ensures.trace)
 
 pub returns-clause-history : goal.returns-clause-history
 returns-clause-history g c =
-    scanned_keeps c.args.snapshot c.in_ok-schema.schema (rows_in c.scan_table.result) (g.F.FileStore.seen c.args.store.now)
+    scanned_keeps c.args.snapshot c.in_ok-schema.schema (text_in c.scan_table.result) (g.F.FileStore.seen c.args.store.now)
     (g.F.FileStore.seen c.scan_table.new.store)
     (c.scan_table.ensures.history (g.F.FileStore.seen c.args.store.now) c.in_ok-schema.ensures.trace)

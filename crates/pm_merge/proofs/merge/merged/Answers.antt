@@ -1,18 +1,24 @@
-use Rattle.std.proofs.Common.{None, rules}
-use Rattle.pm_merge.specs.Merging.{GivesNext}
+use Rattle.std.proofs.Common.{◌≡◌, Some, None, sym, ◌∙◌}
+use Rattle.pm_merge.specs.Merge.{runs_of}
+use Rattle.pm_merge.specs.Source.{gives_rows}
 use Rattle.pm_merge.proofs.MergingLemmas.{given-all, given-more}
 use Rattle.pm_merge.proofs.merge.merged.Goals as goal
 
 -- one row more
-pub loop-merging-preserved : goal.loop-merging-preserved
-loop-merging-preserved g c =
+pub loop-slot-preserved : goal.loop-slot-preserved
+loop-slot-preserved g c =
     let m = g.E.MergeEngine.meaning c.args.engine.now in
-    rw c.in_ok-push.ensures.items
-    (given-more m c.in_ok-merging.merging c.loop-merging.merging c.next.new.self c.loop-merging.run.items c.in-Some.row c.loop-merging.invariant (rw c.in-Some.is at c.in_ok-row.ensures.gives))
+    let taken : c.fill.new.slot.value ≡ Some c.in-Some.row = sym c.deref_mut.ensures.value ∙ sym c.in_ok-row.ensures.row ∙ c.in-Some.is in
+    record {
+      given = rw c.in_ok-push-in-Some.ensures.items
+          (given-more m (λ s. s) gives_rows c.in_ok-merging.merging c.loop-slot.merging c.fill.new.self c.loop-slot.run.items c.in-Some.row c.loop-slot.invariant.given (rw taken at c.in_ok-fill.ensures.gives));
+      none = c.in_ok-row.ensures.none;
+    }
 
 -- all rows
-pub returns : goal.returns
-returns g c =
+pub returns-in-None : goal.returns-in-None
+returns-in-None g c =
     let m = g.E.MergeEngine.meaning c.args.engine.now in
-    let none : GivesNext m c.loop-merging.merging c.next.new.self None = search rules in
-    c.in_ok-merging.ensures c.loop-merging.run.items (given-all m c.in_ok-merging.merging c.loop-merging.merging c.next.new.self c.loop-merging.run.items c.loop-merging.invariant none)
+    let none : c.fill.new.slot.value ≡ None = sym c.deref_mut.ensures.value ∙ sym c.in_ok-row.ensures.row ∙ c.in-None.is in
+    c.in_ok-merging.ensures (runs_of c.args.older_first.items) c.loop-slot.run.items c.requires c.in_ok-sources_of.ensures
+    (given-all m (λ s. s) gives_rows c.in_ok-merging.merging c.loop-slot.merging c.fill.new.self c.loop-slot.run.items c.loop-slot.invariant.given (rw none at c.in_ok-fill.ensures.gives))

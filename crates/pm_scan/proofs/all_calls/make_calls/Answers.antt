@@ -21,5 +21,5 @@ returns-in-Err-clause-trace g c = λ a first begun.
 pub returns-clause-trace : goal.returns-clause-trace
 returns-clause-trace g c = λ a first begun.
     let seen = g.F.FileStore.seen in
-    was_done a c.loop-alloc.scanner c.into_rows.ensures.0 c.into_rows.result first (seen c.loop-alloc.store) c.into_rows.ensures.1
+    was_done a c.loop-alloc.scanner c.into_text.ensures.0 c.into_text.result first (seen c.loop-alloc.store) c.into_text.ensures.1
     (c.loop-alloc.invariant.trace a first begun)

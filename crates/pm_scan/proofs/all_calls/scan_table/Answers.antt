@@ -1,6 +1,6 @@
 use Rattle.std.proofs.Common.{subst, sym}
 use Rattle.pm_machine.specs.Trace.{HasTrace}
-use Rattle.pm_scan.specs.AllCalls.{asked_at, rows_in}
+use Rattle.pm_scan.specs.AllCalls.{asked_at, text_in}
 use Rattle.pm_scan.specs.Trace.{Did}
 use Rattle.pm_scan.specs.declared.phase.Phase.{Phase}
 use Rattle.pm_scan.proofs.AllCallsLemmas.{begins, begun, first_left, went_on}
@@ -14,7 +14,7 @@ returns-clause-trace g c = λ first has.
     let seen = g.F.FileStore.seen in
     let a = asked_at c.args.schema c.args.at in
     let own = subst (λ (m : Phase). HasTrace (Did a m) (seen c.args.store.now) (seen c.args.store.now)) (sym c.scanner_of.ensures) (begun a (seen c.args.store.now) (begins c.args.at)) in
-    went_on c.args.schema c.args.at (rows_in c.make_calls.result) first (seen c.args.store.now) (seen c.make_calls.new.store) has
+    went_on c.args.schema c.args.at (text_in c.make_calls.result) first (seen c.args.store.now) (seen c.make_calls.new.store) has
     (c.make_calls.ensures.trace a (seen c.args.store.now) own)
 
 pub returns-clause-history : goal.returns-clause-history
@@ -22,6 +22,6 @@ returns-clause-history g c = λ first has.
     let seen = g.F.FileStore.seen in
     let a = asked_at c.args.schema c.args.at in
     let own = subst (λ (m : Phase). HasTrace (Did a m) (seen c.args.store.now) (seen c.args.store.now)) (sym c.scanner_of.ensures) (begun a (seen c.args.store.now) (begins c.args.at)) in
-    let trace = went_on c.args.schema c.args.at (rows_in c.make_calls.result) first (seen c.args.store.now) (seen c.make_calls.new.store) has
+    let trace = went_on c.args.schema c.args.at (text_in c.make_calls.result) first (seen c.args.store.now) (seen c.make_calls.new.store) has
     (c.make_calls.ensures.trace a (seen c.args.store.now) own) in
-    c.all_calls_law.ensures c.args.schema c.args.at (rows_in c.make_calls.result) first (seen c.make_calls.new.store) c.requires.declared trace
+    c.all_calls_law.ensures c.args.schema c.args.at (text_in c.make_calls.result) first (seen c.make_calls.new.store) c.requires.declared trace

@@ -1,10 +1,12 @@
 use Rattle.pm_merge.specs.Merging.{rows_left}
+use Rattle.pm_stored.specs.Stored as stored
+use Rattle.pm_shown.specs.Next.{held}
 use Rattle.pm_shown.proofs.GivenLemmas.{Given}
 use Rattle.pm_shown.proofs.shown.shown_rows.Given as goal
 
 -- the rows so far are those that show of the ones that were given
-abbrev pub invariant-loop-merging : goal.invariant-loop-merging
-invariant-loop-merging g l = Given (g.E.MergeEngine.meaning l.engine) l.initial.merging l.merging l.shown.items
+abbrev pub invariant-loop-slot : goal.invariant-loop-slot
+invariant-loop-slot g l = Given (g.E.MergeEngine.meaning l.engine) held stored.StillGives l.initial.merging l.merging l.shown.items
 
-abbrev pub decreases-loop-merging : goal.decreases-loop-merging
-decreases-loop-merging g l = rows_left l.merging
+abbrev pub decreases-loop-slot : goal.decreases-loop-slot
+decreases-loop-slot g l = rows_left held stored.rows_left l.merging

@@ -1,0 +1,60 @@
+//! Places for rows, between which rows are moved.
+
+ghost use Rattle.std.specs.Prelude.{◌≡◌, None, Some, Option, IfOk, OnOk};
+ghost use Rattle.pm_seen.specs.Slot.{OrdersFirst};
+
+use pm_seen::RowSlot;
+use pm_values::Stamped;
+use std::alloc::{AllocError, Global};
+use std::cmp::Ordering;
+
+/// A place for one row at a time, or none.
+pub trait RowPlace: Drop {
+    ghost use Rattle.pm_values.specs.declared.record.Stamped.{Stamped as StampedView};
+
+    /// The row that stands in it.
+    ghost held: { Self → Option StampedView };
+
+    /// A place without a row.
+    fn empty(alloc: Global) -> Self
+        ensures { held result ≡ None };
+
+    /// How the rows of two places compare by their keys, as if a place without one had one above all; none where both
+    /// have none.
+    fn order(&self, other: &Self) -> Option<Ordering>
+        ensures { OrdersFirst (held self.now) (held other.now) result };
+
+    /// The row, which leaves the place, in memory of its own.
+    fn take(&mut self, alloc: Global) -> Result<Option<Stamped>, AllocError>
+        ensures row { IfOk result (λ taken. taken ≡ held self.old) }
+        ensures none { OnOk result (held self.new ≡ None) };
+
+    /// Puts a row into an empty place.
+    fn put(&mut self, stamped: Stamped)
+        requires { held self.old ≡ None }
+        ensures { held self.new ≡ Some stamped };
+}
+
+impl<'b> RowPlace for RowSlot<'b> {
+    ghost held = { λ s. s };
+
+    #[inline]
+    fn empty(alloc: Global) -> RowSlot<'b> {
+        RowSlot::new(alloc)
+    }
+
+    #[inline]
+    fn order(&self, other: &RowSlot<'b>) -> Option<Ordering> {
+        RowSlot::order(self, other)
+    }
+
+    #[inline]
+    fn take(&mut self, alloc: Global) -> Result<Option<Stamped>, AllocError> {
+        RowSlot::take(self, alloc)
+    }
+
+    #[inline]
+    fn put(&mut self, stamped: Stamped) {
+        self.own = Some(stamped);
+    }
+}
