@@ -22,7 +22,7 @@ use Rattle.pm_run.specs.Direct.{AreCells, AreRows, HasContent, IsCell, IsDirect,
 use Rattle.pm_run.specs.Form.{Form}
 use Rattle.pm_run.specs.Kinds.{field_type, run_type, typed_field}
 use Rattle.pm_run.specs.Order.{last_key, may_follow}
-use Rattle.pm_run.specs.Row.{agree, most_sequence, row_data, row_in, value_data, values_data}
+use Rattle.pm_run.specs.Row.{agree, most_sequence, row_data, row_in, row_kind, value_data, values_data}
 use Rattle.pm_run.specs.Rows.{Opened, all_judged, judged, placed}
 use Rattle.pm_run.specs.Typed.{FitFields, FitsField, HaveFields, IsWritable}
 use Rattle.pm_run.proofs.AgainLemmas.{row_back}
@@ -85,12 +85,12 @@ have_types (x ∷ fields) (d ∷ ds) source rest h = (datum_typed (field_type x)
 module _ (f : Form) (x : Stamped) (values : Values) (source a b c rest : List ℕ) where
   -- the values of the key, the number, the kind and the values of the columns are the row's
   pub row_read : AreCells f.keys values source a → IsLong (pos x.seq) a b → x.seq ≤ most_sequence → IsInt (pos (code_of x.kind)) b c → AreCells f.columns x.row c rest
-      → agree f.places x.row values ≡ true → x.key ≡ key_of f.primary x.row → IsRow f x source rest
-  row_read keys number within kind columns agrees own changes t written = (
+      → agree f.places x.row values ≡ true → x.key ≡ key_of f.primary x.row → (changes : Bool) → row_kind changes f.engine x.kind ≡ Ok x.kind → IsRow f changes x source rest
+  row_read keys number within kind columns agrees own changes kept t written = (
     row_data f x,
     subst (λ (u : Avro). IsDatum u (row_data f x) source rest) (sym written.kind) whole,
     subst (λ (u : Avro). row_in f changes u (row_data f x) ≡ Ok x) (sym written.kind)
-        (row_back f x writable written.differ changes columns.1 key.1 within (written.kept x.kind) own),
+        (row_back f x writable written.differ changes columns.1 key.1 within kept own),
   )
     where
       key : AreCells f.keys (key_of f.places x.row) source a
@@ -117,10 +117,10 @@ items_push P (y ∷ xs) x source middle rest h p = (h.0, h.1, items_push P xs x 
 
 -- one more row
 pub rows_push : (f : Form) (changes : Bool) (before : Option Values) (rows : List Stamped) (x : Stamped) (source middle rest : List ℕ) → AreRows f changes before rows source middle
-    → IsRow f x middle rest → may_follow changes (last_key before rows) x.key ≡ true → AreRows f changes before (rows ++ x ∷ []) source rest
+    → IsRow f changes x middle rest → may_follow changes (last_key before rows) x.key ≡ true → AreRows f changes before (rows ++ x ∷ []) source rest
 rows_push f changes before rows x source middle rest so_far row follows o offset form kind written =
     let (ds, many, items, is) = so_far o offset form kind written in
-    let (d, datum, read) = row changes o.file.kind written in (
+    let (d, datum, read) = row o.file.kind written in (
       ds ++ d ∷ [],
       omega (arith, many, length-append ds (d ∷ []), length-append rows (x ∷ [])),
       items_push (IsDatum o.file.kind) ds d source middle rest items datum,
@@ -129,7 +129,7 @@ rows_push f changes before rows x source middle rest so_far row follows o offset
     )
 
 pub rows_more : (f : Form) (changes : Bool) (before : Option Values) (rows more : List Stamped) (x : Stamped) (source middle rest : List ℕ) → more ≡ rows ++ x ∷ []
-    → AreRows f changes before rows source middle → IsRow f x middle rest → true ≡ may_follow changes (last_key before rows) x.key → AreRows f changes before more source rest
+    → AreRows f changes before rows source middle → IsRow f changes x middle rest → true ≡ may_follow changes (last_key before rows) x.key → AreRows f changes before more source rest
 rows_more f changes before rows more x source middle rest pushed so_far row follows =
     subst (λ (xs : List Stamped). AreRows f changes before xs source rest) (sym pushed) (rows_push f changes before rows x source middle rest so_far row (sym follows))
 
@@ -180,11 +180,11 @@ module _ (bytes : List ℕ) (offset count size : ℕ) (middle left marker rest :
 
 -- the rows of a block, after one with the key before
 pub block_rows : (d : Direct) (bytes : List ℕ) (offset count : ℕ) (content : List ℕ) (next : ℕ) → HasContent d bytes offset count content next → (o : Opened) (f : Form) (changes : Bool) (before : Option Values)
-    (rows : List Stamped) → o.form ≡ f → o.changes ≡ changes → o.file.bytes ≡ bytes → IsDirect d f changes o.file → AreRows f changes before rows content []
+    (rows : List Stamped) → o.form ≡ f → o.changes ≡ changes → o.file.bytes ≡ bytes → IsDirect d f o.file → AreRows f changes before rows content []
     → length rows ≡ count → (ds : List Data) × HasBlock o.file.kind o.file.marker o.file.bytes offset ds next × (judged o before (placed offset ds) ≡ all_judged rows)
 block_rows d bytes offset count content next has o f changes before rows form kinds same direct all many =
     let (ds, as_many, items, is) = all o offset form kinds direct.written in
-    (ds, has f changes o.file ds same direct (as_many ∙ many) items, is)
+    (ds, has f o.file ds same direct (as_many ∙ many) items, is)
 
 -- ---- the marker of a file
 

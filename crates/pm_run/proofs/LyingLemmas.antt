@@ -1,5 +1,5 @@
 -- Rows that are given one after another where they lie, and that they are those of the file.
-use Rattle.std.proofs.Common.{◌≡◌, ℕ, ◌+◌, List, [], ◌∷◌, ◌++◌, length, Option, None, Some, Result, Ok, IsTrue, nat_eq, eqb-true, refl, sym, ap, subst, ◌∙◌, arith}
+use Rattle.std.proofs.Common.{◌≡◌, ℕ, ◌+◌, Bool, List, [], ◌∷◌, ◌++◌, length, Option, None, Some, Result, Ok, IsTrue, nat_eq, eqb-true, refl, sym, ap, subst, ◌∙◌, arith}
 use Rattle.std.proofs.lemmas.List.{nil_from_length}
 use mathlib.Core.Logic.{∥∥₁_elim}
 use Rattle.pm_base.proofs.Laws.{step_ok}
@@ -24,18 +24,18 @@ use Rattle.pm_run.proofs.OneLemmas.{OneBlock, following_same, next_same, no_more
 -- ---- given one after another
 
 -- the end of the bytes
-pub lies_over : (p : Option Direct) (d : Direct) (bytes : List ℕ) (f : Form) (rest : List ℕ) (left next : ℕ) → p ≡ Some d → left ≡ 0 → rest ≡ [] → IsTrue (nat_eq next (length bytes)) → LieIn p bytes f rest left next []
-lies_over p d bytes f rest left next is none nothing over =
-    let lie : LieLeft d bytes f rest left next [] = record { own = []; more = []; here = nothing; many = sym none; later = at_end next (eqb-true next (length bytes) over); joined = refl } in
-    subst (λ (q : Option Direct). LieIn q bytes f rest left next []) (sym is) lie
+pub lies_over : (p : Option Direct) (d : Direct) (bytes : List ℕ) (f : Form) (changes : Bool) (rest : List ℕ) (left next : ℕ) → p ≡ Some d → left ≡ 0 → rest ≡ [] → IsTrue (nat_eq next (length bytes)) → LieIn p bytes f changes rest left next []
+lies_over p d bytes f changes rest left next is none nothing over =
+    let lie : LieLeft d bytes f changes rest left next [] = record { own = []; more = []; here = nothing; many = sym none; later = at_end next (eqb-true next (length bytes) over); joined = refl } in
+    subst (λ (q : Option Direct). LieIn q bytes f changes rest left next []) (sym is) lie
 
 -- one block more
-pub lies_block : (p : Option Direct) (d : Direct) (bytes : List ℕ) (f : Form) (rest content : List ℕ) (left next many after : ℕ) (rows : List Stamped) → p ≡ Some d → left ≡ 0 → rest ≡ []
-    → HasContent d bytes next many content after → LieIn p bytes f content many after rows → LieIn p bytes f rest left next rows
-lies_block p d bytes f rest content left next many after rows is none nothing has lie =
-    let given : LieLeft d bytes f content many after rows = subst (λ (q : Option Direct). LieIn q bytes f content many after rows) is lie in
+pub lies_block : (p : Option Direct) (d : Direct) (bytes : List ℕ) (f : Form) (changes : Bool) (rest content : List ℕ) (left next many after : ℕ) (rows : List Stamped) → p ≡ Some d → left ≡ 0 → rest ≡ []
+    → HasContent d bytes next many content after → LieIn p bytes f changes content many after rows → LieIn p bytes f changes rest left next rows
+lies_block p d bytes f changes rest content left next many after rows is none nothing has lie =
+    let given : LieLeft d bytes f changes content many after rows = subst (λ (q : Option Direct). LieIn q bytes f changes content many after rows) is lie in
     let here : HasContent d bytes next (length given.own) content after = subst (λ (n : ℕ). HasContent d bytes next n content after) (sym given.many) has in
-    let left_at : LieLeft d bytes f rest left next rows = record {
+    let left_at : LieLeft d bytes f changes rest left next rows = record {
       own = [];
       more = given.own ++ given.more;
       here = nothing;
@@ -43,13 +43,13 @@ lies_block p d bytes f rest content left next many after rows is none nothing ha
       later = with_block next after given.own given.more content here given.here given.later;
       joined = given.joined;
     } in
-    subst (λ (q : Option Direct). LieIn q bytes f rest left next rows) (sym is) left_at
+    subst (λ (q : Option Direct). LieIn q bytes f changes rest left next rows) (sym is) left_at
 
 -- one row more
-pub lies_row : (p : Option Direct) (bytes : List ℕ) (f : Form) (x : Stamped) (rest middle : List ℕ) (left fewer next : ℕ) (rows : List Stamped) → left ≡ fewer + 1 → IsRow f x rest middle
-    → LieIn p bytes f middle fewer next rows → LieIn p bytes f rest left next (x ∷ rows)
-lies_row None bytes f x rest middle left fewer next rows more row lie = lie
-lies_row (Some d) bytes f x rest middle left fewer next rows more row lie = record {
+pub lies_row : (p : Option Direct) (bytes : List ℕ) (f : Form) (changes : Bool) (x : Stamped) (rest middle : List ℕ) (left fewer next : ℕ) (rows : List Stamped) → left ≡ fewer + 1 → IsRow f changes x rest middle
+    → LieIn p bytes f changes middle fewer next rows → LieIn p bytes f changes rest left next (x ∷ rows)
+lies_row None bytes f changes x rest middle left fewer next rows more row lie = lie
+lies_row (Some d) bytes f changes x rest middle left fewer next rows more row lie = record {
   own = x ∷ lie.own;
   more = lie.more;
   here = (middle, row, lie.here);
@@ -74,10 +74,10 @@ record AreData (o : Opened) (rows : List Stamped) (source rest : List ℕ) : Typ
   pub read : AreReadAs o ds rows
 
 module _ (o : Opened) where
-  lie_read : IsWritten o.form o.changes o.file.kind → (rows : List Stamped) (source rest : List ℕ) → LieRows o.form rows source rest → AreData o rows source rest
+  lie_read : IsWritten o.form o.file.kind → (rows : List Stamped) (source rest : List ℕ) → LieRows o.form o.changes rows source rest → AreData o rows source rest
   lie_read written [] source rest lie = record { ds = []; many = refl; items = lie; read = tt }
   lie_read written (x ∷ rows) source rest (middle, row, lie) =
-      let (d, datum, read) = row o.changes o.file.kind written in
+      let (d, datum, read) = row o.file.kind written in
       let later = lie_read written rows middle rest lie in
       record { ds = d ∷ later.ds; many = omega (arith, later.many); items = (middle, datum, later.items); read = (read, later.read) }
 
@@ -100,7 +100,7 @@ module _ (o : Opened) where
       let p = judged-first offset ds own read.1 qs (Some f.first.key) f.more f.rest in
       (p.0, p.1, f.same ∙ ap (λ (y : Stamped). y ∷ f.more) same ∙ ap (λ (xs : List Stamped). x ∷ xs) p.2, p.3)
 
-  module _ (one : OneBlock) (d : Direct) (direct : IsDirect d o.form o.changes o.file) where
+  module _ (one : OneBlock) (d : Direct) (direct : IsDirect d o.form o.file) where
     -- at the end of the bytes no row follows
     ends_same : (offset : ℕ) → offset ≡ length o.file.bytes → (blocks : Blocks) (last : ℕ) → LeadTo o.file offset blocks last → (before : Option Values) (rows : List Stamped)
         → judged o before (all_placed blocks) ≡ all_judged rows → [] ≡ rows
@@ -108,14 +108,14 @@ module _ (o : Opened) where
     ends_same offset over (b ∷ blocks) last lead before rows is = absurd (no_more o one offset lead.1 b.1 None lead.2 over)
 
     -- the rows of a block, and those that follow it
-    module _ (offset next : ℕ) (own more : List Stamped) (content : List ℕ) (has : HasContent d o.file.bytes offset (length own) content next) (here : LieRows o.form own content [])
+    module _ (offset next : ℕ) (own more : List Stamped) (content : List ℕ) (has : HasContent d o.file.bytes offset (length own) content next) (here : LieRows o.form o.changes own content [])
         (later : (blocks : Blocks) (last : ℕ) → LeadTo o.file next blocks last → last ≡ length o.file.bytes → (before : Option Values) (rows : List Stamped)
         → judged o before (all_placed blocks) ≡ all_judged rows → more ≡ rows) where
       own_data : AreData o own content []
       own_data = lie_read direct.written own content [] here
 
       own_block : HasBlock o.file.kind o.file.marker o.file.bytes offset own_data.ds next
-      own_block = has o.form o.changes o.file own_data.ds refl direct own_data.many own_data.items
+      own_block = has o.form o.file own_data.ds refl direct own_data.many own_data.items
 
       block_same : (blocks : Blocks) (last : ℕ) → LeadTo o.file offset blocks last → last ≡ length o.file.bytes → (before : Option Values) (rows : List Stamped)
           → judged o before (all_placed blocks) ≡ all_judged rows → own ++ more ≡ rows
@@ -128,14 +128,14 @@ module _ (o : Opened) where
           let follow : more ≡ p.1 = later blocks last (subst (λ (n : ℕ). LeadTo o.file n blocks last) (sym same.1) lead.3) stop p.0 p.1 p.3 in
           ap (λ (xs : List Stamped). own ++ xs) follow ∙ sym p.2
 
-    lie_same : (offset : ℕ) (run : List Stamped) → LieFrom d o.file.bytes o.form offset run → (blocks : Blocks) (last : ℕ) → LeadTo o.file offset blocks last → last ≡ length o.file.bytes
+    lie_same : (offset : ℕ) (run : List Stamped) → LieFrom d o.file.bytes o.form o.changes offset run → (blocks : Blocks) (last : ℕ) → LeadTo o.file offset blocks last → last ≡ length o.file.bytes
         → (before : Option Values) (rows : List Stamped) → judged o before (all_placed blocks) ≡ all_judged rows → run ≡ rows
     lie_same offset run (at_end at over) blocks last lead stop before rows is = ends_same at over blocks last lead before rows is
     lie_same offset run (with_block at next own more content has here later) blocks last lead stop before rows is =
         block_same at next own more content has here (lie_same next more later) blocks last lead stop before rows is
 
     -- the rows of the blocks to the end are those that follow
-    follow_lies : (offset : ℕ) (run : List Stamped) → LieFrom d o.file.bytes o.form offset run → (before : Option Values) (rows : List Stamped) → Follow o offset before rows None → run ≡ rows
+    follow_lies : (offset : ℕ) (run : List Stamped) → LieFrom d o.file.bytes o.form o.changes offset run → (before : Option Values) (rows : List Stamped) → Follow o offset before rows None → run ≡ rows
     follow_lies offset run lie before rows f = by_judged (judged o before (all_placed f.blocks)).refusal refl f.ends
       where
         by_judged : (q : Option Refusal) → (judged o before (all_placed f.blocks)).refusal ≡ q → Ends o f.last q None → run ≡ rows
@@ -146,14 +146,14 @@ module _ (o : Opened) where
             ap (make (judged o before (all_placed f.blocks)).rows) is ∙ ap (λ (xs : List Stamped). make xs None) f.same in
             lie_same offset run lie f.blocks f.last f.lead ends before rows whole
 
-    first_lies : (rows : List Stamped) → LieLeft d o.file.bytes o.form [] 0 o.file.first rows → (known : List Stamped) → Gives o known None → rows ≡ known
+    first_lies : (rows : List Stamped) → LieLeft d o.file.bytes o.form o.changes [] 0 o.file.first rows → (known : List Stamped) → Gives o known None → rows ≡ known
     first_lies rows lie known gives =
         let none : lie.own ≡ [] = nil_from_length lie.own lie.many in
         lie.joined ∙ ap (λ (xs : List Stamped). xs ++ lie.more) none ∙ follow_lies o.file.first lie.more lie.later None known gives
 
 -- the rows that are given from the first block on are those that are known
-pub lie_known : (o : Opened) → OneBlock → (p : Option Direct) → IsDirectOr p o.form o.changes o.file → (rows known : List Stamped) → ∥ HasOnly o known ∥₁ → IsSet (List Stamped)
-    → (bytes : List ℕ) (f : Form) (rest : List ℕ) (next : ℕ) → bytes ≡ o.file.bytes → f ≡ o.form → rest ≡ [] → next ≡ o.file.first → LieIn p bytes f rest 0 next rows → rows ≡ known
-lie_known o one None direct rows known has set bytes f rest next same form nothing first lie = absurd lie
-lie_known o one (Some d) direct rows known has set bytes f rest next same form nothing first lie =
-    ∥∥₁_elim has (set rows known) (λ h. first_lies o one d direct rows (rw (same, form, nothing, first) at lie) known h.gives)
+pub lie_known : (o : Opened) → OneBlock → (p : Option Direct) → IsDirectOr p o.form o.file → (rows known : List Stamped) → ∥ HasOnly o known ∥₁ → IsSet (List Stamped)
+    → (bytes : List ℕ) (f : Form) (changes : Bool) (rest : List ℕ) (next : ℕ) → bytes ≡ o.file.bytes → f ≡ o.form → changes ≡ o.changes → rest ≡ [] → next ≡ o.file.first → LieIn p bytes f changes rest 0 next rows → rows ≡ known
+lie_known o one None direct rows known has set bytes f changes rest next same form kinds nothing first lie = absurd lie
+lie_known o one (Some d) direct rows known has set bytes f changes rest next same form kinds nothing first lie =
+    ∥∥₁_elim has (set rows known) (λ h. first_lies o one d direct rows (rw (same, form, kinds, nothing, first) at lie) known h.gives)

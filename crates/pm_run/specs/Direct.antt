@@ -3,7 +3,6 @@ use Rattle.std.specs.Prelude.{◌≡◌, ℕ, List, [], Bool, true, Option, Some
 use Rattle.pm_values.specs.Fits.{IsInType}
 use Rattle.pm_values.specs.Order.{Values}
 use Rattle.pm_values.specs.declared.column.ColType.{ColType}
-use Rattle.pm_values.specs.declared.kind.Kind.{Kind}
 use Rattle.pm_values.specs.declared.record.Stamped.{Stamped}
 use Rattle.pm_values.specs.declared.value.Value.{Value}
 use Rattle.pm_avro_schema.specs.Avro.{Avro}
@@ -16,7 +15,7 @@ use Rattle.pm_run.specs.declared.direct.Direct.{Direct}
 use Rattle.pm_run.specs.declared.form.Field.{Field}
 use Rattle.pm_run.specs.Form.{Form, written_fields}
 use Rattle.pm_run.specs.Kinds.{field_type, run_type, typed_field, value_type}
-use Rattle.pm_run.specs.Row.{row_in, row_kind, scalar_data, value_data, values_data}
+use Rattle.pm_run.specs.Row.{row_in, scalar_data, value_data, values_data}
 use Rattle.pm_run.specs.Rows.{Opened, all_judged, judged, placed}
 use Rattle.pm_run.specs.Typed.{FitFields, FitsField}
 
@@ -34,37 +33,36 @@ AreCells fields values source rest =
     AreFields (fields_of (map typed_field fields)) (items_of (values_data fields values)) source rest
     × FitFields fields values
 
--- Private: what is written of a form has the type, and each kind of row is kept
-pub record IsWritten (f : Form) (changes : Bool) (t : Avro) : Type 0 where
+-- Private: what is written of a form has the type
+pub record IsWritten (f : Form) (t : Avro) : Type 0 where
   pub kind : t ≡ run_type f
   pub differ : all_differ (written_fields f) ≡ true
-  pub kept : (kind : Kind) → row_kind changes f.engine kind ≡ Ok kind
 
 -- Private: where what is written has the type, the source is a datum of it that is the row, and then the rest
-abbrev pub IsRow : Form → Stamped → List ℕ → List ℕ → Type 0
-IsRow f x source rest = (changes : Bool) (t : Avro) → IsWritten f changes t
+abbrev pub IsRow : Form → Bool → Stamped → List ℕ → List ℕ → Type 0
+IsRow f changes x source rest = (t : Avro) → IsWritten f t
     → (d : Data) × IsDatum t d source rest × (row_in f changes t d ≡ Ok x)
 
 -- Private: so the source is as many data that are the rows, after one with the key before, and then the rest
 abbrev pub AreRows : Form → Bool → Option Values → List Stamped → List ℕ → List ℕ → Type 0
 AreRows f changes before rows source rest = (o : Opened) (offset : ℕ) → o.form ≡ f → o.changes ≡ changes
-    → IsWritten f changes o.file.kind
+    → IsWritten f o.file.kind
     → (ds : List Data) × (length ds ≡ length rows) × AreItems (IsDatum o.file.kind) ds source rest
     × (judged o before (placed offset ds) ≡ all_judged rows)
 
 -- Private: the marker is that of an opened file that is as what is written of a form
-pub record IsDirect (d : Direct) (f : Form) (changes : Bool) (r : Reader) : Type 0 where
+pub record IsDirect (d : Direct) (f : Form) (r : Reader) : Type 0 where
   pub marker : d.marker.items ≡ r.marker
-  pub written : IsWritten f changes r.kind
+  pub written : IsWritten f r.kind
 
 -- Private: so where there are any
-abbrev pub IsDirectOr : Option Direct → Form → Bool → Reader → Type 0
-IsDirectOr None f changes r = Unit {0}
-IsDirectOr (Some d) f changes r = IsDirect d f changes r
+abbrev pub IsDirectOr : Option Direct → Form → Reader → Type 0
+IsDirectOr None f r = Unit {0}
+IsDirectOr (Some d) f r = IsDirect d f r
 
 -- Private: of a file of these bytes the block at an offset has so many data, in this content, and ends at the next
 -- offset, if they are data
 abbrev pub HasContent : Direct → List ℕ → ℕ → ℕ → List ℕ → ℕ → Type 0
-HasContent d bytes offset count content next = (f : Form) (changes : Bool) (r : Reader) (ds : List Data)
-    → r.bytes ≡ bytes → IsDirect d f changes r → length ds ≡ count → AreItems (IsDatum r.kind) ds content []
+HasContent d bytes offset count content next = (f : Form) (r : Reader) (ds : List Data)
+    → r.bytes ≡ bytes → IsDirect d f r → length ds ≡ count → AreItems (IsDatum r.kind) ds content []
     → HasBlock r.kind r.marker r.bytes offset ds next

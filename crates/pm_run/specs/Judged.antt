@@ -6,7 +6,7 @@ use mathlib.Core.Logic.{∥∥₁_elim, ∥∥₁_prop}
 use Rattle.pm_values.specs.declared.record.Stamped.{Stamped}
 use Rattle.pm_run.specs.Rows.{Gives, Opened}
 
--- an opened file has these rows and then its end, and no others
+-- Private: an opened file has these rows and then its end, and no others
 pub record HasOnly (o : Opened) (rows : List Stamped) : Type 0 where
   pub gives : Gives o rows None
   pub only : (others : List Stamped) → Gives o others None → others ≡ rows

@@ -8,16 +8,19 @@ ghost use Rattle.pm_avro_file.specs.Reader.{IsOpened};
 ghost use Rattle.pm_values.specs.Kind.{code_of};
 ghost use Rattle.pm_run.specs.Direct.{AreCells, AreRows, HasContent, IsCell, IsDirect, IsDirectOr, IsRow, IsWritten};
 ghost use Rattle.pm_run.specs.Finding.{JudgesBlock, ReadsBlock};
-ghost use Rattle.pm_run.specs.Row.{most_sequence};
+ghost use Rattle.pm_run.specs.Row.{most_sequence, row_kind};
 ghost use Rattle.pm_run.specs.Rows.{Opened};
 ghost use Rattle.pm_seen.specs.Seen.{seen_value};
 
 use crate::form::{Field, TableForm};
 use crate::judge::judge_rows;
 use crate::leaf::{read_int, read_long, read_size, see_scalar};
-use crate::row_reader::{MOST_SEQUENCE, RowsRead, agree, last_key, may_follow, own_key};
+use crate::row_reader::{
+    MOST_SEQUENCE, RowsRead, agree, keeps_kind, last_key, may_follow, own_key,
+};
 use crate::same::is_written;
 use pm_avro_file::FileReader;
+use pm_schema::EngineKind;
 use pm_seen::{Seen, copied};
 use pm_values::{Key, Kind, Row, Stamped, Value};
 use std::alloc::{AllocError, Global};
@@ -36,13 +39,12 @@ impl Direct {
     pub(crate) fn of(
         alloc: Global,
         form: &TableForm,
-        changes: bool,
         file: &FileReader,
     ) -> Result<Option<Direct>, AllocError>
         requires { IsOpened file.now.bytes file.now }
-        ensures { IfOk result (λ direct. IsDirectOr direct form.now changes file.now) }
+        ensures { IfOk result (λ direct. IsDirectOr direct form.now file.now) }
     {
-        if !is_written(alloc, file.kind(), form, changes)? {
+        if !is_written(alloc, file.kind(), form)? {
             return Ok(None);
         }
         let Some(marker) = marker_before(file.bytes(), file.first()) else {
@@ -63,7 +65,7 @@ impl Direct {
         before: &Option<Key>,
     ) -> Option<(RowsRead, usize)>
         ensures { IfSome result (λ read. (o : Opened) → o.form ≡ form.now → o.changes ≡ changes
-            → o.file.bytes ≡ bytes.now → IsDirect self.now form.now changes o.file
+            → o.file.bytes ≡ bytes.now → IsDirect self.now form.now o.file
             → ReadsBlock o offset before.now (Ok (Some read))) }
     {
         let (count, content, next) = self.content(alloc, bytes, offset)?;
@@ -88,7 +90,7 @@ impl Direct {
         before: &Option<Key>,
     ) -> Option<(Option<Key>, usize, usize)>
         ensures { IfSome result (λ judged. (o : Opened) → o.form ≡ form.now → o.changes ≡ changes
-            → o.file.bytes ≡ bytes.now → IsDirect self.now form.now changes o.file
+            → o.file.bytes ≡ bytes.now → IsDirect self.now form.now o.file
             → JudgesBlock o offset before.now judged.0 judged.1 judged.2) }
     {
         let (count, content, next) = self.content(alloc, bytes, offset)?;
@@ -156,7 +158,7 @@ fn read_rows(
     let mut rows = Vec::with_capacity(alloc, count).ok()?;
     let mut rest = bytes;
     for _ in 0..count {
-        let (row, after) = read_row(alloc, form, rest)?;
+        let (row, after) = read_row(alloc, form, changes, rest)?;
         if !may_follow(changes, last_key(before, &rows), &row.key) {
             return None;
         }
@@ -167,12 +169,17 @@ fn read_rows(
 }
 
 /// The row that the bytes begin with, and the rest.
-fn read_row<'b>(alloc: Global, form: &TableForm, bytes: &'b [u8]) -> Option<(Stamped, &'b [u8])>
-    ensures { IfSome result (λ x. IsRow form.now x.0 bytes.now x.1.now) }
+fn read_row<'b>(
+    alloc: Global,
+    form: &TableForm,
+    changes: bool,
+    bytes: &'b [u8],
+) -> Option<(Stamped, &'b [u8])>
+    ensures { IfSome result (λ x. IsRow form.now changes x.0 bytes.now x.1.now) }
 {
     let (values, rest) = read_values(alloc, &form.keys, bytes)?;
     let (seq, rest) = read_sequence(alloc, rest)?;
-    let (kind, rest) = read_kind(alloc, rest)?;
+    let (kind, rest) = read_kind(alloc, changes, form.engine, rest)?;
     let (row, rest) = read_values(alloc, &form.columns, rest)?;
     if !agree(&form.places, &row, &values) {
         return None;
@@ -205,13 +212,24 @@ pub(crate) fn read_sequence(alloc: Global, bytes: &[u8]) -> Option<(u64, &[u8])>
     }
 }
 
-/// The kind whose number the bytes begin with, and the rest.
+/// The kind whose number the bytes begin with, where rows of it are kept as they are, and the rest.
 #[inline(always)]
-pub(crate) fn read_kind(alloc: Global, bytes: &[u8]) -> Option<(Kind, &[u8])>
-    ensures { IfSome result (λ x. IsInt (pos (code_of x.0)) bytes.now x.1.now) }
+pub(crate) fn read_kind(
+    alloc: Global,
+    changes: bool,
+    engine: EngineKind,
+    bytes: &[u8],
+) -> Option<(Kind, &[u8])>
+    ensures number { IfSome result (λ x. IsInt (pos (code_of x.0)) bytes.now x.1.now) }
+    ensures kept { IfSome result (λ x. row_kind changes engine x.0 ≡ Ok x.0) }
 {
     let (number, rest) = read_int(alloc, bytes)?;
-    Some((Kind::from_code(i64::from(number))?, rest))
+    let kind = Kind::from_code(i64::from(number))?;
+    if keeps_kind(changes, engine, kind) {
+        Some((kind, rest))
+    } else {
+        None
+    }
 }
 
 /// The values of fields that the bytes begin with, and the rest.

@@ -44,7 +44,7 @@ pub(crate) fn judge_rows(
     let mut some = before.is_some();
     let mut rest = bytes;
     for _ in 0..count {
-        let after = see_row(alloc, form, rest, &mut seen)?;
+        let after = see_row(alloc, form, changes, rest, &mut seen)?;
         if some && !rises(changes, &last, &seen.key) {
             return None;
         }
@@ -64,14 +64,15 @@ pub(crate) fn judge_rows(
 pub(crate) fn see_row<'b>(
     alloc: Global,
     form: &TableForm,
+    changes: bool,
     bytes: &'b [u8],
     into: &mut SeenRow<'b>,
 ) -> Option<&'b [u8]>
-    ensures { IfSome result (λ rest. IsRow form.now (seen_row into.new) bytes.now rest.now) }
+    ensures { IfSome result (λ rest. IsRow form.now changes (seen_row into.new) bytes.now rest.now) }
 {
     let rest = see_values(alloc, &form.keys, bytes, &mut into.key)?;
     let (seq, rest) = read_sequence(alloc, rest)?;
-    let (kind, rest) = read_kind(alloc, rest)?;
+    let (kind, rest) = read_kind(alloc, changes, form.engine, rest)?;
     let rest = see_values(alloc, &form.columns, rest, &mut into.row)?;
     into.seq = seq;
     into.kind = kind;

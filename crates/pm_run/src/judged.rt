@@ -49,6 +49,7 @@ impl JudgedFile {
         let (form, direct) = self.reader.form_and_direct();
         FileRows {
             form,
+            changes: self.reader.changes(),
             bytes: self.reader.bytes(),
             direct,
             rest: &[],

@@ -14,6 +14,8 @@ use std::alloc::{AllocError, Global};
 #[derive(Drop)]
 pub struct FileRows<'b> {
     pub(crate) form: &'b TableForm,
+    /// Whether it is a changelog file.
+    pub(crate) changes: bool,
     /// All bytes of the file.
     pub(crate) bytes: &'b [u8],
     pub(crate) direct: Option<&'b Direct>,
@@ -28,8 +30,8 @@ pub struct FileRows<'b> {
 }
 
 impl<'b> FileRows<'b> {
-    /// Puts the next row into an empty place, or none at the end. It takes no memory but where the row is longer than
-    /// those that were there before.
+    /// Puts the next row into an empty place, or none at the end. It takes memory only where the place had no row of as
+    /// many values yet. Bytes that can't be read as they were judged are answered as out of memory.
     pub fn fill(&mut self, alloc: Global, slot: &mut RowSlot<'b>) -> Result<(), AllocError>
         requires { slot.old ≡ None }
         ensures gives { OnOk result ((rows : List Stamped) → LieFirst slot.new (StillLie self.new) rows
@@ -90,7 +92,7 @@ impl<'b> FileRows<'b> {
         if self.count == 0 {
             return Err(AllocError);
         }
-        let Some(rest) = see_row(alloc, self.form, self.rest, &mut slot.seen) else {
+        let Some(rest) = see_row(alloc, self.form, self.changes, self.rest, &mut slot.seen) else {
             return Err(AllocError);
         };
         slot.lies = true;

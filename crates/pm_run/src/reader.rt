@@ -68,7 +68,7 @@ impl Model for RunReader {
 
     ghost invariant = { λ r. (r.next ≤ length r.file.bytes)
         × (Some r.rows ≡ reader_in r.rows.form r.rows.changes r.file.kind)
-        × IsDirectOr r.direct r.rows.form r.rows.changes r.file };
+        × IsDirectOr r.direct r.rows.form r.file };
 }
 
 /// The first rows that follow in a file.
@@ -104,7 +104,7 @@ impl RunReader {
         known_bytes(bytes.as_bytes());
         let file = open_file(alloc, path, bytes)?;
         let form = TableForm::of(alloc, schema)?;
-        let direct = Direct::of(alloc, &form, changes, &file)?;
+        let direct = Direct::of(alloc, &form, &file)?;
         match RowReader::of(alloc, file.kind(), form, changes)? {
             Some(rows) => Ok(RunReader::before_first(alloc, path, rows, direct, file)?),
             None => Err(damaged(alloc, path, 0)),
@@ -120,7 +120,7 @@ impl RunReader {
         file: FileReader,
     ) -> Result<RunReader, AllocError>
         requires of_kind { Some rows ≡ reader_in rows.form rows.changes file.kind }
-        requires direct { IsDirectOr direct rows.form rows.changes file }
+        requires direct { IsDirectOr direct rows.form file }
         ensures { IfOk result (λ r. r ≡ before_first (opened_as path.now rows.form rows.changes file)) }
     {
         let next = file.first();
@@ -240,10 +240,16 @@ impl RunReader {
     /// The form of the table, and the marker of the file where it is as it is written here.
     pub(crate) fn form_and_direct(&self) -> (&TableForm, Option<&Direct>)
         ensures form { result.0.now ≡ self.now.opened.form }
-        ensures direct { IsDirectOr (option_copied result.1) self.now.opened.form self.now.opened.changes
-            self.now.opened.file }
+        ensures direct { IsDirectOr (option_copied result.1) self.now.opened.form self.now.opened.file }
     {
         (&self.rows.form, self.direct.as_ref())
+    }
+
+    /// Whether it is a changelog file.
+    pub(crate) fn changes(&self) -> bool
+        ensures { result ≡ self.now.opened.changes }
+    {
+        self.rows.changes
     }
 
     /// The offset of the first block, or of the end.
@@ -318,7 +324,7 @@ fn find_rows(
 ) -> Result<Option<Found>, Refusal>
     requires within { offset ≤ length file.now.bytes }
     requires of_kind { Some reader.now ≡ reader_in reader.now.form reader.now.changes file.now.kind }
-    requires direct { IsDirectOr direct.now reader.now.form reader.now.changes file.now }
+    requires direct { IsDirectOr direct.now reader.now.form file.now }
     ensures { FindsRows (opened_as path.now reader.now.form reader.now.changes file.now) offset before.now result }
 {
     let mut offset = offset;
@@ -353,7 +359,7 @@ fn rows_after(
     before: &Option<Key>,
 ) -> Result<(Vec<Stamped>, Option<Key>), Refusal>
     requires of_kind { Some reader.now ≡ reader_in reader.now.form reader.now.changes file.now.kind }
-    requires direct { IsDirectOr direct.now reader.now.form reader.now.changes file.now }
+    requires direct { IsDirectOr direct.now reader.now.form file.now }
     ensures follow { IfOk result (λ read.
         Follow (opened_as path.now reader.now.form reader.now.changes file.now) file.now.first before.now read.0.items
         None) }
@@ -386,7 +392,7 @@ fn judge_file(
     file: &FileReader,
     before: &Option<Key>,
 ) -> Option<(Option<Key>, usize)>
-    requires { IsDirectOr direct.now rows.now.form rows.now.changes file.now }
+    requires { IsDirectOr direct.now rows.now.form file.now }
     ensures { IfSome result (λ judged. (path : List ℕ)
         → Judges (opened_as path rows.now.form rows.now.changes file.now) before.now judged.0 judged.1) }
 {
@@ -445,7 +451,7 @@ fn read_block(
 ) -> Result<Option<(RowsRead, usize)>, Refusal>
     requires within { offset ≤ length file.now.bytes }
     requires of_kind { Some rows.now ≡ reader_in rows.now.form rows.now.changes file.now.kind }
-    requires direct { IsDirectOr direct.now rows.now.form rows.now.changes file.now }
+    requires direct { IsDirectOr direct.now rows.now.form file.now }
     ensures { ReadsBlock (opened_as path.now rows.now.form rows.now.changes file.now) offset before.now result }
 {
     if let Some(found) = read_direct(alloc, rows, direct, file.bytes(), offset, before) {
@@ -472,7 +478,7 @@ fn read_direct(
     before: &Option<Key>,
 ) -> Option<(RowsRead, usize)>
     ensures { IfSome result (λ read. (o : Opened) → o.form ≡ rows.now.form → o.changes ≡ rows.now.changes
-        → o.file.bytes ≡ bytes.now → IsDirectOr direct.now rows.now.form rows.now.changes o.file
+        → o.file.bytes ≡ bytes.now → IsDirectOr direct.now rows.now.form o.file
         → ReadsBlock o offset before.now (Ok (Some read))) }
 {
     match direct {

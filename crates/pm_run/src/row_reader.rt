@@ -1,6 +1,6 @@
 //! Rows that are read of the records of a file.
 
-ghost use Rattle.std.specs.Prelude.{◌≡◌, Some, IfOk, map, true};
+ghost use Rattle.std.specs.Prelude.{◌≡◌, Ok, Some, IfOk, IsTrue, map, true};
 ghost use Rattle.std.specs.Option.{option_copied};
 ghost use Rattle.std.specs.List.{AllByRecursion};
 ghost use Rattle.std.specs.Ordering.{is_eq};
@@ -358,6 +358,21 @@ fn row_kind(alloc: Global, changes: bool, engine: EngineKind, kind: Kind) -> Res
         EngineKind::Deduplicate => Ok(kind),
         EngineKind::FirstRow => unless_retracts(alloc, kind, kind),
         _ => unless_retracts(alloc, kind, Kind::Insert),
+    }
+}
+
+/// Whether rows of the kind are kept as they are.
+#[inline(always)]
+pub(crate) fn keeps_kind(changes: bool, engine: EngineKind, kind: Kind) -> bool
+    ensures { IsTrue result → row_kind changes engine kind ≡ Ok kind }
+{
+    if changes {
+        return true;
+    }
+    match engine {
+        EngineKind::Deduplicate => true,
+        EngineKind::FirstRow => !kind.retracts(),
+        _ => matches!(kind, Kind::Insert),
     }
 }
 

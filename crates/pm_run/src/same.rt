@@ -1,40 +1,29 @@
 //! Whether the type of a file is the one that is written.
 
-ghost use Rattle.std.specs.Prelude.{◌≡◌, Ok, IfOk, IfSome, IsTrue, map};
+ghost use Rattle.std.specs.Prelude.{◌≡◌, IfOk, IfSome, IsTrue, map};
 ghost use Rattle.pm_avro_schema.specs.Avro.{record_of};
 ghost use Rattle.pm_avro_schema.specs.View as types;
-ghost use Rattle.pm_values.specs.declared.kind.Kind.{Kind};
 ghost use Rattle.pm_run.specs.Direct.{IsWritten};
-ghost use Rattle.pm_run.specs.Row.{row_kind};
 
 use crate::form::TableForm;
 use crate::kinds::run_kind;
 use pm_avro_schema::AvroType;
 use pm_base::Txt;
 use pm_record::all_differ;
-use pm_schema::EngineKind;
 use std::alloc::{AllocError, Global};
 
-/// Whether records of the type are as those that are written of a form, and rows of each kind are kept.
+/// Whether records of the type are as those that are written of a form.
 pub(crate) fn is_written(
     alloc: Global,
     kind: &AvroType,
     form: &TableForm,
-    changes: bool,
 ) -> Result<bool, AllocError>
-    ensures { IfOk result (λ yes. IsTrue yes → IsWritten form.now changes (types.view kind.now)) }
+    ensures { IfOk result (λ yes. IsTrue yes → IsWritten form.now (types.view kind.now)) }
 {
-    if !keeps_kinds(changes, form.engine) || !all_differ(&form.written_names(alloc)?) {
+    if !all_differ(&form.written_names(alloc)?) {
         return Ok(false);
     }
     Ok(is_same_record(kind, &run_kind(alloc, form)?))
-}
-
-/// Whether rows of each kind are kept as they are.
-fn keeps_kinds(changes: bool, engine: EngineKind) -> bool
-    ensures { IsTrue result → (kind : Kind) → row_kind changes engine kind ≡ Ok kind }
-{
-    changes || matches!(engine, EngineKind::Deduplicate)
 }
 
 /// Whether two types are records of the same fields.

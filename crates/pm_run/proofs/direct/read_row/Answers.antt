@@ -1,8 +1,9 @@
-use Rattle.std.proofs.Common.{◌≡◌, rules, true}
+use Rattle.std.proofs.Common.{◌≡◌, Ok, rules, subst, true}
 use Rattle.pm_history.specs.Merge.{key_of}
 use Rattle.pm_values.specs.declared.record.Stamped.{Stamped}
 use Rattle.pm_run.specs.Direct.{AreCells}
-use Rattle.pm_run.specs.Row.{agree}
+use Rattle.pm_run.specs.Form.{Form}
+use Rattle.pm_run.specs.Row.{agree, row_kind}
 use Rattle.pm_run.proofs.DirectLemmas.{row_read}
 use Rattle.pm_run.proofs.direct.read_row.Goals as goal
 
@@ -13,6 +14,7 @@ returns c =
     let keys : AreCells f.keys c.in_ok-values.values.items c.args.bytes.now c.in_ok-values.rest.now = search rules in
     let columns : AreCells f.columns c.new-row.result c.in_ok-kind.rest.now c.in_ok-row.rest.now = search rules in
     let agrees : agree f.places c.new-row.result c.in_ok-values.values.items ≡ true = search rules in
+    let kept : row_kind c.args.changes f.engine x.kind ≡ Ok x.kind = subst (λ (g : Form). row_kind c.args.changes g.engine x.kind ≡ Ok x.kind) c.form.view_is c.in_ok-kind.ensures.kept in
     let own : c.in_ok-key.key ≡ key_of f.primary c.new-row.result = search rules in
     row_read f x c.in_ok-values.values.items c.args.bytes.now c.in_ok-values.rest.now c.in_ok-seq.rest.now c.in_ok-kind.rest.now c.in_ok-row.rest.now keys c.in_ok-seq.ensures.long
-    c.in_ok-seq.ensures.within c.in_ok-kind.ensures columns agrees own
+    c.in_ok-seq.ensures.within c.in_ok-kind.ensures.number columns agrees own c.args.changes kept

@@ -1,8 +1,9 @@
-use Rattle.std.proofs.Common.{◌≡◌, map, true, rules}
+use Rattle.std.proofs.Common.{◌≡◌, map, true, Ok, rules, subst}
 use Rattle.pm_seen.specs.Seen.{seen_value}
 use Rattle.pm_values.specs.declared.record.Stamped.{Stamped}
 use Rattle.pm_run.specs.Direct.{AreCells}
-use Rattle.pm_run.specs.Row.{agree}
+use Rattle.pm_run.specs.Form.{Form}
+use Rattle.pm_run.specs.Row.{agree, row_kind}
 use Rattle.pm_run.proofs.DirectLemmas.{row_read}
 use Rattle.pm_run.proofs.TakingLemmas.{whole_key}
 use Rattle.pm_run.proofs.judge.see_row.Goals as goal
@@ -21,5 +22,6 @@ returns-then-are_at c =
     let columns : AreCells f.columns x.row c.in_ok-kind.rest.now c.in_ok-rest-2.rest.now = search rules in
     let agrees : agree f.places x.row x.key ≡ true = search rules in
     let same : f.places ≡ f.primary = search rules in
+    let kept : row_kind c.args.changes f.engine x.kind ≡ Ok x.kind = subst (λ (g : Form). row_kind c.args.changes g.engine x.kind ≡ Ok x.kind) c.form.view_is c.in_ok-kind.ensures.kept in
     row_read f x x.key c.args.bytes.now c.in_ok-rest.rest.now c.in_ok-seq.rest.now c.in_ok-kind.rest.now c.in_ok-rest-2.rest.now keys c.in_ok-seq.ensures.long c.in_ok-seq.ensures.within
-    c.in_ok-kind.ensures columns agrees (whole_key f.places f.primary x.row x.key same agrees)
+    c.in_ok-kind.ensures.number columns agrees (whole_key f.places f.primary x.row x.key same agrees) c.args.changes kept

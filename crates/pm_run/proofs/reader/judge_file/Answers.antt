@@ -8,7 +8,7 @@ use Rattle.pm_run.proofs.reader.judge_file.Goals as goal
 pub loop-offset-smaller : goal.loop-offset-smaller
 loop-offset-smaller c =
     let o : Opened = opened_as [] c.args.rows.now.form c.args.rows.now.changes c.args.file.now in
-    let direct : IsDirect c.in-Some.direct o.form o.changes o.file = subst (λ p. IsDirectOr p o.form o.changes o.file) c.in-Some.is c.requires in
+    let direct : IsDirect c.in-Some.direct o.form o.file = subst (λ p. IsDirectOr p o.form o.file) c.in-Some.is c.requires in
     omega (arith, judge_further o c.loop-offset.offset c.loop-offset.last c.in_ok-key.key c.in_ok-key.own c.in_ok-key.end (c.in_ok-key.ensures o refl refl (sym c.bytes-bytes.ensures) direct))
 
 pub loop-offset-preserved : goal.loop-offset-preserved
@@ -17,7 +17,7 @@ loop-offset-preserved c =
     let changes = c.args.rows.now.changes in
     let file = c.args.file.now in
     let o = λ (path : List ℕ). opened_as path form changes file in
-    let direct : IsDirect c.in-Some.direct form changes file = subst (λ p. IsDirectOr p form changes file) c.in-Some.is c.requires in
+    let direct : IsDirect c.in-Some.direct form file = subst (λ p. IsDirectOr p form file) c.in-Some.is c.requires in
     let found : (path : List ℕ) → JudgesBlock (o path) c.loop-offset.offset c.loop-offset.last c.in_ok-key.key c.in_ok-key.own c.in_ok-key.end = λ path. c.in_ok-key.ensures (o path) refl refl (sym c.bytes-bytes.ensures) direct in
     let many : c.in_ok-count.count ≡ c.loop-offset.count + c.in_ok-key.own = search rules in
     record {

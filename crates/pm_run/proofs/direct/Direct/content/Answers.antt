@@ -12,7 +12,7 @@ overflow_sub-result c =
     counted c.in_ok-size.ensures marked
 
 pub returns : goal.returns
-returns c = λ f changes r ds same direct many items.
+returns c = λ f r ds same direct many items.
     let counted : IsLong (pos c.in_ok-count.count) (drop c.args.offset c.args.bytes.now) c.in_ok-count.middle.now = search rules in
     let marked : drop c.in_ok-size.size c.in_ok-size.left.now ≡ c.as_slice.result.now ++ c.in_ok-rest.rest.now = sym c.split_at-2.ensures.back ∙ c.in_ok-rest.ensures in
     let own : AreItems (IsDatum r.kind) ds (take c.in_ok-size.size c.in_ok-size.left.now) [] = subst (λ bs. AreItems (IsDatum r.kind) ds bs []) c.split_at-2.ensures.front items in

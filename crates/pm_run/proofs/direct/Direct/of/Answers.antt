@@ -13,5 +13,5 @@ returns c =
     c.in-Some.ensures.marker ∙ ap (λ n. take 16 (drop (n - 16) c.bytes.result.now)) first ∙ ap (λ bs. take 16 (drop (c.args.file.now.first - 16) bs)) c.bytes.ensures in
     record {
       marker = c.in_ok-marker.ensures.items ∙ here ∙ marker_is c.args.file.now.bytes c.args.file.now c.requires some;
-      written = subst (IsWritten c.args.form.now c.args.changes) c.kind.ensures.kind (c.in_ok-is_written.ensures yes);
+      written = subst (IsWritten c.args.form.now) c.kind.ensures.kind (c.in_ok-is_written.ensures yes);
     }

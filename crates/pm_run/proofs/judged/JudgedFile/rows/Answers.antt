@@ -8,6 +8,6 @@ returns c =
     let known = c.self.inside.known in
     record {
       rows = λ rows lie. lie_known c.self.inside.reader.opened c.one_block_law.ensures.one (option_copied c.form_and_direct.result.1) c.form_and_direct.ensures.direct rows known.0 known.1 (Coded-set (hlevel codes))
-          c.bytes.result.now c.form_and_direct.result.0.now [] c.first.result c.bytes.ensures c.form_and_direct.ensures.form refl c.first.ensures.first lie ∙ c.self.view_is;
+          c.bytes.result.now c.form_and_direct.result.0.now c.changes.result [] c.first.result c.bytes.ensures c.form_and_direct.ensures.form c.changes.ensures refl c.first.ensures.first lie ∙ c.self.view_is;
       many = sym c.self.invariant ∙ ap length c.self.view_is;
     }

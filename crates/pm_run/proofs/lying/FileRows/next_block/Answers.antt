@@ -8,5 +8,5 @@ pub returns-clause-gives : goal.returns-clause-gives
 returns-clause-gives c = λ rows lie.
     let v = c.args.self.now in
     let none : v.rest.now ≡ [] = nil_from_length v.rest.now (grind (arith, common_steps)) in
-    lies_block (option_copied v.direct) c.in-Some.direct.now v.bytes.now v.form.now v.rest.now c.in-Some-content.content.now v.left v.next c.in-Some-content.count c.in-Some-content.next rows
+    lies_block (option_copied v.direct) c.in-Some.direct.now v.bytes.now v.form.now v.changes v.rest.now c.in-Some-content.content.now v.left v.next c.in-Some-content.count c.in-Some-content.next rows
     (ap option_copied c.in-Some.is) c.requires none c.in-Some-content.ensures lie

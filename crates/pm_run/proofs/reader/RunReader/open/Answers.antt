@@ -15,9 +15,7 @@ pub before_first-requires-clause-direct : goal.before_first-requires-clause-dire
 before_first-requires-clause-direct c =
     let found = rw c.in-Some.is at c.in_ok-rows.ensures in
     let p = reader_of c.in-Some.rows c.in_ok-form.form c.args.changes (types.view c.kind.result.now) found in
-    let changed : IsDirectOr c.in_ok-direct.direct c.in_ok-form.form c.in-Some.rows.changes c.in_ok-file.file =
-    subst (λ b. IsDirectOr c.in_ok-direct.direct c.in_ok-form.form b c.in_ok-file.file) (sym p.changed) c.in_ok-direct.ensures in
-    subst (λ f. IsDirectOr c.in_ok-direct.direct f c.in-Some.rows.changes c.in_ok-file.file) (sym p.form) changed
+    subst (λ f. IsDirectOr c.in_ok-direct.direct f c.in_ok-file.file) (sym p.form) c.in_ok-direct.ensures
 
 pub returns-in_ok-before_first-in-Some-clause-opens : goal.returns-in_ok-before_first-in-Some-clause-opens
 returns-in_ok-before_first-in-Some-clause-opens c =
