@@ -1,6 +1,6 @@
 //! The rows of a run.
 
-ghost use Rattle.std.specs.Prelude.{◌≡◌, [], IfErr, OnOk};
+ghost use Rattle.std.specs.Prelude.{◌≡◌, [], IfErr, OnErr, OnOk};
 ghost use Rattle.pm_engine.specs.Covers.{Run};
 ghost use Rattle.pm_run.specs.Reader.{Appends};
 ghost use Rattle.pm_stored.specs.Stored.{RefusesRows, StillGives};
@@ -44,10 +44,11 @@ impl StoredRun {
     }
 
     /// Adds the rows of the next file, of which the first has to follow the last of those before. Refusals are those of
-    /// `RunReader::next`; nothing is said of the run after one.
+    /// `RunReader::next`; with one the run stays as it was.
     pub fn append(&mut self, alloc: Global, reader: RunReader) -> Result<(), Refusal>
         ensures appends { OnOk result (Appends reader.opened self.old self.new) }
         ensures refuses { IfErr result (RefusesRows reader.opened self.old) }
+        ensures stays { OnErr result (self.new ≡ self.old) }
     {
         let (file, last) = ReadFile::of(alloc, reader, &self.last)?;
         self.files.push(file)?;
