@@ -12,7 +12,7 @@ use std::alloc::{AllocError, Global};
 use std::cmp::Ordering;
 use std::marker::Model;
 
-/// A row that lies in bytes, with its key, its number and its kind.
+/// A row that lies in bytes or is lent, with its key, its number and its kind.
 #[derive(Drop)]
 pub struct SeenRow<'b> {
     pub key: Vec<Seen<'b>>,
@@ -33,7 +33,8 @@ impl<'b> SeenRow<'b> {
     }
 }
 
-/// A place for a row: none, one that lies in bytes, which is in `seen` where `lies` says so, or one of its own.
+/// A place for a row: none, one that lies in bytes or is lent, which is in `seen` where `lies` says so, or one of its
+/// own.
 #[derive(Drop)]
 pub struct RowSlot<'b> {
     pub lies: bool,

@@ -39,7 +39,7 @@ pub record PrintsGroups (m : Meaning) (groups : List (List Run)) (text : List �
   pub is_merge : IsMerge m shown all
   pub lines : text ≡ lines_of all
 
--- the lines of the rows that one group shows, of its runs, the oldest first
+-- Private: the lines of the rows that one group shows, of its runs, the oldest first
 abbrev pub PrintsShown : Meaning → List Run → List ℕ → Type 0
 PrintsShown m runs text = (shown : Run) × IsShown m runs shown × (text ≡ lines_of shown)
 
