@@ -1,11 +1,12 @@
-//! What the cases of `pm_vectors` and `pm_cases` have in common: arguments that spell bytes, columns, and refusals as
-//! answers.
+//! What the codecs of `pm_vectors` have in common: a case, arguments that spell bytes, columns, and refusals as answers.
 #![tactic(auto)]
 
 mod argument;
+mod case;
 mod columns;
 mod refusal;
 
 pub use argument::{read_bytes, read_text};
+pub use case::Case;
 pub use columns::{read_columns, read_type};
 pub use refusal::{ROOM, print_refusal, print_within};

@@ -1,120 +1,133 @@
-//! Avro's data: bytes, read as a datum of a type and written again.
+//! Avro's data: bytes, read as a datum of a type and written again, by itself and in a file.
 
-use crate::avro_fault::print_fault;
-use pm_avro_data::{Datum, Leaf, decode, encode};
-use pm_avro_schema::{AvroFault, parse};
-use pm_base::Txt;
-use pm_case::read_bytes;
-use pm_value_text::{parse_hex, print_hex};
-use std::alloc::{AllocError, Global};
+ghost use Rattle.std.specs.Prelude.{map};
+ghost use Rattle.std.specs.List.{AllByRecursion};
+ghost use Rattle.pm_avro_schema.specs.Readable.{IsReadable};
+ghost use Rattle.pm_avro_schema.specs.View as types;
+ghost use Rattle.pm_avro_data.specs.Datum.{view};
+ghost use Rattle.pm_avro_data.specs.HasType.{HasType};
 
-/// The datum that the digits begin with, how many bytes it took, and the digits that are written for it; or the fault.
-pub fn answer(alloc: Global, arguments: &str) -> Result<Option<String>, AllocError> {
-    let Some((schema, digits)) = arguments.split_once('\t') else {
-        return Ok(None);
-    };
-    let Some(schema) = read_bytes(alloc, schema)? else {
-        return Ok(None);
-    };
-    let Some(bytes) = parse_hex(alloc, digits)? else {
-        return Ok(None);
-    };
-    let text = match printed(alloc, &schema, &bytes) {
-        Ok(text) => text,
-        Err(fault) => print_fault(alloc, &fault)?,
-    };
-    Ok(Some(text))
+use crate::avro::say_fault;
+use crate::datum::{say_data, say_datum};
+use pm_avro_data::{Datum, decode, encode};
+use pm_avro_file::{FileReader, write_file};
+use pm_avro_schema::{AvroFault, AvroType};
+use pm_case::Case;
+use pm_values::Blob;
+use std::alloc::Global;
+
+/// A marker of zero bytes.
+const MARKER: [u8; 16] = [0; 16];
+
+/// What is answered of the datum that digits begin with, or the fault.
+pub fn answer(case: &mut Case, codec: &str, kind: &AvroType, digits: &str)
+    requires { IsReadable (types.view kind.now) }
+{
+    let bytes = case.digits(digits);
+    match decode(case.alloc(), kind, &bytes) {
+        Ok((datum, taken)) => answer_of(case, codec, kind, datum, taken),
+        Err(fault) => say_fault(case, fault),
+    }
 }
 
-/// The same, of bytes that are read.
-fn printed(alloc: Global, schema: &[u8], bytes: &[u8]) -> Result<String, AvroFault> {
-    let kind = parse(alloc, schema)?;
-    let (datum, taken) = decode(alloc, &kind, bytes)?;
-    let written = encode(alloc, &kind, &datum)?;
-    let mut text = String::new(alloc);
-    push_datum(alloc, &mut text, &datum)?;
-    let digits = print_hex(alloc, &written)?;
-    Ok(format!(in alloc; "{text}\t{taken}\t{digits}")?)
+/// The same of a datum that took so many bytes.
+fn answer_of(case: &mut Case, codec: &str, kind: &AvroType, datum: Datum, taken: usize)
+    requires readable { IsReadable (types.view kind.now) }
+    requires of_type { HasType (types.view kind.now) (view datum) }
+{
+    if codec == "avro-datum" {
+        say_again(case, kind, datum, taken);
+    } else {
+        say_file(case, kind, datum);
+    }
 }
 
-/// Adds a datum: a number, `true`, `null` or a text as in JSON, bytes as `#` and their digits, and what is made of
-/// other data in parentheses, after its kind.
-#[cycle(print)]
-pub fn push_datum(alloc: Global, text: &mut String, datum: &Datum) -> Result<(), AllocError> {
-    match datum {
-        Datum::Null => text.push_str("null"),
-        Datum::Bool(flag) => push(text, &format!(in alloc; "{flag}")?),
-        Datum::Int(number) => push(text, &format!(in alloc; "{number}")?),
-        Datum::Long(number) => push(text, &format!(in alloc; "{number}")?),
-        Datum::Bytes(bytes) => push(text, &format!(in alloc; "#{}", print_hex(alloc, bytes)?)?),
-        Datum::Text(content) => push_quoted(alloc, text, content),
-        Datum::Record(values) => push_data(alloc, text, "(record", values),
-        Datum::Array(items) => push_data(alloc, text, "(array", items),
-        Datum::Map(entries) => push_entries(alloc, text, entries),
-        Datum::Branch(index, leaf) => {
-            push(text, &format!(in alloc; "(union {index} ")?)?;
-            push_leaf(alloc, text, leaf)?;
-            text.push_str(")")
+/// Says a datum, how many bytes it took, and the digits that are written for it.
+fn say_again(case: &mut Case, kind: &AvroType, datum: Datum, taken: usize)
+    requires readable { IsReadable (types.view kind.now) }
+    requires of_type { HasType (types.view kind.now) (view datum) }
+{
+    match encode(case.alloc(), kind, &datum) {
+        Ok(written) => {
+            say_datum(case, &datum);
+            case.say_made(format!(in case.alloc(); "\t{taken}\t"));
+            case.say_digits(&written);
         }
-        Datum::Union(index, datum) => {
-            push(text, &format!(in alloc; "(union {index} ")?)?;
-            push_datum(alloc, text, datum)?;
-            text.push_str(")")
+        Err(fault) => say_fault(case, fault),
+    }
+    drop(datum);
+}
+
+/// Says the digits of a file whose one block has the datum, what is read at the offset of its first block, and the
+/// offset after it.
+fn say_file(case: &mut Case, kind: &AvroType, datum: Datum)
+    requires readable { IsReadable (types.view kind.now) }
+    requires of_type { HasType (types.view kind.now) (view datum) }
+{
+    match written(case.alloc(), kind, datum) {
+        Ok(file) => read_again(case, file),
+        Err(fault) => say_fault(case, fault),
+    }
+}
+
+/// The file whose one block has a datum.
+fn written(alloc: Global, kind: &AvroType, datum: Datum) -> Result<Vec<u8>, AvroFault>
+    requires readable { IsReadable (types.view kind.now) }
+    requires of_type { HasType (types.view kind.now) (view datum) }
+{
+    if kind.takes_no_byte() {
+        drop(datum);
+        return Err(AvroFault::Bad(0));
+    }
+    let block = vec![in alloc; datum]?;
+    write_file(alloc, kind, &[block], MARKER)
+}
+
+/// Says what is written of the first block of a file, the block, and the offset after it.
+fn read_again(case: &mut Case, file: Vec<u8>) {
+    match FileReader::open(case.alloc(), Blob::new(file)) {
+        Ok(reader) => {
+            say_first(case, &reader);
+            drop(reader);
         }
+        Err(fault) => say_fault(case, fault),
     }
 }
 
-/// Adds a datum that holds no other.
-fn push_leaf(alloc: Global, text: &mut String, leaf: &Leaf) -> Result<(), AllocError> {
-    match leaf {
-        Leaf::Null => text.push_str("null"),
-        Leaf::Bool(flag) => push(text, &format!(in alloc; "{flag}")?),
-        Leaf::Int(number) => push(text, &format!(in alloc; "{number}")?),
-        Leaf::Long(number) => push(text, &format!(in alloc; "{number}")?),
-        Leaf::Bytes(bytes) => push(text, &format!(in alloc; "#{}", print_hex(alloc, bytes)?)?),
-        Leaf::Text(content) => push_quoted(alloc, text, content),
+/// The same of a file that was opened.
+fn say_first(case: &mut Case, reader: &FileReader) {
+    let kind = reader.kind();
+    match reader.block_at(case.alloc(), reader.first()) {
+        Ok(Some((block, next))) => say_block(case, kind, block, next),
+        Ok(None) => case.say("no block"),
+        Err(fault) => say_fault(case, fault),
     }
 }
 
-/// Adds what a kind of datum is made of.
-#[cycle(print)]
-pub fn push_data(
-    alloc: Global,
-    text: &mut String,
-    kind: &str,
-    data: &Vec<Datum>,
-) -> Result<(), AllocError> {
-    text.push_str(kind)?;
-    for datum in data {
-        text.push_str(" ")?;
-        push_datum(alloc, text, datum)?;
+/// The same of the block.
+fn say_block(case: &mut Case, kind: &AvroType, block: Vec<Datum>, next: usize)
+    requires readable { IsReadable (types.view kind.now) }
+    requires of_type { AllByRecursion (HasType (types.view kind.now)) (map view block.items) }
+{
+    let mut text = Case::new(case.alloc());
+    say_data(&mut text, "(block", &block);
+    match written_block(case.alloc(), kind, block) {
+        Ok(file) => case.say_digits(&file),
+        Err(fault) => say_fault(case, fault),
     }
-    text.push_str(")")
+    case.say("\t");
+    case.say_made(text.into_answer());
+    case.say_made(format!(in case.alloc(); "\t{next}"));
 }
 
-/// Adds a map.
-#[cycle(print)]
-fn push_entries(
-    alloc: Global,
-    text: &mut String,
-    entries: &Vec<(Txt, Datum)>,
-) -> Result<(), AllocError> {
-    text.push_str("(map")?;
-    for entry in entries {
-        text.push_str(" ")?;
-        push_quoted(alloc, text, &entry.0)?;
-        text.push_str(" ")?;
-        push_datum(alloc, text, &entry.1)?;
+/// The file of a block.
+fn written_block(alloc: Global, kind: &AvroType, block: Vec<Datum>) -> Result<Vec<u8>, AvroFault>
+    requires readable { IsReadable (types.view kind.now) }
+    requires of_type { AllByRecursion (HasType (types.view kind.now)) (map view block.items) }
+{
+    if kind.takes_no_byte() {
+        drop(block);
+        return Err(AvroFault::Bad(0));
     }
-    text.push_str(")")
-}
-
-/// Adds a text in quotes.
-fn push_quoted(alloc: Global, text: &mut String, content: &Txt) -> Result<(), AllocError> {
-    push(text, &format!(in alloc; "{:?}", content.as_str())?)
-}
-
-/// Adds a piece of text.
-fn push(text: &mut String, piece: &String) -> Result<(), AllocError> {
-    text.push_str(piece.as_str())
+    write_file(alloc, kind, &[block], MARKER)
 }

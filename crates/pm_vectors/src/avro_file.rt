@@ -1,59 +1,106 @@
 //! Avro's files, read block by block.
 
-use crate::avro_datum::push_data;
-use crate::avro_fault::print_fault;
+use crate::avro::say_fault;
+use crate::datum::say_data;
+use pm_avro_data::Datum;
 use pm_avro_file::FileReader;
-use pm_avro_schema::AvroFault;
-use pm_value_text::parse_hex;
+use pm_case::Case;
 use pm_values::Blob;
-use std::alloc::{AllocError, Global};
 
 /// How many blocks are read of a file.
 const MOST_BLOCKS: usize = 64;
 
 /// The offset of the first block, and the blocks.
-pub fn answer(alloc: Global, digits: &str) -> Result<Option<String>, AllocError> {
-    let Some(bytes) = parse_hex(alloc, digits)? else {
-        return Ok(None);
-    };
-    let text = match FileReader::open(alloc, Blob::new(bytes)) {
-        Ok(mut reader) => printed(alloc, &mut reader)?,
-        Err(fault) => print_fault(alloc, &fault)?,
-    };
-    Ok(Some(text))
+pub fn answer(case: &mut Case, digits: &str) {
+    let bytes = case.digits(digits);
+    match FileReader::open(case.alloc(), Blob::new(bytes)) {
+        Ok(reader) => answer_of(case, reader),
+        Err(fault) => say_fault(case, fault),
+    }
 }
 
-/// The same, of a file that was opened.
-fn printed(alloc: Global, reader: &mut FileReader) -> Result<String, AllocError> {
-    let mut text = format!(in alloc; "{}", reader.first())?;
+/// The same of a file that was opened.
+fn answer_of(case: &mut Case, reader: FileReader) {
+    let mut reader = reader;
+    case.say_made(format!(in case.alloc(); "{}", reader.first()));
     for _ in 0..MOST_BLOCKS {
-        text.push_str("\t")?;
-        match reader.next_block(alloc) {
-            Ok(Some(block)) => push_data(alloc, &mut text, "(block", &block)?,
-            Ok(None) => {
-                text.push_str("end")?;
-                break;
-            }
-            Err(fault) => {
-                push_twice(alloc, &mut text, reader, &fault)?;
-                break;
-            }
+        case.say("\t");
+        if !say_next(case, &mut reader) {
+            break;
         }
     }
-    Ok(text)
+    drop(reader);
 }
 
-/// Adds a fault, and what the reader answers after it.
-fn push_twice(
-    alloc: Global,
-    text: &mut String,
-    reader: &mut FileReader,
-    fault: &AvroFault,
-) -> Result<(), AllocError> {
-    text.push_str(print_fault(alloc, fault)?.as_str())?;
-    text.push_str("\t")?;
-    match reader.next_block(alloc) {
-        Ok(_) => text.push_str("no fault"),
-        Err(again) => text.push_str(print_fault(alloc, &again)?.as_str()),
+/// Says the next block, `end`, or the fault and what is answered after it; and whether there was a block.
+fn say_next(case: &mut Case, reader: &mut FileReader) -> bool {
+    match reader.next_block(case.alloc()) {
+        Ok(Some(block)) => say_block(case, block),
+        Ok(None) => {
+            case.say("end");
+            false
+        }
+        Err(fault) => {
+            say_fault(case, fault);
+            case.say("\t");
+            say_after_fault(case, reader)
+        }
+    }
+}
+
+/// Says a block.
+fn say_block(case: &mut Case, block: Vec<Datum>) -> bool {
+    say_data(case, "(block", &block);
+    drop(block);
+    true
+}
+
+/// Says what is answered after a fault.
+fn say_after_fault(case: &mut Case, reader: &mut FileReader) -> bool {
+    match reader.next_block(case.alloc()) {
+        Ok(found) => {
+            drop(found);
+            case.say("no fault");
+        }
+        Err(fault) => say_fault(case, fault),
+    }
+    false
+}
+
+/// Says how many records each block of a file has, with blanks between them, and `end` or a fault.
+pub fn say_counts(case: &mut Case, bytes: Vec<u8>) {
+    match FileReader::open(case.alloc(), Blob::new(bytes)) {
+        Ok(reader) => say_counts_of(case, reader),
+        Err(fault) => say_fault(case, fault),
+    }
+}
+
+/// The same of a file that was opened.
+fn say_counts_of(case: &mut Case, reader: FileReader) {
+    let mut reader = reader;
+    for _ in 0..MOST_BLOCKS {
+        if !say_next_count(case, &mut reader) {
+            break;
+        }
+    }
+    drop(reader);
+}
+
+/// Says how many records the next block has, or else `end` or the fault; and whether there was a block.
+fn say_next_count(case: &mut Case, reader: &mut FileReader) -> bool {
+    match reader.next_block(case.alloc()) {
+        Ok(Some(block)) => {
+            case.say_made(format!(in case.alloc(); "{} ", block.len()));
+            drop(block);
+            true
+        }
+        Ok(None) => {
+            case.say("end");
+            false
+        }
+        Err(fault) => {
+            say_fault(case, fault);
+            false
+        }
     }
 }

@@ -1,99 +1,111 @@
 //! The live files that manifests leave, one after another.
 
+use crate::file::file_of;
 use indexmap::IndexMap;
-use pm_case::print_refusal;
+use pm_case::Case;
 use pm_manifest::{Entry, FileId, fold_entries};
 use pm_values::{FileMeta, Group, Key, Row, Txt};
-use std::alloc::{AllocError, Global};
+use std::alloc::Global;
 
 /// The live files that manifests leave, in the map's order. Where one is refused, its refusal, and the files that are
 /// live then. The path of a manifest is `manifest-` and its index.
-pub fn answer(alloc: Global, arguments: &str) -> Result<Option<String>, AllocError> {
-    let mut live = IndexMap::new(alloc);
+pub fn answer(case: &mut Case, arguments: &str) {
+    let mut live = IndexMap::new(case.alloc());
     let mut number = 0;
     for (index, words) in arguments.split(';').enumerate() {
-        let Some(entries) = read_entries(alloc, words, &mut number)? else {
-            return Ok(None);
-        };
-        let path = format!(in alloc; "manifest-{index}")?;
-        if let Err(refusal) = fold_entries(alloc, &mut live, path.as_str(), entries) {
-            let line = print_refusal(alloc, &refusal)?;
-            let files = print_live(alloc, &live)?;
-            return Ok(Some(format!(in alloc; "{line}\t{files}")?));
+        if !fold(case, &mut live, &mut number, index, words) {
+            break;
         }
     }
-    Ok(Some(print_live(alloc, &live)?))
+    say_live(case, &live);
+    drop(live);
 }
 
-/// The entries that words spell, or none.
-fn read_entries(
-    alloc: Global,
-    words: &str,
+/// Folds the entries that words spell into the live files. Where they are refused, it says so.
+fn fold(
+    case: &mut Case,
+    live: &mut IndexMap<FileId, Entry>,
     number: &mut u64,
-) -> Result<Option<Vec<Entry>>, AllocError> {
-    let mut entries = Vec::new(alloc);
+    index: usize,
+    words: &str,
+) -> bool {
+    let entries = read_entries(case, words, number);
+    let Some(path) = case.made(format!(in case.alloc(); "manifest-{index}")) else {
+        drop(entries);
+        return false;
+    };
+    match fold_entries(case.alloc(), live, path.as_str(), entries) {
+        Ok(()) => true,
+        Err(refusal) => {
+            case.refuse(refusal);
+            case.say("\t");
+            false
+        }
+    }
+}
+
+/// The entries that words spell, which are numbered from the last number on.
+fn read_entries(case: &mut Case, words: &str, number: &mut u64) -> Vec<Entry> {
+    let mut entries = Vec::new(case.alloc());
     for word in words.split_whitespace() {
         *number = number.saturating_add(1);
-        match read_entry(alloc, word, *number)? {
-            Some(entry) => entries.push(entry)?,
-            None => return Ok(None),
-        }
+        push_entry(case, &mut entries, word, *number);
     }
-    Ok(Some(entries))
+    entries
 }
 
-/// The entry that a word spells, whose file's size is the number of the word; or none.
-fn read_entry(alloc: Global, word: &str, number: u64) -> Result<Option<Entry>, AllocError> {
+/// Adds the entry that a word spells, whose file's size is the number of the word.
+fn push_entry(case: &mut Case, entries: &mut Vec<Entry>, word: &str, number: u64) {
     let (add, file) = match (word.strip_prefix('+'), word.strip_prefix('-')) {
         (Some(file), _) => (true, file),
         (None, Some(file)) => (false, file),
-        (None, None) => return Ok(None),
+        (None, None) => return case.reject(),
     };
-    let Some((name, rest)) = file.split_once('@') else {
-        return Ok(None);
-    };
-    let Some((level, bucket)) = rest.split_once('/') else {
-        return Ok(None);
-    };
-    let (Ok(level), Ok(bucket)) = (level.parse::<u32>(), bucket.parse::<u32>()) else {
-        return Ok(None);
-    };
-    let partition = Row::new(Vec::new(alloc));
-    Ok(Some(Entry {
+    let (name, rest) = case.split_at(file, '@');
+    let (level, bucket) = case.split_at(rest, '/');
+    let level = case.small(level);
+    let bucket = case.small(bucket);
+    match Txt::from_str(case.alloc(), name) {
+        Ok(name) => {
+            let file = file_at(case.alloc(), name, number, level);
+            case.push(entries, entry_of(case.alloc(), add, bucket, file));
+        }
+        Err(_) => case.run_out(),
+    }
+}
+
+/// A file of a size at a level, without keys.
+fn file_at(alloc: Global, name: Txt, size: u64, level: u32) -> FileMeta {
+    let (least, greatest) = (Key::new(Vec::new(alloc)), Key::new(Vec::new(alloc)));
+    let mut file = file_of(name, size, least, greatest);
+    file.level = level;
+    file
+}
+
+/// An entry of a file.
+pub fn entry_of(alloc: Global, add: bool, bucket: u32, file: FileMeta) -> Entry {
+    Entry {
         add,
-        group: Group { partition, bucket },
+        group: Group {
+            partition: Row::new(Vec::new(alloc)),
+            bucket,
+        },
         buckets: 1,
-        file: file_of(alloc, name, number, level)?,
-    }))
+        file,
+    }
 }
 
-/// A file without rows.
-fn file_of(alloc: Global, name: &str, size: u64, level: u32) -> Result<FileMeta, AllocError> {
-    Ok(FileMeta {
-        name: Txt::from_str(alloc, name)?,
-        size,
-        rows: 0,
-        min_key: Key::new(Vec::new(alloc)),
-        max_key: Key::new(Vec::new(alloc)),
-        min_seq: 0,
-        max_seq: 0,
-        schema_id: 0,
-        level,
-        created: None,
-    })
-}
-
-/// The live files as words, each with the number of the entry that added it; or `nothing`.
-fn print_live(alloc: Global, live: &IndexMap<FileId, Entry>) -> Result<String, AllocError> {
+/// Says the live files as words, each with the number of the entry that added it; or `nothing`.
+fn say_live(case: &mut Case, live: &IndexMap<FileId, Entry>) {
     if live.is_empty() {
-        return String::from_str(alloc, "nothing");
+        return case.say("nothing");
     }
-    let mut text = String::new(alloc);
+    let mut before = "";
     for (id, entry) in live {
-        let name = id.name.as_str();
+        case.say(before);
+        case.say(id.name.as_str());
         let (level, bucket, number) = (id.level, id.group.bucket, entry.file.size);
-        let blank = if text.is_empty() { "" } else { " " };
-        text.push_str(format!(in alloc; "{blank}{name}@{level}/{bucket}:{number}")?.as_str())?;
+        case.say_made(format!(in case.alloc(); "@{level}/{bucket}:{number}"));
+        before = " ";
     }
-    Ok(text)
 }

@@ -1,88 +1,67 @@
 //! The records of manifest lists and manifests, printed.
 
+use pm_case::Case;
 use pm_manifest::{Entry, ManifestMeta};
-use pm_value_text::print_hex;
 use pm_values::{FileMeta, Value};
-use std::alloc::{AllocError, Global};
 
-/// Adds a manifest: its name, its size, the numbers of its ADD and of its DELETE entries, and its schema's id.
-pub fn push_meta(alloc: Global, text: &mut String, meta: &ManifestMeta) -> Result<(), AllocError> {
-    let name = meta.name.as_str();
-    let numbers = format!(in alloc;
-        "{},{},{},{}",
-        meta.size, meta.added, meta.deleted, meta.schema_id
-    )?;
-    push(text, &format!(in alloc; "[{name:?},{numbers}]")?)
+/// Says a manifest: its name, its size, the numbers of its ADD and of its DELETE entries, and its schema's id.
+pub fn say_meta(case: &mut Case, meta: &ManifestMeta) {
+    case.say("[");
+    case.say_quoted(meta.name.as_str());
+    case.say_made(format!(in case.alloc(); ",{},{}", meta.size, meta.added));
+    case.say_made(format!(in case.alloc(); ",{},{}]", meta.deleted, meta.schema_id));
 }
 
-/// Adds an entry: its kind, its partition, its bucket, how many buckets there are, and its file.
-pub fn push_entry(alloc: Global, text: &mut String, entry: &Entry) -> Result<(), AllocError> {
-    text.push_str(if entry.add {
+/// Says an entry: its kind, its partition, its bucket, how many buckets there are, and its file.
+pub fn say_entry(case: &mut Case, entry: &Entry) {
+    case.say(if entry.add {
         "[\"ADD\","
     } else {
         "[\"DELETE\","
-    })?;
-    push_values(alloc, text, entry.group.partition.values())?;
-    push(
-        text,
-        &format!(in alloc; ",{},{},", entry.group.bucket, entry.buckets)?,
-    )?;
-    push_file(alloc, text, &entry.file)?;
-    text.push_str("]")
+    });
+    say_values(case, entry.group.partition.values());
+    case.say_made(format!(in case.alloc(); ",{},{},", entry.group.bucket, entry.buckets));
+    say_file(case, &entry.file);
+    case.say("]");
 }
 
-/// Adds a file: its name, its size, its rows, its least and its greatest key, its least and its greatest sequence
+/// Says a file: its name, its size, its rows, its least and its greatest key, its least and its greatest sequence
 /// number, its schema's id, its level, and when it was made.
-fn push_file(alloc: Global, text: &mut String, file: &FileMeta) -> Result<(), AllocError> {
-    push(
-        text,
-        &format!(in alloc; "{:?},{},{},", file.name.as_str(), file.size, file.rows)?,
-    )?;
-    push_values(alloc, text, file.min_key.values())?;
-    text.push_str(",")?;
-    push_values(alloc, text, file.max_key.values())?;
-    push(
-        text,
-        &format!(in alloc; ",{},{}", file.min_seq, file.max_seq)?,
-    )?;
-    push(
-        text,
-        &format!(in alloc; ",{},{},", file.schema_id, file.level)?,
-    )?;
-    match file.created {
-        Some(millis) => push(text, &format!(in alloc; "{millis}")?),
-        None => text.push_str("null"),
-    }
+fn say_file(case: &mut Case, file: &FileMeta) {
+    case.say_quoted(file.name.as_str());
+    case.say_made(format!(in case.alloc(); ",{},{},", file.size, file.rows));
+    say_values(case, file.min_key.values());
+    case.say(",");
+    say_values(case, file.max_key.values());
+    case.say_made(format!(in case.alloc(); ",{},{}", file.min_seq, file.max_seq));
+    case.say_made(format!(in case.alloc(); ",{},{},", file.schema_id, file.level));
+    case.say_optional(file.created);
 }
 
-/// Adds values with commas between them.
-fn push_values(alloc: Global, text: &mut String, values: &[Value]) -> Result<(), AllocError> {
-    let mut before = "[";
+/// Says values with commas between them.
+fn say_values(case: &mut Case, values: &[Value]) {
+    let mut before = "";
+    case.say("[");
     for value in values {
-        text.push_str(before)?;
-        push_value(alloc, text, value)?;
+        case.say(before);
+        say_value(case, value);
         before = ",";
     }
-    text.push_str(if values.is_empty() { "[]" } else { "]" })
+    case.say("]");
 }
 
-/// Adds a value: a text as in JSON, bytes as `#` and their digits, and a day or a moment as its number after its unit.
-fn push_value(alloc: Global, text: &mut String, value: &Value) -> Result<(), AllocError> {
+/// Says a value: a text as in JSON, bytes as `#` and their digits, and a day or a moment as its number after its unit.
+fn say_value(case: &mut Case, value: &Value) {
     match value {
-        Value::Null => text.push_str("null"),
-        Value::Bool(flag) => push(text, &format!(in alloc; "{flag}")?),
-        Value::Int(number) => push(text, &format!(in alloc; "{number}")?),
-        Value::Text(content) => push(text, &format!(in alloc; "{:?}", content.as_str())?),
+        Value::Null => case.say("null"),
+        Value::Bool(flag) => case.say_truth(*flag),
+        Value::Int(number) => case.say_number(*number),
+        Value::Text(content) => case.say_quoted(content.as_str()),
         Value::Bytes(bytes) => {
-            let digits = print_hex(alloc, bytes.as_bytes())?;
-            push(text, &format!(in alloc; "#{digits}")?)
+            case.say("#");
+            case.say_digits(bytes.as_bytes());
         }
-        Value::Day(day) => push(text, &format!(in alloc; "day {day}")?),
-        Value::Millis(millis) => push(text, &format!(in alloc; "ms {millis}")?),
+        Value::Day(day) => case.say_made(format!(in case.alloc(); "day {day}")),
+        Value::Millis(millis) => case.say_made(format!(in case.alloc(); "ms {millis}")),
     }
-}
-
-/// Adds a piece of text.
-fn push(text: &mut String, piece: &String) -> Result<(), AllocError> {
-    text.push_str(piece.as_str())
 }

@@ -1,47 +1,39 @@
 //! Table schemas, read and written again.
 
-use pm_case::{print_refusal, read_bytes};
+use pm_case::Case;
 use pm_schema::{TableSchema, read_draft, read_schema, write_schema};
-use pm_values::{Refusal, Txt};
-use std::alloc::{AllocError, Global};
+use pm_values::Txt;
 
 /// The text that is written for the schema of a file at a path; or its refusal.
-pub fn answer(alloc: Global, arguments: &str) -> Result<Option<String>, AllocError> {
-    let Some((path, text)) = arguments.split_once('\t') else {
-        return Ok(None);
-    };
-    let Some(bytes) = read_bytes(alloc, text)? else {
-        return Ok(None);
-    };
-    Ok(Some(printed(alloc, read_schema(alloc, path, &bytes))?))
+pub fn answer(case: &mut Case, arguments: &str) {
+    let (path, text) = case.split(arguments);
+    let bytes = case.bytes(text);
+    match read_schema(case.alloc(), path, &bytes) {
+        Ok(schema) => say_schema(case, schema),
+        Err(refusal) => case.refuse(refusal),
+    }
 }
 
 /// The text that is written for the schema of a draft, with an origin and a moment; or its refusal.
-pub fn draft_answer(alloc: Global, arguments: &str) -> Result<Option<String>, AllocError> {
-    let Some((made, line)) = arguments.split_once('\t') else {
-        return Ok(None);
+pub fn draft_answer(case: &mut Case, arguments: &str) {
+    let (made, line) = case.split(arguments);
+    let (origin, moment) = case.split_at(made, ' ');
+    let moment = case.signed(moment);
+    let line = case.bytes(line);
+    let Some(origin) = case.made(Txt::from_str(case.alloc(), origin)) else {
+        return;
     };
-    let Some((origin, moment)) = made.split_once(' ') else {
-        return Ok(None);
-    };
-    let Ok(moment) = moment.parse::<i64>() else {
-        return Ok(None);
-    };
-    let Some(line) = read_bytes(alloc, line)? else {
-        return Ok(None);
-    };
-    let origin = Txt::from_str(alloc, origin)?;
-    Ok(Some(printed(alloc, read_draft(alloc, &line, origin, moment))?))
+    match read_draft(case.alloc(), &line, origin, moment) {
+        Ok(schema) => say_schema(case, schema),
+        Err(refusal) => case.refuse(refusal),
+    }
 }
 
-/// The text of a schema, or the refusal.
-fn printed(alloc: Global, answer: Result<TableSchema, Refusal>) -> Result<String, AllocError> {
-    match answer {
-        Ok(schema) => match write_schema(alloc, &schema) {
-            Ok(text) => String::from_utf8_lossy(alloc, text.as_slice()),
-            Err(_) => Err(AllocError),
-        },
-        Err(Refusal::Memory) => Err(AllocError),
-        Err(refusal) => print_refusal(alloc, &refusal),
+/// Says the text of a schema.
+fn say_schema(case: &mut Case, schema: TableSchema) {
+    match write_schema(case.alloc(), &schema) {
+        Ok(text) => case.say_bytes(&text),
+        Err(_) => case.run_out(),
     }
+    drop(schema);
 }

@@ -1,119 +1,85 @@
 //! Files of snapshots and of consumers, read.
 
 use pm_base::Txt;
-use pm_case::read_bytes;
+use pm_case::Case;
 use pm_snapshot::{
-    CommitKind, Consumer, SnapFault, Snapshot, read_consumer, read_snapshot, snapshot_name,
-    write_consumer, write_snapshot,
+    CommitKind, Consumer, SnapFault, Snapshot, read_consumer, read_snapshot, write_consumer,
+    write_snapshot,
 };
-use std::alloc::{AllocError, Global};
 
-/// The fields of the snapshot of a number that a text is, in the order that `Snapshot` has them; or `bad`.
-pub fn answer(alloc: Global, arguments: &str) -> Result<Option<String>, AllocError> {
-    let Some((id, text)) = arguments.split_once('\t') else {
-        return Ok(None);
-    };
-    let Ok(id) = id.parse::<u64>() else {
-        return Ok(None);
-    };
-    let Some(bytes) = read_bytes(alloc, text)? else {
-        return Ok(None);
-    };
-    match read_snapshot(alloc, id, &bytes) {
-        Ok(snapshot) => Ok(Some(print_snapshot(alloc, &snapshot)?)),
-        Err(fault) => print_fault(alloc, &fault),
+/// Of the snapshot of a number that a text is, the fields, in the order that `Snapshot` has them, or with
+/// `snapshot-text` the text that is written for it; or `bad`.
+pub fn answer(case: &mut Case, codec: &str, arguments: &str) {
+    let (id, text) = case.split(arguments);
+    let id = case.number(id);
+    let bytes = case.bytes(text);
+    match read_snapshot(case.alloc(), id, &bytes) {
+        Ok(snapshot) => answer_of(case, codec, snapshot),
+        Err(fault) => say_fault(case, &fault),
     }
 }
 
-/// The text that is written for the snapshot of a number that a text is; or `bad`.
-pub fn text_answer(alloc: Global, arguments: &str) -> Result<Option<String>, AllocError> {
-    let Some((id, text)) = arguments.split_once('\t') else {
-        return Ok(None);
-    };
-    let Ok(id) = id.parse::<u64>() else {
-        return Ok(None);
-    };
-    match read_snapshot(alloc, id, text.as_bytes()) {
-        Ok(snapshot) => {
-            let text = write_snapshot(alloc, &snapshot)?;
-            Ok(Some(String::from_utf8_lossy(alloc, text.as_slice())?))
-        }
-        Err(fault) => print_fault(alloc, &fault),
+/// The same of a snapshot.
+fn answer_of(case: &mut Case, codec: &str, snapshot: Snapshot) {
+    if codec == "snapshot" {
+        say_snapshot(case, &snapshot);
+    } else {
+        case.say_line(write_snapshot(case.alloc(), &snapshot));
+    }
+    drop(snapshot);
+}
+
+/// Of the consumer that a text is, the fields, or with `consumer-text` the text that is written for it; or `bad`.
+pub fn consumer_answer(case: &mut Case, codec: &str, text: &str) {
+    let bytes = case.bytes(text);
+    match read_consumer(case.alloc(), &bytes) {
+        Ok(consumer) => say_consumer(case, codec, &consumer),
+        Err(fault) => say_fault(case, &fault),
     }
 }
 
-/// The text that is written for the consumer that a text is; or `bad`.
-pub fn consumer_text_answer(alloc: Global, text: &str) -> Result<Option<String>, AllocError> {
-    match read_consumer(alloc, text.as_bytes()) {
-        Ok(consumer) => {
-            let text = write_consumer(alloc, &consumer)?;
-            Ok(Some(String::from_utf8_lossy(alloc, text.as_slice())?))
-        }
-        Err(fault) => print_fault(alloc, &fault),
+/// The same of a consumer.
+fn say_consumer(case: &mut Case, codec: &str, consumer: &Consumer) {
+    if codec == "consumer" {
+        let Consumer { next, fresh } = consumer;
+        case.say_made(format!(in case.alloc(); "[{next},{fresh}]"));
+    } else {
+        case.say_line(write_consumer(case.alloc(), consumer));
     }
 }
 
-/// The name of the file of a snapshot.
-pub fn name_answer(alloc: Global, id: &str) -> Result<Option<String>, AllocError> {
-    let Ok(id) = id.parse::<u64>() else {
-        return Ok(None);
-    };
-    let name = snapshot_name(alloc, id)?;
-    Ok(Some(String::from_utf8_lossy(alloc, name.as_slice())?))
-}
-
-/// The fields of the consumer that a text is; or `bad`.
-pub fn consumer_answer(alloc: Global, text: &str) -> Result<Option<String>, AllocError> {
-    let Some(bytes) = read_bytes(alloc, text)? else {
-        return Ok(None);
-    };
-    match read_consumer(alloc, &bytes) {
-        Ok(Consumer { next, fresh }) => Ok(Some(format!(in alloc; "[{next},{fresh}]")?)),
-        Err(fault) => print_fault(alloc, &fault),
-    }
-}
-
-/// The text of a fault.
-fn print_fault(alloc: Global, fault: &SnapFault) -> Result<Option<String>, AllocError> {
+/// Says a fault.
+fn say_fault(case: &mut Case, fault: &SnapFault) {
     match fault {
-        SnapFault::Memory => Err(AllocError),
-        SnapFault::Bad => Ok(Some(String::from_str(alloc, "bad")?)),
+        SnapFault::Memory => case.run_out(),
+        SnapFault::Bad => case.say("bad"),
     }
 }
 
-/// The fields of a snapshot.
-fn print_snapshot(alloc: Global, s: &Snapshot) -> Result<String, AllocError> {
-    let changelog_list = print_text(alloc, &s.changelog_list)?;
-    let names = format!(in alloc;
-        "{:?},{:?},{changelog_list},{:?}",
-        s.base_list.as_str(),
-        s.delta_list.as_str(),
-        s.user.as_str()
-    )?;
-    let kind = kind_name(s.kind);
-    let changelog = print_count(alloc, s.changelog)?;
-    let watermark = print_count(alloc, s.watermark)?;
-    let counts = format!(in alloc; "{},{},{changelog},{watermark}", s.total, s.delta)?;
-    let marks = format!(in alloc; "{},{},{},{}", s.base, s.fence, s.appends, s.full)?;
-    format!(in alloc;
-        "[{},{},{names},{},{kind:?},{},{counts},{marks}]",
-        s.id, s.schema_id, s.ident, s.time
-    )
+/// Says the fields of a snapshot.
+fn say_snapshot(case: &mut Case, s: &Snapshot) {
+    case.say_made(format!(in case.alloc(); "[{},{},", s.id, s.schema_id));
+    case.say_quoted(s.base_list.as_str());
+    case.say(",");
+    case.say_quoted(s.delta_list.as_str());
+    case.say(",");
+    say_optional_text(case, &s.changelog_list);
+    case.say(",");
+    case.say_quoted(s.user.as_str());
+    case.say_made(format!(in case.alloc(); ",{},\"{}\",{}", s.ident, kind_name(s.kind), s.time));
+    case.say_made(format!(in case.alloc(); ",{},{},", s.total, s.delta));
+    case.say_optional(s.changelog);
+    case.say(",");
+    case.say_optional(s.watermark);
+    case.say_made(format!(in case.alloc(); ",{},{}", s.base, s.fence));
+    case.say_made(format!(in case.alloc(); ",{},{}]", s.appends, s.full));
 }
 
-/// A text, or `null`.
-fn print_text(alloc: Global, text: &Option<Txt>) -> Result<String, AllocError> {
+/// Says a text, or `null`.
+fn say_optional_text(case: &mut Case, text: &Option<Txt>) {
     match text {
-        Some(text) => format!(in alloc; "{:?}", text.as_str()),
-        None => String::from_str(alloc, "null"),
-    }
-}
-
-/// A count, or `null`.
-fn print_count(alloc: Global, count: Option<i64>) -> Result<String, AllocError> {
-    match count {
-        Some(count) => format!(in alloc; "{count}"),
-        None => String::from_str(alloc, "null"),
+        Some(text) => case.say_quoted(text.as_str()),
+        None => case.say("null"),
     }
 }
 
