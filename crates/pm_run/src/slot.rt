@@ -1,6 +1,6 @@
 //! How the fields of a file's records stand to a table's columns, and the values that their data are.
 
-ghost use Rattle.std.specs.Prelude.{◌≡◌, IfOk};
+ghost use Rattle.std.specs.Prelude.{◌≡◌, ◌≢◌, IfOk};
 ghost use Rattle.pm_avro_schema.specs.View as types;
 ghost use Rattle.pm_avro_data.specs.Datum.{view};
 ghost use Rattle.pm_record.specs.Record as records;
@@ -188,15 +188,31 @@ fn read_scalar(kind: ColType, datum: Datum) -> Option<Value>
     ensures { result ≡ scalar_in kind (view datum) }
 {
     match kind {
-        ColType::Boolean => Some(Value::Bool(read_boolean(&datum)?)),
-        ColType::TinyInt => whole_in(i64::from(i8::MIN), i64::from(i8::MAX), read_int(&datum)?),
-        ColType::SmallInt => whole_in(i64::from(i16::MIN), i64::from(i16::MAX), read_int(&datum)?),
-        ColType::Int => Some(Value::Int(i64::from(read_int(&datum)?))),
-        ColType::BigInt => Some(Value::Int(read_long(&datum)?)),
         ColType::Text => Some(Value::Text(take_text(datum)?)),
         ColType::Bytes => Some(Value::Bytes(Blob::new(take_bytes(datum)?))),
-        ColType::Date => day_in(read_int(&datum)?),
-        ColType::Timestamp => Some(Value::Millis(read_long(&datum)?)),
+        other => {
+            let value = read_plain(other, &datum);
+            drop(datum);
+            value
+        }
+    }
+}
+
+/// The value of a column's type that a datum is, where that type's values have no memory of their own.
+fn read_plain(kind: ColType, datum: &Datum) -> Option<Value>
+    requires text { kind ≢ ColType.Text }
+    requires bytes { kind ≢ ColType.Bytes }
+    ensures { result ≡ scalar_in kind (view datum.now) }
+{
+    match kind {
+        ColType::Boolean => Some(Value::Bool(read_boolean(datum)?)),
+        ColType::TinyInt => whole_in(i64::from(i8::MIN), i64::from(i8::MAX), read_int(datum)?),
+        ColType::SmallInt => whole_in(i64::from(i16::MIN), i64::from(i16::MAX), read_int(datum)?),
+        ColType::Int => Some(Value::Int(i64::from(read_int(datum)?))),
+        ColType::BigInt => Some(Value::Int(read_long(datum)?)),
+        ColType::Date => day_in(read_int(datum)?),
+        ColType::Timestamp => Some(Value::Millis(read_long(datum)?)),
+        ColType::Text | ColType::Bytes => unreachable!(),
     }
 }
 

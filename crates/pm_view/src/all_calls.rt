@@ -32,7 +32,10 @@ fn make_calls<F: FileStore>(alloc: Global, store: &mut F) -> Result<TableSchema,
     while !reader.is_ready() {
         match reader.step(alloc, store) {
             Ok(_) => {}
-            Err(refusal) => return Err(refusal),
+            Err(refusal) => {
+                drop(reader);
+                return Err(refusal);
+            }
         }
     }
     Ok(reader.into_schema())

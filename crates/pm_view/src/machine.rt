@@ -46,7 +46,7 @@ impl Machine for SchemaReader {
         let phase = mem::replace(&mut self.phase, Phase::Over);
         match next_phase(alloc, phase, answer) {
             Ok(phase) => {
-                self.phase = phase;
+                drop(mem::replace(&mut self.phase, phase));
                 Ok(())
             }
             Err(refusal) => Err(refusal),
@@ -54,7 +54,7 @@ impl Machine for SchemaReader {
     }
 
     fn stop(&mut self) {
-        self.phase = Phase::Over;
+        drop(mem::replace(&mut self.phase, Phase::Over));
     }
 }
 
@@ -131,6 +131,7 @@ fn after_snapshots(alloc: Global, schema: TableSchema, names: Vec<Txt>) -> Resul
     if lists_snapshot(names.as_slice()) {
         Ok(Phase::Ready { schema })
     } else {
+        drop(schema);
         Err(no_origin(alloc))
     }
 }
