@@ -44,7 +44,10 @@ fn make_calls<F: FileStore>(alloc: Global, lister: Lister, store: &mut F) -> Res
     while !lister.is_done() {
         match lister.step(alloc, store) {
             Ok(_) => {}
-            Err(refusal) => return Err(refusal),
+            Err(refusal) => {
+                drop(lister);
+                return Err(refusal);
+            }
         }
     }
     let _ = &lister.phase;

@@ -53,7 +53,7 @@ impl Machine for Lister {
         let phase = mem::replace(&mut self.phase, Phase::Over);
         match next_phase(alloc, phase, answer) {
             Ok(phase) => {
-                self.phase = phase;
+                drop(mem::replace(&mut self.phase, phase));
                 Ok(())
             }
             Err(refusal) => Err(refusal),
@@ -61,7 +61,7 @@ impl Machine for Lister {
     }
 
     fn stop(&mut self) {
-        self.phase = Phase::Over;
+        drop(mem::replace(&mut self.phase, Phase::Over));
     }
 }
 
@@ -90,7 +90,10 @@ fn after_schema(alloc: Global, reader: SchemaReader, answer: Answer) -> Result<P
     let mut reader = reader;
     match reader.take(alloc, answer) {
         Ok(()) => Ok(after_reader(reader)),
-        Err(refusal) => Err(refusal),
+        Err(refusal) => {
+            drop(reader);
+            Err(refusal)
+        }
     }
 }
 
@@ -117,7 +120,10 @@ fn after_list(alloc: Global, schema: TableSchema, names: Vec<Txt>) -> Result<Pha
         Ok(ids) => Ok(Phase::Read {
             reading: Reading::new(alloc, schema, ids),
         }),
-        Err(_) => Err(Refusal::Memory),
+        Err(_) => {
+            drop(schema);
+            Err(Refusal::Memory)
+        }
     }
 }
 
@@ -130,7 +136,10 @@ fn after_read(alloc: Global, reading: Reading, found: Option<Blob>) -> Result<Ph
 {
     match (reading.next(), found) {
         (Some(id), Some(bytes)) => after_bytes(alloc, reading, id, bytes),
-        (Some(id), None) => Err(Refusal::Expired { id }),
+        (Some(id), None) => {
+            drop(reading);
+            Err(Refusal::Expired { id })
+        }
         (None, _) => unreachable!(),
     }
 }
@@ -147,7 +156,10 @@ fn after_bytes(alloc: Global, reading: Reading, id: u64, bytes: Blob) -> Result<
             Ok(reading) => Ok(Phase::Read { reading }),
             Err(_) => Err(Refusal::Memory),
         },
-        Err(fault) => Err(damaged(alloc, id, fault)),
+        Err(fault) => {
+            drop(reading);
+            Err(damaged(alloc, id, fault))
+        }
     }
 }
 

@@ -43,7 +43,9 @@ impl ReadFile {
         match reader.judged(alloc, before) {
             Ok((file, last)) => Ok((ReadFile::Lying(file), last)),
             Err(reader) => {
-                let (rows, last) = reader.rows_after(alloc, before)?;
+                let read = reader.rows_after(alloc, before);
+                drop(reader);
+                let (rows, last) = read?;
                 Ok((ReadFile::Decoded(rows), last))
             }
         }
