@@ -24,8 +24,18 @@ pub fn sum_text(alloc: Global, store: &mut CaseStore) -> Result<String, AllocErr
     format!(in alloc; "{count} files {sum}\n")
 }
 
+/// The names that stand right in a folder, a line each.
+pub fn list_text(alloc: Global, store: &mut CaseStore, folder: &str) -> Result<String, AllocError> {
+    let mut text = String::new(alloc);
+    for name in store.list_names(alloc, folder)? {
+        text.push_str(name.as_str())?;
+        text.push_str("\n")?;
+    }
+    Ok(text)
+}
+
 /// The checksum of bytes: from 0 on it takes each byte as `31 * sum + byte`, modulo 2^32.
-fn checksum(bytes: &[u8]) -> u32 {
+pub fn checksum(bytes: &[u8]) -> u32 {
     bytes.iter().fold(0, |sum: u32, byte| {
         sum.wrapping_mul(31).wrapping_add(u32::from(*byte))
     })

@@ -1,6 +1,6 @@
 //! The lines of a case file.
 
-use crate::command::Command;
+use crate::act::{Act, Deed};
 use pm_store::Planned;
 use std::alloc::{AllocError, AllocFailed};
 
@@ -9,9 +9,10 @@ use std::alloc::{AllocError, AllocFailed};
 pub enum Line {
     Case { name: String },
     Store { plan: Vec<Planned> },
-    Put { path: String, bytes: Vec<u8> },
-    Take { path: String },
-    Run(Command),
+    Do(Deed),
+    Before(Act),
+    Calls,
+    List { folder: String },
     Files,
     Sum,
 }

@@ -9,31 +9,40 @@
 //! | `["take",PATH]` | takes a file away | |
 //! | `["run",SESSION,NOW,[WORD,..],[LINE,..]]` | runs a command | what `out` and `err` took, then `-- STATUS` |
 //! | the same with an object of options | the same, and streams fail | the same |
+//! | `["before",CALL,LINE]` | others put, take or run as LINE says, before this call of the next command | |
+//! | `["calls"]` | | how many calls the last command made |
+//! | `["list",FOLDER]` | | the names that stand right in the folder |
 //! | `["files"]` | | each path, its length and its checksum, rising by the paths' bytes |
 //! | `["files","sum"]` | | how many files, and the checksum of what `["files"]` prints |
 //!
-//! The calls of a case's commands are numbered together, from 1; putting and taking files has no number. An effect is
+//! The calls of a case's commands are numbered together, from 1; putting and taking files has no number, and neither
+//! has what others do. What is to be done before a call is done after the call is counted, in the order of the lines;
+//! CALL is counted from the command's first call, and where the command makes fewer it isn't done. An effect is
 //! `none`, `whole`, `absent`, or `part HEX`, the bytes that a create leaves. A session is fifteen zero bytes and then
-//! SESSION.
-//! The input is the lines, each with its newline. A line is a text, or `[TEXT,TIMES]` for the text so many times.
-//! Of the options `open` leaves the last newline out, `room` is how many bytes `out` takes, and `source` and `sink`
-//! list the numbers of the calls of the input and of `out` that fail.
+//! SESSION. The input is the lines, each with its newline. A line is a text, or `[TEXT,TIMES,TEXT,TIMES,..]` for each
+//! text so many times. Where `[FROM,TO]` stands for TIMES, the text stands for each number from FROM to below TO, with
+//! the number in the place of each `#`. HEX may be such a list of texts, too. Of the options `open` leaves the last
+//! newline out, `room` is how many bytes `out` takes, `source` and `sink` list the numbers of the calls of the input
+//! and of `out` that fail, and `sum` prints in place of what `out` took how many bytes it took and their checksum.
 //!
 //! Each other line prints `unknown case line`.
 //!
 //! Unproved the cases may take more than the minute that `rt try` gives a program: `RT_SECONDS=300 rt try < stdin`.
 #![tactic(auto)]
 
+mod act;
 mod command;
 mod files;
 mod line;
 mod read;
 mod store;
 
-use crate::files::{files_text, sum_text};
+use crate::act::Deed;
+use crate::files::{files_text, list_text, sum_text};
 use crate::line::{Line, LineFault};
 use crate::read::read_line;
 use crate::store::CaseStore;
+use pm_store::Planned;
 use std::alloc::{AllocError, Global};
 use std::io;
 use std::io::{BufRead, BufReader};
@@ -62,15 +71,33 @@ fn answer(alloc: Global, store: &mut CaseStore, text: &str) -> Result<String, Al
 fn follow(alloc: Global, store: &mut CaseStore, line: Line) -> Result<String, AllocError> {
     match line {
         Line::Case { name } => {
-            *store = CaseStore::new(alloc, Vec::new(alloc));
+            begin(alloc, store, Vec::new(alloc));
             return format!(in alloc; "== {name}\n");
         }
-        Line::Store { plan } => *store = CaseStore::new(alloc, plan),
-        Line::Put { path, bytes } => store.put(alloc, path.as_str(), &bytes)?,
-        Line::Take { path } => store.take(alloc, path.as_str())?,
-        Line::Run(command) => return command.run(alloc, store),
+        Line::Store { plan } => begin(alloc, store, plan),
+        Line::Do(deed) => return perform(alloc, store, &deed),
+        Line::Before(act) => store.add_act(act)?,
+        Line::Calls => return format!(in alloc; "{} calls\n", store.command_calls()),
+        Line::List { folder } => return list_text(alloc, store, folder.as_str()),
         Line::Files => return files_text(alloc, store),
         Line::Sum => return sum_text(alloc, store),
     }
+    Ok(String::new(alloc))
+}
+
+/// Begins with a store without files, whose calls fail as planned.
+fn begin(alloc: Global, store: &mut CaseStore, plan: Vec<Planned>) {
+    *store = CaseStore::new(alloc, plan);
+}
+
+/// Does what a line says with files, and gives what is printed for it.
+fn perform(alloc: Global, store: &mut CaseStore, deed: &Deed) -> Result<String, AllocError> {
+    if let Deed::Run(command) = deed {
+        store.begin_command();
+        let text = command.run(alloc, store)?;
+        store.end_command();
+        return Ok(text);
+    }
+    store.apply(alloc, deed)?;
     Ok(String::new(alloc))
 }

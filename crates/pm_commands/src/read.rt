@@ -1,5 +1,6 @@
 //! The reading of a line, from its JSON.
 
+use crate::act::{Act, Deed};
 use crate::command::{Command, ROOM};
 use crate::line::{Line, LineFault};
 use pm_base::{Blob, Txt};
@@ -30,14 +31,40 @@ fn line_of(alloc: Global, kind: &str, parts: &[Value]) -> Result<Line, LineFault
         ("store", [plan]) => Ok(Line::Store {
             plan: read_plan(alloc, plan)?,
         }),
-        ("put", [path, digits]) => Ok(Line::Put {
-            path: read_text(alloc, path)?,
-            bytes: read_digits(alloc, text_of(digits)?)?,
+        ("before", [call, line]) => Ok(Line::Before(read_act(alloc, call, line)?)),
+        ("calls", []) => Ok(Line::Calls),
+        ("list", [folder]) => Ok(Line::List {
+            folder: read_text(alloc, folder)?,
         }),
-        ("take", [path]) => Ok(Line::Take {
+        ("files", []) => Ok(Line::Files),
+        ("files", [what]) if text_of(what)? == "sum" => Ok(Line::Sum),
+        _ => Ok(Line::Do(deed_of(alloc, kind, parts)?)),
+    }
+}
+
+/// What others do before a call: a line that puts, takes or runs.
+fn read_act(alloc: Global, call: &Value, line: &Value) -> Result<Act, LineFault> {
+    let call = number_of(call)?;
+    match items_of(line)? {
+        [kind, parts @ ..] => Ok(Act {
+            call,
+            deed: deed_of(alloc, text_of(kind)?, parts)?,
+        }),
+        [] => Err(LineFault::Unknown),
+    }
+}
+
+/// What a line of a kind that has these parts does to files.
+fn deed_of(alloc: Global, kind: &str, parts: &[Value]) -> Result<Deed, LineFault> {
+    match (kind, parts) {
+        ("put", [path, digits]) => Ok(Deed::Put {
+            path: read_text(alloc, path)?,
+            bytes: read_bytes(alloc, digits)?,
+        }),
+        ("take", [path]) => Ok(Deed::Take {
             path: read_text(alloc, path)?,
         }),
-        ("run", [session, now, words, lines]) => Ok(Line::Run(read_command(
+        ("run", [session, now, words, lines]) => Ok(Deed::Run(read_command(
             alloc,
             session,
             now,
@@ -45,11 +72,9 @@ fn line_of(alloc: Global, kind: &str, parts: &[Value]) -> Result<Line, LineFault
             lines,
             &Value::Null,
         )?)),
-        ("run", [session, now, words, lines, options]) => Ok(Line::Run(read_command(
+        ("run", [session, now, words, lines, options]) => Ok(Deed::Run(read_command(
             alloc, session, now, words, lines, options,
         )?)),
-        ("files", []) => Ok(Line::Files),
-        ("files", [what]) if text_of(what)? == "sum" => Ok(Line::Sum),
         _ => Err(LineFault::Unknown),
     }
 }
@@ -67,13 +92,14 @@ fn read_command(
         session: u8::try_from(number_of(session)?).map_err(|_| LineFault::Unknown)?,
         now: now.as_i64().ok_or(LineFault::Unknown)?,
         words: read_words(alloc, words)?,
-        input: read_input(alloc, lines, is_open(options))?,
+        input: read_input(alloc, lines, is_set(options, "open"))?,
         room: match options.get("room") {
             Some(room) => number_of(room)? as usize,
             None => ROOM,
         },
         sink: read_numbers(alloc, options.get("sink"))?,
         source: read_numbers(alloc, options.get("source"))?,
+        sum: is_set(options, "sum"),
     })
 }
 
@@ -86,16 +112,16 @@ fn read_words(alloc: Global, words: &Value) -> Result<Vec<Txt>, LineFault> {
     Ok(found)
 }
 
-/// Whether the options say that the last line has no newline.
-fn is_open(options: &Value) -> bool {
-    matches!(options.get("open"), Some(Value::Bool(true)))
+/// Whether an option is `true`.
+fn is_set(options: &Value, key: &str) -> bool {
+    matches!(options.get(key), Some(Value::Bool(true)))
 }
 
 /// Lines, each with its newline, but for the last one where that is open.
 fn read_input(alloc: Global, lines: &Value, is_open: bool) -> Result<Vec<u8>, LineFault> {
     let mut input = Vec::new(alloc);
     for line in items_of(lines)? {
-        push_line(&mut input, line)?;
+        push_line(alloc, &mut input, line)?;
         input.push(b'\n')?;
     }
     if is_open {
@@ -104,17 +130,70 @@ fn read_input(alloc: Global, lines: &Value, is_open: bool) -> Result<Vec<u8>, Li
     Ok(input)
 }
 
-/// Appends a line: a text, or an array of a text and how many times it stands there.
-fn push_line(input: &mut Vec<u8>, line: &Value) -> Result<(), LineFault> {
+/// Appends a line: a text, or an array of texts, each with how many times it stands there.
+fn push_line(alloc: Global, input: &mut Vec<u8>, line: &Value) -> Result<(), LineFault> {
     if let Some(text) = line.as_str() {
         return Ok(input.extend_from_slice(text.as_bytes())?);
     }
-    let [text, times] = items_of(line)? else {
+    for pair in items_of(line)?.chunks(2) {
+        let [text, times] = pair else {
+            return Err(LineFault::Unknown);
+        };
+        push_times(alloc, input, text_of(text)?, times)?;
+    }
+    Ok(())
+}
+
+/// Appends a text as many times as a number says; or once for each number of a range.
+fn push_times(
+    alloc: Global,
+    input: &mut Vec<u8>,
+    text: &str,
+    times: &Value,
+) -> Result<(), LineFault> {
+    match times.as_array() {
+        Some(range) => push_range(alloc, input, text, range.as_slice()),
+        None => push_repeated(input, text, number_of(times)?),
+    }
+}
+
+/// Appends a text so many times.
+fn push_repeated(input: &mut Vec<u8>, text: &str, times: u64) -> Result<(), LineFault> {
+    for _ in 0..times {
+        input.extend_from_slice(text.as_bytes())?;
+    }
+    Ok(())
+}
+
+/// Appends a text for each number from the first of a range to below the second.
+fn push_range(
+    alloc: Global,
+    input: &mut Vec<u8>,
+    text: &str,
+    range: &[Value],
+) -> Result<(), LineFault> {
+    let [from, to] = range else {
         return Err(LineFault::Unknown);
     };
-    let text = text_of(text)?;
-    for _ in 0..number_of(times)? {
-        input.extend_from_slice(text.as_bytes())?;
+    for number in number_of(from)?..number_of(to)? {
+        push_numbered(alloc, input, text, number)?;
+    }
+    Ok(())
+}
+
+/// Appends a text with a number in the place of each `#`.
+fn push_numbered(
+    alloc: Global,
+    input: &mut Vec<u8>,
+    text: &str,
+    number: u64,
+) -> Result<(), LineFault> {
+    let digits = format!(in alloc; "{number}")?;
+    let mut before = "";
+    for part in text.split('#') {
+        input.extend_from_slice(before.as_bytes())?;
+        input.extend_from_slice(part.as_bytes())?;
+        before = digits.as_str();
     }
     Ok(())
 }
@@ -159,6 +238,14 @@ fn read_effect(alloc: Global, text: &str) -> Result<Effect, LineFault> {
             _ => Err(LineFault::Unknown),
         },
     }
+}
+
+/// The bytes of hexadecimal digits, which are a text or texts as a line is.
+fn read_bytes(alloc: Global, digits: &Value) -> Result<Vec<u8>, LineFault> {
+    let mut text = Vec::new(alloc);
+    push_line(alloc, &mut text, digits)?;
+    let text = String::from_utf8_lossy(alloc, text.as_slice())?;
+    read_digits(alloc, text.as_str())
 }
 
 /// The bytes of hexadecimal digits.

@@ -4,6 +4,7 @@ ghost use Rattle.std.specs.Prelude.{◌≡◌, OnOk, IfErr};
 ghost use Rattle.pm_store.specs.Store.{IsLater};
 ghost use Rattle.pm_commands.specs.Store.{case_seen, Refuses};
 
+use crate::act::{Act, Deed, act_before};
 use pm_base::{Blob, Txt};
 use pm_store::{
     Call, Effect, FileStore, Made, MemStore, Planned, Published, Removed, StoreFail, Swapped,
@@ -12,11 +13,13 @@ use pm_store::{
 use std::alloc::{AllocError, Global};
 
 /// Files in memory. The calls of commands are numbered from 1, and the planned ones fail; what is put and taken between
-/// commands has no number.
+/// commands has no number, and neither has what others do between the calls of a command.
 #[derive(Drop)]
 pub struct CaseStore {
     files: MemStore,
     plan: Vec<Planned>,
+    acts: Vec<Act>,
+    first: u64,
     calls: u64,
     faults: u64,
 }
@@ -27,26 +30,42 @@ impl CaseStore {
         CaseStore {
             files: MemStore::new(alloc),
             plan,
+            acts: Vec::new(alloc),
+            first: 0,
             calls: 0,
             faults: 0,
         }
     }
 
-    /// Puts a file in place, or replaces it.
-    pub fn put(&mut self, alloc: Global, path: &str, bytes: &[u8]) -> Result<(), AllocError> {
-        self.take(alloc, path)?;
-        match self.files.create(alloc, path, bytes) {
-            Ok(_) => Ok(()),
-            Err(_) => Err(AllocError),
-        }
+    /// Does something to the files between commands.
+    pub fn apply(&mut self, alloc: Global, deed: &Deed) -> Result<(), AllocError> {
+        deed.carry_out(alloc, &mut self.files)
     }
 
-    /// Takes a file away where it is there.
-    pub fn take(&mut self, alloc: Global, path: &str) -> Result<(), AllocError> {
-        match self.files.remove(alloc, path) {
-            Ok(_) => Ok(()),
-            Err(_) => Err(AllocError),
-        }
+    /// Others act before a call of the next command.
+    pub fn add_act(&mut self, act: Act) -> Result<(), AllocError> {
+        self.acts.push(act)?;
+        Ok(())
+    }
+
+    /// Begins a command: its calls are counted from 1.
+    pub fn begin_command(&mut self) {
+        self.first = self.calls;
+    }
+
+    /// Ends a command: what others would have done before later calls isn't done.
+    pub fn end_command(&mut self) {
+        self.acts.clear();
+    }
+
+    /// How many calls the last command made, or has made so far.
+    pub fn command_calls(&self) -> u64 {
+        self.calls.saturating_sub(self.first)
+    }
+
+    /// The names that stand right in a folder.
+    pub fn list_names(&mut self, alloc: Global, folder: &str) -> Result<Vec<Txt>, AllocError> {
+        self.files.list(alloc, folder).map_err(|_| AllocError)
     }
 
     /// The bytes of a file, or nothing where it isn't there.
@@ -71,7 +90,7 @@ impl CaseStore {
         Ok(paths)
     }
 
-    /// Counts a call of a command, and fails where that is planned, after the planned effect.
+    /// Counts a call of a command, lets others act, and fails where that is planned, after the planned effect.
     fn begin(&mut self, alloc: Global, call: Call) -> Result<(), StoreFail>
         ensures ok { OnOk result (self.new.faults ≡ self.old.faults) }
         ensures err { IfErr result (Refuses call (case_seen self.old.faults) (case_seen self.new.faults)) }
@@ -79,6 +98,8 @@ impl CaseStore {
     {
         self.calls = self.calls.saturating_add(1);
         let number = self.calls;
+        let of_command = self.command_calls();
+        act_before(alloc, &mut self.files, self.acts.as_slice(), of_command)?;
         match self.plan.iter().find(|planned| planned.call == number) {
             Some(planned) => {
                 carry_out(alloc, &mut self.files, &call, &planned.effect)?;
