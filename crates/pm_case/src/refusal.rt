@@ -17,19 +17,11 @@ pub fn print_refusal(alloc: Global, refusal: &Refusal) -> Result<String, AllocEr
 pub fn print_within(alloc: Global, room: usize, refusal: &Refusal) -> Result<String, AllocError> {
     let mut sink = MemSink::new(alloc, room, Vec::new(alloc))?;
     let is_whole = report(&mut sink, refusal).is_ok();
-    let text = print_taken(alloc, status(refusal), sink.bytes(), is_whole);
-    drop(sink);
-    text
-}
-
-/// A status, what was taken of a line, and whether that is all.
-fn print_taken(
-    alloc: Global,
-    status: u8,
-    bytes: &[u8],
-    is_whole: bool,
-) -> Result<String, AllocError> {
-    let line = String::from_utf8_lossy(alloc, bytes)?;
-    let rest = if is_whole { "" } else { " and no more" };
-    format!(in alloc; "{status} {:?}{rest}", line.as_str())
+    let line = String::from_utf8_lossy(alloc, sink.bytes())?;
+    let status = status(refusal);
+    if is_whole {
+        format!(in alloc; "{status} {:?}", line.as_str())
+    } else {
+        format!(in alloc; "{status} {:?} and no more", line.as_str())
+    }
 }
