@@ -1,4 +1,5 @@
-//! What the codecs of `pm_vectors` have in common: a case, arguments that spell bytes, columns, and refusals as answers.
+//! What the codecs of `pm_vectors` have in common: a case, arguments that spell bytes, columns, and refusals as
+//! answers.
 #![tactic(auto)]
 
 mod argument;

@@ -4,8 +4,8 @@ use pm_avro_data::{Datum, Leaf};
 use pm_base::Txt;
 use pm_case::Case;
 
-/// Says a datum: a number, `true`, `null` or a text as in JSON, bytes as `#` and their digits, and what is made of other
-/// data in parentheses, after its kind.
+/// Says a datum: a number, `true`, `null` or a text as in JSON, bytes as `#` and their digits, and what is made of
+/// other data in parentheses, after its kind.
 #[cycle(print)]
 pub fn say_datum(case: &mut Case, datum: &Datum) {
     match datum {

@@ -68,7 +68,8 @@ fn say_files(case: &mut Case, table: Table, files: Vec<RunFile>) {
     }
 }
 
-/// Says what is known of a file, its checksum, how many rows are read of it, and how many each block has; or the refusal.
+/// Says what is known of a file, its checksum, how many rows are read of it, and how many each block has; or the
+/// refusal.
 #[tactic(auto, using(crate::proofs::ReaderLemmas::opened_over))]
 fn say_file(case: &mut Case, table: Table, file: RunFile) {
     let RunFile { meta, bytes } = file;
