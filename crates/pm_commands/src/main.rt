@@ -27,7 +27,7 @@
 //!
 //! Each other line prints `unknown case line`.
 //!
-//! Unproved the cases may take more than the minute that `rt try` gives a program: `RT_SECONDS=300 rt try < stdin`.
+//! Unproved the cases take minutes, more than the one that `rt try` gives a program: `RT_SECONDS=900 rt try < stdin`.
 #![tactic(auto)]
 
 mod act;
