@@ -27,27 +27,86 @@ pub struct Command {
 impl Command {
     /// Runs the command: what it printed, what it said of a refusal, and its status.
     pub fn run<F: FileStore>(&self, alloc: Global, store: &mut F) -> Result<String, AllocError> {
+        let mut input = self.open_input(alloc)?;
+        let text = self.run_on(alloc, &mut input, store);
+        drop(input);
+        text
+    }
+
+    /// The input, whose reads fail as the command says.
+    fn open_input(&self, alloc: Global) -> Result<MemSource, AllocError> {
         let bytes = Vec::from_slice(alloc, self.input.as_slice())?;
-        let mut input = MemSource::new(bytes, Vec::from_slice(alloc, self.source.as_slice())?);
+        let fails = Vec::from_slice(alloc, self.source.as_slice())?;
+        Ok(MemSource::new(bytes, fails))
+    }
+
+    /// Runs the command on its input.
+    fn run_on<F: FileStore>(
+        &self,
+        alloc: Global,
+        input: &mut MemSource,
+        store: &mut F,
+    ) -> Result<String, AllocError> {
         let fails = Vec::from_slice(alloc, self.sink.as_slice())?;
         let mut out = MemSink::new(alloc, self.room, fails)?;
+        let text = self.run_into(alloc, input, &mut out, store);
+        drop(out);
+        text
+    }
+
+    /// Runs the command where it prints.
+    fn run_into<F: FileStore>(
+        &self,
+        alloc: Global,
+        input: &mut MemSource,
+        out: &mut MemSink,
+        store: &mut F,
+    ) -> Result<String, AllocError> {
         let mut err = MemSink::new(alloc, ROOM, Vec::new(alloc))?;
+        let code = self.execute(alloc, input, out, &mut err, store);
+        let text = print_ran(alloc, out.bytes(), self.sum, err.bytes(), code);
+        drop(err);
+        text
+    }
+
+    /// Executes the command, and gives its status.
+    fn execute<F: FileStore>(
+        &self,
+        alloc: Global,
+        input: &mut MemSource,
+        out: &mut MemSink,
+        err: &mut MemSink,
+        store: &mut F,
+    ) -> u8 {
         let mut session = [0; 16];
         session[15] = self.session;
         let status = run(
             alloc,
-            &self.words,
-            &mut input,
-            &mut out,
-            &mut err,
+            self.words.as_slice(),
+            input,
+            out,
+            err,
             store,
             self.now,
             session,
         );
-        let out = print_out(alloc, out.bytes(), self.sum)?;
-        let err = String::from_utf8_lossy(alloc, err.bytes())?;
-        format!(in alloc; "{out}{err}-- {}\n", status.code)
+        let code = status.code;
+        drop(status);
+        code
     }
+}
+
+/// What was printed, what was said of a refusal, and a status.
+fn print_ran(
+    alloc: Global,
+    out: &[u8],
+    sum: bool,
+    err: &[u8],
+    code: u8,
+) -> Result<String, AllocError> {
+    let out = print_out(alloc, out, sum)?;
+    let err = String::from_utf8_lossy(alloc, err)?;
+    format!(in alloc; "{out}{err}-- {code}\n")
 }
 
 /// What was printed; or how many bytes, and their checksum.

@@ -189,11 +189,12 @@ fn push_numbered(
     number: u64,
 ) -> Result<(), LineFault> {
     let digits = format!(in alloc; "{number}")?;
-    let mut before = "";
-    for part in text.split('#') {
-        input.extend_from_slice(before.as_bytes())?;
-        input.extend_from_slice(part.as_bytes())?;
-        before = digits.as_str();
+    for byte in text.as_bytes() {
+        if *byte == b'#' {
+            input.extend_from_slice(digits.as_bytes())?;
+        } else {
+            input.push(*byte)?;
+        }
     }
     Ok(())
 }
