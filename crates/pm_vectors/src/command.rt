@@ -16,14 +16,9 @@ pub fn run_command<F: FileStore>(
     input: &[u8],
 ) {
     let given = words_of(case, words);
-    let alloc = case.alloc();
-    match (
-        Vec::from_slice(alloc, input),
-        MemSink::new(alloc, ROOM, Vec::new(alloc)),
-        MemSink::new(alloc, ROOM, Vec::new(alloc)),
-    ) {
-        (Ok(input), Ok(out), Ok(err)) => run_words(case, store, session, &given, input, out, err),
-        _ => case.run_out(),
+    match Vec::from_slice(case.alloc(), input) {
+        Ok(input) => run_words(case, store, session, &given, input),
+        Err(_) => case.run_out(),
     }
     drop(given);
 }
@@ -40,25 +35,59 @@ fn words_of(case: &mut Case, words: &str) -> Vec<Txt> {
     given
 }
 
-/// Runs a command, and says what it answers.
+/// Runs a command on its input.
 fn run_words<F: FileStore>(
     case: &mut Case,
     store: &mut F,
     session: u8,
     words: &[Txt],
     input: Vec<u8>,
+) {
+    let alloc = case.alloc();
+    let mut source = MemSource::new(input, Vec::new(alloc));
+    match MemSink::new(alloc, ROOM, Vec::new(alloc)) {
+        Ok(out) => run_into(case, store, session, words, &mut source, out),
+        Err(_) => case.run_out(),
+    }
+    drop(source);
+}
+
+/// Runs a command where it prints.
+fn run_into<F: FileStore>(
+    case: &mut Case,
+    store: &mut F,
+    session: u8,
+    words: &[Txt],
+    source: &mut MemSource,
     out: MemSink,
+) {
+    let alloc = case.alloc();
+    let mut out = out;
+    match MemSink::new(alloc, ROOM, Vec::new(alloc)) {
+        Ok(err) => execute(case, store, session, words, source, &mut out, err),
+        Err(_) => case.run_out(),
+    }
+    drop(out);
+}
+
+/// Executes a command, and says what it answers.
+fn execute<F: FileStore>(
+    case: &mut Case,
+    store: &mut F,
+    session: u8,
+    words: &[Txt],
+    source: &mut MemSource,
+    out: &mut MemSink,
     err: MemSink,
 ) {
-    let mut source = MemSource::new(input, Vec::new(case.alloc()));
-    let (mut out, mut err) = (out, err);
+    let mut err = err;
     let mut name = [0; 16];
     name[15] = session;
     let status = run(
         case.alloc(),
         words,
-        &mut source,
-        &mut out,
+        source,
+        out,
         &mut err,
         store,
         1000,
@@ -69,7 +98,5 @@ fn run_words<F: FileStore>(
     case.say(" ");
     case.say_quoted_bytes(err.bytes());
     drop(status);
-    drop(out);
     drop(err);
-    drop(source);
 }

@@ -1,5 +1,6 @@
 //! Files made into runs.
 
+use crate::between::say_between;
 use crate::file::{file_of, keys_of};
 use pm_case::Case;
 use pm_levels::{LevelFault, Levels};
@@ -69,31 +70,33 @@ fn say_levels(case: &mut Case, levels: Levels) {
 
 /// Says the level and the names of each run.
 fn say_runs(case: &mut Case, levels: &Levels) {
-    let mut before = "";
+    let mut is_later = false;
     for run in levels.runs() {
-        case.say_made(format!(in case.alloc(); "{before}{}:", run.level));
+        say_between(case, is_later, " ");
+        case.say_made(format!(in case.alloc(); "{}:", run.level));
         say_names(case, &run.files);
-        before = " ";
+        is_later = true;
     }
 }
 
 /// Says the names of files with commas between them.
 fn say_names(case: &mut Case, files: &[FileMeta]) {
-    let mut before = "";
+    let mut is_later = false;
     for file in files {
-        case.say(before);
+        say_between(case, is_later, ",");
         case.say(file.name.as_str());
-        before = ",";
+        is_later = true;
     }
 }
 
 /// Says the level and the size of each run.
 fn say_sizes(case: &mut Case, levels: &Levels) {
-    let mut before = "";
+    let mut is_later = false;
     if let Some(sizes) = case.made(levels.sizes(case.alloc())) {
         for size in &sizes {
-            case.say_made(format!(in case.alloc(); "{before}{}:{}", size.level, size.bytes));
-            before = " ";
+            say_between(case, is_later, " ");
+            case.say_made(format!(in case.alloc(); "{}:{}", size.level, size.bytes));
+            is_later = true;
         }
     }
 }

@@ -1,5 +1,6 @@
 //! The live files that manifests leave, one after another.
 
+use crate::between::say_between;
 use crate::file::file_of;
 use indexmap::IndexMap;
 use pm_case::Case;
@@ -100,12 +101,12 @@ fn say_live(case: &mut Case, live: &IndexMap<FileId, Entry>) {
     if live.is_empty() {
         return case.say("nothing");
     }
-    let mut before = "";
+    let mut is_later = false;
     for (id, entry) in live {
-        case.say(before);
+        say_between(case, is_later, " ");
         case.say(id.name.as_str());
         let (level, bucket, number) = (id.level, id.group.bucket, entry.file.size);
         case.say_made(format!(in case.alloc(); "@{level}/{bucket}:{number}"));
-        before = " ";
+        is_later = true;
     }
 }

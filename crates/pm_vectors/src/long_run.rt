@@ -3,6 +3,7 @@
 ghost use Rattle.std.specs.Prelude.{◌≡◌, ◌≤◌, false};
 ghost use Rattle.pm_run.specs.Writing.{AreRising};
 
+use crate::between::say_between;
 use crate::order::are_rising;
 use crate::rows::push_line;
 use crate::run_file::say_blocks;
@@ -60,11 +61,11 @@ fn say_run(case: &mut Case, table: Table, rows: &[Stamped], limit: usize)
 
 /// Says the files of a run.
 fn say_files(case: &mut Case, table: Table, files: Vec<RunFile>) {
-    let mut before = "";
+    let mut is_later = false;
     for file in files {
-        case.say(before);
+        say_between(case, is_later, "\t");
         say_file(case, table, file);
-        before = "\t";
+        is_later = true;
     }
 }
 

@@ -88,6 +88,7 @@ mod avro;
 mod avro_datum;
 mod avro_file;
 mod avro_record;
+mod between;
 mod binary_row;
 mod command;
 mod datum;

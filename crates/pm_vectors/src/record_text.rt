@@ -1,5 +1,6 @@
 //! The records of manifest lists and manifests, printed.
 
+use crate::between::say_between;
 use pm_case::Case;
 use pm_manifest::{Entry, ManifestMeta};
 use pm_values::{FileMeta, Value};
@@ -40,12 +41,12 @@ fn say_file(case: &mut Case, file: &FileMeta) {
 
 /// Says values with commas between them.
 fn say_values(case: &mut Case, values: &[Value]) {
-    let mut before = "";
+    let mut is_later = false;
     case.say("[");
     for value in values {
-        case.say(before);
+        say_between(case, is_later, ",");
         say_value(case, value);
-        before = ",";
+        is_later = true;
     }
     case.say("]");
 }

@@ -1,5 +1,6 @@
 //! Rows with their sequence numbers, read and printed.
 
+use crate::between::say_between;
 use crate::table::Table;
 use pm_case::Case;
 use pm_history::key_of;
@@ -64,11 +65,11 @@ pub fn say_rows(case: &mut Case, table: Table, rows: &[Stamped]) {
     if rows.is_empty() {
         case.say("nothing");
     }
-    let mut before = "";
+    let mut is_later = false;
     for row in rows {
-        case.say(before);
+        say_between(case, is_later, "\t");
         say_stamped(case, table, row);
-        before = "\t";
+        is_later = true;
     }
 }
 

@@ -1,5 +1,6 @@
 //! Calls of a store, one after another: of one in memory, of one that fails, and of two on one folder.
 
+use crate::between::say_between;
 use pm_base::{Blob, Txt};
 use pm_case::Case;
 use pm_store::{
@@ -64,11 +65,11 @@ fn read_effect(alloc: Global, text: &str) -> Result<Effect, AllocError> {
 
 /// Says the answers of calls with semicolons between them.
 fn make_calls<F: FileStore>(case: &mut Case, store: &mut F, calls: &str) {
-    let mut before = "";
+    let mut is_later = false;
     for call in calls.split(';') {
-        case.say(before);
+        say_between(case, is_later, "; ");
         make_call(case, store, call);
-        before = "; ";
+        is_later = true;
     }
 }
 
@@ -82,15 +83,15 @@ pub fn folder_answer<F: FileStore>(
     folder: &str,
     calls: &str,
 ) {
-    let mut before = "";
+    let mut is_later = false;
     for call in calls.split(';') {
-        case.say(before);
+        say_between(case, is_later, "; ");
         match split(call) {
             ("hidden", _) => say_hidden(rt, case, folder),
             ("other", call) => make_call(case, other, call),
             _ => make_call(case, store, call),
         }
-        before = "; ";
+        is_later = true;
     }
 }
 
@@ -193,12 +194,12 @@ fn say_content(case: &mut Case, content: &Option<Blob>) {
 
 /// Says names in brackets.
 fn say_names(case: &mut Case, names: &[Txt]) {
-    let mut before = "";
+    let mut is_later = false;
     case.say("[");
     for name in names {
-        case.say(before);
+        say_between(case, is_later, " ");
         case.say(name.as_str());
-        before = " ";
+        is_later = true;
     }
     case.say("]");
 }

@@ -3,6 +3,7 @@
 ghost use Rattle.std.specs.Prelude.{◌≡◌, ◌≤◌};
 ghost use Rattle.pm_run.specs.Writing.{AreRising};
 
+use crate::between::say_between;
 use crate::order::{are_changes, are_rising};
 use crate::rows::{push_line, read_rows, say_key};
 use crate::run_file::say_file;
@@ -56,11 +57,11 @@ fn say_files(case: &mut Case, table: Table, files: Vec<RunFile>) {
     if files.is_empty() {
         case.say("nothing");
     }
-    let mut before = "";
+    let mut is_later = false;
     for file in files {
-        case.say(before);
+        say_between(case, is_later, "\t");
         say_written(case, table, file, false);
-        before = "\t";
+        is_later = true;
     }
 }
 
