@@ -1,12 +1,12 @@
 #!/usr/bin/env bash
-# Tries the wrong bodies that the gate doesn't: the edits of crates/NAME/wrong, in a copy of the checkout, where they stand
-# in the place of the edits that the gate tries. It prints a line for each, with the first obligation that stays open. It
-# ends with 1 where one isn't refused, can't be applied or read, or is refused only because a proof names what it took away,
-# and where any wasn't tried. Built libraries are taken over; the others are built in the copy, which takes long.
-# The gate never runs it.
+# Tries the wrong bodies that the gate doesn't: the edits of crates/NAME/wrong, in a copy of the checkout, where they
+# stand in the place of the edits that the gate tries. It prints a line for each, with the first obligation that stays
+# open. It ends with 1 where one isn't refused, can't be applied or read, or is refused only because a proof names what
+# it took away, and where any wasn't tried. Built libraries are taken over; the others are built in the copy, which
+# takes long. The gate never runs it.
 #
 # usage: bench/wrong_bodies.sh [CRATE..]     without a crate: each that has wrong bodies
-set -u
+set -uo pipefail
 top=$(dirname -- "$(dirname -- "$(readlink -f -- "$0")")")
 work=$(mktemp -d "${TMPDIR:-/tmp}/wrong_bodies.XXXXXX") || exit 1
 trap 'rm -rf "$work"' EXIT
@@ -22,8 +22,8 @@ crates=("$@")
     crate=${folder%/wrong}
     crates+=("${crate#crates/}")
 done
-tar --exclude='crates/*/out/incremental' --exclude='crates/*/must-fail' -cf - crates crates.txt HANDLES | tar -C "$work" -xf - ||
-    fail "the checkout can't be copied to $work"
+tar --exclude='crates/*/out/incremental' --exclude='crates/*/must-fail' -cf - crates crates.txt HANDLES |
+    tar -C "$work" -xf - || fail "the checkout can't be copied to $work"
 : >"$work/tried"
 for crate in "${crates[@]}"; do
     [ -n "$(find "$work/crates/$crate/wrong" -name '*.edit' 2>/dev/null)" ] || fail "$crate has no wrong bodies"
