@@ -16,7 +16,6 @@ use pm_values::{Column, Value};
 use std::alloc::{AllocError, Global};
 
 /// The function of a column.
-#[derive(Drop)]
 pub enum ColumnFunction {
     Sum(Sum),
     Max(Max),
@@ -28,6 +27,23 @@ pub enum ColumnFunction {
     ListAgg(ListAgg),
     BoolAnd(BoolAnd),
     BoolOr(BoolOr),
+}
+
+impl Drop for ColumnFunction {
+    fn drop(self) {
+        match self {
+            ColumnFunction::Sum(_a) => {}
+            ColumnFunction::Max(_a) => {}
+            ColumnFunction::Min(_a) => {}
+            ColumnFunction::LastValue(_a) => {}
+            ColumnFunction::LastNonNullValue(_a) => {}
+            ColumnFunction::FirstValue(_a) => {}
+            ColumnFunction::FirstNonNullValue(_a) => {}
+            ColumnFunction::ListAgg(_a) => {}
+            ColumnFunction::BoolAnd(_a) => {}
+            ColumnFunction::BoolOr(_a) => {}
+        }
+    }
 }
 
 /// The function that the schema gives to the column, or nothing where the column is one of the key.

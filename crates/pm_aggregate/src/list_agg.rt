@@ -12,12 +12,21 @@ use pm_values::{ColType, Value};
 use std::alloc::{AllocError, Global};
 
 /// The texts of a column with a delimiter between each two. Null is no text.
-#[derive(Drop)]
 pub struct ListAgg {
     pub kind: ColType,
     /// Whether rows that retract don't count; else they are refused.
     pub skips: bool,
     pub delimiter: Txt,
+}
+
+impl Drop for ListAgg {
+    fn drop(self) {
+        let ListAgg {
+            kind,
+            skips,
+            delimiter,
+        } = self;
+    }
 }
 
 impl Aggregator for ListAgg {

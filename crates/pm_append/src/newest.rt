@@ -5,7 +5,6 @@ use pm_manifest::{Entry, ManifestMeta};
 use pm_snapshot::Snapshot;
 
 /// The table as a commit finds it.
-#[derive(Drop)]
 pub struct Newest {
     /// The newest snapshot's id, 0 for the origin.
     pub id: u64,
@@ -17,8 +16,18 @@ pub struct Newest {
     pub live: Vec<Entry>,
 }
 
+impl Drop for Newest {
+    fn drop(self) {
+        let Newest {
+            id,
+            snapshot,
+            manifests,
+            live,
+        } = self;
+    }
+}
+
 /// Who appends, and when.
-#[derive(Drop)]
 pub struct Author {
     /// Who commits.
     pub user: Txt,
@@ -28,6 +37,17 @@ pub struct Author {
     pub base: u64,
     /// The moment, in milliseconds from 1970-01-01.
     pub time: i64,
+}
+
+impl Drop for Author {
+    fn drop(self) {
+        let Author {
+            user,
+            identifier,
+            base,
+            time,
+        } = self;
+    }
 }
 
 /// A file that isn't in the store yet.

@@ -18,7 +18,6 @@ use std::alloc::Global;
 use std::marker::Model;
 
 /// A file that is read block by block, from the first on or at offsets that were answered. Offsets are in bytes.
-#[derive(Drop)]
 pub struct FileReader {
     bytes: Blob,
     kind: AvroType,
@@ -26,6 +25,19 @@ pub struct FileReader {
     first: usize,
     offset: usize,
     stop: Option<Stop>,
+}
+
+impl Drop for FileReader {
+    fn drop(self) {
+        let FileReader {
+            bytes,
+            kind,
+            marker,
+            first,
+            offset,
+            stop,
+        } = self;
+    }
 }
 
 impl Model for FileReader {

@@ -13,9 +13,14 @@ use std::cmp::Ordering;
 use std::marker::Model;
 
 /// Bytes, seen as their list. They compare unsigned.
-#[derive(Drop)]
 pub struct Blob {
     bytes: Vec<u8>,
+}
+
+impl Drop for Blob {
+    fn drop(self) {
+        let Blob { bytes } = self;
+    }
 }
 
 impl Model for Blob {

@@ -14,9 +14,14 @@ use std::fmt;
 use std::marker::Model;
 
 /// A text in UTF-8, seen as the list of its bytes. Texts compare by their bytes, unsigned.
-#[derive(Drop)]
 pub struct Txt {
     text: String,
+}
+
+impl Drop for Txt {
+    fn drop(self) {
+        let Txt { text } = self;
+    }
 }
 
 impl Model for Txt {

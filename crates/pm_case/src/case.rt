@@ -9,12 +9,22 @@ use std::alloc::{AllocError, Global};
 
 /// The answer to a line, as far as it is said. A word that isn't as it has to be, or want of memory, is known at the
 /// end alone: until then a codec goes on with what stands for it, and has no path of its own for it.
-#[derive(Drop)]
 pub struct Case {
     alloc: Global,
     text: String,
     is_case: bool,
     has_memory: bool,
+}
+
+impl Drop for Case {
+    fn drop(self) {
+        let Case {
+            alloc,
+            text,
+            is_case,
+            has_memory,
+        } = self;
+    }
 }
 
 impl Case {

@@ -16,10 +16,15 @@ use pm_values::{Refusal, Txt};
 use std::alloc::Global;
 
 /// How a command ended: 0, or the number of its refusal.
-#[derive(Drop)]
 pub struct Status {
     pub code: u8,
     pub refusal: Option<Refusal>,
+}
+
+impl Drop for Status {
+    fn drop(self) {
+        let Status { code, refusal } = self;
+    }
 }
 
 /// Runs one command: its words, its input, where it prints, where it says why it was refused, the

@@ -14,7 +14,6 @@ use std::alloc::{AllocError, Global};
 
 /// Files in memory. The calls of commands are numbered from 1, and the planned ones fail; what is put and taken between
 /// commands has no number, and neither has what others do between the calls of a command.
-#[derive(Drop)]
 pub struct CaseStore {
     files: MemStore,
     plan: Vec<Planned>,
@@ -22,6 +21,19 @@ pub struct CaseStore {
     first: u64,
     calls: u64,
     faults: u64,
+}
+
+impl Drop for CaseStore {
+    fn drop(self) {
+        let CaseStore {
+            files,
+            plan,
+            acts,
+            first,
+            calls,
+            faults,
+        } = self;
+    }
 }
 
 impl CaseStore {

@@ -35,9 +35,14 @@ pub enum CommitStep {
 }
 
 /// Appends the rows of a batch to a table, a call of the store a step.
-#[derive(Drop)]
 pub struct Committer {
     pub(crate) phase: Phase,
+}
+
+impl Drop for Committer {
+    fn drop(self) {
+        let Committer { phase } = self;
+    }
 }
 
 impl Model for Committer {

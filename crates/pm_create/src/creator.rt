@@ -27,13 +27,24 @@ pub enum CreateStep {
 }
 
 /// Makes a table, a call of the store a step.
-#[derive(Drop)]
 pub struct Creator {
     session: [u8; 16],
     actor: u32,
     schema: TableSchema,
     pub(crate) bytes: Blob,
     pub(crate) phase: Phase,
+}
+
+impl Drop for Creator {
+    fn drop(self) {
+        let Creator {
+            session,
+            actor,
+            schema,
+            bytes,
+            phase,
+        } = self;
+    }
 }
 
 impl Model for Creator {

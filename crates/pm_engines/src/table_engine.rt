@@ -16,12 +16,22 @@ use pm_values::{Kind, Refusal, Row};
 use std::alloc::{AllocError, Global};
 
 /// The engine of a table: any of them.
-#[derive(Drop)]
 pub enum TableEngine {
     Deduplicate(Deduplicate),
     PartialUpdate(PartialUpdate),
     Aggregation(Aggregation),
     FirstRow(FirstRow),
+}
+
+impl Drop for TableEngine {
+    fn drop(self) {
+        match self {
+            TableEngine::Deduplicate(_a) => {}
+            TableEngine::PartialUpdate(_a) => {}
+            TableEngine::Aggregation(_a) => {}
+            TableEngine::FirstRow(_a) => {}
+        }
+    }
 }
 
 impl TableEngine {

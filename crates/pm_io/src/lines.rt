@@ -46,11 +46,20 @@ impl From<Failed> for LineFault {
 }
 
 /// What is held of a source between two lines.
-#[derive(Drop)]
 pub struct Lines {
     alloc: Global,
     begun: Vec<u8>,
     ahead: Chunk,
+}
+
+impl Drop for Lines {
+    fn drop(self) {
+        let Lines {
+            alloc,
+            begun,
+            ahead,
+        } = self;
+    }
 }
 
 impl Model for Lines {

@@ -11,13 +11,24 @@ use std::alloc::{AllocError, Global};
 use std::marker::Model;
 
 /// A source that gives these bytes and fails at the listed calls, numbered from 1.
-#[derive(Drop)]
 pub struct MemSource {
     bytes: Vec<u8>,
     at: usize,
     fails: Vec<u64>,
     calls: u64,
     faults: u64,
+}
+
+impl Drop for MemSource {
+    fn drop(self) {
+        let MemSource {
+            bytes,
+            at,
+            fails,
+            calls,
+            faults,
+        } = self;
+    }
 }
 
 impl Model for MemSource {
@@ -87,13 +98,24 @@ impl Source for MemSource {
 }
 
 /// A sink that keeps up to `room` bytes and fails at the listed calls, numbered from 1.
-#[derive(Drop)]
 pub struct MemSink {
     bytes: Vec<u8>,
     room: usize,
     fails: Vec<u64>,
     calls: u64,
     faults: u64,
+}
+
+impl Drop for MemSink {
+    fn drop(self) {
+        let MemSink {
+            bytes,
+            room,
+            fails,
+            calls,
+            faults,
+        } = self;
+    }
 }
 
 impl Model for MemSink {

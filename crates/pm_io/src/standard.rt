@@ -10,10 +10,15 @@ use std::marker::Model;
 const TRIES: u32 = 1000;
 
 /// A source over a reader.
-#[derive(Drop)]
 pub struct StdSource<R: Read> {
     reader: R,
     faults: u64,
+}
+
+impl<R: Read + Drop> Drop for StdSource<R> {
+    fn drop(self) {
+        let StdSource { reader, faults } = self;
+    }
 }
 
 impl<R: Read> Model for StdSource<R> {
@@ -55,10 +60,15 @@ impl<R: Read> Source for StdSource<R> {
 }
 
 /// A sink over a writer that holds nothing back: what a buffer keeps counts as taken.
-#[derive(Drop)]
 pub struct StdSink<W: Write> {
     writer: W,
     faults: u64,
+}
+
+impl<W: Write + Drop> Drop for StdSink<W> {
+    fn drop(self) {
+        let StdSink { writer, faults } = self;
+    }
 }
 
 impl<W: Write> Model for StdSink<W> {

@@ -13,9 +13,14 @@ use std::alloc::{AllocError, Global};
 use std::marker::Model;
 
 /// The runs of a group, newest first, seen as their list.
-#[derive(Drop)]
 pub struct Levels {
     runs: Vec<RunFiles>,
+}
+
+impl Drop for Levels {
+    fn drop(self) {
+        let Levels { runs } = self;
+    }
 }
 
 impl Model for Levels {

@@ -9,7 +9,6 @@ use pm_values::{FileMeta, Group};
 use std::alloc::{AllocError, Global};
 
 /// A manifest, as manifest lists have it.
-#[derive(Drop)]
 pub struct ManifestMeta {
     /// Its name in the folder of manifests.
     pub name: Txt,
@@ -21,6 +20,18 @@ pub struct ManifestMeta {
     pub deleted: u64,
     /// The id of the table's schema that it was written with.
     pub schema_id: u64,
+}
+
+impl Drop for ManifestMeta {
+    fn drop(self) {
+        let ManifestMeta {
+            name,
+            size,
+            added,
+            deleted,
+            schema_id,
+        } = self;
+    }
 }
 
 impl ManifestMeta {

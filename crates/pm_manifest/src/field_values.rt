@@ -13,9 +13,14 @@ use std::alloc::Global;
 use std::vec::IntoIter;
 
 /// The values that are left, in order.
-#[derive(Drop)]
 pub(crate) struct FieldValues {
     left: IntoIter<Datum, Global>,
+}
+
+impl Drop for FieldValues {
+    fn drop(self) {
+        let FieldValues { left } = self;
+    }
 }
 
 impl FieldValues {

@@ -9,7 +9,6 @@ use pm_values::Group;
 use std::hash::{Hash, Hasher};
 
 /// A file, as entries name it. The same name at another level is another file.
-#[derive(Drop)]
 pub struct FileId {
     /// The group that it is of.
     pub group: Group,
@@ -17,6 +16,12 @@ pub struct FileId {
     pub name: Txt,
     /// The level of its run.
     pub level: u32,
+}
+
+impl Drop for FileId {
+    fn drop(self) {
+        let FileId { group, name, level } = self;
+    }
 }
 
 impl PartialEq for FileId {

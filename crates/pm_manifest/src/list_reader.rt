@@ -50,9 +50,14 @@ fn read_metas(alloc: Global, path: &str, file: &FileReader) -> Result<Vec<Manife
 }
 
 /// What reads a list's records.
-#[derive(Drop)]
 struct MetaReader {
     fields: Selection,
+}
+
+impl Drop for MetaReader {
+    fn drop(self) {
+        let MetaReader { fields } = self;
+    }
 }
 
 impl ReadRecord for MetaReader {

@@ -90,11 +90,20 @@ fn read_entries(
 }
 
 /// What reads a manifest's records.
-#[derive(Drop)]
 struct EntryReader {
     shape: TableShape,
     fields: Selection,
     file_fields: Selection,
+}
+
+impl Drop for EntryReader {
+    fn drop(self) {
+        let EntryReader {
+            shape,
+            fields,
+            file_fields,
+        } = self;
+    }
 }
 
 impl EntryReader {

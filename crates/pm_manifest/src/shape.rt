@@ -12,7 +12,6 @@ use std::alloc::{AllocError, Global};
 use std::marker::Model;
 
 /// The columns that partitions, keys and statistics are rows of, and how many buckets there are.
-#[derive(Drop)]
 pub(crate) struct TableShape {
     /// The types of the partition columns, in their order.
     pub(crate) partition: Vec<ColType>,
@@ -23,6 +22,18 @@ pub(crate) struct TableShape {
     /// Of each column of the primary key the index of the partition column that it is, if it is one.
     places: Vec<Option<usize>>,
     pub(crate) buckets: u32,
+}
+
+impl Drop for TableShape {
+    fn drop(self) {
+        let TableShape {
+            partition,
+            rest,
+            columns,
+            places,
+            buckets,
+        } = self;
+    }
 }
 
 impl Model for TableShape {

@@ -30,9 +30,14 @@ pub trait RowSource<P: RowPlace>: Drop {
 }
 
 /// The rows of a run that is in memory.
-#[derive(Drop)]
 pub struct RunRows {
     pub rows: IntoIter<Stamped, Global>,
+}
+
+impl Drop for RunRows {
+    fn drop(self) {
+        let RunRows { rows } = self;
+    }
 }
 
 impl<'b> RowSource<RowSlot<'b>> for RunRows {

@@ -5,9 +5,14 @@ ghost use Rattle.std.specs.Prelude.{◌≡◌};
 use std::marker::Model;
 
 /// Items in order, seen as their list.
-#[derive(Drop)]
 pub struct Listed<T> {
     items: Vec<T>,
+}
+
+impl<T: Drop> Drop for Listed<T> {
+    fn drop(self) {
+        let Listed { items } = self;
+    }
 }
 
 impl<T> Model for Listed<T> {

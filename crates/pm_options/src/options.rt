@@ -9,7 +9,6 @@ use pm_values::Txt;
 use std::alloc::{AllocError, Global};
 
 /// What a table's options say, with their defaults put in.
-#[derive(Drop)]
 pub struct Options {
     /// The number of buckets.
     pub bucket: u32,
@@ -37,6 +36,32 @@ pub struct Options {
     pub groups: Listed<(Txt, Listed<Txt>)>,
     /// All other settings, by rising key.
     pub kept: Listed<(Txt, Txt)>,
+}
+
+impl Drop for Options {
+    fn drop(self) {
+        let Options {
+            bucket,
+            engine,
+            ignore_delete,
+            producer,
+            row_deduplicate,
+            delta_commits,
+            trigger,
+            levels,
+            amplification,
+            ratio,
+            merge_min,
+            retained_millis,
+            retained_min,
+            retained_max,
+            functions,
+            delimiters,
+            ignore_retract,
+            groups,
+            kept,
+        } = self;
+    }
 }
 
 impl Options {

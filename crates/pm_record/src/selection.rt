@@ -16,9 +16,14 @@ use std::marker::Model;
 use std::mem;
 
 /// The indexes of some fields in a record, in the order in which they were asked for.
-#[derive(Drop)]
 pub struct Selection {
     indexes: Vec<usize>,
+}
+
+impl Drop for Selection {
+    fn drop(self) {
+        let Selection { indexes } = self;
+    }
 }
 
 impl Model for Selection {

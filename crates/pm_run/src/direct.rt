@@ -29,9 +29,14 @@ use std::alloc::{AllocError, Global};
 const MARKER: usize = 16;
 
 /// The marker that ends the blocks of a file that is as it is written here.
-#[derive(Drop)]
 pub(crate) struct Direct {
     pub(crate) marker: Vec<u8>,
+}
+
+impl Drop for Direct {
+    fn drop(self) {
+        let Direct { marker } = self;
+    }
 }
 
 impl Direct {

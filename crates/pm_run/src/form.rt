@@ -15,15 +15,23 @@ use std::alloc::{AllocError, Global};
 use std::marker::Model;
 
 /// A field of a row's record that has values: a column's, or that of a column of the key.
-#[derive(Drop)]
 pub(crate) struct Field {
     pub(crate) name: Txt,
     pub(crate) kind: ColType,
     pub(crate) nullable: bool,
 }
 
+impl Drop for Field {
+    fn drop(self) {
+        let Field {
+            name,
+            kind,
+            nullable,
+        } = self;
+    }
+}
+
 /// The columns, those of the key, and the engine of a table.
-#[derive(Drop)]
 pub(crate) struct TableForm {
     /// The fields of the columns.
     pub(crate) columns: Vec<Field>,
@@ -36,6 +44,19 @@ pub(crate) struct TableForm {
     /// Whether these are the places, as where the table has no partition columns.
     pub(crate) whole: bool,
     pub(crate) engine: EngineKind,
+}
+
+impl Drop for TableForm {
+    fn drop(self) {
+        let TableForm {
+            columns,
+            keys,
+            places,
+            primary,
+            whole,
+            engine,
+        } = self;
+    }
 }
 
 impl Model for TableForm {

@@ -30,7 +30,6 @@ use std::vec::IntoIter;
 
 /// A data file or a changelog file that is read row by row, or block by block at offsets that were answered. Offsets
 /// are in bytes.
-#[derive(Drop)]
 pub struct RunReader {
     path: Txt,
     rows: RowReader,
@@ -41,6 +40,22 @@ pub struct RunReader {
     last: Option<Key>,
     next: usize,
     over: bool,
+}
+
+impl Drop for RunReader {
+    fn drop(self) {
+        let RunReader {
+            path,
+            rows,
+            direct,
+            file,
+            left,
+            refusal,
+            last,
+            next,
+            over,
+        } = self;
+    }
 }
 
 impl Model for RunReader {

@@ -39,13 +39,24 @@ use std::vec::IntoIter;
 pub(crate) const MOST_SEQUENCE: u64 = 0x3fff_ffff_ffff_ffff;
 
 /// What reads the rows of a file's records.
-#[derive(Drop)]
 pub(crate) struct RowReader {
     pub(crate) form: TableForm,
     pub(crate) changes: bool,
     fields: Selection,
     columns: Listed<Slot>,
     keys: Listed<Slot>,
+}
+
+impl Drop for RowReader {
+    fn drop(self) {
+        let RowReader {
+            form,
+            changes,
+            fields,
+            columns,
+            keys,
+        } = self;
+    }
 }
 
 /// Rows that were read, and the refusal of what comes after them, if it is refused.

@@ -11,10 +11,19 @@ pub struct RunFile {
 }
 
 /// A run with the bytes of its files.
-#[derive(Drop)]
 pub struct RunBytes {
     /// The path of the folder of its group.
     pub folder: Txt,
     pub level: u32,
     pub files: Vec<(FileMeta, Blob)>,
+}
+
+impl Drop for RunBytes {
+    fn drop(self) {
+        let RunBytes {
+            folder,
+            level,
+            files,
+        } = self;
+    }
 }

@@ -91,11 +91,20 @@ pub fn write_changes(
 }
 
 /// What writes files of a table.
-#[derive(Drop)]
 struct FileWriter {
     form: TableForm,
     kind: AvroType,
     schema_id: u64,
+}
+
+impl Drop for FileWriter {
+    fn drop(self) {
+        let FileWriter {
+            form,
+            kind,
+            schema_id,
+        } = self;
+    }
 }
 
 impl FileWriter {

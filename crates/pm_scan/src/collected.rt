@@ -24,12 +24,22 @@ use std::mem;
 
 /// The groups that were read whole, each with its runs, the oldest first; the runs of the group in hand that were,
 /// newest first; and the run in hand, as far as its files were read.
-#[derive(Drop)]
 pub struct Collected {
     engine: TableEngine,
     groups: Vec<Vec<StoredRun>>,
     runs: Vec<StoredRun>,
     run: StoredRun,
+}
+
+impl Drop for Collected {
+    fn drop(self) {
+        let Collected {
+            engine,
+            groups,
+            runs,
+            run,
+        } = self;
+    }
 }
 
 impl Model for Collected {

@@ -32,9 +32,14 @@ pub enum ScanStep {
 }
 
 /// Reads a table at a snapshot, a call of the store a step, and has the text of its scan in the end.
-#[derive(Drop)]
 pub struct Scanner {
     pub(crate) phase: Phase,
+}
+
+impl Drop for Scanner {
+    fn drop(self) {
+        let Scanner { phase } = self;
+    }
 }
 
 impl Model for Scanner {

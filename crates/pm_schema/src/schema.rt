@@ -7,7 +7,6 @@ use pm_values::{Column, Txt};
 use std::alloc::{AllocError, Global};
 
 /// A table's schema.
-#[derive(Drop)]
 pub struct TableSchema {
     pub id: u64,
     pub columns: Listed<Column>,
@@ -23,6 +22,22 @@ pub struct TableSchema {
     pub time: i64,
     /// The name of the file of snapshot 0, without its folder.
     pub origin: Option<Txt>,
+}
+
+impl Drop for TableSchema {
+    fn drop(self) {
+        let TableSchema {
+            id,
+            columns,
+            highest,
+            partition,
+            primary,
+            options,
+            comment,
+            time,
+            origin,
+        } = self;
+    }
 }
 
 impl TableSchema {

@@ -13,12 +13,22 @@ use std::cmp::Ordering;
 use std::marker::Model;
 
 /// A row that lies in bytes or is lent, with its key, its number and its kind.
-#[derive(Drop)]
 pub struct SeenRow<'b> {
     pub key: Vec<Seen<'b>>,
     pub seq: u64,
     pub kind: Kind,
     pub row: Vec<Seen<'b>>,
+}
+
+impl Drop for SeenRow<'_> {
+    fn drop(self) {
+        let SeenRow {
+            key,
+            seq,
+            kind,
+            row,
+        } = self;
+    }
 }
 
 impl<'b> SeenRow<'b> {
@@ -35,11 +45,16 @@ impl<'b> SeenRow<'b> {
 
 /// A place for a row: none, one that lies in bytes or is lent, which is in `seen` where `lies` says so, or one of its
 /// own.
-#[derive(Drop)]
 pub struct RowSlot<'b> {
     pub lies: bool,
     pub seen: SeenRow<'b>,
     pub own: Option<Stamped>,
+}
+
+impl Drop for RowSlot<'_> {
+    fn drop(self) {
+        let RowSlot { lies, seen, own } = self;
+    }
 }
 
 impl<'b> Model for RowSlot<'b> {

@@ -15,7 +15,6 @@ use serde_json::Value as Json;
 use std::alloc::Global;
 
 /// A snapshot of the table, as its file has it.
-#[derive(Drop)]
 pub struct Snapshot {
     /// Its number, from 1.
     pub id: u64,
@@ -51,6 +50,58 @@ pub struct Snapshot {
     pub appends: u64,
     /// Of these, how many came before the view of the last compaction that was asked in full.
     pub full: u64,
+}
+
+impl Drop for Snapshot {
+    fn drop(self) {
+        let Snapshot {
+            id,
+            schema_id,
+            base_list,
+            delta_list,
+            changelog_list,
+            user,
+            ident,
+            kind,
+            time,
+            total,
+            delta,
+            changelog,
+            watermark,
+            base,
+            fence,
+            appends,
+            full,
+        } = self;
+    }
+}
+
+impl Snapshot {
+    /// Who committed it.
+    pub fn into_user(self) -> Txt
+        ensures { result ≡ self.user }
+    {
+        let Snapshot {
+            id,
+            schema_id,
+            base_list,
+            delta_list,
+            changelog_list,
+            user,
+            ident,
+            kind,
+            time,
+            total,
+            delta,
+            changelog,
+            watermark,
+            base,
+            fence,
+            appends,
+            full,
+        } = self;
+        user
+    }
 }
 
 /// The snapshot that the bytes of the file of an id are. `Bad` comes exactly where they are none.

@@ -29,9 +29,14 @@ pub enum ListStep {
 }
 
 /// Lists the snapshots of a table, a call of the store a step.
-#[derive(Drop)]
 pub struct Lister {
     pub(crate) phase: Phase,
+}
+
+impl Drop for Lister {
+    fn drop(self) {
+        let Lister { phase } = self;
+    }
 }
 
 impl Model for Lister {

@@ -87,12 +87,22 @@ pub(crate) enum Verdict {
 }
 
 /// A folder, and the times of change at which this process has seen folders synced.
-#[derive(Drop)]
 pub(crate) struct Disk<R: Files<File = File> + AllocGlobal + Clock + Clone + Drop> {
     rt: R,
     root: String,
     is_root_synced: bool,
     synced: BTreeMap<String, SystemTime>,
+}
+
+impl<R: Files<File = File> + AllocGlobal + Clock + Clone + Drop> Drop for Disk<R> {
+    fn drop(self) {
+        let Disk {
+            rt,
+            root,
+            is_root_synced,
+            synced,
+        } = self;
+    }
 }
 
 impl<R: Files<File = File> + AllocGlobal + Clock + Clone + Drop> Disk<R> {

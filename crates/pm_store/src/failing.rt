@@ -16,20 +16,35 @@ use std::alloc::{AllocError, Global};
 use std::marker::Model;
 
 /// A call that fails, numbered from 1, and how much of it is carried out all the same.
-#[derive(Drop)]
 pub struct Planned {
     pub call: u64,
     pub effect: Effect,
 }
 
+impl Drop for Planned {
+    fn drop(self) {
+        let Planned { call, effect } = self;
+    }
+}
+
 /// A store in memory whose planned calls fail. A part is carried out of a create of an absent path
 /// alone: planned of any other call it is nothing.
-#[derive(Drop)]
 pub struct FailStore {
     store: MemStore,
     plan: Vec<Planned>,
     calls: u64,
     faults: u64,
+}
+
+impl Drop for FailStore {
+    fn drop(self) {
+        let FailStore {
+            store,
+            plan,
+            calls,
+            faults,
+        } = self;
+    }
 }
 
 impl Model for FailStore {

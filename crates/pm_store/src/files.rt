@@ -15,9 +15,14 @@ use std::collections::BTreeMap;
 use std::marker::Model;
 
 /// Files by their paths, seen as the finite map of their bytes.
-#[derive(Drop)]
 pub(crate) struct FileMap {
     files: BTreeMap<Txt, Blob>,
+}
+
+impl Drop for FileMap {
+    fn drop(self) {
+        let FileMap { files } = self;
+    }
 }
 
 impl Model for FileMap {

@@ -14,10 +14,15 @@ use std::rt::{Clock, Files};
 
 /// A store on a folder, seen as its count of faults. Its lock file and its temporary files have names that begin
 /// with a dot, and no file of the store has one.
-#[derive(Drop)]
 pub struct FolderStore<R: Files<File = File> + AllocGlobal + Clock + Clone + Drop> {
     disk: Disk<R>,
     faults: u64,
+}
+
+impl<R: Files<File = File> + AllocGlobal + Clock + Clone + Drop> Drop for FolderStore<R> {
+    fn drop(self) {
+        let FolderStore { disk, faults } = self;
+    }
 }
 
 impl<R: Files<File = File> + AllocGlobal + Clock + Clone + Drop> Model for FolderStore<R> {

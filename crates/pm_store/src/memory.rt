@@ -12,10 +12,15 @@ use std::alloc::{AllocError, Global};
 use std::marker::Model;
 
 /// A store that never fails, seen as the list of its operations. It answers from an index of the files.
-#[derive(Drop)]
 pub struct MemStore {
     files: FileMap,
     ops: Vec<Op>,
+}
+
+impl Drop for MemStore {
+    fn drop(self) {
+        let MemStore { files, ops } = self;
+    }
 }
 
 impl Model for MemStore {

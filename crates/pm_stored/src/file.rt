@@ -14,17 +14,33 @@ use pm_values::{Key, Refusal, Stamped};
 use std::alloc::{AllocError, Global};
 
 /// A file whose rows lie in its bytes, or the rows of another.
-#[derive(Drop)]
 pub(crate) enum ReadFile {
     Lying(JudgedFile),
     Decoded(Vec<Stamped>),
 }
 
+impl Drop for ReadFile {
+    fn drop(self) {
+        match self {
+            ReadFile::Lying(_a) => {}
+            ReadFile::Decoded(_a) => {}
+        }
+    }
+}
+
 /// The rows of a file that are still to be given.
-#[derive(Drop)]
 pub(crate) enum RowsLeft<'b> {
     Lying(FileRows<'b>),
     Decoded(&'b [Stamped]),
+}
+
+impl Drop for RowsLeft<'_> {
+    fn drop(self) {
+        match self {
+            RowsLeft::Lying(_a) => {}
+            RowsLeft::Decoded(_a) => {}
+        }
+    }
 }
 
 impl ReadFile {

@@ -11,10 +11,15 @@ use pm_seen::RowSlot;
 use std::alloc::{AllocError, Global};
 
 /// The rows of a run that are still to be given: those of a file in hand, and of the files after it.
-#[derive(Drop)]
 pub struct StoredRows<'b> {
     pub(crate) own: RowsLeft<'b>,
     pub(crate) files: &'b [ReadFile],
+}
+
+impl Drop for StoredRows<'_> {
+    fn drop(self) {
+        let StoredRows { own, files } = self;
+    }
 }
 
 impl<'b> RowSource<RowSlot<'b>> for StoredRows<'b> {

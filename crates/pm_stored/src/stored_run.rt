@@ -13,10 +13,15 @@ use std::alloc::Global;
 use std::marker::Model;
 
 /// The rows of the files that were read of a run, in their order, and the key of the last one.
-#[derive(Drop)]
 pub struct StoredRun {
     files: Vec<ReadFile>,
     last: Option<Key>,
+}
+
+impl Drop for StoredRun {
+    fn drop(self) {
+        let StoredRun { files, last } = self;
+    }
 }
 
 impl Model for StoredRun {

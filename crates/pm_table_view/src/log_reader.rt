@@ -30,9 +30,14 @@ pub enum LogStep {
 }
 
 /// Reads the changelog of a table at a snapshot, a call of the store a step.
-#[derive(Drop)]
 pub struct LogReader {
     pub(crate) phase: LogPhase,
+}
+
+impl Drop for LogReader {
+    fn drop(self) {
+        let LogReader { phase } = self;
+    }
 }
 
 impl Model for LogReader {

@@ -32,9 +32,14 @@ pub enum ViewStep {
 }
 
 /// Reads the table at a snapshot, a call of the store a step.
-#[derive(Drop)]
 pub struct ViewReader {
     pub(crate) phase: Phase,
+}
+
+impl Drop for ViewReader {
+    fn drop(self) {
+        let ViewReader { phase } = self;
+    }
 }
 
 impl Model for ViewReader {

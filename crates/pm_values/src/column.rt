@@ -20,12 +20,22 @@ pub enum ColType {
 }
 
 /// A column: its id, its name, its type, and whether null may stand in it.
-#[derive(Drop)]
 pub struct Column {
     pub id: u32,
     pub name: Txt,
     pub kind: ColType,
     pub nullable: bool,
+}
+
+impl Drop for Column {
+    fn drop(self) {
+        let Column {
+            id,
+            name,
+            kind,
+            nullable,
+        } = self;
+    }
 }
 
 impl Column {

@@ -7,7 +7,6 @@ use pm_base::Txt;
 use std::alloc::{AllocError, Global};
 
 /// A data file or a changelog file, as manifests list it.
-#[derive(Drop)]
 pub struct FileMeta {
     /// Its name in the folder of its group.
     pub name: Txt,
@@ -29,6 +28,23 @@ pub struct FileMeta {
     pub level: u32,
     /// When it was created, in milliseconds from 1970-01-01T00:00:00, where that is known.
     pub created: Option<i64>,
+}
+
+impl Drop for FileMeta {
+    fn drop(self) {
+        let FileMeta {
+            name,
+            size,
+            rows,
+            min_key,
+            max_key,
+            min_seq,
+            max_seq,
+            schema_id,
+            level,
+            created,
+        } = self;
+    }
 }
 
 impl FileMeta {

@@ -13,12 +13,17 @@ use std::cmp::Ordering;
 
 /// The rows of one partition and one bucket, whose files lie in one folder. Groups compare by
 /// the values of the partition, then by the bucket.
-#[derive(Drop)]
 pub struct Group {
     /// The values of the partition columns in their order, none where the table has none.
     pub partition: Row,
     /// The number of the bucket, from 0.
     pub bucket: u32,
+}
+
+impl Drop for Group {
+    fn drop(self) {
+        let Group { partition, bucket } = self;
+    }
 }
 
 impl Group {

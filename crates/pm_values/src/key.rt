@@ -14,9 +14,14 @@ use std::marker::Model;
 
 /// The values of the key columns, in the order of the primary key, seen as their list. Keys
 /// compare value by value; where one is a prefix of the other, the shorter one is first.
-#[derive(Drop)]
 pub struct Key {
     values: Vec<Value>,
+}
+
+impl Drop for Key {
+    fn drop(self) {
+        let Key { values } = self;
+    }
 }
 
 impl Model for Key {

@@ -14,9 +14,14 @@ pub struct Stamped {
 }
 
 /// A line of a changelog: what happened to a key.
-#[derive(Drop)]
 pub struct Change {
     pub key: Key,
     pub kind: Kind,
     pub row: Row,
+}
+
+impl Drop for Change {
+    fn drop(self) {
+        let Change { key, kind, row } = self;
+    }
 }

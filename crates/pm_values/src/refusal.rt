@@ -22,7 +22,6 @@ pub enum Why {
 }
 
 /// Why a command was refused. The exit status is the number that each variant's line begins with.
-#[derive(Drop)]
 pub enum Refusal {
     /// `E1`: there was no memory left.
     Memory,
@@ -68,6 +67,35 @@ pub enum Refusal {
     Limit { which: Txt, number: u64 },
     /// `E22`: a schema breaks a rule; the number of the first one.
     SchemaRule { rule: u32 },
+}
+
+impl Drop for Refusal {
+    fn drop(self) {
+        match self {
+            Refusal::Memory => {}
+            Refusal::Words { command } => {}
+            Refusal::SourceFault => {}
+            Refusal::SinkFault { snapshot } => {}
+            Refusal::StoreFault { path } => {}
+            Refusal::BadLine { line, why, column } => {}
+            Refusal::Retraction { line, column } => {}
+            Refusal::TableExists => {}
+            Refusal::NoTable => {}
+            Refusal::Unsupported { what, text } => {}
+            Refusal::Damaged { path, place } => {}
+            Refusal::NoSnapshot { id, latest } => {}
+            Refusal::Expired { id } => {}
+            Refusal::Contended { ids } => {}
+            Refusal::CompactTaken { file } => {}
+            Refusal::Fenced { base, fence } => {}
+            Refusal::BelowFloor { next, floor } => {}
+            Refusal::ConsumerMoved { found } => {}
+            Refusal::NoChangelog => {}
+            Refusal::SessionUsed { path } => {}
+            Refusal::Limit { which, number } => {}
+            Refusal::SchemaRule { rule } => {}
+        }
+    }
 }
 
 impl From<AllocError> for Refusal {

@@ -8,9 +8,14 @@ use std::alloc::{AllocError, Global};
 use std::marker::Model;
 
 /// The values of a row, in the order of the columns, seen as their list.
-#[derive(Drop)]
 pub struct Row {
     values: Vec<Value>,
+}
+
+impl Drop for Row {
+    fn drop(self) {
+        let Row { values } = self;
+    }
 }
 
 impl Model for Row {

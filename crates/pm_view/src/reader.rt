@@ -24,9 +24,14 @@ pub enum SchemaStep {
 }
 
 /// Reads the schema of a table, a call of the store a step.
-#[derive(Drop)]
 pub struct SchemaReader {
     pub(crate) phase: Phase,
+}
+
+impl Drop for SchemaReader {
+    fn drop(self) {
+        let SchemaReader { phase } = self;
+    }
 }
 
 impl Model for SchemaReader {

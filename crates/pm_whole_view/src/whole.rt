@@ -34,9 +34,14 @@ pub enum WholeStep {
 }
 
 /// Reads all that a snapshot of a table names but its rows, a call of the store a step.
-#[derive(Drop)]
 pub struct WholeReader {
     pub(crate) phase: Phase,
+}
+
+impl Drop for WholeReader {
+    fn drop(self) {
+        let WholeReader { phase } = self;
+    }
 }
 
 impl Model for WholeReader {

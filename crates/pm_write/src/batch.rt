@@ -27,9 +27,14 @@ use std::marker::Model;
 
 /// The rows that a table took of a batch, by rising group. They are seen with numbers that count each group's rows from
 /// 0, whatever numbers the last try gave them.
-#[derive(Drop)]
 pub struct Batch {
     groups: Vec<HeldRows>,
+}
+
+impl Drop for Batch {
+    fn drop(self) {
+        let Batch { groups } = self;
+    }
 }
 
 impl Model for Batch {

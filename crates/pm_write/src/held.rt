@@ -8,7 +8,6 @@ ghost use Rattle.pm_write.specs.Held.{all_moved, group_rows, CanMove, IsHeld};
 use pm_values::{Group, Stamped};
 
 /// The rows of a group that the table took.
-#[derive(Drop)]
 pub(crate) struct HeldRows {
     pub(crate) group: Group,
     /// How many they are.
@@ -17,6 +16,17 @@ pub(crate) struct HeldRows {
     pub(crate) first: u64,
     /// The stored row of each key, by rising key.
     pub(crate) run: Vec<Stamped>,
+}
+
+impl Drop for HeldRows {
+    fn drop(self) {
+        let HeldRows {
+            group,
+            count,
+            first,
+            run,
+        } = self;
+    }
 }
 
 /// Counts the numbers of a group's rows from this one.
