@@ -3,8 +3,9 @@
 #![tactic(auto)]
 
 use pm_cli::run;
+use pm_folder_store::FolderStore;
 use pm_io::{StdSink, StdSource};
-use pm_store::{FolderStore, StoreFail};
+use pm_store::StoreFail;
 use pm_values::Txt;
 use std::alloc::AllocError;
 use std::io::ErrorKind;

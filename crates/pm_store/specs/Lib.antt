@@ -1,5 +1,4 @@
 pub mod Answers
-pub mod Disk
 pub mod Failing
 pub mod Files
 pub mod Images

@@ -7,11 +7,9 @@
 
 mod answer;
 mod call;
-mod disk;
 mod dispatch;
 mod failing;
 mod files;
-mod folder;
 mod laws;
 mod memory;
 mod names;
@@ -21,10 +19,10 @@ pub use answer::{Answer, Made, Published, Removed, Swapped};
 pub use call::{Call, CallKind, Effect, Op};
 pub use dispatch::perform;
 pub use failing::{FailStore, Planned};
-pub use folder::FolderStore;
 pub use laws::{
     answers_tell_changes_law, images_are_effects_law, stops_are_effects_law,
     swaps_write_one_path_law,
 };
 pub use memory::MemStore;
-pub use store::{FileStore, StoreFail};
+pub use names::listed;
+pub use store::{FileStore, StoreFail, is_expected};

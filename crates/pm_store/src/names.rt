@@ -53,7 +53,7 @@ fn gathered(
 }
 
 /// The names of a set, in their order.
-pub(crate) fn listed(alloc: Global, names: BTreeSet<Txt>) -> Result<Vec<Txt>, AllocError>
+pub fn listed(alloc: Global, names: BTreeSet<Txt>) -> Result<Vec<Txt>, AllocError>
     ensures names { IfOk result (λ list. list.items ≡ names.keys) }
     ensures rising { IsOrdered (slice_cmp nat_cmp) names }
     ensures list_rising { IfOk result (λ list. IsStrictlySortedBy (slice_cmp nat_cmp) list.items) }

@@ -3,7 +3,8 @@
 use crate::command::run_command;
 use crate::{store, writers};
 use pm_case::Case;
-use pm_store::{FileStore, FolderStore, Made};
+use pm_folder_store::FolderStore;
+use pm_store::{FileStore, Made};
 
 /// What a codec answers of a folder, of which two stores are opened before any call.
 pub fn answer(rt: &HostRuntime, case: &mut Case, codec: &str, folder: &str, rest: &str) {

@@ -4,19 +4,14 @@
 //! under the folder's lock. A name is on the disk before an answer speaks of it: a folder is synced after a
 //! change in it, and before an answer where it changed since this process last synced it.
 
-ghost use Rattle.std.specs.Prelude.{◌≡◌, ◌↔◌, IfOk, IfErr};
+ghost use Rattle.std.specs.Prelude.{◌≡◌, IfOk, IfErr};
 ghost use Rattle.std.specs.Cmp.Lexicographic.{slice_cmp};
-ghost use Rattle.std.specs.IoError.{error_kind};
 ghost use Rattle.std.specs.List.Sorted.{IsStrictlySortedBy};
 ghost use Rattle.std.specs.Ordering.{nat_cmp};
-ghost use Rattle.std.specs.declared.io.ErrorKind.TheVariants.{OutOfMemory};
-ghost use Rattle.pm_store.specs.declared.store.StoreFail.TheVariants.{Memory};
-ghost use Rattle.pm_store.specs.Disk.{Judges};
+ghost use Rattle.pm_folder_store.specs.Disk.{Judges};
 
-use crate::StoreFail;
-use crate::names::listed;
-use crate::store::is_expected;
 use pm_base::{Blob, Txt};
+use pm_store::{StoreFail, is_expected, listed};
 use std::alloc::Global;
 use std::collections::{BTreeMap, BTreeSet};
 use std::fs::{File, TryLockError};
@@ -45,17 +40,6 @@ const DEEPEST: u32 = 64;
 
 /// How old a folder's last change has to be, in milliseconds, before its time tells it from a later one.
 const SETTLED_MILLIS: u128 = 1000;
-
-impl From<io::Error> for StoreFail {
-    ghost from_gives = { λ e fail. (fail ≡ Memory) ↔ (error_kind e ≡ OutOfMemory) };
-
-    fn from(error: io::Error) -> Self {
-        match error.kind() {
-            ErrorKind::OutOfMemory => StoreFail::Memory,
-            _ => StoreFail::Failed,
-        }
-    }
-}
 
 /// What stands at a path, a symbolic link not followed.
 #[derive(Clone, Copy)]

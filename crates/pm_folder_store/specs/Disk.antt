@@ -1,10 +1,10 @@
 -- Private: what writing a path on a real folder answers.
 use Rattle.std.specs.Prelude.{◌≢◌}
 use Rattle.std.specs.Option.{option_copied}
-use Rattle.pm_store.specs.declared.disk.Condition.{Condition}
-use Rattle.pm_store.specs.declared.disk.Condition.TheVariants as conditions
-use Rattle.pm_store.specs.declared.disk.Verdict.{Verdict}
-use Rattle.pm_store.specs.declared.disk.Verdict.TheVariants as verdicts
+use Rattle.pm_folder_store.specs.declared.disk.Condition.{Condition}
+use Rattle.pm_folder_store.specs.declared.disk.Condition.TheVariants as conditions
+use Rattle.pm_folder_store.specs.declared.disk.Verdict.{Verdict}
+use Rattle.pm_folder_store.specs.declared.disk.Verdict.TheVariants as verdicts
 
 -- A condition on the content answers no other verdict, and what differs isn't the expected; one on the path names no
 -- content.

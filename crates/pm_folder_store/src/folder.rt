@@ -5,8 +5,8 @@ ghost use Rattle.std.specs.Option.{option_copied};
 ghost use Rattle.pm_base.specs.Faults.{Rose};
 
 use crate::disk::{Condition, Disk, Verdict};
-use crate::{FileStore, Made, Published, Removed, StoreFail, Swapped};
 use pm_base::{Blob, Txt};
+use pm_store::{FileStore, Made, Published, Removed, StoreFail, Swapped};
 use std::alloc::Global;
 use std::fs::File;
 use std::marker::Model;
