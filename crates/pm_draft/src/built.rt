@@ -3,8 +3,9 @@
 ghost use Rattle.pm_options.specs.Faults.{Answers, judged};
 ghost use Rattle.pm_draft.specs.Built.{unbuilt, unbuilt_producer, unbuilt_bucket, unbuilt_partition};
 
-use pm_options::{Producer, print_names, print_producer, unsupported};
+use pm_options::Producer;
 use pm_schema::TableSchema;
+use pm_settings::{print_names, print_producer, unsupported};
 use pm_values::{Refusal, Txt};
 use std::alloc::Global;
 

@@ -9,7 +9,8 @@ ghost use Rattle.pm_draft.specs.Draft.{comes_first, draft_in, draft_line, later_
 
 use crate::built::judge_built;
 use pm_input::InputLine;
-use pm_schema::{TableSchema, read_draft};
+use pm_schema::TableSchema;
+use pm_schema_file::read_draft;
 use pm_values::{Refusal, Txt, Why};
 use std::alloc::Global;
 

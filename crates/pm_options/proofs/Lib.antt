@@ -8,11 +8,7 @@ mod KindLemmas
 mod ListAgainLemmas
 pub mod LookupLemmas
 mod NamesLemmas
-mod NumberLemmas
-mod ReadLemmas
 mod SlotLemmas
 pub mod StandsLemmas
 mod TableAgainLemmas
-mod TextLemmas
-mod WriteLemmas
 pub mod WrittenLemmas

@@ -1,13 +1,6 @@
-mod AgainLemmas
-mod ColumnLemmas
-mod DeclaredLemmas
+pub mod DeclaredLemmas
 pub mod Facts
-mod FloatLemmas
 mod FolderLemmas
-mod JsonLemmas
 mod LawLemmas
-mod Lists
 mod OrderLemmas
-mod ShapeLemmas
-mod Steps
-mod WriteLemmas
+pub mod Steps

@@ -1,7 +1,5 @@
 pub mod ColumnType
 pub mod Stated
-pub mod Shape
-pub mod Parts
 pub mod Rules
 pub mod Reading
 pub mod Faults

@@ -1,7 +1,8 @@
 //! Table schemas, read and written again.
 
 use pm_case::Case;
-use pm_schema::{TableSchema, read_draft, read_schema, write_schema};
+use pm_schema::TableSchema;
+use pm_schema_file::{read_draft, read_schema, write_schema};
 use pm_values::Txt;
 
 /// The text that is written for the schema of a file at a path; or its refusal.

@@ -4,7 +4,8 @@ use crate::{folder, long_run, manifest, manifest_blocks, merge, run_file, timed_
 use pm_base::Txt;
 use pm_case::Case;
 use pm_history::primary_of;
-use pm_schema::{TableSchema, read_draft};
+use pm_schema::TableSchema;
+use pm_schema_file::read_draft;
 use pm_values::Column;
 use std::alloc::{AllocError, Global};
 

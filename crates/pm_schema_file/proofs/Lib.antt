@@ -1,0 +1,7 @@
+mod AgainLemmas
+mod ColumnLemmas
+mod FloatLemmas
+mod JsonLemmas
+mod Lists
+mod ShapeLemmas
+mod WriteLemmas

@@ -1,0 +1,7 @@
+use Rattle.std.proofs.Common.{◌≡◌, drop}
+use Rattle.std.specs.List.{list_all}
+use Rattle.pm_schema.specs.Rules.{is_among}
+use Rattle.pm_schema_file.proofs.rules.all_among.Given as goal
+
+abbrev pub invariant-loop-name : goal.invariant-loop-name
+invariant-loop-name l = list_all (is_among l.others) (drop l.name-index l.names) ≡ list_all (is_among l.others) l.names

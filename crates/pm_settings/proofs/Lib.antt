@@ -1,0 +1,4 @@
+mod NumberLemmas
+mod ReadLemmas
+mod TextLemmas
+mod WriteLemmas

@@ -1,0 +1,7 @@
+use Rattle.std.proofs.Common.{take}
+use Rattle.pm_options.specs.Fields.{delimiter_suffix}
+use Rattle.pm_options.specs.Written.{Adds, column_settings}
+use Rattle.pm_settings.proofs.write.push_delimiters.Given as goal
+
+abbrev pub invariant-loop-column : goal.invariant-loop-column
+invariant-loop-column l = Adds l.fn.out.items l.out.items (column_settings delimiter_suffix (λ text. text) (take l.column-index l.delimiters))
