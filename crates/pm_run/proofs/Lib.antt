@@ -1,18 +1,5 @@
-mod FollowLemmas
-mod ReadRowsLemmas
-mod TakingLemmas
-mod CellLemmas
-mod ValueLemmas
-mod OrderLemmas
-mod TypeLemmas
-mod JudgeLemmas
-mod LyingLemmas
-mod LoopLemmas
-mod AgainLemmas
-mod AppendLemmas
-mod RangeLemmas
+pub mod FollowLemmas
+pub mod OrderLemmas
+pub mod RangeLemmas
 mod FileRowLemmas
-mod FindLemmas
-mod OneLemmas
-mod GroupLemmas
-mod DirectLemmas
+pub mod OneLemmas

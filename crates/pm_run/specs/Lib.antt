@@ -1,15 +1,9 @@
-pub mod Finding
 pub mod Form
-pub mod Judged
 pub mod Kinds
-pub mod Lying
 pub mod Order
 pub mod Reader
 pub mod Row
-pub mod RowReader
 pub mod Rows
-pub mod Seen
 pub mod Taking
 pub mod Typed
 pub mod Writing
-pub mod Direct

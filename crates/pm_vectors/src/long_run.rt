@@ -11,7 +11,8 @@ use crate::sum::checksum;
 use crate::table::Table;
 use crate::written::{names, say_meta};
 use pm_case::Case;
-use pm_run::{RunFile, RunReader, write_run};
+use pm_run::RunFile;
+use pm_run_file::{RunReader, write_run};
 use pm_values::{Refusal, Stamped};
 use std::alloc::Global;
 

@@ -9,7 +9,8 @@ use crate::rows::{push_line, read_rows, say_key};
 use crate::run_file::say_file;
 use crate::table::Table;
 use pm_case::Case;
-use pm_run::{RunFile, write_changes, write_run};
+use pm_run::RunFile;
+use pm_run_file::{write_changes, write_run};
 use pm_values::{FileMeta, Names, Stamped};
 
 /// The session whose files are written.

@@ -10,7 +10,8 @@ ghost use Rattle.pm_write.specs.Files.{next_of, exceeds, no_sequence, AreNewFile
 ghost use Rattle.pm_write.specs.Held.{all_groups, group_rows, IsHeld};
 
 use crate::held::{HeldRows, count_from};
-use pm_run::{RunFile, write_run};
+use pm_run::RunFile;
+use pm_run_file::write_run;
 use pm_schema::TableSchema;
 use pm_values::{Blob, FileMeta, Group, Names, Refusal, Stamped, Txt};
 use std::alloc::{AllocError, Global};

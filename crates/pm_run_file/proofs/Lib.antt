@@ -1,0 +1,13 @@
+mod ReadRowsLemmas
+mod TakingLemmas
+mod CellLemmas
+mod ValueLemmas
+mod TypeLemmas
+mod JudgeLemmas
+mod LyingLemmas
+mod LoopLemmas
+mod AgainLemmas
+mod AppendLemmas
+mod FindLemmas
+mod GroupLemmas
+mod DirectLemmas
