@@ -1,11 +1,7 @@
 pub mod Facts
-mod AgainLemmas
+pub mod AgainLemmas
 mod BoundLemmas
-mod KindLemmas
-mod RecordLemmas
-mod ShapeLemmas
+pub mod ShapeLemmas
 mod IdLemmas
 mod OrderLemmas
 mod LiveLemmas
-mod ReadLemmas
-mod TakenLemmas

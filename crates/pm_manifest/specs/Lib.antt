@@ -1,11 +1,8 @@
 pub mod Entries
-pub mod FieldValues
 pub mod FileId
 pub mod Listed
 pub mod Live
 pub mod Number
-pub mod Reader
 pub mod Rows
 pub mod Shape
-pub mod Taken
 pub mod «Type»

@@ -7,33 +7,20 @@
 //!
 //! Lists and manifests are Avro files of records, of the types in `specs/Type.antt`. What a record is read as, and what
 //! is written of one, is said in `specs/Listed.antt` and `specs/Entries.antt`, and what of a table's schema it depends
-//! on in `specs/Shape.antt`. What is written is read as the same, by `write_list`, `write_manifest` and
-//! `written_entry_law`; what is read can be written, by `read_entry_law`.
+//! on in `specs/Shape.antt`. What is written is read as the same, by `written_entry_law`; what is read can be written, by
+//! `read_entry_law`. `pm_manifest_file` reads and writes the files.
 //!
 //! `fold_entries` takes about constant time an entry: it moves the entry into a hash map, and copies its id once.
 #![tactic(auto)]
 
 mod entry;
-mod field_values;
 mod file_id;
-mod kind;
 mod laws;
-mod list_reader;
-mod list_writer;
 mod live;
-mod manifest_reader;
-mod manifest_writer;
-mod number;
-mod shape;
-mod statistics;
 
 pub use entry::{Entry, ManifestMeta};
 pub use file_id::FileId;
 pub use laws::{
     id_law, joined_law, last_law, live_law, move_law, read_entry_law, written_entry_law,
 };
-pub use list_reader::read_list;
-pub use list_writer::write_list;
 pub use live::fold_entries;
-pub use manifest_reader::read_manifest;
-pub use manifest_writer::write_manifest;

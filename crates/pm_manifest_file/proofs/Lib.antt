@@ -1,0 +1,4 @@
+mod KindLemmas
+mod RecordLemmas
+mod ReadLemmas
+mod TakenLemmas
