@@ -1,6 +1,1 @@
-mod CreateLaws
 mod NothingLaws
-mod ScanLaws
-mod SnapshotLaws
-mod Uncalled
-mod WriteLaws

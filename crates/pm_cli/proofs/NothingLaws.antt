@@ -11,15 +11,15 @@ use Rattle.pm_view.specs.Trace.{at_first}
 use Rattle.pm_view.proofs.AllCallsLemmas.{read_history}
 use Rattle.pm_words.specs.declared.command.Command.{Command}
 use Rattle.pm_words.specs.declared.command.Command.TheVariants as commands
-use Rattle.pm_cli.specs.Outside.{Start, outside}
+use Rattle.pm_command.specs.Outside.{Start, outside}
 use Rattle.pm_cli.specs.Run.{Acts, Answers, ServesHistories}
-use Rattle.pm_cli.specs.Scan as scan
-use Rattle.pm_cli.specs.Snapshots as snapshots
-use Rattle.pm_cli.specs.Write.{writer_of}
-use Rattle.pm_cli.proofs.CreateLaws.{nothing_made}
-use Rattle.pm_cli.proofs.ScanLaws as scans
-use Rattle.pm_cli.proofs.SnapshotLaws as lists
-use Rattle.pm_cli.proofs.WriteLaws.{input_acts, input_refused, refused_serves}
+use Rattle.pm_command_scan.specs.Scan as scan
+use Rattle.pm_command_snapshots.specs.Snapshots as snapshots
+use Rattle.pm_command_write.specs.Write.{writer_of}
+use Rattle.pm_command_create.proofs.CreateLaws.{nothing_made}
+use Rattle.pm_command_scan.proofs.ScanLaws as scans
+use Rattle.pm_command_snapshots.proofs.SnapshotLaws as lists
+use Rattle.pm_command_write.proofs.WriteLaws.{input_acts, input_refused, refused_serves}
 
 -- no schema was read
 read_none : (store : StoreView) → HasTrace (DidRead (Err refusals.Memory)) store store

@@ -1,11 +1,11 @@
 -- What each command answers, and what it does to what the store stands for.
 use Rattle.std.specs.Prelude.{◌≡◌, ℕ, List, Option, Some}
 use Rattle.pm_values.specs.declared.refusal.Refusal.{Refusal}
-use Rattle.pm_cli.specs.Create.{AnswersCreate, ActsCreate, CreatesTables}
-use Rattle.pm_cli.specs.Outside.{Start, Outside}
-use Rattle.pm_cli.specs.Scan.{Scans, ScansTables}
-use Rattle.pm_cli.specs.Snapshots.{ListsSnapshots, ListsTables}
-use Rattle.pm_cli.specs.Write.{AnswersWrite, ActsWrite, WritesTables, writer_of}
+use Rattle.pm_command_create.specs.Create.{AnswersCreate, ActsCreate, CreatesTables}
+use Rattle.pm_command.specs.Outside.{Start, Outside}
+use Rattle.pm_command_scan.specs.Scan.{Scans, ScansTables}
+use Rattle.pm_command_snapshots.specs.Snapshots.{ListsSnapshots, ListsTables}
+use Rattle.pm_command_write.specs.Write.{AnswersWrite, ActsWrite, WritesTables, writer_of}
 use Rattle.pm_words.specs.declared.command.Command.{Command}
 use Rattle.pm_words.specs.declared.command.Command.TheVariants as commands
 

@@ -2,15 +2,15 @@
 
 ghost use Rattle.std.specs.Prelude.{◌≡◌, IfOk};
 ghost use Rattle.std.specs.Result.{result_err};
-ghost use Rattle.pm_cli.specs.Outside.{outside, start_of, AllLater, IsUntouched};
+ghost use Rattle.pm_command.specs.Outside.{outside, start_of, AllLater, IsUntouched};
 ghost use Rattle.pm_cli.specs.Run.{Acts, Answers, ServesHistories};
 ghost use Rattle.pm_words.specs.Words.{Give, GiveNoCommand, IsNoCommand};
 ghost use Rattle.pm_words.specs.declared.command.Command.{Command};
 
-use crate::create::run_create;
-use crate::scan::run_scan;
-use crate::snapshots::run_snapshots;
-use crate::write::run_write;
+use pm_command_create::run_create;
+use pm_command_scan::run_scan;
+use pm_command_snapshots::run_snapshots;
+use pm_command_write::run_write;
 use pm_io::{Sink, Source};
 use pm_store::FileStore;
 use pm_values::{Refusal, Txt};

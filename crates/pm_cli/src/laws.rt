@@ -10,9 +10,9 @@ ghost use Rattle.pm_store.specs.declared.call.Op.{Op};
 ghost use Rattle.pm_store.specs.Files.{Files, files_after};
 ghost use Rattle.pm_store.specs.Images.{CrashImage, Extends};
 ghost use Rattle.pm_store.specs.Store.{StoreView};
-ghost use Rattle.pm_cli.specs.Create.{StandsForEither};
-ghost use Rattle.pm_cli.specs.Outside.{HaveSame, Start};
-ghost use Rattle.pm_cli.specs.Write.{IsImage, Lines, MayStartAfter, Writer};
+ghost use Rattle.pm_command_create.specs.Create.{StandsForEither};
+ghost use Rattle.pm_command.specs.Outside.{HaveSame, Start};
+ghost use Rattle.pm_command_write.specs.Write.{IsImage, Lines, MayStartAfter, Writer};
 
 use pm_contents::same_law;
 

@@ -1,20 +1,13 @@
 //! The commands: `run` takes a command's words, its input and a store, and prints what it did.
 //!
-//! `pm_words` says which words give a command, `specs/Run.antt` what each answers: `specs/Create.antt` that of
-//! `create`, `specs/Scan.antt` of `scan`, `specs/Snapshots.antt` of `snapshots`, `specs/Write.antt` of `write` and, of
-//! its input, `specs/Input.antt`. What a command has to do with, and what it prints, stands in `specs/Outside.antt`.
+//! `pm_words` says which words give a command. `specs/Run.antt` puts together what each of them answers, which the
+//! crates of the commands say: `pm_command_create`, `pm_command_scan`, `pm_command_snapshots` and `pm_command_write`.
+//! What a command has to do with, and what it prints, are definitions of `pm_command`.
 #![tactic(auto)]
 
-mod create;
 mod execute;
-mod input;
 mod laws;
-mod print;
 mod running;
-mod scan;
-mod snapshots;
-mod write;
 
 pub use laws::next_command_law;
 pub use running::{Status, run};
-pub use write::Written;

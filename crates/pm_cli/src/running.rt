@@ -3,7 +3,7 @@
 ghost use Rattle.std.specs.Prelude.{◌≡◌, Some};
 ghost use Rattle.pm_io.specs.Sink.{SinkLater};
 ghost use Rattle.pm_report.specs.Report.{code_of};
-ghost use Rattle.pm_cli.specs.Outside.{outside, start_of, AllLater, IsUntouched, exit_code, Said};
+ghost use Rattle.pm_command.specs.Outside.{outside, start_of, AllLater, IsUntouched, exit_code, Said};
 ghost use Rattle.pm_cli.specs.Run.{Acts, Answers, ServesHistories};
 ghost use Rattle.pm_words.specs.Words.{Give, GiveNoCommand, IsNoCommand};
 ghost use Rattle.pm_words.specs.declared.command.Command.{Command};

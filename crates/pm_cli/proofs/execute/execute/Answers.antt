@@ -1,7 +1,7 @@
 use Rattle.std.proofs.Common.{sym}
 use Rattle.std.proofs.Math.Facts.{to_z-of_z}
 use Rattle.std.proofs.lemmas.Result.{err_from_is_err_and}
-use Rattle.pm_cli.specs.Outside.{start_of}
+use Rattle.pm_command.specs.Outside.{start_of}
 use Rattle.pm_cli.proofs.NothingLaws.{nothing_answers, nothing_acts, nothing_serves}
 use Rattle.pm_cli.proofs.execute.execute.Goals as goal
 

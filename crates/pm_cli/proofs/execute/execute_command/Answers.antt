@@ -1,9 +1,9 @@
 use Rattle.std.proofs.Common.{refl}
 use Rattle.std.proofs.Math.Facts.{to_z-of_z}
 use Rattle.std.specs.Result.{result_err}
-use Rattle.pm_cli.specs.Outside.{outside}
-use Rattle.pm_cli.proofs.ScanLaws.{scanned_serves}
-use Rattle.pm_cli.proofs.SnapshotLaws.{listed_answers, listed_serves}
+use Rattle.pm_command.specs.Outside.{outside}
+use Rattle.pm_command_scan.proofs.ScanLaws.{scanned_serves}
+use Rattle.pm_command_snapshots.proofs.SnapshotLaws.{listed_answers, listed_serves}
 use Rattle.pm_cli.proofs.execute.execute_command.Goals as goal
 
 pub returns-in-Create-clause-command : goal.returns-in-Create-clause-command

@@ -1,9 +1,9 @@
 use Rattle.pm_folder.specs.Folder.{Folder}
-use Rattle.pm_cli.specs.Create.{StandsForEither}
-use Rattle.pm_cli.specs.Outside.{HaveSame}
-use Rattle.pm_cli.specs.Write.{IsImage, MayStartAfter}
-use Rattle.pm_cli.proofs.Uncalled.{next_stands}
-use Rattle.pm_cli.proofs.WriteLaws.{same_starts}
+use Rattle.pm_command_create.specs.Create.{StandsForEither}
+use Rattle.pm_command.specs.Outside.{HaveSame}
+use Rattle.pm_command_write.specs.Write.{IsImage, MayStartAfter}
+use Rattle.pm_command.proofs.Uncalled.{next_stands}
+use Rattle.pm_command_write.proofs.WriteLaws.{same_starts}
 use Rattle.pm_cli.proofs.laws.next_command_law.Goals as goal
 
 pub returns-clause-create : goal.returns-clause-create

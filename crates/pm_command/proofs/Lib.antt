@@ -1,0 +1,2 @@
+pub mod Uncalled
+pub mod TableLemmas

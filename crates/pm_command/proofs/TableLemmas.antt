@@ -1,0 +1,106 @@
+-- Facts on files that stay, and on why a table is refused, for all commands.
+use Rattle.std.proofs.Common.{codes, decimal, ◌≡◌, ◌⊎◌, inl, inr, ℕ, ◌==◌, List, [], ◌∷◌, if◌then◌else◌, Bool, true, false, Option, None, Some, IfSome, IsSomeAnd, refl, sym, subst}
+use Rattle.std.specs.Option.{option_or}
+use Rattle.pm_values.specs.declared.refusal.Refusal.{Refusal}
+use Rattle.pm_values.specs.declared.refusal.Refusal.TheVariants as refusals
+use Rattle.pm_store.specs.declared.call.Op.{Op}
+use Rattle.pm_store.specs.Files.{Files, files_after}
+use Rattle.pm_store.specs.Images.{Extends}
+use Rattle.pm_store.specs.Store.{StoreView}
+use Rattle.pm_store.proofs.ImageLaws.{Extends-weaker}
+use Rattle.pm_machine.specs.Trace.{Event, HasTrace}
+use Rattle.pm_history.specs.History.{History, IsTableOf}
+use Rattle.pm_options.specs.declared.kinds.Producer.{Producer}
+use Rattle.pm_options.specs.declared.kinds.Producer.TheVariants as producers
+use Rattle.pm_schema.specs.declared.schema.TableSchema.{TableSchema}
+use Rattle.pm_folder.specs.Folder.{Folder}
+use Rattle.pm_create.specs.Making.{LeavesFiles}
+use Rattle.pm_view.specs.AllCalls.{HasFiles, IsCaused}
+use Rattle.pm_draft.specs.Built.{unbuilt, unbuilt_producer, unbuilt_bucket, unbuilt_partition}
+use Rattle.pm_command.specs.Outside.{HaveSame, ImagesRest, Rests}
+use Rattle.pm_command.specs.Table.{MayRefuse}
+
+pub trace_weaker : (P Q : List Event → Type 0) → ((own : List Event) → P own → Q own) → (before after : StoreView) → HasTrace P before after → HasTrace Q before after
+trace_weaker P Q weaker before after (own, did, traces) = (own, weaker own did, traces)
+
+-- ---- files that stay
+
+pub files_of : (P : Files → Type 0) (store : StoreView) → LeavesFiles P store → (f : Files) × HasFiles f store × P f
+files_of P store = at_ops store.ops
+  where
+    at_ops : (ops : Option (List Op)) → IsSomeAnd ops (λ ops. P (files_after ops)) → (f : Files) × IsSomeAnd ops (λ ops. files_after ops ≡ f) × P f
+    at_ops None is = absurd is
+    at_ops (Some ops) is = (files_after ops, refl, is)
+
+pub leaves_of : (P : Files → Type 0) (f : Files) (store : StoreView) → HasFiles f store → P f → LeavesFiles P store
+leaves_of P f store = at_ops store.ops
+  where
+    at_ops : (ops : Option (List Op)) → IsSomeAnd ops (λ ops. files_after ops ≡ f) → P f → IsSomeAnd ops (λ ops. P (files_after ops))
+    at_ops None is p = is
+    at_ops (Some ops) is p = subst P (sym is) p
+
+pub images_of : (P : Files → Type 0) (f : Files) (first after : Option (List Op)) → Extends (λ image. image ≡ f) first after → P f → Extends P first after
+images_of P f first after images p = Extends-weaker (λ image. image ≡ f) P first after (λ image is. subst P (sym is) p) images
+
+-- files that stay are the same as at first
+pub rests_of : (h : History) (f : Files) (first after : StoreView) → HasFiles f first → HasFiles f after → Folder f h → Rests h first after
+rests_of h f first after was is folder = record {
+  folder = leaves_of (λ f. Folder f h) f after is folder;
+  same = leaves_of (λ g. LeavesFiles (HaveSame g) after) f first was (leaves_of (HaveSame f) f after is (λ path. refl));
+}
+
+-- and so are they in each image of a crash
+pub images_rest : (h : History) (f : Files) (first after : StoreView) → HasFiles f first → Folder f h → Extends (λ image. image ≡ f) first.ops after.ops
+    → ImagesRest h first after
+images_rest h f first after has folder images =
+    leaves_of (λ f. Extends (λ g. Folder g h × HaveSame f g) first.ops after.ops) f first has
+    (images_of (λ g. Folder g h × HaveSame f g) f first.ops after.ops images (folder, λ path. refl))
+
+-- ---- what a history may be refused for
+
+pub caused : (h : History) (first after : StoreView) (e : Refusal) → IsCaused h first after e → MayRefuse h first after e
+caused h first after refusals.Memory is = tt
+caused h first after refusals.NoTable is = is
+caused h first after (refusals.StoreFault path) is = is
+caused h first after e is = absurd is
+
+-- what isn't built is a text that isn't supported
+abbrev IsText : Refusal → Type 0
+IsText (refusals.Unsupported what text) = Unit {0}
+IsText other = ⊥
+
+or_text : (o p : Option Refusal) → IfSome o IsText → IfSome p IsText → IfSome (option_or o p) IsText
+or_text None p first next = next
+or_text (Some e) p first next = first
+
+producer_text : (producer : Producer) → IfSome (unbuilt_producer producer) IsText
+producer_text producers.None = tt
+producer_text other = tt
+
+bucket_text : (n : ℕ) → IfSome (unbuilt_bucket n) IsText
+bucket_text n = by (n == 1)
+  where
+    by : (one : Bool) → IfSome (if one then None else Some (refusals.Unsupported (codes "bucket") (decimal n))) IsText
+    by true = tt
+    by false = tt
+
+partition_text : (names : List (List ℕ)) → IfSome (unbuilt_partition names) IsText
+partition_text [] = tt
+partition_text (name ∷ names) = tt
+
+unbuilt_text : (s : TableSchema) → IfSome (unbuilt s) IsText
+unbuilt_text s =
+    or_text (unbuilt_producer s.options.producer) _ (producer_text s.options.producer)
+    (or_text (unbuilt_bucket s.options.bucket) (unbuilt_partition s.partition) (bucket_text s.options.bucket) (partition_text s.partition))
+
+unbuilt_caused : (h : History) (first after : StoreView) (s : TableSchema) (e : Refusal) → IsTableOf s h → unbuilt s ≡ Some e → MayRefuse h first after e
+unbuilt_caused h first after s e is why = at_refusal e why (subst (λ (o : Option Refusal). IfSome o IsText) why (unbuilt_text s))
+  where
+    at_refusal : (e : Refusal) → unbuilt s ≡ Some e → IsText e → MayRefuse h first after e
+    at_refusal (refusals.Unsupported what text) why text_is = (s, is, why)
+    at_refusal other why text_is = absurd text_is
+
+pub judged_caused : (h : History) (first after : StoreView) (s : TableSchema) (e : Refusal) → IsTableOf s h
+    → (e ≡ refusals.Memory) ⊎ (unbuilt s ≡ Some e) → MayRefuse h first after e
+judged_caused h first after s e is (inl memory) = subst (MayRefuse h first after) (sym memory) tt
+judged_caused h first after s e is (inr why) = unbuilt_caused h first after s e is why

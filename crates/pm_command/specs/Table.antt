@@ -1,0 +1,26 @@
+-- Why a command refuses a table before it does anything of its own.
+use Rattle.std.specs.Prelude.{◌≡◌, ◌⊎◌, List, Some}
+use Rattle.pm_base.specs.Faults.{Rose}
+use Rattle.pm_values.specs.declared.refusal.Refusal.{Refusal}
+use Rattle.pm_values.specs.declared.refusal.Refusal.TheVariants as refusals
+use Rattle.pm_store.specs.Store.{StoreView}
+use Rattle.pm_machine.specs.Trace.{Event}
+use Rattle.pm_history.specs.History.{History, IsTableOf, no_table}
+use Rattle.pm_schema.specs.declared.schema.TableSchema.{TableSchema}
+use Rattle.pm_view.specs.Trace as reader
+use Rattle.pm_view.specs.declared.phase.Phase.TheVariants as readers
+use Rattle.pm_draft.specs.Built.{unbuilt}
+
+-- they end with the schema, which isn't built, or memory ran out for saying so
+abbrev pub EndsAtSchema : Refusal → List Event → Type 0
+EndsAtSchema e own = (s : TableSchema) × ((e ≡ refusals.Memory) ⊎ (unbuilt s ≡ Some e)) × reader.Did (readers.Ready s) own
+
+-- What a history may be refused for: there is no table, or none that is built; a fault of the store was counted; or
+-- memory ran out.
+abbrev pub MayRefuse : History → StoreView → StoreView → Refusal → Type 0
+MayRefuse h first after refusals.Memory = Unit {0}
+MayRefuse h first after refusals.NoTable = h ≡ no_table
+MayRefuse h first after (refusals.Unsupported what text) =
+    (s : TableSchema) × IsTableOf s h × (unbuilt s ≡ Some (refusals.Unsupported what text))
+MayRefuse h first after (refusals.StoreFault path) = Rose first.faults after.faults
+MayRefuse h first after other = ⊥

@@ -1,0 +1,9 @@
+//! What all commands share: what a command has to do with and what it prints (`specs/Outside.antt`), and why it refuses
+//! a table before it does anything of its own (`specs/Table.antt`).
+#![tactic(auto)]
+
+mod judging;
+mod printing;
+
+pub use judging::judge;
+pub use printing::print;

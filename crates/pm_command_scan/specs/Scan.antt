@@ -1,0 +1,126 @@
+-- What the command `scan` answers, what it prints, and that it leaves a folder as it is.
+use Rattle.std.specs.Prelude.{◌≡◌, ◌⊎◌, ℕ, ◌<◌, ◌≤◌, List, [], length, Option, None, Some, IsSome, Result, Ok, Err}
+use Rattle.std.specs.FinMap as map
+use Rattle.std.specs.Result.{result_err}
+use Rattle.pm_base.specs.Known.{and_then}
+use Rattle.pm_values.specs.declared.refusal.Refusal.{Refusal}
+use Rattle.pm_values.specs.declared.refusal.Refusal.TheVariants as refusals
+use Rattle.pm_io.specs.Sink.{SinkView, SinkFailed, TookPrefix}
+use Rattle.pm_store.specs.Answers.{IsFirst}
+use Rattle.pm_store.specs.Store.{StoreView, IsAlone}
+use Rattle.pm_machine.specs.Trace.{Event, HasTrace}
+use Rattle.pm_history.specs.History.{History, IsTableOf, no_table, table, rows_up_to}
+use Rattle.pm_history.specs.Merged.{scan_text}
+use Rattle.pm_schema.specs.declared.schema.TableSchema.{TableSchema}
+use Rattle.pm_folder.specs.Folder.{Folder}
+use Rattle.pm_folder.specs.Ledger.{count_of}
+use Rattle.pm_create.specs.Making.{LeavesFiles}
+use Rattle.pm_view.specs.Reader.{schemas_call}
+use Rattle.pm_view.specs.Trace as reader
+use Rattle.pm_draft.specs.Built.{IsBuilt}
+use Rattle.pm_scan.specs.AllCalls as scanner
+use Rattle.pm_scan.specs.AllCalls.{id_of, path_of, PrintsScan}
+use Rattle.pm_command.specs.Outside.{ImagesRest, Outside, Prints, Rests}
+use Rattle.pm_command.specs.Table as tables
+use Rattle.pm_command.specs.Table.{EndsAtSchema}
+
+-- they go on from the schema, which is built, and are those of a scan with this answer
+abbrev pub GoesOnAs : Option ℕ → Result (List ℕ) Refusal → List Event → Type 0
+GoesOnAs at made own = (s : TableSchema) × IsBuilt s × scanner.DidScan s at made own
+
+-- Its calls of the store, by what it made: the text of the scan of a table that is built, at the snapshot; or they show
+-- why no schema was read, or end with the schema, or later.
+abbrev pub DidScan : Option ℕ → Result (List ℕ) Refusal → List Event → Type 0
+DidScan at (Ok text) own = GoesOnAs at (Ok text) own
+DidScan at (Err e) own = reader.Shows e own ⊎ (EndsAtSchema e own ⊎ GoesOnAs at (Err e) own)
+
+-- the text of what it made
+abbrev pub text_of : Result (List ℕ) Refusal → List ℕ
+text_of (Ok text) = text
+text_of (Err e) = []
+
+-- what `scan` answers, where it is asked for the newest snapshot or for the one with an id
+abbrev pub Scans : Option ℕ → Outside → Outside → Option Refusal → Type 0
+Scans at before after answer =
+    (made : Result (List ℕ) Refusal) × HasTrace (DidScan at made) before.store after.store
+    × Prints (text_of made) None (result_err made) before.out after.out answer
+
+-- ---- a history that stands at its first call, where nobody else acts from then on
+
+-- the file of a table's snapshot has gone
+abbrev pub HasGone : History → ℕ → StoreView → Type 0
+HasGone h id first = (s : TableSchema) × IsTableOf s h × LeavesFiles (λ f. map.get f (path_of s id) ≡ None) first
+
+-- the snapshot is one of the history's, and its file is there
+abbrev pub IsThere : History → ℕ → StoreView → Type 0
+IsThere h id first = (id ≤ count_of h)
+    × ((s : TableSchema) × IsTableOf s h × LeavesFiles (λ f. IsSome (map.get f (path_of s id))) first)
+
+-- What a history may be refused for: the snapshot that is asked for is above the newest, or has gone; or what a listing
+-- may be refused for.
+abbrev pub MayRefuse : History → Option ℕ → StoreView → StoreView → Refusal → Type 0
+MayRefuse h at first after (refusals.NoSnapshot id latest) = (at ≡ Some id) × (latest ≡ count_of h) × (latest < id)
+MayRefuse h at first after (refusals.Expired id) = (at ≡ Some id) × (id ≤ count_of h) × HasGone h id first
+MayRefuse h at first after other = tables.MayRefuse h first after other
+
+-- the scan of the history's table was printed, at the newest snapshot or at the one that is asked for
+abbrev pub PrintsTable : History → Option ℕ → SinkView → SinkView → Type 0
+PrintsTable no_table at before after = ⊥
+PrintsTable (table s entries) at before after =
+    after.taken ≡ and_then before.taken (scan_text s (rows_up_to entries (id_of at (length entries))))
+
+-- a prefix of it was
+abbrev pub PrintsPrefix : History → Option ℕ → SinkView → SinkView → Type 0
+PrintsPrefix no_table at before after = ⊥
+PrintsPrefix (table s entries) at before after =
+    TookPrefix before.taken after.taken (scan_text s (rows_up_to entries (id_of at (length entries))))
+
+-- The answer to a history: exactly the scan of its table was printed, at a snapshot that is there; or a prefix of it,
+-- where the sink failed; or what it may be refused for.
+abbrev pub AnswersHistory : History → Option ℕ → StoreView → Outside → Outside → Option Refusal → Type 0
+AnswersHistory h at first before after None =
+    IsThere h (id_of at (count_of h)) first × PrintsTable h at before.out after.out
+AnswersHistory h at first before after (Some (refusals.SinkFault snapshot)) =
+    SinkFailed before.out after.out × IsThere h (id_of at (count_of h)) first
+    × PrintsPrefix h at before.out after.out
+AnswersHistory h at first before after (Some e) = MayRefuse h at first after.store e
+
+-- what `scan` does to a history: the folder goes on to stand for it, unchanged, and each image does
+pub record ScansTable (h : History) (at : Option ℕ) (first : StoreView) (before after : Outside)
+    (answer : Option Refusal) : Type 0 where
+  pub answers : AnswersHistory h at first before after answer
+  pub rests : Rests h first after.store
+  pub images : ImagesRest h first after.store
+
+-- what it promises of histories, from its first call of the store on
+abbrev pub ScansTables : Option ℕ → Outside → Outside → Option Refusal → Type 0
+ScansTables at before after answer =
+    (first : StoreView) × IsFirst schemas_call before.store first after.store
+    × (IsAlone first after.store → (h : History) → LeavesFiles (λ f. Folder f h) first
+    → ScansTable h at first before after answer)
+
+-- ---- before anything is printed
+
+-- Private: what was made of a history
+abbrev pub MakesText : History → Option ℕ → StoreView → StoreView → Result (List ℕ) Refusal → Type 0
+MakesText h at first after (Ok text) = IsThere h (id_of at (count_of h)) first × PrintsScan h at text
+MakesText h at first after (Err e) = MayRefuse h at first after e
+
+-- Private: what the calls of `scan` do to a history
+pub record Keeps (h : History) (at : Option ℕ) (first after : StoreView) (made : Result (List ℕ) Refusal)
+    : Type 0 where
+  pub makes : MakesText h at first after made
+  pub rests : Rests h first after
+  pub images : ImagesRest h first after
+
+-- Private: and to histories
+abbrev pub KeepsHistories : Option ℕ → StoreView → StoreView → Result (List ℕ) Refusal → Type 0
+KeepsHistories at before after made =
+    (first : StoreView) × IsFirst schemas_call before first after
+    × (IsAlone first after → (h : History) → LeavesFiles (λ f. Folder f h) first → Keeps h at first after made)
+
+-- Private: the calls of `scan`, what they do to histories, and what was printed
+abbrev pub IsScanned : Option ℕ → SinkView → SinkView → StoreView → StoreView → Option Refusal → Type 0
+IsScanned at out out_after store store_after answer =
+    (made : Result (List ℕ) Refusal) × HasTrace (DidScan at made) store store_after
+    × KeepsHistories at store store_after made × Prints (text_of made) None (result_err made) out out_after answer

@@ -1,0 +1,173 @@
+-- Laws of `snapshots`: what is so of its calls, and of a history.
+use Rattle.std.proofs.Common.{◌≡◌, ◌≢◌, ◌⊎◌, inl, inr, ℕ, List, [], ◌∷◌, map, Option, None, Some, Result, Ok, Err, refl, sym, subst, ◌++◌, ◌≤◌, length, ap, append_assoc, arith, ◌∙◌}
+use Rattle.std.proofs.lemmas.List.{take_all}
+use Rattle.std.specs.Result.{result_err}
+use Rattle.pm_values.specs.declared.refusal.Refusal.{Refusal}
+use Rattle.pm_values.specs.declared.refusal.Refusal.TheVariants as refusals
+use Rattle.pm_io.specs.Sink.{SinkView}
+use Rattle.pm_store.specs.Files.{Files}
+use Rattle.pm_store.specs.Store.{StoreView}
+use Rattle.pm_machine.specs.Trace.{Event, HasTrace}
+use Rattle.pm_history.specs.History.{History, IsTableOf, no_table}
+use Rattle.pm_schema.specs.declared.schema.TableSchema.{TableSchema}
+use Rattle.pm_folder.specs.Folder.{Folder}
+use Rattle.pm_view.specs.AllCalls.{DidRead, HasFiles, Stay, ReadsTables}
+use Rattle.pm_view.specs.Trace.{listed_snapshots}
+use Rattle.pm_draft.specs.Built.{IsBuilt, unbuilt}
+use Rattle.pm_snapshots.specs.AllCalls as lister
+use Rattle.pm_snapshots.specs.AllCalls.{AreLinesOf, GoesOnFrom}
+use Rattle.pm_snapshots.specs.Lister.{lines_of}
+use Rattle.pm_snapshots.specs.Reading.{IsReading, reading_of}
+use Rattle.pm_snapshots.specs.Trace.{HasListed, HasRead, at_read}
+use Rattle.pm_snapshots.specs.declared.line.SnapshotLine.{SnapshotLine}
+use Rattle.pm_snapshots.specs.declared.phase.Phase.{Phase}
+use Rattle.pm_command.specs.Outside.{Outside, Prints}
+use Rattle.pm_command.specs.Table.{MayRefuse}
+use Rattle.pm_command.proofs.TableLemmas.{trace_weaker, files_of, leaves_of, rests_of, images_rest, caused, judged_caused}
+use Rattle.pm_command_snapshots.specs.Snapshots.{DidSnapshots, text_of, ListsSnapshots, AnswersHistory, ListsTables, made_of, MakesLines, Keeps, KeepsHistories, IsListed}
+
+-- ---- its calls
+
+pub read_refused : (e : Refusal) (before after : StoreView) → HasTrace (DidRead (Err e)) before after → HasTrace (DidSnapshots (made_of (Err e))) before after
+read_refused e before after = trace_weaker (DidRead (Err e)) (DidSnapshots (Err e)) (λ own shows. inl shows) before after
+
+-- the schema isn't built, or memory ran out for saying so
+pub judge_refused : (s : TableSchema) (e : Refusal) (before after : StoreView) → (e ≡ refusals.Memory) ⊎ (unbuilt s ≡ Some e)
+    → HasTrace (DidRead (Ok s)) before after → HasTrace (DidSnapshots (made_of (Err e))) before after
+judge_refused s e before after why = trace_weaker (DidRead (Ok s)) (DidSnapshots (Err e)) (λ own has. inr (inl (s, why, has))) before after
+
+pub listed_trace : (s : TableSchema) (result : Result Phase Refusal) (before after : StoreView) → IsBuilt s
+    → HasTrace (lister.DidList s result) before after → HasTrace (DidSnapshots (made_of result)) before after
+listed_trace s (Ok m) before after built = trace_weaker (lister.DidList s (Ok m)) (DidSnapshots (Ok (lines_of m))) (λ own listed. (s, built, listed)) before after
+listed_trace s (Err e) before after built = trace_weaker (lister.DidList s (Err e)) (DidSnapshots (Err e)) (λ own (from, shows). inr (inr (s, built, from, shows))) before after
+
+-- the lines were read, and the calls go on from the schema
+abbrev ids_of : List SnapshotLine → List ℕ
+ids_of lines = map (λ l. l.id) lines
+
+all_read : (s : TableSchema) (lines : List SnapshotLine) → IsReading (reading_of s (ids_of lines) lines)
+all_read s lines = sym (take_all (length lines) (ids_of lines) (at_most lines))
+  where
+    at_most : (lines : List SnapshotLine) → length (ids_of lines) ≤ length lines
+    at_most [] = omega arith
+    at_most (l ∷ lines) = let more = at_most lines in omega (arith, more)
+
+listed_reading : (s : TableSchema) (lines : List SnapshotLine) (own : List Event) → HasListed s lines own → HasRead (reading_of s (ids_of lines) lines) own
+listed_reading s lines own (names, earlier, reads, are, lists, all, is) = (names, earlier, reads, are, all_read s lines, lists, all, is)
+
+listed_from : (s : TableSchema) (lines : List SnapshotLine) (own : List Event) → HasListed s lines own → GoesOnFrom s own
+listed_from s lines own (names, earlier, reads, are, (before, has, listed), all, is) = (
+  before,
+  listed_snapshots names ∷ reads,
+  has,
+  is ∙ ap (λ (own : List Event). own ++ reads) listed ∙ append_assoc before (listed_snapshots names ∷ []) reads,
+)
+
+-- memory may run out for the text
+memory_trace : (lines : List SnapshotLine) (before after : StoreView) → HasTrace (DidSnapshots (Ok lines)) before after → HasTrace (DidSnapshots (Err refusals.Memory)) before after
+memory_trace lines before after =
+    trace_weaker (DidSnapshots (Ok lines)) (DidSnapshots (Err refusals.Memory))
+    (λ own (s, built, listed). inr (inr (s, built, listed_from s lines own listed, at_read (reading_of s (ids_of lines) lines) (listed_reading s lines own listed))))
+    before after
+
+-- and go on to stand for a history
+keeps : (h : History) (f : Files) (first after : StoreView) (made : Result (List SnapshotLine) Refusal) → HasFiles f first → Folder f h → Stay f first after
+    → MakesLines h first after made → Keeps h first after made
+keeps h f first after made has folder stay makes = record {
+  makes = makes;
+  rests = rests_of h f first after has stay.here folder;
+  images = images_rest h f first after has folder stay.images;
+}
+
+a_table : (s : TableSchema) (h : History) → IsTableOf s h → h ≢ no_table
+a_table s h is none = subst (IsTableOf s) none is
+
+-- ---- what its calls do to histories
+
+pub read_keeps : (e : Refusal) (before after : StoreView) → ReadsTables before after (Err e) → KeepsHistories before after (made_of (Err e))
+read_keeps e before after (first, is_first, reads) = (
+  first,
+  is_first,
+  λ alone h stands.
+      let at = files_of (λ f. Folder f h) first stands in
+      let read = reads alone at.0 h at.1 at.2 in
+      keeps h at.0 first after (Err e) at.1 at.2 read.files (caused h first after e read.cause),
+)
+
+pub judge_keeps : (s : TableSchema) (e : Refusal) (before after : StoreView) → (e ≡ refusals.Memory) ⊎ (unbuilt s ≡ Some e)
+    → ReadsTables before after (Ok s) → KeepsHistories before after (made_of (Err e))
+judge_keeps s e before after why (first, is_first, reads) = (
+  first,
+  is_first,
+  λ alone h stands.
+      let at = files_of (λ f. Folder f h) first stands in
+      let read = reads alone at.0 h at.1 at.2 in
+      keeps h at.0 first after (Err e) at.1 at.2 read.files (judged_caused h first after s e read.schema why),
+)
+
+listed_makes : (f : Files) (h : History) (s : TableSchema) (first after : StoreView) (result : Result Phase Refusal) → HasFiles f first
+    → lister.ListsTable f h s first after result → MakesLines h first after (made_of result)
+listed_makes f h s first after (Ok m) has lists = (a_table s h lists.schema, leaves_of (λ f. AreLinesOf f (lines_of m)) f first has lists.lines)
+listed_makes f h s first after (Err e) has lists = caused h first after e lists.cause
+
+pub listed_keeps : (s : TableSchema) (result : Result Phase Refusal) (before after : StoreView) → lister.ListsTables s before after result
+    → KeepsHistories before after (made_of result)
+listed_keeps s result before after (first, is_first, lists) = (
+  first,
+  is_first,
+  λ alone h stands.
+      let at = files_of (λ f. Folder f h) first stands in
+      let list = lists alone at.0 h at.1 at.2 in
+      keeps h at.0 first after (made_of result) at.1 at.2 list.files (listed_makes at.0 h s first after result at.1 list),
+)
+
+memory_keeps : (lines : List SnapshotLine) (before after : StoreView) → KeepsHistories before after (Ok lines) → KeepsHistories before after (Err refusals.Memory)
+memory_keeps lines before after (first, is_first, kept) = (
+  first,
+  is_first,
+  λ alone h stands. let was = kept alone h stands in record { makes = tt; rests = was.rests; images = was.images },
+)
+
+-- ---- and what was printed
+
+pub refused_listed : (e : Refusal) (out : SinkView) (store after : StoreView) → HasTrace (DidSnapshots (made_of (Err e))) store after
+    → KeepsHistories store after (made_of (Err e)) → IsListed out out store after (Some e)
+refused_listed e out store after trace kept = (Err e, trace, kept, (refl, refl))
+
+pub memory_listed : (m : Phase) (out : SinkView) (store after : StoreView) → HasTrace (DidSnapshots (made_of (Ok m))) store after
+    → KeepsHistories store after (made_of (Ok m)) → IsListed out out store after (Some refusals.Memory)
+memory_listed m out store after trace kept =
+    (Err refusals.Memory, memory_trace (lines_of m) store after trace, memory_keeps (lines_of m) store after kept, (refl, refl))
+
+pub printed_listed : (m : Phase) (text : List ℕ) (out out_after : SinkView) (store after : StoreView) (answer : Option Refusal) → text ≡ text_of (made_of (Ok m))
+    → HasTrace (DidSnapshots (made_of (Ok m))) store after → KeepsHistories store after (made_of (Ok m)) → Prints text None None out out_after answer
+    → IsListed out out_after store after answer
+printed_listed m text out out_after store after answer is trace kept prints =
+    (Ok (lines_of m), trace, kept, subst (λ (text : List ℕ). Prints text None None out out_after answer) is prints)
+
+pub listed_answers : (before after : Outside) (answer : Option Refusal) → IsListed before.out after.out before.store after.store answer → ListsSnapshots before after answer
+listed_answers before after answer (made, trace, kept, prints) = (made, trace, prints)
+
+refusal_answers : (h : History) (first : StoreView) (before after : Outside) (e : Refusal) → MayRefuse h first after.store e → AnswersHistory h first before after (Some e)
+refusal_answers h first before after (refusals.SinkFault snapshot) may = absurd may
+refusal_answers h first before after e may = may
+
+made_answers : (h : History) (first : StoreView) (before after : Outside) (made : Result (List SnapshotLine) Refusal) (answer : Option Refusal)
+    → MakesLines h first after.store made → Prints (text_of made) None (result_err made) before.out after.out answer → AnswersHistory h first before after answer
+made_answers h first before after (Ok lines) None (some, at) prints = (some, (lines, at, prints))
+made_answers h first before after (Ok lines) (Some e) (some, at) (fault, failed, prefix) =
+    subst (λ (e : Refusal). AnswersHistory h first before after (Some e)) (sym fault) (failed, some, (lines, at, prefix))
+made_answers h first before after (Err e) answer makes (is, untaken) =
+    subst (AnswersHistory h first before after) (sym is) (refusal_answers h first before after e makes)
+
+pub listed_serves : (before after : Outside) (answer : Option Refusal) → IsListed before.out after.out before.store after.store answer → ListsTables before after answer
+listed_serves before after answer (made, trace, (first, is_first, kept), prints) = (
+  first,
+  is_first,
+  λ alone h stands.
+      let was = kept alone h stands in record {
+        answers = made_answers h first before after made answer was.makes prints;
+        rests = was.rests;
+        images = was.images;
+      },
+)

@@ -1,0 +1,45 @@
+//! The command `snapshots`: list the snapshots of a table.
+
+ghost use Rattle.std.specs.Prelude.{IfOk};
+ghost use Rattle.std.specs.Result.{result_err};
+ghost use Rattle.pm_io.specs.Sink.{SinkLater};
+ghost use Rattle.pm_machine.specs.Trace.{HasTrace};
+ghost use Rattle.pm_snapshots.specs.Lister.{IsDone};
+ghost use Rattle.pm_store.specs.Store.{IsLater};
+ghost use Rattle.pm_command_snapshots.specs.Snapshots.{made_of, DidSnapshots, IsListed, KeepsHistories};
+
+use pm_command::{judge, print};
+use pm_io::Sink;
+use pm_snapshots::{Lister, list_snapshots};
+use pm_store::FileStore;
+use pm_values::Refusal;
+use pm_view::read_table_schema;
+use std::alloc::Global;
+
+/// Lists the snapshots of a table, and prints a line for each.
+pub fn run_snapshots<W: Sink, F: FileStore>(
+    alloc: Global,
+    out: &mut W,
+    store: &mut F,
+) -> Result<(), Refusal>
+    ensures listed { IsListed (W.seen out.old) (W.seen out.new) (F.seen store.old) (F.seen store.new)
+        (result_err result) }
+    ensures out_later { SinkLater (W.seen out.old) (W.seen out.new) }
+    ensures store_later { IsLater (F.seen store.old) (F.seen store.new) }
+{
+    let lister = list_built(alloc, store)?;
+    let text = lister.text(alloc)?;
+    print(out, &text, None)
+}
+
+/// Lists the snapshots of a table that is built.
+fn list_built<F: FileStore>(alloc: Global, store: &mut F) -> Result<Lister, Refusal>
+    ensures done { IfOk result IsDone }
+    ensures trace { HasTrace (DidSnapshots (made_of result)) (F.seen store.old) (F.seen store.new) }
+    ensures history { KeepsHistories (F.seen store.old) (F.seen store.new) (made_of result) }
+    ensures later { IsLater (F.seen store.old) (F.seen store.new) }
+{
+    let schema = read_table_schema(alloc, store)?;
+    judge(alloc, &schema)?;
+    list_snapshots(alloc, schema, store)
+}

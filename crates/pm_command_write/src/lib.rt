@@ -1,0 +1,10 @@
+//! The command `write`: append rows to a table.
+//!
+//! `specs/Write.antt` says what it answers, what it prints, and what it leaves of a history; `specs/Input.antt` how its
+//! input is read.
+#![tactic(auto)]
+
+mod input;
+mod write;
+
+pub use write::{Written, run_write};

@@ -1,0 +1,252 @@
+//! The command `write`: append the rows of the input to the table as one commit.
+
+ghost use Rattle.std.specs.Prelude.{◌≡◌, ◌≢◌, ℕ, ◌<◌, ◌++◌, List, [], length, map, All, IfOk, OnOk, None, Some, Ok, codes};
+ghost use Rattle.std.specs.Prelude.{decimal};
+ghost use Rattle.std.specs.Result.{result_err};
+ghost use Rattle.pm_base.specs.Newline.{line};
+ghost use Rattle.pm_commit.specs.declared.phase.Phase.TheVariants as phases;
+ghost use Rattle.pm_create.specs.Creator.{actor_of};
+ghost use Rattle.pm_draft.specs.Built.{IsBuilt};
+ghost use Rattle.pm_history.specs.Merge.{HistoryRow};
+ghost use Rattle.pm_input.specs.Lines.{line_view};
+ghost use Rattle.pm_io.specs.Sink.{SinkLater};
+ghost use Rattle.pm_machine.specs.Trace.{HasTrace};
+ghost use Rattle.pm_schema.specs.Again.{IsDeclared};
+ghost use Rattle.pm_snapshot.specs.Names.{MayName};
+ghost use Rattle.pm_store.specs.Store.{IsLater};
+ghost use Rattle.pm_values.specs.Names.{naming};
+ghost use Rattle.pm_write.specs.Batch.{IsBatchOf, ReadsBatch};
+ghost use Rattle.pm_write.specs.Taken.{all_taken};
+ghost use Rattle.pm_command.specs.Outside.{outside, start_of, AllLater, Prints};
+ghost use Rattle.pm_command_write.specs.Write.{writer_of, AnswersWrite, ActsWrite, WritesTables};
+ghost use Rattle.pm_command_write.specs.Write.{commit_of, identifier_of, user_of, DidWrite, IsWritten, KeepsHistories};
+ghost use Rattle.pm_command_write.specs.Write.{snapshot_of, text_of};
+
+use crate::input::read_input;
+use itoa::Buffer;
+use pm_base::Txt;
+use pm_command::{judge, print};
+use pm_commit::{Appended, Committer, append_rows};
+use pm_engines::{TableEngine, declared_law};
+use pm_input::InputLine;
+use pm_io::{Sink, Source};
+use pm_rows::fit_law;
+use pm_schema::TableSchema;
+use pm_store::FileStore;
+use pm_values::{Names, Refusal};
+use pm_view::read_table_schema;
+use pm_write::{Batch, batch_law};
+use std::alloc::{AllocError, Global};
+use uuid::Uuid;
+
+/// The greatest identifier of a commit.
+const GREATEST_IDENTIFIER: u64 = 9223372036854775807;
+
+/// What became of the rows of an input: there were none, the user had committed them before, or the snapshot with that
+/// id was committed.
+#[derive(Clone, Copy)]
+pub enum Written {
+    Nothing,
+    Already,
+    Committed(u64),
+}
+
+/// Appends the rows of the input to the table as one commit, and says what became of them. Where no user is asked for
+/// it is the actor, and where no identifier is, the greatest.
+pub fn run_write<S: Source, W: Sink, F: FileStore>(
+    alloc: Global,
+    user: Option<Txt>,
+    identifier: Option<u64>,
+    input: &mut S,
+    out: &mut W,
+    store: &mut F,
+    now_millis: i64,
+    session: [u8; 16],
+) -> Result<(), Refusal>
+    ensures command { (bytes : List ℕ) → (S.seen input.old).left ≡ Some bytes
+        → AnswersWrite (start_of session now_millis) (writer_of user identifier) bytes
+        (outside (S.seen input.old) (W.seen out.old) (F.seen store.old))
+        (outside (S.seen input.new) (W.seen out.new) (F.seen store.new)) (result_err result) }
+    ensures acts { ActsWrite (start_of session now_millis) (writer_of user identifier)
+        (outside (S.seen input.old) (W.seen out.old) (F.seen store.old))
+        (outside (S.seen input.new) (W.seen out.new) (F.seen store.new)) (result_err result) }
+    ensures history { WritesTables (start_of session now_millis) (writer_of user identifier)
+        (outside (S.seen input.old) (W.seen out.old) (F.seen store.old))
+        (outside (S.seen input.new) (W.seen out.new) (F.seen store.new)) (result_err result) }
+    ensures later { AllLater (outside (S.seen input.old) (W.seen out.old) (F.seen store.old))
+        (outside (S.seen input.new) (W.seen out.new) (F.seen store.new)) }
+{
+    let lines = read_input(alloc, input)?;
+    write_lines(
+        alloc, user, identifier, &lines, out, store, now_millis, session,
+    )
+}
+
+/// Appends the rows of lines, and says what became of them.
+fn write_lines<W: Sink, F: FileStore>(
+    alloc: Global,
+    user: Option<Txt>,
+    identifier: Option<u64>,
+    lines: &[InputLine],
+    out: &mut W,
+    store: &mut F,
+    now_millis: i64,
+    session: [u8; 16],
+) -> Result<(), Refusal>
+    ensures written { IsWritten (start_of session now_millis) (writer_of user identifier) (map line_view lines.now)
+        (W.seen out.old) (W.seen out.new) (F.seen store.old) (F.seen store.new) (result_err result) }
+    ensures out_later { SinkLater (W.seen out.old) (W.seen out.new) }
+    ensures store_later { IsLater (F.seen store.old) (F.seen store.new) }
+{
+    let written = append_lines(alloc, user, identifier, lines, store, now_millis, session)?;
+    print_written(out, written)
+}
+
+/// Appends the rows that a table takes of lines, once its schema was read.
+fn append_lines<F: FileStore>(
+    alloc: Global,
+    user: Option<Txt>,
+    identifier: Option<u64>,
+    lines: &[InputLine],
+    store: &mut F,
+    now_millis: i64,
+    session: [u8; 16],
+) -> Result<Written, Refusal>
+    ensures trace { HasTrace (DidWrite (start_of session now_millis) (writer_of user identifier)
+        (map line_view lines.now) result) (F.seen store.old) (F.seen store.new) }
+    ensures history { KeepsHistories (start_of session now_millis) (writer_of user identifier)
+        (map line_view lines.now) (F.seen store.old) (F.seen store.new) result }
+    ensures later { IsLater (F.seen store.old) (F.seen store.new) }
+{
+    batch_law();
+    fit_law();
+    let schema = read_table_schema(alloc, store)?;
+    judge(alloc, &schema)?;
+    let batch = read_batch(alloc, &schema, lines)?;
+    if batch.is_empty() {
+        return Ok(Written::Nothing);
+    }
+    let committer = committer_of(alloc, schema, batch, user, identifier, now_millis, session)?;
+    match append_rows(alloc, committer, store) {
+        Ok(Appended::Committed(id)) => Ok(Written::Committed(id)),
+        Ok(Appended::Already) => Ok(Written::Already),
+        Err(refusal) => Err(refusal),
+    }
+}
+
+/// The batch of the rows that a table takes of lines, or the first refusal.
+fn read_batch(alloc: Global, schema: &TableSchema, lines: &[InputLine]) -> Result<Batch, Refusal>
+    requires declared { IsDeclared schema.now }
+    requires built { IsBuilt schema.now }
+    ensures { ReadsBatch schema.now result (all_taken schema.now (map line_view lines.now)) }
+{
+    declared_law();
+    let engine = TableEngine::of_schema(alloc, schema)?;
+    Batch::read(alloc, schema, &engine, lines)
+}
+
+/// The committer of a batch that isn't empty.
+fn committer_of(
+    alloc: Global,
+    schema: TableSchema,
+    batch: Batch,
+    user: Option<Txt>,
+    identifier: Option<u64>,
+    now_millis: i64,
+    session: [u8; 16],
+) -> Result<Committer, AllocError>
+    requires declared { IsDeclared schema }
+    requires built { IsBuilt schema }
+    requires read { (rows : List HistoryRow) × IsBatchOf schema rows batch }
+    requires some { batch ≢ [] }
+    ensures committer { IfOk result (λ committer. committer ≡ phases.Names
+        (commit_of (start_of session now_millis) (writer_of user identifier) batch) schema) }
+    ensures may { OnOk result (MayName (naming session 0 0)) }
+{
+    let check = user.is_some();
+    let user = user_of(alloc, session, 0, user)?;
+    let identifier = identifier_of(identifier);
+    let names = names_of(session);
+    Ok(Committer::new(schema, batch, user, identifier, check, names, now_millis))
+}
+
+/// The user that is asked for, or the actor.
+fn user_of(
+    alloc: Global,
+    session: [u8; 16],
+    actor: u32,
+    user: Option<Txt>,
+) -> Result<Txt, AllocError>
+    ensures { IfOk result (λ name. name ≡ user_of (actor_of session actor) user) }
+{
+    match user {
+        Some(user) => Ok(user),
+        None => {
+            let session = Uuid::from_bytes(session);
+            let text = format!(in alloc; "{session}-{actor}")?;
+            Txt::from_str(alloc, text.as_str())
+        }
+    }
+}
+
+/// The identifier that is asked for, or the greatest.
+fn identifier_of(asked: Option<u64>) -> i64
+    ensures { result ≡ identifier_of asked }
+{
+    match asked {
+        Some(n) if n < GREATEST_IDENTIFIER => n as i64,
+        _ => GREATEST_IDENTIFIER as i64,
+    }
+}
+
+/// The names of the actor of a single command.
+fn names_of(session: [u8; 16]) -> Names
+    ensures names { result ≡ naming session 0 0 }
+    ensures may { MayName result }
+{
+    bytes_fit(&session);
+    Names::new(session, 0, 0)
+}
+
+/// Each byte has eight bits, which no clause says of an array: this walk reads them, and has no effect.
+fn bytes_fit(session: &[u8; 16])
+    ensures { (length session.now ≡ 16) × All (λ b. b < 256) session.now }
+{
+    for i in 0..16 {
+        let _ = session[i];
+    }
+}
+
+/// Says what became of the rows. It takes no memory.
+fn print_written<W: Sink>(out: &mut W, written: Written) -> Result<(), Refusal>
+    ensures prints { Prints (text_of (Ok written)) (snapshot_of (Ok written)) None (W.seen out.old) (W.seen out.new)
+        (result_err result) }
+    ensures later { SinkLater (W.seen out.old) (W.seen out.new) }
+{
+    match written {
+        Written::Nothing => print(out, b"nothing to commit\n", None),
+        Written::Already => print(out, b"already\n", None),
+        Written::Committed(id) => print_snapshot(out, id),
+    }
+}
+
+/// Says which snapshot was committed.
+fn print_snapshot<W: Sink>(out: &mut W, id: u64) -> Result<(), Refusal>
+    ensures prints { Prints (line (codes "snapshot " ++ decimal id)) (Some id) None (W.seen out.old) (W.seen out.new)
+        (result_err result) }
+    ensures later { SinkLater (W.seen out.old) (W.seen out.new) }
+{
+    let mut buffer = Buffer::new();
+    let number = buffer.format(id);
+    print(out, b"snapshot ", Some(id))?;
+    print_line(out, number.as_bytes(), Some(id))
+}
+
+/// Prints a text and a newline.
+fn print_line<W: Sink>(out: &mut W, text: &[u8], snapshot: Option<u64>) -> Result<(), Refusal>
+    ensures prints { Prints (line text.now) snapshot None (W.seen out.old) (W.seen out.new) (result_err result) }
+    ensures later { SinkLater (W.seen out.old) (W.seen out.new) }
+{
+    print(out, text, snapshot)?;
+    print(out, b"\n", snapshot)
+}
