@@ -24,7 +24,7 @@ use Rattle.pm_contents.specs.Groups.{AreNamed, HaveFolders, Overlaps}
 use Rattle.pm_contents.specs.Lists.{manifest_path, none_live}
 use Rattle.pm_view.specs.Trace.{Names}
 use Rattle.pm_table_view.specs.Asked.{Asked, SoughtView, sought_of}
-use Rattle.pm_table_view.specs.Log.{HaveGroups}
+use Rattle.pm_table_view.specs.View.{HaveGroups}
 use Rattle.pm_table_view.specs.Names.{AreIds, IsLatest}
 use Rattle.pm_table_view.specs.Reader.{most, opening, IsAbove, IsAsked, IsListOf, IsManifestOf, MisreadsManifest, Goes, GoesOn, Starts, Takes, Shown, RefusesEntries, disorder, overlap}
 use Rattle.pm_table_view.specs.Reading.{Filed, ReadingView, live_of}

@@ -1,14 +1,10 @@
-mod AfterLemmas
-mod CauseLemmas
-mod EntryLemmas
+pub mod AfterLemmas
+pub mod CauseLemmas
+pub mod EntryLemmas
 pub mod Facts
-mod FaultLemmas
-mod ListedLemmas
-mod LiveLemmas
-mod LogAfterLemmas
-mod LogCauseLemmas
-pub mod LogFacts
+pub mod FaultLemmas
+pub mod ListedLemmas
+pub mod LiveLemmas
 mod NameLemmas
-mod NamedLemmas
 mod TwoLemmas
-mod WholeLemmas
+pub mod NamedLemmas

@@ -1,12 +1,8 @@
 pub mod Asked
-pub mod Log
-pub mod LogMeaning
-pub mod LogReader
-pub mod LogTrace
 pub mod Meaning
 pub mod Names
-pub mod Named
 pub mod Reader
 pub mod Reading
 pub mod Trace
 pub mod View
+pub mod Named

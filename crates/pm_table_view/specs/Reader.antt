@@ -25,7 +25,7 @@ use Rattle.pm_manifest.specs.declared.entry.Entry.{Entry}
 use Rattle.pm_manifest.specs.declared.entry.ManifestMeta.{ManifestMeta}
 use Rattle.pm_contents.specs.Groups.{Overlaps}
 use Rattle.pm_contents.specs.Lists.{manifest_path, none_live}
-use Rattle.pm_table_view.specs.Log.{HaveGroups}
+use Rattle.pm_table_view.specs.View.{HaveGroups}
 use Rattle.pm_table_view.specs.Names.{AreIds, IsLatest}
 use Rattle.pm_table_view.specs.Reading.{Filed, ReadingView, live_of, reading_of}
 use Rattle.pm_table_view.specs.View.{HasFolders, IsOriginView, IsSoughtBy, IsViewOf, kept_for}

@@ -9,7 +9,7 @@ use Rattle.pm_manifest.specs.declared.entry.ManifestMeta.{ManifestMeta}
 use Rattle.pm_manifest.specs.declared.file_id.FileId.{FileId}
 use Rattle.pm_contents.specs.Groups.{AreNamed, HaveFolders}
 use Rattle.pm_table_view.specs.Asked.{SoughtView}
-use Rattle.pm_table_view.specs.Log.{HaveGroups}
+use Rattle.pm_table_view.specs.View.{HaveGroups}
 
 -- files, each with its entry
 abbrev pub Filed : Type 0

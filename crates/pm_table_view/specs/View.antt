@@ -2,7 +2,7 @@
 use Rattle.std.specs.Prelude.{◌≡◌, List, [], ◌∷◌, Bool, not, ◌&&◌, if◌then◌else◌, Option, None, Some, IsSome}
 use Rattle.std.specs.Prelude.{is_some}
 use Rattle.std.specs.BTreeMap.{get_by, IsOrdered}
-use Rattle.std.specs.List.{list_any}
+use Rattle.std.specs.List.{AllByRecursion, list_any}
 use Rattle.pm_values.specs.GroupOrder.{group_cmp}
 use Rattle.pm_values.specs.declared.group.Group.{Group}
 use Rattle.pm_schema.specs.Folder.{FitsPartition}
@@ -27,6 +27,10 @@ runs_at v g = get_by (group_cmp g) v.groups
 -- each group of the view that has files is one of the table, whose folder has a path
 abbrev pub HasFolders : View → Type 0
 HasFolders v = (g : Group) → IsSome (runs_at v g) → FitsPartition v.schema g
+
+-- the groups of the entries are groups of the table, whose folders have paths
+abbrev pub HaveGroups : TableSchema → List Entry → Type 0
+HaveGroups s entries = AllByRecursion (λ (e : Entry). FitsPartition s e.group) entries
 
 -- one of the entries is of the file
 abbrev pub has_entry : FileId → List Entry → Bool

@@ -13,7 +13,7 @@ ghost use Rattle.pm_manifest.specs.Live.{AreInOrder, Leaves, Refuses};
 ghost use Rattle.pm_record.specs.File.{IsMemoryOr};
 ghost use Rattle.pm_schema.specs.Again.{IsDeclared};
 ghost use Rattle.pm_store.specs.declared.answer.Answer.TheVariants as answers;
-ghost use Rattle.pm_table_view.specs.Log.{HaveGroups};
+ghost use Rattle.pm_table_view.specs.View.{HaveGroups};
 ghost use Rattle.pm_table_view.specs.Reader.{most, opening, Goes, GoesOn, IsAbove, IsAsked, IsViewer, Shown};
 ghost use Rattle.pm_table_view.specs.Reader.{RefusesEntries, Starts, Takes};
 ghost use Rattle.pm_table_view.specs.View.{kept_for, HasFolders, IsOriginView, IsSoughtBy, IsViewOf};
@@ -187,7 +187,7 @@ fn after_bytes(alloc: Global, sought: Sought, id: u64, bytes: Blob) -> Result<Ph
 }
 
 /// The refusal of the snapshot's file with an id, whose path may take memory.
-pub(crate) fn damaged_snapshot(alloc: Global, id: u64) -> Refusal
+pub fn damaged_snapshot(alloc: Global, id: u64) -> Refusal
     ensures { IsMemoryOr (refusals.Damaged (snapshot_path id) 0) result }
 {
     match snapshot_path(alloc, id) {
@@ -197,7 +197,7 @@ pub(crate) fn damaged_snapshot(alloc: Global, id: u64) -> Refusal
 }
 
 /// The refusal of the schema's file with an id, whose path may take memory.
-pub(crate) fn damaged_schema(alloc: Global, id: u64) -> Refusal
+pub fn damaged_schema(alloc: Global, id: u64) -> Refusal
     ensures { IsMemoryOr (refusals.Damaged (schema_path id) 0) result }
 {
     match schema_path(alloc, id) {

@@ -3,7 +3,6 @@
 ghost use Rattle.std.specs.Prelude.{◌≡◌, ◌↔◌, ◌++◌, ℕ, ◌≤◌, List, Contains, Option, None, Some, IsSome};
 ghost use Rattle.std.specs.FinMap as finite;
 ghost use Rattle.pm_folder.specs.Changes.{Actor};
-ghost use Rattle.pm_folder.specs.Commits.{Names};
 ghost use Rattle.pm_folder.specs.Entries.{AreLive};
 ghost use Rattle.pm_folder.specs.Folder.{Folder};
 ghost use Rattle.pm_folder.specs.Ledger.{Advances, Past, Stands};
@@ -24,15 +23,12 @@ ghost use Rattle.pm_store.specs.declared.call.Call.{Call};
 ghost use Rattle.pm_store.specs.declared.call.Call.TheVariants as calls;
 ghost use Rattle.pm_store.specs.Files.{Files, IsListing};
 ghost use Rattle.pm_store.specs.Images.{MayLeave};
-ghost use Rattle.pm_table_view.specs.Asked.{Asked, KeepsEntries};
-ghost use Rattle.pm_table_view.specs.LogMeaning.{IsLogIn};
-ghost use Rattle.pm_table_view.specs.Meaning.{IsKept, IsViewIn, Knows, KnowsListed, MayRefuse};
+ghost use Rattle.pm_table_view.specs.Asked.{Asked};
+ghost use Rattle.pm_table_view.specs.Meaning.{IsKept, Knows, KnowsListed, MayRefuse};
 ghost use Rattle.pm_table_view.specs.Named.{named_paths, parts_of};
 ghost use Rattle.pm_table_view.specs.Names.{AreIds};
 ghost use Rattle.pm_table_view.specs.Reader.{next_call, Shown};
 ghost use Rattle.pm_table_view.specs.View.{live_entries};
-ghost use Rattle.pm_table_view.specs.declared.log.Log.{Log as LogView};
-ghost use Rattle.pm_table_view.specs.declared.view.View.{View as ViewView};
 ghost use Rattle.pm_table_view.specs.declared.phase.Phase.{Phase};
 ghost use Rattle.pm_table_view.specs.declared.phase.Phase.TheVariants as phases;
 
@@ -92,17 +88,6 @@ pub fn named_law()
         → Contains (named_paths s x (parts_of (c.base ++ c.delta) (live_entries c.entries) c.changelog c.changes)) path
         ↔ IsNamed s x c path }
 {}
-
-/// Of a view with its live entries and of a changelog, both of one snapshot as it stood, the paths that are listed are
-/// exactly those that the snapshot named.
-pub fn whole_law()
-    ensures { (p : Past) (v : ViewView) (l : LogView) (path : List ℕ) → IsViewIn p v → IsLogIn p l
-        → KeepsEntries v.wanted → v.snapshot ≡ Some l.snapshot → v.schema ≡ l.schema
-        → Contains (named_paths l.schema l.snapshot (parts_of v.manifests.items v.live.items l.manifests.items l.changes.items)) path
-        ↔ Names (p.stood l.snapshot.id) l.schema l.snapshot.id path }
-{
-    one_contents_law();
-}
 
 /// Whatever a crash leaves of a reader's next call has the same content at each path.
 pub fn images_law()

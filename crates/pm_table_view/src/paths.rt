@@ -25,7 +25,7 @@ pub(crate) fn origin_path(alloc: Global, schema: &TableSchema) -> Result<Txt, Al
 }
 
 /// The path of the snapshot with an id.
-pub(crate) fn snapshot_path(alloc: Global, id: u64) -> Result<Txt, AllocError>
+pub fn snapshot_path(alloc: Global, id: u64) -> Result<Txt, AllocError>
     ensures { IfOk result (λ path. path ≡ snapshot_path id) }
 {
     let text = format!(in alloc; "snapshot/snapshot-{id}")?;
@@ -41,7 +41,7 @@ pub(crate) fn schema_path(alloc: Global, id: u64) -> Result<Txt, AllocError>
 }
 
 /// The path of a manifest, or of a list of them.
-pub(crate) fn manifest_path(alloc: Global, name: &Txt) -> Result<Txt, AllocError>
+pub fn manifest_path(alloc: Global, name: &Txt) -> Result<Txt, AllocError>
     ensures { IfOk result (λ path. path ≡ manifest_path name.now) }
 {
     let name = name.as_str();

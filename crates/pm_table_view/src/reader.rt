@@ -6,7 +6,7 @@ ghost use Rattle.pm_store.specs.Store.{IsLater};
 ghost use Rattle.pm_table_view.specs.Meaning.{ViewerMoved};
 ghost use Rattle.pm_table_view.specs.Reader.{calls_left, reached_at, IsReady, Reaches};
 ghost use Rattle.pm_table_view.specs.Asked.{asked_of, sought_of};
-ghost use Rattle.pm_table_view.specs.Log.{HaveGroups};
+ghost use Rattle.pm_table_view.specs.View.{HaveGroups};
 ghost use Rattle.pm_table_view.specs.Trace.{ViewerActed};
 ghost use Rattle.pm_table_view.specs.View.{HasFolders};
 ghost use Rattle.pm_table_view.specs.declared.asked.Wanted.TheVariants as wants;

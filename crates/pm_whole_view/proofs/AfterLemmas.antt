@@ -9,15 +9,15 @@ use Rattle.pm_snapshot.proofs.Facts.{id_same}
 use Rattle.pm_manifest.specs.declared.entry.Entry.{Entry}
 use Rattle.pm_manifest.specs.declared.entry.ManifestMeta.{ManifestMeta}
 use Rattle.pm_table_view.specs.Asked.{SoughtView}
-use Rattle.pm_table_view.specs.Log.{LogAskedView, log_asked_of}
-use Rattle.pm_table_view.specs.LogReader as log
-use Rattle.pm_table_view.specs.LogReader.{Opens}
+use Rattle.pm_log_view.specs.Log.{LogAskedView, log_asked_of}
+use Rattle.pm_log_view.specs.LogReader as log
+use Rattle.pm_log_view.specs.LogReader.{Opens}
 use Rattle.pm_table_view.specs.Reader as reader
 use Rattle.pm_table_view.specs.Reading.{Filed}
 use Rattle.pm_table_view.specs.View.{kept_for}
 use Rattle.pm_table_view.specs.declared.asked.Wanted.TheVariants as wants
-use Rattle.pm_table_view.specs.declared.log_phase.LogPhase.{LogPhase}
-use Rattle.pm_table_view.specs.declared.log_phase.LogPhase.TheVariants as logs
+use Rattle.pm_log_view.specs.declared.log_phase.LogPhase.{LogPhase}
+use Rattle.pm_log_view.specs.declared.log_phase.LogPhase.TheVariants as logs
 use Rattle.pm_table_view.specs.declared.phase.Phase as view_phase
 use Rattle.pm_table_view.specs.declared.phase.Phase.TheVariants as readers
 use Rattle.pm_table_view.specs.declared.view.View.{View}

@@ -9,19 +9,19 @@ use Rattle.pm_store.specs.declared.call.Call.{Call}
 use Rattle.pm_folder.specs.Commits.{Names}
 use Rattle.pm_folder.specs.Ledger.{Past, Stands}
 use Rattle.pm_table_view.specs.Asked.{KeepsEntries}
-use Rattle.pm_table_view.specs.LogMeaning as log_meaning
-use Rattle.pm_table_view.specs.LogMeaning.{IsLogIn}
-use Rattle.pm_table_view.specs.LogReader as log
+use Rattle.pm_log_view.specs.LogMeaning as log_meaning
+use Rattle.pm_log_view.specs.LogMeaning.{IsLogIn}
+use Rattle.pm_log_view.specs.LogReader as log
 use Rattle.pm_table_view.specs.Meaning as reader_meaning
 use Rattle.pm_table_view.specs.Meaning.{IsViewIn}
 use Rattle.pm_table_view.specs.Named.{named_paths, parts_of}
 use Rattle.pm_table_view.specs.Reader as reader
-use Rattle.pm_table_view.specs.declared.log.Log.{Log}
-use Rattle.pm_table_view.specs.declared.log_phase.LogPhase.{LogPhase}
+use Rattle.pm_log_view.specs.declared.log.Log.{Log}
+use Rattle.pm_log_view.specs.declared.log_phase.LogPhase.{LogPhase}
 use Rattle.pm_table_view.specs.declared.phase.Phase as view_phase
 use Rattle.pm_table_view.specs.declared.view.View.{View}
 use Rattle.pm_table_view.proofs.Facts.{listing_only}
-use Rattle.pm_table_view.proofs.LogFacts.{never_above}
+use Rattle.pm_log_view.proofs.LogFacts.{never_above}
 use Rattle.pm_whole_view.specs.Meaning.{AreNamed, Knows, MayRefuse}
 use Rattle.pm_whole_view.specs.Whole.{next_call, paths_of, IsReady, IsWhole, IsWholeOf, Shown}
 use Rattle.pm_whole_view.specs.declared.phase.Phase.{Phase}

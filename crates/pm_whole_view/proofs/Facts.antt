@@ -24,25 +24,25 @@ use Rattle.pm_contents.specs.Lists.{manifest_path}
 use Rattle.pm_folder.specs.Changes.{Actor}
 use Rattle.pm_folder.specs.Ledger.{Advances, Past, Stands}
 use Rattle.pm_folder.specs.Paths.{snapshot_path}
-use Rattle.pm_table_view.specs.Log.{LogAskedView, log_asked_of}
-use Rattle.pm_table_view.specs.LogMeaning as log_meaning
-use Rattle.pm_table_view.specs.LogReader as log
-use Rattle.pm_table_view.specs.LogTrace as log_trace
-use Rattle.pm_table_view.specs.LogTrace.{at_snapshot}
+use Rattle.pm_log_view.specs.Log.{LogAskedView, log_asked_of}
+use Rattle.pm_log_view.specs.LogMeaning as log_meaning
+use Rattle.pm_log_view.specs.LogReader as log
+use Rattle.pm_log_view.specs.LogTrace as log_trace
+use Rattle.pm_log_view.specs.LogTrace.{at_snapshot}
 use Rattle.pm_table_view.specs.Meaning as reader_meaning
 use Rattle.pm_table_view.specs.Meaning.{IsKept, IsViewIn, Stood, view_origin, view_snapshot}
 use Rattle.pm_table_view.specs.Reader as reader
 use Rattle.pm_table_view.specs.Reader.{most}
 use Rattle.pm_table_view.specs.Trace as reader_trace
 use Rattle.pm_table_view.specs.Trace.{of_origin, of_snapshot, read_file}
-use Rattle.pm_table_view.specs.declared.log_phase.LogPhase.{LogPhase}
-use Rattle.pm_table_view.specs.declared.log_phase.LogPhase.TheVariants as logs
+use Rattle.pm_log_view.specs.declared.log_phase.LogPhase.{LogPhase}
+use Rattle.pm_log_view.specs.declared.log_phase.LogPhase.TheVariants as logs
 use Rattle.pm_table_view.specs.declared.phase.Phase as view_phase
 use Rattle.pm_table_view.specs.declared.phase.Phase.TheVariants as readers
 use Rattle.pm_table_view.specs.declared.view.View.{View}
 use Rattle.pm_table_view.proofs.Facts as reader_facts
 use Rattle.pm_table_view.proofs.Facts.{Joined, OneList}
-use Rattle.pm_table_view.proofs.LogFacts as log_facts
+use Rattle.pm_log_view.proofs.LogFacts as log_facts
 use Rattle.pm_whole_view.specs.Meaning.{Knows, LeavesFiles}
 use Rattle.pm_whole_view.specs.Trace.{Did, Follows, Shows, read_first, view_asked}
 use Rattle.pm_whole_view.specs.Whole.{next_call, calls_left, AfterLog, AfterView, Goes, IsWhole, Reaches, Refuses, Shown, Stops, reached_at}

@@ -7,10 +7,10 @@ use Rattle.pm_store.specs.Store.{StoreView}
 use Rattle.pm_machine.specs.Moves.{Moves}
 use Rattle.pm_folder.specs.Commits.{Names}
 use Rattle.pm_folder.specs.Ledger.{Past, Stands}
-use Rattle.pm_table_view.specs.LogMeaning as log
+use Rattle.pm_log_view.specs.LogMeaning as log
 use Rattle.pm_table_view.specs.Meaning as reader
 use Rattle.pm_table_view.specs.Meaning.{IsExpired, IsKept}
-use Rattle.pm_table_view.specs.declared.log_phase.LogPhase.TheVariants as logs
+use Rattle.pm_log_view.specs.declared.log_phase.LogPhase.TheVariants as logs
 use Rattle.pm_table_view.specs.declared.phase.Phase.TheVariants as readers
 use Rattle.pm_whole_view.specs.declared.phase.Phase.{Phase}
 use Rattle.pm_whole_view.specs.declared.phase.Phase.TheVariants as phases

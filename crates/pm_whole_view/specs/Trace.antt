@@ -5,12 +5,12 @@ use Rattle.pm_store.specs.Store.{StoreView}
 use Rattle.pm_machine.specs.Trace.{Acts, Event}
 use Rattle.pm_folder.specs.Paths.{snapshot_path}
 use Rattle.pm_table_view.specs.Asked.{Asked, asked_of}
-use Rattle.pm_table_view.specs.Log.{LogAskedView}
-use Rattle.pm_table_view.specs.LogTrace as log
+use Rattle.pm_log_view.specs.Log.{LogAskedView}
+use Rattle.pm_log_view.specs.LogTrace as log
 use Rattle.pm_table_view.specs.Trace as reader
 use Rattle.pm_table_view.specs.Trace.{read_file}
 use Rattle.pm_table_view.specs.declared.asked.Wanted.TheVariants as wants
-use Rattle.pm_table_view.specs.declared.log_phase.LogPhase.TheVariants as logs
+use Rattle.pm_log_view.specs.declared.log_phase.LogPhase.TheVariants as logs
 use Rattle.pm_table_view.specs.declared.phase.Phase.TheVariants as readers
 use Rattle.pm_table_view.specs.declared.view.View.{View}
 use Rattle.pm_whole_view.specs.declared.phase.Phase.{Phase}

@@ -6,15 +6,16 @@ use Rattle.pm_store.specs.declared.answer.Answer.{Answer}
 use Rattle.pm_store.specs.declared.call.Call.{Call}
 use Rattle.pm_snapshot.specs.declared.snapshot.Snapshot.{Snapshot}
 use Rattle.pm_table_view.specs.Asked.{Asked}
-use Rattle.pm_table_view.specs.Log.{HaveGroups, log_asked_of}
-use Rattle.pm_table_view.specs.LogReader as log
-use Rattle.pm_table_view.specs.LogReader.{Opens}
+use Rattle.pm_log_view.specs.Log.{log_asked_of}
+use Rattle.pm_table_view.specs.View.{HaveGroups}
+use Rattle.pm_log_view.specs.LogReader as log
+use Rattle.pm_log_view.specs.LogReader.{Opens}
 use Rattle.pm_table_view.specs.Named.{named_paths, parts_of}
 use Rattle.pm_table_view.specs.Reader as reader
 use Rattle.pm_table_view.specs.Reader.{most}
 use Rattle.pm_table_view.specs.declared.asked.Wanted.TheVariants as wants
-use Rattle.pm_table_view.specs.declared.log_phase.LogPhase.{LogPhase}
-use Rattle.pm_table_view.specs.declared.log_phase.LogPhase.TheVariants as logs
+use Rattle.pm_log_view.specs.declared.log_phase.LogPhase.{LogPhase}
+use Rattle.pm_log_view.specs.declared.log_phase.LogPhase.TheVariants as logs
 use Rattle.pm_table_view.specs.declared.phase.Phase as view_phase
 use Rattle.pm_table_view.specs.declared.phase.Phase.TheVariants as readers
 use Rattle.pm_table_view.specs.declared.view.View.{View}

@@ -5,8 +5,8 @@
 ghost use Rattle.std.specs.Prelude.{◌≡◌, ◌⊎◌, ◌<◌, IfErr, IfOk, IsSomeAnd};
 ghost use Rattle.pm_schema.specs.Again.{IsDeclared};
 ghost use Rattle.pm_store.specs.Answers.{MayAnswer};
-ghost use Rattle.pm_table_view.specs.Log.{HaveGroups};
-ghost use Rattle.pm_table_view.specs.LogReader as logs;
+ghost use Rattle.pm_table_view.specs.View.{HaveGroups};
+ghost use Rattle.pm_log_view.specs.LogReader as logs;
 ghost use Rattle.pm_table_view.specs.Reader as readers;
 ghost use Rattle.pm_table_view.specs.declared.phase.Phase.TheVariants as reader_phases;
 ghost use Rattle.pm_values.specs.declared.refusal.Refusal.TheVariants as refusals;
@@ -16,9 +16,10 @@ ghost use Rattle.pm_whole_view.specs.declared.phase.Phase.TheVariants as phases;
 
 use crate::copy::copied;
 use crate::phase::Phase;
+use pm_log_view::LogReader;
 use pm_machine::Machine;
 use pm_store::Answer;
-use pm_table_view::{LogReader, View, ViewReader};
+use pm_table_view::{View, ViewReader};
 use pm_values::Refusal;
 use std::alloc::{AllocError, Global};
 

@@ -14,7 +14,7 @@ ghost use Rattle.pm_whole_view.specs.Meaning.{AreNamed, Knows, MayRefuse};
 ghost use Rattle.pm_whole_view.specs.Whole.{next_call, paths_of, IsReady, IsWhole, Shown};
 ghost use Rattle.pm_whole_view.specs.declared.phase.Phase.{Phase};
 
-use pm_table_view::{log_causes_law, whole_law};
+use pm_log_view::{log_causes_law, whole_law};
 
 /// What a reader knows stays true through each kind of change of every actor.
 pub fn known_law()

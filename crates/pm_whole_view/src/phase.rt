@@ -1,6 +1,7 @@
 //! How far the reading of a whole view has come.
 
-use pm_table_view::{Log, LogReader, View, ViewReader};
+use pm_log_view::{Log, LogReader};
+use pm_table_view::{View, ViewReader};
 
 /// How far the reading has come: the next call is one of the view's reader; or the view is ready, and the next call is
 /// one of the changelog's; or both are ready; or the reading ended before that.

@@ -2,7 +2,7 @@ use Rattle.std.proofs.Common.{◌≡◌, ◌++◌, ◌∷◌, [], rules, sym, su
 use Rattle.indexmap.specs.IndexMap.{get}
 use Rattle.pm_values.specs.declared.refusal.Refusal.{Refusal}
 use Rattle.pm_manifest.specs.FileId.{id_eq}
-use Rattle.pm_table_view.specs.Log.{HaveGroups}
+use Rattle.pm_table_view.specs.View.{HaveGroups}
 use Rattle.pm_table_view.specs.Reading.{ReadingView, reading_of}
 use Rattle.pm_table_view.specs.declared.phase.Phase.{Phase}
 use Rattle.pm_table_view.proofs.AfterLemmas.{entries_overlap, entries_refused, entries_taken, groups_more, if_err, if_ok}

@@ -1,6 +1,6 @@
 use Rattle.std.proofs.Common.{◌≡◌, rules, sym, subst}
 use Rattle.pm_schema.specs.declared.schema.TableSchema.{TableSchema}
-use Rattle.pm_table_view.specs.Log.{HaveGroups}
+use Rattle.pm_table_view.specs.View.{HaveGroups}
 use Rattle.pm_table_view.specs.View.{live_entries}
 use Rattle.pm_table_view.proofs.AfterLemmas.{groups_live}
 use Rattle.pm_table_view.proofs.after.view_of.Goals as goal

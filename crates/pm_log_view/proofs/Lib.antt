@@ -1,0 +1,4 @@
+mod LogAfterLemmas
+mod LogCauseLemmas
+pub mod LogFacts
+mod WholeLemmas

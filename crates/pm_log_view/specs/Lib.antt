@@ -1,0 +1,4 @@
+pub mod Log
+pub mod LogMeaning
+pub mod LogReader
+pub mod LogTrace
