@@ -29,8 +29,8 @@ use Rattle.pm_append.specs.declared.newest.CommitFile.{CommitFile}
 use Rattle.pm_append.specs.declared.newest.Newest.{Newest}
 use Rattle.pm_append.specs.declared.snapshot.ListNames.{ListNames}
 
--- one try to commit: the rows and their batch, who commits them, the newest snapshot as it was found, the maker of names
--- before it named the files, and what was made
+-- one try to commit: the rows and their batch, who commits them, the newest snapshot as it was found, the maker of
+-- names before it named the files, and what was made
 pub record Attempt : Type 0 where
   pub rows : List HistoryRow
   pub batch : Groups
@@ -42,8 +42,8 @@ pub record Attempt : Type 0 where
 -- the snapshot has these manifests and live entries; the origin has none
 abbrev pub IsFoundAs : Files → TableSchema → Newest → Option Snapshot → Type 0
 IsFoundAs f s newest None = (newest.id ≡ 0) × (newest.manifests.items ≡ []) × (newest.live.items ≡ [])
-IsFoundAs f s newest (Some x) = (c : Contents) × HasCommit f s newest.id x c × (newest.manifests.items ≡ c.base ++ c.delta)
-    × AreLive (live_in c) newest.live.items
+IsFoundAs f s newest (Some x) = (c : Contents) × HasCommit f s newest.id x c
+    × (newest.manifests.items ≡ c.base ++ c.delta) × AreLive (live_in c) newest.live.items
 
 -- the newest snapshot of a table with these entries is as it was found
 pub record IsNewestOf (f : Files) (s : TableSchema) (entries : List Entry) (newest : Newest) : Type 0 where
@@ -65,8 +65,8 @@ pub record MakesNames (me : Actor) (t : Attempt) : Type 0 where
   pub may : MayName t.names
   pub room : t.names.count + length t.batch + 4 < 2 ^ 64
 
--- The try can be published by an actor while the newest snapshot stands: its files are in place, and no snapshot names a
--- file that the actor named.
+-- The try can be published by an actor while the newest snapshot stands: its files are in place, and no snapshot names
+-- a file that the actor named.
 pub record IsReady (me : Actor) (f : Files) (s : TableSchema) (entries : List Entry) (t : Attempt) : Type 0 where
   pub folder : HasTable f s entries
   pub built : IsBuilt s
@@ -80,7 +80,8 @@ pub record IsReady (me : Actor) (f : Files) (s : TableSchema) (entries : List En
   pub unnamed : (id : ℕ) (path : List ℕ) → 1 ≤ id → id ≤ length entries → Names f s id path → IsNamedBy me path → ⊥
 
 -- the snapshot that was made
-abbrev pub snapshot_of : (s : TableSchema) (t : Attempt) → IsAppendOf s t.newest t.author t.batch t.names t.made → Snapshot
+abbrev pub snapshot_of : (s : TableSchema) (t : Attempt) → IsAppendOf s t.newest t.author t.batch t.names t.made
+    → Snapshot
 snapshot_of s t made = new_snapshot s t.newest t.author (map (added_entry s) made.new_files) made.lists
 
 -- The snapshot that is there is the one that was made, to its last field; its base list has the manifests with which it

@@ -36,16 +36,16 @@ abbrev pub after_names : ℕ → Naming → Naming
 after_names n names = record names { count = names.count + n }
 
 -- the new files of a batch, each group's rows counted from the number after those of its live files
-pub record AreNumbered (s : TableSchema) (live : List Entry) (names : Naming) (batch : Groups) (new_files : List NewFile)
-    : Type 0 where
+pub record AreNumbered (s : TableSchema) (live : List Entry) (names : Naming) (batch : Groups)
+    (new_files : List NewFile) : Type 0 where
   pub next : BTreeMap Group ℕ
   pub counts : (g : Group) → next_of next g ≡ next_number live g
   pub are_new : AreNewFiles s next names batch new_files
 
 -- a manifest of these entries with the next name: what lists have of it, and its file, which is read as they are where
 -- a manifest can have them
-pub record IsNewManifest (s : TableSchema) (names : Naming) (entries : List Entry) (m : ManifestMeta) (file : CommitFile)
-    : Type 0 where
+pub record IsNewManifest (s : TableSchema) (names : Naming) (entries : List Entry) (m : ManifestMeta)
+    (file : CommitFile) : Type 0 where
   pub named : m.name ≡ name_of (based.prefix_of based.manifest) (based.suffix_of based.manifest) names
   pub size : m.size ≡ length file.bytes
   pub added : m.added ≡ length (filter (λ (e : Entry). e.add) entries)
@@ -80,8 +80,8 @@ pub data HasBase (s : TableSchema) (newest : Newest) (names : Naming) : List Man
 
 -- the manifest of the entries that add new files, the list of it, and the base list of these manifests, with the next
 -- names in this order: what the lists are called, and the files
-pub record AreLists (s : TableSchema) (names : Naming) (added : List Entry) (base : List ManifestMeta) (lists : ListNames)
-    (files : List CommitFile) : Type 0 where
+pub record AreLists (s : TableSchema) (names : Naming) (added : List Entry) (base : List ManifestMeta)
+    (lists : ListNames) (files : List CommitFile) : Type 0 where
   pub delta : ManifestMeta
   pub delta_file : CommitFile
   pub is_delta : IsNewManifest s names added delta delta_file
@@ -109,7 +109,8 @@ pub record IsAppendOf (s : TableSchema) (newest : Newest) (author : Author) (bat
   pub numbered : AreNumbered s newest.live.items names batch new_files
   pub lists : ListNames
   pub list_files : List CommitFile
-  pub are_manifests : AreManifests s newest (after_names (length new_files) names) (map (added_entry s) new_files) lists list_files
+  pub are_manifests : AreManifests s newest (after_names (length new_files) names) (map (added_entry s) new_files) lists
+      list_files
   pub files : made.files.items ≡ map (data_file s) new_files ++ list_files
   pub id : made.id ≡ newest.id + 1
   pub text : made.text ≡ snapshot_text (new_snapshot s newest author (map (added_entry s) new_files) lists)

@@ -44,7 +44,8 @@ no_files = refusals.Limit (codes "live-files") most_live
 -- the number from which a group's next rows are counted: 1 above the greatest of its live files' numbers, or 0
 abbrev pub next_number : List Entry → Group → ℕ
 next_number [] g = 0
-next_number (e ∷ live) g = cond (eq_by_cmp group_cmp e.group g) (max (e.file.max_seq + 1) (next_number live g)) (next_number live g)
+next_number (e ∷ live) g =
+    cond (eq_by_cmp group_cmp e.group g) (max (e.file.max_seq + 1) (next_number live g)) (next_number live g)
 
 -- the rows of some group of the batch need a number above the greatest
 abbrev pub above_numbers : List Entry → Groups → Bool

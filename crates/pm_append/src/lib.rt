@@ -1,5 +1,5 @@
-//! What a commit that appends rows puts into the folder: its files, in the order in which they are created, and the text
-//! of its snapshot.
+//! What a commit that appends rows puts into the folder: its files, in the order in which they are created, and the
+//! text of its snapshot.
 //!
 //! `append` is told the table as the newest snapshot has it, who appends and when, and the batch. It makes a data file
 //! for each group of the batch, a manifest of all live entries where the newest snapshot has many manifests, a manifest

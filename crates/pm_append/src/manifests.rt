@@ -131,7 +131,8 @@ pub(crate) fn merged_base(
     requires merges { merges schema.now newest.now.manifests.items ≡ true }
     requires count { names.old.count < 2 ^ 62 }
     ensures base { IfOk result (λ metas. (own : List FileView)
-        × HasBase schema.now newest.now names.old metas.items own names.new × (files.new.items ≡ files.old.items ++ own)) }
+        × HasBase schema.now newest.now names.old metas.items own names.new
+        × (files.new.items ≡ files.old.items ++ own)) }
     ensures names { names.new ≡ record names.old { count = names.new.count } }
     ensures rises { names.old.count ≤ names.new.count }
     ensures counted { OnOk result (names.new.count ≤ names.old.count + 1) }
@@ -188,7 +189,8 @@ pub(crate) fn all_lists(
 ) -> Result<ListNames, Refusal>
     requires { names.old.count + 4 ≤ 2 ^ 62 }
     ensures lists { IfOk result (λ lists. (own : List FileView)
-        × AreManifests schema.now newest.now names.old added.now lists own × (files.new.items ≡ files.old.items ++ own)) }
+        × AreManifests schema.now newest.now names.old added.now lists own
+        × (files.new.items ≡ files.old.items ++ own)) }
     ensures names { names.new ≡ record names.old { count = names.new.count } }
     ensures rises { names.old.count ≤ names.new.count }
     ensures each { OnOk result (names.new.count + length files.old.items ≡ names.old.count + length files.new.items) }

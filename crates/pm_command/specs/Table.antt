@@ -11,9 +11,10 @@ use Rattle.pm_view.specs.Trace as reader
 use Rattle.pm_view.specs.declared.phase.Phase.TheVariants as readers
 use Rattle.pm_draft.specs.Built.{unbuilt}
 
--- they end with the schema, which isn't built, or memory ran out for saying so
+-- a command's calls end with the schema, which isn't built, or memory ran out for saying so
 abbrev pub EndsAtSchema : Refusal → List Event → Type 0
-EndsAtSchema e own = (s : TableSchema) × ((e ≡ refusals.Memory) ⊎ (unbuilt s ≡ Some e)) × reader.Did (readers.Ready s) own
+EndsAtSchema e own =
+    (s : TableSchema) × ((e ≡ refusals.Memory) ⊎ (unbuilt s ≡ Some e)) × reader.Did (readers.Ready s) own
 
 -- What a history may be refused for: there is no table, or none that is built; a fault of the store was counted; or
 -- memory ran out.

@@ -56,8 +56,8 @@ abbrev pub IsThere : History → ℕ → StoreView → Type 0
 IsThere h id first = (id ≤ count_of h)
     × ((s : TableSchema) × IsTableOf s h × LeavesFiles (λ f. IsSome (map.get f (path_of s id))) first)
 
--- What a history may be refused for: the snapshot that is asked for is above the newest, or has gone; or what a listing
--- may be refused for.
+-- What a history may be refused for: the snapshot that is asked for is above the newest, or has gone; or why
+-- each command may refuse a table (`MayRefuse` of `pm_command`).
 abbrev pub MayRefuse : History → Option ℕ → StoreView → StoreView → Refusal → Type 0
 MayRefuse h at first after (refusals.NoSnapshot id latest) = (at ≡ Some id) × (latest ≡ count_of h) × (latest < id)
 MayRefuse h at first after (refusals.Expired id) = (at ≡ Some id) × (id ≤ count_of h) × HasGone h id first
@@ -119,7 +119,7 @@ KeepsHistories at before after made =
     (first : StoreView) × IsFirst schemas_call before first after
     × (IsAlone first after → (h : History) → LeavesFiles (λ f. Folder f h) first → Keeps h at first after made)
 
--- Private: the calls of `scan`, what they do to histories, and what was printed
+-- the calls of `scan`, what they do to histories, and what was printed
 abbrev pub IsScanned : Option ℕ → SinkView → SinkView → StoreView → StoreView → Option Refusal → Type 0
 IsScanned at out out_after store store_after answer =
     (made : Result (List ℕ) Refusal) × HasTrace (DidScan at made) store store_after

@@ -98,7 +98,7 @@ KeepsHistories before after made =
     (first : StoreView) × IsFirst schemas_call before first after
     × (IsAlone first after → (h : History) → LeavesFiles (λ f. Folder f h) first → Keeps h first after made)
 
--- Private: the calls of `snapshots`, what they do to histories, and what was printed
+-- the calls of `snapshots`, what they do to histories, and what was printed
 abbrev pub IsListed : SinkView → SinkView → StoreView → StoreView → Option Refusal → Type 0
 IsListed out out_after store store_after answer =
     (made : Result (List SnapshotLine) Refusal) × HasTrace (DidSnapshots made) store store_after

@@ -118,8 +118,8 @@ pub data IsGone (a : LogAskedView) (own : List Event) : Type 0 where
   gone_again : (path : List ℕ) → ReadsAgain a path None own → IsGone a own
 
 -- A file is damaged, at the offset: the snapshot's, whose bytes are none; the schema's, where the snapshot names
--- another one than the table's; one that the snapshot names and that is absent, and the snapshot still stands; the list or a
--- manifest, whose bytes have this fault; or a manifest with an entry that no changelog has.
+-- another one than the table's; one that the snapshot names and that is absent, and the snapshot still stands; the list
+-- or a manifest, whose bytes have this fault; or a manifest with an entry that no changelog has.
 pub data IsDamaged (a : LogAskedView) (path : List ℕ) (place : ℕ) (own : List Event) : Type 0 where
   bad_snapshot : (bytes : List ℕ) → path ≡ snapshot_path a.id → place ≡ 0 → snapshot_in a.id bytes ≡ Err faults.Bad
       → Reads a (Some bytes) own → IsDamaged a path place own

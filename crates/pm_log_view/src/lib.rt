@@ -1,12 +1,12 @@
-//! The changelog of a snapshot, read by a machine that makes one call of the store a step, and the paths that a snapshot
-//! names.
+//! The changelog of a snapshot, read by a machine that makes one call of the store a step, and the paths that a
+//! snapshot names.
 //!
-//! A `LogReader` reads a snapshot, its changelog list and that list's manifests alone, as `pm_table_view` reads those of
-//! a table, or goes on from a snapshot that was just read (`opened`): its `Log` has their entries. `named_paths` lists
-//! all paths that a snapshot names, by a view of it and its changelog.
+//! A `LogReader` reads a snapshot, its changelog list and that list's manifests alone, as `pm_table_view` reads those
+//! of a table, or goes on from a snapshot that was just read (`opened`): its `Log` has their entries. `named_paths`
+//! lists all paths that a snapshot names, by a view of it and its changelog.
 //!
-//! `specs/LogReader.antt` has the phases, the calls and what each answer leads to, `specs/LogMeaning.antt` what a reader
-//! knows in each phase, and `specs/LogTrace.antt` which calls it made.
+//! `specs/LogReader.antt` has the phases, the calls and what each answer leads to, `specs/LogMeaning.antt` what a
+//! reader knows in each phase, and `specs/LogTrace.antt` which calls it made.
 #![tactic(auto)]
 
 mod log;

@@ -54,7 +54,8 @@ pub fn log_images_law()
 pub fn whole_law()
     ensures { (p : Past) (v : ViewView) (l : LogView) (path : List ℕ) → IsViewIn p v → IsLogIn p l
         → KeepsEntries v.wanted → v.snapshot ≡ Some l.snapshot → v.schema ≡ l.schema
-        → Contains (named_paths l.schema l.snapshot (parts_of v.manifests.items v.live.items l.manifests.items l.changes.items)) path
+        → Contains (named_paths l.schema l.snapshot
+        (parts_of v.manifests.items v.live.items l.manifests.items l.changes.items)) path
         ↔ Names (p.stood l.snapshot.id) l.schema l.snapshot.id path }
 {
     one_contents_law();

@@ -51,7 +51,7 @@ key_of (Some i ∷ places) partition rest = get_or partition i Null ∷ key_of p
 key_of (None ∷ places) partition (value ∷ rest) = value ∷ key_of places partition rest
 key_of (None ∷ places) partition [] = Null ∷ key_of places partition []
 
--- Private: the value that is there, else null
+-- the value that is there, else null
 abbrev pub or_null : Option Value → Value
 or_null value = unwrap_or value Null
 

@@ -1,7 +1,8 @@
 //! Manifests and lists of them, written and read. What a file of either is read as, and what is written of its records,
 //! are definitions of `pm_manifest`.
 //!
-//! What is written is read as the same, by `write_list` and `write_manifest`.
+//! What `write_list` writes is read as the same, and so is what `write_manifest` writes of entries that a manifest can
+//! have.
 #![tactic(auto)]
 
 mod field_values;

@@ -3,8 +3,9 @@
 //! `merge_runs` makes one run of several, the oldest first: it covers the rows that they cover, also in their place
 //! between other runs (`specs/Merge.antt`), and may leave out the stored rows that have no effect where nothing older
 //! is left. `Merging` gives the rows of that run one after another, for those who need no run (`specs/Merging.antt`).
-//! One run is made into itself (`one_run_law`). All of this rests on the laws of `MergeEngine` alone. Runs are merged in
-//! pairs, and these again, so that each row takes part in about as many comparisons as the number of runs can be halved.
+//! One run is made into itself (`one_run_law`). All of this rests on the laws of `MergeEngine` alone. Runs are merged
+//! in pairs, and these again, so that each row takes part in about as many comparisons as the number of runs can be
+//! halved.
 //!
 //! Rows come from a `RowSource` and go from place to place (`RowPlace`), and no run is made on the way. A `RowSlot` of
 //! `pm_seen` is such a place: a row that lies in bytes stays there, and is copied only where it is combined or taken.

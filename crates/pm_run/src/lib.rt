@@ -5,9 +5,9 @@
 //! it depends on stands in `specs/Form.antt`. Which row a record is, its first misfit, and what is written of a row
 //! stand in `specs/Row.antt`, and how rows follow each other in `specs/Order.antt`. `specs/Rows.antt` says which rows a
 //! file has, and the first refusal in the order of bytes; `specs/Reader.antt` what a reader gives, row by row and block
-//! by block; `specs/Writing.antt` which files are written for rows, what is known of each, and which rows a run of files
-//! has. `src/laws.rt` has what holds of the rows of files: they are one list, in order, of rows that fit, and reading
-//! gives them. `pm_run_file` reads and writes the files.
+//! by block; `specs/Writing.antt` which files are written for rows, what is known of each, and which rows a run of
+//! files has. `src/laws.rt` has what holds of the rows of files: they are one list, in order, of rows that fit, and
+//! reading gives them. `pm_run_file` reads and writes the files.
 #![tactic(auto)]
 
 mod form;

@@ -2,7 +2,7 @@
 //!
 //! What the calls do to the files stands in `specs/Files.antt`, what they answer in `specs/Answers.antt`,
 //! what a crash may leave in `specs/Images.antt`, and what contracts see of a store in
-//! `specs/Store.antt`.
+//! `specs/Store.antt`. `pm_folder_store` has the store on a real folder.
 #![tactic(auto)]
 
 mod answer;

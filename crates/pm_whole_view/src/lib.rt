@@ -1,8 +1,8 @@
 //! A whole view of a table at a snapshot: the view with the entries of its live files, and the snapshot's changelog.
 //!
-//! A `WholeReader` is one machine over the two readers of `pm_table_view`: the reader of the view reads the snapshot
-//! first, without a listing, and the reader of the changelog goes on from that. It changes nothing. Once both are ready
-//! it has them, and all paths that the snapshot names.
+//! A `WholeReader` is one machine over two readers: that of the view (`pm_table_view`) reads the snapshot first,
+//! without a listing, and that of the changelog (`pm_log_view`) goes on from that. It changes nothing. Once both are
+//! ready it has them, and all paths that the snapshot names.
 //!
 //! `specs/Whole.antt` has the phases, the calls and what each answer leads to; `specs/Meaning.antt` what a reader knows
 //! in each phase, and that its paths are those that the snapshot named; `specs/Trace.antt` which calls it made, and
