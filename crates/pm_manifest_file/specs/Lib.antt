@@ -1,3 +1,4 @@
 pub mod FieldValues
 pub mod Reader
 pub mod Taken
+pub mod Writing

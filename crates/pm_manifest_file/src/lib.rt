@@ -12,6 +12,7 @@ mod list_writer;
 mod manifest_reader;
 mod manifest_writer;
 mod number;
+mod pushing;
 mod shape;
 mod statistics;
 

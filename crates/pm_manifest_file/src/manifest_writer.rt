@@ -1,6 +1,6 @@
 //! Manifests that are written.
 
-ghost use Rattle.std.specs.Prelude.{◌≡◌, List, ℕ, Ok, map, IfOk, IfErr};
+ghost use Rattle.std.specs.Prelude.{◌≡◌, ◌++◌, ◌∷◌, [], List, ℕ, Ok, map, IfOk, IfErr, OnOk};
 ghost use Rattle.std.specs.List.{AllByRecursion};
 ghost use Rattle.pm_values.specs.declared.refusal.Refusal.TheVariants.{Memory};
 ghost use Rattle.pm_avro_data.specs.Datum.{view};
@@ -8,11 +8,14 @@ ghost use Rattle.pm_record.specs.File.{IsFileOf, ReadsFile};
 ghost use Rattle.pm_binrow.specs.Row.{IsShort};
 ghost use Rattle.pm_manifest.specs.Entries.{IsEntry, IsFileWithin, IsWithin, entry_data, entry_in, file_data};
 ghost use Rattle.pm_manifest.specs.Entries.{has_entry_fields, key_data, kind_data, time_data};
+ghost use Rattle.pm_manifest_file.specs.Writing.{content_data, numbers_data, statistics_data};
+ghost use Rattle.pm_manifest_file.specs.Writing.{HasContentWithin, HasNumbersWithin};
 ghost use Rattle.pm_manifest.specs.Shape.{rest_of, shape_of};
 ghost use Rattle.pm_manifest.specs.«Type».{entry_type};
 
 use crate::kind::entry_kind;
 use crate::number::{MOST_COUNTED, MOST_ID, MOST_SEQUENCE, write_count, write_natural};
+use crate::pushing::push_datum;
 use crate::shape::TableShape;
 use crate::statistics::{MOST_IN_BLOCK, unknown_statistics};
 use pm_avro_data::{Datum, Leaf};
@@ -94,19 +97,52 @@ fn file_datum(alloc: Global, shape: &TableShape, file: &FileMeta) -> Result<Datu
     ensures within { IfOk result (λ d. IsFileWithin shape.now file.now) }
 {
     let mut values = Vec::with_capacity(alloc, 12)?;
-    values.push(Datum::Text(file.name.copy(alloc)?))?;
-    values.push(write_count(file.size, MOST_COUNTED)?)?;
-    values.push(write_count(file.rows, MOST_COUNTED)?)?;
-    values.push(key_datum(alloc, shape, &file.min_key)?)?;
-    values.push(key_datum(alloc, shape, &file.max_key)?)?;
-    values.push(unknown_statistics(alloc, &shape.rest)?)?;
-    values.push(unknown_statistics(alloc, &shape.columns)?)?;
-    values.push(write_count(file.min_seq, MOST_SEQUENCE)?)?;
-    values.push(write_count(file.max_seq, MOST_SEQUENCE)?)?;
-    values.push(write_count(file.schema_id, MOST_ID)?)?;
-    values.push(write_natural(file.level)?)?;
-    values.push(time_datum(file.created))?;
+    push_content(alloc, shape, file, &mut values)?;
+    push_statistics(alloc, shape, &mut values)?;
+    push_numbers(file, &mut values)?;
     Ok(Datum::Record(values))
+}
+
+/// Adds the data of a file's name, its size, its rows, and its least and greatest keys.
+fn push_content(
+    alloc: Global,
+    shape: &TableShape,
+    file: &FileMeta,
+    values: &mut Vec<Datum>,
+) -> Result<(), AllocError>
+    ensures data { OnOk result (map view values.new.items
+        ≡ map view values.old.items ++ content_data shape.now file.now) }
+    ensures within { OnOk result (HasContentWithin shape.now file.now) }
+{
+    push_datum(values, Datum::Text(file.name.copy(alloc)?))?;
+    push_datum(values, write_count(file.size, MOST_COUNTED)?)?;
+    push_datum(values, write_count(file.rows, MOST_COUNTED)?)?;
+    push_datum(values, key_datum(alloc, shape, &file.min_key)?)?;
+    push_datum(values, key_datum(alloc, shape, &file.max_key)?)
+}
+
+/// Adds the data of its statistics, of which nothing is known.
+fn push_statistics(
+    alloc: Global,
+    shape: &TableShape,
+    values: &mut Vec<Datum>,
+) -> Result<(), AllocError>
+    ensures { OnOk result (map view values.new.items ≡ map view values.old.items ++ statistics_data shape.now) }
+{
+    push_datum(values, unknown_statistics(alloc, &shape.rest)?)?;
+    push_datum(values, unknown_statistics(alloc, &shape.columns)?)
+}
+
+/// Adds the data of its sequence numbers, its schema, its level, and the moment of its creation.
+fn push_numbers(file: &FileMeta, values: &mut Vec<Datum>) -> Result<(), AllocError>
+    ensures data { OnOk result (map view values.new.items ≡ map view values.old.items ++ numbers_data file.now) }
+    ensures within { OnOk result (HasNumbersWithin file.now) }
+{
+    push_datum(values, write_count(file.min_seq, MOST_SEQUENCE)?)?;
+    push_datum(values, write_count(file.max_seq, MOST_SEQUENCE)?)?;
+    push_datum(values, write_count(file.schema_id, MOST_ID)?)?;
+    push_datum(values, write_natural(file.level)?)?;
+    push_datum(values, time_datum(file.created))
 }
 
 /// The datum of a key: its values that aren't the partition's.
