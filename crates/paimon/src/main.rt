@@ -70,13 +70,7 @@ fn run_command(rt: &HostRuntime, folder: &Txt, words: &[Txt]) -> u8 {
 
 /// A store on a folder.
 fn open_store(rt: &HostRuntime, folder: &Txt) -> Result<FolderStore<HostRuntime>, StoreFail> {
-    FolderStore::open(rt.alloc(), rt.clone()?, without_slashes(folder.as_str()))
-}
-
-/// The folder's name without slashes at its end; a name of slashes alone stays as it is.
-fn without_slashes(folder: &str) -> &str {
-    let name = folder.trim_end_matches('/');
-    if name.is_empty() { folder } else { name }
+    FolderStore::open(rt.alloc(), rt.clone()?, folder.as_str())
 }
 
 /// The words of the command line after the program's name.

@@ -6,5 +6,11 @@
 
 mod disk;
 mod folder;
+mod listing;
+mod lock;
+mod look;
+mod paths;
+mod syncing;
+mod temporary;
 
 pub use folder::FolderStore;

@@ -1,0 +1,80 @@
+//! Paths of the store as texts, and the ways to spell the folder itself.
+
+ghost use Rattle.std.specs.Prelude.{◌≡◌, IfOk};
+ghost use Rattle.pm_folder_store.specs.Paths.{is_name, is_path, IsPlace};
+
+use std::alloc::{AllocError, Global};
+
+/// How many bytes a name has at most.
+const LONGEST_NAME: usize = 255;
+
+/// Whether a file of the store can have a path: each part of it is a name.
+pub(crate) fn is_path(path: &str) -> bool
+    ensures { result ≡ is_path path.now }
+{
+    path.split('/').all(|part| is_name(part))
+}
+
+/// Whether a file or a folder of the store can have a name: it has 1 to 255 bytes, no NUL, and no dot at its front.
+pub(crate) fn is_name(name: &str) -> bool
+    ensures { result ≡ is_name name.now }
+{
+    let bytes = name.as_bytes();
+    !bytes.is_empty() && bytes.len() <= LONGEST_NAME && bytes[0] != b'.' && !bytes.contains(&0)
+}
+
+/// Where a path of the store stands in the file system; nowhere where no file can have it.
+pub(crate) fn place_of(alloc: Global, root: &str, path: &str) -> Result<Option<String>, AllocError>
+    ensures { IfOk result (IsPlace root.now path.now) }
+{
+    if !is_path(path) {
+        return Ok(None);
+    }
+    Ok(Some(format!(in alloc; "{root}/{path}")?))
+}
+
+/// The folder of the store that a path of the store stands in; the empty text for the store's own.
+pub(crate) fn store_folder_of(path: &str) -> &str {
+    match path.rsplit_once('/') {
+        Some((folder, _)) => folder,
+        None => "",
+    }
+}
+
+/// The folder that a path in the file system stands in.
+pub(crate) fn folder_of(path: &str) -> &str {
+    match path.rsplit_once('/') {
+        Some(("", _)) => "/",
+        Some((folder, _)) => folder,
+        None => ".",
+    }
+}
+
+/// Whether folders alone stand in a folder of the store: in the store's own, and in a partition's, whose name has a `=`.
+pub(crate) fn has_folders(folder: &str) -> bool {
+    match folder.rsplit_once('/') {
+        Some((_, name)) => name.contains('='),
+        None => folder.is_empty() || folder.contains('='),
+    }
+}
+
+/// A folder's name without slashes and without `/.` at its end. Where nothing else stands in it, it is `/`.
+pub(crate) fn without_end(folder: &str) -> &str {
+    let mut name = folder;
+    for _ in 0..folder.len() {
+        match shorter(name) {
+            Some("") => return "/",
+            Some(left) => name = left,
+            None => return name,
+        }
+    }
+    name
+}
+
+/// A folder's name without its last slash or `/.`, where it ends in one.
+fn shorter(name: &str) -> Option<&str> {
+    match name.strip_suffix('/') {
+        Some(left) => Some(left),
+        None => name.strip_suffix("/."),
+    }
+}

@@ -1,0 +1,131 @@
+//! Which folders have their names on the disk. A folder's time of change tells whether it has to be synced.
+
+ghost use Rattle.std.specs.Prelude.{◌≡◌, IfErr};
+
+use crate::look::is_absent;
+use crate::paths::folder_of;
+use pm_store::StoreFail;
+use std::alloc::Global;
+use std::collections::BTreeMap;
+use std::fs::File;
+use std::io;
+use std::io::ErrorKind;
+use std::rt::{Clock, Files};
+use std::time::SystemTime;
+
+/// How old a folder's last change has to be, in milliseconds, before its time tells it from a later one.
+const SETTLED_MILLIS: u128 = 1000;
+
+/// The times of change at which this process has seen folders synced.
+pub(crate) struct Synced {
+    times: BTreeMap<String, SystemTime>,
+}
+
+impl Drop for Synced {
+    fn drop(self) {
+        let Synced { times } = self;
+    }
+}
+
+impl Synced {
+    /// No folder.
+    pub(crate) fn new(alloc: Global) -> Synced {
+        Synced {
+            times: BTreeMap::new(alloc),
+        }
+    }
+
+    /// Has the names in a folder on the disk, after a change in it. It can't be out of memory any more.
+    pub(crate) fn sync<R: Files<File = File> + Clock>(
+        &mut self,
+        alloc: Global,
+        rt: &R,
+        folder: &str,
+    ) -> Result<(), StoreFail>
+        ensures { IfErr result (λ fail. fail ≡ StoreFail.Failed) }
+    {
+        match self.sync_names(alloc, rt, folder) {
+            Ok(()) => Ok(()),
+            Err(_) => Err(StoreFail::Failed),
+        }
+    }
+
+    /// Has the names in a folder on the disk, and keeps the time of its last change where that tells it from a later
+    /// one.
+    pub(crate) fn sync_names<R: Files<File = File> + Clock>(
+        &mut self,
+        alloc: Global,
+        rt: &R,
+        folder: &str,
+    ) -> io::Result<()> {
+        let changed = rt.metadata(folder)?.modified()?;
+        sync_folder(rt, folder)?;
+        if is_settled(rt, changed) {
+            let _ = self.times.insert(String::from_str(alloc, folder)?, changed);
+        }
+        Ok(())
+    }
+
+    /// Has the names in a folder on the disk where it changed since this process last synced it; of a folder that isn't
+    /// there any more, those in the nearest one above it, up to the root.
+    pub(crate) fn settle<R: Files<File = File> + Clock>(
+        &mut self,
+        alloc: Global,
+        rt: &R,
+        root: &str,
+        folder: &str,
+    ) -> Result<(), StoreFail> {
+        let mut nearest = folder;
+        for _ in 0..folder.len() {
+            match rt.metadata(nearest) {
+                Ok(found) => return self.settle_from(alloc, rt, nearest, found.modified()?),
+                Err(e) if is_absent(&e) && nearest.len() > root.len() => {
+                    nearest = folder_of(nearest);
+                }
+                Err(e) if is_absent(&e) => return Ok(()),
+                Err(e) => return Err(StoreFail::from(e)),
+            }
+        }
+        Ok(())
+    }
+
+    /// Syncs a folder whose last change was then, unless this process has synced it since.
+    fn settle_from<R: Files<File = File> + Clock>(
+        &mut self,
+        alloc: Global,
+        rt: &R,
+        folder: &str,
+        changed: SystemTime,
+    ) -> Result<(), StoreFail> {
+        if self.times.get(folder) == Some(&changed) {
+            return Ok(());
+        }
+        Ok(self.sync_names(alloc, rt, folder)?)
+    }
+}
+
+/// Syncs a folder. Where the file system can't sync one, or can't be written, nothing is pending in it.
+fn sync_folder<R: Files<File = File>>(rt: &R, folder: &str) -> io::Result<()> {
+    match File::open(rt, folder)?.sync_all() {
+        Err(e) if !is_never_pending(&e) => Err(e),
+        _ => Ok(()),
+    }
+}
+
+/// Whether a sync's error says that nothing can be pending: EINVAL or EROFS.
+fn is_never_pending(error: &io::Error) -> bool {
+    matches!(
+        error.kind(),
+        ErrorKind::InvalidInput | ErrorKind::ReadOnlyFilesystem
+    )
+}
+
+/// Whether a time lies so far back that a change now would have another one.
+fn is_settled<R: Clock>(rt: &R, changed: SystemTime) -> bool {
+    match SystemTime::now(rt) {
+        Ok(now) => now
+            .duration_since(changed)
+            .is_ok_and(|passed| passed.as_millis() >= SETTLED_MILLIS),
+        Err(_) => false,
+    }
+}
