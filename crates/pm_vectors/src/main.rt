@@ -94,6 +94,7 @@ mod command;
 mod datum;
 mod file;
 mod folder;
+mod foreign;
 mod levels;
 mod live;
 mod long_run;

@@ -1,6 +1,7 @@
 //! Calls of a store, one after another: of one in memory, of one that fails, and of two on one folder.
 
 use crate::between::say_between;
+use crate::foreign::say_foreign;
 use pm_base::{Blob, Txt};
 use pm_case::Case;
 use pm_store::{
@@ -74,7 +75,8 @@ fn make_calls<F: FileStore>(case: &mut Case, store: &mut F, calls: &str) {
 }
 
 /// Says the answers of calls on a store on the folder, and on another where `other` stands before the call. Both were
-/// opened before the first call. `hidden` counts the names with a dot in the folder, and the files that were begun.
+/// opened before the first call. `hidden` counts the names with a dot in the folder, and the files that were begun;
+/// `foreign` makes something past the store.
 pub fn folder_answer<F: FileStore>(
     rt: &HostRuntime,
     case: &mut Case,
@@ -88,6 +90,7 @@ pub fn folder_answer<F: FileStore>(
         say_between(case, is_later, "; ");
         match split(call) {
             ("hidden", _) => say_hidden(rt, case, folder),
+            ("foreign", act) => say_foreign(rt, case, act),
             ("other", call) => make_call(case, other, call),
             _ => make_call(case, store, call),
         }
