@@ -452,7 +452,8 @@ impl<R: Files<File = File> + AllocGlobal + Clock + Clone + Drop> Disk<R> {
     /// The lock of the folder, held until it is closed: alone for a change, and with other readers for a list.
     fn locked(&self, alloc: Global, is_change: bool) -> Result<File, StoreFail> {
         let path = format!(in alloc; "{}/.lock", self.root)?;
-        locked(&self.rt, path.as_str(), is_change)
+        let turns = format!(in alloc; "{}/.new", self.root)?;
+        locked(&self.rt, path.as_str(), turns.as_str(), is_change)
     }
 }
 

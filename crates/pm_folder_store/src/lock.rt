@@ -1,6 +1,7 @@
-//! The lock of the table: a file that is locked as long as it is open.
+//! The lock of the table: a file that is locked as long as it is open. Who asks for it holds another lock meanwhile, so
+//! that readers who come and go don't keep a writer waiting.
 
-use crate::look::open_file;
+use crate::look::{Kind, kind_at, open_file};
 use pm_store::StoreFail;
 use std::fs::{File, TryLockError};
 use std::hint;
@@ -23,13 +24,24 @@ const LOOKS: u32 = 100;
 const FILE_TRIES: u32 = 100;
 
 /// A lock file, locked until it is closed: alone for a change, and with other readers for a list. It is asked for so
-/// often, and never waited for. It is made only where it isn't there.
+/// often, and never waited for. It is made only where it isn't there. `turns` is a folder, which is locked by whoever
+/// asks.
 pub(crate) fn locked<R: Files<File = File> + Clock>(
     rt: &R,
     path: &str,
+    turns: &str,
     is_change: bool,
 ) -> Result<File, StoreFail> {
     let file = lock_file(rt, path)?;
+    let _turn = turn(rt, turns);
+    match tried(rt, &file, is_change) {
+        Ok(()) => Ok(file),
+        Err(e) => Err(of_lock(e)),
+    }
+}
+
+/// Asks for the lock of a file or a folder that is open so often.
+fn tried<R: Clock>(rt: &R, file: &File, is_change: bool) -> Result<(), TryLockError> {
     for _ in 0..LOCK_TRIES {
         let locked = if is_change {
             file.try_lock()
@@ -37,12 +49,26 @@ pub(crate) fn locked<R: Files<File = File> + Clock>(
             file.try_lock_shared()
         };
         match locked {
-            Ok(()) => return Ok(file),
             Err(TryLockError::WouldBlock) => pause(rt),
-            Err(TryLockError::Error(e)) => return Err(StoreFail::from(e)),
+            other => return other,
         }
     }
-    Err(StoreFail::Failed)
+    Err(TryLockError::WouldBlock)
+}
+
+/// The turn to ask for the table's lock, held until it is closed. Where there is no such folder, or it can't be locked,
+/// one asks without a turn.
+fn turn<R: Files<File = File> + Clock>(rt: &R, folder: &str) -> Option<File> {
+    let Ok(Kind::Folder) = kind_at(rt, folder) else {
+        return None;
+    };
+    let Ok(file) = File::open(rt, folder) else {
+        return None;
+    };
+    match tried(rt, &file, true) {
+        Ok(()) => Some(file),
+        Err(_) => None,
+    }
 }
 
 /// The lock file, opened for reading where it is there, so that who may only read can lock it too. One that is made
