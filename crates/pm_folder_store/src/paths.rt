@@ -1,7 +1,7 @@
 //! Paths of the store as texts, and the ways to spell the folder itself.
 
-ghost use Rattle.std.specs.Prelude.{◌≡◌, IfOk};
-ghost use Rattle.pm_folder_store.specs.Paths.{is_name, is_path, IsPlace};
+ghost use Rattle.std.specs.Prelude.{◌≡◌, IfOk, MatchOption};
+ghost use Rattle.pm_folder_store.specs.Paths.{is_name, is_path, IsPlace, HasNoSlash, IsCutAtLast, IsFolderOf, IsStoreFolderOf};
 
 use std::alloc::{AllocError, Global};
 
@@ -34,17 +34,21 @@ pub(crate) fn place_of(alloc: Global, root: &str, path: &str) -> Result<Option<S
 }
 
 /// The folder of the store that a path of the store stands in; the empty text for the store's own.
-pub(crate) fn store_folder_of(path: &str) -> &str {
-    match path.rsplit_once('/') {
+pub(crate) fn store_folder_of(path: &str) -> &str
+    ensures { IsStoreFolderOf path.now result.now }
+{
+    match cut(path) {
         Some((folder, _)) => folder,
         None => "",
     }
 }
 
 /// The folder that a path in the file system stands in.
-pub(crate) fn folder_of(path: &str) -> &str {
-    match path.rsplit_once('/') {
-        Some(("", _)) => "/",
+pub(crate) fn folder_of(path: &str) -> &str
+    ensures { IsFolderOf path.now result.now }
+{
+    match cut(path) {
+        Some((folder, _)) if folder.is_empty() => "/",
         Some((folder, _)) => folder,
         None => ".",
     }
@@ -52,10 +56,17 @@ pub(crate) fn folder_of(path: &str) -> &str {
 
 /// Whether folders alone stand in a folder of the store: in the store's own, and in a partition's, whose name has a `=`.
 pub(crate) fn has_folders(folder: &str) -> bool {
-    match folder.rsplit_once('/') {
+    match cut(folder) {
         Some((_, name)) => name.contains('='),
         None => folder.is_empty() || folder.contains('='),
     }
+}
+
+/// What stands before and after the last slash of a path; nothing where it has none.
+fn cut(path: &str) -> Option<(&str, &str)>
+    ensures { MatchOption result (HasNoSlash path.now) (λ x. IsCutAtLast path.now x.0.now x.1.now) }
+{
+    path.rsplit_once('/')
 }
 
 /// A folder's name without slashes and without `/.` at its end. Where nothing else stands in it, it is `/`.

@@ -1,5 +1,8 @@
 //! The files that are being written, in a folder of their own. Each is locked as long as it is open.
 
+ghost use Rattle.std.specs.Prelude.{◌≡◌, ◌↔◌, IfOk, IsTrue, decimal, string_bytes};
+ghost use Rattle.pm_folder_store.specs.Temporary.{IsTemporary};
+
 use crate::lock::of_lock;
 use crate::look::{Kind, kind_at, make_folder, open_file};
 use pm_store::StoreFail;
@@ -86,9 +89,21 @@ fn take_left<R: Files<File = File>>(rt: &R, path: &str) -> Result<(), StoreFail>
 }
 
 /// Whether `begin_file` gives a name: a number as it is printed.
-fn is_temporary(alloc: Global, name: &str) -> Result<bool, AllocError> {
+fn is_temporary(alloc: Global, name: &str) -> Result<bool, AllocError>
+    ensures { IfOk result (λ is. IsTrue is ↔ IsTemporary name.now) }
+{
     match name.parse::<u32>() {
-        Ok(n) if n < TEMPORARY_NAMES => Ok(format!(in alloc; "{n}")?.as_str() == name),
+        Ok(n) if n < TEMPORARY_NAMES => {
+            let printed = print_number(alloc, n)?;
+            Ok(printed.as_str() == name)
+        }
         _ => Ok(false),
     }
+}
+
+/// A number as it is printed.
+fn print_number(alloc: Global, n: u32) -> Result<String, AllocError>
+    ensures { IfOk result (λ s. string_bytes s ≡ decimal n) }
+{
+    format!(in alloc; "{n}")
 }
