@@ -13,7 +13,7 @@ ghost use Rattle.std.specs.List.Sorted.{IsStrictlySortedBy};
 ghost use Rattle.std.specs.Ordering.{nat_cmp};
 ghost use Rattle.pm_folder_store.specs.Disk.{Judges, IsReplaced};
 
-use crate::listing::shown_names;
+use crate::listing::{is_empty, shown_names};
 use crate::lock::locked;
 use crate::look::{Kind, kind_at, make_folder, read_at};
 use crate::paths::{folder_of, has_folders, is_path, place_of, store_folder_of, without_end};
@@ -393,6 +393,7 @@ impl<R: Files<File = File> + AllocGlobal + Clock + Clone + Drop> Disk<R> {
     }
 
     /// Makes a folder of the store and those on its way, each with its name on the disk before there is anything in it.
+    /// So one that is there and isn't empty has its name on the disk: what is in it came after that.
     fn make_folders(&mut self, alloc: Global, folder: &str) -> Result<(), StoreFail> {
         let mut above = String::from_str(alloc, self.root.as_str())?;
         if folder.is_empty() {
@@ -402,7 +403,7 @@ impl<R: Files<File = File> + AllocGlobal + Clock + Clone + Drop> Disk<R> {
             let next = format!(in alloc; "{above}/{part}")?;
             if make_folder(&self.rt, next.as_str())? {
                 self.synced.sync_names(alloc, &self.rt, above.as_str())?;
-            } else {
+            } else if is_empty(&self.rt, next.as_str())? {
                 self.settle(alloc, above.as_str())?;
             }
             above = next;

@@ -33,6 +33,14 @@ pub(crate) fn shown_names<R: Files<File = File> + AllocGlobal + Clone + Drop>(
     Ok(names)
 }
 
+/// Whether nothing stands in a folder.
+pub(crate) fn is_empty<R: Files<File = File> + AllocGlobal + Clone + Drop>(
+    rt: &R,
+    folder: &str,
+) -> io::Result<bool> {
+    Ok(fs::read_dir(rt, folder)?.next().is_none())
+}
+
 /// An entry of a folder whose name is UTF-8; none where it isn't.
 fn readable<R: Files<File = File>>(
     entry: io::Result<DirEntry<R, Global>>,
