@@ -1,6 +1,5 @@
 -- What the last slash of a path tells.
-use Rattle.std.proofs.Common.{◌≡◌, ◌≢◌, ◌<◌, ◌++◌, ◌∷◌, ◌∙◌, ℕ, List, Option, None, Some, MatchOption, length, take, drop, get_or, ap, sym, subst, lit<}
-use Rattle.std.specs.Str.{NoCharPasses}
+use Rattle.std.proofs.Common.{◌++◌, ◌∷◌, ◌∙◌, ℕ, List, Option, None, Some, MatchOption, take, drop, ap, sym, subst, lit<}
 use Rattle.std.specs.Str.Pattern.{RFindsChar, SplitsAroundMatch}
 use Rattle.std.proofs.lemmas.List.{take-append-drop}
 use Rattle.std.proofs.lemmas.Str.Pattern.{NoCharPasses-char, drop_at_char}

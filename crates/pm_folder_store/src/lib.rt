@@ -1,7 +1,9 @@
 //! The store on a real folder.
 //!
 //! What it does to the folder is trusted: no clause tells of it. What is proved is that it is safe and ends, that a
-//! failure counts as a fault, and, in `specs/Disk.antt`, which verdict answers which condition.
+//! failure counts as a fault, which verdict answers which condition (`specs/Disk.antt`), where a path of the store
+//! stands, which is below the folder or nowhere (`specs/Paths.antt`), and which names temporary files have
+//! (`specs/Temporary.antt`).
 #![tactic(auto)]
 
 mod disk;
