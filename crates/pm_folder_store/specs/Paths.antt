@@ -28,7 +28,7 @@ IsCutAtLast path front name = HasNoSlash name × (path ≡ front ++ (47 ∷ name
 abbrev pub IsStoreFolderOf : List ℕ → List ℕ → Type 0
 IsStoreFolderOf path folder = (HasNoSlash path × (folder ≡ [])) ⊎ ((name : List ℕ) × IsCutAtLast path folder name)
 
--- the folder that a path stands in: what stands before its last slash, `/` where that is nothing, and `.` without a slash
+-- the folder that a path stands in: what stands before its last slash, `/` where that is nothing, `.` without a slash
 abbrev pub IsFolderOf : List ℕ → List ℕ → Type 0
 IsFolderOf path folder = (HasNoSlash path × (folder ≡ codes "."))
     ⊎ ((front : List ℕ) × (name : List ℕ) × IsCutAtLast path front name

@@ -1,7 +1,8 @@
 //! Paths of the store as texts, and the ways to spell the folder itself.
 
 ghost use Rattle.std.specs.Prelude.{◌≡◌, IfOk, MatchOption};
-ghost use Rattle.pm_folder_store.specs.Paths.{is_name, is_path, IsPlace, HasNoSlash, IsCutAtLast, IsFolderOf, IsStoreFolderOf};
+ghost use Rattle.pm_folder_store.specs.Paths.{is_name, is_path, IsPlace};
+ghost use Rattle.pm_folder_store.specs.Paths.{HasNoSlash, IsCutAtLast, IsFolderOf, IsStoreFolderOf};
 
 use std::alloc::{AllocError, Global};
 
@@ -54,7 +55,8 @@ pub(crate) fn folder_of(path: &str) -> &str
     }
 }
 
-/// Whether folders alone stand in a folder of the store: in the store's own, and in a partition's, whose name has a `=`.
+/// Whether folders alone stand in a folder of the store: in the store's own, and in a partition's, whose name has a
+/// `=`.
 pub(crate) fn has_folders(folder: &str) -> bool {
     match cut(folder) {
         Some((_, name)) => name.contains('='),
