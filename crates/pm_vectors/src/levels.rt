@@ -1,8 +1,7 @@
 //! Files made into runs.
 
-use crate::between::say_between;
 use crate::file::{file_of, keys_of};
-use pm_case::Case;
+use pm_case::{Case, say_between};
 use pm_levels::{LevelFault, Levels};
 use pm_values::{FileMeta, Txt};
 

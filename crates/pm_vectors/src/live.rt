@@ -1,9 +1,8 @@
 //! The live files that manifests leave, one after another.
 
-use crate::between::say_between;
 use crate::file::file_of;
 use indexmap::IndexMap;
-use pm_case::Case;
+use pm_case::{Case, say_between};
 use pm_manifest::{Entry, FileId, fold_entries};
 use pm_values::{FileMeta, Group, Key, Row, Txt};
 use std::alloc::Global;

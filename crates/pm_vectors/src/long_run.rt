@@ -3,14 +3,13 @@
 ghost use Rattle.std.specs.Prelude.{◌≡◌, ◌≤◌, false};
 ghost use Rattle.pm_run.specs.Writing.{AreRising};
 
-use crate::between::say_between;
 use crate::order::are_rising;
 use crate::rows::push_line;
 use crate::run_file::say_blocks;
 use crate::sum::checksum;
 use crate::table::Table;
 use crate::written::{names, say_meta};
-use pm_case::Case;
+use pm_case::{Case, say_between};
 use pm_run::RunFile;
 use pm_run_file::{RunReader, write_run};
 use pm_values::{Refusal, Stamped};

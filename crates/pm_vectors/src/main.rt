@@ -42,13 +42,13 @@
 //! | `long-run` | a count, a limit | the files, each with what is read of it; or the refusal |
 //! | `timed-run` | a count | in how many milliseconds such a run is written and read, for a script of `bench/` |
 //! | `merge` | a draft, `keep` or `drop`, runs | the rows of the run that they are made into; or `nothing` |
-//! | `source` | see `stream.rt` | the lines of a source that fails |
-//! | `sink` | see `stream.rt` | what a sink takes, and whether that is all |
+//! | `source` | see `stream.rt` of `pm_case_stores` | the lines of a source that fails |
+//! | `sink` | see `stream.rt` of `pm_case_stores` | what a sink takes, and whether that is all |
 //! | `lines` | the number of a read that fails, or 0; a text | the lines that aren't blank, or why not |
 //! | `store` | `memory`, `fails` and a plan, or `folder` and a name; calls | their answers |
 //! | `created` | a name, a draft | `create` through one store of that folder and through another, then `snapshots` |
 //! | `scanned` | a name; paths, each with a file's bytes | `scan` of that folder, in which these files were created |
-//! | `writers` | a name, the table's commits, two row lines | two writers of that folder in turn, see `writers.rt` |
+//! | `writers` | a name, the table's commits, two row lines | two writers of that folder in turn, see `writers.rt` of `pm_case_stores` |
 //!
 //! The argument of `live` is manifests with `;` between them. The entries of one are words: `+NAME@LEVEL/BUCKET` adds a
 //! file, and `-` in the place of `+` deletes one. Entries are numbered from 1.
@@ -88,13 +88,10 @@ mod avro;
 mod avro_datum;
 mod avro_file;
 mod avro_record;
-mod between;
 mod binary_row;
-mod command;
 mod datum;
 mod file;
 mod folder;
-mod foreign;
 mod levels;
 mod live;
 mod long_run;
@@ -102,7 +99,6 @@ mod manifest;
 mod manifest_blocks;
 mod merge;
 mod order;
-mod real_folder;
 mod record_text;
 mod refusal;
 mod row;
@@ -110,16 +106,17 @@ mod rows;
 mod run_file;
 mod schema;
 mod snapshot;
-mod store;
-mod stream;
 mod sum;
 mod table;
 mod text;
 mod timed_run;
-mod writers;
 mod written;
 
 use pm_case::Case;
+use pm_case_stores::{
+    answer_folder as answer_real, failing_answer, lines_answer, memory_answer, sink_answer,
+    source_answer, split,
+};
 use std::alloc::AllocError;
 use std::io;
 
@@ -177,9 +174,9 @@ fn answer_file(rt: &HostRuntime, case: &mut Case, codec: &str, arguments: &str) 
         "consumer" | "consumer-text" => snapshot::consumer_answer(case, codec, arguments),
         "live" => live::answer(case, arguments),
         "levels" => levels::answer(case, arguments),
-        "source" => stream::source_answer(case, arguments),
-        "sink" => stream::sink_answer(case, arguments),
-        "lines" => stream::lines_answer(case, arguments),
+        "source" => source_answer(case, arguments),
+        "sink" => sink_answer(case, arguments),
+        "lines" => lines_answer(case, arguments),
         _ => answer_folder(rt, case, codec, arguments),
     }
 }
@@ -189,7 +186,7 @@ fn answer_folder(rt: &HostRuntime, case: &mut Case, codec: &str, arguments: &str
     let (first, rest) = arguments.split_once('\t').unwrap_or((arguments, ""));
     match codec {
         "store" => answer_store(rt, case, first, rest),
-        "created" | "scanned" | "writers" => real_folder::answer(rt, case, codec, first, rest),
+        "created" | "scanned" | "writers" => answer_real(rt, case, codec, first, rest),
         "folder" => table::answer(rt, case, codec, rest, first),
         "manifest-list"
         | "manifest"
@@ -206,10 +203,10 @@ fn answer_folder(rt: &HostRuntime, case: &mut Case, codec: &str, arguments: &str
 
 /// What a store of a kind answers to calls.
 fn answer_store(rt: &HostRuntime, case: &mut Case, kind: &str, calls: &str) {
-    match store::split(kind) {
-        ("memory", _) => store::memory_answer(case, calls),
-        ("fails", plan) => store::failing_answer(case, plan, calls),
-        ("folder", folder) => real_folder::answer(rt, case, "store", folder, calls),
+    match split(kind) {
+        ("memory", _) => memory_answer(case, calls),
+        ("fails", plan) => failing_answer(case, plan, calls),
+        ("folder", folder) => answer_real(rt, case, "store", folder, calls),
         _ => case.reject(),
     }
 }

@@ -1,7 +1,6 @@
 //! The records of manifest lists and manifests, printed.
 
-use crate::between::say_between;
-use pm_case::Case;
+use pm_case::{Case, say_between};
 use pm_manifest::{Entry, ManifestMeta};
 use pm_values::{FileMeta, Value};
 

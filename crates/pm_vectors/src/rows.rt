@@ -1,8 +1,7 @@
 //! Rows with their sequence numbers, read and printed.
 
-use crate::between::say_between;
 use crate::table::Table;
-use pm_case::Case;
+use pm_case::{Case, say_between};
 use pm_history::key_of;
 use pm_rows::{print_row, read_row};
 use pm_values::{Key, Kind, Row, Stamped};

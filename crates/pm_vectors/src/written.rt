@@ -3,12 +3,11 @@
 ghost use Rattle.std.specs.Prelude.{◌≡◌, ◌≤◌};
 ghost use Rattle.pm_run.specs.Writing.{AreRising};
 
-use crate::between::say_between;
 use crate::order::{are_changes, are_rising};
 use crate::rows::{push_line, read_rows, say_key};
 use crate::run_file::say_file;
 use crate::table::Table;
-use pm_case::Case;
+use pm_case::{Case, say_between};
 use pm_run::RunFile;
 use pm_run_file::{write_changes, write_run};
 use pm_values::{FileMeta, Names, Stamped};

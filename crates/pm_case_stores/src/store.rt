@@ -1,9 +1,8 @@
 //! Calls of a store, one after another: of one in memory, of one that fails, and of two on one folder.
 
-use crate::between::say_between;
 use crate::foreign::say_foreign;
 use pm_base::{Blob, Txt};
-use pm_case::Case;
+use pm_case::{Case, say_between};
 use pm_store::{
     Answer, Call, Effect, FailStore, FileStore, Made, MemStore, Planned, Published, Removed,
     StoreFail, Swapped, perform,
