@@ -94,25 +94,18 @@ mod file;
 mod folder;
 mod levels;
 mod live;
-mod long_run;
 mod manifest;
 mod manifest_blocks;
-mod merge;
-mod order;
 mod record_text;
 mod refusal;
 mod row;
-mod rows;
-mod run_file;
 mod schema;
 mod snapshot;
-mod sum;
 mod table;
 mod text;
-mod timed_run;
-mod written;
 
 use pm_case::Case;
+use pm_case_runs::DRAFT;
 use pm_case_stores::{
     answer_folder as answer_real, failing_answer, lines_answer, memory_answer, sink_answer,
     source_answer, split,
@@ -196,7 +189,7 @@ fn answer_folder(rt: &HostRuntime, case: &mut Case, codec: &str, arguments: &str
         | "write-run"
         | "write-changes"
         | "merge" => table::answer(rt, case, codec, first, rest),
-        "long-run" | "timed-run" => table::answer(rt, case, codec, long_run::DRAFT, arguments),
+        "long-run" | "timed-run" => table::answer(rt, case, codec, DRAFT, arguments),
         _ => case.reject(),
     }
 }

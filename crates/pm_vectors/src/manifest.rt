@@ -1,8 +1,7 @@
 //! Manifest lists and manifests, read and written again.
 
 use crate::record_text::{say_entry, say_meta};
-use crate::sum::say_sum;
-use pm_case::Case;
+use pm_case::{Case, say_sum};
 use pm_manifest::{Entry, ManifestMeta};
 use pm_manifest_file::{read_list, read_manifest, write_list, write_manifest};
 use pm_schema::TableSchema;

@@ -3,8 +3,7 @@
 use crate::avro_file::say_counts;
 use crate::file::{file_of, keys_of};
 use crate::live::entry_of;
-use crate::sum::say_sum;
-use pm_case::Case;
+use pm_case::{Case, say_sum};
 use pm_manifest::{Entry, ManifestMeta};
 use pm_manifest_file::{write_list, write_manifest};
 use pm_schema::TableSchema;

@@ -1,6 +1,6 @@
 //! Checksums.
 
-use pm_case::Case;
+use crate::case::Case;
 
 /// Says the length of bytes, and their checksum.
 pub fn say_sum(case: &mut Case, bytes: &[u8]) {

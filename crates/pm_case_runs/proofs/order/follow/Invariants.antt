@@ -1,6 +1,6 @@
 use Rattle.std.proofs.Common.{◌≡◌, Some, drop}
 use Rattle.pm_run.specs.Order.{are_in_order}
-use Rattle.pm_vectors.proofs.order.follow.Given as goal
+use Rattle.pm_case_runs.proofs.order.follow.Given as goal
 
 -- those so far may follow
 abbrev pub invariant-loop-row : goal.invariant-loop-row

@@ -1,5 +1,5 @@
 use Rattle.std.proofs.Common.{◌≡◌, false}
-use Rattle.pm_vectors.proofs.long_run.count_rows.Given as goal
+use Rattle.pm_case_runs.proofs.long_run.count_rows.Given as goal
 
 -- the reader isn't over
 abbrev pub invariant-loop-count : goal.invariant-loop-count

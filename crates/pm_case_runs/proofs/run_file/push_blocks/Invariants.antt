@@ -1,5 +1,5 @@
 use Rattle.std.proofs.Common.{◌≤◌, length}
-use Rattle.pm_vectors.proofs.run_file.push_blocks.Given as goal
+use Rattle.pm_case_runs.proofs.run_file.push_blocks.Given as goal
 
 -- the offset is one of the file
 abbrev pub invariant-loop : goal.invariant-loop

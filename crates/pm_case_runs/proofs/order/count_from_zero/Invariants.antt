@@ -1,6 +1,6 @@
 use Rattle.std.proofs.Common.{drop}
 use Rattle.pm_run.specs.Writing.{CountFrom}
-use Rattle.pm_vectors.proofs.order.count_from_zero.Given as goal
+use Rattle.pm_case_runs.proofs.order.count_from_zero.Given as goal
 
 -- those so far count
 abbrev pub invariant-loop-index : goal.invariant-loop-index
