@@ -1,5 +1,5 @@
-//! What the codecs of `pm_vectors` and the stores of `pm_case_stores` have in common: a case, arguments that spell
-//! bytes, columns, and refusals as answers.
+//! What the cases of `pm_vectors` and of `pm_store_cases` have in common: a case, arguments that spell bytes, columns,
+//! and refusals as answers.
 #![tactic(auto)]
 
 mod argument;

@@ -1,7 +1,7 @@
 //! The cases of what no command shows by itself, a line in and a line out: each line of standard input names a codec,
 //! or what else is tried, and its arguments, with a TAB between them, and the line that is printed for it is the
 //! answer. Blank lines and lines that begin with `#` are printed as they are, so that both texts can be read side by
-//! side. `pm_commands` has the cases of commands.
+//! side. `pm_store_cases` has the cases of streams and stores, `pm_commands` those of commands.
 //!
 //! | Codec | Arguments | Answer |
 //! |---|---|---|
@@ -42,13 +42,6 @@
 //! | `long-run` | a count, a limit | the files, each with what is read of it; or the refusal |
 //! | `timed-run` | a count | in how many milliseconds such a run is written and read, for a script of `bench/` |
 //! | `merge` | a draft, `keep` or `drop`, runs | the rows of the run that they are made into; or `nothing` |
-//! | `source` | see `stream.rt` of `pm_case_stores` | the lines of a source that fails |
-//! | `sink` | see `stream.rt` of `pm_case_stores` | what a sink takes, and whether that is all |
-//! | `lines` | the number of a read that fails, or 0; a text | the lines that aren't blank, or why not |
-//! | `store` | `memory`, `fails` and a plan, or `folder` and a name; calls | their answers |
-//! | `created` | a name, a draft | `create` through one store of that folder and through another, then `snapshots` |
-//! | `scanned` | a name; paths, each with a file's bytes | `scan` of that folder, in which these files were created |
-//! | `writers` | a name, the table's commits, two row lines | two writers of that folder in turn, see `writers.rt` of `pm_case_stores` |
 //!
 //! The argument of `live` is manifests with `;` between them. The entries of one are words: `+NAME@LEVEL/BUCKET` adds a
 //! file, and `-` in the place of `+` deletes one. Entries are numbered from 1.
@@ -106,10 +99,6 @@ mod text;
 
 use pm_case::Case;
 use pm_case_runs::DRAFT;
-use pm_case_stores::{
-    answer_folder as answer_real, failing_answer, lines_answer, memory_answer, sink_answer,
-    source_answer, split,
-};
 use std::alloc::AllocError;
 use std::io;
 
@@ -167,19 +156,14 @@ fn answer_file(rt: &HostRuntime, case: &mut Case, codec: &str, arguments: &str) 
         "consumer" | "consumer-text" => snapshot::consumer_answer(case, codec, arguments),
         "live" => live::answer(case, arguments),
         "levels" => levels::answer(case, arguments),
-        "source" => source_answer(case, arguments),
-        "sink" => sink_answer(case, arguments),
-        "lines" => lines_answer(case, arguments),
-        _ => answer_folder(rt, case, codec, arguments),
+        _ => answer_table(rt, case, codec, arguments),
     }
 }
 
-/// What is answered of a folder or of a table, where one is tried.
-fn answer_folder(rt: &HostRuntime, case: &mut Case, codec: &str, arguments: &str) {
+/// What is answered of a table, where one is tried.
+fn answer_table(rt: &HostRuntime, case: &mut Case, codec: &str, arguments: &str) {
     let (first, rest) = arguments.split_once('\t').unwrap_or((arguments, ""));
     match codec {
-        "store" => answer_store(rt, case, first, rest),
-        "created" | "scanned" | "writers" => answer_real(rt, case, codec, first, rest),
         "folder" => table::answer(rt, case, codec, rest, first),
         "manifest-list"
         | "manifest"
@@ -190,16 +174,6 @@ fn answer_folder(rt: &HostRuntime, case: &mut Case, codec: &str, arguments: &str
         | "write-changes"
         | "merge" => table::answer(rt, case, codec, first, rest),
         "long-run" | "timed-run" => table::answer(rt, case, codec, DRAFT, arguments),
-        _ => case.reject(),
-    }
-}
-
-/// What a store of a kind answers to calls.
-fn answer_store(rt: &HostRuntime, case: &mut Case, kind: &str, calls: &str) {
-    match split(kind) {
-        ("memory", _) => memory_answer(case, calls),
-        ("fails", plan) => failing_answer(case, plan, calls),
-        ("folder", folder) => answer_real(rt, case, "store", folder, calls),
         _ => case.reject(),
     }
 }

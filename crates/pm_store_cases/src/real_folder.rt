@@ -7,7 +7,7 @@ use pm_folder_store::FolderStore;
 use pm_store::{FileStore, Made};
 
 /// What a codec answers of a folder, of which two stores are opened before any call.
-pub fn answer_folder(rt: &HostRuntime, case: &mut Case, codec: &str, folder: &str, rest: &str) {
+pub fn answer(rt: &HostRuntime, case: &mut Case, codec: &str, folder: &str, rest: &str) {
     match open(rt, case, folder) {
         Some(store) => open_other(rt, case, codec, folder, rest, store),
         None => case.say("no store"),
