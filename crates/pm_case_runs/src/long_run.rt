@@ -10,7 +10,8 @@ use crate::table::Table;
 use crate::written::{names, say_meta};
 use pm_case::{Case, checksum, say_between};
 use pm_run::RunFile;
-use pm_run_file::{RunReader, write_run};
+use pm_run_reader::RunReader;
+use pm_run_writer::write_run;
 use pm_values::{Refusal, Stamped};
 use std::alloc::Global;
 

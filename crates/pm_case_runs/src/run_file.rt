@@ -5,7 +5,7 @@ ghost use Rattle.std.specs.Prelude.{◌≡◌, false};
 use crate::rows::say_stamped;
 use crate::table::Table;
 use pm_case::Case;
-use pm_run_file::RunReader;
+use pm_run_reader::RunReader;
 use pm_values::{Blob, Refusal, Stamped};
 
 /// The rows of a file of a table at a path, written with the schema of an id, and its blocks; or the refusal.

@@ -9,7 +9,7 @@ use crate::run_file::say_file;
 use crate::table::Table;
 use pm_case::{Case, say_between};
 use pm_run::RunFile;
-use pm_run_file::{write_changes, write_run};
+use pm_run_writer::{write_changes, write_run};
 use pm_values::{FileMeta, Names, Stamped};
 
 /// The session whose files are written.

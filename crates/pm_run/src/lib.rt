@@ -7,7 +7,7 @@
 //! file has, and the first refusal in the order of bytes; `specs/Reader.antt` what a reader gives, row by row and block
 //! by block; `specs/Writing.antt` which files are written for rows, what is known of each, and which rows a run of
 //! files has. `src/laws.rt` has what holds of the rows of files: they are one list, in order, of rows that fit, and
-//! reading gives them. `pm_run_file` reads and writes the files.
+//! reading gives them. `pm_run_reader` reads the files, and `pm_run_writer` writes them.
 #![tactic(auto)]
 
 mod form;

@@ -14,7 +14,7 @@ use crate::job::{Ends, Job};
 use pm_base::Blob;
 use pm_engines::TableEngine;
 use pm_run::order_law;
-use pm_run_file::RunReader;
+use pm_run_reader::RunReader;
 use pm_schema::TableSchema;
 use pm_shown::{print_groups, shows_by_kind_law};
 use pm_stored::StoredRun;

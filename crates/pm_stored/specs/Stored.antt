@@ -3,7 +3,7 @@ use Rattle.std.specs.Prelude.{◌≡◌, ℕ, ◌+◌, List, ◌++◌, length, N
 use Rattle.std.specs.List.{flat_map}
 use Rattle.pm_values.specs.declared.refusal.Refusal.{Refusal}
 use Rattle.pm_engine.specs.Covers.{Run}
-use Rattle.pm_run_file.specs.Lying.{StillLie, lying_left}
+use Rattle.pm_run_bytes.specs.Lying.{StillLie, lying_left}
 use Rattle.pm_run.specs.Order.{last_key}
 use Rattle.pm_run.specs.Reader.{StopsAfter}
 use Rattle.pm_run.specs.Rows.{Opened}

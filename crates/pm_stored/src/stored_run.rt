@@ -7,7 +7,7 @@ ghost use Rattle.pm_stored.specs.Stored.{RefusesRows, StillGives};
 
 use crate::file::{ReadFile, RowsLeft};
 use crate::rows::StoredRows;
-use pm_run_file::RunReader;
+use pm_run_reader::RunReader;
 use pm_values::{Key, Refusal};
 use std::alloc::Global;
 use std::marker::Model;

@@ -11,7 +11,7 @@ ghost use Rattle.pm_write.specs.Held.{all_groups, group_rows, IsHeld};
 
 use crate::held::{HeldRows, count_from};
 use pm_run::RunFile;
-use pm_run_file::write_run;
+use pm_run_writer::write_run;
 use pm_schema::TableSchema;
 use pm_values::{Blob, FileMeta, Group, Names, Refusal, Stamped, Txt};
 use std::alloc::{AllocError, Global};

@@ -1,0 +1,3 @@
+mod DirectLemmas
+mod JudgeLemmas
+mod LyingLemmas

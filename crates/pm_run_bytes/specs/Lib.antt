@@ -1,0 +1,4 @@
+pub mod Block
+pub mod Direct
+pub mod Lying
+pub mod Seen

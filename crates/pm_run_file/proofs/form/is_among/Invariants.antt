@@ -1,7 +1,0 @@
-use Rattle.std.proofs.Common.{◌≡◌, drop}
-use Rattle.pm_schema.specs.Rules.{is_among}
-use Rattle.pm_run_file.proofs.form.is_among.Given as goal
-
--- none so far is the name
-abbrev pub invariant-loop-other : goal.invariant-loop-other
-invariant-loop-other l = is_among (drop l.other-index l.others) l.name ≡ is_among l.others l.name

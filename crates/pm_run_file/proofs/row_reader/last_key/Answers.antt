@@ -1,5 +1,0 @@
-use Rattle.pm_run_file.proofs.FindLemmas.{last_of_slice}
-use Rattle.pm_run_file.proofs.row_reader.last_key.Goals as goal
-
-pub returns-in-Some : goal.returns-in-Some
-returns-in-Some c = last_of_slice c.args.before.now c.args.rows.now c.in-Some.row.now c.in-Some.ensures.value

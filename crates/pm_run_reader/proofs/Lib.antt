@@ -1,0 +1,4 @@
+mod AppendLemmas
+mod FindLemmas
+mod JudgeLemmas
+mod KnownLemmas

@@ -1,0 +1,2 @@
+pub mod ReadRowsLemmas
+mod TakingLemmas

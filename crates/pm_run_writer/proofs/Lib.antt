@@ -1,0 +1,3 @@
+mod FileLemmas
+mod LoopLemmas
+mod TypeLemmas

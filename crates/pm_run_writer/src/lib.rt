@@ -1,0 +1,13 @@
+//! The files of runs and of changelogs, written. Which files are written for rows is a definition of `pm_run`.
+//!
+//! What is written of rows that a file can have is read as the same rows. All calls take time linear in the bytes but
+//! for the test that names of fields differ, which takes the square of how many there are, once for a call.
+//!
+//! The names of a schema's columns differ by its rules. Where those of some other schema don't, calls answer that
+//! memory ran out.
+#![tactic(auto)]
+
+mod row_writer;
+mod writer;
+
+pub use writer::{write_changes, write_run};
