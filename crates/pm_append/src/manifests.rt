@@ -12,7 +12,7 @@ use crate::newest::{CommitFile, Newest};
 use crate::snapshot::ListNames;
 use pm_base::{Blob, Txt};
 use pm_manifest::{Entry, ManifestMeta};
-use pm_manifest_file::{write_list, write_manifest};
+use pm_manifest_writer::{write_list, write_manifest};
 use pm_schema::TableSchema;
 use pm_values::{Names, Refusal};
 use std::alloc::{AllocError, Global};

@@ -16,7 +16,7 @@ use crate::log_phase::LogPhase;
 use pm_base::{Blob, Txt};
 use pm_contents::folder_law;
 use pm_manifest::{Entry, ManifestMeta, read_entry_law};
-use pm_manifest_file::{read_list, read_manifest};
+use pm_manifest_reader::{read_list, read_manifest};
 use pm_snapshot::{SnapFault, Snapshot, read_snapshot};
 use pm_table_view::{damaged_schema, damaged_snapshot, manifest_path};
 use pm_values::Refusal;

@@ -8,7 +8,7 @@
 //! Lists and manifests are Avro files of records, of the types in `specs/Type.antt`. What a record is read as, and what
 //! is written of one, is said in `specs/Listed.antt` and `specs/Entries.antt`, and what of a table's schema it depends
 //! on in `specs/Shape.antt`. What is written is read as the same, by `written_entry_law`; what is read can be written,
-//! by `read_entry_law`. `pm_manifest_file` reads and writes the files.
+//! by `read_entry_law`. `pm_manifest_reader` reads the files, and `pm_manifest_writer` writes them.
 //!
 //! `fold_entries` takes about constant time an entry: it moves the entry into a hash map, and copies its id once.
 #![tactic(auto)]

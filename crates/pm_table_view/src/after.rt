@@ -33,7 +33,7 @@ use pm_base::{Blob, Txt};
 use pm_contents::{folder_law, group_levels, live_law};
 use pm_levels::Levels;
 use pm_manifest::{Entry, FileId, ManifestMeta, fold_entries, read_entry_law};
-use pm_manifest_file::{read_list, read_manifest};
+use pm_manifest_reader::{read_list, read_manifest};
 use pm_snapshot::{SnapFault, Snapshot, read_snapshot};
 use pm_values::{Group, Refusal};
 use std::alloc::{AllocError, Global};

@@ -3,7 +3,8 @@
 use crate::record_text::{say_entry, say_meta};
 use pm_case::{Case, say_sum};
 use pm_manifest::{Entry, ManifestMeta};
-use pm_manifest_file::{read_list, read_manifest, write_list, write_manifest};
+use pm_manifest_reader::{read_list, read_manifest};
+use pm_manifest_writer::{write_list, write_manifest};
 use pm_schema::TableSchema;
 use pm_values::Blob;
 

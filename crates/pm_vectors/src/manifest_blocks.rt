@@ -5,7 +5,7 @@ use crate::file::{file_of, keys_of};
 use crate::live::entry_of;
 use pm_case::{Case, say_sum};
 use pm_manifest::{Entry, ManifestMeta};
-use pm_manifest_file::{write_list, write_manifest};
+use pm_manifest_writer::{write_list, write_manifest};
 use pm_schema::TableSchema;
 use pm_values::{FileMeta, Txt};
 use std::alloc::{AllocError, Global};

@@ -1,4 +1,0 @@
-mod KindLemmas
-mod RecordLemmas
-mod ReadLemmas
-mod TakenLemmas

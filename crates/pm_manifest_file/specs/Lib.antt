@@ -1,4 +1,0 @@
-pub mod FieldValues
-pub mod Reader
-pub mod Taken
-pub mod Writing

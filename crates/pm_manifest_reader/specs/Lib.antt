@@ -1,0 +1,3 @@
+pub mod FieldValues
+pub mod Reader
+pub mod Taken
