@@ -3,7 +3,7 @@
 #![tactic(auto)]
 
 use pm_cli::run;
-use pm_folder_store::FolderStore;
+use pm_folder_store::{FolderStore, System};
 use pm_io::{StdSink, StdSource};
 use pm_store::StoreFail;
 use pm_values::Txt;
@@ -69,8 +69,11 @@ fn run_command(rt: &HostRuntime, folder: &Txt, words: &[Txt]) -> u8 {
 }
 
 /// A store on a folder.
-fn open_store(rt: &HostRuntime, folder: &Txt) -> Result<FolderStore<HostRuntime>, StoreFail> {
-    FolderStore::open(rt.alloc(), rt.clone()?, folder.as_str())
+fn open_store(
+    rt: &HostRuntime,
+    folder: &Txt,
+) -> Result<FolderStore<System<HostRuntime>>, StoreFail> {
+    FolderStore::open(rt.alloc(), System::new(rt.clone()?), folder.as_str())
 }
 
 /// The words of the command line after the program's name.

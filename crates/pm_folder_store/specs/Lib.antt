@@ -1,3 +1,4 @@
 pub mod Disk
+pub mod Folders
 pub mod Paths
 pub mod Temporary

@@ -1,11 +1,25 @@
-//! What a store on a real folder asks of the file system. It is trusted: no clause tells of content.
+//! What a store on a folder asks of its host. No clause tells of content.
 //!
 //! A file is put in its place by a rename, so that a reader sees all of it or nothing, and each change is made
-//! under the folder's lock. A name is on the disk before an answer speaks of it: a folder is synced after a
-//! change in it, and before an answer where it changed since this process last synced it.
+//! under the folder's lock.
+//!
+//! What is on the disk, and when:
+//!
+//! - A file's bytes are there before its name is.
+//! - A folder has its name there before anything is put into it, and the table's own folder before anything is put into
+//!   the first folder on a path's way. So a folder that isn't empty has its name there.
+//! - Files of `manifest` and of a bucket are reached only by their names in files of other folders. A change there only
+//!   *owes* its folder, and each change elsewhere first has the folders that are owed on the disk, before it names a
+//!   file of theirs. A power loss may so take away what nothing names yet, or bring back what was taken away: as if the
+//!   call hadn't come.
+//! - A change elsewhere is on the disk before it is answered.
+//! - A look into a folder whose files are named elsewhere syncs nothing: what names a file came to the disk after it. A
+//!   look elsewhere is on the disk before it is answered: the folder is synced where it changed since this process last
+//!   synced it. What a read finds under a name that this process listed needs none, in a folder where nothing is
+//!   replaced or made anew: that name was there since the listing.
 //!
 //! The folder itself may be what a link leads to. Inside it nothing is followed: each folder on a path is looked at
-//! before what stands in it is.
+//! before what stands in it is. What is open is closed on each path by the host's own call.
 
 ghost use Rattle.std.specs.Prelude.{◌≡◌, ◌↔◌, IfOk, IsTrue};
 ghost use Rattle.std.specs.Cmp.Lexicographic.{slice_cmp};
@@ -13,19 +27,22 @@ ghost use Rattle.std.specs.List.Sorted.{IsStrictlySortedBy};
 ghost use Rattle.std.specs.Ordering.{nat_cmp};
 ghost use Rattle.pm_folder_store.specs.Disk.{Judges, IsReplaced};
 
-use crate::listing::{is_empty, shown_names};
+use crate::host::{Host, Kind};
+use crate::known::Known;
+use crate::listing::shown_names;
 use crate::lock::locked;
-use crate::look::{Kind, kind_at, make_folder, read_at};
-use crate::paths::{folder_of, has_folders, is_path, place_of, store_folder_of, without_end};
+use crate::look::{is_absent, kind_at, make_folder, read_at};
+use crate::owed::Owed;
+use crate::paths::{
+    folder_of, has_folders, is_named_elsewhere, is_path, place_of, store_folder_of, without_end,
+};
 use crate::syncing::Synced;
-use crate::temporary::begin_file;
+use crate::temporary::{Begun, begin_file};
 use pm_base::{Blob, Txt};
 use pm_store::{StoreFail, is_expected, listed};
 use std::alloc::{AllocError, Global};
 use std::collections::BTreeSet;
-use std::fs::File;
-use std::io::{ErrorKind, Write};
-use std::rt::{Clock, Files};
+use std::io::ErrorKind;
 
 /// When a file is written.
 #[derive(Clone, Copy)]
@@ -61,42 +78,47 @@ struct Listing {
     names: BTreeSet<Txt>,
 }
 
-/// A folder, and which folders of it this process has seen synced.
-pub(crate) struct Disk<R: Files<File = File> + AllocGlobal + Clock + Clone + Drop> {
-    rt: R,
+/// A folder, and what this process knows and owes of what is on the disk.
+pub(crate) struct Disk<H: Host + Drop> {
+    host: H,
     root: String,
+    /// Whether this process made the folder itself, without its name on the disk yet.
+    is_root_new: bool,
+    /// Whether this process has seen the folder's own name on the disk.
     is_root_synced: bool,
     synced: Synced,
+    owed: Owed,
+    known: Known,
 }
 
-impl<R: Files<File = File> + AllocGlobal + Clock + Clone + Drop> Drop for Disk<R> {
+impl<H: Host + Drop> Drop for Disk<H> {
     fn drop(self) {
         let Disk {
-            rt,
+            host,
             root,
+            is_root_new,
             is_root_synced,
             synced,
+            owed,
+            known,
         } = self;
     }
 }
 
-impl<R: Files<File = File> + AllocGlobal + Clock + Clone + Drop> Disk<R> {
+impl<H: Host + Drop> Disk<H> {
     /// A folder that is there, or whose parent is. Nothing is made.
-    pub(crate) fn open(alloc: Global, rt: R, folder: &str) -> Result<Disk<R>, StoreFail> {
+    pub(crate) fn open(alloc: Global, host: H, folder: &str) -> Result<Disk<H>, StoreFail> {
+        let mut host = host;
         let root = String::from_str(alloc, without_end(folder))?;
-        match rt.metadata(root.as_str()) {
-            Ok(found) if found.is_dir() => {
-                rt.open_dir(format!(in alloc; "{root}/.")?.as_str())?;
-            }
-            Ok(_) => return Err(StoreFail::Failed),
-            Err(e) if e.kind() == ErrorKind::NotFound => can_be_made(&rt, root.as_str())?,
-            Err(e) => return Err(StoreFail::from(e)),
-        }
+        judge_root(alloc, &mut host, root.as_str())?;
         Ok(Disk {
-            rt,
+            host,
             root,
+            is_root_new: false,
             is_root_synced: false,
             synced: Synced::new(alloc),
+            owed: Owed::new(alloc),
+            known: Known::new(alloc),
         })
     }
 
@@ -111,14 +133,18 @@ impl<R: Files<File = File> + AllocGlobal + Clock + Clone + Drop> Disk<R> {
             folder: reached,
             names,
         } = self.listing(alloc, folder)?;
-        self.settle(alloc, reached.as_str())?;
-        Ok(listed(alloc, names)?)
+        let names = listed(alloc, names)?;
+        if !is_named_elsewhere(folder) {
+            self.settle(alloc, reached.as_str())?;
+            self.known.keep(alloc, folder, &names)?;
+        }
+        Ok(names)
     }
 
     /// The bytes at a path. A folder is no file.
     pub(crate) fn read(&mut self, alloc: Global, path: &str) -> Result<Option<Blob>, StoreFail> {
         let found = self.content(alloc, path)?;
-        self.settle_around(alloc, path)?;
+        self.settle_look(alloc, path, found.is_some())?;
         Ok(found)
     }
 
@@ -135,22 +161,18 @@ impl<R: Files<File = File> + AllocGlobal + Clock + Clone + Drop> Disk<R> {
         let Some(full) = self.place(alloc, path)? else {
             return Err(StoreFail::Failed);
         };
+        let full = full.as_str();
         let verdict = self.judge_first(alloc, path, condition)?;
         if !matches!(&verdict, Verdict::Write) {
-            self.settle_around(alloc, path)?;
+            self.settle_refusal(alloc, path, full, condition, &verdict)?;
             return Ok(verdict);
         }
         if !is_replaced(condition) {
-            self.make_root(alloc)?;
+            self.make_root()?;
         }
-        let (mut file, temporary) = self.temporary(alloc)?;
-        let (full, temporary) = (full.as_str(), temporary.as_str());
-        let answer = self.put_in_place(alloc, path, full, condition, bytes, &mut file, temporary);
-        // The file is still open, and so locked: as long as its name is there nobody else takes it away or has it anew.
-        if !matches!(&answer, Ok(Verdict::Write)) {
-            let _ = self.rt.remove_file(temporary);
-        }
-        drop(file);
+        let mut begun = self.begin(alloc)?;
+        let answer = self.put_in_place(alloc, path, full, condition, bytes, &mut begun);
+        self.end(begun);
         answer
     }
 
@@ -160,23 +182,34 @@ impl<R: Files<File = File> + AllocGlobal + Clock + Clone + Drop> Disk<R> {
             return Err(StoreFail::Failed);
         };
         if !self.has_content(alloc, path)? {
-            self.settle_around(alloc, path)?;
+            self.settle_look(alloc, path, false)?;
             return Ok(false);
         }
-        let _lock = self.locked(alloc, true)?;
+        self.settle_owed(alloc, path)?;
+        let lock = self.locked(alloc, true)?;
+        let answer = self.remove_locked(alloc, path, full.as_str());
+        self.host.close(lock);
+        answer
+    }
+
+    /// Takes a path away under the lock.
+    fn remove_locked(&mut self, alloc: Global, path: &str, full: &str) -> Result<bool, StoreFail> {
         if !self.has_content(alloc, path)? {
-            self.settle_around(alloc, path)?;
+            self.settle_look(alloc, path, false)?;
             return Ok(false);
         }
-        self.rt.remove_file(full.as_str())?;
-        let mut folder = folder_of(full.as_str());
+        let is_owed = self.owe(alloc, path, full)?;
+        self.host.remove_file(full)?;
+        let mut folder = folder_of(full);
         for _ in 0..path.len() {
-            if folder == self.root.as_str() || self.rt.remove_dir(folder).is_err() {
+            if folder == self.root.as_str() || self.host.remove_dir(folder).is_err() {
                 break;
             }
             folder = folder_of(folder);
         }
-        self.synced.sync(alloc, &self.rt, folder)?;
+        if !is_owed {
+            self.synced.sync(alloc, &mut self.host, folder)?;
+        }
         Ok(true)
     }
 
@@ -186,9 +219,9 @@ impl<R: Files<File = File> + AllocGlobal + Clock + Clone + Drop> Disk<R> {
     }
 
     /// Whether the folder itself is there. It may be what a link leads to.
-    fn has_root(&self) -> Result<bool, StoreFail> {
-        match self.rt.metadata(self.root.as_str()) {
-            Ok(found) if found.is_dir() => Ok(true),
+    fn has_root(&mut self) -> Result<bool, StoreFail> {
+        match self.host.look_through(self.root.as_str()) {
+            Ok(found) if matches!(found.kind, Kind::Folder) => Ok(true),
             Ok(_) => Err(StoreFail::Failed),
             Err(e) if e.kind() == ErrorKind::NotFound => Ok(false),
             Err(e) => Err(StoreFail::from(e)),
@@ -196,7 +229,7 @@ impl<R: Files<File = File> + AllocGlobal + Clock + Clone + Drop> Disk<R> {
     }
 
     /// The way to a folder of the store. What is neither a file nor a folder on it is a fault; a file ends it.
-    fn way(&self, alloc: Global, folder: &str) -> Result<Way, StoreFail> {
+    fn way(&mut self, alloc: Global, folder: &str) -> Result<Way, StoreFail> {
         let mut reached = String::from_str(alloc, self.root.as_str())?;
         let mut is_whole = self.has_root()?;
         if !is_whole || folder.is_empty() {
@@ -207,13 +240,13 @@ impl<R: Files<File = File> + AllocGlobal + Clock + Clone + Drop> Disk<R> {
         }
         for part in folder.split('/') {
             let next = format!(in alloc; "{reached}/{part}")?;
-            match kind_at(&self.rt, next.as_str())? {
-                Kind::Folder => reached = next,
-                Kind::Nothing | Kind::File => {
+            match kind_at(&mut self.host, next.as_str())? {
+                Some(Kind::Folder) => reached = next,
+                Some(Kind::File) | None => {
                     is_whole = false;
                     break;
                 }
-                Kind::Other => return Err(StoreFail::Failed),
+                Some(Kind::Other) => return Err(StoreFail::Failed),
             }
         }
         Ok(Way {
@@ -222,50 +255,50 @@ impl<R: Files<File = File> + AllocGlobal + Clock + Clone + Drop> Disk<R> {
         })
     }
 
-    /// What stands at a path of the store. What is neither a file nor a folder on its way is a fault.
-    fn kind(&self, alloc: Global, path: &str) -> Result<Kind, StoreFail> {
+    /// What stands at a path of the store, or nothing. What is neither a file nor a folder on its way is a fault.
+    fn kind(&mut self, alloc: Global, path: &str) -> Result<Option<Kind>, StoreFail> {
         let Some(full) = self.place(alloc, path)? else {
-            return Ok(Kind::Nothing);
+            return Ok(None);
         };
         if !self.way(alloc, store_folder_of(path))?.is_whole {
-            return Ok(Kind::Nothing);
+            return Ok(None);
         }
-        Ok(kind_at(&self.rt, full.as_str())?)
+        Ok(kind_at(&mut self.host, full.as_str())?)
     }
 
     /// Whether a file is at a path. A folder is no file, and anything else that stands there is a fault.
-    fn has_content(&self, alloc: Global, path: &str) -> Result<bool, StoreFail> {
+    fn has_content(&mut self, alloc: Global, path: &str) -> Result<bool, StoreFail> {
         match self.kind(alloc, path)? {
-            Kind::File => Ok(true),
-            Kind::Nothing | Kind::Folder => Ok(false),
-            Kind::Other => Err(StoreFail::Failed),
+            Some(Kind::File) => Ok(true),
+            Some(Kind::Folder) | None => Ok(false),
+            Some(Kind::Other) => Err(StoreFail::Failed),
         }
     }
 
     /// Whether a file is at a path that is to be a file's. Anything else that stands there is a fault.
-    fn is_file(&self, alloc: Global, path: &str) -> Result<bool, StoreFail> {
+    fn is_file(&mut self, alloc: Global, path: &str) -> Result<bool, StoreFail> {
         match self.kind(alloc, path)? {
-            Kind::File => Ok(true),
-            Kind::Nothing => Ok(false),
-            Kind::Folder | Kind::Other => Err(StoreFail::Failed),
+            Some(Kind::File) => Ok(true),
+            Some(Kind::Folder | Kind::Other) => Err(StoreFail::Failed),
+            None => Ok(false),
         }
     }
 
     /// The bytes at a path, or nothing where no file is.
-    fn content(&self, alloc: Global, path: &str) -> Result<Option<Blob>, StoreFail> {
+    fn content(&mut self, alloc: Global, path: &str) -> Result<Option<Blob>, StoreFail> {
         let Some(full) = self.place(alloc, path)? else {
             return Ok(None);
         };
         if !self.way(alloc, store_folder_of(path))?.is_whole {
             return Ok(None);
         }
-        read_at(alloc, &self.rt, full.as_str())
+        read_at(alloc, &mut self.host, full.as_str())
     }
 
     /// Whether a path is to be written, as far as that shows before the lock is held. Two files are two looks, and
     /// others may act between these: they are judged under the lock alone, unless there is no folder for either.
     fn judge_first(
-        &self,
+        &mut self,
         alloc: Global,
         path: &str,
         condition: Condition,
@@ -284,7 +317,12 @@ impl<R: Files<File = File> + AllocGlobal + Clock + Clone + Drop> Disk<R> {
     }
 
     /// Whether a path is to be written.
-    fn judge(&self, alloc: Global, path: &str, condition: Condition) -> Result<Verdict, StoreFail>
+    fn judge(
+        &mut self,
+        alloc: Global,
+        path: &str,
+        condition: Condition,
+    ) -> Result<Verdict, StoreFail>
         ensures { IfOk result (Judges condition.entry) }
     {
         match condition {
@@ -321,120 +359,228 @@ impl<R: Files<File = File> + AllocGlobal + Clock + Clone + Drop> Disk<R> {
         full: &str,
         condition: Condition,
         bytes: &[u8],
-        file: &mut File,
-        temporary: &str,
+        begun: &mut Begun<H::File>,
     ) -> Result<Verdict, StoreFail>
         ensures { IfOk result (Judges condition.entry) }
     {
         if is_replaced(condition) {
-            self.copy_mode(full, file)?;
+            self.copy_mode(full, &begun.file)?;
         }
-        file.write_all(bytes)?;
-        file.sync_all()?;
-        let _lock = self.locked(alloc, true)?;
+        self.host.write(&mut begun.file, bytes)?;
+        self.host.sync(&begun.file)?;
+        self.settle_owed(alloc, path)?;
+        let lock = self.locked(alloc, true)?;
+        let answer = self.put_locked(alloc, path, full, condition, begun);
+        self.host.close(lock);
+        answer
+    }
+
+    /// Renames a temporary file to its path where the condition holds, under the lock.
+    fn put_locked(
+        &mut self,
+        alloc: Global,
+        path: &str,
+        full: &str,
+        condition: Condition,
+        begun: &mut Begun<H::File>,
+    ) -> Result<Verdict, StoreFail>
+        ensures { IfOk result (Judges condition.entry) }
+    {
         let verdict = self.judge(alloc, path, condition)?;
-        if matches!(&verdict, Verdict::Write) {
-            if !is_replaced(condition) {
-                self.make_folders(alloc, store_folder_of(path))?;
-            }
-            self.rt.rename(temporary, full)?;
-            self.synced.sync(alloc, &self.rt, folder_of(full))?;
-        } else {
-            self.settle_around(alloc, path)?;
+        if !matches!(&verdict, Verdict::Write) {
+            self.settle_refusal(alloc, path, full, condition, &verdict)?;
+            return Ok(verdict);
+        }
+        let is_owed = self.owe(alloc, path, full)?;
+        if !is_replaced(condition) {
+            self.make_folders(alloc, store_folder_of(path))?;
+        }
+        self.host.rename(begun.path.as_str(), full)?;
+        begun.is_placed = true;
+        if !is_owed {
+            self.synced.sync(alloc, &mut self.host, folder_of(full))?;
         }
         Ok(verdict)
     }
 
     /// Gives a file the mode of the one that it is to replace.
-    fn copy_mode(&self, full: &str, file: &File) -> Result<(), StoreFail> {
-        if let Ok(found) = self.rt.symlink_metadata(full) {
-            if found.is_file() {
-                file.set_permissions(found.permissions())?;
-            }
+    fn copy_mode(&mut self, full: &str, file: &H::File) -> Result<(), StoreFail> {
+        match self.host.copy_mode(full, file) {
+            Err(e) if !is_absent(&e) => Err(StoreFail::from(e)),
+            _ => Ok(()),
         }
-        Ok(())
     }
 
     /// Has the names in a folder that is there on the disk where it changed since this process last synced it.
     fn settle(&mut self, alloc: Global, folder: &str) -> Result<(), StoreFail> {
         self.synced
-            .settle(alloc, &self.rt, self.root.as_str(), folder)
+            .settle(alloc, &mut self.host, self.root.as_str(), folder)
     }
 
-    /// The same of the last folder that is there on the way to a path.
-    fn settle_around(&mut self, alloc: Global, path: &str) -> Result<(), StoreFail> {
-        let folder = if is_path(path) {
-            store_folder_of(path)
-        } else {
-            ""
-        };
+    /// Has on the disk what a look at a path found: a file that is there, or that none is.
+    fn settle_look(&mut self, alloc: Global, path: &str, is_there: bool) -> Result<(), StoreFail> {
+        if !is_path(path) || (is_there && self.known.has(path)) {
+            return Ok(());
+        }
+        let folder = store_folder_of(path);
+        if is_named_elsewhere(folder) {
+            return Ok(());
+        }
         let way = self.way(alloc, folder)?;
         self.settle(alloc, way.folder.as_str())
     }
 
-    /// Makes the folder itself where it isn't there, and has its name on the disk.
-    fn make_root(&mut self, alloc: Global) -> Result<(), StoreFail> {
-        let is_made = match self.rt.create_dir(self.root.as_str()) {
-            Ok(()) => true,
-            Err(e) if e.kind() == ErrorKind::AlreadyExists => false,
-            Err(e) => return Err(StoreFail::from(e)),
-        };
-        if is_made || !self.is_root_synced {
-            // The folder may be what a link leads to: the one around it is found from within.
-            let around = format!(in alloc; "{}/..", self.root)?;
-            match self.synced.sync_names(alloc, &self.rt, around.as_str()) {
-                Ok(()) => {}
-                Err(e) if !is_made && e.kind() == ErrorKind::PermissionDenied => {}
-                Err(e) => return Err(StoreFail::from(e)),
-            }
-            self.is_root_synced = true;
+    /// Has on the disk what a put rests on that was refused. A file that is there and is named elsewhere is owed, since
+    /// the caller may go on to name it.
+    fn settle_refusal(
+        &mut self,
+        alloc: Global,
+        path: &str,
+        full: &str,
+        condition: Condition,
+        verdict: &Verdict,
+    ) -> Result<(), StoreFail> {
+        let is_there = matches!(verdict, Verdict::Exists | Verdict::Differs(Some(_)));
+        if is_there && self.owe(alloc, path, full)? {
+            return Ok(());
         }
+        self.settle_look(alloc, path, is_there)?;
+        let Condition::AbsentAfter(after) = condition else {
+            return Ok(());
+        };
+        if is_there || store_folder_of(after) == store_folder_of(path) {
+            return Ok(());
+        }
+        self.settle_look(alloc, after, false)
+    }
+
+    /// Owes the folder of a path where its files are named elsewhere, and answers whether they are.
+    fn owe(&mut self, alloc: Global, path: &str, full: &str) -> Result<bool, AllocError> {
+        if !is_named_elsewhere(store_folder_of(path)) {
+            return Ok(false);
+        }
+        self.owed.add(alloc, folder_of(full))?;
+        Ok(true)
+    }
+
+    /// Has the folders that are owed on the disk, before a change that may name a file of theirs: one in a folder whose
+    /// own files aren't named elsewhere.
+    fn settle_owed(&mut self, alloc: Global, path: &str) -> Result<(), StoreFail> {
+        if is_named_elsewhere(store_folder_of(path)) {
+            return Ok(());
+        }
+        let root = self.root.as_str();
+        self.owed
+            .settle(alloc, &mut self.synced, &mut self.host, root)
+    }
+
+    /// Makes the folder itself where it isn't there.
+    fn make_root(&mut self) -> Result<(), StoreFail> {
+        match self.host.create_dir(self.root.as_str()) {
+            Ok(()) => {
+                self.is_root_new = true;
+                self.is_root_synced = false;
+                Ok(())
+            }
+            Err(e) if e.kind() == ErrorKind::AlreadyExists => Ok(()),
+            Err(e) => Err(StoreFail::from(e)),
+        }
+    }
+
+    /// Has the folder's own name on the disk, once. Where somebody else made it, and the folder around it can't be
+    /// read, that is left to him.
+    fn sync_root(&mut self, alloc: Global) -> Result<(), StoreFail> {
+        if self.is_root_synced {
+            return Ok(());
+        }
+        // The folder may be what a link leads to: the one around it is found from within.
+        let around = format!(in alloc; "{}/..", self.root)?;
+        match self
+            .synced
+            .sync_names(alloc, &mut self.host, around.as_str())
+        {
+            Ok(()) => {}
+            Err(e) if !self.is_root_new && e.kind() == ErrorKind::PermissionDenied => {}
+            Err(e) => return Err(StoreFail::from(e)),
+        }
+        self.is_root_new = false;
+        self.is_root_synced = true;
         Ok(())
     }
 
     /// Makes a folder of the store and those on its way, each with its name on the disk before there is anything in it.
-    /// So one that is there and isn't empty has its name on the disk: what is in it came after that.
     fn make_folders(&mut self, alloc: Global, folder: &str) -> Result<(), StoreFail> {
-        let mut above = String::from_str(alloc, self.root.as_str())?;
         if folder.is_empty() {
-            return Ok(());
+            return self.sync_root(alloc);
         }
+        let mut above = String::from_str(alloc, self.root.as_str())?;
         for part in folder.split('/') {
             let next = format!(in alloc; "{above}/{part}")?;
-            if make_folder(&self.rt, next.as_str())? {
-                self.synced.sync_names(alloc, &self.rt, above.as_str())?;
-            } else if is_empty(&self.rt, next.as_str())? {
-                self.settle(alloc, above.as_str())?;
-            }
+            self.make_folder(alloc, above.as_str(), next.as_str())?;
             above = next;
         }
         Ok(())
     }
 
-    /// A new temporary file, locked as long as it is open, and its path.
-    fn temporary(&self, alloc: Global) -> Result<(File, String), StoreFail> {
-        let _lock = self.locked(alloc, true)?;
+    /// Makes a folder where it isn't there, with its name on the disk. One that isn't empty has that: what is in it
+    /// came after. The first on the way has the table's own name there, too, which so is there before any file.
+    fn make_folder(&mut self, alloc: Global, above: &str, folder: &str) -> Result<(), StoreFail> {
+        let is_new = make_folder(&mut self.host, folder)?;
+        if !is_new && !self.host.is_empty(folder)? {
+            return Ok(());
+        }
+        if above == self.root.as_str() {
+            self.sync_root(alloc)?;
+        }
+        if is_new {
+            return Ok(self.synced.sync_names(alloc, &mut self.host, above)?);
+        }
+        self.settle(alloc, above)
+    }
+
+    /// A new temporary file, locked as long as it is open.
+    fn begin(&mut self, alloc: Global) -> Result<Begun<H::File>, StoreFail> {
         let folder = format!(in alloc; "{}/.new", self.root)?;
-        begin_file(alloc, &self.rt, folder.as_str())
+        let lock = self.locked(alloc, true)?;
+        let begun = begin_file(alloc, &mut self.host, folder.as_str());
+        self.host.close(lock);
+        begun
+    }
+
+    /// Closes a temporary file, and takes it away where it wasn't put in its place. It is locked while its name is
+    /// there, so that nobody else takes it away or has that name anew.
+    fn end(&mut self, begun: Begun<H::File>) {
+        let Begun {
+            file,
+            path,
+            is_placed,
+        } = begun;
+        if !is_placed {
+            let _ = self.host.remove_file(path.as_str());
+        }
+        self.host.close(file);
     }
 
     /// The names in a folder of the store, read while no change is made. Without a lock file none was made yet.
-    fn listing(&self, alloc: Global, folder: &str) -> Result<Listing, StoreFail> {
+    fn listing(&mut self, alloc: Global, folder: &str) -> Result<Listing, StoreFail> {
         if !self.has_lock(alloc)? {
             let found = self.names_in(alloc, folder)?;
             if !self.has_lock(alloc)? {
                 return Ok(found);
             }
         }
-        let _lock = self.locked(alloc, false)?;
-        self.names_in(alloc, folder)
+        let lock = self.locked(alloc, false)?;
+        let found = self.names_in(alloc, folder);
+        self.host.close(lock);
+        found
     }
 
     /// The names in a folder of the store.
-    fn names_in(&self, alloc: Global, folder: &str) -> Result<Listing, StoreFail> {
+    fn names_in(&mut self, alloc: Global, folder: &str) -> Result<Listing, StoreFail> {
         let way = self.way(alloc, folder)?;
         let names = if way.is_whole {
-            shown_names(alloc, &self.rt, way.folder.as_str(), has_folders(folder))?
+            let reached = way.folder.as_str();
+            shown_names(alloc, &mut self.host, reached, has_folders(folder))?
         } else {
             BTreeSet::new(alloc)
         };
@@ -445,29 +591,43 @@ impl<R: Files<File = File> + AllocGlobal + Clock + Clone + Drop> Disk<R> {
     }
 
     /// Whether anything stands where the lock file does.
-    fn has_lock(&self, alloc: Global) -> Result<bool, StoreFail> {
+    fn has_lock(&mut self, alloc: Global) -> Result<bool, StoreFail> {
         let path = format!(in alloc; "{}/.lock", self.root)?;
-        Ok(!matches!(kind_at(&self.rt, path.as_str())?, Kind::Nothing))
+        Ok(kind_at(&mut self.host, path.as_str())?.is_some())
     }
 
     /// The lock of the folder, held until it is closed: alone for a change, and with other readers for a list.
-    fn locked(&self, alloc: Global, is_change: bool) -> Result<File, StoreFail> {
+    fn locked(&mut self, alloc: Global, is_change: bool) -> Result<H::File, StoreFail> {
         let path = format!(in alloc; "{}/.lock", self.root)?;
         let turns = format!(in alloc; "{}/.new", self.root)?;
-        locked(&self.rt, path.as_str(), turns.as_str(), is_change)
+        locked(&mut self.host, path.as_str(), turns.as_str(), is_change)
+    }
+}
+
+/// A folder that is there can be listed, or can be made.
+fn judge_root<H: Host>(alloc: Global, host: &mut H, root: &str) -> Result<(), StoreFail> {
+    match host.look_through(root) {
+        Ok(found) if matches!(found.kind, Kind::Folder) => {
+            let folder = host.open(format!(in alloc; "{root}/.")?.as_str())?;
+            host.close(folder);
+            Ok(())
+        }
+        Ok(_) => Err(StoreFail::Failed),
+        Err(e) if e.kind() == ErrorKind::NotFound => can_be_made(host, root),
+        Err(e) => Err(StoreFail::from(e)),
     }
 }
 
 /// A folder that isn't there can be made where its parent is a folder. What stands there, as a link to nothing, is a
 /// fault.
-fn can_be_made<R: Files>(rt: &R, root: &str) -> Result<(), StoreFail> {
-    if root.is_empty() || !matches!(kind_at(rt, root)?, Kind::Nothing) {
+fn can_be_made<H: Host>(host: &mut H, root: &str) -> Result<(), StoreFail> {
+    if root.is_empty() || kind_at(host, root)?.is_some() {
         return Err(StoreFail::Failed);
     }
-    if rt.metadata(folder_of(root))?.is_dir() {
-        return Ok(());
+    match host.look_through(folder_of(root))?.kind {
+        Kind::Folder => Ok(()),
+        Kind::File | Kind::Other => Err(StoreFail::Failed),
     }
-    Err(StoreFail::Failed)
 }
 
 /// Whether a file is replaced. Then each folder around it had its name on the disk before anything was in it.

@@ -5,27 +5,26 @@ ghost use Rattle.std.specs.Option.{option_copied};
 ghost use Rattle.pm_base.specs.Faults.{Rose};
 
 use crate::disk::{Condition, Disk, Verdict};
+use crate::host::Host;
 use pm_base::{Blob, Txt};
 use pm_store::{FileStore, Made, Published, Removed, StoreFail, Swapped};
 use std::alloc::Global;
-use std::fs::File;
 use std::marker::Model;
-use std::rt::{Clock, Files};
 
 /// A store on a folder, seen as its count of faults. Its lock file and its temporary files have names that begin
 /// with a dot, and no file of the store has one.
-pub struct FolderStore<R: Files<File = File> + AllocGlobal + Clock + Clone + Drop> {
-    disk: Disk<R>,
+pub struct FolderStore<H: Host + Drop> {
+    disk: Disk<H>,
     faults: u64,
 }
 
-impl<R: Files<File = File> + AllocGlobal + Clock + Clone + Drop> Drop for FolderStore<R> {
+impl<H: Host + Drop> Drop for FolderStore<H> {
     fn drop(self) {
         let FolderStore { disk, faults } = self;
     }
 }
 
-impl<R: Files<File = File> + AllocGlobal + Clock + Clone + Drop> Model for FolderStore<R> {
+impl<H: Host + Drop> Model for FolderStore<H> {
     ghost use Rattle.std.specs.Prelude.{ℕ};
 
     ghost Value = { ℕ };
@@ -33,19 +32,19 @@ impl<R: Files<File = File> + AllocGlobal + Clock + Clone + Drop> Model for Folde
     ghost view = { λ s. s.faults };
 }
 
-impl<R: Files<File = File> + AllocGlobal + Clock + Clone + Drop> FolderStore<R> {
+impl<H: Host + Drop> FolderStore<H> {
     /// A store on a folder. One that isn't there has no files, where its parent is a folder; nothing is made.
-    pub fn open(alloc: Global, rt: R, folder: &str) -> Result<FolderStore<R>, StoreFail>
+    pub fn open(alloc: Global, host: H, folder: &str) -> Result<FolderStore<H>, StoreFail>
         ensures { IfOk result (λ s. s ≡ 0) }
     {
         Ok(FolderStore {
-            disk: Disk::open(alloc, rt, folder)?,
+            disk: Disk::open(alloc, host, folder)?,
             faults: 0,
         })
     }
 }
 
-impl<R: Files<File = File> + AllocGlobal + Clock + Clone + Drop> FileStore for FolderStore<R> {
+impl<H: Host + Drop> FileStore for FolderStore<H> {
     ghost seen = { λ s. record { ops = None; others = 0; faults = s } };
 
     fn list(&mut self, alloc: Global, folder: &str) -> Result<Vec<Txt>, StoreFail> {

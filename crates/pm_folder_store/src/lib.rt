@@ -1,18 +1,25 @@
-//! The store on a real folder.
+//! The store on a folder, over the files of a host.
 //!
-//! What it does to the folder is trusted: no clause tells of it. What is proved is that it is safe and ends, that a
-//! failure counts as a fault, which verdict answers which condition (`specs/Disk.antt`), where a path of the store
-//! stands, which is below the folder or nowhere (`specs/Paths.antt`), and which names temporary files have
-//! (`specs/Temporary.antt`).
+//! What it asks of its host, and when, no clause tells. What is proved is that it is safe and ends, that a failure
+//! counts as a fault, which verdict answers which condition (`specs/Disk.antt`), where a path of the store stands,
+//! which is below the folder or nowhere (`specs/Paths.antt`), which folders have files that others name, and which have
+//! files that are made once (`specs/Folders.antt`), and which names temporary files have (`specs/Temporary.antt`). A
+//! double of the host shows the rest in cases; of `System`, the operating system itself, nothing is shown.
 #![tactic(auto)]
 
 mod disk;
 mod folder;
+mod host;
+mod known;
 mod listing;
 mod lock;
 mod look;
+mod owed;
 mod paths;
 mod syncing;
+mod system;
 mod temporary;
 
 pub use folder::FolderStore;
+pub use host::{Found, Host, Kind};
+pub use system::System;

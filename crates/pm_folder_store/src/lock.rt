@@ -1,12 +1,11 @@
 //! The lock of the table: a file that is locked as long as it is open. Who asks for it holds another lock meanwhile, so
 //! that readers who come and go don't keep a writer waiting.
 
-use crate::look::{Kind, kind_at, open_file};
+use crate::host::{Host, Kind};
+use crate::look::{kind_at, open_file};
 use pm_store::StoreFail;
-use std::fs::{File, TryLockError};
-use std::hint;
 use std::io::ErrorKind;
-use std::rt::{Clock, Files};
+use std::{hint, io};
 
 /// How often the lock is asked for.
 const LOCK_TRIES: u32 = 100_000;
@@ -26,59 +25,77 @@ const FILE_TRIES: u32 = 100;
 /// A lock file, locked until it is closed: alone for a change, and with other readers for a list. It is asked for so
 /// often, and never waited for. It is made only where it isn't there. `turns` is a folder, which is locked by whoever
 /// asks.
-pub(crate) fn locked<R: Files<File = File> + Clock>(
-    rt: &R,
+pub(crate) fn locked<H: Host>(
+    host: &mut H,
     path: &str,
     turns: &str,
     is_change: bool,
-) -> Result<File, StoreFail> {
-    let file = lock_file(rt, path)?;
-    let _turn = turn(rt, turns);
-    match tried(rt, &file, is_change) {
-        Ok(()) => Ok(file),
-        Err(e) => Err(of_lock(e)),
+) -> Result<H::File, StoreFail> {
+    let file = lock_file(host, path)?;
+    let turn = turn(host, turns);
+    let given = tried(host, &file, is_change);
+    if let Some(turn) = turn {
+        host.close(turn);
+    }
+    kept(host, file, given)
+}
+
+/// What was locked; closed where it wasn't, which is a fault.
+pub(crate) fn kept<H: Host>(
+    host: &mut H,
+    file: H::File,
+    given: io::Result<bool>,
+) -> Result<H::File, StoreFail> {
+    match given {
+        Ok(true) => Ok(file),
+        Ok(false) => {
+            host.close(file);
+            Err(StoreFail::Failed)
+        }
+        Err(e) => {
+            host.close(file);
+            Err(StoreFail::from(e))
+        }
     }
 }
 
-/// Asks for the lock of a file or a folder that is open so often.
-fn tried<R: Clock>(rt: &R, file: &File, is_change: bool) -> Result<(), TryLockError> {
+/// Asks for the lock of a file or a folder that is open so often, and answers whether it was given.
+fn tried<H: Host>(host: &mut H, file: &H::File, is_alone: bool) -> io::Result<bool> {
     for _ in 0..LOCK_TRIES {
-        let locked = if is_change {
-            file.try_lock()
-        } else {
-            file.try_lock_shared()
-        };
-        match locked {
-            Err(TryLockError::WouldBlock) => pause(rt),
-            other => return other,
+        if host.try_lock(file, is_alone)? {
+            return Ok(true);
         }
+        pause(host);
     }
-    Err(TryLockError::WouldBlock)
+    Ok(false)
 }
 
 /// The turn to ask for the table's lock, held until it is closed. Where there is no such folder, or it can't be locked,
 /// one asks without a turn.
-fn turn<R: Files<File = File> + Clock>(rt: &R, folder: &str) -> Option<File> {
-    let Ok(Kind::Folder) = kind_at(rt, folder) else {
+fn turn<H: Host>(host: &mut H, folder: &str) -> Option<H::File> {
+    let Ok(Some(Kind::Folder)) = kind_at(host, folder) else {
         return None;
     };
-    let Ok(file) = File::open(rt, folder) else {
+    let Ok(file) = host.open(folder) else {
         return None;
     };
-    match tried(rt, &file, true) {
-        Ok(()) => Some(file),
-        Err(_) => None,
+    match tried(host, &file, true) {
+        Ok(true) => Some(file),
+        _ => {
+            host.close(file);
+            None
+        }
     }
 }
 
 /// The lock file, opened for reading where it is there, so that who may only read can lock it too. One that is made
 /// follows no link.
-fn lock_file<R: Files<File = File>>(rt: &R, path: &str) -> Result<File, StoreFail> {
+fn lock_file<H: Host>(host: &mut H, path: &str) -> Result<H::File, StoreFail> {
     for _ in 0..FILE_TRIES {
-        if let Some(file) = open_file(rt, path)? {
+        if let Some(file) = open_file(host, path)? {
             return Ok(file);
         }
-        match File::options().write(true).create_new(true).open(rt, path) {
+        match host.make(path) {
             Ok(file) => return Ok(file),
             Err(e) if e.kind() == ErrorKind::AlreadyExists => {}
             Err(e) => return Err(StoreFail::from(e)),
@@ -88,13 +105,13 @@ fn lock_file<R: Files<File = File>>(rt: &R, path: &str) -> Result<File, StoreFai
 }
 
 /// Lets some time pass between two tries.
-fn pause<R: Clock>(rt: &R) {
-    let Ok(begun) = rt.monotonic() else {
+fn pause<H: Host>(host: &mut H) {
+    let Ok(begun) = host.monotonic() else {
         return;
     };
     for _ in 0..LOOKS {
         spin();
-        match rt.monotonic() {
+        match host.monotonic() {
             Ok(now) if now.saturating_sub(begun).as_micros() < TRY_MICROS => {}
             _ => return,
         }
@@ -105,13 +122,5 @@ fn pause<R: Clock>(rt: &R) {
 fn spin() {
     for _ in 0..PAUSES {
         hint::spin_loop();
-    }
-}
-
-/// A lock that isn't given is a fault.
-pub(crate) fn of_lock(error: TryLockError) -> StoreFail {
-    match error {
-        TryLockError::WouldBlock => StoreFail::Failed,
-        TryLockError::Error(e) => StoreFail::from(e),
     }
 }

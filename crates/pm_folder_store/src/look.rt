@@ -1,33 +1,20 @@
 //! What stands at a path in the file system. Nothing is followed: a link is neither a file nor a folder.
 
+use crate::host::{Found, Host, Kind};
 use pm_base::Blob;
 use pm_store::StoreFail;
 use std::alloc::Global;
-use std::fs::{File, Metadata};
 use std::io;
-use std::io::{ErrorKind, Read};
-use std::os::unix::fs::MetadataExt;
-use std::rt::Files;
+use std::io::ErrorKind;
 
 /// How often a file is looked at anew that others replace meanwhile.
 const LOOKS: u32 = 1000;
 
-/// What stands at a path.
-#[derive(Clone, Copy)]
-pub(crate) enum Kind {
-    Nothing,
-    File,
-    Folder,
-    Other,
-}
-
-/// What stands at a path.
-pub(crate) fn kind_at<R: Files>(rt: &R, path: &str) -> io::Result<Kind> {
-    match rt.symlink_metadata(path) {
-        Ok(found) if found.is_file() => Ok(Kind::File),
-        Ok(found) if found.is_dir() => Ok(Kind::Folder),
-        Ok(_) => Ok(Kind::Other),
-        Err(e) if is_absent(&e) => Ok(Kind::Nothing),
+/// What stands at a path, or nothing.
+pub(crate) fn kind_at<H: Host>(host: &mut H, path: &str) -> io::Result<Option<Kind>> {
+    match host.look(path) {
+        Ok(found) => Ok(Some(found.kind)),
+        Err(e) if is_absent(&e) => Ok(None),
         Err(e) => Err(e),
     }
 }
@@ -41,38 +28,38 @@ pub(crate) fn is_absent(error: &io::Error) -> bool {
 }
 
 /// The bytes of a file, or nothing where there is none. A folder is no file.
-pub(crate) fn read_at<R: Files<File = File>>(
+pub(crate) fn read_at<H: Host>(
     alloc: Global,
-    rt: &R,
+    host: &mut H,
     path: &str,
 ) -> Result<Option<Blob>, StoreFail> {
-    let Some(mut file) = open_file(rt, path)? else {
+    let Some(mut file) = open_file(host, path)? else {
         return Ok(None);
     };
     let mut bytes = Vec::new(alloc);
-    file.read_to_end(&mut bytes)?;
-    Ok(Some(Blob::new(bytes)))
+    let read = host.read(&mut file, &mut bytes);
+    host.close(file);
+    match read {
+        Ok(()) => Ok(Some(Blob::new(bytes))),
+        Err(e) => Err(StoreFail::from(e)),
+    }
 }
 
-/// A file, opened for reading; none where there is none. No flag of the kit refuses a link as it opens, so what was
-/// opened is compared with what a look found before.
-pub(crate) fn open_file<R: Files<File = File>>(
-    rt: &R,
-    path: &str,
-) -> Result<Option<File>, StoreFail> {
+/// A file, opened for reading; none where there is none. No call refuses a link as it opens, so what was opened is
+/// compared with what a look found before.
+pub(crate) fn open_file<H: Host>(host: &mut H, path: &str) -> Result<Option<H::File>, StoreFail> {
     for _ in 0..LOOKS {
-        let looked = match rt.symlink_metadata(path) {
+        let looked = match host.look(path) {
             Ok(looked) => looked,
             Err(e) if is_absent(&e) => return Ok(None),
             Err(e) => return Err(StoreFail::from(e)),
         };
-        if looked.is_dir() {
-            return Ok(None);
+        match looked.kind {
+            Kind::File => {}
+            Kind::Folder => return Ok(None),
+            Kind::Other => return Err(StoreFail::Failed),
         }
-        if !looked.is_file() {
-            return Err(StoreFail::Failed);
-        }
-        if let Some(file) = open_looked(rt, path, &looked)? {
+        if let Some(file) = open_looked(host, path, looked)? {
             return Ok(Some(file));
         }
     }
@@ -80,30 +67,37 @@ pub(crate) fn open_file<R: Files<File = File>>(
 }
 
 /// A file, opened for reading, where it is the one that was looked at.
-fn open_looked<R: Files<File = File>>(
-    rt: &R,
-    path: &str,
-    looked: &Metadata,
-) -> io::Result<Option<File>> {
-    let file = match File::open(rt, path) {
+fn open_looked<H: Host>(host: &mut H, path: &str, looked: Found) -> io::Result<Option<H::File>> {
+    let file = match host.open(path) {
         Ok(file) => file,
         Err(e) if is_absent(&e) => return Ok(None),
         Err(e) => return Err(e),
     };
-    let opened = file.metadata()?;
-    if opened.dev() == looked.dev() && opened.ino() == looked.ino() {
-        return Ok(Some(file));
+    match host.look_at(&file) {
+        Ok(opened) if is_same(looked, opened) => Ok(Some(file)),
+        Ok(_) => {
+            host.close(file);
+            Ok(None)
+        }
+        Err(e) => {
+            host.close(file);
+            Err(e)
+        }
     }
-    Ok(None)
+}
+
+/// Whether two looks found the same thing.
+fn is_same(one: Found, other: Found) -> bool {
+    one.device == other.device && one.inode == other.inode
 }
 
 /// Makes a folder, and answers whether it wasn't there. Anything else that stands there is a fault.
-pub(crate) fn make_folder<R: Files>(rt: &R, folder: &str) -> Result<bool, StoreFail> {
-    match rt.create_dir(folder) {
+pub(crate) fn make_folder<H: Host>(host: &mut H, folder: &str) -> Result<bool, StoreFail> {
+    match host.create_dir(folder) {
         Ok(()) => Ok(true),
-        Err(e) if e.kind() == ErrorKind::AlreadyExists => match kind_at(rt, folder)? {
-            Kind::Folder => Ok(false),
-            Kind::Nothing | Kind::File | Kind::Other => Err(StoreFail::Failed),
+        Err(e) if e.kind() == ErrorKind::AlreadyExists => match kind_at(host, folder)? {
+            Some(Kind::Folder) => Ok(false),
+            _ => Err(StoreFail::Failed),
         },
         Err(e) => Err(StoreFail::from(e)),
     }

@@ -3,6 +3,7 @@
 ghost use Rattle.std.specs.Prelude.{◌≡◌, IfOk, MatchOption};
 ghost use Rattle.pm_folder_store.specs.Paths.{is_name, is_path, IsPlace};
 ghost use Rattle.pm_folder_store.specs.Paths.{HasNoSlash, IsCutAtLast, IsFolderOf, IsStoreFolderOf};
+ghost use Rattle.pm_folder_store.specs.Folders.{is_made_once, is_named_elsewhere, last_part};
 
 use std::alloc::{AllocError, Global};
 
@@ -53,6 +54,31 @@ pub(crate) fn folder_of(path: &str) -> &str
         Some((folder, _)) => folder,
         None => ".",
     }
+}
+
+/// What stands after the last slash of a path; all of it where it has none.
+pub(crate) fn last_part(path: &str) -> &str
+    ensures { result.now ≡ last_part path.now }
+{
+    match cut(path) {
+        Some((_, name)) => name,
+        None => path,
+    }
+}
+
+/// Whether the files of a folder of the store are reached only by their names in files of other folders: it has
+/// manifests and their lists, or the data files of a bucket.
+pub(crate) fn is_named_elsewhere(folder: &str) -> bool
+    ensures { result ≡ is_named_elsewhere folder.now }
+{
+    folder == "manifest" || last_part(folder).starts_with("bucket-")
+}
+
+/// Whether no file of a folder of the store is ever replaced, or made anew once it was taken away.
+pub(crate) fn is_made_once(folder: &str) -> bool
+    ensures { result ≡ is_made_once folder.now }
+{
+    folder == "snapshot" || folder == "schema"
 }
 
 /// Whether folders alone stand in a folder of the store: in the store's own, and in a partition's, whose name has a

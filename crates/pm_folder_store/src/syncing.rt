@@ -2,23 +2,22 @@
 
 ghost use Rattle.std.specs.Prelude.{◌≡◌, IfErr};
 
+use crate::host::Host;
 use crate::look::is_absent;
 use crate::paths::folder_of;
 use pm_store::StoreFail;
 use std::alloc::Global;
 use std::collections::BTreeMap;
-use std::fs::File;
 use std::io;
 use std::io::ErrorKind;
-use std::rt::{Clock, Files};
-use std::time::SystemTime;
+use std::time::Duration;
 
 /// How old a folder's last change has to be, in milliseconds, before its time tells it from a later one.
 const SETTLED_MILLIS: u128 = 1000;
 
 /// The times of change at which this process has seen folders synced.
 pub(crate) struct Synced {
-    times: BTreeMap<String, SystemTime>,
+    times: BTreeMap<String, Duration>,
 }
 
 impl Drop for Synced {
@@ -36,31 +35,32 @@ impl Synced {
     }
 
     /// Has the names in a folder on the disk, after a change in it. It can't be out of memory any more.
-    pub(crate) fn sync<R: Files<File = File> + Clock>(
+    pub(crate) fn sync<H: Host>(
         &mut self,
         alloc: Global,
-        rt: &R,
+        host: &mut H,
         folder: &str,
     ) -> Result<(), StoreFail>
         ensures { IfErr result (λ fail. fail ≡ StoreFail.Failed) }
     {
-        match self.sync_names(alloc, rt, folder) {
+        match self.sync_names(alloc, host, folder) {
             Ok(()) => Ok(()),
             Err(_) => Err(StoreFail::Failed),
         }
     }
 
     /// Has the names in a folder on the disk, and keeps the time of its last change where that tells it from a later
-    /// one.
-    pub(crate) fn sync_names<R: Files<File = File> + Clock>(
+    /// one. The clock is read first, so that any later change comes after it.
+    pub(crate) fn sync_names<H: Host>(
         &mut self,
         alloc: Global,
-        rt: &R,
+        host: &mut H,
         folder: &str,
     ) -> io::Result<()> {
-        let changed = rt.metadata(folder)?.modified()?;
-        sync_folder(rt, folder)?;
-        if is_settled(rt, changed) {
+        let now = host.since_1970();
+        let changed = host.look_through(folder)?.changed;
+        sync_folder(host, folder)?;
+        if now.is_ok_and(|now| is_settled(now, changed)) {
             let _ = self.times.insert(String::from_str(alloc, folder)?, changed);
         }
         Ok(())
@@ -68,17 +68,17 @@ impl Synced {
 
     /// Has the names in a folder on the disk where it changed since this process last synced it; of a folder that isn't
     /// there any more, those in the nearest one above it, up to the root.
-    pub(crate) fn settle<R: Files<File = File> + Clock>(
+    pub(crate) fn settle<H: Host>(
         &mut self,
         alloc: Global,
-        rt: &R,
+        host: &mut H,
         root: &str,
         folder: &str,
     ) -> Result<(), StoreFail> {
         let mut nearest = folder;
         for _ in 0..folder.len() {
-            match rt.metadata(nearest) {
-                Ok(found) => return self.settle_from(alloc, rt, nearest, found.modified()?),
+            match host.look_through(nearest) {
+                Ok(found) => return self.settle_from(alloc, host, nearest, found.changed),
                 Err(e) if is_absent(&e) && nearest.len() > root.len() => {
                     nearest = folder_of(nearest);
                 }
@@ -90,23 +90,26 @@ impl Synced {
     }
 
     /// Syncs a folder whose last change was then, unless this process has synced it since.
-    fn settle_from<R: Files<File = File> + Clock>(
+    fn settle_from<H: Host>(
         &mut self,
         alloc: Global,
-        rt: &R,
+        host: &mut H,
         folder: &str,
-        changed: SystemTime,
+        changed: Duration,
     ) -> Result<(), StoreFail> {
         if self.times.get(folder) == Some(&changed) {
             return Ok(());
         }
-        Ok(self.sync_names(alloc, rt, folder)?)
+        Ok(self.sync_names(alloc, host, folder)?)
     }
 }
 
 /// Syncs a folder. Where the file system can't sync one, or can't be written, nothing is pending in it.
-fn sync_folder<R: Files<File = File>>(rt: &R, folder: &str) -> io::Result<()> {
-    match File::open(rt, folder)?.sync_all() {
+fn sync_folder<H: Host>(host: &mut H, folder: &str) -> io::Result<()> {
+    let file = host.open(folder)?;
+    let synced = host.sync(&file);
+    host.close(file);
+    match synced {
         Err(e) if !is_never_pending(&e) => Err(e),
         _ => Ok(()),
     }
@@ -120,12 +123,7 @@ fn is_never_pending(error: &io::Error) -> bool {
     )
 }
 
-/// Whether a time lies so far back that a change now would have another one.
-fn is_settled<R: Clock>(rt: &R, changed: SystemTime) -> bool {
-    match SystemTime::now(rt) {
-        Ok(now) => now
-            .duration_since(changed)
-            .is_ok_and(|passed| passed.as_millis() >= SETTLED_MILLIS),
-        Err(_) => false,
-    }
+/// Whether a time lies so far back that a change from now on has another one.
+fn is_settled(now: Duration, changed: Duration) -> bool {
+    now.saturating_sub(changed).as_millis() >= SETTLED_MILLIS
 }

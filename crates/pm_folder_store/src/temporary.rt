@@ -3,35 +3,38 @@
 ghost use Rattle.std.specs.Prelude.{◌≡◌, ◌↔◌, IfOk, IsTrue, decimal, string_bytes};
 ghost use Rattle.pm_folder_store.specs.Temporary.{IsTemporary};
 
-use crate::lock::of_lock;
-use crate::look::{Kind, kind_at, make_folder, open_file};
+use crate::host::{Host, Kind};
+use crate::lock::kept;
+use crate::look::{kind_at, make_folder, open_file};
 use pm_store::StoreFail;
 use std::alloc::{AllocError, Global};
-use std::fs;
-use std::fs::File;
 use std::io::ErrorKind;
-use std::rt::Files;
 
 /// How many files may be written at once.
 const TEMPORARY_NAMES: u32 = 100_000;
 
-/// A new file in the folder, locked as long as it is open, and its path. Those that killed writers left are taken away:
-/// nobody holds a lock on them. It is called under the lock of the table.
-pub(crate) fn begin_file<R: Files<File = File> + AllocGlobal + Clone + Drop>(
+/// A file that is being written, and whether it was renamed to its place, so that it isn't in the folder any more.
+#[derive(Drop)]
+pub(crate) struct Begun<F: Drop> {
+    pub(crate) file: F,
+    pub(crate) path: String,
+    pub(crate) is_placed: bool,
+}
+
+/// A new file in the folder, locked as long as it is open. Those that killed writers left are taken away: nobody holds
+/// a lock on them. It is called under the lock of the table.
+pub(crate) fn begin_file<H: Host>(
     alloc: Global,
-    rt: &R,
+    host: &mut H,
     folder: &str,
-) -> Result<(File, String), StoreFail> {
-    if !make_folder(rt, folder)? {
-        sweep(alloc, rt, folder)?;
+) -> Result<Begun<H::File>, StoreFail> {
+    if !make_folder(host, folder)? {
+        sweep(alloc, host, folder)?;
     }
     for n in 0..TEMPORARY_NAMES {
         let path = format!(in alloc; "{folder}/{n}")?;
-        match File::create_new(rt, path.as_str()) {
-            Ok(file) => {
-                file.try_lock().map_err(of_lock)?;
-                return Ok((file, path));
-            }
+        match host.make(path.as_str()) {
+            Ok(file) => return lock_file(host, file, path),
             Err(e) if e.kind() == ErrorKind::AlreadyExists => {}
             Err(e) => return Err(StoreFail::from(e)),
         }
@@ -39,50 +42,61 @@ pub(crate) fn begin_file<R: Files<File = File> + AllocGlobal + Clone + Drop>(
     Err(StoreFail::Failed)
 }
 
+/// A file that was made, once it is locked.
+fn lock_file<H: Host>(
+    host: &mut H,
+    file: H::File,
+    path: String,
+) -> Result<Begun<H::File>, StoreFail> {
+    let given = host.try_lock(&file, true);
+    Ok(Begun {
+        file: kept(host, file, given)?,
+        path,
+        is_placed: false,
+    })
+}
+
 /// Takes away the files in the folder that nobody holds a lock on. Where anything else stands in it, nothing is taken.
-fn sweep<R: Files<File = File> + AllocGlobal + Clone + Drop>(
-    alloc: Global,
-    rt: &R,
-    folder: &str,
-) -> Result<(), StoreFail> {
-    let begun = begun_files(alloc, rt, folder)?;
+fn sweep<H: Host>(alloc: Global, host: &mut H, folder: &str) -> Result<(), StoreFail> {
+    let begun = begun_files(alloc, host, folder)?;
     for path in &begun {
-        take_left(rt, path.as_str())?;
+        take_left(host, path.as_str())?;
     }
     Ok(())
 }
 
 /// The files in the folder, by their paths. Anything that isn't a file with a name that `begin_file` gives is a fault.
-fn begun_files<R: Files<File = File> + AllocGlobal + Clone + Drop>(
+fn begun_files<H: Host>(
     alloc: Global,
-    rt: &R,
+    host: &mut H,
     folder: &str,
 ) -> Result<Vec<String>, StoreFail> {
     let mut begun = Vec::new(alloc);
-    for entry in fs::read_dir(rt, folder)? {
-        let entry = entry?;
-        if !is_temporary(alloc, entry.file_name())? {
+    for name in host.names(alloc, folder)? {
+        if !is_temporary(alloc, name.as_str())? {
             return Err(StoreFail::Failed);
         }
-        let path = entry.path();
-        match kind_at(rt, path.as_str())? {
-            Kind::File => begun.push(String::from_str(alloc, path.as_str())?)?,
-            Kind::Nothing => {}
-            Kind::Folder | Kind::Other => return Err(StoreFail::Failed),
+        let path = format!(in alloc; "{folder}/{name}")?;
+        match kind_at(host, path.as_str())? {
+            None => {}
+            Some(Kind::File) => begun.push(path)?,
+            Some(Kind::Folder | Kind::Other) => return Err(StoreFail::Failed),
         }
     }
     Ok(begun)
 }
 
 /// Takes a file away, unless it can't be opened or somebody holds a lock on it.
-fn take_left<R: Files<File = File>>(rt: &R, path: &str) -> Result<(), StoreFail> {
-    let Ok(Some(file)) = open_file(rt, path) else {
+fn take_left<H: Host>(host: &mut H, path: &str) -> Result<(), StoreFail> {
+    let Ok(Some(file)) = open_file(host, path) else {
         return Ok(());
     };
-    if file.try_lock().is_err() {
-        return Ok(());
-    }
-    match rt.remove_file(path) {
+    let taken = match host.try_lock(&file, true) {
+        Ok(true) => host.remove_file(path),
+        _ => Ok(()),
+    };
+    host.close(file);
+    match taken {
         Err(e) if e.kind() != ErrorKind::NotFound => Err(StoreFail::from(e)),
         _ => Ok(()),
     }

@@ -3,7 +3,7 @@
 use crate::command::run_command;
 use crate::{store, writers};
 use pm_case::Case;
-use pm_folder_store::FolderStore;
+use pm_folder_store::{FolderStore, System};
 use pm_store::{FileStore, Made};
 
 /// What a codec answers of a folder, of which two stores are opened before any call.
@@ -15,10 +15,10 @@ pub fn answer(rt: &HostRuntime, case: &mut Case, codec: &str, folder: &str, rest
 }
 
 /// A store of the folder; none where it can't be opened.
-fn open(rt: &HostRuntime, case: &mut Case, folder: &str) -> Option<FolderStore<HostRuntime>> {
+fn open(rt: &HostRuntime, case: &mut Case, folder: &str) -> Option<FolderStore<System<HostRuntime>>> {
     let alloc = case.alloc();
     match rt.clone() {
-        Ok(runtime) => FolderStore::open(alloc, runtime, folder).ok(),
+        Ok(runtime) => FolderStore::open(alloc, System::new(runtime), folder).ok(),
         Err(_) => None,
     }
 }
@@ -30,7 +30,7 @@ fn open_other(
     codec: &str,
     folder: &str,
     rest: &str,
-    store: FolderStore<HostRuntime>,
+    store: FolderStore<System<HostRuntime>>,
 ) {
     let mut store = store;
     match open(rt, case, folder) {
@@ -47,8 +47,8 @@ fn answer_of(
     codec: &str,
     folder: &str,
     rest: &str,
-    store: &mut FolderStore<HostRuntime>,
-    other: FolderStore<HostRuntime>,
+    store: &mut FolderStore<System<HostRuntime>>,
+    other: FolderStore<System<HostRuntime>>,
 ) {
     let mut other = other;
     match codec {

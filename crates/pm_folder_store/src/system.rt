@@ -1,0 +1,160 @@
+//! The operating system as a host. It is believed without a case: each function is one call of the kit, and decides
+//! nothing.
+
+use crate::host::{Found, Host, Kind};
+use std::alloc::Global;
+use std::fs::{File, Metadata, TryLockError};
+use std::io::{ErrorKind, Read, Write};
+use std::os::unix::fs::MetadataExt;
+use std::rt::{Clock, Files};
+use std::time::Duration;
+use std::{fs, io};
+
+/// What stands for a name that isn't UTF-8.
+const UNREADABLE: &str = "\u{FFFD}";
+
+/// The operating system that a runtime has.
+pub struct System<R: Files<File = File> + AllocGlobal + Clock + Clone + Drop> {
+    rt: R,
+}
+
+impl<R: Files<File = File> + AllocGlobal + Clock + Clone + Drop> Drop for System<R> {
+    fn drop(self) {
+        let System { rt } = self;
+    }
+}
+
+impl<R: Files<File = File> + AllocGlobal + Clock + Clone + Drop> System<R> {
+    /// The operating system of a runtime.
+    pub fn new(rt: R) -> System<R> {
+        System { rt }
+    }
+}
+
+impl<R: Files<File = File> + AllocGlobal + Clock + Clone + Drop> Host for System<R> {
+    type File = File;
+
+    fn look(&mut self, path: &str) -> io::Result<Found> {
+        Ok(found(&self.rt.symlink_metadata(path)?))
+    }
+
+    fn look_through(&mut self, path: &str) -> io::Result<Found> {
+        Ok(found(&self.rt.metadata(path)?))
+    }
+
+    fn look_at(&mut self, file: &File) -> io::Result<Found> {
+        Ok(found(&file.metadata()?))
+    }
+
+    fn names(&mut self, alloc: Global, folder: &str) -> io::Result<Vec<String>> {
+        let mut names = Vec::new(alloc);
+        for entry in fs::read_dir(&self.rt, folder)? {
+            let name = match entry {
+                Ok(entry) => String::from_str(alloc, entry.file_name())?,
+                Err(e) if e.kind() == ErrorKind::InvalidFilename => {
+                    String::from_str(alloc, UNREADABLE)?
+                }
+                Err(e) => return Err(e),
+            };
+            names.push(name)?;
+        }
+        Ok(names)
+    }
+
+    fn is_empty(&mut self, folder: &str) -> io::Result<bool> {
+        Ok(fs::read_dir(&self.rt, folder)?.next().is_none())
+    }
+
+    fn open(&mut self, path: &str) -> io::Result<File> {
+        File::open(&self.rt, path)
+    }
+
+    fn make(&mut self, path: &str) -> io::Result<File> {
+        File::create_new(&self.rt, path)
+    }
+
+    fn read(&mut self, file: &mut File, into: &mut Vec<u8>) -> io::Result<()> {
+        file.read_to_end(into)?;
+        Ok(())
+    }
+
+    fn write(&mut self, file: &mut File, bytes: &[u8]) -> io::Result<()> {
+        file.write_all(bytes)
+    }
+
+    fn copy_mode(&mut self, from: &str, file: &File) -> io::Result<()> {
+        let looked = self.rt.symlink_metadata(from)?;
+        file.set_permissions(looked.permissions())
+    }
+
+    fn sync(&mut self, file: &File) -> io::Result<()> {
+        file.sync_all()
+    }
+
+    fn try_lock(&mut self, file: &File, is_alone: bool) -> io::Result<bool> {
+        let locked = if is_alone {
+            file.try_lock()
+        } else {
+            file.try_lock_shared()
+        };
+        match locked {
+            Ok(()) => Ok(true),
+            Err(TryLockError::WouldBlock) => Ok(false),
+            Err(TryLockError::Error(e)) => Err(e),
+        }
+    }
+
+    fn close(&mut self, file: File) {
+        drop(file);
+    }
+
+    fn rename(&mut self, from: &str, to: &str) -> io::Result<()> {
+        self.rt.rename(from, to)
+    }
+
+    fn remove_file(&mut self, path: &str) -> io::Result<()> {
+        self.rt.remove_file(path)
+    }
+
+    fn create_dir(&mut self, path: &str) -> io::Result<()> {
+        self.rt.create_dir(path)
+    }
+
+    fn remove_dir(&mut self, path: &str) -> io::Result<()> {
+        self.rt.remove_dir(path)
+    }
+
+    fn since_1970(&mut self) -> io::Result<Duration> {
+        self.rt.since_1970()
+    }
+
+    fn monotonic(&mut self) -> io::Result<Duration> {
+        self.rt.monotonic()
+    }
+}
+
+/// What the kit's look found. A time before 1970 counts as 1970.
+fn found(looked: &Metadata) -> Found {
+    let kind = if looked.is_file() {
+        Kind::File
+    } else if looked.is_dir() {
+        Kind::Folder
+    } else {
+        Kind::Other
+    };
+    Found {
+        kind,
+        device: looked.dev(),
+        inode: looked.ino(),
+        changed: changed(looked),
+    }
+}
+
+/// When the content of what was looked at changed last.
+fn changed(looked: &Metadata) -> Duration {
+    let nanos = u64::try_from(looked.mtime_nsec()).unwrap_or(0);
+    match u64::try_from(looked.mtime()) {
+        Ok(secs) => Duration::from_secs(secs).saturating_add(Duration::from_nanos(nanos)),
+        Err(_) => Duration::ZERO,
+    }
+}
