@@ -263,7 +263,7 @@ impl<H: Host + Drop> Disk<H> {
         if !self.way(alloc, store_folder_of(path))?.is_whole {
             return Ok(None);
         }
-        Ok(kind_at(&mut self.host, full.as_str())?)
+        kind_at(&mut self.host, full.as_str())
     }
 
     /// Whether a file is at a path. A folder is no file, and anything else that stands there is a fault.

@@ -11,11 +11,11 @@ use std::io::ErrorKind;
 const LOOKS: u32 = 1000;
 
 /// What stands at a path, or nothing.
-pub(crate) fn kind_at<H: Host>(host: &mut H, path: &str) -> io::Result<Option<Kind>> {
+pub(crate) fn kind_at<H: Host>(host: &mut H, path: &str) -> Result<Option<Kind>, StoreFail> {
     match host.look(path) {
         Ok(found) => Ok(Some(found.kind)),
         Err(e) if is_absent(&e) => Ok(None),
-        Err(e) => Err(e),
+        Err(e) => Err(StoreFail::from(e)),
     }
 }
 

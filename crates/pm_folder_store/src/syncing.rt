@@ -77,8 +77,8 @@ impl Synced {
     ) -> Result<(), StoreFail> {
         let mut nearest = folder;
         for _ in 0..folder.len() {
-            match host.look_through(nearest) {
-                Ok(found) => return self.settle_from(alloc, host, nearest, found.changed),
+            match self.settle_names(alloc, host, nearest) {
+                Ok(()) => return Ok(()),
                 Err(e) if is_absent(&e) && nearest.len() > root.len() => {
                     nearest = folder_of(nearest);
                 }
@@ -89,18 +89,18 @@ impl Synced {
         Ok(())
     }
 
-    /// Syncs a folder whose last change was then, unless this process has synced it since.
-    fn settle_from<H: Host>(
+    /// Syncs a folder, unless this process has synced it since it last changed.
+    fn settle_names<H: Host>(
         &mut self,
         alloc: Global,
         host: &mut H,
         folder: &str,
-        changed: Duration,
-    ) -> Result<(), StoreFail> {
+    ) -> io::Result<()> {
+        let changed = host.look_through(folder)?.changed;
         if self.times.get(folder) == Some(&changed) {
             return Ok(());
         }
-        Ok(self.sync_names(alloc, host, folder)?)
+        self.sync_names(alloc, host, folder)
     }
 }
 
