@@ -28,7 +28,6 @@ ghost use Rattle.std.specs.Ordering.{nat_cmp};
 ghost use Rattle.pm_folder_store.specs.Disk.{Judges, IsReplaced};
 
 use crate::host::{Host, Kind};
-use crate::known::Known;
 use crate::listing::shown_names;
 use crate::lock::locked;
 use crate::look::{is_absent, kind_at, make_folder, read_at};
@@ -36,6 +35,7 @@ use crate::owed::Owed;
 use crate::paths::{
     folder_of, has_folders, is_named_elsewhere, is_path, place_of, store_folder_of, without_end,
 };
+use crate::shown::Shown;
 use crate::syncing::Synced;
 use crate::temporary::{Begun, begin_file};
 use pm_base::{Blob, Txt};
@@ -88,7 +88,7 @@ pub(crate) struct Disk<H: Host + Drop> {
     is_root_synced: bool,
     synced: Synced,
     owed: Owed,
-    known: Known,
+    shown: Shown,
 }
 
 impl<H: Host + Drop> Drop for Disk<H> {
@@ -100,7 +100,7 @@ impl<H: Host + Drop> Drop for Disk<H> {
             is_root_synced,
             synced,
             owed,
-            known,
+            shown,
         } = self;
     }
 }
@@ -118,7 +118,7 @@ impl<H: Host + Drop> Disk<H> {
             is_root_synced: false,
             synced: Synced::new(alloc),
             owed: Owed::new(alloc),
-            known: Known::new(alloc),
+            shown: Shown::new(alloc),
         })
     }
 
@@ -136,7 +136,7 @@ impl<H: Host + Drop> Disk<H> {
         let names = listed(alloc, names)?;
         if !is_named_elsewhere(folder) {
             self.settle(alloc, reached.as_str())?;
-            self.known.keep(alloc, folder, &names)?;
+            self.shown.keep(alloc, folder, &names)?;
         }
         Ok(names)
     }
@@ -419,7 +419,7 @@ impl<H: Host + Drop> Disk<H> {
 
     /// Has on the disk what a look at a path found: a file that is there, or that none is.
     fn settle_look(&mut self, alloc: Global, path: &str, is_there: bool) -> Result<(), StoreFail> {
-        if !is_path(path) || (is_there && self.known.has(path)) {
+        if !is_path(path) || (is_there && self.shown.has(path)) {
             return Ok(());
         }
         let folder = store_folder_of(path);

@@ -10,12 +10,12 @@
 mod disk;
 mod folder;
 mod host;
-mod known;
 mod listing;
 mod lock;
 mod look;
 mod owed;
 mod paths;
+mod shown;
 mod syncing;
 mod system;
 mod temporary;

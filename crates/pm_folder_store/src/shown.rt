@@ -7,20 +7,20 @@ use std::alloc::{AllocError, Global};
 use std::collections::{BTreeMap, BTreeSet};
 
 /// The names of the last listing of each such folder.
-pub(crate) struct Known {
+pub(crate) struct Shown {
     names: BTreeMap<String, BTreeSet<String>>,
 }
 
-impl Drop for Known {
+impl Drop for Shown {
     fn drop(self) {
-        let Known { names } = self;
+        let Shown { names } = self;
     }
 }
 
-impl Known {
+impl Shown {
     /// No name.
-    pub(crate) fn new(alloc: Global) -> Known {
-        Known {
+    pub(crate) fn new(alloc: Global) -> Shown {
+        Shown {
             names: BTreeMap::new(alloc),
         }
     }
