@@ -1,3 +1,5 @@
 pub mod Lemmas
+pub mod LineLemmas
+mod Known
 mod Reading
 mod Writing

@@ -1,4 +1,6 @@
 pub mod Source
 pub mod Sink
+pub mod LineBuffer
 pub mod Lines
 pub mod Memory
+pub mod Standard

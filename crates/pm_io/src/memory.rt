@@ -2,7 +2,7 @@
 ghost use Rattle.std.specs.Prelude.{◌≡◌, ◌⊎◌, ◌↔◌, ◌-◌, ◌<◌, ◌≤◌, [], length, take, drop, min, Ok, IfOk, OnErr, IsErr};
 ghost use Rattle.std.specs.Prelude.{is_err, Contains, ◌++◌, if◌then◌else◌};
 ghost use Rattle.pm_base.specs.Faults.{one_more};
-ghost use Rattle.pm_io.specs.Memory.{source_view, sink_view};
+ghost use Rattle.pm_io.specs.Memory.{source_view, sink_view, IsCall};
 ghost use Rattle.pm_io.specs.Sink.{SinkFailed, SinkLater};
 ghost use Rattle.pm_io.specs.Source.{SourceFailed, SourceLater, Reads, IsAtEnd};
 
@@ -164,6 +164,8 @@ impl MemSink {
 impl Sink for MemSink {
     ghost seen = { sink_view };
 
+    ghost called = { IsCall };
+
     fn write(&mut self, bytes: &[u8]) -> Result<usize, Failed>
         ensures count { IfOk result (λ n. n ≤ length bytes.now) }
         ensures bytes { IfOk result (λ n. self.new.taken ≡ self.old.taken ++ take n bytes.now) }
@@ -175,9 +177,8 @@ impl Sink for MemSink {
         // It fails at the listed calls, where it has no room for any of the bytes, and at no other call.
         ensures listed { IsErr result ↔ (Contains self.old.fails (one_more self.old.calls)
             ⊎ ((0 < length bytes.now) × (length self.old.taken ≡ self.old.room))) }
-        ensures amount { IfOk result (λ n. n ≡ min (length bytes.now) (self.old.room - length self.old.taken)) }
+        ensures told { IsCall self.old bytes.now result self.new }
         ensures room { self.new.room ≡ self.old.room }
-        ensures calls { self.new.calls ≡ one_more self.old.calls }
         ensures faults { self.new.faults ≡ (if is_err result then one_more self.old.faults else self.old.faults) }
         ensures fails { self.new.fails ≡ self.old.fails }
     {

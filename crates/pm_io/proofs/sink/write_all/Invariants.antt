@@ -1,6 +1,5 @@
 use Rattle.std.proofs.Common.{length}
-use Rattle.pm_io.specs.Sink.{SinkLater}
-use Rattle.pm_io.proofs.Writing.{TookAllBut}
+use Rattle.pm_io.specs.Sink.{SinkLater, TookAllBut, Offered}
 use Rattle.pm_io.proofs.sink.write_all.Given as goal
 
 abbrev pub invariant-loop-rest : goal.invariant-loop-rest
@@ -9,6 +8,7 @@ invariant-loop-rest g l =
     record {
       took : TookAllBut l.rest (seen l.fn.sink).taken (seen l.sink).taken l.bytes;
       later : SinkLater (seen l.fn.sink) (seen l.sink);
+      calls : Offered g.W.Sink.called l.fn.sink l.bytes l.sink l.rest;
     }
 
 abbrev pub decreases-loop-rest : goal.decreases-loop-rest
