@@ -1,1 +1,2 @@
-mod Prefixes
+mod Lines
+mod OneLine

@@ -1,6 +1,7 @@
 -- The line of a refusal, and the exit status. Texts are lists of their bytes; numbers are in decimal.
 use Rattle.std.specs.Prelude.{ℕ, List, [], ◌∷◌, ◌++◌, Option, None, Some, codes, decimal, flat_map}
 use Rattle.std.specs.Fmt.{signed_decimal}
+use Rattle.pm_base.specs.Newline.{line}
 use Rattle.pm_values.specs.declared.refusal.Why.{Why}
 use Rattle.pm_values.specs.declared.refusal.Why.TheVariants.{Json, Array, Kind, Count, Null, «Type», Range}
 use Rattle.pm_values.specs.declared.refusal.Why.TheVariants.{Draft, Script}
@@ -10,6 +11,7 @@ use Rattle.pm_values.specs.declared.refusal.Refusal.TheVariants.{BadLine, Retrac
 use Rattle.pm_values.specs.declared.refusal.Refusal.TheVariants.{Damaged, NoSnapshot, Expired, Contended, CompactTaken}
 use Rattle.pm_values.specs.declared.refusal.Refusal.TheVariants.{Fenced, BelowFloor, ConsumerMoved, NoChangelog}
 use Rattle.pm_values.specs.declared.refusal.Refusal.TheVariants.{SessionUsed, Limit, SchemaRule}
+use Rattle.pm_report.specs.Escaping.{escaped}
 
 -- the number of a refusal, which is the exit status
 abbrev pub code_of : Refusal → ℕ
@@ -53,16 +55,20 @@ abbrev pub named : List ℕ → List ℕ
 named [] = []
 named (b ∷ name) = codes " " ++ b ∷ name
 
--- each number after a blank
+-- a number after a blank
+abbrev pub blank_number : ℕ → List ℕ
+blank_number n = codes " " ++ decimal n
+
+-- each of the numbers after a blank
 abbrev pub spaced : List ℕ → List ℕ
-spaced = flat_map (λ n. codes " " ++ decimal n)
+spaced = flat_map blank_number
 
 -- what is said of a sink that failed, after the commit of a snapshot where there is one
 abbrev pub sink_message : Option ℕ → List ℕ
 sink_message None = codes "sink"
 sink_message (Some id) = codes "sink snapshot " ++ decimal id
 
--- what is said of the file of a consumer: the bytes that were found, as they are
+-- what is said of the file of a consumer: the bytes that were found
 abbrev pub consumer_message : Option (List ℕ) → List ℕ
 consumer_message None = codes "consumer absent"
 consumer_message (Some found) = codes "consumer " ++ found
@@ -92,10 +98,10 @@ message_of (SessionUsed path) = codes "session used " ++ path
 message_of (Limit which number) = codes "limit " ++ which ++ codes " " ++ decimal number
 message_of (SchemaRule rule) = codes "schema rule " ++ decimal rule
 
--- the line of a refusal: its number after an E, a blank, what it says
-abbrev pub refusal_line : Refusal → List ℕ
-refusal_line refusal = codes "E" ++ decimal (code_of refusal) ++ codes " " ++ message_of refusal
+-- the text of a refusal: its number after an E, a blank, what it says
+abbrev pub refusal_text : Refusal → List ℕ
+refusal_text refusal = codes "E" ++ decimal (code_of refusal) ++ codes " " ++ message_of refusal
 
--- the line with its newline
+-- the line that is printed, with its newline
 abbrev pub report_text : Refusal → List ℕ
-report_text refusal = refusal_line refusal ++ codes "\n"
+report_text refusal = line (escaped (refusal_text refusal))

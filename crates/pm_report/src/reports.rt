@@ -1,14 +1,17 @@
-//! The line of a refusal and the exit status. A line is written in pieces and takes no memory.
+//! The line of a refusal and the exit status. A line is put together in pieces and takes no memory.
 
-ghost use Rattle.std.specs.Prelude.{◌≡◌, ◌++◌, OnOk, OnErr, codes};
+ghost use Rattle.std.specs.Prelude.{◌≡◌, ◌++◌, [], OnOk, OnErr, codes};
 ghost use Rattle.pm_base.specs.Known.{and_then};
-ghost use Rattle.pm_io.specs.Sink.{SinkFailed, SinkLater, TookPrefix};
-ghost use Rattle.pm_report.specs.Report.{code_of, why_text, named, spaced, sink_message, consumer_message};
+ghost use Rattle.pm_io.specs.LineBuffer.{line_at, Fit, Writes};
+ghost use Rattle.pm_io.specs.Sink.{OfferedAll, SinkFailed, SinkLater, TookPrefix};
+ghost use Rattle.pm_report.specs.Escaping.{escaped};
+ghost use Rattle.pm_report.specs.Report.{code_of, why_text, blank_number, named, spaced, sink_message, consumer_message};
 ghost use Rattle.pm_report.specs.Report.{message_of, report_text};
 ghost use Rattle.pm_report.specs.Pieces.{piece_text, pieces_text};
 
+use crate::escaping::write_escaped;
 use itoa::Buffer;
-use pm_io::{Sink, SinkFail, write_all};
+use pm_io::{LineBuffer, Sink, SinkFail};
 use pm_values::{Blob, Refusal, Why};
 
 /// A piece of a line.
@@ -60,20 +63,37 @@ pub fn status(refusal: &Refusal) -> u8
     }
 }
 
-/// Writes the line of a refusal with its newline, or a prefix of it.
+/// Writes the line of a refusal with its newline, or a prefix of it. One of at most `LINE_ROOM` bytes goes out by one
+/// `write_all`.
 pub fn report<V: Sink>(err: &mut V, refusal: &Refusal) -> Result<(), SinkFail>
     ensures ok { OnOk result ((V.seen err.new).taken ≡ and_then (V.seen err.old).taken (report_text refusal.now)) }
     ensures prefix { OnErr result (TookPrefix (V.seen err.old).taken (V.seen err.new).taken (report_text refusal.now)) }
     ensures failed { OnErr result (SinkFailed (V.seen err.old) (V.seen err.new)) }
     ensures later { SinkLater (V.seen err.old) (V.seen err.new) }
+    ensures calls { Fit [] (report_text refusal.now)
+        → OfferedAll V.called (report_text refusal.now) err.old err.new result }
+{
+    let mut line = LineBuffer::new();
+    write_line(&mut line, err, refusal)?;
+    line.flush(err)
+}
+
+/// Writes the line of a refusal to a line.
+fn write_line<V: Sink>(
+    line: &mut LineBuffer,
+    err: &mut V,
+    refusal: &Refusal,
+) -> Result<(), SinkFail>
+    ensures { Writes V.seen (report_text refusal.now) (line_at line.old err.old) (line_at line.new err.new) result }
 {
     let code = status(refusal) as u64;
     write_pieces(
+        line,
         err,
         &[Piece::Text("E"), Piece::Number(code), Piece::Text(" ")],
     )?;
-    write_pieces(err, &message_pieces(refusal))?;
-    write_all(err, b"\n")
+    write_pieces(line, err, &message_pieces(refusal))?;
+    line.write(err, b"\n")
 }
 
 /// The pieces of what the refusal says after its number.
@@ -212,60 +232,64 @@ fn blank_and_why(why: Why) -> &'static str
     }
 }
 
-/// Writes the pieces one after the other, or a prefix of them.
-fn write_pieces<V: Sink>(err: &mut V, pieces: &[Piece]) -> Result<(), SinkFail>
-    ensures ok { OnOk result ((V.seen err.new).taken ≡ and_then (V.seen err.old).taken (pieces_text pieces.now)) }
-    ensures prefix { OnErr result (TookPrefix (V.seen err.old).taken (V.seen err.new).taken (pieces_text pieces.now)) }
-    ensures failed { OnErr result (SinkFailed (V.seen err.old) (V.seen err.new)) }
-    ensures later { SinkLater (V.seen err.old) (V.seen err.new) }
+/// Writes the pieces to a line, one after the other.
+fn write_pieces<V: Sink>(
+    line: &mut LineBuffer,
+    err: &mut V,
+    pieces: &[Piece],
+) -> Result<(), SinkFail>
+    ensures { Writes V.seen (escaped (pieces_text pieces.now)) (line_at line.old err.old) (line_at line.new err.new)
+        result }
 {
     for piece in pieces {
-        write_piece(err, *piece)?;
+        write_piece(line, err, *piece)?;
     }
     Ok(())
 }
 
-/// Writes a piece, or a prefix of it.
-fn write_piece<V: Sink>(err: &mut V, piece: Piece) -> Result<(), SinkFail>
-    ensures ok { OnOk result ((V.seen err.new).taken ≡ and_then (V.seen err.old).taken (piece_text piece.entry)) }
-    ensures prefix { OnErr result (TookPrefix (V.seen err.old).taken (V.seen err.new).taken (piece_text piece.entry)) }
-    ensures failed { OnErr result (SinkFailed (V.seen err.old) (V.seen err.new)) }
-    ensures later { SinkLater (V.seen err.old) (V.seen err.new) }
+/// Writes a piece to a line.
+fn write_piece<V: Sink>(line: &mut LineBuffer, err: &mut V, piece: Piece) -> Result<(), SinkFail>
+    ensures { Writes V.seen (escaped (piece_text piece.entry)) (line_at line.old err.old) (line_at line.new err.new) result }
 {
     match piece {
-        Piece::Text(text) => write_all(err, text.as_bytes()),
-        Piece::Bytes(bytes) => write_all(err, bytes),
-        Piece::Number(n) => write_all(err, Buffer::new().format(n).as_bytes()),
-        Piece::Signed(n) => write_all(err, Buffer::new().format(n).as_bytes()),
-        Piece::Numbers(ns) => write_numbers(err, ns),
-        Piece::Fault(why) => write_all(err, blank_and_why(why).as_bytes()),
-        Piece::Named(name) => write_named(err, name),
+        Piece::Text(text) => write_escaped(line, err, text.as_bytes()),
+        Piece::Bytes(bytes) => write_escaped(line, err, bytes),
+        Piece::Number(n) => write_escaped(line, err, Buffer::new().format(n).as_bytes()),
+        Piece::Signed(n) => write_escaped(line, err, Buffer::new().format(n).as_bytes()),
+        Piece::Numbers(ns) => write_numbers(line, err, ns),
+        Piece::Fault(why) => write_escaped(line, err, blank_and_why(why).as_bytes()),
+        Piece::Named(name) => write_named(line, err, name),
     }
 }
 
-/// Writes each of the numbers after a blank, or a prefix of that.
-fn write_numbers<V: Sink>(err: &mut V, numbers: &[u64]) -> Result<(), SinkFail>
-    ensures ok { OnOk result ((V.seen err.new).taken ≡ and_then (V.seen err.old).taken (spaced numbers.now)) }
-    ensures prefix { OnErr result (TookPrefix (V.seen err.old).taken (V.seen err.new).taken (spaced numbers.now)) }
-    ensures failed { OnErr result (SinkFailed (V.seen err.old) (V.seen err.new)) }
-    ensures later { SinkLater (V.seen err.old) (V.seen err.new) }
+/// Writes each of the numbers to a line after a blank.
+fn write_numbers<V: Sink>(
+    line: &mut LineBuffer,
+    err: &mut V,
+    numbers: &[u64],
+) -> Result<(), SinkFail>
+    ensures { Writes V.seen (escaped (spaced numbers.now)) (line_at line.old err.old) (line_at line.new err.new) result }
 {
     for n in numbers {
-        write_all(err, b" ")?;
-        write_all(err, Buffer::new().format(*n).as_bytes())?;
+        write_number(line, err, *n)?;
     }
     Ok(())
 }
 
-/// Writes a name after a blank, or a prefix of that; nothing where there is no name.
-fn write_named<V: Sink>(err: &mut V, name: &str) -> Result<(), SinkFail>
-    ensures ok { OnOk result ((V.seen err.new).taken ≡ and_then (V.seen err.old).taken (named name.now)) }
-    ensures prefix { OnErr result (TookPrefix (V.seen err.old).taken (V.seen err.new).taken (named name.now)) }
-    ensures failed { OnErr result (SinkFailed (V.seen err.old) (V.seen err.new)) }
-    ensures later { SinkLater (V.seen err.old) (V.seen err.new) }
+/// Writes a number to a line after a blank.
+fn write_number<V: Sink>(line: &mut LineBuffer, err: &mut V, number: u64) -> Result<(), SinkFail>
+    ensures { Writes V.seen (escaped (blank_number number)) (line_at line.old err.old) (line_at line.new err.new) result }
 {
-    write_all(err, blank_before(name).as_bytes())?;
-    write_all(err, name.as_bytes())
+    write_escaped(line, err, b" ")?;
+    write_escaped(line, err, Buffer::new().format(number).as_bytes())
+}
+
+/// Writes a name to a line after a blank; nothing where there is no name.
+fn write_named<V: Sink>(line: &mut LineBuffer, err: &mut V, name: &str) -> Result<(), SinkFail>
+    ensures { Writes V.seen (escaped (named name.now)) (line_at line.old err.old) (line_at line.new err.new) result }
+{
+    write_escaped(line, err, blank_before(name).as_bytes())?;
+    write_escaped(line, err, name.as_bytes())
 }
 
 /// The blank that stands before a name, or nothing where there is no name.

@@ -1,19 +1,26 @@
-use Rattle.std.proofs.Common.{◌++◌, ap, subst, ◌∙◌, ◌≡◌, List, ℕ}
-use Rattle.pm_base.specs.Known.{and_then}
-use Rattle.pm_io.specs.Sink.{TookPrefix}
-use Rattle.pm_io.proofs.Lemmas.{TookPrefix-second}
-use Rattle.pm_report.proofs.Prefixes.{OnErr_then}
+use Rattle.std.proofs.Common.{◌++◌, ap, List, ℕ, ◌∙◌}
+use Rattle.std.proofs.lemmas.Result.{err_from_is_err_and}
+use Rattle.pm_io.specs.LineBuffer.{line_at}
+use Rattle.pm_report.specs.Report.{named}
+use Rattle.pm_report.proofs.Lines.{Broke-one, Writes-both}
 use Rattle.pm_report.proofs.reports.write_named.Goals as goal
 
--- the blank was taken, and a prefix of the name
-pub returns-clause-prefix : goal.returns-clause-prefix
-returns-clause-prefix g c =
-    let seen = g.V.Sink.seen in
-    let before = (seen c.args.err.now).taken in
-    let mid = (seen c.write_all.new.sink).taken in
-    let after = (seen c.write_all-2.new.sink).taken in
-    let blank = c.blank_before.result.now in
-    let taken : mid ≡ and_then before blank = c.in_ok-write_all.ensures.ok ∙ ap (and_then before) c.as_bytes.ensures.value in
-    OnErr_then (TookPrefix mid after c.as_bytes-2.result.now) _ c.write_all-2.result
-    (λ took. subst (TookPrefix before after) (ap (λ (l : List ℕ). blank ++ l) c.as_bytes-2.ensures.value ∙ c.blank_before.ensures) (TookPrefix-second before mid after blank c.as_bytes-2.result.now taken took))
-    c.write_all-2.ensures.prefix
+pub returns-in_err-write_escaped : goal.returns-in_err-write_escaped
+returns-in_err-write_escaped g c =
+    let p = err_from_is_err_and c.from_residual.result c.from_residual.ensures.1 in
+    let name = c.args.name.now in
+    rw (p.1)
+    (Broke-one g.V.Sink.seen c.as_bytes.result.now name (named name) (line_at c.args.line.now c.args.err.now)
+    (line_at c.write_escaped.new.line c.write_escaped.new.err) (ap (λ (l : List ℕ). l ++ name) c.as_bytes.ensures.value ∙ c.blank_before.ensures)
+    c.in_err-write_escaped.ensures)
+
+pub returns : goal.returns
+returns g c =
+    let name = c.args.name.now in
+    let mid = line_at c.write_escaped.new.line c.write_escaped.new.err in
+    let last = line_at c.write_escaped-2.new.line c.write_escaped-2.new.err in
+    Writes-both g.V.Sink.seen c.as_bytes.result.now c.as_bytes-2.result.now (named name) (line_at c.args.line.now c.args.err.now) mid last
+    c.write_escaped-2.result
+    (ap (λ (l : List ℕ). l ++ c.as_bytes-2.result.now) c.as_bytes.ensures.value ∙ ap (λ (l : List ℕ). c.blank_before.result.now ++ l) c.as_bytes-2.ensures.value
+    ∙ c.blank_before.ensures)
+    c.in_ok-write_escaped.ensures c.write_escaped-2.ensures

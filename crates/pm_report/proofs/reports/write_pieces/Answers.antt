@@ -1,21 +1,28 @@
-use Rattle.std.proofs.Common.{rules, arith}
+use Rattle.std.proofs.Common.{arith}
 use Rattle.std.proofs.lemmas.Result.{err_from_is_err_and}
+use Rattle.pm_io.specs.LineBuffer.{line_at}
+use Rattle.pm_io.proofs.LineLemmas.{Wrote-nothing}
+use Rattle.pm_report.specs.Escaping.{escaped}
 use Rattle.pm_report.specs.Pieces.{piece_text}
-use Rattle.pm_report.proofs.Prefixes.{written_more, TookPrefix-item}
+use Rattle.pm_report.proofs.Lines.{Broke-each, Wrote-each, Wrote-item}
 use Rattle.pm_report.proofs.reports.write_pieces.Goals as goal
+
+pub loop-piece-init : goal.loop-piece-init
+loop-piece-init g c = Wrote-nothing g.V.Sink.seen (line_at c.args.line.now c.args.err.now)
 
 pub loop-piece-preserved : goal.loop-piece-preserved
 loop-piece-preserved g c =
-    let seen = g.V.Sink.seen in
-    record {
-      took = written_more piece_text c.args.pieces.now c.loop-piece.piece-index _ (seen c.args.err.now).taken (seen c.loop-piece.err).taken (seen c.write_piece.new.err).taken (omega arith) c.loop-piece.invariant.took c.in_ok-write_piece.ensures.ok;
-      later = search rules;
-    }
+    Wrote-item g.V.Sink.seen (λ x. escaped (piece_text x)) c.args.pieces.now c.loop-piece.piece-index _ (line_at c.args.line.now c.args.err.now)
+    (line_at c.loop-piece.line c.loop-piece.err) (line_at c.write_piece.new.line c.write_piece.new.err) (omega arith) c.loop-piece.invariant c.in_ok-write_piece.ensures
 
--- the piece was not taken whole
-pub returns-in_err-write_piece-clause-prefix : goal.returns-in_err-write_piece-clause-prefix
-returns-in_err-write_piece-clause-prefix g c =
+pub returns-in_err-write_piece : goal.returns-in_err-write_piece
+returns-in_err-write_piece g c =
     let p = err_from_is_err_and c.from_residual.result c.from_residual.ensures.1 in
-    let seen = g.V.Sink.seen in
     rw (p.1)
-    (TookPrefix-item piece_text c.args.pieces.now c.loop-piece.piece-index _ (seen c.args.err.now).taken (seen c.loop-piece.err).taken (seen c.write_piece.new.err).taken (omega arith) c.loop-piece.invariant.took c.in_err-write_piece.ensures.prefix)
+    (Broke-each g.V.Sink.seen piece_text c.args.pieces.now c.loop-piece.piece-index _ (line_at c.args.line.now c.args.err.now)
+    (line_at c.loop-piece.line c.loop-piece.err) (line_at c.write_piece.new.line c.write_piece.new.err) (omega arith) c.loop-piece.invariant c.in_err-write_piece.ensures)
+
+pub returns : goal.returns
+returns g c =
+    Wrote-each g.V.Sink.seen piece_text c.args.pieces.now c.loop-piece.piece-index (line_at c.args.line.now c.args.err.now)
+    (line_at c.loop-piece.line c.loop-piece.err) (omega arith) c.loop-piece.invariant
