@@ -26,8 +26,8 @@ TookPrefix before after text = (prefix rest : List ℕ) × (text ≡ prefix ++ r
 abbrev pub TookAllBut : List ℕ → Option (List ℕ) → Option (List ℕ) → List ℕ → Type 0
 TookAllBut rest before after text = (prefix : List ℕ) × (text ≡ prefix ++ rest) × (after ≡ and_then before prefix)
 
--- Calls led from a sink to another, each of which was offered all that was left of a text: the first one the whole. What
--- is left then.
+-- Calls led from a sink to another, each of which was offered all that was left of a text: the first one the whole.
+-- What is left then.
 pub data Offered {W : Type 0} (called : W → List ℕ → Result ℕ Failed → W → Type 0) (first : W) (text : List ℕ) :
     W → List ℕ → Type 0 where
   Begun : Offered called first text first text

@@ -1,5 +1,5 @@
--- What contracts see of a source over a reader, and of a sink over a writer. The bytes are what the reader or the writer
--- tells of itself, by std's contracts, which don't oblige it to tell them at all, nor to go on telling them.
+-- What contracts see of a source over a reader, and of a sink over a writer. The bytes are what the reader or the
+-- writer tells of itself, by std's contracts, which don't oblige it to tell them at all, nor to go on telling them.
 use Rattle.std.specs.Prelude.{ℕ, List, Option, None}
 use Rattle.pm_io.specs.Source.{SourceView}
 use Rattle.pm_io.specs.Sink.{SinkView}

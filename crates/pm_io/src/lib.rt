@@ -1,5 +1,5 @@
-//! Where bytes come from and where they go: sources and sinks that may fail, the lines of a source, and lines that go out
-//! by one call.
+//! Where bytes come from and where they go: sources and sinks that may fail, the lines of a source, and lines that go
+//! out by one call.
 #![tactic(auto)]
 
 mod chunk;

@@ -1,5 +1,6 @@
 -- How the text of a refusal is printed, so that it is one line: a control character as its code, all else as it is.
-use Rattle.std.specs.Prelude.{◌≡◌, ◌≢◌, ℕ, ◌/◌, ◌%◌, ◌≤◌, List, [], ◌∷◌, ◌++◌, All, codes, false, flat_map, if◌then◌else◌}
+use Rattle.std.specs.Prelude.{◌≡◌, ◌≢◌, ℕ, ◌/◌, ◌%◌, ◌≤◌, false, if◌then◌else◌}
+use Rattle.std.specs.Prelude.{List, [], ◌∷◌, ◌++◌, All, codes, flat_map}
 use Rattle.std.specs.Char.{is_ascii_control}
 use Rattle.std.specs.Fmt.{digit_glyph}
 use Rattle.pm_base.specs.Newline.{line}

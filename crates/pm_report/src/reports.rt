@@ -5,8 +5,8 @@ ghost use Rattle.pm_base.specs.Known.{and_then};
 ghost use Rattle.pm_io.specs.LineBuffer.{line_at, Fit, Writes};
 ghost use Rattle.pm_io.specs.Sink.{OfferedAll, SinkFailed, SinkLater, TookPrefix};
 ghost use Rattle.pm_report.specs.Escaping.{escaped};
-ghost use Rattle.pm_report.specs.Report.{code_of, why_text, blank_number, named, spaced, sink_message, consumer_message};
-ghost use Rattle.pm_report.specs.Report.{message_of, report_text};
+ghost use Rattle.pm_report.specs.Report.{code_of, why_text, blank_number, named, spaced};
+ghost use Rattle.pm_report.specs.Report.{sink_message, consumer_message, message_of, report_text};
 ghost use Rattle.pm_report.specs.Pieces.{piece_text, pieces_text};
 
 use crate::escaping::write_escaped;
@@ -249,7 +249,8 @@ fn write_pieces<V: Sink>(
 
 /// Writes a piece to a line.
 fn write_piece<V: Sink>(line: &mut LineBuffer, err: &mut V, piece: Piece) -> Result<(), SinkFail>
-    ensures { Writes V.seen (escaped (piece_text piece.entry)) (line_at line.old err.old) (line_at line.new err.new) result }
+    ensures { Writes V.seen (escaped (piece_text piece.entry)) (line_at line.old err.old) (line_at line.new err.new)
+        result }
 {
     match piece {
         Piece::Text(text) => write_escaped(line, err, text.as_bytes()),
@@ -268,7 +269,8 @@ fn write_numbers<V: Sink>(
     err: &mut V,
     numbers: &[u64],
 ) -> Result<(), SinkFail>
-    ensures { Writes V.seen (escaped (spaced numbers.now)) (line_at line.old err.old) (line_at line.new err.new) result }
+    ensures { Writes V.seen (escaped (spaced numbers.now)) (line_at line.old err.old) (line_at line.new err.new)
+        result }
 {
     for n in numbers {
         write_number(line, err, *n)?;
@@ -278,7 +280,8 @@ fn write_numbers<V: Sink>(
 
 /// Writes a number to a line after a blank.
 fn write_number<V: Sink>(line: &mut LineBuffer, err: &mut V, number: u64) -> Result<(), SinkFail>
-    ensures { Writes V.seen (escaped (blank_number number)) (line_at line.old err.old) (line_at line.new err.new) result }
+    ensures { Writes V.seen (escaped (blank_number number)) (line_at line.old err.old) (line_at line.new err.new)
+        result }
 {
     write_escaped(line, err, b" ")?;
     write_escaped(line, err, Buffer::new().format(number).as_bytes())
