@@ -1,18 +1,16 @@
 -- Laws of `write`: what is so of its input, of its calls, and of a history.
-use Rattle.std.proofs.Common.{◌≡◌, ◌≢◌, ◌⊎◌, inl, inr, ℕ, suc, ◌+◌, ◌-◌, ◌≤◌, ◌==◌, ◌++◌, Bool, true, false, if◌then◌else◌, List, [], ◌∷◌, length, Option, None, Some, IfSome, IsSome, IsSomeAnd, Result, Ok, Err, refl, sym, ap, ◌∙◌, subst, arith, append_assoc}
+use Rattle.std.proofs.Common.{◌≡◌, ◌≢◌, ◌⊎◌, inl, inr, ℕ, suc, ◌+◌, ◌-◌, ◌≤◌, ◌==◌, ◌++◌, Bool, true, false, if◌then◌else◌, List, [], ◌∷◌, length, Option, None, Some, IfSome, IsSome, IsSomeAnd, Result, Ok, Err, refl, sym, ap, ◌∙◌, subst, arith}
 use Rattle.std.specs.FinMap as map
 use Rattle.std.specs.List.{AllByRecursion}
 use Rattle.std.specs.Result.{result_err}
-use Rattle.pm_base.specs.Known.{and_then}
 use Rattle.pm_base.specs.Outcome.{◌>>=◌, Fails}
 use Rattle.pm_values.specs.Names.{naming}
 use Rattle.pm_values.specs.Fits.{Fits}
 use Rattle.pm_values.specs.declared.column.Column.{Column}
 use Rattle.pm_values.specs.declared.refusal.Refusal.{Refusal}
 use Rattle.pm_values.specs.declared.refusal.Refusal.TheVariants as refusals
-use Rattle.pm_io.specs.Sink.{SinkView, SinkLater}
+use Rattle.pm_io.specs.Sink.{SinkView}
 use Rattle.pm_io.specs.Source.{SourceView}
-use Rattle.pm_io.proofs.Lemmas.{TookPrefix-first, TookPrefix-second}
 use Rattle.pm_store.specs.declared.call.Op.{Op}
 use Rattle.pm_store.specs.Files.{Files, files_after}
 use Rattle.pm_store.specs.Images.{Extends}
@@ -452,26 +450,6 @@ same_starts law me h f g (folder, none) same stands = (
 )
 
 -- ---- and what was printed
-
-pub prints_more : (text more : List ℕ) (snapshot : Option ℕ) (before after : SinkView) (e : Refusal) → Prints text snapshot None before after (Some e)
-    → Prints (text ++ more) snapshot None before after (Some e)
-prints_more text more snapshot before after e (is, failed, prefix) = (is, failed, TookPrefix-first before.taken after.taken text more prefix)
-
-and_then_twice : (known : Option (List ℕ)) (text more : List ℕ) → and_then (and_then known text) more ≡ and_then known (text ++ more)
-and_then_twice None text more = refl
-and_then_twice (Some bytes) text more = ap Some (append_assoc bytes text more)
-
-pub prints_then : (text more : List ℕ) (snapshot : Option ℕ) (before middle after : SinkView) (answer : Option Refusal) → SinkLater before middle
-    → middle.taken ≡ and_then before.taken text → Prints more snapshot None middle after answer → Prints (text ++ more) snapshot None before after answer
-prints_then text more snapshot before middle after None late taken prints =
-    prints ∙ ap (λ (known : Option (List ℕ)). and_then known more) taken ∙ and_then_twice before.taken text more
-prints_then text more snapshot before middle after (Some e) late taken (is, failed, prefix) =
-    (is, omega (arith, late, failed), TookPrefix-second before.taken middle.taken after.taken text more taken prefix)
-
--- a text that is joined otherwise
-pub prints_as : (text other : List ℕ) (snapshot : Option ℕ) (before after : SinkView) (answer : Option Refusal) → text ≡ other
-    → Prints text snapshot None before after answer → Prints other snapshot None before after answer
-prints_as text other snapshot before after answer is = subst (λ (text : List ℕ). Prints text snapshot None before after answer) is
 
 pub refused_written : (start : Start) (w : Writer) (lines : Lines) (e : Refusal) (out : SinkView) (store after : StoreView)
     → HasTrace (DidWrite start w lines (Err e)) store after → KeepsHistories start w lines store after (Err e)

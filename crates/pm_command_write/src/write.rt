@@ -29,7 +29,7 @@ use pm_command::{judge, print};
 use pm_commit::{Appended, Committer, append_rows};
 use pm_engines::{TableEngine, declared_law};
 use pm_input::InputLine;
-use pm_io::{Sink, Source};
+use pm_io::{LineBuffer, Sink, Source};
 use pm_rows::fit_law;
 use pm_schema::TableSchema;
 use pm_store::FileStore;
@@ -230,7 +230,7 @@ fn print_written<W: Sink>(out: &mut W, written: Written) -> Result<(), Refusal>
     }
 }
 
-/// Says which snapshot was committed.
+/// Says which snapshot was committed, in one piece.
 fn print_snapshot<W: Sink>(out: &mut W, id: u64) -> Result<(), Refusal>
     ensures prints { Prints (line (codes "snapshot " ++ decimal id)) (Some id) None (W.seen out.old) (W.seen out.new)
         (result_err result) }
@@ -238,15 +238,9 @@ fn print_snapshot<W: Sink>(out: &mut W, id: u64) -> Result<(), Refusal>
 {
     let mut buffer = Buffer::new();
     let number = buffer.format(id);
-    print(out, b"snapshot ", Some(id))?;
-    print_line(out, number.as_bytes(), Some(id))
-}
-
-/// Prints a text and a newline.
-fn print_line<W: Sink>(out: &mut W, text: &[u8], snapshot: Option<u64>) -> Result<(), Refusal>
-    ensures prints { Prints (line text.now) snapshot None (W.seen out.old) (W.seen out.new) (result_err result) }
-    ensures later { SinkLater (W.seen out.old) (W.seen out.new) }
-{
-    print(out, text, snapshot)?;
-    print(out, b"\n", snapshot)
+    let mut text = LineBuffer::new();
+    text.hold(b"snapshot ");
+    text.hold(number.as_bytes());
+    text.hold(b"\n");
+    print(out, text.bytes(), Some(id))
 }
