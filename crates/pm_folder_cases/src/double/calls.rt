@@ -1,0 +1,369 @@
+//! The calls of the double, each as one of an operating system.
+
+use crate::double::parts::{Bytes, Held, Lock, Name, Owner, Thing};
+use crate::double::steps::{Act, Step};
+use crate::double::world::{World, fault, there};
+use pm_folder_store::{Found, Kind};
+use std::alloc::Global;
+use std::io;
+use std::io::ErrorKind;
+use std::time::Duration;
+
+/// How many bytes a name has at most.
+const LONGEST_NAME: usize = 255;
+
+impl World {
+    /// What stands at a path.
+    pub fn look(&mut self, path: &str) -> io::Result<Found> {
+        self.begin(Act::Look, path, "")?;
+        let thing = self.thing(path)?;
+        let found = self.found(thing)?;
+        self.done();
+        Ok(found)
+    }
+
+    /// What a path leads to.
+    pub fn look_through(&mut self, path: &str) -> io::Result<Found> {
+        self.begin(Act::Look, path, "")?;
+        let thing = self.end(path)?;
+        let found = self.found(thing)?;
+        self.done();
+        Ok(found)
+    }
+
+    /// What a handle has open.
+    pub fn look_at(&mut self, handle: usize) -> io::Result<Found> {
+        let thing = self.begin_at(Act::Look, handle)?;
+        let found = self.found(thing)?;
+        self.done();
+        Ok(found)
+    }
+
+    /// The names in a folder, the last one first.
+    pub fn names(&mut self, alloc: Global, folder: &str) -> io::Result<Vec<String>> {
+        self.begin(Act::Names, folder, "")?;
+        let mut names = Vec::new(alloc);
+        let thing = self.end(folder)?;
+        for name in self.names_of(thing)?.iter().rev() {
+            if name.now.is_some() {
+                names.push(String::from_str(alloc, name.text.as_str())?)?;
+            }
+        }
+        self.done();
+        Ok(names)
+    }
+
+    /// Whether nothing stands in a folder.
+    pub fn is_empty(&mut self, folder: &str) -> io::Result<bool> {
+        self.begin(Act::Names, folder, "")?;
+        let thing = self.end(folder)?;
+        let is_used = is_used(self.names_of(thing)?);
+        self.done();
+        Ok(!is_used)
+    }
+
+    /// Opens a file or a folder.
+    pub fn open(&mut self, path: &str) -> io::Result<usize> {
+        self.begin(Act::Open, path, "")?;
+        let thing = self.end(path)?;
+        let handle = self.hold(thing, path)?;
+        self.done();
+        Ok(handle)
+    }
+
+    /// Makes a file where nothing stands, and opens it.
+    pub fn make(&mut self, path: &str) -> io::Result<usize> {
+        self.begin(Act::Make, path, "")?;
+        let bytes = Bytes {
+            now: Vec::new(self.alloc),
+            is_synced: false,
+        };
+        let file = self.stand(path, Thing::File(bytes))?;
+        let handle = self.hold(file, path)?;
+        self.done();
+        Ok(handle)
+    }
+
+    /// Reads a file.
+    pub fn read(&mut self, handle: usize, into: &mut Vec<u8>) -> io::Result<()> {
+        let begun = self.begin_at(Act::Read, handle);
+        let is_half = begun.is_err() && !self.plan.is_stopped;
+        if begun.is_ok() || is_half {
+            let file = self.held(handle)?.thing;
+            let bytes = self.bytes(file)?;
+            into.extend_from_slice(part(bytes, is_half))?;
+        }
+        begun?;
+        self.done();
+        Ok(())
+    }
+
+    /// Writes bytes to the end of a file.
+    pub fn write(&mut self, handle: usize, bytes: &[u8]) -> io::Result<()> {
+        let begun = self.begin_at(Act::Write, handle);
+        let is_half = begun.is_err() && !self.plan.is_stopped;
+        if begun.is_ok() || is_half {
+            let file = self.held(handle)?.thing;
+            self.append(file, part(bytes, is_half))?;
+        }
+        begun?;
+        self.done();
+        Ok(())
+    }
+
+    /// Gives a file the mode of another.
+    pub fn copy_mode(&mut self, from: &str, handle: usize) -> io::Result<()> {
+        let _thing = self.begin_at(Act::CopyMode, handle)?;
+        let _from = self.thing(from)?;
+        self.done();
+        Ok(())
+    }
+
+    /// Has what is open on the disk.
+    pub fn sync(&mut self, handle: usize) -> io::Result<()> {
+        let thing = self.begin_at(Act::Sync, handle)?;
+        self.settle(thing);
+        self.done();
+        Ok(())
+    }
+
+    /// Asks for a lock, and answers whether it was given. Who acts aside doesn't ask again: that is an error.
+    pub fn try_lock(&mut self, handle: usize, is_alone: bool) -> io::Result<bool> {
+        let act = if is_alone { Act::Lock } else { Act::Share };
+        let thing = self.begin_at(act, handle)?;
+        if self.is_barred(thing, handle, is_alone) {
+            if self.is_aside {
+                return Err(fault(ErrorKind::WouldBlock));
+            }
+            return Ok(false);
+        }
+        if let Some(Some(held)) = self.handles.get_mut(handle) {
+            held.lock = if is_alone { Lock::Alone } else { Lock::Shared };
+        }
+        self.done();
+        Ok(true)
+    }
+
+    /// Closes a handle, which ends its lock.
+    pub fn close(&mut self, handle: usize) {
+        if self.is_locked(handle) && !self.is_aside {
+            let _ = self.note_end(handle);
+        }
+        if let Some(held) = self.handles.get_mut(handle) {
+            *held = None;
+        }
+    }
+
+    /// Gives a file another path.
+    pub fn rename(&mut self, from: &str, to: &str) -> io::Result<()> {
+        self.begin(Act::Rename, from, to)?;
+        let old = self.spot(from)?;
+        let new = self.spot(to)?;
+        let file = there(old)?;
+        self.fits(new.name)?;
+        let (old_folder, new_folder) = (old.folder, new.folder);
+        self.lead(new_folder, new.name, Some(file))?;
+        self.lead(old_folder, old.name, None)?;
+        self.done();
+        Ok(())
+    }
+
+    /// Takes a file away.
+    pub fn remove_file(&mut self, path: &str) -> io::Result<()> {
+        self.begin(Act::RemoveFile, path, "")?;
+        let spot = self.spot(path)?;
+        if let Thing::Folder(_) = &self.node(there(spot)?)?.thing {
+            return Err(fault(ErrorKind::IsADirectory));
+        }
+        self.lead(spot.folder, spot.name, None)?;
+        self.done();
+        Ok(())
+    }
+
+    /// Makes a folder.
+    pub fn create_dir(&mut self, path: &str) -> io::Result<()> {
+        self.begin(Act::CreateDir, path, "")?;
+        let _folder = self.stand(path, Thing::Folder(Vec::new(self.alloc)))?;
+        self.done();
+        Ok(())
+    }
+
+    /// Takes an empty folder away.
+    pub fn remove_dir(&mut self, path: &str) -> io::Result<()> {
+        self.begin(Act::RemoveDir, path, "")?;
+        let spot = self.spot(path)?;
+        if is_used(self.names_of(there(spot)?)?) {
+            return Err(fault(ErrorKind::DirectoryNotEmpty));
+        }
+        self.lead(spot.folder, spot.name, None)?;
+        self.done();
+        Ok(())
+    }
+
+    /// The time since 1970, or since some moment.
+    pub fn time(&mut self) -> io::Result<Duration> {
+        self.begin(Act::Clock, "", "")?;
+        Ok(Duration::from_micros(self.glance()))
+    }
+
+    /// What a look finds of a thing.
+    fn found(&self, thing: usize) -> io::Result<Found> {
+        let node = self.node(thing)?;
+        let kind = match &node.thing {
+            Thing::File(_) => Kind::File,
+            Thing::Folder(_) => Kind::Folder,
+            Thing::Link(_) => Kind::Other,
+        };
+        Ok(Found {
+            kind,
+            device: 1,
+            inode: u64::try_from(thing).unwrap_or(0),
+            changed: Duration::from_micros(node.changed),
+        })
+    }
+
+    /// Puts a new thing at a path where nothing stands.
+    fn stand(&mut self, path: &str, thing: Thing) -> io::Result<usize> {
+        let spot = self.spot(path)?;
+        if spot.thing.is_some() {
+            drop(thing);
+            return Err(fault(ErrorKind::AlreadyExists));
+        }
+        self.fits(spot.name)?;
+        let number = self.add(thing, spot.folder)?;
+        self.lead(spot.folder, spot.name, Some(number))?;
+        Ok(number)
+    }
+
+    /// A name that is too long is an error.
+    fn fits(&self, name: &str) -> io::Result<()> {
+        if name.is_empty() || name.len() > LONGEST_NAME {
+            return Err(fault(ErrorKind::InvalidFilename));
+        }
+        Ok(())
+    }
+
+    /// Opens a thing.
+    fn hold(&mut self, thing: usize, path: &str) -> io::Result<usize> {
+        let owner = if self.is_aside {
+            Owner::Aside
+        } else {
+            Owner::Watched
+        };
+        self.hold_by(owner, thing, path, Lock::Free)
+    }
+
+    /// Opens a thing for somebody, with a lock.
+    pub fn hold_by(
+        &mut self,
+        owner: Owner,
+        thing: usize,
+        path: &str,
+        lock: Lock,
+    ) -> io::Result<usize> {
+        let handle = self.handles.len();
+        let held = Held {
+            owner,
+            thing,
+            path: String::from_str(self.alloc, path)?,
+            lock,
+        };
+        self.handles.push(Some(held))?;
+        Ok(handle)
+    }
+
+    /// What a handle has open.
+    fn held(&self, handle: usize) -> io::Result<&Held> {
+        match self.handles.get(handle) {
+            Some(Some(held)) => Ok(held),
+            _ => Err(fault(ErrorKind::InvalidInput)),
+        }
+    }
+
+    /// Counts a call on a handle, and answers what is open.
+    fn begin_at(&mut self, act: Act, handle: usize) -> io::Result<usize> {
+        let held = self.held(handle)?;
+        let thing = held.thing;
+        let path = String::from_str(self.alloc, held.path.as_str())?;
+        self.begin(act, path.as_str(), "")?;
+        Ok(thing)
+    }
+
+    /// The bytes of a file.
+    pub fn bytes(&self, file: usize) -> io::Result<&[u8]> {
+        match &self.node(file)?.thing {
+            Thing::File(bytes) => Ok(bytes.now.as_slice()),
+            _ => Err(fault(ErrorKind::IsADirectory)),
+        }
+    }
+
+    /// Adds bytes to a file.
+    fn append(&mut self, file: usize, more: &[u8]) -> io::Result<()> {
+        let tick = self.tick();
+        let Some(node) = self.nodes.get_mut(file) else {
+            return Err(fault(ErrorKind::NotFound));
+        };
+        node.changed = tick;
+        match &mut node.thing {
+            Thing::File(bytes) => {
+                bytes.is_synced = false;
+                Ok(bytes.now.extend_from_slice(more)?)
+            }
+            _ => Err(fault(ErrorKind::IsADirectory)),
+        }
+    }
+
+    /// Whether another handle's lock bars one's own.
+    fn is_barred(&self, thing: usize, own: usize, is_alone: bool) -> bool {
+        for (handle, held) in self.handles.iter().enumerate() {
+            if handle != own && bars(held, thing, is_alone) {
+                return true;
+            }
+        }
+        false
+    }
+
+    /// Whether a handle has a lock.
+    fn is_locked(&self, handle: usize) -> bool {
+        match self.held(handle) {
+            Ok(held) => !matches!(held.lock, Lock::Free),
+            Err(_) => false,
+        }
+    }
+
+    /// Notes that a lock ends.
+    fn note_end(&mut self, handle: usize) -> io::Result<()> {
+        let path = self.held(handle)?.path.as_str();
+        let step = Step::new(self.alloc, 0, Act::Unlock, path, "")?;
+        self.steps.push(step)?;
+        self.done();
+        Ok(())
+    }
+}
+
+/// Whether what is open there has a lock that bars another one on a thing.
+fn bars(held: &Option<Held>, thing: usize, is_alone: bool) -> bool {
+    let Some(held) = held else {
+        return false;
+    };
+    held.thing == thing
+        && match held.lock {
+            Lock::Free => false,
+            Lock::Shared => is_alone,
+            Lock::Alone => true,
+        }
+}
+
+/// Whether any of these names leads to something.
+fn is_used(names: &[Name]) -> bool {
+    names.iter().any(|name| name.now.is_some())
+}
+
+/// All bytes, or the first half of them.
+fn part(bytes: &[u8], is_half: bool) -> &[u8] {
+    if is_half {
+        bytes.get(..bytes.len() / 2).unwrap_or(&[])
+    } else {
+        bytes
+    }
+}

@@ -1,0 +1,75 @@
+//! Processes on a double, each with a store of its own on the folder `t`.
+
+use crate::calls::{said, split};
+use crate::double::seat::Seat;
+use crate::double::steps::Plan;
+use crate::double::world::World;
+use crate::state::put_word;
+use pm_folder_store::{FolderStore, Host};
+use std::alloc::Global;
+use std::cell::RefCell;
+use std::io;
+
+/// The table's folder.
+const TABLE: &str = "t";
+
+/// The store of a process.
+pub fn open_store<H: Host + Drop>(alloc: Global, host: H) -> io::Result<FolderStore<H>> {
+    match FolderStore::open(alloc, host, TABLE) {
+        Ok(store) => Ok(store),
+        Err(_) => Err(io::Error::other("no store")),
+    }
+}
+
+/// Has a process act: a call of its store, `wait`, which has two seconds pass, or what others do beside it. Answers what
+/// it was answered.
+pub fn said_of<H: Host + Drop>(
+    world: &RefCell<World>,
+    store: &mut FolderStore<H>,
+    act: &str,
+) -> io::Result<String> {
+    let alloc = world.try_borrow()?.alloc;
+    let (word, _rest) = split(act);
+    match word {
+        "wait" => {
+            world.try_borrow_mut()?.wait();
+            Ok(String::from_str(alloc, "later")?)
+        }
+        "other" | "foreign" => said_beside(world, act),
+        _ => Ok(said(alloc, store, act)?),
+    }
+}
+
+/// Whether an act is a call of the process's own store.
+pub fn is_own_call(act: &str) -> bool {
+    !matches!(split(act).0, "wait" | "other" | "foreign")
+}
+
+/// What others do beside a process: `foreign WORD`, which puts what a word of a state says past any store, or
+/// `other CALL`, a call of another process's store. Answers what that one was answered.
+pub fn said_beside(world: &RefCell<World>, act: &str) -> io::Result<String> {
+    let (word, rest) = split(act);
+    let alloc = world.try_borrow()?.alloc;
+    if word == "foreign" {
+        put_word(&mut *world.try_borrow_mut()?, rest)?;
+        return Ok(String::from_str(alloc, "made")?);
+    }
+    world.try_borrow_mut()?.is_aside = true;
+    let answer = said_by_another(alloc, world, rest);
+    world.try_borrow_mut()?.end_aside();
+    answer
+}
+
+/// What another process's store answers to a call.
+fn said_by_another(alloc: Global, world: &RefCell<World>, call: &str) -> io::Result<String> {
+    let mut store = open_store(alloc, Seat { world })?;
+    let answer = said(alloc, &mut store, call);
+    drop(store);
+    Ok(answer?)
+}
+
+/// Begins to count a process's calls of its host anew, of which these fail.
+pub fn start(world: &RefCell<World>, plan: Plan) -> io::Result<()> {
+    world.try_borrow_mut()?.start(plan);
+    Ok(())
+}
