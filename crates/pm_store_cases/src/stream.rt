@@ -18,9 +18,10 @@ const SMALL: Limits = Limits {
     bytes: 12,
 };
 
-/// A reader of one byte a call, whose first calls all fail with an error of this kind.
+/// A reader of one byte a call. After so many bytes as many calls all fail with an error of this kind.
 #[derive(Drop)]
 struct Faulty<'a> {
+    after: usize,
     times: u64,
     kind: ErrorKind,
     bytes: &'a [u8],
@@ -28,35 +29,42 @@ struct Faulty<'a> {
 
 impl Read for Faulty<'_> {
     fn read(&mut self, buf: &mut [u8]) -> io::Result<usize> {
-        if self.times > 0 {
+        if self.after == 0 && self.times > 0 {
             self.times -= 1;
             return Err(io::Error::new(self.kind, "no byte"));
         }
         let count = buf.len().min(self.bytes.len()).min(1);
         buf[..count].copy_from_slice(&self.bytes[..count]);
         self.bytes = &self.bytes[count..];
+        self.after = self.after.saturating_sub(count);
         Ok(count)
     }
 }
 
-/// A writer that takes one byte a call, and where it has no room left fails or takes none.
+/// A writer that takes one byte a call. After so many bytes as many calls all fail with an error of this kind, or take
+/// none where there is no kind.
 #[derive(Drop)]
 struct Narrow<'a> {
     bytes: &'a mut Vec<u8>,
-    room: usize,
-    fails: bool,
+    after: usize,
+    times: u64,
+    kind: Option<ErrorKind>,
 }
 
 impl Write for Narrow<'_> {
     fn write(&mut self, buf: &[u8]) -> io::Result<usize> {
-        if self.room == 0 && self.fails {
-            return Err(io::Error::new(ErrorKind::Other, "no room"));
+        if self.after == 0 && self.times > 0 {
+            self.times -= 1;
+            return match self.kind {
+                Some(kind) => Err(io::Error::new(kind, "no room")),
+                None => Ok(0),
+            };
         }
-        if self.room == 0 || buf.is_empty() {
+        if buf.is_empty() {
             return Ok(0);
         }
         self.bytes.push(buf[0])?;
-        self.room -= 1;
+        self.after = self.after.saturating_sub(1);
         Ok(1)
     }
 
@@ -65,20 +73,22 @@ impl Write for Narrow<'_> {
     }
 }
 
-/// The lines of a source: `memory`, whose read of that number fails, or a reader whose first calls, as many as the
-/// number, are `interrupted` or `broken`. Then the number, the greatest length of a line, and a text with `/` for each
-/// newline.
+/// The lines of a source: `memory`, whose read of that number fails, or a reader as many of whose calls as the number
+/// are `interrupted` or `broken`, the first ones, or after `@` and a number those after so many bytes. Then the number, the
+/// greatest length of a line, and a text with `/` for each newline.
 pub fn source_answer(case: &mut Case, arguments: &str) {
     let (kind, rest) = case.split(arguments);
     let (number, rest) = case.split(rest);
     let (max, text) = case.split(rest);
-    let number = case.number(number);
+    let (times, after) = number.split_once('@').unwrap_or((number, "0"));
+    let times = case.number(times);
+    let after = case.size(after);
     let max = case.size(max);
     let bytes = lines_of(case, text);
     match kind {
-        "memory" => say_memory(case, number, max, bytes),
-        "interrupted" => say_reader(case, ErrorKind::Interrupted, number, max, &bytes),
-        _ => say_reader(case, ErrorKind::Other, number, max, &bytes),
+        "memory" => say_memory(case, times, max, bytes),
+        "interrupted" => say_reader(case, ErrorKind::Interrupted, after, times, max, &bytes),
+        _ => say_reader(case, ErrorKind::Other, after, times, max, &bytes),
     }
 }
 
@@ -100,9 +110,21 @@ fn say_memory(case: &mut Case, number: u64, max: usize, bytes: Vec<u8>) {
     drop(source);
 }
 
-/// Says the lines of a reader, so many of whose first calls fail.
-fn say_reader(case: &mut Case, kind: ErrorKind, times: u64, max: usize, bytes: &[u8]) {
-    let mut source = StdSource::new(Faulty { times, kind, bytes });
+/// Says the lines of a reader, so many of whose calls fail after so many bytes.
+fn say_reader(
+    case: &mut Case,
+    kind: ErrorKind,
+    after: usize,
+    times: u64,
+    max: usize,
+    bytes: &[u8],
+) {
+    let mut source = StdSource::new(Faulty {
+        after,
+        times,
+        kind,
+        bytes,
+    });
     say_lines(case, &mut source, max);
     drop(source);
 }
@@ -138,7 +160,8 @@ fn say_line(case: &mut Case, line: Line) {
 }
 
 /// What a sink takes of a text, and whether that was all: `memory` with so much room whose write of the number fails,
-/// or a writer with so much room that then is `broken`, or `full`. Then the room, the number, and the text.
+/// or a writer that after so many bytes is `broken`, `interrupted` or `full`, for as many calls as the number, and for 0
+/// from then on. Then the room, the number, and the text.
 pub fn sink_answer(case: &mut Case, arguments: &str) {
     let (kind, rest) = case.split(arguments);
     let (room, rest) = case.split(rest);
@@ -147,7 +170,9 @@ pub fn sink_answer(case: &mut Case, arguments: &str) {
     let number = case.number(number);
     match kind {
         "memory" => write_memory(case, room, number, text),
-        _ => write_narrow(case, room, kind == "broken", text),
+        "broken" => write_narrow(case, room, number, Some(ErrorKind::Other), text),
+        "interrupted" => write_narrow(case, room, number, Some(ErrorKind::Interrupted), text),
+        _ => write_narrow(case, room, number, None, text),
     }
 }
 
@@ -170,12 +195,13 @@ fn write_sink(case: &mut Case, sink: MemSink, text: &str) {
 }
 
 /// Says what a writer takes of a text.
-fn write_narrow(case: &mut Case, room: usize, fails: bool, text: &str) {
+fn write_narrow(case: &mut Case, after: usize, times: u64, kind: Option<ErrorKind>, text: &str) {
     let mut bytes = Vec::new(case.alloc());
     let mut sink = StdSink::new(Narrow {
         bytes: &mut bytes,
-        room,
-        fails,
+        after,
+        times: if times == 0 { u64::MAX } else { times },
+        kind,
     });
     let is_whole = write_text(&mut sink, text);
     drop(sink);
