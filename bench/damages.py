@@ -1,0 +1,375 @@
+#!/usr/bin/env python3
+"""Damages small tables at random, and runs commands on them: files are cut, grown, emptied, removed, given other bytes
+or other values, or replaced by another file, a link, a pipe or a folder; folders are replaced likewise; and names that
+aren't the table's come into folders. It promises, of each command on such a folder:
+  - it ends within ten seconds, with 0 or a refusal's status, and a refusal is one line on standard error;
+  - `scan` and `snapshots` print, or say, what a second program does that was written from the documents
+    (reference_files.py), and change nothing;
+  - a refused `create` or `write` changes no file, but that files of its own may be left, which no snapshot names; one
+    that ends with 0 shows in the next `scan`;
+  - nothing outside the folder is changed or printed, and, of a sample under strace, no path outside of it is opened.
+It ends with 1 where a promise broke. The gate never runs it. It wants strace. docs/DEVELOPING.md has what it printed.
+
+usage: bench/damages.py [--program PROGRAM] [--count DAMAGED_TABLES] [--seed SEED]
+"""
+
+import json
+import os
+import re
+import shutil
+import stat
+
+import reference_avro
+import reference_files
+from reference_table import Refused
+from trials import DRAFT, Tally, copy, fault_of, random_of, read_arguments, run, tree, work_folder
+
+SAMPLE = 20  # each so many commands one runs under strace
+SECRET = b'["+I",666,"a secret of somebody else"]'
+KNOWN = re.compile("/(etc/ld.so|lib|usr/lib|usr/local/lib|dev/urandom|dev/random|proc/self|sys/fs/cgroup)")
+OWN_FILE = rb"(data|manifest|manifest-list|ORIGIN)-[0-9a-f-]{36}-0[0-9a-z.-]*"
+OWN = re.compile(rb"\.lock|\.new(/\d+)?|(bucket-0|manifest|snapshot|schema)(/" + OWN_FILE + rb")?")
+TABLES = {
+    "deduplicate": (
+        {},
+        ['["+I",1,"a"]\n["+I",2,"b"]', '["-D",1,null]\n["+I",3,"a longer text"]', '["+U",4,null]', '["+I",2,"c"]'],
+    ),
+    "first-row": ({"merge-engine": "first-row"}, ['["+I",1,"a"]', '["+I",1,"b"]\n["+I",5,"x"]']),
+    "aggregation": (
+        {"merge-engine": "aggregation", "fields.v.aggregate-function": "listagg", "manifest.merge-min-count": "2"},
+        ['["+I",1,"a"]', '["+I",1,"b"]\n["+I",2,null]', '["+I",2,"z"]'],
+    ),
+    "partial-update": (
+        {"merge-engine": "partial-update", "manifest.merge-min-count": "3"},
+        ['["+I",1,"a"]', '["+I",1,null]'],
+    ),
+}
+NAMES = [b"\xff\xfe", b".x", b"...", b"a\nb", b"\x01", b"x" * 255, b"snapshot-01", b"snapshot-0", b"schema--1", b"x y"]
+NAMES += [b"snapshot-9007199254740992", b"manifest-", "é€".encode(), b"-", b"5", b"EARLIEST", b"bucket-1", b"tmp=1"]
+TEXTS = ["", ".", "..", ".x", "../outside/file", "/etc/passwd", "a/b", "x" * 300, "a\nb", "\0", "é", "snapshot-1"]
+TEXTS += ["x.avro", "0", "-1", "01", "5", "APPEND", "INT", "avro"]
+NUMBERS = [0, 1, -1, 2, 3, 5, 2**31, 2**53 - 1, 2**53, 2**62, 2**63 - 1, 2**63, 2**64]
+
+
+def maybe(random, chance):
+    return random.random() < chance
+
+
+def files_in(folder):
+    """The files in a folder."""
+    return sorted(path for path in folder.rglob("*") if stat.S_ISREG(path.lstat().st_mode))
+
+
+def folders_in(folder):
+    return sorted(path for path in folder.rglob("*") if stat.S_ISDIR(path.lstat().st_mode))
+
+
+# Damages of a file's bytes.
+
+
+def cut(random, data):
+    return data[: random.randrange(len(data) + 1)]
+
+
+def grow(random, data):
+    return data + random.choice([b"\0", b"\n", b"x", random.randbytes(random.randint(1, 40)), data[-20:]])
+
+
+def flip(random, data):
+    out = bytearray(data)
+    for _ in range(random.choice([1, 1, 2, 8])):
+        if out:
+            at = random.randrange(len(out))
+            out[at] = random.choice([out[at] ^ 1 << random.randrange(8), random.randrange(256)])
+    return bytes(out)
+
+
+def splice(random, data):
+    """Bytes are taken out, or stand twice."""
+    begin, end = sorted(random.choices(range(len(data) + 1), k=2))
+    return data[:begin] + data[end:] if maybe(random, 0.5) else data[:end] + data[begin:]
+
+
+def other_value(random, value):
+    """Another value, mostly of the same kind."""
+    if maybe(random, 0.1):
+        return random.choice([None, True, [], {}, "1", 1, 1.5])
+    return random.choice(TEXTS if isinstance(value, str) else NUMBERS)
+
+
+def change_json(random, data):
+    """Another value at one place of a JSON object."""
+    try:
+        value = json.loads(data)
+    except ValueError:
+        return flip(random, data)
+    inner = value
+    while isinstance(inner, (dict, list)) and inner:
+        key = random.choice(sorted(inner) if isinstance(inner, dict) else range(len(inner)))
+        if not isinstance(inner[key], (dict, list)) or maybe(random, 0.2):
+            way = random.randrange(4)
+            if way == 0:
+                del inner[key]
+            elif way == 1 and isinstance(inner, dict):
+                inner[random.choice(TEXTS)] = inner[key]
+            else:
+                inner[key] = other_value(random, inner[key])
+            break
+        inner = inner[key]
+    return json.dumps(value, ensure_ascii=maybe(random, 0.5)).encode()
+
+
+def change_record(random, data):
+    """Other values in the records of an Avro file."""
+    try:
+        blocks = reference_avro.Blocks(data)
+        kind, records = blocks.kind, [record for _, block in blocks for record in block()]
+        for _ in range(random.choice([1, 1, 2])):
+            way = random.randrange(5)
+            if way == 0 and records:
+                records.append(random.choice(records))
+            elif way == 1 and records:
+                records.remove(random.choice(records))
+            elif records:
+                change_field(random, random.choice(records))
+        return reference_avro.written(kind, records, blocks.marker)
+    except (reference_avro.Bad, Refused, TypeError, AttributeError, OverflowError, IndexError):
+        return flip(random, data)
+
+
+def change_field(random, record):
+    """Another value in a field of a record."""
+    name = random.choice(sorted(record))
+    if isinstance(record[name], dict):
+        change_field(random, record[name])
+    elif isinstance(record[name], bytes):
+        record[name] = random.choice([flip, cut, grow])(random, record[name])
+    elif isinstance(record[name], str):
+        record[name] = random.choice([*TEXTS, record[name] + "x", "x/../" + record[name]])
+    elif isinstance(record[name], int):
+        record[name] = random.choice([record[name] + 1, record[name] - 1, 0, 1, 2, 5, 2**31 - 1, 2**62, 2**62 - 1])
+
+
+# Damages of what stands at a path.
+
+
+INSTEAD = ["link", "link", "link to nothing", "own link", "pipe", "folder", "full folder", "none", "file"]
+
+
+class Damage:
+    """One damaged copy of a table, and a folder outside that links lead to."""
+
+    def __init__(self, folder, outside, random):
+        self.folder, self.outside, self.random = folder, outside, random
+
+    def replace(self, path, is_folder):
+        """Puts something else in the place of a file or a folder."""
+        held = None if is_folder else path.read_bytes()
+        shutil.rmtree(path) if is_folder else path.unlink()
+        how = self.random.choice(INSTEAD)
+        if how == "link":
+            path.symlink_to(self.outside / ("folder" if is_folder else "file"))
+        elif how == "link to nothing":
+            path.symlink_to(self.random.choice(["nothing", path.name, "/nothing/at/all", "../" * 5]))
+        elif how == "own link":
+            path.symlink_to(self.random.choice(files_in(self.folder) or [self.folder]))
+        elif how == "pipe":
+            os.mkfifo(path)
+        elif how in ("folder", "full folder"):
+            path.mkdir()
+            if how == "full folder":
+                (path / self.random.choice(["file", ".file", "snapshot-7"])).write_bytes(held or b"x")
+        elif how == "file":
+            path.write_bytes(self.random.choice([b"", b"x", self.random.choice(files_in(self.outside)).read_bytes()]))
+        return how
+
+    def damage_file(self):
+        """Damages one file; tells how."""
+        path = self.random.choice(files_in(self.folder))
+        if maybe(self.random, 0.3):
+            return f"{path.relative_to(self.folder)}: {self.replace(path, False)}"
+        data = path.read_bytes()
+        parts = path.relative_to(self.folder).parts
+        own = change_json if parts[0] in ("snapshot", "schema") else change_record
+        way = self.random.choice([cut, grow, flip, flip, splice, own, own, own])
+        path.write_bytes(way(self.random, data))
+        return f"{path.relative_to(self.folder)}: {way.__name__}"
+
+    def swap_files(self):
+        """Puts another file of the table in the place of one."""
+        one, other = self.random.choices(files_in(self.folder), k=2)
+        one.write_bytes(other.read_bytes())
+        return f"{one.relative_to(self.folder)} has the bytes of {other.relative_to(self.folder)}"
+
+    def damage_folder(self):
+        path = self.random.choice(folders_in(self.folder))
+        return f"{path.relative_to(self.folder)}: {self.replace(path, True)}"
+
+    def add_name(self):
+        """Puts something under a name that may not be the table's."""
+        folder = self.random.choice([self.folder, *folders_in(self.folder)])
+        name = self.random.choice(NAMES)
+        path = os.path.join(os.fsencode(folder), name)
+        how = self.random.choice(["file", "file", "link", "pipe", "folder", "full folder"])
+        if os.path.lexists(path):
+            return "nothing"
+        if how == "file":
+            with open(path, "wb") as file:
+                file.write(self.random.choice([b"", b"x", self.random.choice(files_in(self.folder)).read_bytes()]))
+        elif how == "link":
+            os.symlink(self.outside / self.random.choice(["file", "folder", "nothing"]), path)
+        elif how == "pipe":
+            os.mkfifo(path)
+        else:
+            os.mkdir(path)
+            if how == "full folder":
+                with open(os.path.join(path, self.random.choice(NAMES[-3:] + NAMES[:4])), "wb"):
+                    pass
+        return f"{folder.relative_to(self.folder)}/{name}: {how}"
+
+    def do(self):
+        """One damage, or two; tells how."""
+        ways = [self.damage_file] * 6 + [self.swap_files, self.damage_folder, self.add_name, self.add_name]
+        done = [self.random.choice(ways)()]
+        if maybe(self.random, 0.25) and files_in(self.folder) and folders_in(self.folder):
+            done.append(self.random.choice(ways)())
+        return "; ".join(done)
+
+
+# Trials.
+
+
+def expected(read):
+    """What the second program prints, or says, of a folder."""
+    try:
+        return 0, read().encode(errors="surrogatepass"), b""
+    except Refused as refused:
+        return refused.status, b"", f"{refused}\n".encode(errors="replace")
+
+
+class Trial:
+    """Commands on one damaged table."""
+
+    def __init__(self, tally, program, number, folder, outside, how):
+        self.tally, self.program, self.number = tally, program, number
+        self.folder, self.outside, self.how = folder, outside, how
+        self.before_outside = tree(outside)
+
+    def breaks(self, words, what):
+        self.tally.breaks(f"table {self.number} ({self.how}), {words}", what)
+
+    def command(self, *words, data=b""):
+        """Runs a command, now and then under strace, and judges how it ended."""
+        traced, trace = [], self.folder.parent / "trace"
+        self.tally.add("commands")
+        if self.tally.counts["commands"] % SAMPLE == 0:
+            traced = ["strace", "-f", "-qq", "-y", "-o", trace, "-e", "trace=%file,getdents64,read"]
+            self.tally.add("commands under strace")
+        ended = run([*traced, self.program, self.folder, *words], data)
+        self.tally.add("refusals", int(ended.status != 0))
+        if fault_of(ended):
+            self.breaks(words, fault_of(ended))
+        if SECRET in ended.out + ended.err or tree(self.outside) != self.before_outside:
+            self.breaks(words, "something outside of the folder was read, or changed")
+        if traced:
+            self.judge_trace(words, trace.read_text(errors="replace"))
+        return ended
+
+    def judge_trace(self, words, trace):
+        """Each path that is opened is below the folder, or the folder around it, or a known one."""
+        inside = os.fspath(self.folder)
+        around = (os.fspath(self.folder.parent), inside, f"{inside}/.", f"{inside}/..")
+        for path in re.findall(r"(?m)^\d+ +open\w*\(.* = \d+<(.*)>$", trace):
+            if path not in around and not path.startswith(f"{inside}/") and not KNOWN.match(path):
+                self.breaks(words, f"it opened {path}")
+
+    def read(self, *words, wanted):
+        """A command that only reads, beside the second program."""
+        before = tree(self.folder)
+        ended = self.command(*words)
+        expects = expected(wanted)
+        if tuple(ended) != expects:
+            self.breaks(words, f"{ended} in the place of {expects}")
+        if tree(self.folder) != before:
+            self.breaks(words, "a command that only reads changed the folder")
+
+    def change(self, *words, data):
+        """A command that changes the table; what was there stays."""
+        before = tree(self.folder)
+        ended = self.command(*words, data=data)
+        after = tree(self.folder)
+        gone = [path for path, held in before.items() if after.get(path) != held and not self.is_left(path, held)]
+        if gone:
+            self.breaks(words, f"these were changed or went: {gone}")
+        came = [path for path in after if path not in before and not OWN.fullmatch(path)]
+        if came and ended.status != 0:
+            self.breaks(words, f"it was refused, and these came: {came}")
+        return ended
+
+    def is_left(self, path, held):
+        """Whether something may be what a killed writer left."""
+        return held[0] == stat.S_IFREG and re.fullmatch(rb"\.new/(0|[1-9]\d*)", path)
+
+    def run(self):
+        folder = reference_files.Folder(self.folder)
+        self.read("scan", wanted=lambda: reference_files.scan(folder))
+        for number in (0, 1, 2, 9):
+            self.read("scan", "--snapshot", str(number), wanted=lambda at=number: reference_files.scan(folder, at))
+        self.read("snapshots", wanted=lambda: reference_files.list_snapshots(folder))
+        self.change("create", data=DRAFT)
+        row = b'["+I",77,"new"]'
+        wanted = expected(lambda: reference_files.judge_write(folder, row) and "")
+        ended = self.change("write", data=row)
+        if ended.status != 5 and (ended.status, ended.err) != (wanted[0], wanted[2]):
+            self.breaks("write", f"{ended} in the place of {wanted}")
+        if ended.status == 0:
+            self.tally.add("writes")
+            self.judge_write(ended, folder)
+
+    def judge_write(self, ended, folder):
+        """A row that was written is in the table, unless the table can't be read."""
+        wanted = expected(lambda: reference_files.scan(folder))
+        scanned = self.command("scan")
+        if tuple(scanned) != wanted or scanned.status == 0 and b'["+I",77,' not in scanned.out:
+            self.breaks("scan after a write", f"{ended}, and then {scanned} in the place of {wanted}")
+
+
+def make_tables(program, work):
+    """The tables that are damaged."""
+    for name, (options, batches) in TABLES.items():
+        draft = json.loads(DRAFT) | {"options": options}
+        run([program, work / name, "create"], json.dumps(draft).encode())
+        for lines in batches:
+            if run([program, work / name, "write"], lines.encode()).status:
+                raise SystemExit(f"no table {name} can be made")
+
+
+def make_outside(table, outside):
+    """What links lead to: a file with a row, and a folder with the files of a table and others."""
+    shutil.rmtree(outside, ignore_errors=True)
+    shutil.copytree(table, outside / "folder")
+    (outside / "file").write_bytes(SECRET)
+    (outside / "folder" / "0").write_bytes(SECRET)
+    for folder in ("schema", "snapshot", "manifest"):
+        for path in files_in(table / folder):
+            shutil.copy(path, outside / "folder")
+
+
+def main():
+    found = read_arguments(__doc__, 1000)
+    tally = Tally()
+    with work_folder() as work:
+        make_tables(found.program, work)
+        for number in range(found.count):
+            random = random_of(found.seed, number)
+            table = work / random.choice(list(TABLES))
+            make_outside(table, work / "outside")
+            folder = copy(table, work / "damaged")
+            how = Damage(folder, work / "outside", random).do()
+            Trial(tally, found.program, number, folder, work / "outside", how).run()
+            tally.add("damaged tables")
+    tally.end()
+
+
+if __name__ == "__main__":
+    main()

@@ -1,0 +1,351 @@
+#!/usr/bin/env python3
+"""Builds what a power loss may leave of a table. It records by strace the changes that commands make to the folder, and
+after each change it takes the images that the file system may have then: of the names that came or went in a folder
+since its last sync, which ones are there, in every combination as far as they are few and else a choice of them; and of
+each file that isn't synced nothing, half or all of its bytes. It promises, of each image:
+  - `scan` prints the rows of whole batches, no others, and those of each command that had answered; and where a `scan`
+    had answered, what it had printed;
+  - `snapshots` lists ids that rise by one from 1;
+  - one more write succeeds, after a `create` where there is no table yet, and leaves no file that is being written.
+It ends with 1 where a promise broke. The gate never runs it. It wants strace. docs/DEVELOPING.md has what it printed.
+
+usage: bench/images.py [--program PROGRAM] [--count IMAGES_OF_EACH_CASE_AT_MOST] [--seed SEED]
+"""
+
+import collections
+import hashlib
+import itertools
+import os
+import pathlib
+import re
+import shutil
+
+from kills import MERGING, batch, quiet
+from trials import DRAFT, Tally, random_of, read_arguments, run, work_folder
+
+CALLS = "openat open creat write pwrite64 fsync fdatasync rename renameat renameat2 unlink unlinkat mkdir mkdirat rmdir"
+OTHERS = "ftruncate link linkat symlink symlinkat truncate writev"  # none of these is known below
+FEW = 6  # so many pending names are tried in every combination
+CHOICES = 24  # of more so many combinations are tried, and of files that aren't synced so many
+
+# A command of a case: its words, its input, and the call before which it is killed, if it is.
+Step = collections.namedtuple("Step", "words data kill", defaults=(b"", None))
+# A case: its name, the batches of its table, whether it was quiet, and its steps.
+Case = collections.namedtuple("Case", "name draft batches is_quiet steps")
+
+
+class File:
+    """A file's bytes, and whether they are on the disk."""
+
+    def __init__(self, data=b"", is_synced=False):
+        self.data, self.is_synced = data, is_synced
+
+
+class Directory:
+    """A folder: the names that are on the disk, and what came or went since."""
+
+    def __init__(self, names=None):
+        self.synced = dict(names or {})
+        self.names = dict(self.synced)
+        self.pending = []  # of each change the name, and what it is of then; None where it went
+
+    def put(self, name, what):
+        self.pending.append((name, what))
+        self.names[name] = what
+        if what is None:
+            del self.names[name]
+
+    def sync(self):
+        self.synced, self.pending = dict(self.names), []
+
+
+def load(folder):
+    """What stands at a path, all of it on the disk."""
+    if not os.path.isdir(folder):
+        return File(pathlib.Path(folder).read_bytes(), True)
+    return Directory({name: load(os.path.join(folder, name)) for name in os.listdir(folder)})
+
+
+def directories(directory):
+    """A folder and those in it."""
+    yield directory
+    for what in directory.names.values():
+        if isinstance(what, Directory):
+            yield from directories(what)
+
+
+class Disk:
+    """A folder, as the calls of a trace change it."""
+
+    def __init__(self, root):
+        self.around = root.parent
+        self.top = Directory({root.name: load(root)} if root.exists() else {})
+        self.open = {}
+
+    def find(self, path):
+        """What stands at a path; nothing where it isn't below the folder."""
+        path = os.path.normpath(path)
+        if not path.startswith(os.fspath(self.around)):
+            return None
+        found = self.top
+        for part in pathlib.Path(path).relative_to(self.around).parts:
+            found = found.names.get(part) if isinstance(found, Directory) else None
+        return found
+
+    def place(self, path):
+        """The folder that a path stands in, and its name there."""
+        folder, name = os.path.split(os.path.normpath(path))
+        return self.find(folder), name
+
+    def follow(self, call, texts, rest, answer):
+        """Follows a call that had an answer; tells whether it changed what is on the disk, or may be."""
+        if call in ("openat", "open", "creat"):
+            return self.follow_open(texts[0], rest, answer)
+        if call in ("write", "pwrite64", "fsync", "fdatasync"):
+            return self.follow_file(call, texts, int(re.match(r"\d+", rest)[0]))
+        if call.startswith("rename"):
+            (folder, name), (to, new) = self.place(texts[0]), self.place(texts[1])
+            to.put(new, folder.names[name])
+            folder.put(name, None)
+        elif call.startswith("mkdir"):
+            folder, name = self.place(texts[0])
+            folder.put(name, Directory())
+        else:
+            folder, name = self.place(texts[0])
+            folder.put(name, None)
+        return True
+
+    def follow_open(self, path, rest, answer):
+        folder, name = self.place(path)
+        is_made = folder is not None and "O_CREAT" in rest and name not in folder.names
+        if is_made:
+            folder.put(name, File())
+        self.open[answer] = self.find(path)
+        return is_made
+
+    def follow_file(self, call, texts, number):
+        what = self.open.get(number)
+        if call in ("fsync", "fdatasync") and isinstance(what, File):
+            what.is_synced = True
+        elif call in ("fsync", "fdatasync") and what:
+            what.sync()
+        elif what:
+            what.data, what.is_synced = what.data + texts[0].encode("latin-1"), False
+        return what is not None
+
+
+# Images.
+
+
+def contents(file, random):
+    """What may be there of a file."""
+    if file.is_synced or not file.data:
+        return [file.data]
+    found = [b"", file.data[: len(file.data) // 2], file.data]
+    return found if random is None else [random.choice(found)]
+
+
+def combinations(disk, random):
+    """Of each change that is pending whether it is there: all combinations of few, and else a choice."""
+    pending = [(folder, at) for folder in directories(disk.top) for at in range(len(folder.pending))]
+    count = len(pending)
+    if count <= FEW:
+        choices = itertools.product([False, True], repeat=count)
+    else:
+        choices = [[False] * count, [True] * count]
+        choices += [[at == one for at in range(count)] for one in range(count)]
+        choices += [[at != one for at in range(count)] for one in range(count)]
+        choices += [[random.random() < 0.5 for _ in pending] for _ in range(CHOICES)]
+    for choice in choices:
+        yield {id(folder): set() for folder, _ in pending}, zip(pending, choice)
+
+
+def image(directory, kept, random):
+    """The names of a folder in an image, with what is below them."""
+    names = dict(directory.synced)
+    for at, (name, what) in enumerate(directory.pending):
+        if at in kept.get(id(directory), ()):
+            names[name] = what
+            if what is None:
+                del names[name]
+    return {
+        name: image(what, kept, random) if isinstance(what, Directory) else random.choice(contents(what, random))
+        for name, what in names.items()
+    }
+
+
+def images(disk, random):
+    """The images that the disk may have now."""
+    for kept, choice in combinations(disk, random):
+        for (folder, at), is_kept in choice:
+            if is_kept:
+                kept[id(folder)].add(at)
+        for _ in range(3):
+            yield image(disk.top, kept, random)
+
+
+def signature(names):
+    """A text that two images share exactly where they are the same."""
+    parts = ((name, signature(what) if isinstance(what, dict) else what) for name, what in sorted(names.items()))
+    return hashlib.sha256(repr(list(parts)).encode()).hexdigest()
+
+
+def build(names, folder):
+    """Makes the files of an image."""
+    folder.mkdir()
+    for name, what in names.items():
+        if isinstance(what, dict):
+            build(what, folder / name)
+        else:
+            (folder / name).write_bytes(what)
+
+
+# Cases.
+
+
+def cases(syncs):
+    """What is recorded. A killed writer is killed at each of its last syncs, when its names aren't on the disk."""
+    write = [Step(["write"], batch(8, 9))]
+    yield Case("create", None, [], True, [Step(["create"], DRAFT)])
+    for is_quiet in (True, False):
+        how = "quiet" if is_quiet else "hot"
+        yield Case(f"the first write, {how}", DRAFT, [], is_quiet, write)
+        yield Case(f"a write, {how}", DRAFT, [(1, 2), (3,)], is_quiet, write)
+        yield Case(f"a write that merges manifests, {how}", MERGING, [(1, 2), (3,)], is_quiet, write)
+    for sync in range(1, syncs + 1):
+        killed = [Step(["write"], batch(4, 5), f"fsync:signal=KILL:when={sync}")]
+        for then in (write[0], Step(["scan"])):
+            yield Case(f"a write killed at sync {sync}, then {then.words[0]}", DRAFT, [(1, 2)], True, [*killed, then])
+        created = [Step(["create"], DRAFT, f"fsync:signal=KILL:when={sync}")]
+        then = [Step(["create"], DRAFT), *write]
+        yield Case(f"a create killed at sync {sync}, then a create and a write", None, [], True, [*created, *then])
+
+
+class Trial:
+    """One case, tried in a folder of its own."""
+
+    def __init__(self, program, work, tally, case, random, most):
+        self.program, self.work, self.tally, self.case = program, work, tally, case
+        self.random, self.most = random, most
+        self.folder = work / "disk" / "table"
+        self.known = set()  # the keys that were acknowledged, or printed
+        self.batches = [set(keys) for keys in case.batches]
+        self.is_made = case.draft is not None
+        self.seen = {}
+
+    def command(self, folder, *words, data=b""):
+        return run([self.program, folder, *words], data)
+
+    def prepare(self):
+        shutil.rmtree(self.work / "disk", ignore_errors=True)
+        self.folder.parent.mkdir()
+        if self.case.draft:
+            self.command(self.folder, "create", data=self.case.draft)
+        for keys in self.case.batches:
+            self.command(self.folder, "write", data=batch(*keys))
+            self.known |= set(keys)
+        if self.case.is_quiet:
+            quiet(self.folder.parent)
+
+    def record(self, step):
+        """Runs a step under strace; its answer, and the calls that had one."""
+        trace = self.work / "trace"
+        calls = ",".join(f"?{call}" for call in f"{CALLS} {OTHERS}".split())
+        words = ["strace", "-f", "-qq", "-xx", "-s", "1000000", "-o", trace, "-e", f"trace={calls}"]
+        words += ["-e", f"inject={step.kill}"] if step.kill else []
+        ended = run([*words, self.program, self.folder, *step.words], step.data)
+        found = re.findall(r"(?m)^\d+ +(\w+)\((.*)\) += (\d+)", trace.read_text())
+        return ended, [(call, texts_of(rest), rest, int(answer)) for call, rest, answer in found]
+
+    def run(self):
+        """Records the case, and collects its images, each with what was known when it could be left."""
+        self.prepare()
+        disk = Disk(self.folder)
+        for step in self.case.steps:
+            if step.words == ["write"]:
+                self.batches.append(set(keys_of(step.data)))
+            ended, calls = self.record(step)
+            for call, texts, rest, answer in calls:
+                if call in OTHERS.split():
+                    self.tally.breaks(self.case.name, f"a call that this script doesn't know: {call}")
+                elif call == "write" and rest.startswith(("1,", "2,")):
+                    self.take_answer(step, ended.out)
+                    self.collect(disk)
+                elif disk.follow(call, texts, rest, answer):
+                    self.collect(disk)
+            if ended.status not in (0, -9) and ended.err != b"E8 table exists\n":
+                self.tally.breaks(self.case.name, f"{step.words} answered {ended}")
+        self.judge_all()
+
+    def take_answer(self, step, out):
+        """What has to stand from now on."""
+        self.is_made = True
+        self.known = self.known | set(keys_of(out)) | set(keys_of(step.data) if out.startswith(b"snapshot") else [])
+
+    def collect(self, disk):
+        """Takes the images of now that weren't there yet; of the same image the last one has the most to hold."""
+        for names in images(disk, self.random):
+            names = names.get("table", {})
+            self.seen[signature(names)] = names, self.known, self.is_made
+
+    def judge_all(self):
+        found = list(self.seen.values())
+        for names, known, is_made in found if len(found) <= self.most else self.random.sample(found, self.most):
+            self.judge(names, known, is_made)
+
+    def judge(self, names, known, is_made):
+        """Judges an image."""
+        self.tally.add("images")
+        folder = self.work / "image"
+        shutil.rmtree(folder, ignore_errors=True)
+        build(names, folder)
+        scanned = self.command(folder, "scan")
+        found = set(keys_of(scanned.out))
+        whole = set().union(*(keys for keys in self.batches if keys & found))
+        if scanned.status != 0 and (scanned.status != 9 or is_made):
+            return self.breaks(names, f"scan answered {scanned}")
+        if found != whole or not known <= found or scanned.out != batch(*sorted(found)):
+            return self.breaks(names, f"scan printed the keys {sorted(found)}; these had to be there: {sorted(known)}")
+        return self.go_on(names, folder, found, scanned.status == 9)
+
+    def go_on(self, names, folder, found, is_none):
+        if is_none and self.command(folder, "create", data=DRAFT).out != b"created\n":
+            return self.breaks(names, "no table can be made")
+        ended = self.command(folder, "write", data=batch(100))
+        scanned = self.command(folder, "scan").out
+        listed = re.findall(rb"(?m)^\[(\d+),", self.command(folder, "snapshots").out)
+        if ended.status != 0 or scanned != batch(*sorted(found), 100):
+            return self.breaks(names, f"one more write answered {ended}, and scan printed {scanned!r}")
+        if [int(number) for number in listed] != list(range(1, len(listed) + 1)):
+            return self.breaks(names, f"the snapshots are {listed}")
+        if os.listdir(folder / ".new"):
+            return self.breaks(names, "files are left that were being written")
+        return None
+
+    def breaks(self, names, what):
+        shown = {folder: sorted(held) if isinstance(held, dict) else len(held) for folder, held in names.items()}
+        self.tally.breaks(f"{self.case.name}, image {shown}", what)
+
+
+def texts_of(rest):
+    """The texts among a call's arguments in a trace, which has each byte as two digits."""
+    return [bytes.fromhex(text.replace("\\x", "")).decode("latin-1") for text in re.findall('"([^"]*)"', rest)]
+
+
+def keys_of(rows):
+    return [int(key) for key in re.findall(rb'(?m)^\["\+I",(\d+),', rows)]
+
+
+def main():
+    found = read_arguments(__doc__, 400)
+    tally = Tally()
+    with work_folder() as work:
+        for number, case in enumerate(cases(16)):
+            random = random_of(found.seed, number)
+            Trial(found.program, work, tally, case, random, found.count).run()
+            tally.add("cases")
+    tally.end()
+
+
+if __name__ == "__main__":
+    main()

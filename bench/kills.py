@@ -1,0 +1,178 @@
+#!/usr/bin/env python3
+"""Kills a command at each of its system calls from the first on that names the table, and lets each of them fail, once
+and from there on, by strace. It promises:
+  - after a kill the table reads, as it was before the command or with its whole batch; with the batch where the command
+    had acknowledged it; all that was acknowledged earlier is there;
+  - after a failed call the command is refused with one line, or it ends with 0 and its effect stands; after E5 at
+    another path than the snapshot's the table is as before, and after E4 the batch stands;
+  - then one more write succeeds, and leaves no file that is being written;
+  - a command that only reads changes nothing.
+It ends with 1 where a promise broke. The gate never runs it. It wants strace. docs/DEVELOPING.md has what it printed.
+
+usage: bench/kills.py [--program PROGRAM] [--count AT_MOST_SO_MANY_RUNS] [--seed SEED]
+"""
+
+import collections
+import os
+import re
+import time
+
+from trials import DRAFT, Tally, copy, fault_of, random_of, read_arguments, run, tree, work_folder
+
+CHANGES = ("openat", "write", "fsync", "fdatasync", "rename", "renameat", "renameat2", "unlink", "unlinkat", "mkdir")
+CHANGES += ("mkdirat", "rmdir", "flock", "fchmod", "ftruncate")
+LOOKS = ("open", "read", "getdents64", "statx", "stat", "lstat", "fstat", "newfstatat", "close")
+ERRORS = ("EIO", "ENOSPC")
+MERGING = DRAFT[:-1] + b',"options":{"manifest.merge-min-count":"2"}}'
+
+# A folder, a command on it, and the keys that the table has before and after it; none where there is no table.
+Case = collections.namedtuple("Case", "name folder words data before after")
+Injected = collections.namedtuple("Injected", "call number how")
+
+
+def batch(*keys):
+    return b"".join(b'["+I",%d,"row %d"]\n' % (key, key) for key in keys)
+
+
+class Trials:
+    """The cases, tried in a folder of their own."""
+
+    def __init__(self, program, work, tally):
+        self.program, self.work, self.tally = program, work, tally
+
+    def command(self, folder, *words, data=b""):
+        return run([self.program, folder, *words], data)
+
+    def keys(self, folder):
+        """The keys of a table; none where there is no table, and a text where it doesn't read."""
+        ended = self.command(folder, "scan")
+        if ended.status == 9:
+            return None
+        found = sorted(int(key) for key in re.findall(rb'(?m)^\["\+I",(\d+),', ended.out))
+        return found if ended.status == 0 and ended.out == batch(*found) else f"{ended}"
+
+    def table(self, name, batches, draft=DRAFT):
+        """A table of these batches whose folders didn't change for a while."""
+        folder = self.work / name
+        self.command(folder, "create", data=draft)
+        for keys in batches:
+            self.command(folder, "write", data=batch(*keys))
+        quiet(folder)
+        return folder
+
+    def cases(self):
+        """What is tried."""
+        none, one, many = self.work / "none", self.table("one", []), self.table("many", [(1, 2), (3,)], MERGING)
+        left = self.table("left", [(1, 2)])
+        (left / ".new" / "0").write_bytes(b"left by a killed writer")
+        quiet(left)
+        rows = batch(8, 9)
+        return [
+            Case("create", none, ["create"], DRAFT, None, []),
+            Case("the first write", one, ["write"], rows, [], [8, 9]),
+            Case("a write that merges manifests", many, ["write"], rows, [1, 2, 3], [1, 2, 3, 8, 9]),
+            Case("a write by a user", many, ["write", "--user", "u", "--ident", "1"], rows, [1, 2, 3], [1, 2, 3, 8, 9]),
+            Case("a write after a killed one", left, ["write"], rows, [1, 2], [1, 2, 8, 9]),
+            Case("scan", many, ["scan"], b"", [1, 2, 3], [1, 2, 3]),
+            Case("snapshots", many, ["snapshots"], b"", [1, 2, 3], [1, 2, 3]),
+        ]
+
+    def traced(self, case, *options):
+        """Runs a case on a copy of its folder under strace; the answer, and the trace."""
+        folder, trace = self.work / "copy", self.work / "trace"
+        if case.folder.exists():
+            copy(case.folder, folder)
+        else:
+            copy(self.work / "empty", folder).rmdir()
+        calls = ",".join(f"?{call}" for call in CHANGES + LOOKS)
+        words = ["strace", "-f", "-qq", "-o", trace, "-e", f"trace={calls}", *options]
+        ended = run([*words, self.program, folder, *case.words], case.data)
+        return folder, ended, trace.read_text(errors="replace")
+
+    def calls(self, case):
+        """Each call of a case from the first one on that names the table, by its name and its number among those."""
+        _, _, trace = self.traced(case)
+        counts, found, is_begun = collections.Counter(), [], False
+        for call, rest in re.findall(r"(?m)^\d+ +(\w+)\((.*)$", trace):
+            counts[call] += 1
+            is_begun = is_begun or f'"{self.work / "copy"}' in rest
+            if is_begun:
+                found.append((call, counts[call]))
+        return found
+
+    def injections(self, case):
+        """What is done to a case."""
+        is_reading = case.before == case.after
+        for call, number in self.calls(case):
+            if call in CHANGES and not is_reading:
+                yield case, Injected(call, number, "signal=KILL")
+            if call != "close":
+                for error in ERRORS:
+                    yield case, Injected(call, number, f"error={error}")
+                    yield case, Injected(call, f"{number}+", f"error={error}")
+
+    def attempt(self, case, injected):
+        """Runs a case with a kill or a failed call, and judges what it left."""
+        call, number, how = injected
+        folder, ended, _ = self.traced(case, "-e", f"inject={call}:{how}:when={number}")
+        where = f"{case.name}, {how} at {call} {number}"
+        self.tally.add("kills" if "KILL" in how else "failed calls")
+        found = self.keys(folder)
+        if found not in (case.before, case.after):
+            self.tally.breaks(where, f"the table is {found} after {ended}")
+            return
+        if found != case.after and (ended.status == 0 or ended.out):
+            self.tally.breaks(where, f"it answered {ended} and the table is {found}")
+        if "KILL" not in how:
+            self.judge_refusal(case, injected, ended, found, where)
+        if case.before == case.after and case.folder.exists() and tree(case.folder) != tree(folder):
+            self.tally.breaks(where, "a command that only reads changed the folder")
+        self.go_on(folder, found, where)
+
+    def judge_refusal(self, case, injected, ended, found, where):
+        """Judges how a command ended of which a call failed."""
+        is_silent = injected.call == "write" and str(injected.number).endswith("+") and ended.err == b""
+        if ended.status not in (0, 3, 4, 5) or not is_silent and fault_of(ended):
+            self.tally.breaks(where, f"it ended with {ended}")
+        self.tally.add("refusals", int(ended.status != 0))
+        publishes = re.match(rb"E5 store (snapshot/snapshot-|schema/schema-0)", ended.err)
+        if ended.status == 5 and not is_silent and not publishes and found != case.before:
+            self.tally.breaks(where, f"it said {ended.err!r}, and its rows stand")
+        if ended.status == 4 and found != case.after:
+            self.tally.breaks(where, f"it said {ended.err!r}, and the table is {found}")
+
+    def go_on(self, folder, found, where):
+        """One more write succeeds, after a `create` where there is no table yet."""
+        if found is None and self.command(folder, "create", data=DRAFT).out != b"created\n":
+            self.tally.breaks(where, "no table can be made after it")
+        ended = self.command(folder, "write", data=batch(7))
+        keys = self.keys(folder)
+        if ended.status != 0 or keys != sorted([*(found or []), 7]):
+            self.tally.breaks(where, f"one more write answered {ended}, and the table is {keys}")
+        if os.listdir(folder / ".new"):
+            self.tally.breaks(where, f"files are left that were being written: {os.listdir(folder / '.new')}")
+
+
+def quiet(folder):
+    """Has a folder look as if it didn't change for a while."""
+    then = time.time() - 60
+    for path in [folder, *folder.rglob("*")]:
+        os.utime(path, (then, then))
+
+
+def main():
+    found = read_arguments(__doc__, 100000)
+    tally = Tally()
+    with work_folder() as work:
+        (work / "empty").mkdir()
+        trials = Trials(found.program, work, tally)
+        injections = [each for case in trials.cases() for each in trials.injections(case)]
+        if len(injections) > found.count:
+            injections = random_of(found.seed).sample(injections, found.count)
+        for case, injected in injections:
+            trials.attempt(case, injected)
+    tally.end()
+
+
+if __name__ == "__main__":
+    main()
