@@ -36,6 +36,21 @@ def read_words(words):
     return words[0], found
 
 
+def judge_limits(data):
+    """Refuses an input at the first byte that exceeds a limit."""
+    exceeded, rows, at = [(268435456, 2, "batch-bytes 268435456")] if len(data) > 268435456 else [], 0, 0
+    for line in data.split(b"\n"):
+        blanks = len(line) - len(line.lstrip(b" \t\r"))
+        rows += blanks < len(line)
+        if len(line) > 1048576:
+            exceeded.append((at + 1048576, 0, "line 1048576"))
+        if rows == 100001 and blanks < len(line):
+            exceeded.append((at + blanks, 1, "batch-rows 100000"))
+        at += len(line) + 1
+    if exceeded:
+        raise Refused(f"E21 limit {min(exceeded)[2]}")
+
+
 class Table:
     """What the commands answer of one folder, one after another."""
 
@@ -46,6 +61,8 @@ class Table:
     def answer(self, words, data, session, time):
         """What a command prints, and the files that it makes; it is refused else."""
         command, options = read_words(words)
+        if command in ("create", "write"):
+            judge_limits(data)
         if command == "create":
             return self.create(data, session, time)
         if self.writer is None:
