@@ -233,7 +233,7 @@ class Trial:
             files_are = all(path.startswith("snapshot/ORIGIN-") and refused.status == 8 for path in files)
         self.tally.add("commands")
         self.tally.add("refusals", int(ended.status != 0))
-        where = f"table {self.folder.name}, {words}, {data[:500]!r}"
+        where = f"table {self.folder.name}, {words}, {data[:200]!r}"
         if fault_of(ended) or tuple(ended) != wanted:
             self.tally.breaks(where, f"{ended} in the place of {wanted}")
         elif not files_are:

@@ -26,7 +26,8 @@ from trials import DRAFT, Tally, random_of, read_arguments, run, work_folder
 CALLS = "openat open creat write pwrite64 fsync fdatasync rename renameat renameat2 unlink unlinkat mkdir mkdirat rmdir"
 OTHERS = "ftruncate link linkat symlink symlinkat truncate writev"  # none of these is known below
 FEW = 6  # so many pending names are tried in every combination
-CHOICES = 24  # of more so many combinations are tried, and of files that aren't synced so many
+CHOICES = 24  # of more, so many combinations are chosen beside those with one name and with all but one
+CONTENTS = 3  # so often the bytes of files that aren't synced are chosen for each combination
 
 # A command of a case: its words, its input, and the call before which it is killed, if it is.
 Step = collections.namedtuple("Step", "words data kill", defaults=(b"", None))
@@ -137,17 +138,10 @@ class Disk:
 # Images.
 
 
-def contents(file, random):
-    """What may be there of a file."""
-    if file.is_synced or not file.data:
-        return [file.data]
-    found = [b"", file.data[: len(file.data) // 2], file.data]
-    return found if random is None else [random.choice(found)]
-
-
 def combinations(disk, random):
-    """Of each change that is pending whether it is there: all combinations of few, and else a choice."""
-    pending = [(folder, at) for folder in directories(disk.top) for at in range(len(folder.pending))]
+    """Which of the changes that are pending may be there, each by its folder and its number: all combinations of few,
+    and else a choice."""
+    pending = [(id(folder), at) for folder in directories(disk.top) for at in range(len(folder.pending))]
     count = len(pending)
     if count <= FEW:
         choices = itertools.product([False, True], repeat=count)
@@ -157,30 +151,24 @@ def combinations(disk, random):
         choices += [[at != one for at in range(count)] for one in range(count)]
         choices += [[random.random() < 0.5 for _ in pending] for _ in range(CHOICES)]
     for choice in choices:
-        yield {id(folder): set() for folder, _ in pending}, zip(pending, choice)
+        yield {change for change, is_kept in zip(pending, choice) if is_kept}
 
 
-def image(directory, kept, random):
-    """The names of a folder in an image, with what is below them."""
-    names = dict(directory.synced)
-    for at, (name, what) in enumerate(directory.pending):
-        if at in kept.get(id(directory), ()):
-            names[name] = what
-            if what is None:
-                del names[name]
-    return {
-        name: image(what, kept, random) if isinstance(what, Directory) else random.choice(contents(what, random))
-        for name, what in names.items()
-    }
+def image(what, kept, random):
+    """What may be there of a file, or of a folder and what is below it."""
+    if isinstance(what, File):
+        return what.data if what.is_synced else random.choice([b"", what.data[: len(what.data) // 2], what.data])
+    names = dict(what.synced)
+    for at, (name, changed) in enumerate(what.pending):
+        if (id(what), at) in kept:
+            names[name] = changed
+    return {name: image(held, kept, random) for name, held in names.items() if held is not None}
 
 
 def images(disk, random):
     """The images that the disk may have now."""
-    for kept, choice in combinations(disk, random):
-        for (folder, at), is_kept in choice:
-            if is_kept:
-                kept[id(folder)].add(at)
-        for _ in range(3):
+    for kept in combinations(disk, random):
+        for _ in range(CONTENTS):
             yield image(disk.top, kept, random)
 
 

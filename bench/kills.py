@@ -107,7 +107,7 @@ class Trials:
             if call in CHANGES and not is_reading:
                 yield case, Injected(call, number, "signal=KILL")
             if call != "close":
-                for error in ERRORS:
+                for error in ERRORS if call in CHANGES else ERRORS[:1]:
                     yield case, Injected(call, number, f"error={error}")
                     yield case, Injected(call, f"{number}+", f"error={error}")
 

@@ -44,7 +44,8 @@ def run(words, data=b"", seconds=SECONDS):
 
 
 def fault_of(ended):
-    """What is wrong with how a command ended, if anything: it prints, or is refused with one line."""
+    """What is wrong with how a command ended, if anything: it prints, or is refused with one line. Where the output
+    failed a part of what it printed may be there."""
     if ended.status is None:
         return f"it took more than {SECONDS} s"
     if ended.status == 0:
@@ -52,7 +53,7 @@ def fault_of(ended):
     line = b"E%d [^\\0-\\x1f\\x7f]*\n" % max(ended.status, 0)
     if not 1 <= ended.status <= 99 or not re.fullmatch(line, ended.err):
         return f"it ended with {ended.status} and said {ended.err[:300]!r}"
-    return f"it was refused and printed {ended.out[:300]!r}" if ended.out else None
+    return f"it was refused and printed {ended.out[:300]!r}" if ended.out and ended.status != 4 else None
 
 
 def tree(folder):
