@@ -1,9 +1,9 @@
 #!/usr/bin/env python3
-"""Runs the cases of crates/pm_commands with the second program (reference_*.py), which was written from the documents, and
-compares its answers with those that stand there. It promises that they are equal, in each case up to the first line that
-it doesn't follow: calls that fail or that others come between, streams that fail, files that bear a session's name, and
-writes on files that stand there. It ends with 1 where two answers differ. The gate never runs it. docs/DEVELOPING.md has
-what it printed.
+"""Runs the cases of crates/pm_commands with the second program (reference_*.py), which was written from the documents,
+and compares its answers with those that stand there. It promises that they are equal, in each case up to the first line
+that it doesn't follow: calls that fail or that others come between, streams that fail, files that bear a session's name,
+and writes on files that stand there. It ends with 1 where two answers differ. The gate never runs it. docs/DEVELOPING.md
+has what it printed.
 
 usage: bench/check_cases.py
 """

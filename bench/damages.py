@@ -1,7 +1,8 @@
 #!/usr/bin/env python3
 """Damages small tables at random, and runs commands on them: files are cut, grown, emptied, removed, given other bytes
 or other values, or replaced by another file, a link, a pipe or a folder; folders are replaced likewise; and names that
-aren't the table's come into folders. It promises, of each command on such a folder:
+aren't the table's come into folders; FOLDER itself is spelt in several ways, and may be no folder. It promises, of each
+command on such a folder:
   - it ends within ten seconds, with 0 or a refusal's status, and a refusal is one line on standard error;
   - `scan` and `snapshots` print, or say, what a second program does that was written from the documents
     (reference_files.py), and change nothing;
@@ -250,13 +251,13 @@ def expected(read):
 class Trial:
     """Commands on one damaged table."""
 
-    def __init__(self, tally, program, number, folder, outside, how):
-        self.tally, self.program, self.number = tally, program, number
-        self.folder, self.outside, self.how = folder, outside, how
+    def __init__(self, tally, program, folder, spelling, outside, how):
+        self.tally, self.program, self.how = tally, program, how
+        self.folder, self.spelling, self.outside = folder, spelling, outside
         self.before_outside = tree(outside)
 
     def breaks(self, words, what):
-        self.tally.breaks(f"table {self.number} ({self.how}), {words}", what)
+        self.tally.breaks(f"{self.how}, {words}", what)
 
     def command(self, *words, data=b""):
         """Runs a command, now and then under strace, and judges how it ended."""
@@ -265,7 +266,7 @@ class Trial:
         if self.tally.counts["commands"] % SAMPLE == 0:
             traced = ["strace", "-f", "-qq", "-y", "-o", trace, "-e", "trace=%file"]
             self.tally.add("commands under strace")
-        ended = run([*traced, self.program, self.folder, *words], data)
+        ended = run([*traced, self.program, self.spelling, *words], data)
         self.tally.add("refusals", int(ended.status != 0))
         if fault_of(ended):
             self.breaks(words, fault_of(ended))
@@ -358,18 +359,36 @@ def make_outside(table, outside):
             shutil.copy(path, outside / "folder")
 
 
+def try_no_folders(tally, program, work):
+    """What is no folder, and can be made none, is refused, and stays as it is."""
+    (work / "none").mkdir()
+    (work / "none/file").write_bytes(b"x")
+    (work / "none/link").symlink_to("nothing")
+    (work / "none/link to a file").symlink_to("file")
+    os.mkfifo(work / "none/pipe")
+    before = tree(work / "none")
+    for name in ("file", "link", "link to a file", "pipe", "nothing/table", "file/table", ""):
+        for words in (["create"], ["write"], ["scan"], ["snapshots"], ["no", "command"]):
+            ended = run([program, work / "none" / name if name else "", *words], DRAFT)
+            if tuple(ended) != (5, b"", b"E5 store .\n") or tree(work / "none") != before:
+                tally.breaks(f"FOLDER {name!r}, {words}", f"{ended}")
+
+
 def main():
     found = read_arguments(__doc__, 1000)
     tally = Tally()
     with work_folder() as work:
+        try_no_folders(tally, found.program, work)
         make_tables(found.program, work)
+        (work / "link").symlink_to("damaged")
         for number in range(found.count):
             random = random_of(found.seed, number)
             table = work / random.choice(list(TABLES))
             make_outside(table, work / "outside")
             folder = copy(table, work / "damaged")
-            how = Damage(folder, work / "outside", random).do()
-            Trial(tally, found.program, number, folder, work / "outside", how).run()
+            how = f"table {number} ({Damage(folder, work / 'outside', random).do()})"
+            spelling = random.choice([folder, f"{folder}/", f"{folder}//.", work / "link", f"{work}/link/"])
+            Trial(tally, found.program, folder, spelling, work / "outside", how).run()
             tally.add("damaged tables")
     tally.end()
 
