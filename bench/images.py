@@ -1,6 +1,6 @@
 #!/usr/bin/env python3
-"""Builds what a power loss may leave of a table. It records by strace the changes that commands make to the folder, and
-after each change it takes the images that the file system may have then: of the names that came or went in a folder
+"""Builds what a power loss may leave of a table. It records by strace the changes that commands make to the folder, also
+after one that was killed and beside one that is held up in the middle, and after each change it takes the images that the file system may have then: of the names that came or went in a folder
 since its last sync, which ones are there, in every combination as far as they are few and else a choice of them; and of
 each file that isn't synced nothing, half or all of its bytes. It promises, of each image:
   - `scan` prints the rows of whole batches, no others, and those of each command that had answered; and where a `scan`
@@ -19,9 +19,11 @@ import os
 import pathlib
 import re
 import shutil
+import subprocess
+import time
 
 from kills import MERGING, batch, quiet
-from trials import DRAFT, Tally, random_of, read_arguments, run, work_folder
+from trials import DRAFT, Ended, Tally, random_of, read_arguments, run, work_folder
 
 CALLS = "openat open creat write pwrite64 fsync fdatasync rename renameat renameat2 unlink unlinkat mkdir mkdirat rmdir"
 OTHERS = "ftruncate link linkat symlink symlinkat truncate writev"  # none of these is known below
@@ -29,8 +31,11 @@ FEW = 6  # so many pending names are tried in every combination
 CHOICES = 24  # of more, so many combinations are chosen beside those with one name and with all but one
 CONTENTS = 3  # so often the bytes of files that aren't synced are chosen for each combination
 
-# A command of a case: its words, its input, and the call before which it is killed, if it is.
-Step = collections.namedtuple("Step", "words data kill", defaults=(b"", None))
+# A command of a case: its words, its input, the number of the sync before which it is killed, if it is, and that of the
+# sync at which it is held up while another writes.
+Step = collections.namedtuple("Step", "words data killed held", defaults=(b"", None, None))
+RIVAL = Step(["write"], batch(20, 21))
+HELD = 3  # seconds
 # A case: its name, the batches of its table, whether it was quiet, and its steps.
 Case = collections.namedtuple("Case", "name draft batches is_quiet steps")
 
@@ -98,12 +103,12 @@ class Disk:
         folder, name = os.path.split(os.path.normpath(path))
         return self.find(folder), name
 
-    def follow(self, call, texts, rest, answer):
+    def follow(self, process, call, texts, rest, answer):
         """Follows a call that had an answer; tells whether it changed what is on the disk, or may be."""
         if call in ("openat", "open", "creat"):
-            return self.follow_open(texts[0], rest, answer)
+            return self.follow_open(texts[0], rest, (process, answer))
         if call in ("write", "pwrite64", "fsync", "fdatasync"):
-            return self.follow_file(call, texts, int(re.match(r"\d+", rest)[0]))
+            return self.follow_file(call, texts, (process, int(re.match(r"\d+", rest)[0])))
         if call.startswith("rename"):
             (folder, name), (to, new) = self.place(texts[0]), self.place(texts[1])
             to.put(new, folder.names[name])
@@ -116,12 +121,12 @@ class Disk:
             folder.put(name, None)
         return True
 
-    def follow_open(self, path, rest, answer):
+    def follow_open(self, path, rest, number):
         folder, name = self.place(path)
         is_made = folder is not None and "O_CREAT" in rest and name not in folder.names
         if is_made:
             folder.put(name, File())
-        self.open[answer] = self.find(path)
+        self.open[number] = self.find(path)
         return is_made
 
     def follow_file(self, call, texts, number):
@@ -201,10 +206,12 @@ def cases(syncs):
         yield Case(f"a write, {how}", DRAFT, [(1, 2), (3,)], is_quiet, write)
         yield Case(f"a write that merges manifests, {how}", MERGING, [(1, 2), (3,)], is_quiet, write)
     for sync in range(1, syncs + 1):
-        killed = [Step(["write"], batch(4, 5), f"fsync:signal=KILL:when={sync}")]
+        held = [write[0]._replace(held=sync)]
+        yield Case(f"a write held up at sync {sync}, and one meanwhile", DRAFT, [(1, 2)], True, held)
+        killed = [Step(["write"], batch(4, 5), killed=sync)]
         for then in (write[0], Step(["scan"])):
             yield Case(f"a write killed at sync {sync}, then {then.words[0]}", DRAFT, [(1, 2)], True, [*killed, then])
-        created = [Step(["create"], DRAFT, f"fsync:signal=KILL:when={sync}")]
+        created = [Step(["create"], DRAFT, killed=sync)]
         then = [Step(["create"], DRAFT), *write]
         yield Case(f"a create killed at sync {sync}, then a create and a write", None, [], True, [*created, *then])
 
@@ -235,40 +242,67 @@ class Trial:
         if self.case.is_quiet:
             quiet(self.folder.parent)
 
-    def record(self, step):
-        """Runs a step under strace; its answer, and the calls that had one."""
-        trace = self.work / "trace"
+    def start(self, step, trace):
+        """Starts a step under strace."""
         calls = ",".join(f"?{call}" for call in f"{CALLS} {OTHERS}".split())
-        words = ["strace", "-f", "-qq", "-xx", "-s", "1000000", "-o", trace, "-e", f"trace={calls}"]
-        words += ["-e", f"inject={step.kill}"] if step.kill else []
-        ended = run([*words, self.program, self.folder, *step.words], step.data)
-        found = re.findall(r"(?m)^\d+ +(\w+)\((.*)\) += (\d+)", trace.read_text())
-        return ended, [(call, texts_of(rest), rest, int(answer)) for call, rest, answer in found]
+        words = ["strace", "-f", "-qq", "-ttt", "-T", "-xx", "-s", "1000000", "-o", trace, "-e", f"trace={calls}"]
+        if step.killed:
+            words += ["-e", f"inject=fsync:signal=KILL:when={step.killed}"]
+        if step.held:
+            words += ["-e", f"inject=fsync:delay_enter={HELD}s:when={step.held}"]
+        words += [self.program, self.folder, *step.words]
+        started = subprocess.Popen(words, stdin=subprocess.PIPE, stdout=subprocess.PIPE, stderr=subprocess.PIPE)
+        started.stdin.write(step.data)
+        started.stdin.close()
+        return started
+
+    def record(self, step):
+        """Runs a step, and where it is held up another meanwhile. Gives the steps that ran, how they ended, and their
+        calls in the order in which these ended."""
+        traces = [self.work / "trace", self.work / "trace of another"]
+        steps, started = [step], [self.start(step, traces[0])]
+        if step.held:
+            wait_for_syncs(traces[0], step.held - 1)
+            steps.append(RIVAL)
+            started.append(self.start(RIVAL, traces[1]))
+        ended = []
+        for each in started[::-1]:
+            out, err = each.stdout.read(), each.stderr.read()
+            ended.insert(0, Ended(each.wait(), out, err))
+        calls = [call for at in range(len(steps)) for call in read_calls(traces[at], at)]
+        return steps, ended, sorted(calls)
 
     def run(self):
         """Records the case, and collects its images, each with what was known when it could be left."""
         self.prepare()
         disk = Disk(self.folder)
         for step in self.case.steps:
-            if step.words == ["write"]:
-                self.batches.append(set(keys_of(step.data)))
-            ended, calls = self.record(step)
-            for call, texts, rest, answer in calls:
+            steps, ended, calls = self.record(step)
+            self.batches += [set(keys_of(each.data)) for each in steps if each.words == ["write"]]
+            for _, at, call, texts, rest, answer in calls:
                 if call in OTHERS.split():
                     self.tally.breaks(self.case.name, f"a call that this script doesn't know: {call}")
                 elif call == "write" and rest.startswith(("1,", "2,")):
-                    self.take_answer(step, ended.out)
+                    self.take_answer(steps[at], ended[at])
                     self.collect(disk)
-                elif disk.follow(call, texts, rest, answer):
+                elif disk.follow(at, call, texts, rest, answer):
                     self.collect(disk)
-            if ended.status not in (0, -9) and ended.err != b"E8 table exists\n":
-                self.tally.breaks(self.case.name, f"{step.words} answered {ended}")
+            for each in ended:
+                self.judge_end(step, each)
         self.judge_all()
 
-    def take_answer(self, step, out):
+    def judge_end(self, step, ended):
+        """A step ends well, is killed, finds the table that one that was killed had made, or doesn't get the lock."""
+        waits = step.held and ended.err.startswith(b"E5 store ")
+        if ended.status not in (0, -9) and ended.err != b"E8 table exists\n" and not waits:
+            self.tally.breaks(self.case.name, f"{step.words} ended with {ended}")
+
+    def take_answer(self, step, ended):
         """What has to stand from now on."""
-        self.is_made = True
-        self.known = self.known | set(keys_of(out)) | set(keys_of(step.data) if out.startswith(b"snapshot") else [])
+        self.is_made = self.is_made or ended.status in (0, 8)
+        self.known = self.known | set(keys_of(ended.out))
+        if ended.out.startswith(b"snapshot"):
+            self.known = self.known | set(keys_of(step.data))
 
     def collect(self, disk):
         """Takes the images of now that weren't there yet; of the same image the last one has the most to hold."""
@@ -313,6 +347,21 @@ class Trial:
     def breaks(self, names, what):
         shown = {folder: sorted(held) if isinstance(held, dict) else len(held) for folder, held in names.items()}
         self.tally.breaks(f"{self.case.name}, image {shown}", what)
+
+
+def wait_for_syncs(trace, count):
+    """Waits until so many syncs are in a trace, or for two seconds."""
+    for _ in range(200):
+        if trace.exists() and len(re.findall(r"(?m)^.* fsync\(.*>$", trace.read_text())) >= count:
+            return
+        time.sleep(0.01)
+
+
+def read_calls(trace, process):
+    """The calls of a process that had an answer, each with the time at which it ended."""
+    line = r"(?m)^\d+ +([\d.]+) (\w+)\((.*)\) += (\d+).* <([\d.]+)>$"
+    for begun, call, rest, answer, took in re.findall(line, trace.read_text()):
+        yield float(begun) + float(took), process, call, texts_of(rest), rest, int(answer)
 
 
 def texts_of(rest):

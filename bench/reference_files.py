@@ -465,8 +465,7 @@ class View:
     def live_files(self):
         """The files that are live after the entries of the snapshot's manifests, in their order."""
         lists = [self.found[name] for name in ("baseManifestList", "deltaManifestList")] if self.found else []
-        paths = [f"manifest/{name}" for name in lists]
-        names = [name for path, data in [(path, self.read(path)) for path in paths] for name in read_list(path, data)]
+        names = [name for path in (f"manifest/{name}" for name in lists) for name in read_list(path, self.read(path))]
         live = {}
         for path in [f"manifest/{name}" for name in names]:
             for adds, file in read_manifest(path, self.schema, self.read(path)):
