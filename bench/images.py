@@ -1,8 +1,9 @@
 #!/usr/bin/env python3
-"""Builds what a power loss may leave of a table. It records by strace the changes that commands make to the folder, also
-after one that was killed and beside one that is held up in the middle, and after each change it takes the images that the file system may have then: of the names that came or went in a folder
-since its last sync, which ones are there, in every combination as far as they are few and else a choice of them; and of
-each file that isn't synced nothing, half or all of its bytes. It promises, of each image:
+"""Builds what a power loss may leave of a table. It records by strace the changes that commands make to the folder,
+also after one that was killed and beside one that is held up in the middle. After each change it takes the images that
+the file system may have then: of the names that came or went in a folder since its last sync, which ones are there, in
+every combination as far as they are few and else a choice of them; and of each file that isn't synced nothing, half or
+all of its bytes. It promises, of each image:
   - `scan` prints the rows of whole batches, no others, and those of each command that had answered; and where a `scan`
     had answered, what it had printed;
   - `snapshots` lists ids that rise by one from 1;
@@ -212,8 +213,8 @@ def cases(syncs):
         for then in (write[0], Step(["scan"])):
             yield Case(f"a write killed at sync {sync}, then {then.words[0]}", DRAFT, [(1, 2)], True, [*killed, then])
         created = [Step(["create"], DRAFT, killed=sync)]
-        then = [Step(["create"], DRAFT), *write]
-        yield Case(f"a create killed at sync {sync}, then a create and a write", None, [], True, [*created, *then])
+        steps = [*created, Step(["create"], DRAFT), *write]
+        yield Case(f"a create killed at sync {sync}, then a create and a write", None, [], True, steps)
 
 
 class Trial:
@@ -244,6 +245,7 @@ class Trial:
 
     def start(self, step, trace):
         """Starts a step under strace."""
+        trace.unlink(missing_ok=True)
         calls = ",".join(f"?{call}" for call in f"{CALLS} {OTHERS}".split())
         words = ["strace", "-f", "-qq", "-ttt", "-T", "-xx", "-s", "1000000", "-o", trace, "-e", f"trace={calls}"]
         if step.killed:
