@@ -5,7 +5,7 @@
 # with strace how many syncs one more commit of each makes. At most 1.5 times sqlite3's time is wanted. The gate never
 # runs it. It wants sqlite3, and the program to be built by ./paimon. docs/BEHAVIOUR.md has what it printed.
 #
-# usage: bench/commit_time.sh [PROGRAM [COMMITS [PAUSED [FOLDER]]]]     the tables are made in that folder, else in TMPDIR
+# usage: bench/commit_time.sh [PROGRAM [COMMITS [PAUSED [FOLDER]]]]     the tables are made in FOLDER, else in TMPDIR
 set -eu
 top=$(dirname -- "$(dirname -- "$(readlink -f -- "$0")")")
 program=${1:-$top/crates/paimon/out/ready/paimon}

@@ -98,25 +98,29 @@ def other_value(random, value):
     return random.choice(TEXTS if isinstance(value, str) else NUMBERS)
 
 
+def place_in(random, value):
+    """A place in a JSON value: the object or the list that has it, and its key there."""
+    while True:
+        key = random.choice(sorted(value) if isinstance(value, dict) else range(len(value)))
+        if not isinstance(value[key], (dict, list)) or not value[key] or maybe(random, 0.2):
+            return value, key
+        value = value[key]
+
+
 def change_json(random, data):
     """Another value at one place of a JSON object."""
     try:
         value = json.loads(data)
-    except ValueError:
+        holder, key = place_in(random, value)
+    except (ValueError, TypeError, IndexError):
         return flip(random, data)
-    inner = value
-    while isinstance(inner, (dict, list)) and inner:
-        key = random.choice(sorted(inner) if isinstance(inner, dict) else range(len(inner)))
-        if not isinstance(inner[key], (dict, list)) or maybe(random, 0.2):
-            way = random.randrange(4)
-            if way == 0:
-                del inner[key]
-            elif way == 1 and isinstance(inner, dict):
-                inner[random.choice(TEXTS)] = inner[key]
-            else:
-                inner[key] = other_value(random, inner[key])
-            break
-        inner = inner[key]
+    way = random.randrange(4)
+    if way == 0:
+        del holder[key]
+    elif way == 1 and isinstance(holder, dict):
+        holder[random.choice(TEXTS)] = holder[key]
+    else:
+        holder[key] = other_value(random, holder[key])
     return json.dumps(value, ensure_ascii=maybe(random, 0.5)).encode()
 
 
