@@ -1,32 +1,23 @@
 -- What a command promises that made no call of the store, what is so of a known input, and what a crash leaves.
-use Rattle.std.proofs.Common.{◌≡◌, ◌≤◌, ℕ, List, length, ◌++◌, Option, Some, IfSome, IsSomeAnd, None, refl, sym, subst, inl, arith}
-use Rattle.pm_store.specs.declared.call.Call.{Call}
+use Rattle.std.proofs.Common.{◌≡◌, ◌≤◌, ℕ, List, length, ◌++◌, Option, Some, IfSome, IsSomeAnd, sym, ap, subst}
 use Rattle.pm_store.specs.declared.call.Op.{Op}
-use Rattle.pm_store.specs.Answers.{GoesOnWith, IsFirst}
 use Rattle.pm_store.specs.Files.{Files, files_after}
 use Rattle.pm_store.specs.Images.{CrashImage, Extends}
-use Rattle.pm_store.specs.Store.{StoreView, IsLater}
-use Rattle.pm_store.proofs.StepLaws.{Meanwhile-refl}
+use Rattle.pm_store.specs.Store.{StoreView, FromFirst, at_first_own}
+use Rattle.pm_store.proofs.StepLaws.{Meanwhile-refl, at_first_own-none}
 
 -- what holds of known bytes
 pub at_known : (P : List ℕ → Type 0) (left : Option (List ℕ)) (bytes : List ℕ) → left ≡ Some bytes → IfSome left P → P bytes
 at_known P left bytes is here = subst (λ left. IfSome left P) is here
 
--- where no call came, the store goes on with nothing
-no_call : (call : Call) (ops : Option (List Op)) → GoesOnWith call ops ops
-no_call call None = tt
-no_call call (Some ops) = inl refl
+-- where no call came, the moment of the first one is now
+at_first_own-uncalled : (store : StoreView) → at_first_own store store ≡ store
+at_first_own-uncalled store =
+    let view : Option (List Op) → StoreView = λ ops. record { ops = ops; faults = store.faults } in
+    ap view (at_first_own-none store store (Meanwhile-refl store))
 
-pub later_itself : (store : StoreView) → IsLater store store
-later_itself store = record { others = omega arith; faults = omega arith }
-
-pub first_uncalled : (call : Call) (store : StoreView) → IsFirst call store store store
-first_uncalled call store = record {
-  meanwhile = Meanwhile-refl store;
-  faults = omega arith;
-  later = later_itself store;
-  goes_on = no_call call store.ops;
-}
+pub uncalled : (P : StoreView → StoreView → Type 0) (store : StoreView) → P store store → FromFirst P store store
+uncalled P store here = λ alone. subst (λ (first : StoreView). P first store) (sym (at_first_own-uncalled store)) here
 
 same_some : (ops others : List Op) → Some ops ≡ Some others → ops ≡ others
 same_some ops others e = cc

@@ -8,7 +8,7 @@ use Rattle.pm_io.specs.Source.{SourceView, SourceFailed}
 use Rattle.pm_store.specs.declared.call.Op.{Op}
 use Rattle.pm_store.specs.Files.{Files, files_after}
 use Rattle.pm_store.specs.Images.{Extends}
-use Rattle.pm_store.specs.Store.{StoreView}
+use Rattle.pm_store.specs.Store.{StoreView, at_first_own}
 use Rattle.pm_store.proofs.ImageLaws.{Extends-refl, Extends-weaker}
 use Rattle.pm_machine.specs.Trace.{HasTrace}
 use Rattle.pm_machine.proofs.Facts.{Traces-none}
@@ -19,11 +19,11 @@ use Rattle.pm_folder.specs.Folder.{Folder}
 use Rattle.pm_create.specs.Creator.{CreatorView}
 use Rattle.pm_create.specs.Trace.{before_all}
 use Rattle.pm_create.specs.Making as making
-use Rattle.pm_create.specs.Making.{DidMake, first_call, LeavesFiles, LeavesHistory, IsThere, IsAbsent, IsCaused, IsMadeOrMemory, MakesTables}
+use Rattle.pm_create.specs.Making.{DidMake, LeavesFiles, LeavesHistory, IsThere, IsAbsent, IsCaused, IsMadeOrMemory, MakesTables}
 use Rattle.pm_draft.specs.Input.{AnswersDraft, ReadsDraft, RefusesDraft}
 use Rattle.pm_command_create.specs.Create.{created_text, creator, making as draft_making, IsMade, MakesAndPrints, IsDraftOf, StandsForDraft, LeavesTable, SettlesTable, StandsForEither, HadCause, CreatesTable, CreatesTables}
 use Rattle.pm_command.specs.Outside.{Start, Outside, outside, IsServed, Prints, actor}
-use Rattle.pm_command.proofs.Uncalled.{first_uncalled, at_known}
+use Rattle.pm_command.proofs.Uncalled.{at_known, uncalled}
 
 -- what is left of files, said of more
 leaves_weaker : (P Q : Files → Type 0) → ((f : Files) → P f → Q f) → (store : StoreView) → LeavesFiles P store → LeavesFiles Q store
@@ -49,17 +49,15 @@ start_stands me h store start = leaves_weaker (making.MayStart me h) (λ f. Fold
 
 -- memory ran out before the first call
 makes_nothing : (m : CreatorView) (store : StoreView) → MakesTables m store store (Err refusals.Memory)
-makes_nothing m store = (
-  store,
-  first_uncalled (first_call m) store,
-  λ alone h start. record {
-    leaves = start_stands m.me h store start;
-    images = images_left (making.MayStart m.me h) (making.StandsForEither m.schema h) (λ f is. inl is.0) store start;
-    settles = tt;
-    cause = tt;
-    complete = λ none absent no_fault. tt;
-  },
-)
+makes_nothing m store =
+    uncalled (λ first after. (h : History) → LeavesFiles (making.MayStart m.me h) first → making.MakesTable m h first after (Err refusals.Memory)) store
+    (λ h start. record {
+      leaves = start_stands m.me h store start;
+      images = images_left (making.MayStart m.me h) (making.StandsForEither m.schema h) (λ f is. inl is.0) store start;
+      settles = tt;
+      cause = tt;
+      complete = λ none absent no_fault. tt;
+    })
 
 pub not_made : (m : CreatorView) (out : SinkView) (store : StoreView) → IsMade m out out store store (Some refusals.Memory)
 not_made m out store = (Err refusals.Memory, ([], (before_all, (m, inl refl)), Traces-none store), makes_nothing m store, (refl, refl))
@@ -135,22 +133,19 @@ refused_table start h bytes before after out store e refuses folder = record {
 -- memory ran out before anything was read
 pub nothing_made : (start : Start) (input : SourceView) (out : SinkView) (store : StoreView)
     → CreatesTables start (outside input out store) (outside input out store) (Some refusals.Memory)
-nothing_made start input out store = (
-  store,
-  first_uncalled _ store,
-  λ alone h bytes stands is.
-      refused_table start h bytes input input out store refusals.Memory tt (start_stands (actor start) h store stands),
-)
+nothing_made start input out store =
+    uncalled (λ first _. (h : History) (bytes : List ℕ) → LeavesFiles (making.MayStart (actor start) h) first → input.left ≡ Some bytes
+    → CreatesTable start h bytes first (outside input out store) (outside input out store) (Some refusals.Memory)) store
+    (λ h bytes stands is. refused_table start h bytes input input out store refusals.Memory tt (start_stands (actor start) h store stands))
 
 refused_tables : (start : Start) (before after : SourceView) (out : SinkView) (store : StoreView) (e : Refusal)
     → IfSome before.left (λ bytes. RefusesDraft (draft_making start) bytes before after e)
     → CreatesTables start (outside before out store) (outside after out store) (Some e)
-refused_tables start before after out store e refuses = (
-  store,
-  first_uncalled _ store,
-  λ alone h bytes stands is. refused_table start h bytes before after out store e
-      (at_known (λ bytes. RefusesDraft (draft_making start) bytes before after e) before.left bytes is refuses) (start_stands (actor start) h store stands),
-)
+refused_tables start before after out store e refuses =
+    uncalled (λ first _. (h : History) (bytes : List ℕ) → LeavesFiles (making.MayStart (actor start) h) first → before.left ≡ Some bytes
+    → CreatesTable start h bytes first (outside before out store) (outside after out store) (Some e)) store
+    (λ h bytes stands is. refused_table start h bytes before after out store e
+    (at_known (λ bytes. RefusesDraft (draft_making start) bytes before after e) before.left bytes is refuses) (start_stands (actor start) h store stands))
 
 -- the draft was read for the name of this command's origin
 pub draft_refused : (start : Start) (origin : List ℕ) (before after : SourceView) (out : SinkView) (store : StoreView) (e : Refusal)
@@ -239,13 +234,10 @@ draft_of start bytes s after answers = record { within = answers.within; read = 
 made_tables : (start : Start) (s : TableSchema) (before after : Outside) (answer : Option Refusal)
     → IfSome before.input.left (λ bytes. AnswersDraft (draft_making start) bytes after.input (Ok s))
     → IsMade (creator start s) before.out after.out before.store after.store answer → CreatesTables start before after answer
-made_tables start s before after answer read (made, trace, (first, is_first, makes), prints) = (
-  first,
-  is_first,
-  λ alone h bytes folder is.
-      let answers = at_known (λ bytes. AnswersDraft (draft_making start) bytes after.input (Ok s)) before.input.left bytes is read in
-      either_way start bytes s (draft_of start bytes s after.input answers) h first before after made answer answers.left (makes alone h folder) prints,
-)
+made_tables start s before after answer read (made, trace, makes, prints) = λ alone h bytes folder is.
+    let first = at_first_own before.store after.store in
+    let answers = at_known (λ bytes. AnswersDraft (draft_making start) bytes after.input (Ok s)) before.input.left bytes is read in
+    either_way start bytes s (draft_of start bytes s after.input answers) h first before after made answer answers.left (makes alone h folder) prints
 
 pub draft_made : (start : Start) (origin : List ℕ) (s : TableSchema) (before after : Outside) (answer : Option Refusal)
     → origin ≡ (draft_making start).origin

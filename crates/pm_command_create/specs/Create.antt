@@ -6,10 +6,9 @@ use Rattle.pm_base.specs.Newline.{line}
 use Rattle.pm_values.specs.declared.refusal.Refusal.{Refusal}
 use Rattle.pm_values.specs.declared.refusal.Refusal.TheVariants as refusals
 use Rattle.pm_io.specs.Sink.{SinkView}
-use Rattle.pm_store.specs.Answers.{IsFirst}
 use Rattle.pm_store.specs.Files.{Files}
 use Rattle.pm_store.specs.Images.{Extends}
-use Rattle.pm_store.specs.Store.{StoreView, IsAlone}
+use Rattle.pm_store.specs.Store.{StoreView, FromFirst}
 use Rattle.pm_machine.specs.Trace.{HasTrace}
 use Rattle.pm_history.specs.History.{History, no_table, table}
 use Rattle.pm_input.specs.Limits.{limits, IsWithin}
@@ -121,6 +120,5 @@ pub record CreatesTable (start : Start) (h : History) (bytes : List ℕ) (first 
 -- name
 abbrev pub CreatesTables : Start → Outside → Outside → Option Refusal → Type 0
 CreatesTables start before after answer =
-    (first : StoreView) × IsFirst (origin_call (own_origin (actor start))) before.store first after.store
-    × (IsAlone first after.store → (h : History) (bytes : List ℕ) → LeavesFiles (MayStart (actor start) h) first
-    → before.input.left ≡ Some bytes → CreatesTable start h bytes first before after answer)
+    FromFirst (λ first _. (h : History) (bytes : List ℕ) → LeavesFiles (MayStart (actor start) h) first
+    → before.input.left ≡ Some bytes → CreatesTable start h bytes first before after answer) before.store after.store

@@ -7,7 +7,7 @@ use Rattle.pm_values.specs.declared.refusal.Refusal.{Refusal}
 use Rattle.pm_values.specs.declared.refusal.Refusal.TheVariants as refusals
 use Rattle.pm_io.specs.Sink.{SinkView, TookPrefix}
 use Rattle.pm_store.specs.Files.{Files}
-use Rattle.pm_store.specs.Store.{StoreView}
+use Rattle.pm_store.specs.Store.{StoreView, at_first_own}
 use Rattle.pm_machine.specs.Trace.{HasTrace}
 use Rattle.pm_history.specs.History.{History, IsTableOf, no_table, table}
 use Rattle.pm_schema.specs.declared.schema.TableSchema.{TableSchema}
@@ -67,25 +67,19 @@ scan_caused f s h at first after e has is cause = absurd cause
 -- ---- what its calls do to histories
 
 pub read_keeps : (at : Option ℕ) (e : Refusal) (before after : StoreView) → ReadsTables before after (Err e) → KeepsHistories at before after (Err e)
-read_keeps at e before after (first, is_first, reads) = (
-  first,
-  is_first,
-  λ alone h stands.
-      let files = files_of (λ f. Folder f h) first stands in
-      let read = reads alone files.0 h files.1 files.2 in
-      keeps h at files.0 first after (Err e) files.1 files.2 read.files (as_listing h at first after e (caused h first after e read.cause)),
-)
+read_keeps at e before after reads = λ alone h stands.
+    let first = at_first_own before after in
+    let files = files_of (λ f. Folder f h) first stands in
+    let read = reads alone files.0 h files.1 files.2 in
+    keeps h at files.0 first after (Err e) files.1 files.2 read.files (as_listing h at first after e (caused h first after e read.cause))
 
 pub judge_keeps : (at : Option ℕ) (s : TableSchema) (e : Refusal) (before after : StoreView) → (e ≡ refusals.Memory) ⊎ (unbuilt s ≡ Some e)
     → ReadsTables before after (Ok s) → KeepsHistories at before after (Err e)
-judge_keeps at s e before after why (first, is_first, reads) = (
-  first,
-  is_first,
-  λ alone h stands.
-      let files = files_of (λ f. Folder f h) first stands in
-      let read = reads alone files.0 h files.1 files.2 in
-      keeps h at files.0 first after (Err e) files.1 files.2 read.files (as_listing h at first after e (judged_caused h first after s e read.schema why)),
-)
+judge_keeps at s e before after why reads = λ alone h stands.
+    let first = at_first_own before after in
+    let files = files_of (λ f. Folder f h) first stands in
+    let read = reads alone files.0 h files.1 files.2 in
+    keeps h at files.0 first after (Err e) files.1 files.2 read.files (as_listing h at first after e (judged_caused h first after s e read.schema why))
 
 is_there : (f : Files) (s : TableSchema) (h : History) (id : ℕ) (first : StoreView) → HasFiles f first → IsTableOf s h
     → scanner.IsThere f s h id → IsThere h id first
@@ -100,14 +94,11 @@ scanned_makes f h s at first after (Err e) has scans = scan_caused f s h at firs
 
 pub scanned_keeps : (at : Option ℕ) (s : TableSchema) (made : Result (List ℕ) Refusal) (before after : StoreView) → scanner.ScansTables s at before after made
     → KeepsHistories at before after made
-scanned_keeps at s made before after (first, is_first, scans) = (
-  first,
-  is_first,
-  λ alone h stands.
-      let files = files_of (λ f. Folder f h) first stands in
-      let scan = scans alone files.0 h files.1 files.2 in
-      keeps h at files.0 first after made files.1 files.2 scan.files (scanned_makes files.0 h s at first after made files.1 scan),
-)
+scanned_keeps at s made before after scans = λ alone h stands.
+    let first = at_first_own before after in
+    let files = files_of (λ f. Folder f h) first stands in
+    let scan = scans alone files.0 h files.1 files.2 in
+    keeps h at files.0 first after made files.1 files.2 scan.files (scanned_makes files.0 h s at first after made files.1 scan)
 
 -- ---- and what was printed
 
@@ -151,13 +142,10 @@ made_answers h at first before after (Err e) answer makes (is, untaken) =
     subst (AnswersHistory h at first before after) (sym is) (refusal_answers h at first before after e makes)
 
 pub scanned_serves : (at : Option ℕ) (before after : Outside) (answer : Option Refusal) → IsScanned at before.out after.out before.store after.store answer → ScansTables at before after answer
-scanned_serves at before after answer (made, trace, (first, is_first, kept), prints) = (
-  first,
-  is_first,
-  λ alone h stands.
-      let was = kept alone h stands in record {
-        answers = made_answers h at first before after made answer was.makes prints;
-        rests = was.rests;
-        images = was.images;
-      },
-)
+scanned_serves at before after answer (made, trace, kept, prints) = λ alone h stands.
+    let first = at_first_own before.store after.store in
+    let was = kept alone h stands in record {
+      answers = made_answers h at first before after made answer was.makes prints;
+      rests = was.rests;
+      images = was.images;
+    }

@@ -6,8 +6,7 @@ use Rattle.pm_base.specs.Known.{and_then}
 use Rattle.pm_values.specs.declared.refusal.Refusal.{Refusal}
 use Rattle.pm_values.specs.declared.refusal.Refusal.TheVariants as refusals
 use Rattle.pm_io.specs.Sink.{SinkView, SinkFailed, TookPrefix}
-use Rattle.pm_store.specs.Answers.{IsFirst}
-use Rattle.pm_store.specs.Store.{StoreView, IsAlone}
+use Rattle.pm_store.specs.Store.{StoreView, FromFirst}
 use Rattle.pm_machine.specs.Trace.{Event, HasTrace}
 use Rattle.pm_history.specs.History.{History, IsTableOf, no_table, table, rows_up_to}
 use Rattle.pm_history.specs.Merged.{scan_text}
@@ -15,7 +14,6 @@ use Rattle.pm_schema.specs.declared.schema.TableSchema.{TableSchema}
 use Rattle.pm_folder.specs.Folder.{Folder}
 use Rattle.pm_folder.specs.Ledger.{count_of}
 use Rattle.pm_create.specs.Making.{LeavesFiles}
-use Rattle.pm_view.specs.Reader.{schemas_call}
 use Rattle.pm_view.specs.Trace as reader
 use Rattle.pm_draft.specs.Built.{IsBuilt}
 use Rattle.pm_scan.specs.AllCalls as scanner
@@ -95,9 +93,8 @@ pub record ScansTable (h : History) (at : Option ℕ) (first : StoreView) (befor
 -- what it promises of histories, from its first call of the store on
 abbrev pub ScansTables : Option ℕ → Outside → Outside → Option Refusal → Type 0
 ScansTables at before after answer =
-    (first : StoreView) × IsFirst schemas_call before.store first after.store
-    × (IsAlone first after.store → (h : History) → LeavesFiles (λ f. Folder f h) first
-    → ScansTable h at first before after answer)
+    FromFirst (λ first _. (h : History) → LeavesFiles (λ f. Folder f h) first
+    → ScansTable h at first before after answer) before.store after.store
 
 -- ---- before anything is printed
 
@@ -116,8 +113,8 @@ pub record Keeps (h : History) (at : Option ℕ) (first after : StoreView) (made
 -- Private: and to histories
 abbrev pub KeepsHistories : Option ℕ → StoreView → StoreView → Result (List ℕ) Refusal → Type 0
 KeepsHistories at before after made =
-    (first : StoreView) × IsFirst schemas_call before first after
-    × (IsAlone first after → (h : History) → LeavesFiles (λ f. Folder f h) first → Keeps h at first after made)
+    FromFirst (λ first after. (h : History) → LeavesFiles (λ f. Folder f h) first → Keeps h at first after made)
+    before after
 
 -- the calls of `scan`, what they do to histories, and what was printed
 abbrev pub IsScanned : Option ℕ → SinkView → SinkView → StoreView → StoreView → Option Refusal → Type 0

@@ -6,7 +6,7 @@ use Rattle.pm_values.specs.declared.refusal.Refusal.{Refusal}
 use Rattle.pm_values.specs.declared.refusal.Refusal.TheVariants as refusals
 use Rattle.pm_io.specs.Sink.{SinkView}
 use Rattle.pm_store.specs.Files.{Files}
-use Rattle.pm_store.specs.Store.{StoreView}
+use Rattle.pm_store.specs.Store.{StoreView, at_first_own}
 use Rattle.pm_machine.specs.Trace.{Event, HasTrace}
 use Rattle.pm_history.specs.History.{History, IsTableOf, no_table}
 use Rattle.pm_schema.specs.declared.schema.TableSchema.{TableSchema}
@@ -85,25 +85,19 @@ a_table s h is none = subst (IsTableOf s) none is
 -- ---- what its calls do to histories
 
 pub read_keeps : (e : Refusal) (before after : StoreView) → ReadsTables before after (Err e) → KeepsHistories before after (made_of (Err e))
-read_keeps e before after (first, is_first, reads) = (
-  first,
-  is_first,
-  λ alone h stands.
-      let at = files_of (λ f. Folder f h) first stands in
-      let read = reads alone at.0 h at.1 at.2 in
-      keeps h at.0 first after (Err e) at.1 at.2 read.files (caused h first after e read.cause),
-)
+read_keeps e before after reads = λ alone h stands.
+    let first = at_first_own before after in
+    let at = files_of (λ f. Folder f h) first stands in
+    let read = reads alone at.0 h at.1 at.2 in
+    keeps h at.0 first after (Err e) at.1 at.2 read.files (caused h first after e read.cause)
 
 pub judge_keeps : (s : TableSchema) (e : Refusal) (before after : StoreView) → (e ≡ refusals.Memory) ⊎ (unbuilt s ≡ Some e)
     → ReadsTables before after (Ok s) → KeepsHistories before after (made_of (Err e))
-judge_keeps s e before after why (first, is_first, reads) = (
-  first,
-  is_first,
-  λ alone h stands.
-      let at = files_of (λ f. Folder f h) first stands in
-      let read = reads alone at.0 h at.1 at.2 in
-      keeps h at.0 first after (Err e) at.1 at.2 read.files (judged_caused h first after s e read.schema why),
-)
+judge_keeps s e before after why reads = λ alone h stands.
+    let first = at_first_own before after in
+    let at = files_of (λ f. Folder f h) first stands in
+    let read = reads alone at.0 h at.1 at.2 in
+    keeps h at.0 first after (Err e) at.1 at.2 read.files (judged_caused h first after s e read.schema why)
 
 listed_makes : (f : Files) (h : History) (s : TableSchema) (first after : StoreView) (result : Result Phase Refusal) → HasFiles f first
     → lister.ListsTable f h s first after result → MakesLines h first after (made_of result)
@@ -112,21 +106,14 @@ listed_makes f h s first after (Err e) has lists = caused h first after e lists.
 
 pub listed_keeps : (s : TableSchema) (result : Result Phase Refusal) (before after : StoreView) → lister.ListsTables s before after result
     → KeepsHistories before after (made_of result)
-listed_keeps s result before after (first, is_first, lists) = (
-  first,
-  is_first,
-  λ alone h stands.
-      let at = files_of (λ f. Folder f h) first stands in
-      let list = lists alone at.0 h at.1 at.2 in
-      keeps h at.0 first after (made_of result) at.1 at.2 list.files (listed_makes at.0 h s first after result at.1 list),
-)
+listed_keeps s result before after lists = λ alone h stands.
+    let first = at_first_own before after in
+    let at = files_of (λ f. Folder f h) first stands in
+    let list = lists alone at.0 h at.1 at.2 in
+    keeps h at.0 first after (made_of result) at.1 at.2 list.files (listed_makes at.0 h s first after result at.1 list)
 
 memory_keeps : (lines : List SnapshotLine) (before after : StoreView) → KeepsHistories before after (Ok lines) → KeepsHistories before after (Err refusals.Memory)
-memory_keeps lines before after (first, is_first, kept) = (
-  first,
-  is_first,
-  λ alone h stands. let was = kept alone h stands in record { makes = tt; rests = was.rests; images = was.images },
-)
+memory_keeps lines before after kept = λ alone h stands. let was = kept alone h stands in record { makes = tt; rests = was.rests; images = was.images }
 
 -- ---- and what was printed
 
@@ -161,13 +148,10 @@ made_answers h first before after (Err e) answer makes (is, untaken) =
     subst (AnswersHistory h first before after) (sym is) (refusal_answers h first before after e makes)
 
 pub listed_serves : (before after : Outside) (answer : Option Refusal) → IsListed before.out after.out before.store after.store answer → ListsTables before after answer
-listed_serves before after answer (made, trace, (first, is_first, kept), prints) = (
-  first,
-  is_first,
-  λ alone h stands.
-      let was = kept alone h stands in record {
-        answers = made_answers h first before after made answer was.makes prints;
-        rests = was.rests;
-        images = was.images;
-      },
-)
+listed_serves before after answer (made, trace, kept, prints) = λ alone h stands.
+    let first = at_first_own before.store after.store in
+    let was = kept alone h stands in record {
+      answers = made_answers h first before after made answer was.makes prints;
+      rests = was.rests;
+      images = was.images;
+    }

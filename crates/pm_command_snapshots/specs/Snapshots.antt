@@ -5,14 +5,12 @@ use Rattle.pm_base.specs.Known.{and_then}
 use Rattle.pm_values.specs.declared.refusal.Refusal.{Refusal}
 use Rattle.pm_values.specs.declared.refusal.Refusal.TheVariants as refusals
 use Rattle.pm_io.specs.Sink.{SinkView, SinkFailed, TookPrefix}
-use Rattle.pm_store.specs.Answers.{IsFirst}
-use Rattle.pm_store.specs.Store.{StoreView, IsAlone}
+use Rattle.pm_store.specs.Store.{StoreView, FromFirst}
 use Rattle.pm_machine.specs.Trace.{Event, HasTrace}
 use Rattle.pm_history.specs.History.{History, no_table}
 use Rattle.pm_schema.specs.declared.schema.TableSchema.{TableSchema}
 use Rattle.pm_folder.specs.Folder.{Folder}
 use Rattle.pm_create.specs.Making.{LeavesFiles}
-use Rattle.pm_view.specs.Reader.{schemas_call}
 use Rattle.pm_view.specs.Trace as reader
 use Rattle.pm_draft.specs.Built.{IsBuilt}
 use Rattle.pm_snapshots.specs.AllCalls.{AreLinesOf, GoesOnFrom}
@@ -70,9 +68,8 @@ pub record ListsTable (h : History) (first : StoreView) (before after : Outside)
 -- what it promises of histories, from its first call of the store on
 abbrev pub ListsTables : Outside → Outside → Option Refusal → Type 0
 ListsTables before after answer =
-    (first : StoreView) × IsFirst schemas_call before.store first after.store
-    × (IsAlone first after.store → (h : History) → LeavesFiles (λ f. Folder f h) first
-    → ListsTable h first before after answer)
+    FromFirst (λ first _. (h : History) → LeavesFiles (λ f. Folder f h) first
+    → ListsTable h first before after answer) before.store after.store
 
 -- ---- before anything is printed
 
@@ -95,8 +92,8 @@ pub record Keeps (h : History) (first after : StoreView) (made : Result (List Sn
 -- Private: and to histories
 abbrev pub KeepsHistories : StoreView → StoreView → Result (List SnapshotLine) Refusal → Type 0
 KeepsHistories before after made =
-    (first : StoreView) × IsFirst schemas_call before first after
-    × (IsAlone first after → (h : History) → LeavesFiles (λ f. Folder f h) first → Keeps h first after made)
+    FromFirst (λ first after. (h : History) → LeavesFiles (λ f. Folder f h) first → Keeps h first after made)
+    before after
 
 -- the calls of `snapshots`, what they do to histories, and what was printed
 abbrev pub IsListed : SinkView → SinkView → StoreView → StoreView → Option Refusal → Type 0

@@ -14,7 +14,7 @@ use Rattle.pm_io.specs.Source.{SourceView}
 use Rattle.pm_store.specs.declared.call.Op.{Op}
 use Rattle.pm_store.specs.Files.{Files, files_after}
 use Rattle.pm_store.specs.Images.{Extends}
-use Rattle.pm_store.specs.Store.{StoreView}
+use Rattle.pm_store.specs.Store.{StoreView, at_first_own}
 use Rattle.pm_store.proofs.ImageLaws.{Extends-refl, Extends-weaker}
 use Rattle.pm_machine.specs.Trace.{Event, HasTrace}
 use Rattle.pm_history.specs.History.{History, IsTableOf, no_table, table}
@@ -51,11 +51,11 @@ use Rattle.pm_commit.specs.declared.all_calls.Appended.TheVariants as appends
 use Rattle.pm_command_write.specs.Input.{HasLines, MayRefuseInput, RefusesInput}
 use Rattle.pm_command.specs.Outside.{HaveSame, Outside, Start, outside, actor, Prints, Rests}
 use Rattle.pm_command.specs.Table as tables
-use Rattle.pm_command_write.specs.Write.{ActsWrite, AnswersLines, AnswersWrite, BeginsWith, DidWrite, HasRows, IsCommittedTo, IsImage, IsWritten, Keeps, KeepsHistories, Lines, MakesOf, MayStartAfter, Spoils, StandsAfterFault, StandsForEither, TakesRows, Writer, WritesLines, WritesTables, commit_of, entry_by, next_path, snapshot_of, text_of}
+use Rattle.pm_command_write.specs.Write.{ActsWrite, AnswersLines, AnswersWrite, BeginsWith, DidWrite, HasRows, IsCommittedTo, IsImage, IsWritten, Keeps, KeepsHistories, Lines, MakesOf, MayStartAfter, Spoils, StandsAfterFault, StandsForEither, TakesRows, Writer, WritesLines, WritesTable, WritesTables, commit_of, entry_by, next_path, snapshot_of, text_of}
 use Rattle.pm_command_write.specs.declared.write.Written.{Written}
 use Rattle.pm_command_write.specs.declared.write.Written.TheVariants as written
 use Rattle.pm_command.proofs.TableLemmas.{trace_weaker, files_of, leaves_of, rests_of, images_of, caused, judged_caused}
-use Rattle.pm_command.proofs.Uncalled.{at_known, first_uncalled}
+use Rattle.pm_command.proofs.Uncalled.{at_known, uncalled}
 
 -- ---- the rows that are taken
 
@@ -200,27 +200,21 @@ listing_spoils start w lines h first after other may rests = absurd may
 
 pub read_keeps : (start : Start) (w : Writer) (lines : Lines) (e : Refusal) (before after : StoreView) → ReadsTables before after (Err e)
     → KeepsHistories start w lines before after (Err e)
-read_keeps start w lines e before after (first, is_first, reads) = (
-  first,
-  is_first,
-  λ alone h begins.
-      let files = files_of (MayStart (actor start) h) first begins in
-      let read = reads alone files.0 h files.1 files.2.0 in
-      stay_keeps start w lines h files.0 first after (Err e) files.1 files.2.0 read.files
-      (λ left. listing_spoils start w lines h first after e (caused h first after e read.cause) left),
-)
+read_keeps start w lines e before after reads = λ alone h begins.
+    let first = at_first_own before after in
+    let files = files_of (MayStart (actor start) h) first begins in
+    let read = reads alone files.0 h files.1 files.2.0 in
+    stay_keeps start w lines h files.0 first after (Err e) files.1 files.2.0 read.files
+    (λ left. listing_spoils start w lines h first after e (caused h first after e read.cause) left)
 
 pub judge_keeps : (start : Start) (w : Writer) (lines : Lines) (s : TableSchema) (e : Refusal) (before after : StoreView)
     → (e ≡ refusals.Memory) ⊎ (unbuilt s ≡ Some e) → ReadsTables before after (Ok s) → KeepsHistories start w lines before after (Err e)
-judge_keeps start w lines s e before after why (first, is_first, reads) = (
-  first,
-  is_first,
-  λ alone h begins.
-      let files = files_of (MayStart (actor start) h) first begins in
-      let read = reads alone files.0 h files.1 files.2.0 in
-      stay_keeps start w lines h files.0 first after (Err e) files.1 files.2.0 read.files
-      (λ left. listing_spoils start w lines h first after e (judged_caused h first after s e read.schema why) left),
-)
+judge_keeps start w lines s e before after why reads = λ alone h begins.
+    let first = at_first_own before after in
+    let files = files_of (MayStart (actor start) h) first begins in
+    let read = reads alone files.0 h files.1 files.2.0 in
+    stay_keeps start w lines h files.0 first after (Err e) files.1 files.2.0 read.files
+    (λ left. listing_spoils start w lines h first after e (judged_caused h first after s e read.schema why) left)
 
 -- ---- a line is refused, or there are no rows
 
@@ -281,25 +275,19 @@ why_spoils start w lines h s first after e is (inr refused) left =
 
 pub lines_keeps : (start : Start) (w : Writer) (lines : Lines) (s : TableSchema) (e : Refusal) (before after : StoreView)
     → (e ≡ refusals.Memory) ⊎ (all_taken s lines ≡ Err e) → ReadsTables before after (Ok s) → KeepsHistories start w lines before after (Err e)
-lines_keeps start w lines s e before after why (first, is_first, reads) = (
-  first,
-  is_first,
-  λ alone h begins.
-      let files = files_of (MayStart (actor start) h) first begins in
-      let read = reads alone files.0 h files.1 files.2.0 in
-      stay_keeps start w lines h files.0 first after (Err e) files.1 files.2.0 read.files (λ left. why_spoils start w lines h s first after e read.schema why left),
-)
+lines_keeps start w lines s e before after why reads = λ alone h begins.
+    let first = at_first_own before after in
+    let files = files_of (MayStart (actor start) h) first begins in
+    let read = reads alone files.0 h files.1 files.2.0 in
+    stay_keeps start w lines h files.0 first after (Err e) files.1 files.2.0 read.files (λ left. why_spoils start w lines h s first after e read.schema why left)
 
 pub nothing_keeps : (start : Start) (w : Writer) (lines : Lines) (s : TableSchema) (before after : StoreView) → all_taken s lines ≡ Ok []
     → ReadsTables before after (Ok s) → KeepsHistories start w lines before after (Ok written.Nothing)
-nothing_keeps start w lines s before after none (first, is_first, reads) = (
-  first,
-  is_first,
-  λ alone h begins.
-      let files = files_of (MayStart (actor start) h) first begins in
-      let read = reads alone files.0 h files.1 files.2.0 in
-      stay_keeps start w lines h files.0 first after (Ok written.Nothing) files.1 files.2.0 read.files (λ left. ((s, read.schema, none), left)),
-)
+nothing_keeps start w lines s before after none reads = λ alone h begins.
+    let first = at_first_own before after in
+    let files = files_of (MayStart (actor start) h) first begins in
+    let read = reads alone files.0 h files.1 files.2.0 in
+    stay_keeps start w lines h files.0 first after (Ok written.Nothing) files.1 files.2.0 read.files (λ left. ((s, read.schema, none), left))
 
 -- ---- a commit
 
@@ -381,31 +369,28 @@ module _ (start : Start) (w : Writer) (lines : Lines) (s : TableSchema) (batch :
 pub appended_keeps : FitLaw → (start : Start) (w : Writer) (lines : Lines) (s : TableSchema) (batch : Groups) (made : Result Appended Refusal)
     (before after : StoreView) → IsTakenOf start w lines s batch → MayName (naming start.session 0 0)
     → AppendsTables s (commit_of start w batch) before after made → KeepsHistories start w lines before after (written_of made)
-appended_keeps fits start w lines s batch made before after t may (first, is_first, appends) = (
-  first,
-  is_first,
-  λ alone h begins.
-      let files = files_of (MayStart (actor start) h) first begins in
-      let at : Beginning = record { own = commit_of start w batch; rows = t.rows; files = files.0; history = h } in
-      let begin : MayBegin s at = record {
-        no_base = refl;
-        may = may;
-        fit = rows-in fits s limits.rows lines t.rows t.taken;
-        batch = t.batch_of;
-        start = files.2;
-      } in
-      let does = appends alone at refl files.1 begin in
-      record {
-        makes = commit-makes start w lines s batch t h files.0 does.schema first after made files.1 does;
-        images = Extends-weaker (commit.StandsForEither at) (StandsForEither start w lines h) first.ops after.ops
-            (either-rows start w lines s batch t h files.0 does.schema) does.images;
-        free = λ other apart starts.
-            let free = files_of (MayStart other h) first starts in
-            let none : NamesNone other h files.0 = subst (NamesNone other h) (files_same free.0 files.0 first free.1 files.1) free.2.1 in
-            Extends-weaker (commit.StandsForEither at) (MayStartAfter other start w lines h) first.ops after.ops
-            (start-rows start w lines s batch t h files.0 does.schema other apart none) does.images;
-      },
-)
+appended_keeps fits start w lines s batch made before after t may appends = λ alone h begins.
+    let first = at_first_own before after in
+    let files = files_of (MayStart (actor start) h) first begins in
+    let at : Beginning = record { own = commit_of start w batch; rows = t.rows; files = files.0; history = h } in
+    let begin : MayBegin s at = record {
+      no_base = refl;
+      may = may;
+      fit = rows-in fits s limits.rows lines t.rows t.taken;
+      batch = t.batch_of;
+      start = files.2;
+    } in
+    let does = appends alone at refl files.1 begin in
+    record {
+      makes = commit-makes start w lines s batch t h files.0 does.schema first after made files.1 does;
+      images = Extends-weaker (commit.StandsForEither at) (StandsForEither start w lines h) first.ops after.ops
+          (either-rows start w lines s batch t h files.0 does.schema) does.images;
+      free = λ other apart starts.
+          let free = files_of (MayStart other h) first starts in
+          let none : NamesNone other h files.0 = subst (NamesNone other h) (files_same free.0 files.0 first free.1 files.1) free.2.1 in
+          Extends-weaker (commit.StandsForEither at) (MayStartAfter other start w lines h) first.ops after.ops
+          (start-rows start w lines s batch t h files.0 does.schema other apart none) does.images;
+    }
 
 -- ---- what a crash may leave
 
@@ -495,22 +480,21 @@ images_left P f store has p =
 -- the input was refused, and nothing done
 pub refused_serves : (start : Start) (w : Writer) (before after : SourceView) (out : SinkView) (store : StoreView) (e : Refusal)
     → IfSome before.left (λ bytes. RefusesInput bytes before after e) → WritesTables start w (outside before out store) (outside after out store) (Some e)
-refused_serves start w before after out store e refuses = (
-  store,
-  first_uncalled _ store,
-  λ alone h bytes begins is.
-      let files = files_of (MayStart (actor start) h) store begins in record {
-        answers = inl (
-          (e, refl, at_known (λ bytes. RefusesInput bytes before after e) before.left bytes is refuses, record { store = refl; out = refl }),
-          leaves_of (λ f. Folder f h) files.0 store files.1 files.2.0,
-        );
-        images = images_are start w (row_lines bytes) h store.ops store.ops
-            (images_left (StandsForEither start w (row_lines bytes) h) files.0 store files.1 (inl files.2.0));
-        free = λ other apart starts.
-            let free = files_of (MayStart other h) store starts in
-            images_left (MayStartAfter other start w (row_lines bytes) h) free.0 store free.1 (inl free.2);
-      },
-)
+refused_serves start w before after out store e refuses =
+    uncalled (λ first _. (h : History) (bytes : List ℕ) → LeavesFiles (MayStart (actor start) h) first → before.left ≡ Some bytes
+    → WritesTable start w bytes h first (outside before out store) (outside after out store) (Some e)) store
+    (λ h bytes begins is.
+    let files = files_of (MayStart (actor start) h) store begins in record {
+      answers = inl (
+        (e, refl, at_known (λ bytes. RefusesInput bytes before after e) before.left bytes is refuses, record { store = refl; out = refl }),
+        leaves_of (λ f. Folder f h) files.0 store files.1 files.2.0,
+      );
+      images = images_are start w (row_lines bytes) h store.ops store.ops
+          (images_left (StandsForEither start w (row_lines bytes) h) files.0 store files.1 (inl files.2.0));
+      free = λ other apart starts.
+          let free = files_of (MayStart other h) store starts in
+          images_left (MayStartAfter other start w (row_lines bytes) h) free.0 store free.1 (inl free.2);
+    })
 
 refusal_answers : (start : Start) (w : Writer) (lines : Lines) (h : History) (first : StoreView) (before after : Outside) (e : Refusal)
     → Spoils start w lines h first after.store e → after.out ≡ before.out → AnswersLines start w lines h first before after (Some e)
@@ -529,20 +513,17 @@ made_answers start w lines h first before after (Err e) answer makes (is, untake
 pub lines_serve : (start : Start) (w : Writer) (lines : Lines) (before after : Outside) (answer : Option Refusal)
     → IfSome before.input.left (λ bytes. HasLines bytes after.input lines)
     → IsWritten start w lines before.out after.out before.store after.store answer → WritesTables start w before after answer
-lines_serve start w lines before after answer read (made, trace, (first, is_first, kept), prints) = (
-  first,
-  is_first,
-  λ alone h bytes begins is.
-      let has = at_known (λ bytes. HasLines bytes after.input lines) before.input.left bytes is read in
-      let was = kept alone h begins in
-      let answers = made_answers start w lines h first before after made answer was.makes prints in record {
-        answers = inr (has.within, has.left, subst (λ (lines : Lines). AnswersLines start w lines h first before after answer) has.are answers);
-        images = subst (λ (lines : Lines). Extends (IsImage start w lines h) first.ops after.store.ops) has.are
-            (images_are start w lines h first.ops after.store.ops was.images);
-        free = λ other apart starts. subst (λ (lines : Lines). Extends (MayStartAfter other start w lines h) first.ops after.store.ops) has.are
-            (was.free other apart starts);
-      },
-)
+lines_serve start w lines before after answer read (made, trace, kept, prints) = λ alone h bytes begins is.
+    let first = at_first_own before.store after.store in
+    let has = at_known (λ bytes. HasLines bytes after.input lines) before.input.left bytes is read in
+    let was = kept alone h begins in
+    let answers = made_answers start w lines h first before after made answer was.makes prints in record {
+      answers = inr (has.within, has.left, subst (λ (lines : Lines). AnswersLines start w lines h first before after answer) has.are answers);
+      images = subst (λ (lines : Lines). Extends (IsImage start w lines h) first.ops after.store.ops) has.are
+          (images_are start w lines h first.ops after.store.ops was.images);
+      free = λ other apart starts. subst (λ (lines : Lines). Extends (MayStartAfter other start w lines h) first.ops after.store.ops) has.are
+          (was.free other apart starts);
+    }
 
 -- ---- what is done by the answer of the batch
 

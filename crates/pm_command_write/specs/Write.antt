@@ -11,10 +11,9 @@ use Rattle.pm_values.specs.Names.{naming}
 use Rattle.pm_values.specs.declared.refusal.Refusal.{Refusal}
 use Rattle.pm_values.specs.declared.refusal.Refusal.TheVariants as refusals
 use Rattle.pm_io.specs.Sink.{SinkView, SinkFailed, TookPrefix}
-use Rattle.pm_store.specs.Answers.{IsFirst}
 use Rattle.pm_store.specs.Files.{Files}
 use Rattle.pm_store.specs.Images.{Extends}
-use Rattle.pm_store.specs.Store.{StoreView, IsAlone}
+use Rattle.pm_store.specs.Store.{StoreView, FromFirst}
 use Rattle.pm_machine.specs.Trace.{Event, HasTrace}
 use Rattle.pm_history.specs.History.{Entry, History, IsTableOf, append, no_table}
 use Rattle.pm_history.specs.Merge.{HistoryRow}
@@ -27,7 +26,6 @@ use Rattle.pm_folder.specs.Folder.{Folder}
 use Rattle.pm_folder.specs.Ledger.{count_of}
 use Rattle.pm_folder.specs.Paths.{snapshot_path}
 use Rattle.pm_create.specs.Making.{LeavesFiles}
-use Rattle.pm_view.specs.Reader.{schemas_call}
 use Rattle.pm_view.specs.Trace as reader
 use Rattle.pm_draft.specs.Built.{IsBuilt, unbuilt}
 use Rattle.pm_write.specs.Batch.{Groups, IsBatchOf}
@@ -287,9 +285,8 @@ pub record WritesTable (start : Start) (w : Writer) (bytes : List ℕ) (h : Hist
 -- name
 abbrev pub WritesTables : Start → Writer → Outside → Outside → Option Refusal → Type 0
 WritesTables start w before after answer =
-    (first : StoreView) × IsFirst schemas_call before.store first after.store
-    × (IsAlone first after.store → (h : History) (bytes : List ℕ) → LeavesFiles (MayStart (actor start) h) first
-    → before.input.left ≡ Some bytes → WritesTable start w bytes h first before after answer)
+    FromFirst (λ first _. (h : History) (bytes : List ℕ) → LeavesFiles (MayStart (actor start) h) first
+    → before.input.left ≡ Some bytes → WritesTable start w bytes h first before after answer) before.store after.store
 
 -- ---- before anything is printed
 
@@ -309,9 +306,8 @@ pub record Keeps (start : Start) (w : Writer) (lines : Lines) (h : History) (fir
 -- Private: and to histories
 abbrev pub KeepsHistories : Start → Writer → Lines → StoreView → StoreView → Result Written Refusal → Type 0
 KeepsHistories start w lines before after made =
-    (first : StoreView) × IsFirst schemas_call before first after
-    × (IsAlone first after → (h : History) → LeavesFiles (MayStart (actor start) h) first
-    → Keeps start w lines h first after made)
+    FromFirst (λ first after. (h : History) → LeavesFiles (MayStart (actor start) h) first
+    → Keeps start w lines h first after made) before after
 
 -- Private: the calls of `write`, what they do to histories, and what was printed
 abbrev pub IsWritten : Start → Writer → Lines → SinkView → SinkView → StoreView → StoreView → Option Refusal → Type 0

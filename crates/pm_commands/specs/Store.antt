@@ -8,7 +8,7 @@ use Rattle.pm_store.specs.declared.store.StoreFail.{StoreFail}
 
 -- its operations aren't known, and its faults are counted
 abbrev pub case_seen : ℕ → StoreView
-case_seen faults = record { ops = None; others = 0; faults = faults }
+case_seen faults = record { ops = None; faults = faults }
 
 -- a call may fail with this
 abbrev pub Refuses : Call → StoreView → StoreView → StoreFail → Type 0

@@ -6,12 +6,13 @@ use Rattle.pm_values.specs.declared.refusal.Refusal.TheVariants as refusals
 use Rattle.pm_store.specs.declared.call.Op.{Op}
 use Rattle.pm_store.specs.Files.{Files, after_op, files_after}
 use Rattle.pm_store.specs.Images.{Extends}
-use Rattle.pm_store.specs.Store.{StoreView, IsAlone, IsLater}
+use Rattle.pm_store.specs.Store.{StoreView, IsAlone, IsLater, at_first_own}
 use Rattle.pm_store.proofs.ImageLaws.{Extends-trans, Extends-weaker}
+use Rattle.pm_store.proofs.StepLaws.{alone_parts}
 use Rattle.pm_machine.specs.Moves.{Keeps, Moves}
 use Rattle.pm_machine.specs.Trace.{Event, HasTrace, Traces}
-use Rattle.pm_machine.proofs.AloneLaws.{Follows, Follows-first, Follows-meanwhile, Follows-steps, Traces-first}
-use Rattle.pm_machine.proofs.Facts.{HasTrace-acts, Traces-faulted, Traces-none, image_changed}
+use Rattle.pm_machine.proofs.AloneLaws.{Follows, Follows-first, Follows-meanwhile, Follows-steps, Traces-first, Traces-later, Traces-same_first}
+use Rattle.pm_machine.proofs.Facts.{HasTrace-acts, Traces-faulted, Traces-join, Traces-none, image_changed}
 use Rattle.pm_history.specs.History.{Entry, History, IsTableOf, table}
 use Rattle.pm_schema.specs.declared.schema.TableSchema.{TableSchema}
 use Rattle.pm_snapshot.specs.declared.snapshot.Snapshot.{Snapshot}
@@ -20,7 +21,6 @@ use Rattle.pm_folder.specs.Commits.{Names}
 use Rattle.pm_folder.specs.Folder.{Folder}
 use Rattle.pm_folder.specs.Ledger.{Advances, HasNamedNone, IsKnown, Past, Stands, count_of}
 use Rattle.pm_folder.specs.Meaning.{SnapshotAt}
-use Rattle.pm_view.specs.Reader.{schemas_call}
 use Rattle.pm_view.proofs.AllCallsLemmas as schema_calls
 use Rattle.pm_view.proofs.StillLemmas.{stayed}
 use Rattle.pm_append.specs.declared.newest.Author.{Author}
@@ -46,7 +46,6 @@ use Rattle.pm_commit.proofs.KnownLemmas.{count-bound}
 use Rattle.pm_commit.proofs.PastLemmas.{found}
 use Rattle.pm_commit.proofs.PublishLemmas as publish
 use Rattle.pm_commit.proofs.StillLemmas.{OthersNone}
-use Rattle.pm_commit.proofs.JoinLemmas.{Traces-join, first-stays}
 
 -- ---- the trace
 
@@ -81,12 +80,6 @@ pub record CallLaws : Type 0 where
   pub others : OthersNone
 
 -- what is alone to the end is so up to a step, and in it
-pub alone-before : (first before after : StoreView) → IsLater first before → IsLater before after → IsAlone first after → IsAlone first before
-alone-before first before after early late alone = let low = early.others in let high = late.others in omega (arith, low, high, alone)
-
-pub alone-in : (first before after : StoreView) → IsLater first before → IsLater before after → IsAlone first after → IsAlone before after
-alone-in first before after early late alone = let low = early.others in let high = late.others in omega (arith, low, high, alone)
-
 -- ---- what is known before a step, and after it
 
 -- the commit of a phase has the author of the entry, and the actor of the one at the beginning
@@ -206,7 +199,7 @@ module _ (laws : CallLaws) (b : Beginning) (known : Option (List Op)) where
       by (inl (op, steps)) =
           Follows-steps (StandsForEither b) (KnewFiles b old) (KnowsFiles b new result) known op
           (λ ops. Keeps Stands (MakesRows b.rows old) (KnewAlone b old) (KnowsAlone b new result) op (files_after ops)) before after so steps
-          (omega (arith, alone))
+          alone
           (λ ops here keeps.
           let f = files_after ops in
           let p = here.0 in
@@ -219,7 +212,7 @@ module _ (laws : CallLaws) (b : Beginning) (known : Option (List Op)) where
                 (changed old f image p made.0 here.1 here.2 here.3.1 made.1).2,
           ))
       by (inr (meanwhile, stays)) =
-          let same = Follows-meanwhile (StandsForEither b) (KnewFiles b old) known before after so meanwhile (omega (arith, alone)) in
+          let same = Follows-meanwhile (StandsForEither b) (KnewFiles b old) known before after so meanwhile alone in
           let here = same.here in record {
             ops = same.ops;
             is = same.is;
@@ -256,8 +249,8 @@ pub followed-on : CallLaws → (first old new : Phase) (start before after : Sto
     → IsLater before after → HasFollowed first old start before → CommitterAlone old new before after result → (b : Beginning) → IsAlone start after
     → LeavesFiles (KnewFiles b first) start → Follows (StandsForEither b) start.ops after (KnowsFiles b new result)
 followed-on law first old new start before after result early late so moves b alone here =
-    followed law b start.ops old new before after result (alone-in start before after early late alone) moves
-    (so b (alone-before start before after early late alone) here)
+    let parts = alone_parts start before after early late alone in
+    followed law b start.ops old new before after result parts.1 moves (so b parts.0 here)
 
 -- ---- its end
 
@@ -388,30 +381,25 @@ appended-history s own m result before middle after is committer (earlier, has, 
     by earlier has trace
   where
     by : (earlier : List Event) → Has s earlier → Traces earlier before middle → AppendsTables s own before after result
-    by [] has trace = absurd (schema_calls.ready_calls s [] has).1
-    by (event ∷ events) has trace =
-        let calls = schema_calls.ready_calls s (event ∷ events) has in
-        let may = schema_calls.may_call (event ∷ events) calls in
-        let moment = Traces-first schemas_call (event ∷ events) before middle may.1 trace in
-        let first = moment.0 in
-        let is_first = moment.1 in (
-          first,
-          first-stays schemas_call events later event before first middle after moment.2 rest is_first,
-          λ alone b is_own had begin.
-              let stay = stayed b.files (event ∷ events) first middle may.0 moment.2 (alone-before first middle after is_first.later late alone) had in
-              let table_is = schema_calls.ready_at b.files b.history begin.start.0 s (event ∷ events) has stay.1 in
-              let at_first : m ≡ phases.Names b.own s = is ∙ ap (λ (own : OwnView). phases.Names own s) (sym is_own) in
-              let knew = files-known (KnewFiles b m) b.files middle.ops (λ f same. subst (λ (m : Phase). KnewFiles b m f) (sym at_first)
-              (first-known s b f same (subst IsCommitter at_first committer) begin table_is)) stay.0.here in
-              let left = leaves b (alone-in first middle after is_first.later late alone) knew in
-              let parts = leaves-of b result after.ops left.0 in record {
-                schema = table_is;
-                leaves = parts.0;
-                images = Extends-trans (StandsForEither b) first.ops middle.ops after.ops
-                    (Extends-weaker (λ f. f ≡ b.files) (StandsForEither b) first.ops middle.ops
-                    (λ f same. inl (subst (StandsFreely b b.history) (sym same) (record { folder = begin.start.0; free = λ other apart none. none }))) stay.0.images)
-                    left.1;
-                says = parts.1;
-                counted = counted s own result (event ∷ events) later first middle after moment.2 rest ends;
-              },
-        )
+    by [] has trace = absurd (schema_calls.ready_some s has)
+    by (event ∷ events) has trace = λ alone b is_own had begin.
+        let first = at_first_own before after in
+        let same : at_first_own before middle ≡ first = Traces-same_first event events later before middle after trace rest in
+        let read : Traces (event ∷ events) first middle = subst (λ (first : StoreView). Traces (event ∷ events) first middle) same (Traces-first (event ∷ events) before middle trace) in
+        let parts = alone_parts first middle after (Traces-later (event ∷ events) first middle read) late alone in
+        let stay = stayed b.files (event ∷ events) first middle (schema_calls.ready_calls s (event ∷ events) has) read parts.0 had in
+        let table_is = schema_calls.ready_at b.files b.history begin.start.0 s (event ∷ events) has stay.1 in
+        let at_names : m ≡ phases.Names b.own s = is ∙ ap (λ (own : OwnView). phases.Names own s) (sym is_own) in
+        let knew = files-known (KnewFiles b m) b.files middle.ops (λ f same. subst (λ (m : Phase). KnewFiles b m f) (sym at_names)
+        (first-known s b f same (subst IsCommitter at_names committer) begin table_is)) stay.0.here in
+        let left = leaves b parts.1 knew in
+        let says = leaves-of b result after.ops left.0 in record {
+          schema = table_is;
+          leaves = says.0;
+          images = Extends-trans (StandsForEither b) first.ops middle.ops after.ops
+              (Extends-weaker (λ f. f ≡ b.files) (StandsForEither b) first.ops middle.ops
+              (λ f same. inl (subst (StandsFreely b b.history) (sym same) (record { folder = begin.start.0; free = λ other apart none. none }))) stay.0.images)
+              left.1;
+          says = says.1;
+          counted = counted s own result (event ∷ events) later first middle after read rest ends;
+        }

@@ -3,9 +3,9 @@ use Rattle.std.proofs.Common.{◌≡◌, ◌⊎◌, inl, inr, ℕ, ◌+◌, ◌�
 use Rattle.std.proofs.lemmas.Option.{IfSome_then}
 use Rattle.pm_values.specs.declared.refusal.Refusal.{Refusal}
 use Rattle.pm_values.specs.declared.refusal.Refusal.TheVariants as refusals
-use Rattle.pm_store.specs.Answers.{whole, Answers, MayHave, Meanwhile}
+use Rattle.pm_store.specs.Answers.{Answers, MayHave}
 use Rattle.pm_store.specs.Files.{Files, Puts, after_effect, carried, files_after}
-use Rattle.pm_store.specs.Store.{StoreView}
+use Rattle.pm_store.specs.Store.{whole, Meanwhile, StoreView, own_op}
 use Rattle.pm_store.specs.declared.answer.Answer.{Answer}
 use Rattle.pm_store.specs.declared.answer.Answer.TheVariants as answers
 use Rattle.pm_store.specs.declared.answer.Made.TheVariants as creates
@@ -311,7 +311,7 @@ module _ (laws : Laws) (causes : ReaderCauses) (parts : PathParts) (b : Beginnin
       inr (meanwhile, λ f p stands known. calm-same b old f p.history (has-call is) known.1)
   alone-moves {old} {new} {before} {after} (Failed call is came stop) =
       let effect : Effect = came.0.0 in
-      let op : Op = record { call = call; effect = effect } in
+      let op : Op = own_op call effect in
       let keeps : (ops : List Op) → MayHave call effect (files_after ops)
       → Keeps Stands (MakesRows b.rows old) (KnewAlone b old) (AloneRefused b (refusals.StoreFault (path_of call))) op (files_after ops) =
       λ ops may p stands known. (

@@ -13,7 +13,6 @@ mod Facts
 mod FailLemmas
 mod FaultLemmas
 mod FoundLemmas
-mod JoinLemmas
 mod KnownLemmas
 mod MadeLemmas
 mod MarkLemmas

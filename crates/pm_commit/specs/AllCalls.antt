@@ -5,10 +5,9 @@ use Rattle.std.specs.List.{AllByRecursion}
 use Rattle.pm_base.specs.Faults.{Rose}
 use Rattle.pm_values.specs.declared.refusal.Refusal.{Refusal}
 use Rattle.pm_values.specs.declared.refusal.Refusal.TheVariants as refusals
-use Rattle.pm_store.specs.Answers.{IsFirst}
 use Rattle.pm_store.specs.Files.{Files, files_after}
 use Rattle.pm_store.specs.Images.{Extends}
-use Rattle.pm_store.specs.Store.{StoreView, IsAlone}
+use Rattle.pm_store.specs.Store.{StoreView, FromFirst, IsAlone}
 use Rattle.pm_machine.specs.Trace.{Event}
 use Rattle.pm_history.specs.History.{History, IsTableOf}
 use Rattle.pm_schema.specs.declared.schema.TableSchema.{TableSchema}
@@ -153,9 +152,8 @@ pub record AppendsTable (b : Beginning) (s : TableSchema) (first after : StoreVi
 -- what it promises of histories, from the first call that reads the schema on
 abbrev pub AppendsTables : TableSchema → OwnView → StoreView → StoreView → Result Appended Refusal → Type 0
 AppendsTables s own before after result =
-    (first : StoreView) × IsFirst schemas_call before first after
-    × (IsAlone first after → (b : Beginning) → b.own ≡ own → HasFiles b.files first → MayBegin s b
-    → AppendsTable b s first after result)
+    FromFirst (λ first after. (b : Beginning) → b.own ≡ own → HasFiles b.files first → MayBegin s b
+    → AppendsTable b s first after result) before after
 
 -- ---- between two calls
 

@@ -11,12 +11,13 @@ use Rattle.pm_store.specs.declared.call.Call.{Call}
 use Rattle.pm_store.specs.declared.call.Op.{Op}
 use Rattle.pm_store.specs.declared.call.Effect.{Effect}
 use Rattle.pm_store.specs.declared.call.Effect.TheVariants as effects
-use Rattle.pm_store.specs.Answers.{whole, made_at, Answers, MayHave, Steps}
+use Rattle.pm_store.specs.Answers.{made_at, Answers, MayHave}
 use Rattle.pm_store.specs.Files.{Files, Puts, after_op, carried, files_after, after_effect}
 use Rattle.pm_store.specs.Images.{Extends, MayLeave}
-use Rattle.pm_store.specs.Store.{StoreView, IsAlone, IsLater}
+use Rattle.pm_store.specs.Store.{StoreView, IsAlone, IsLater, Steps, at_first_own, own_op, whole}
 use Rattle.pm_store.proofs.ChangeLaws.{Answers-Changed, Puts-insert}
 use Rattle.pm_store.proofs.FileLaws.{MayLeave-after_effect}
+use Rattle.pm_store.proofs.StepLaws.{IsLater-trans, alone_parts}
 use Rattle.pm_machine.specs.Moves.{Changes}
 use Rattle.pm_machine.specs.Trace.{Event, HasTrace, Traces}
 use Rattle.pm_machine.proofs.Facts.{image_changed, HasTrace-acts, Traces-none}
@@ -36,7 +37,7 @@ use Rattle.pm_create.specs.declared.phase.Phase.{Phase}
 use Rattle.pm_create.specs.declared.phase.Phase.TheVariants as phases
 use Rattle.pm_create.specs.Making.{DidMake, first_call, LeavesFiles, StandsForEither, LeavesHistory, IsThere, IsAbsent, IsCaused, IsMadeOrMemory, MakesTable, MakesTables, MayStart}
 use Rattle.pm_create.proofs.Facts.{Kept, makes-own, makes-table, origin_changes, table_changes, untold, made_absent, origin_stands, by_calls, shown_by}
-use Rattle.pm_machine.proofs.AloneLaws.{StartsWith, Traces-first, Follows, Follows-first, Follows-meanwhile, Follows-steps, Extends-end}
+use Rattle.pm_machine.proofs.AloneLaws.{Traces-first, Follows, Follows-first, Follows-meanwhile, Follows-steps, Extends-end}
 
 -- ---- single calls
 
@@ -179,17 +180,20 @@ module _ (kept : Kept) (m : CreatorView) (creator : IsCreator m) (h : History) (
   }
 
   after_origin : (middle : StoreView) → Steps (whole (first_call m)) (λ ops. Answers (first_call m) (answers.Made made.Created) (files_after ops)) first middle
-      → middle.others ≤ first.others → Follows (StandsForEither s h) first.ops middle HasOrigin
-  after_origin middle steps within = Follows-steps (StandsForEither s h) AtFirst HasOrigin first.ops (whole (first_call m)) _ first middle started steps within
+      → IsAlone first middle → Follows (StandsForEither s h) first.ops middle HasOrigin
+  after_origin middle steps alone = Follows-steps (StandsForEither s h) AtFirst HasOrigin first.ops (whole (first_call m)) _ first middle started steps alone
       (λ ops here told. (origin_made kept m (files_after ops) h creator here.0.0 here.0.1 told, origin_images (files_after ops) here.0))
 
   served : Traces (made_origin m ∷ made_table m ∷ []) first after → MakesTable m h first after (Ok tt)
   served (middle, (steps, may), early, (next, (swap, may_swap), late, (still, last))) =
+      let rest = IsLater-trans middle next after late last in
+      let one = alone_parts first middle after early rest alone in
+      let two = alone_parts middle next after late last one.1 in
       let Made : Files → Type 0 = λ f. (h ≡ no_table) × Folder f (table s []) in
-      let origin = after_origin middle steps (omega (arith, alone, early.others, late.others, last.others)) in
-      let swapped = Follows-steps (StandsForEither s h) HasOrigin Made first.ops (whole (schema_call m.bytes)) _ middle next origin swap (omega (arith, alone, early.others, late.others, last.others))
+      let origin = after_origin middle steps one.0 in
+      let swapped = Follows-steps (StandsForEither s h) HasOrigin Made first.ops (whole (schema_call m.bytes)) _ middle next origin swap two.0
       (λ ops here told. (table_made kept m (files_after ops) h creator here.0 here.1 told, table_images (files_after ops) here)) in
-      let so = Follows-meanwhile (StandsForEither s h) Made first.ops next after swapped still (omega (arith, alone, early.others, late.others, last.others)) in
+      let so = Follows-meanwhile (StandsForEither s h) Made first.ops next after swapped still two.1 in
       ended_as (Ok tt) Made so (λ f here. here) (Extends-end (λ f. Folder f (table s [])) after.ops so.ops so.is so.here.1) tt
 
   failed_left : (f : Files) → StandsForEither s h f → Folder f h ⊎ ((schema_path 0 ≡ schema_path 0) × (h ≡ no_table) × Folder f (table s []))
@@ -198,69 +202,68 @@ module _ (kept : Kept) (m : CreatorView) (creator : IsCreator m) (h : History) (
 
   refused : (own : List Event) → Ended m own → Traces own first after → MakesTable m h first after (Err (by_calls own))
   refused own before_all (still, last) =
-      let so = Follows-meanwhile (StandsForEither s h) AtFirst first.ops first after started still (omega (arith, alone)) in
+      let so = Follows-meanwhile (StandsForEither s h) AtFirst first.ops first after started still alone in
       ended_as (Err refusals.Memory) AtFirst so (λ f here. here.0.0) tt tt
   refused own before_swap (middle, (steps, may), early, (still, last)) =
-      let origin = after_origin middle steps (omega (arith, alone, early.others, last.others)) in
-      let so = Follows-meanwhile (StandsForEither s h) HasOrigin first.ops middle after origin still (omega (arith, alone, early.others, last.others)) in
+      let one = alone_parts first middle after early last alone in
+      let origin = after_origin middle steps one.0 in
+      let so = Follows-meanwhile (StandsForEither s h) HasOrigin first.ops middle after origin still one.1 in
       ended_as (Err refusals.Memory) HasOrigin so (λ f here. here.0) tt tt
   refused own session_used (middle, (steps, may), early, (still, last)) =
+      let one = alone_parts first middle after early last alone in
       let Met : Files → Type 0 = λ f. Folder f h × IsThere (own_origin m.me) first in
-      let met = Follows-steps (StandsForEither s h) AtFirst Met first.ops (whole (first_call m)) (λ ops. Answers (first_call m) (answers.Made made.Exists) (files_after ops)) first middle started steps (omega (arith, alone, early.others, last.others))
+      let met = Follows-steps (StandsForEither s h) AtFirst Met first.ops (whole (first_call m)) (λ ops. Answers (first_call m) (answers.Made made.Exists) (files_after ops)) first middle started steps one.0
       (λ ops here told. (
         (origin_met kept m (files_after ops) h here.0.0 told, here.1 (present_met (map.get (files_after ops) (own_origin m.me)) told)),
         origin_images (files_after ops) here.0,
       )) in
-      let so = Follows-meanwhile (StandsForEither s h) Met first.ops middle after met still (omega (arith, alone, early.others, last.others)) in
+      let so = Follows-meanwhile (StandsForEither s h) Met first.ops middle after met still one.1 in
       ended_as (Err (refusals.SessionUsed (own_origin m.me))) Met so (λ f here. here.0) tt (refl, so.here.1)
   refused own origin_failed (middle, ((effect, steps), rose), early, (still, last)) =
-      let op : Op = record { call = first_call m; effect = effect } in
+      let one = alone_parts first middle after early last alone in
+      let op : Op = own_op (first_call m) effect in
       let Kept : Files → Type 0 = λ f. Folder f h in
-      let failed = Follows-steps (StandsForEither s h) AtFirst Kept first.ops op (λ ops. MayHave (first_call m) effect (files_after ops)) first middle started steps (omega (arith, alone, early.others, last.others))
+      let failed = Follows-steps (StandsForEither s h) AtFirst Kept first.ops op (λ ops. MayHave (first_call m) effect (files_after ops)) first middle started steps one.0
       (λ ops here may. (origin_failed_in kept m effect (files_after ops) h here.0.0 here.0.1, origin_images (files_after ops) here.0)) in
-      let so = Follows-meanwhile (StandsForEither s h) Kept first.ops middle after failed still (omega (arith, alone, early.others, last.others)) in
+      let so = Follows-meanwhile (StandsForEither s h) Kept first.ops middle after failed still one.1 in
       ended_as (Err (refusals.StoreFault (own_origin m.me))) Kept so (λ f here. inl here) tt (omega (arith, rose, last.faults))
   refused own (table_exists found) (middle, (steps, may), early, (next, (swap, may_swap), late, (still, last))) =
+      let rest = IsLater-trans middle next after late last in
+      let one = alone_parts first middle after early rest alone in
+      let two = alone_parts middle next after late last one.1 in
       let Met : Files → Type 0 = λ f. (h ≢ no_table) × Folder f h in
-      let origin = after_origin middle steps (omega (arith, alone, early.others, late.others, last.others)) in
-      let met = Follows-steps (StandsForEither s h) HasOrigin Met first.ops (whole (schema_call m.bytes)) _ middle next origin swap (omega (arith, alone, early.others, late.others, last.others))
+      let origin = after_origin middle steps one.0 in
+      let met = Follows-steps (StandsForEither s h) HasOrigin Met first.ops (whole (schema_call m.bytes)) _ middle next origin swap two.0
       (λ ops here told. (table_met kept m found (files_after ops) h here.0 told, table_images (files_after ops) here)) in
-      let so = Follows-meanwhile (StandsForEither s h) Met first.ops next after met still (omega (arith, alone, early.others, late.others, last.others)) in
+      let so = Follows-meanwhile (StandsForEither s h) Met first.ops next after met still two.1 in
       ended_as (Err refusals.TableExists) Met so (λ f here. here.1) tt so.here.0
   refused own table_failed (middle, (steps, may), early, (next, ((effect, swap), rose), late, (still, last))) =
-      let op : Op = record { call = schema_call m.bytes; effect = effect } in
-      let origin = after_origin middle steps (omega (arith, alone, early.others, late.others, last.others)) in
-      let failed = Follows-steps (StandsForEither s h) HasOrigin (StandsForEither s h) first.ops op (λ ops. MayHave (schema_call m.bytes) effect (files_after ops)) middle next origin swap (omega (arith, alone, early.others, late.others, last.others))
+      let rest = IsLater-trans middle next after late last in
+      let one = alone_parts first middle after early rest alone in
+      let two = alone_parts middle next after late last one.1 in
+      let op : Op = own_op (schema_call m.bytes) effect in
+      let origin = after_origin middle steps one.0 in
+      let failed = Follows-steps (StandsForEither s h) HasOrigin (StandsForEither s h) first.ops op (λ ops. MayHave (schema_call m.bytes) effect (files_after ops)) middle next origin swap two.0
       (λ ops here may. (
         table_images (files_after ops) here (after_op op (files_after ops)) (MayLeave-after_effect (schema_call m.bytes) effect (files_after ops)),
         table_images (files_after ops) here,
       )) in
-      let so = Follows-meanwhile (StandsForEither s h) (StandsForEither s h) first.ops next after failed still (omega (arith, alone, early.others, late.others, last.others)) in
+      let so = Follows-meanwhile (StandsForEither s h) (StandsForEither s h) first.ops next after failed still two.1 in
       ended_as (Err (refusals.StoreFault (schema_path 0))) (StandsForEither s h) so (λ f here. failed_left f here) tt
       (omega (arith, rose, early.faults, last.faults))
 
 -- ---- all calls
 
-starts_ended : (m : CreatorView) (own : List Event) → Ended m own → StartsWith (first_call m) own
-starts_ended m own before_all = tt
-starts_ended m own before_swap = refl
-starts_ended m own session_used = refl
-starts_ended m own origin_failed = refl
-starts_ended m own (table_exists found) = refl
-starts_ended m own table_failed = refl
-
 pub made_history : Kept → (m : CreatorView) → IsCreator m → (result : Result (Unit {0}) Refusal) (before after : StoreView)
     → HasTrace (DidMake m result) before after → MakesTables m before after result
-made_history kept m creator (Ok x) before after (own, did, trace) =
-    let moment = Traces-first (first_call m) (made_origin m ∷ made_table m ∷ []) before after refl (subst (λ (own : List Event). Traces own before after) did trace) in
-    (moment.0, moment.1, λ alone h stands. served kept m creator h moment.0 after alone stands moment.2)
-made_history kept m creator (Err refusal) before after (own, (ended, shows), trace) =
-    let moment = Traces-first (first_call m) own before after (starts_ended m own ended) trace in (
-      moment.0,
-      moment.1,
-      λ alone h stands. subst (λ (refusal : Refusal). MakesTable m h moment.0 after (Err refusal)) (sym (shown_by refusal own shows))
-          (refused kept m creator h moment.0 after alone stands own ended moment.2),
-    )
+made_history kept m creator (Ok x) before after (own, did, trace) = λ alone h stands.
+    let events = made_origin m ∷ made_table m ∷ [] in
+    served kept m creator h (at_first_own before after) after alone stands
+    (Traces-first events before after (subst (λ (own : List Event). Traces own before after) did trace))
+made_history kept m creator (Err refusal) before after (own, (ended, shows), trace) = λ alone h stands.
+    let first = at_first_own before after in
+    subst (λ (refusal : Refusal). MakesTable m h first after (Err refusal)) (sym (shown_by refusal own shows))
+    (refused kept m creator h first after alone stands own ended (Traces-first own before after trace))
 
 -- ---- which calls were made
 

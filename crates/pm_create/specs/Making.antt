@@ -6,10 +6,9 @@ use Rattle.pm_base.specs.Faults.{Rose}
 use Rattle.pm_values.specs.declared.refusal.Refusal.{Refusal}
 use Rattle.pm_values.specs.declared.refusal.Refusal.TheVariants as refusals
 use Rattle.pm_store.specs.declared.call.Call.{Call}
-use Rattle.pm_store.specs.Answers.{IsFirst}
 use Rattle.pm_store.specs.Files.{Files, files_after}
 use Rattle.pm_store.specs.Images.{Extends}
-use Rattle.pm_store.specs.Store.{StoreView, IsAlone}
+use Rattle.pm_store.specs.Store.{StoreView, FromFirst}
 use Rattle.pm_machine.specs.Trace.{Event}
 use Rattle.pm_history.specs.History.{History, no_table, table}
 use Rattle.pm_schema.specs.declared.schema.TableSchema.{TableSchema}
@@ -89,5 +88,5 @@ MayStart me h f = Folder f h × IsFreeOrigin (own_origin me) f h
 -- what it promises of histories, from its first call on
 abbrev pub MakesTables : CreatorView → StoreView → StoreView → Result (Unit {0}) Refusal → Type 0
 MakesTables m before after result =
-    (first : StoreView) × IsFirst (first_call m) before first after
-    × (IsAlone first after → (h : History) → LeavesFiles (MayStart m.me h) first → MakesTable m h first after result)
+    FromFirst (λ first after. (h : History) → LeavesFiles (MayStart m.me h) first → MakesTable m h first after result)
+    before after

@@ -1,17 +1,17 @@
-//! The cases of the store on a real folder over a double of the operating system, a line in and a line out: each line of
-//! standard input names what is tried, and its arguments, with a TAB between them, and the line that is printed for it is
-//! the answer. Blank lines and lines that begin with `#` are printed as they are.
+//! The cases of the store on a real folder over a double of the operating system, a line in and a line out: each line
+//! of standard input names what is tried, and its arguments, with a TAB between them, and the line that is printed for
+//! it is the answer. Blank lines and lines that begin with `#` are printed as they are.
 //!
 //! | What is tried | Arguments | Answer |
 //! |---|---|---|
 //! | `calls` | what stands there, acts | each act's answer, and what it asked the host for |
 //! | `images` | paths, what stands there, acts | what each act's images show before and after it answers |
-//! | `fails` | a kind of error, paths, what stands there, acts | what comes of each call of the host that fails in the last act |
-//! | `rival` | paths, what stands there, acts, an act | what comes of a rival's act before each call of the host in the last act |
+//! | `fails` | a kind of error, paths, what stands there, acts | what comes of each call of the host that fails |
+//! | `rival` | paths, what stands there, acts, an act | what comes of a rival's act before each call of the last act |
 //!
-//! What stands there is said in the words of `state.rt`. Acts stand with semicolons between them: the calls of the store as
-//! in `pm_store_cases`, on the folder `t`, and those of `process.rt`. Paths that are asked for are the store's, and the
-//! double's where they begin with a slash.
+//! What stands there is said in the words of `state.rt`. Acts stand with semicolons between them: the calls of the
+//! store as in `pm_store_cases`, on the folder `t`, and those of `process.rt`. Paths that are asked for are the
+//! store's, and the double's where they begin with a slash.
 #![tactic(auto)]
 
 mod calls;

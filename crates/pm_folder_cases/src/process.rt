@@ -21,8 +21,8 @@ pub fn open_store<H: Host + Drop>(alloc: Global, host: H) -> io::Result<FolderSt
     }
 }
 
-/// Has a process act: a call of its store, `wait`, which has two seconds pass, or what others do beside it. Answers what
-/// it was answered.
+/// Has a process act: a call of its store, `wait`, which has two seconds pass, or what others do beside it. Answers
+/// what it was answered.
 pub fn said_of<H: Host + Drop>(
     world: &RefCell<World>,
     store: &mut FolderStore<H>,

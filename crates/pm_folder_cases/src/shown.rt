@@ -111,8 +111,8 @@ fn is_listed(alloc: Global, store: &mut FolderStore<Seat<'_>>, path: &str) -> Op
     }
 }
 
-/// Whether a file that stood there before isn't as it was: one that isn't asked for, isn't about to be written, and that no
-/// power loss may undo.
+/// Whether a file that stood there before isn't as it was: one that isn't asked for, isn't about to be written, and
+/// that no power loss may undo.
 fn is_harmed(trial: &Trial, world: &World) -> io::Result<bool> {
     for word in trial.state.split(' ') {
         if let Some((path, text)) = word.rsplit_once('=') {

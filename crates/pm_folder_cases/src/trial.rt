@@ -1,5 +1,5 @@
-//! What is tried on a double: calls one after another, each stopped at each of its calls of the host, failed at each, and
-//! met by a rival before each.
+//! What is tried on a double: calls one after another, each stopped at each of its calls of the host, failed at each,
+//! and met by a rival before each.
 
 use crate::double::seat::Seat;
 use crate::double::steps::{Plan, Step};
@@ -144,7 +144,8 @@ fn stops(alloc: Global, steps: &[Step]) -> io::Result<Vec<u64>> {
     Ok(stops)
 }
 
-/// Says what comes of the last act where one of its calls of the host fails, each in turn: once, and with all that follow.
+/// Says what comes of the last act where one of its calls of the host fails, each in turn: once, and with all that
+/// follow.
 pub fn say_fails(case: &mut Case, trial: &Trial, kind: ErrorKind) -> io::Result<()> {
     let whole = play(trial, trial.count(), Plan::healthy())?;
     let calls = whole.world.try_borrow()?.calls;
@@ -187,8 +188,8 @@ fn add_failed(outcomes: &mut Outcomes, trial: &Trial, plan: Plan) -> io::Result<
     outcomes.add_after(text.as_str(), call.as_str())
 }
 
-/// Says what the last act is answered where calls of the host fail, and what the folder shows; then the same of that act
-/// once more, by the same process, when none fails.
+/// Says what the last act is answered where calls of the host fail, and what the folder shows; then the same of that
+/// act once more, by the same process, when none fails.
 fn say_failed(
     case: &mut Case,
     trial: &Trial,

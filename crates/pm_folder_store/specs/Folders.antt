@@ -14,7 +14,8 @@ last_part path = after_slashes path path
 -- the files of the folder are reached only by their names in files of other folders: it is `manifest`, or its last part
 -- begins with `bucket-`
 abbrev pub is_named_elsewhere : List ℕ → Bool
-is_named_elsewhere folder = bytes_eq folder (codes "manifest") || starts_with (λ a b. a == b) (last_part folder) (codes "bucket-")
+is_named_elsewhere folder =
+    bytes_eq folder (codes "manifest") || starts_with (λ a b. a == b) (last_part folder) (codes "bucket-")
 
 -- no file of the folder is ever replaced, or made anew once it was taken away: it has snapshots, or schemas
 abbrev pub is_made_once : List ℕ → Bool

@@ -45,7 +45,7 @@ impl<H: Host + Drop> FolderStore<H> {
 }
 
 impl<H: Host + Drop> FileStore for FolderStore<H> {
-    ghost seen = { λ s. record { ops = None; others = 0; faults = s } };
+    ghost seen = { λ s. record { ops = None; faults = s } };
 
     fn list(&mut self, alloc: Global, folder: &str) -> Result<Vec<Txt>, StoreFail> {
         let answer = self.disk.list(alloc, folder);

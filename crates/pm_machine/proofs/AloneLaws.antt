@@ -1,143 +1,81 @@
 -- The moment of a trace's first call, and what calls from then on leave where nobody else acts.
-use Rattle.std.proofs.Common.{◌≡◌, inl, inr, ℕ, ◌+◌, ◌≤◌, List, [], ◌∷◌, ◌++◌, length, Option, None, Some, IsSomeAnd, refl, sym, ap, ◌∙◌, subst, arith, append_assoc}
-use Rattle.std.proofs.lemmas.List.{append-nil}
+use Rattle.std.proofs.Common.{◌≡◌, ◌≤◌, List, [], ◌∷◌, ◌++◌, true, Option, None, Some, IsSomeAnd, ap, refl, sym, subst, arith}
 use Rattle.pm_store.specs.declared.answer.Answer.{Answer}
 use Rattle.pm_store.specs.declared.call.Call.{Call}
 use Rattle.pm_store.specs.declared.call.Op.{Op}
-use Rattle.pm_store.specs.Answers.{whole, Answers, MayHave, CameAfter, CameBetween, GoesOnWith, IsFirst, Meanwhile, Steps}
+use Rattle.pm_store.specs.Answers.{Answers, MayHave}
 use Rattle.pm_store.specs.Files.{Files, after_op, files_after}
 use Rattle.pm_store.specs.Images.{Extends, MayLeave}
-use Rattle.pm_store.specs.Store.{StoreView, IsLater}
+use Rattle.pm_store.specs.Store.{StoreView, AreOthers, Came, EndsWith, GoesOn, IsAlone, IsLater, Meanwhile, Steps, at_first_own, others_told, own_op, whole}
 use Rattle.pm_store.proofs.FileLaws.{files_after-push}
 use Rattle.pm_store.proofs.ImageLaws.{Extends-push, Extends-refl}
-use Rattle.pm_store.proofs.StepLaws.{Meanwhile-exact, Meanwhile-known, Steps-exact, Steps-known}
+use Rattle.pm_store.proofs.StepLaws.{Came-goes_on, GoesOn-trans, IsLater-steps, IsLater-trans, Meanwhile-exact, Meanwhile-refl, Steps-exact, at_first_own-none, at_first_own-same, at_first_own-steps}
 use Rattle.pm_machine.specs.Trace.{Event, Ended, Traces}
-use Rattle.pm_machine.proofs.Facts.{Traces-none}
 
 -- ---- the moment of the first call
 
--- no count fell through a trace
+-- no operation went through a trace, and no count fell
 pub Traces-later : (own : List Event) (before after : StoreView) → Traces own before after → IsLater before after
 Traces-later [] before after (meanwhile, later) = later
-Traces-later (event ∷ own) before after (middle, ended, early, rest) =
-    let late = Traces-later own middle after rest in
-    record { others = omega arith; faults = omega arith }
+Traces-later (event ∷ own) before after (middle, ended, early, rest) = IsLater-trans before middle after early (Traces-later own middle after rest)
 
--- known operations stay, and more come
-ended_known : (call : Call) (answer : Option Answer) (before after : StoreView) (ops : List Op) → before.ops ≡ Some ops → Ended call answer before after
-    → (more : List Op) × (after.ops ≡ Some (ops ++ more))
-ended_known call (Some answer) before after ops is (steps, may) =
-    let came = Steps-known (whole call) (λ ops. Answers call answer (files_after ops)) before after ops is steps in
-    (came.0 ++ whole call ∷ [], came.1 ∙ ap Some (append_assoc ops came.0 (whole call ∷ [])))
-ended_known call None before after ops is ((effect, steps), rose) =
-    let op : Op = record { call = call; effect = effect } in
-    let came = Steps-known op (λ ops. MayHave call effect (files_after ops)) before after ops is steps in
-    (came.0 ++ op ∷ [], came.1 ∙ ap Some (append_assoc ops came.0 (op ∷ [])))
+-- its operations stay, and more came
+ended_goes_on : (call : Call) (answer : Option Answer) (before after : StoreView) → Ended call answer before after → GoesOn before after
+ended_goes_on call (Some answer) before after (steps, may) =
+    Came-goes_on (EndsWith (whole call) (λ ops. Answers call answer (files_after ops))) before after steps
+ended_goes_on call None before after ((effect, steps), rose) =
+    Came-goes_on (EndsWith (own_op call effect) (λ ops. MayHave call effect (files_after ops))) before after steps
 
-Traces-known : (own : List Event) (before after : StoreView) (ops : List Op) → before.ops ≡ Some ops → Traces own before after
-    → (more : List Op) × (after.ops ≡ Some (ops ++ more))
-Traces-known [] before after ops is (meanwhile, later) =
-    let came = Meanwhile-known before after ops is meanwhile in
-    (came.0, came.1)
-Traces-known (event ∷ own) before after ops is (middle, ended, early, rest) =
-    let here = ended_known event.call event.answer before middle ops is ended in
-    let then = Traces-known own middle after (ops ++ here.0) here.1 rest in
-    (here.0 ++ then.0, then.1 ∙ ap Some (append_assoc ops here.0 then.0))
+pub Traces-goes_on : (own : List Event) (before after : StoreView) → Traces own before after → GoesOn before after
+Traces-goes_on [] before after (meanwhile, later) = Came-goes_on (λ ops more. AreOthers more) before after meanwhile
+Traces-goes_on (event ∷ own) before after (middle, ended, early, rest) =
+    GoesOn-trans before middle after (ended_goes_on event.call event.answer before middle ended) (Traces-goes_on own middle after rest)
 
--- the moment right before an operation, up to which others alone acted
-record RightBefore (op : Op) (P : List Op → Type 0) (known : Option (List Op)) (count faults : ℕ) (after : StoreView) : Type 0 where
-  pub first : StoreView
-  pub between : CameBetween known count first
-  pub steps : Steps op P first after
-  pub within : first.others ≤ after.others
-  pub faults_are : first.faults ≡ faults
-  pub right : (ops : List Op) → first.ops ≡ Some ops → after.ops ≡ Some (ops ++ op ∷ [])
+-- an event is a step of this handle
+abbrev IsOwnStep : Call → Option Answer → StoreView → StoreView → Type 1
+IsOwnStep call answer before after = (op : Op) × (P : List Op → Type 0) × (op.is_own ≡ true) × Steps op P before after
 
-right_before : (op : Op) (P : List Op → Type 0) (known : Option (List Op)) (count faults : ℕ) (after : StoreView) → count ≤ after.others
-    → CameAfter op P known count after → RightBefore op P known count faults after
-right_before op P None count faults after within none = record {
-  first = record { ops = None; others = count; faults = faults };
-  between = refl;
-  steps = none;
-  within = within;
-  faults_are = refl;
-  right = λ ops no. absurd (let clash : None ≡ Some ops = no in cc);
-}
-right_before op P (Some ops) count faults after within (others, is, rose, here) =
-    let none : (ops ++ others) ++ [] ≡ ops ++ others = append-nil (ops ++ others) in record {
-      first = record { ops = Some (ops ++ others); others = count + length others; faults = faults };
-      between = (others, refl, refl);
-      steps = ([], is ∙ ap (λ (ops : List Op). Some (ops ++ op ∷ [])) (sym none), omega (arith, rose), subst P (sym none) here);
-      within = omega (arith, rose);
-      faults_are = refl;
-      right = λ all same.
-          let equal : ops ++ others ≡ all = cc in
-          is ∙ ap (λ (ops : List Op). Some (ops ++ op ∷ [])) equal;
-    }
+own_step : (call : Call) (answer : Option Answer) (before after : StoreView) → Ended call answer before after → IsOwnStep call answer before after
+own_step call (Some answer) before after (steps, may) = (whole call, (λ ops. Answers call answer (files_after ops)), refl, steps)
+own_step call None before after ((effect, steps), rose) = (own_op call effect, (λ ops. MayHave call effect (files_after ops)), refl, steps)
 
-goes_on_with : (op : Op) (own : List Event) (known : Option (List Op)) (middle after : StoreView)
-    → ((ops : List Op) → known ≡ Some ops → middle.ops ≡ Some (ops ++ op ∷ [])) → Traces own middle after → GoesOnWith op.call known after.ops
-goes_on_with op own None middle after right rest = tt
-goes_on_with op own (Some ops) middle after right rest =
-    let came = Traces-known own middle after (ops ++ op ∷ []) (right ops refl) rest in
-    inr (op.effect, came.0, came.1 ∙ ap Some (append_assoc ops (op ∷ []) came.0))
-
-first_is : (op : Op) (P : List Op → Type 0) (own : List Event) (before middle after : StoreView)
-    → (b : RightBefore op P before.ops before.others before.faults middle) → IsLater before middle → Traces own middle after
-    → IsFirst op.call before b.first after
-first_is op P own before middle after b early rest =
-    let late = Traces-later own middle after rest in
-    let within = b.within in
-    let faults = b.faults_are in record {
-      meanwhile = b.between;
-      faults = omega (arith, faults);
-      later = record { others = omega (arith, within, late.others); faults = omega (arith, faults, early.faults, late.faults) };
-      goes_on = goes_on_with op own b.first.ops middle after b.right rest;
-    }
-
-first_event : (call : Call) (answer : Option Answer) (own : List Event) (before middle after : StoreView) → Ended call answer before middle
-    → IsLater before middle → Traces own middle after
-    → (first : StoreView) × IsFirst call before first after × Ended call answer first middle × IsLater first middle
-first_event call (Some answer) own before middle after (steps, may) early rest =
-    let P : List Op → Type 0 = λ ops. Answers call answer (files_after ops) in
-    let b = right_before (whole call) P before.ops before.others before.faults middle early.others steps in
-    let faults = b.faults_are in (
-      b.first,
-      first_is (whole call) P own before middle after b early rest,
-      (b.steps, may),
-      record { others = b.within; faults = omega (arith, faults, early.faults) },
-    )
-first_event call None own before middle after ((effect, steps), rose) early rest =
-    let op : Op = record { call = call; effect = effect } in
-    let P : List Op → Type 0 = λ ops. MayHave call effect (files_after ops) in
-    let b = right_before op P before.ops before.others before.faults middle early.others steps in
-    let faults = b.faults_are in (
-      b.first,
-      first_is op P own before middle after b early rest,
-      ((effect, b.steps), omega (arith, faults, rose)),
-      record { others = b.within; faults = omega (arith, faults, early.faults) },
-    )
-
-nothing_came : (call : Call) (known : Option (List Op)) → GoesOnWith call known known
-nothing_came call None = tt
-nothing_came call (Some ops) = inl refl
+-- the same event from right before it on, whatever comes then
+ended_first : (call : Call) (answer : Option Answer) (before middle after : StoreView) → Ended call answer before middle → GoesOn middle after
+    → Ended call answer (at_first_own before after) middle
+ended_first call (Some answer) before middle after (steps, may) late =
+    (at_first_own-steps (whole call) (λ ops. Answers call answer (files_after ops)) before middle after refl steps late, may)
+ended_first call None before middle after ((effect, steps), rose) late =
+    ((effect, at_first_own-steps (own_op call effect) (λ ops. MayHave call effect (files_after ops)) before middle after refl steps late), rose)
 
 -- events are none, or begin with this call
 abbrev pub StartsWith : Call → List Event → Type 0
 StartsWith call [] = Unit {0}
 StartsWith call (event ∷ own) = event.call ≡ call
 
--- the moment of the first call, from which on these events came
-pub Traces-first : (call : Call) (own : List Event) (before after : StoreView) → StartsWith call own → Traces own before after
-    → (first : StoreView) × IsFirst call before first after × Traces own first after
-Traces-first call [] before after starts (meanwhile, later) = (
-  after,
-  record { meanwhile = meanwhile; faults = later.faults; later = (Traces-none after).1; goes_on = nothing_came call after.ops },
-  Traces-none after,
-)
-Traces-first call (event ∷ own) before after starts (middle, ended, early, rest) =
-    let f = first_event event.call event.answer own before middle after ended early rest in
-    (f.0, subst (λ (call : Call). IsFirst call before f.0 after) starts f.1, (middle, f.2, f.3, rest))
+-- from the moment of the first own operation on, these events came
+pub Traces-first : (own : List Event) (before after : StoreView) → Traces own before after → Traces own (at_first_own before after) after
+Traces-first [] before after (meanwhile, later) =
+    let same = at_first_own-none before after meanwhile in (
+      subst (λ (now : Option (List Op)). Came (λ ops more. AreOthers more) now after.ops) (sym same) (Meanwhile-refl after),
+      record { others = omega (arith, ap others_told same); faults = later.faults },
+    )
+Traces-first (event ∷ own) before after (middle, ended, early, rest) =
+    let late = Traces-goes_on own middle after rest in
+    let step = own_step event.call event.answer before middle ended in (
+      middle,
+      ended_first event.call event.answer before middle after ended late,
+      IsLater-steps step.0 step.1 (at_first_own before after) middle (at_first_own-steps step.0 step.1 before middle after step.2 step.3 late) early.faults,
+      rest,
+    )
+
+-- what comes after an event doesn't change it
+pub Traces-same_first : (event : Event) (own more : List Event) (before after last : StoreView) → Traces (event ∷ own) before after → Traces more after last
+    → at_first_own before after ≡ at_first_own before last
+Traces-same_first event own more before after last (middle, ended, early, rest) then_came =
+    let step = own_step event.call event.answer before middle ended in
+    let within = Traces-goes_on own middle after rest in
+    at_first_own-same step.0 step.1 before middle after last step.2 step.3 within
+    (GoesOn-trans middle after last within (Traces-goes_on more after last then_came))
 
 -- ---- calls in a row, where nobody else acts
 
@@ -161,22 +99,22 @@ Follows-first Image P first (Some ops) is here = record {
 
 -- nothing came since
 pub Follows-meanwhile : (Image P : Files → Type 0) (known : Option (List Op)) (before after : StoreView) → Follows Image known before P
-    → Meanwhile before after → after.others ≤ before.others → Follows Image known after P
-Follows-meanwhile Image P known before after so meanwhile within = record {
+    → Meanwhile before after → IsAlone before after → Follows Image known after P
+Follows-meanwhile Image P known before after so meanwhile alone = record {
   ops = so.ops;
-  is = Meanwhile-exact before after so.ops so.is meanwhile within;
+  is = Meanwhile-exact before after so.ops so.is meanwhile alone;
   here = so.here;
   images = so.images;
 }
 
 -- an operation came, each image of which has Image
 pub Follows-steps : (Image P Q : Files → Type 0) (known : Option (List Op)) (op : Op) (A : List Op → Type 0) (before after : StoreView)
-    → Follows Image known before P → Steps op A before after → after.others ≤ before.others
+    → Follows Image known before P → Steps op A before after → IsAlone before after
     → ((ops : List Op) → P (files_after ops) → A ops
     → Q (after_op op (files_after ops)) × ((image : Files) → MayLeave op.call (files_after ops) image → Image image))
     → Follows Image known after Q
-Follows-steps Image P Q known op A before after so steps within leads =
-    let came = Steps-exact op A before after so.ops so.is steps within in
+Follows-steps Image P Q known op A before after so steps alone leads =
+    let came = Steps-exact op A before after so.ops so.is steps alone in
     let step = leads so.ops so.here came.1 in record {
       ops = so.ops ++ op ∷ [];
       is = came.0;

@@ -1,17 +1,17 @@
 -- Laws of steps, for the machines.
-use Rattle.std.proofs.Common.{◌≡◌, inl, inr, ℕ, List, [], ◌∷◌, ◌++◌, Option, None, Some, IsSome, IsSomeAnd, Result, OnOk, IfErr, refl, sym, ap, ◌∙◌, subst, arith, append_assoc, length-append}
+use Rattle.std.proofs.Common.{◌≡◌, inl, inr, ℕ, List, [], ◌∷◌, ◌++◌, Option, None, Some, IsSome, IsSomeAnd, Result, OnOk, IfErr, refl, sym, ap, ◌∙◌, subst, arith, append_assoc, append-nil}
 use Rattle.pm_base.specs.Faults.{Rose}
 use Rattle.pm_values.specs.declared.refusal.Refusal.{Refusal}
 use Rattle.pm_store.specs.declared.answer.Answer.{Answer}
 use Rattle.pm_store.specs.declared.call.Call.{Call}
 use Rattle.pm_store.specs.declared.call.Effect.{Effect}
 use Rattle.pm_store.specs.declared.call.Op.{Op}
-use Rattle.pm_store.specs.Answers.{whole, Answers, MayHave, Meanwhile, CameBetween, Steps, CameAfter}
+use Rattle.pm_store.specs.Answers.{Answers, MayHave}
 use Rattle.pm_store.specs.Files.{Files, after_effect, after_op, files_after}
 use Rattle.pm_store.specs.Images.{MayLeave}
-use Rattle.pm_store.specs.Store.{StoreView, IsLater, IsAlone}
+use Rattle.pm_store.specs.Store.{StoreView, IsAlone, IsLater, Meanwhile, Steps, own_op, whole}
 use Rattle.pm_store.proofs.FileLaws.{MayLeave-after_effect, effect_left, files_after-push}
-use Rattle.pm_store.proofs.StepLaws.{Meanwhile-exact, Meanwhile-known, Meanwhile-refl, Steps-exact, Steps-known, Steps-weaker}
+use Rattle.pm_store.proofs.StepLaws.{IsLater-refl, IsLater-trans, Meanwhile-exact, Meanwhile-refl, Meanwhile-trans, Steps-after, Steps-exact, Steps-weaker}
 use Rattle.pm_machine.specs.Moves.{Changes, Keeps, Lasts, Moves, Sound, Stands}
 use Rattle.pm_machine.specs.Step.{Stepped, Rested, Went, Refused, Stopped, Failed}
 use Rattle.pm_machine.specs.Trace.{Event, Ended, Acts, Traces, HasTrace, Recounts, answered, faulted}
@@ -46,7 +46,7 @@ moved {old = old} {new = new} sound (Stopped call is meanwhile stop) =
     inr (meanwhile, λ f h folder known. sound.stopped old new f h (has_call is) stop folder known)
 moved {H = H} {Folder = Folder} {Change = Change} {knows = knows} {old = old} {new = new} {before = before} {after = after} sound (Failed call is came stop) =
     let effect : Effect = came.0.0 in
-    let op : Op = record { call = call; effect = effect } in
+    let op : Op = own_op call effect in
     let keeps : (ops : List Op) → MayHave call effect (files_after ops) → Keeps Folder (Change old) (knows old) (knows new) op (files_after ops) =
     λ ops may h folder known.
     ((rw is at (sound.changes old (files_after ops) h folder known)), (rw is at (sound.failed old new effect (files_after ops) h stop folder known)) may) in
@@ -104,7 +104,7 @@ module _ {H : Type 0} (Folder : Files → H → Type 0) (Change : Files → H �
       IsSomeAnd known (AtEnd knew) → Stands Folder (λ f h. P f h × knows f h) after
   stands_known None is moves here = absurd here
   stands_known (Some ops) is (inl (op, steps)) (h, folder, (true_of, known)) =
-      let came = Steps-exact op (λ ops. Keeps Folder Change knew knows op (files_after ops)) before after ops is steps (omega arith) in
+      let came = Steps-exact op (λ ops. Keeps Folder Change knew knows op (files_after ops)) before after ops is steps alone in
       let leads = (came.1 h folder known).1 in
       let stays = lasts (files_after ops) (after_op op (files_after ops)) h leads.0 folder true_of leads.1 in
       let here : AtEnd knows (ops ++ op ∷ []) =
@@ -112,7 +112,7 @@ module _ {H : Type 0} (Folder : Files → H → Type 0) (Change : Files → H �
       subst (λ (now : Option (List Op)). IsSomeAnd now (AtEnd knows)) (sym came.0) here
   stands_known (Some ops) is (inr (meanwhile, same)) (h, folder, (true_of, known)) =
       subst (λ (now : Option (List Op)). IsSomeAnd now (AtEnd knows))
-      (sym (Meanwhile-exact before after ops is meanwhile (omega arith))) (h, folder, (true_of, same (files_after ops) h folder known))
+      (sym (Meanwhile-exact before after ops is meanwhile alone)) (h, folder, (true_of, same (files_after ops) h folder known))
 
   -- a step that nobody else's operations came in, and what else was true before it
   pub Stands-moves : Moves Folder Change knew knows before after → Stands Folder (λ f h. P f h × knew f h) before →
@@ -121,50 +121,24 @@ module _ {H : Type 0} (Folder : Files → H → Type 0) (Change : Files → H �
 
 -- ---- traces
 
-later_refl : (store : StoreView) → IsLater store store
-later_refl store = record { others = omega arith; faults = omega arith }
-
-later_trans : (first before after : StoreView) → IsLater first before → IsLater before after → IsLater first after
-later_trans first before after early late = record { others = omega arith; faults = omega arith }
-
--- what came before what came
-between_more : (known : Option (List Op)) (m : ℕ) (before after : StoreView) → CameBetween known m before → Meanwhile before after →
-    CameBetween known m after
-between_more None m before after none more = subst (λ (ops : Option (List Op)). CameBetween ops before.others after) none more
-between_more (Some ops) m before after (others, is, count) more =
-    let came = Meanwhile-known before after (ops ++ others) is more in
-    (others ++ came.0, came.1 ∙ ap Some (append_assoc ops others came.0), omega (arith, length-append others came.0, count, came.2))
-
-after_more : (op : Op) (P : List Op → Type 0) (known : Option (List Op)) (m : ℕ) (before after : StoreView) → CameBetween known m before →
-    Steps op P before after → CameAfter op P known m after
-after_more op P None m before after none steps = subst (λ (ops : Option (List Op)). CameAfter op P ops before.others after) none steps
-after_more op P (Some ops) m before after (others, is, count) steps =
-    let came = Steps-known op P before after (ops ++ others) is steps in
-    let joined : (ops ++ others) ++ came.0 ≡ ops ++ (others ++ came.0) = append_assoc ops others came.0 in (
-      others ++ came.0,
-      came.1 ∙ ap (λ (ops : List Op). Some (ops ++ op ∷ [])) joined,
-      omega (arith, length-append others came.0, count, came.2),
-      subst P joined came.3,
-    )
-
 -- an event before which others alone acted
 ended_more : (call : Call) (answer : Option Answer) (first before after : StoreView) → Meanwhile first before → IsLater first before →
     Ended call answer before after → Ended call answer first after
 ended_more call (Some answer) first before after meanwhile later (steps, may) =
-    (after_more (whole call) (λ ops. Answers call answer (files_after ops)) first.ops first.others before after meanwhile steps, may)
+    (Steps-after (whole call) (λ ops. Answers call answer (files_after ops)) first before after meanwhile steps, may)
 ended_more call None first before after meanwhile later ((effect, steps), rose) =
-    let op : Op = record { call = call; effect = effect } in
-    ((effect, after_more op (λ ops. MayHave call effect (files_after ops)) first.ops first.others before after meanwhile steps), omega arith)
+    let low = later.faults in
+    ((effect, Steps-after (own_op call effect) (λ ops. MayHave call effect (files_after ops)) first before after meanwhile steps), omega (arith, low, rose))
 
 -- no events yet
 pub Traces-none : (store : StoreView) → Traces [] store store
-Traces-none store = (Meanwhile-refl store, later_refl store)
+Traces-none store = (Meanwhile-refl store, IsLater-refl store)
 
 -- others' operations after the last event
 pub Traces-meanwhile : (own : List Event) (first before after : StoreView) → Traces own first before → Meanwhile before after →
     IsLater before after → Traces own first after
 Traces-meanwhile [] first before after (early, later) late then =
-    (between_more first.ops first.others before after early late, later_trans first before after later then)
+    (Meanwhile-trans first before after early late, IsLater-trans first before after later then)
 Traces-meanwhile (event ∷ own) first before after (middle, ended, early, rest) late then =
     (middle, ended, early, Traces-meanwhile own middle before after rest late then)
 
@@ -172,9 +146,18 @@ Traces-meanwhile (event ∷ own) first before after (middle, ended, early, rest)
 pub Traces-push : (own : List Event) (event : Event) (first before after : StoreView) → Traces own first before →
     Ended event.call event.answer before after → IsLater before after → Traces (own ++ event ∷ []) first after
 Traces-push [] event first before after (early, later) ended then =
-    (after, ended_more event.call event.answer first before after early later ended, later_trans first before after later then, Traces-none after)
+    (after, ended_more event.call event.answer first before after early later ended, IsLater-trans first before after later then, Traces-none after)
 Traces-push (one ∷ own) event first before after (middle, here, early, rest) ended then =
     (middle, here, early, Traces-push own event middle before after rest ended then)
+
+-- events came, and then others
+pub Traces-join : (own more : List Event) (first middle after : StoreView) → Traces own first middle → Traces more middle after
+    → Traces (own ++ more) first after
+Traces-join own [] first middle after trace (meanwhile, later) =
+    subst (λ (events : List Event). Traces events first after) (sym (append-nil own)) (Traces-meanwhile own first middle after trace meanwhile later)
+Traces-join own (event ∷ more) first middle after trace (next, ended, early, rest) =
+    subst (λ (events : List Event). Traces events first after) (append_assoc own (event ∷ []) more)
+    (Traces-join (own ++ event ∷ []) more first next after (Traces-push own event first middle next trace ended early) rest)
 
 -- a trace, and a step more
 pub HasTrace-acts : {did does : List Event → Type 0} {first before after : StoreView} → HasTrace did first before → Acts did does before after →
@@ -187,7 +170,10 @@ HasTrace-acts {first = first} {before = before} {after = after} (own, done, trac
 -- a trace that ends with a call in which the store failed
 pub Traces-faulted : (own : List Event) (call : Call) (before after : StoreView) → Traces (own ++ faulted call ∷ []) before after →
     Rose before.faults after.faults
-Traces-faulted [] call before after (middle, (part, rose), early, (meanwhile, late)) = omega arith
+Traces-faulted [] call before after (middle, (part, rose), early, (meanwhile, late)) =
+    let high = late.faults in
+    omega (arith, rose, high)
 Traces-faulted (one ∷ own) call before after (middle, here, early, rest) =
     let rose = Traces-faulted own call middle after rest in
-    omega arith
+    let low = early.faults in
+    omega (arith, rose, low)

@@ -6,9 +6,9 @@ use Rattle.pm_store.specs.declared.answer.Answer.{Answer}
 use Rattle.pm_store.specs.declared.call.Call.{Call}
 use Rattle.pm_store.specs.declared.call.Effect.{Effect}
 use Rattle.pm_store.specs.declared.call.Op.{Op}
-use Rattle.pm_store.specs.Answers.{Answers, MayHave, Meanwhile, Steps}
+use Rattle.pm_store.specs.Answers.{Answers, MayHave}
 use Rattle.pm_store.specs.Files.{Files, after_effect, after_op, carried, files_after}
-use Rattle.pm_store.specs.Store.{StoreView}
+use Rattle.pm_store.specs.Store.{Meanwhile, Steps, StoreView}
 
 -- whatever of the call is carried out, it is a change of some kind
 abbrev pub Changes : {H : Type 0} → (Files → H → Files → H → Type 0) → Call → Files → H → Type 0

@@ -8,9 +8,9 @@ use Rattle.pm_store.specs.declared.call.Call.{Call}
 use Rattle.pm_store.specs.declared.call.Call.TheVariants as calls
 use Rattle.pm_store.specs.declared.store.StoreFail.{StoreFail}
 use Rattle.pm_store.specs.declared.store.StoreFail.TheVariants as fails
-use Rattle.pm_store.specs.Answers.{whole, Answers, MayAnswer, Meanwhile, Steps, StepsInPart}
+use Rattle.pm_store.specs.Answers.{Answers, MayAnswer, StepsInPart}
 use Rattle.pm_store.specs.Files.{files_after}
-use Rattle.pm_store.specs.Store.{StoreView}
+use Rattle.pm_store.specs.Store.{whole, Meanwhile, Steps, StoreView}
 
 -- the path that is named where the call fails: the folder of a list, and of a publish its own path
 abbrev pub path_of : Call → List ℕ

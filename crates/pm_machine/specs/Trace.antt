@@ -4,8 +4,8 @@ use Rattle.pm_values.specs.declared.refusal.Refusal.{Refusal}
 use Rattle.pm_values.specs.declared.refusal.Refusal.TheVariants as refusals
 use Rattle.pm_store.specs.declared.answer.Answer.{Answer}
 use Rattle.pm_store.specs.declared.call.Call.{Call}
-use Rattle.pm_store.specs.Answers.{MayAnswer, Meanwhile}
-use Rattle.pm_store.specs.Store.{StoreView, IsLater}
+use Rattle.pm_store.specs.Answers.{MayAnswer}
+use Rattle.pm_store.specs.Store.{Meanwhile, StoreView, IsLater}
 use Rattle.pm_machine.specs.Step.{path_of, Answered, Faulted}
 
 -- a call that a machine made, and its answer, or none where the store failed

@@ -8,10 +8,10 @@ use Rattle.pm_values.specs.declared.refusal.Refusal.{Refusal}
 use Rattle.pm_values.specs.declared.refusal.Refusal.TheVariants as refusals
 use Rattle.pm_store.specs.declared.call.Call.TheVariants as calls
 use Rattle.pm_store.specs.Files.{Files, IsListing}
-use Rattle.pm_store.specs.Store.{StoreView, IsLater}
+use Rattle.pm_store.specs.Store.{StoreView, IsLater, at_first_own}
 use Rattle.pm_machine.specs.Trace.{Event, HasTrace, Traces, faulted}
 use Rattle.pm_machine.proofs.AloneLaws.{Traces-first}
-use Rattle.pm_machine.proofs.Facts.{HasTrace-acts, Traces-faulted, Traces-meanwhile, Traces-none, Traces-push}
+use Rattle.pm_machine.proofs.Facts.{HasTrace-acts, Traces-faulted, Traces-join, Traces-meanwhile, Traces-none, Traces-push}
 use Rattle.pm_history.specs.History.{Entry, History, IsTableOf, no_table, rows_up_to, table}
 use Rattle.pm_history.specs.Merged.{scan_text}
 use Rattle.pm_schema.specs.Again.{IsDeclared}
@@ -28,7 +28,7 @@ use Rattle.pm_folder.specs.Stored.{HasGroup}
 use Rattle.pm_folder.proofs.Facts.{newest-there}
 use Rattle.pm_view.specs.Reader.{schemas_call}
 use Rattle.pm_view.proofs.AllCallsLemmas as schema
-use Rattle.pm_view.proofs.AllCallsLemmas.{AreCalls, MayCall, may_call, read_still}
+use Rattle.pm_view.proofs.AllCallsLemmas.{read_still}
 use Rattle.pm_view.proofs.StillLemmas.{AreStill, AreTold, stayed, told_last}
 use Rattle.pm_table_view.specs.Asked.{Asked, ListsFirst}
 use Rattle.pm_table_view.specs.Reader.{origin_path, IsAbove, IsAsked}
@@ -110,13 +110,9 @@ ends_still : (a : Asked) (result : Result (List ℕ) Refusal) (own : List Event)
 ends_still a (Ok text) own (id, scan) = part_still a scan.view scan.collected [] own scan.all_read
 ends_still a (Err refusal) own shows = shows_still a refusal own shows
 
-calls_join : (own more : List Event) → AreCalls own → AreStill more → AreCalls (own ++ more)
-calls_join [] more (still, begins) then = absurd begins
-calls_join (event ∷ own) more (still, begins) then = (still_join (event ∷ own) more still then, begins)
-
-did_calls : (s : TableSchema) (at : Option ℕ) (result : Result (List ℕ) Refusal) (own : List Event) → DidScan s at result own → MayCall own
-did_calls s at result own (earlier, later, has, is, does) =
-    may_call own (subst AreCalls (sym is) (calls_join earlier later (schema.ready_calls s earlier has) (ends_still (asked_at s at) result later does)))
+did_still : (s : TableSchema) (at : Option ℕ) (result : Result (List ℕ) Refusal) (own : List Event) → DidScan s at result own → AreStill own
+did_still s at result own (earlier, later, has, is, does) =
+    subst AreStill (sym is) (still_join earlier later (schema.ready_calls s earlier has) (ends_still (asked_at s at) result later does))
 
 -- ---- where the last one failed
 
@@ -339,44 +335,37 @@ tabled f s (table t entries) folder is = record {
 
 pub scanned_history : AllLaws → (s : TableSchema) (at : Option ℕ) (result : Result (List ℕ) Refusal) (before after : StoreView) → IsDeclared s
     → HasTrace (DidScan s at result) before after → ScansTables s at before after result
-scanned_history laws s at (Ok text) before after declared (own, (earlier, later, has, is, (id, scan)), trace) =
-    let may = did_calls s at (Ok text) own (earlier, later, has, is, (id, scan)) in
-    let moment = Traces-first schemas_call own before after may.1 trace in (
-      moment.0,
-      moment.1,
-      λ alone f h had folder.
-          let stay = stayed f own moment.0 after may.0 moment.2 alone had in
-          let told = told_join f earlier later (subst (AreTold f) is stay.1) in
-          let table_is = schema.ready_at f h folder s earlier has told.0 in
-          let t = tabled f s h folder table_is in
-          let got = text_at laws f s t.entries t.folder declared at id text later scan told.1 in
-          record {
-            files = stay.0;
-            schema = table_is;
-            there = subst (λ (h : History). IsThere f s h (id_of at (count_of h))) (sym t.is) got.0;
-            text = subst (λ (h : History). PrintsScan h at text) (sym t.is) got.1;
-            cause = tt;
-          },
-    )
-scanned_history laws s at (Err refusal) before after declared (own, (earlier, later, has, is, shows), trace) =
-    let may = did_calls s at (Err refusal) own (earlier, later, has, is, shows) in
-    let moment = Traces-first schemas_call own before after may.1 trace in (
-      moment.0,
-      moment.1,
-      λ alone f h had folder.
-          let stay = stayed f own moment.0 after may.0 moment.2 alone had in
-          let told = told_join f earlier later (subst (AreTold f) is stay.1) in
-          let table_is = schema.ready_at f h folder s earlier has told.0 in
-          let t = tabled f s h folder table_is in
-          record {
-            files = stay.0;
-            schema = table_is;
-            there = tt;
-            text = tt;
-            cause = subst (λ (h : History). IsCaused f s h at moment.0 after refusal) (sym t.is)
-                (caused laws f s t.entries t.folder declared at moment.0 after refusal later shows told.1 (rose_after earlier later own moment.0 after is moment.2));
-          },
-    )
+scanned_history laws s at (Ok text) before after declared (own, (earlier, later, has, is, (id, scan)), trace) = λ alone f h had folder.
+    let first = at_first_own before after in
+    let still = did_still s at (Ok text) own (earlier, later, has, is, (id, scan)) in
+    let stay = stayed f own first after still (Traces-first own before after trace) alone had in
+    let told = told_join f earlier later (subst (AreTold f) is stay.1) in
+    let table_is = schema.ready_at f h folder s earlier has told.0 in
+    let t = tabled f s h folder table_is in
+    let got = text_at laws f s t.entries t.folder declared at id text later scan told.1 in
+    record {
+      files = stay.0;
+      schema = table_is;
+      there = subst (λ (h : History). IsThere f s h (id_of at (count_of h))) (sym t.is) got.0;
+      text = subst (λ (h : History). PrintsScan h at text) (sym t.is) got.1;
+      cause = tt;
+    }
+scanned_history laws s at (Err refusal) before after declared (own, (earlier, later, has, is, shows), trace) = λ alone f h had folder.
+    let first = at_first_own before after in
+    let rest = Traces-first own before after trace in
+    let still = did_still s at (Err refusal) own (earlier, later, has, is, shows) in
+    let stay = stayed f own first after still rest alone had in
+    let told = told_join f earlier later (subst (AreTold f) is stay.1) in
+    let table_is = schema.ready_at f h folder s earlier has told.0 in
+    let t = tabled f s h folder table_is in
+    record {
+      files = stay.0;
+      schema = table_is;
+      there = tt;
+      text = tt;
+      cause = subst (λ (h : History). IsCaused f s h at first after refusal) (sym t.is)
+          (caused laws f s t.entries t.folder declared at first after refusal later shows told.1 (rose_after earlier later own first after is rest));
+    }
 
 -- ---- steps in a row
 
@@ -407,14 +396,6 @@ call_left steps.Ready m reaches not = absurd (not reaches)
 -- a scanner that was just made has calls left
 pub first_left : (a : Asked) (m : Phase) → m ≡ phases.View (readers.List a) → 0 < calls_left m
 first_left a m is = subst (λ (m : Phase). 0 < calls_left m) (sym is) (omega arith)
-
--- events came, and then others
-Traces-join : (own more : List Event) (first middle after : StoreView) → Traces own first middle → Traces more middle after → Traces (own ++ more) first after
-Traces-join own [] first middle after trace (meanwhile, later) =
-    subst (λ (events : List Event). Traces events first after) (sym (append-nil own)) (Traces-meanwhile own first middle after trace meanwhile later)
-Traces-join own (event ∷ more) first middle after trace (next, ended, early, rest) =
-    subst (λ (events : List Event). Traces events first after) (append_assoc own (event ∷ []) more)
-    (Traces-join (own ++ event ∷ []) more first next after (Traces-push own event first middle next trace ended early) rest)
 
 -- the calls go on from those that read the schema
 pub went_on : (s : TableSchema) (at : Option ℕ) (result : Result (List ℕ) Refusal) (first middle after : StoreView) → HasTrace (Has s) first middle

@@ -7,9 +7,8 @@ use Rattle.std.specs.Global.{Global}
 use Rattle.pm_base.specs.Faults.{Rose}
 use Rattle.pm_values.specs.declared.refusal.Refusal.{Refusal}
 use Rattle.pm_values.specs.declared.refusal.Refusal.TheVariants as refusals
-use Rattle.pm_store.specs.Answers.{IsFirst}
 use Rattle.pm_store.specs.Files.{Files}
-use Rattle.pm_store.specs.Store.{StoreView, IsAlone}
+use Rattle.pm_store.specs.Store.{StoreView, FromFirst}
 use Rattle.pm_machine.specs.Trace.{Event}
 use Rattle.pm_history.specs.History.{History, IsTableOf, no_table, rows_up_to, table}
 use Rattle.pm_history.specs.Merged.{scan_text}
@@ -18,7 +17,6 @@ use Rattle.pm_folder.specs.Folder.{Folder}
 use Rattle.pm_folder.specs.Ledger.{count_of}
 use Rattle.pm_folder.specs.Paths.{snapshot_path}
 use Rattle.pm_view.specs.AllCalls.{HasFiles, Stay}
-use Rattle.pm_view.specs.Reader.{schemas_call}
 use Rattle.pm_view.specs.Trace as schema
 use Rattle.pm_view.specs.declared.phase.Phase.TheVariants as readers
 use Rattle.pm_table_view.specs.Asked.{Asked, asked_of}
@@ -97,6 +95,5 @@ pub record ScansTable (f : Files) (h : History) (s : TableSchema) (at : Option �
 -- what it promises of histories, from the first call on
 abbrev pub ScansTables : TableSchema → Option ℕ → StoreView → StoreView → Result (List ℕ) Refusal → Type 0
 ScansTables s at before after result =
-    (first : StoreView) × IsFirst schemas_call before first after
-    × (IsAlone first after → (f : Files) (h : History) → HasFiles f first → Folder f h
-    → ScansTable f h s at first after result)
+    FromFirst (λ first after. (f : Files) (h : History) → HasFiles f first → Folder f h
+    → ScansTable f h s at first after result) before after

@@ -6,7 +6,7 @@ use Rattle.pm_base.specs.Faults.{Rose}
 use Rattle.pm_values.specs.declared.refusal.Refusal.{Refusal}
 use Rattle.pm_values.specs.declared.refusal.Refusal.TheVariants as refusals
 use Rattle.pm_store.specs.Files.{Files, IsListing}
-use Rattle.pm_store.specs.Store.{StoreView, IsLater}
+use Rattle.pm_store.specs.Store.{StoreView, IsLater, at_first_own}
 use Rattle.pm_machine.specs.Trace.{Event, Acts, HasTrace, Traces}
 use Rattle.pm_machine.proofs.AloneLaws.{Traces-first}
 use Rattle.pm_machine.proofs.Facts.{HasTrace-acts, Traces-faulted}
@@ -23,7 +23,7 @@ use Rattle.pm_view.specs.AllCalls.{IsCaused}
 use Rattle.pm_view.specs.Reader.{schemas_call, snapshots_call}
 use Rattle.pm_view.specs.Trace.{Names, listed_snapshots}
 use Rattle.pm_view.proofs.AllCallsLemmas as reader
-use Rattle.pm_view.proofs.AllCallsLemmas.{AreCalls, MayCall, calls_more, may_call, list_still, read_still}
+use Rattle.pm_view.proofs.AllCallsLemmas.{calls_more, list_still, read_still}
 use Rattle.pm_view.proofs.StillLemmas.{AreStill, IsTold, AreTold, IsStill, told_last, stayed}
 use Rattle.pm_snapshots.specs.AllCalls.{AreIdsOf, AreLinesOf, GoesOnFrom, DidList, ListsTables}
 use Rattle.pm_snapshots.specs.Ids.{AreIds}
@@ -39,15 +39,11 @@ use Rattle.pm_snapshots.specs.declared.phase.Phase.TheVariants as phases
 use Rattle.pm_snapshots.proofs.Facts.{printed}
 use Rattle.pm_snapshots.proofs.ReadingLemmas.{next_listed}
 
--- ---- its calls change nothing, and the first lists the schemas
+-- ---- its calls change nothing
 
 still_append : (own more : List Event) → AreStill own → AreStill more → AreStill (own ++ more)
 still_append [] more first then = then
 still_append (event ∷ own) more (one, first) then = (one, still_append own more first then)
-
-calls_append : (own more : List Event) → AreCalls own → AreStill more → AreCalls (own ++ more)
-calls_append [] more (still, begins) then = absurd begins
-calls_append (event ∷ own) more (still, begins) then = (still_append (event ∷ own) more still then, begins)
 
 reads_still : (lines : List SnapshotLine) (reads : List Event) → AllZip IsLineOf lines reads → AreStill reads
 reads_still [] [] all = tt
@@ -56,42 +52,42 @@ reads_still (l ∷ lines) [] all = absurd all
 reads_still (l ∷ lines) (event ∷ reads) ((bytes, s, is_s, is_l, is), all) =
     (subst (λ (event : Event). IsStill event.call) (sym is) (read_still (snapshot_path l.id)), reads_still lines reads all)
 
-lists_calls : (s : TableSchema) (names : Names) (own : List Event) → Lists s names own → AreCalls own
+lists_calls : (s : TableSchema) (names : Names) (own : List Event) → Lists s names own → AreStill own
 lists_calls s names own (earlier, has, is) =
-    subst AreCalls (sym is) (calls_more earlier (listed_snapshots names) (reader.ready_calls s earlier has) (list_still snapshot_folder))
+    subst AreStill (sym is) (calls_more earlier (listed_snapshots names) (reader.ready_calls s earlier has) (list_still snapshot_folder))
 
-read_calls : (r : ReadingView) (own : List Event) → HasRead r own → AreCalls own
+read_calls : (r : ReadingView) (own : List Event) → HasRead r own → AreStill own
 read_calls r own (names, earlier, reads, are, reading, lists, all, is) =
-    subst AreCalls (sym is) (calls_append earlier reads (lists_calls r.schema names earlier lists) (reads_still r.lines reads all))
+    subst AreStill (sym is) (still_append earlier reads (lists_calls r.schema names earlier lists) (reads_still r.lines reads all))
 
-listed_calls : (s : TableSchema) (lines : List SnapshotLine) (own : List Event) → HasListed s lines own → AreCalls own
+listed_calls : (s : TableSchema) (lines : List SnapshotLine) (own : List Event) → HasListed s lines own → AreStill own
 listed_calls s lines own (names, earlier, reads, are, lists, all, is) =
-    subst AreCalls (sym is) (calls_append earlier reads (lists_calls s names earlier lists) (reads_still lines reads all))
+    subst AreStill (sym is) (still_append earlier reads (lists_calls s names earlier lists) (reads_still lines reads all))
 
-meets_calls : (r : ReadingView) (id : ℕ) (found : Option (List ℕ)) (own : List Event) → Meets r id found own → AreCalls own
+meets_calls : (r : ReadingView) (id : ℕ) (found : Option (List ℕ)) (own : List Event) → Meets r id found own → AreStill own
 meets_calls r id found own (earlier, has, next, is) =
-    subst AreCalls (sym is) (calls_more earlier (read_snapshot id found) (read_calls r earlier has) (read_still (snapshot_path id)))
+    subst AreStill (sym is) (calls_more earlier (read_snapshot id found) (read_calls r earlier has) (read_still (snapshot_path id)))
 
-ended_calls : (own : List Event) → MayEnd own → MayCall own
+ended_calls : (own : List Event) → MayEnd own → AreStill own
 ended_calls own (of_reader shows) = reader.shows_calls refusals.Memory own shows
-ended_calls own (at_list s has) = may_call own (reader.ready_calls s own has)
-ended_calls own (at_ids s names lists) = may_call own (lists_calls s names own lists)
-ended_calls own (at_read r has) = may_call own (read_calls r own has)
-ended_calls own (at_snapshot r id bytes meets) = may_call own (meets_calls r id (Some bytes) own meets)
+ended_calls own (at_list s has) = reader.ready_calls s own has
+ended_calls own (at_ids s names lists) = lists_calls s names own lists
+ended_calls own (at_read r has) = read_calls r own has
+ended_calls own (at_snapshot r id bytes meets) = meets_calls r id (Some bytes) own meets
 
-failed_calls : (path : List ℕ) (own : List Event) → IsFailed path own → MayCall own
+failed_calls : (path : List ℕ) (own : List Event) → IsFailed path own → AreStill own
 failed_calls path own (in_reader shows) = reader.shows_calls (refusals.StoreFault path) own shows
 failed_calls path own (in_list s earlier has at is) =
-    subst MayCall (sym is) (may_call _ (calls_more earlier _ (reader.ready_calls s earlier has) (list_still snapshot_folder)))
+    subst AreStill (sym is) (calls_more earlier _ (reader.ready_calls s earlier has) (list_still snapshot_folder))
 failed_calls path own (in_read r id earlier has next at is) =
-    subst MayCall (sym is) (may_call _ (calls_more earlier _ (read_calls r earlier has) (read_still (snapshot_path id))))
+    subst AreStill (sym is) (calls_more earlier _ (read_calls r earlier has) (read_still (snapshot_path id)))
 
-shows_calls : (refusal : Refusal) (own : List Event) → Shows refusal own → MayCall own
+shows_calls : (refusal : Refusal) (own : List Event) → Shows refusal own → AreStill own
 shows_calls refusals.Memory own shows = ended_calls own shows
 shows_calls (refusals.StoreFault path) own shows = failed_calls path own shows
-shows_calls (refusals.Expired id) own (r, meets) = may_call own (meets_calls r id None own meets)
+shows_calls (refusals.Expired id) own (r, meets) = meets_calls r id None own meets
 shows_calls (refusals.Damaged path place) own (inl shows) = reader.shows_calls (refusals.Damaged path place) own shows
-shows_calls (refusals.Damaged path place) own (inr (r, id, bytes, at, zero, bad, meets)) = may_call own (meets_calls r id (Some bytes) own meets)
+shows_calls (refusals.Damaged path place) own (inr (r, id, bytes, at, zero, bad, meets)) = meets_calls r id (Some bytes) own meets
 shows_calls other own shows = reader.shows_calls other own shows
 
 -- ---- what they say of the files that each answer is of
@@ -188,25 +184,16 @@ module _ (f : Files) (h : History) (folder : Folder f h) where
 
 pub listed_history : (s : TableSchema) (result : Result Phase Refusal) (before after : StoreView) → HasTrace (DidList s result) before after
     → ListsTables s before after result
-listed_history s (Ok m) before after (own, did, trace) =
-    let may = may_call own (listed_calls s (lines_of m) own did) in
-    let moment = Traces-first schemas_call own before after may.1 trace in (
-      moment.0,
-      moment.1,
-      λ alone f h has folder.
-          let stay = stayed f own moment.0 after may.0 moment.2 alone has in
-          let lists = listed_at f h folder s (lines_of m) own did stay.1 in
-          record { files = stay.0; schema = lists.0; lines = lists.1; cause = tt },
-    )
-listed_history s (Err refusal) before after (own, (from, shows), trace) =
-    let may = shows_calls refusal own shows in
-    let moment = Traces-first schemas_call own before after may.1 trace in (
-      moment.0,
-      moment.1,
-      λ alone f h has folder.
-          let stay = stayed f own moment.0 after may.0 moment.2 alone has in
-          record { files = stay.0; schema = tt; lines = tt; cause = shows_at f h folder moment.0 after refusal own shows stay.1 moment.2 },
-    )
+listed_history s (Ok m) before after (own, did, trace) = λ alone f h has folder.
+    let first = at_first_own before after in
+    let stay = stayed f own first after (listed_calls s (lines_of m) own did) (Traces-first own before after trace) alone has in
+    let lists = listed_at f h folder s (lines_of m) own did stay.1 in
+    record { files = stay.0; schema = lists.0; lines = lists.1; cause = tt }
+listed_history s (Err refusal) before after (own, (from, shows), trace) = λ alone f h has folder.
+    let first = at_first_own before after in
+    let rest = Traces-first own before after trace in
+    let stay = stayed f own first after (shows_calls refusal own shows) rest alone has in
+    record { files = stay.0; schema = tt; lines = tt; cause = shows_at f h folder first after refusal own shows stay.1 rest }
 
 -- ---- steps in a row
 

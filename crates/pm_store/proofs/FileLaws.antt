@@ -15,7 +15,7 @@ use Rattle.pm_store.specs.declared.call.Effect.{Effect}
 use Rattle.pm_store.specs.declared.call.Effect.TheVariants as effects
 use Rattle.pm_store.specs.declared.call.Op.{Op}
 use Rattle.pm_store.specs.Files.{Files, is_same, carried, cut, after_effect, after_op, after_from, files_after, file_at}
-use Rattle.pm_store.specs.Answers.{whole}
+use Rattle.pm_store.specs.Store.{whole}
 use Rattle.pm_store.specs.Images.{MayLeave, HasEffect}
 
 pub after_from-append : (files : Files) (ops more : List Op) → after_from files (ops ++ more) ≡ after_from (after_from files ops) more

@@ -3,4 +3,5 @@ pub mod FileLaws
 pub mod ChangeLaws
 pub mod ImageLaws
 mod NameLaws
+mod PlanLaws
 pub mod StepLaws

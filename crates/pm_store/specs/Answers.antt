@@ -1,6 +1,5 @@
 -- What the answers of a store's calls say.
-use Rattle.std.specs.Prelude.{◌≡◌, ◌≢◌, ◌⊎◌, ◌≤◌, ℕ, ◌+◌, List, [], ◌∷◌, ◌++◌, length, Option, None, Some, Result, Ok}
-use Rattle.std.specs.Prelude.{Err}
+use Rattle.std.specs.Prelude.{◌≡◌, ◌≢◌, ℕ, List, Option, None, Some, Result, Ok, Err}
 use Rattle.std.specs.Cmp.Lexicographic.{slice_cmp}
 use Rattle.std.specs.FinMap as map
 use Rattle.std.specs.List.Sorted.{IsStrictlySortedBy}
@@ -20,15 +19,10 @@ use Rattle.pm_store.specs.declared.call.Call.{Call}
 use Rattle.pm_store.specs.declared.call.Call.TheVariants as calls
 use Rattle.pm_store.specs.declared.call.Effect.{Effect}
 use Rattle.pm_store.specs.declared.call.Effect.TheVariants as effects
-use Rattle.pm_store.specs.declared.call.Op.{Op}
 use Rattle.pm_store.specs.declared.store.StoreFail.{StoreFail}
 use Rattle.pm_store.specs.declared.store.StoreFail.TheVariants.{Memory, Failed}
 use Rattle.pm_store.specs.Files.{Files, files_after, IsListing, Puts}
-use Rattle.pm_store.specs.Store.{StoreView, IsLater}
-
--- the call, carried out whole
-abbrev pub whole : Call → Op
-whole call = record { call = call; effect = effects.Whole }
+use Rattle.pm_store.specs.Store.{StoreView, Meanwhile, Steps, own_op, whole}
 
 -- what a create answers at a path with this content
 abbrev pub made_at : Option (List ℕ) → Made
@@ -90,31 +84,11 @@ MayHave (calls.Create path bytes) (effects.Part found) files = map.get files pat
 MayHave call (effects.Part found) files = ⊥
 MayHave call effect files = Unit {0}
 
--- Others' operations came since, as many as their count rose by, and none by this handle. Where none are known, none
--- come to be known.
-abbrev pub CameBetween : Option (List Op) → ℕ → StoreView → Type 0
-CameBetween None count after = after.ops ≡ None
-CameBetween (Some ops) count after =
-    (others : List Op) × (after.ops ≡ Some (ops ++ others)) × (after.others ≡ count + length others)
-
-abbrev pub Meanwhile : StoreView → StoreView → Type 0
-Meanwhile before after = CameBetween before.ops before.others after
-
--- One operation came by this handle, after those of others meanwhile; what is known up to it has P.
-abbrev pub CameAfter : Op → (List Op → Type 0) → Option (List Op) → ℕ → StoreView → Type 0
-CameAfter op P None count after = after.ops ≡ None
-CameAfter op P (Some ops) count after =
-    (others : List Op) × (after.ops ≡ Some ((ops ++ others) ++ op ∷ [])) × (after.others ≡ count + length others)
-    × P (ops ++ others)
-
-abbrev pub Steps : Op → (List Op → Type 0) → StoreView → StoreView → Type 0
-Steps op P before after = CameAfter op P before.ops before.others after
-
 -- the call came as an operation with some effect that it may have
 abbrev pub StepsInPart : Call → StoreView → StoreView → Type 0
 StepsInPart call before after =
     (effect : Effect)
-    × Steps (record { call = call; effect = effect }) (λ ops. MayHave call effect (files_after ops)) before after
+    × Steps (own_op call effect) (λ ops. MayHave call effect (files_after ops)) before after
 
 -- What a call says, its answer seen by view: it came as one operation, and its answer is that of the files before it. A
 -- fault leaves open how much of it was carried out, and its count rose; out of memory, it was not made.
@@ -123,18 +97,3 @@ Tells call view before after (Ok x) =
     Steps (whole call) (λ ops. Answers call (view x) (files_after ops)) before after × MayAnswer call (view x)
 Tells call view before after (Err Failed) = StepsInPart call before after × Rose before.faults after.faults
 Tells call view before after (Err Memory) = Meanwhile before after
-
--- After these operations the call came, whole or not, or nothing did.
-abbrev pub GoesOnWith : Call → Option (List Op) → Option (List Op) → Type 0
-GoesOnWith call None after = Unit {0}
-GoesOnWith call (Some ops) after =
-    (after ≡ Some ops)
-    ⊎ ((effect : Effect) × (more : List Op) × (after ≡ Some (ops ++ record { call = call; effect = effect } ∷ more)))
-
--- The moment of a command's first call: others alone acted up to it, no more of them than are counted at the end, and
--- this call came right after it, or none did.
-pub record IsFirst (call : Call) (before first after : StoreView) : Type 0 where
-  pub meanwhile : Meanwhile before first
-  pub faults : before.faults ≤ first.faults
-  pub later : IsLater first after
-  pub goes_on : GoesOnWith call first.ops after.ops

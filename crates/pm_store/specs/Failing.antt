@@ -13,7 +13,7 @@ use Rattle.pm_store.specs.declared.failing.Planned.{Planned}
 use Rattle.pm_store.specs.declared.store.StoreFail.{StoreFail}
 use Rattle.pm_store.specs.declared.store.StoreFail.TheVariants.{Memory, Failed}
 use Rattle.pm_store.specs.Files.{Files, files_after}
-use Rattle.pm_store.specs.Store.{StoreView}
+use Rattle.pm_store.specs.Store.{StoreView, own_op}
 
 -- its operations, the calls that are to fail, and the calls and the faults so far
 pub record FailView : Type 0 where
@@ -24,7 +24,7 @@ pub record FailView : Type 0 where
 
 -- what contracts of a store see of it: nobody else uses it
 abbrev pub fail_seen : FailView → StoreView
-fail_seen view = record { ops = Some view.ops; others = 0; faults = view.faults }
+fail_seen view = record { ops = Some view.ops; faults = view.faults }
 
 -- the effect that is planned of the call with a number: the first one that the plan has
 abbrev pub planned_at : ℕ → List Planned → Option Effect
@@ -46,7 +46,7 @@ FollowsPlan call before after (Ok x) =
 FollowsPlan call before after (Err Failed) =
     (after.plan ≡ before.plan) × (after.calls ≡ one_more before.calls)
     × ((effect : Effect) × (planned_at (one_more before.calls) before.plan ≡ Some effect)
-    × (after.ops ≡ before.ops ++ record { call = call; effect = allowed call effect (files_after before.ops) } ∷ []))
+    × (after.ops ≡ before.ops ++ own_op call (allowed call effect (files_after before.ops)) ∷ []))
     × (after.faults ≡ one_more before.faults)
 FollowsPlan call before after (Err Memory) =
     (after.plan ≡ before.plan) × (after.ops ≡ before.ops) × (after.faults ≡ before.faults)

@@ -1,11 +1,12 @@
 -- What a crash may leave of the files.
-use Rattle.std.specs.Prelude.{◌≡◌, ◌⊎◌, ◌≤◌, ℕ, List, ◌++◌, length, take, Option, None, Some, IsSomeAnd, slice_get}
+use Rattle.std.specs.Prelude.{◌≡◌, ◌⊎◌, ◌≤◌, ℕ, List, ◌++◌, length, take, Option, None, IsSomeAnd, slice_get}
 use Rattle.std.specs.FinMap as map
 use Rattle.pm_store.specs.declared.call.Call.{Call}
 use Rattle.pm_store.specs.declared.call.Call.TheVariants as calls
 use Rattle.pm_store.specs.declared.call.Effect.{Effect}
 use Rattle.pm_store.specs.declared.call.Op.{Op}
 use Rattle.pm_store.specs.Files.{Files, after_effect, carried, files_after}
+use Rattle.pm_store.specs.Store.{Came}
 
 -- What a stop within a call may leave. A create of an absent path leaves it absent or with any bytes, and
 -- any other call is carried out whole or not at all.
@@ -29,5 +30,4 @@ AllImages P n ops = (i : ℕ) (f : Files) → n ≤ i → CrashImage ops i f →
 
 -- Operations came since, and each crash image from then on has P. Where none are told, none come to be told.
 abbrev pub Extends : (Files → Type 0) → Option (List Op) → Option (List Op) → Type 0
-Extends P None new = new ≡ None
-Extends P (Some old) new = (more : List Op) × (new ≡ Some (old ++ more)) × AllImages P (length old) (old ++ more)
+Extends P before after = Came (λ ops more. AllImages P (length ops) (ops ++ more)) before after

@@ -140,23 +140,32 @@ impl Effect {
     }
 }
 
-/// A call that was made, with its effect.
+/// A call that was made, with its effect: by the handle of the store that tells of it, or by another.
 #[derive(Drop)]
 pub struct Op {
     pub call: Call,
     pub effect: Effect,
+    pub is_own: bool,
 }
 
 impl Op {
-    ghost use Rattle.pm_store.specs.Answers.{whole};
+    ghost use Rattle.pm_store.specs.Store.{own_op, whole};
 
-    /// A call that was carried out whole.
-    pub fn whole(call: Call) -> Op
-        ensures { result ≡ whole call }
+    /// An own call with an effect.
+    pub fn own(call: Call, effect: Effect) -> Op
+        ensures { result ≡ own_op call effect }
     {
         Op {
             call,
-            effect: Effect::Whole,
+            effect,
+            is_own: true,
         }
+    }
+
+    /// An own call that was carried out whole.
+    pub fn whole(call: Call) -> Op
+        ensures { result ≡ whole call }
+    {
+        Op::own(call, Effect::Whole)
     }
 }

@@ -1,6 +1,7 @@
 //! A store in memory that fails at planned calls.
 
-ghost use Rattle.std.specs.Prelude.{◌≡◌, [], IfOk};
+ghost use Rattle.std.specs.Prelude.{◌≡◌, ◌≤◌, [], IfOk};
+ghost use Rattle.pm_base.specs.Faults.{one_more};
 ghost use Rattle.std.specs.Option.{option_copied};
 ghost use Rattle.pm_store.specs.declared.answer.Answer.TheVariants as answers;
 ghost use Rattle.pm_store.specs.declared.call.Call.TheVariants as calls;
@@ -85,13 +86,21 @@ impl FailStore {
         match planned_at(alloc, self.calls, &self.plan)? {
             Some(effect) => {
                 let effect = self.store.allowed(&call, effect);
-                self.store.record(alloc, Op { call, effect })?;
-                self.faults = self.faults.saturating_add(1);
+                self.store.record(alloc, Op::own(call, effect))?;
+                self.faults = raised(self.faults);
                 Err(StoreFail::Failed)
             }
             None => Ok(self.store.make(alloc, call)?),
         }
     }
+}
+
+/// A count of faults after one more.
+fn raised(faults: u64) -> u64
+    ensures is { result ≡ one_more faults }
+    ensures later { faults ≤ result }
+{
+    faults.saturating_add(1)
 }
 
 /// The effect that is planned of the call with a number.

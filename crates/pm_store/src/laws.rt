@@ -1,14 +1,15 @@
 //! Laws of the definitions, which hold of every store.
 
-ghost use Rattle.std.specs.Prelude.{◌≡◌, ◌≢◌, ◌↔◌, ◌⊎◌, ℕ, List, [], ◌∷◌, ◌++◌, take, Option, Some, IsSomeAnd};
+ghost use Rattle.std.specs.Prelude.{◌≡◌, ◌≢◌, ◌↔◌, ◌⊎◌, ℕ, List, [], ◌∷◌, ◌++◌, take, Option, Some, IsSomeAnd, true};
 ghost use Rattle.std.specs.Prelude.{slice_get};
 ghost use Rattle.pm_store.specs.declared.answer.Answer.{Answer};
 ghost use Rattle.pm_store.specs.declared.call.Call.{Call};
 ghost use Rattle.pm_store.specs.declared.call.Call.TheVariants as calls;
 ghost use Rattle.pm_store.specs.declared.call.Op.{Op};
-ghost use Rattle.pm_store.specs.Answers.{whole, Answers, Changed};
+ghost use Rattle.pm_store.specs.Answers.{Answers, Changed};
 ghost use Rattle.pm_store.specs.Files.{Files, carried, file_at, files_after};
 ghost use Rattle.pm_store.specs.Images.{MayLeave, HasEffect, CrashImage};
+ghost use Rattle.pm_store.specs.Store.{StoreView, GoesOn, Meanwhile, Steps, at_first_own, whole};
 
 /// What a stop within a call may leave is what one of the call's effects leaves, and nothing else.
 pub fn stops_are_effects_law()
@@ -38,4 +39,14 @@ pub fn swaps_write_one_path_law()
         → files_after (ops ++ whole (calls.Swap path expected bytes) ∷ []) ≡ files_after ops }
     ensures others { (ops : List Op) (path : List ℕ) (expected : Option (List ℕ)) (bytes other : List ℕ) →
         other ≢ path → file_at (ops ++ whole (calls.Swap path expected bytes) ∷ []) other ≡ file_at ops other }
+{}
+
+/// Others alone act up to the first own operation, which comes right then, whatever comes later.
+pub fn first_own_law()
+    ensures meanwhile { (op : Op) (before middle after : StoreView) → op.is_own ≡ true →
+        Steps op (λ ops. Unit {0}) before middle → GoesOn middle after → Meanwhile before (at_first_own before after) }
+    ensures step { (op : Op) (before middle after : StoreView) → op.is_own ≡ true →
+        Steps op (λ ops. Unit {0}) before middle → GoesOn middle after →
+        Steps op (λ ops. Unit {0}) (at_first_own before after) middle }
+    ensures none { (before after : StoreView) → Meanwhile before after → (at_first_own before after).ops ≡ after.ops }
 {}

@@ -20,7 +20,7 @@ pub use call::{Call, CallKind, Effect, Op};
 pub use dispatch::perform;
 pub use failing::{FailStore, Planned};
 pub use laws::{
-    answers_tell_changes_law, images_are_effects_law, stops_are_effects_law,
+    answers_tell_changes_law, first_own_law, images_are_effects_law, stops_are_effects_law,
     swaps_write_one_path_law,
 };
 pub use memory::MemStore;

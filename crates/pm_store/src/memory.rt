@@ -1,9 +1,10 @@
 //! A store in memory, which keeps all its operations.
 
 ghost use Rattle.std.specs.Prelude.{◌≡◌, [], ◌∷◌, ◌++◌, Some, OnOk, OnErr, IfOk};
-ghost use Rattle.pm_store.specs.Answers.{whole, Answers, MayAnswer};
+ghost use Rattle.pm_store.specs.Answers.{Answers, MayAnswer};
 ghost use Rattle.pm_store.specs.Failing.{allowed};
 ghost use Rattle.pm_store.specs.Files.{files_after};
+ghost use Rattle.pm_store.specs.Store.{IsLater, mem_seen, whole};
 
 use crate::files::FileMap;
 use crate::{Answer, Call, Effect, FileStore, Made, Op, Published, Removed, StoreFail, Swapped};
@@ -93,6 +94,7 @@ impl MemStore {
         ensures answer { IfOk result (λ answer. Answers call answer (files_after self.old)) }
         ensures may { IfOk result (λ answer. MayAnswer call answer) }
         ensures err { OnErr result (self.new ≡ self.old) }
+        ensures later { IsLater (mem_seen self.old) (mem_seen self.new) }
     {
         let answer = self.answer(alloc, &call)?;
         self.record(alloc, Op::whole(call))?;
@@ -101,7 +103,7 @@ impl MemStore {
 }
 
 impl FileStore for MemStore {
-    ghost seen = { λ m. record { ops = Some m; others = 0; faults = 0 } };
+    ghost seen = { mem_seen };
 
     fn list(&mut self, alloc: Global, folder: &str) -> Result<Vec<Txt>, StoreFail> {
         match self.make(alloc, Call::list(alloc, folder)?)? {

@@ -50,12 +50,13 @@ impl From<io::Error> for StoreFail {
 
 /// Files by their paths. A path is relative, and its folders end at each `/`; the folder of the store
 /// itself has the empty path. Each call is one atomic step, and what it answered outlives a crash: a change
-/// that succeeded, as well as what a read or a list found.
+/// that succeeded, as well as what a read or a list found. From a loss of power a store may except files that are
+/// reached only by their names in other files, until the next change elsewhere was answered.
 pub trait FileStore {
     ghost use Rattle.pm_store.specs.Answers.{Tells};
     ghost use Rattle.pm_store.specs.Store.{StoreView, IsLater};
 
-    /// Its operations, how many of them others had, and how often a call failed.
+    /// Its operations, each its own or another's, and how often a call failed.
     ghost seen: { Self → StoreView };
 
     /// What stands right in a folder, files and folders alike, by name and in the order of the names' bytes. Of a

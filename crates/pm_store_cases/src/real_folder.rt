@@ -15,7 +15,11 @@ pub fn answer(rt: &HostRuntime, case: &mut Case, codec: &str, folder: &str, rest
 }
 
 /// A store of the folder; none where it can't be opened.
-fn open(rt: &HostRuntime, case: &mut Case, folder: &str) -> Option<FolderStore<System<HostRuntime>>> {
+fn open(
+    rt: &HostRuntime,
+    case: &mut Case,
+    folder: &str,
+) -> Option<FolderStore<System<HostRuntime>>> {
     let alloc = case.alloc();
     match rt.clone() {
         Ok(runtime) => FolderStore::open(alloc, System::new(runtime), folder).ok(),

@@ -74,8 +74,8 @@ impl Write for Narrow<'_> {
 }
 
 /// The lines of a source: `memory`, whose read of that number fails, or a reader as many of whose calls as the number
-/// are `interrupted` or `broken`, the first ones, or after `@` and a number those after so many bytes. Then the number, the
-/// greatest length of a line, and a text with `/` for each newline.
+/// are `interrupted` or `broken`, the first ones, or after `@` and a number those after so many bytes. Then the number,
+/// the greatest length of a line, and a text with `/` for each newline.
 pub fn source_answer(case: &mut Case, arguments: &str) {
     let (kind, rest) = case.split(arguments);
     let (number, rest) = case.split(rest);
@@ -160,8 +160,8 @@ fn say_line(case: &mut Case, line: Line) {
 }
 
 /// What a sink takes of a text, and whether that was all: `memory` with so much room whose write of the number fails,
-/// or a writer that after so many bytes is `broken`, `interrupted` or `full`, for as many calls as the number, and for 0
-/// from then on. Then the room, the number, and the text.
+/// or a writer that after so many bytes is `broken`, `interrupted` or `full`, for as many calls as the number, and for
+/// 0 from then on. Then the room, the number, and the text.
 pub fn sink_answer(case: &mut Case, arguments: &str) {
     let (kind, rest) = case.split(arguments);
     let (room, rest) = case.split(rest);

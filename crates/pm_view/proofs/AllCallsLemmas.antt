@@ -8,9 +8,9 @@ use Rattle.pm_values.specs.declared.refusal.Refusal.TheVariants as refusals
 use Rattle.pm_store.specs.declared.answer.Answer.TheVariants as answers
 use Rattle.pm_store.specs.declared.call.Call.TheVariants as calls
 use Rattle.pm_store.specs.Files.{Files}
-use Rattle.pm_store.specs.Store.{StoreView, IsLater}
+use Rattle.pm_store.specs.Store.{StoreView, IsLater, at_first_own}
 use Rattle.pm_machine.specs.Trace.{Event, HasTrace, Traces}
-use Rattle.pm_machine.proofs.AloneLaws.{StartsWith, Traces-first}
+use Rattle.pm_machine.proofs.AloneLaws.{Traces-first}
 use Rattle.pm_machine.proofs.Facts.{HasTrace-acts, Traces-faulted, Traces-none}
 use Rattle.pm_history.specs.History.{History, IsTableOf}
 use Rattle.pm_schema.specs.declared.schema.TableSchema.{TableSchema}
@@ -27,7 +27,7 @@ use Rattle.pm_view.specs.declared.reader.SchemaStep.TheVariants as steps
 use Rattle.pm_view.proofs.Facts.{list_effect, read_effect, own_schema, cause_at}
 use Rattle.pm_view.proofs.StillLemmas.{IsStill, AreStill, IsTold, AreTold, told_last, stayed}
 
--- ---- its calls change nothing, and the first lists the schemas
+-- ---- its calls change nothing
 
 pub list_still : (folder : List ℕ) → IsStill (calls.List folder)
 list_still folder = λ f effect. list_effect folder effect f
@@ -35,70 +35,60 @@ list_still folder = λ f effect. list_effect folder effect f
 pub read_still : (path : List ℕ) → IsStill (calls.Read path)
 read_still path = λ f effect. read_effect path effect f
 
-abbrev Begins : List Event → Type 0
-Begins [] = ⊥
-Begins (event ∷ own) = event.call ≡ schemas_call
+pub calls_more : (own : List Event) (event : Event) → AreStill own → IsStill event.call → AreStill (own ++ event ∷ [])
+calls_more own event still one = AllByRecursion-push (λ (event : Event). IsStill event.call) own event still one
 
-abbrev pub AreCalls : List Event → Type 0
-AreCalls own = AreStill own × Begins own
+lists_calls : (id : ℕ) (own : List Event) → Lists id own → AreStill own
+lists_calls id own (names, newest, is) = subst AreStill (sym is) (list_still schema_folder, tt)
 
-begins_more : (own : List Event) (event : Event) → Begins own → Begins (own ++ event ∷ [])
-begins_more [] event begins = absurd begins
-begins_more (first ∷ own) event begins = begins
-
-pub calls_more : (own : List Event) (event : Event) → AreCalls own → IsStill event.call → AreCalls (own ++ event ∷ [])
-calls_more own event (still, begins) one = (AllByRecursion-push (λ (event : Event). IsStill event.call) own event still one, begins_more own event begins)
-
--- some of them, or none
-abbrev pub MayCall : List Event → Type 0
-MayCall own = AreStill own × StartsWith schemas_call own
-
-pub may_call : (own : List Event) → AreCalls own → MayCall own
-may_call [] (still, begins) = absurd begins
-may_call (event ∷ own) (still, begins) = (still, begins)
-
-lists_calls : (id : ℕ) (own : List Event) → Lists id own → AreCalls own
-lists_calls id own (names, newest, is) = subst AreCalls (sym is) ((list_still schema_folder, tt), refl)
-
-reads_calls : (id : ℕ) (found : Option (List ℕ)) (own : List Event) → Reads id found own → AreCalls own
+reads_calls : (id : ℕ) (found : Option (List ℕ)) (own : List Event) → Reads id found own → AreStill own
 reads_calls id found own (earlier, lists, is) =
-    subst AreCalls (sym is) (calls_more earlier (read_schema id found) (lists_calls id earlier lists) (read_still (schema_path id)))
+    subst AreStill (sym is) (calls_more earlier (read_schema id found) (lists_calls id earlier lists) (read_still (schema_path id)))
 
-has_calls : (s : TableSchema) (own : List Event) → Has s own → AreCalls own
+has_calls : (s : TableSchema) (own : List Event) → Has s own → AreStill own
 has_calls s own (id, bytes, reads, did) = reads_calls id (Some bytes) own did
 
-looks_calls : (s : TableSchema) (names : Names) (own : List Event) → Looks s names own → AreCalls own
+looks_calls : (s : TableSchema) (names : Names) (own : List Event) → Looks s names own → AreStill own
 looks_calls s names own (earlier, has, none, is) =
-    subst AreCalls (sym is) (calls_more earlier (listed_snapshots names) (has_calls s earlier has) (list_still snapshot_folder))
+    subst AreStill (sym is) (calls_more earlier (listed_snapshots names) (has_calls s earlier has) (list_still snapshot_folder))
 
-pub ready_calls : (s : TableSchema) (own : List Event) → Did (phases.Ready s) own → AreCalls own
+pub ready_calls : (s : TableSchema) (own : List Event) → Did (phases.Ready s) own → AreStill own
 ready_calls s own (inl (has, some)) = has_calls s own has
 ready_calls s own (inr (names, some, looks)) = looks_calls s names own looks
 
-misreads_calls : (refusal : Refusal) (own : List Event) → Misreads refusal own → MayCall own
-misreads_calls refusal own (id, bytes, is, did) = may_call own (reads_calls id (Some bytes) own did)
+-- there are some
+not_pushed : (own : List Event) (event : Event) → [] ≡ own ++ event ∷ [] → ⊥
+not_pushed [] event e = cc
+not_pushed (first ∷ own) event e = cc
 
-lacks_calls : (own : List Event) → LacksOrigin own → MayCall own
-lacks_calls own (s, names, none, looks) = may_call own (looks_calls s names own looks)
+pub ready_some : (s : TableSchema) → Did (phases.Ready s) [] → ⊥
+ready_some s (inl ((id, bytes, reads, (earlier, lists, is)), some)) = not_pushed earlier (read_schema id (Some bytes)) is
+ready_some s (inr (names, some, (earlier, has, none, is))) = not_pushed earlier (listed_snapshots names) is
 
-ended_calls : (own : List Event) → MayEnd own → MayCall own
-ended_calls own (at_first is) = subst MayCall (sym is) (tt, tt)
-ended_calls own (at_schemas id lists) = may_call own (lists_calls id own lists)
-ended_calls own (at_schema id found reads) = may_call own (reads_calls id found own reads)
+misreads_calls : (refusal : Refusal) (own : List Event) → Misreads refusal own → AreStill own
+misreads_calls refusal own (id, bytes, is, did) = reads_calls id (Some bytes) own did
+
+lacks_calls : (own : List Event) → LacksOrigin own → AreStill own
+lacks_calls own (s, names, none, looks) = looks_calls s names own looks
+
+ended_calls : (own : List Event) → MayEnd own → AreStill own
+ended_calls own (at_first is) = subst AreStill (sym is) tt
+ended_calls own (at_schemas id lists) = lists_calls id own lists
+ended_calls own (at_schema id found reads) = reads_calls id found own reads
 ended_calls own (at_snapshots lacks) = lacks_calls own lacks
 
-failed_calls : (path : List ℕ) (own : List Event) → IsFailed path own → MayCall own
-failed_calls path own (in_schemas at is) = subst MayCall (sym is) ((list_still schema_folder, tt), refl)
+failed_calls : (path : List ℕ) (own : List Event) → IsFailed path own → AreStill own
+failed_calls path own (in_schemas at is) = subst AreStill (sym is) (list_still schema_folder, tt)
 failed_calls path own (in_schema id earlier lists at is) =
-    subst MayCall (sym is) (may_call _ (calls_more earlier _ (lists_calls id earlier lists) (read_still (schema_path id))))
+    subst AreStill (sym is) (calls_more earlier _ (lists_calls id earlier lists) (read_still (schema_path id)))
 failed_calls path own (in_snapshots s earlier has none at is) =
-    subst MayCall (sym is) (may_call _ (calls_more earlier _ (has_calls s earlier has) (list_still snapshot_folder)))
+    subst AreStill (sym is) (calls_more earlier _ (has_calls s earlier has) (list_still snapshot_folder))
 
-pub shows_calls : (refusal : Refusal) (own : List Event) → Shows refusal own → MayCall own
+pub shows_calls : (refusal : Refusal) (own : List Event) → Shows refusal own → AreStill own
 shows_calls refusals.Memory own shows = ended_calls own shows
-shows_calls refusals.NoTable own (names, none, is) = subst MayCall (sym is) ((list_still schema_folder, tt), refl)
+shows_calls refusals.NoTable own (names, none, is) = subst AreStill (sym is) (list_still schema_folder, tt)
 shows_calls (refusals.StoreFault path) own shows = failed_calls path own shows
-shows_calls (refusals.Damaged path place) own (inl (id, at, zero, did)) = may_call own (reads_calls id None own did)
+shows_calls (refusals.Damaged path place) own (inl (id, at, zero, did)) = reads_calls id None own did
 shows_calls (refusals.Damaged path place) own (inr misreads) = misreads_calls (refusals.Damaged path place) own misreads
 shows_calls (refusals.Unsupported what text) own (inl (what_is, text_is, lacks)) = lacks_calls own lacks
 shows_calls (refusals.Unsupported what text) own (inr misreads) = misreads_calls (refusals.Unsupported what text) own misreads
@@ -174,24 +164,15 @@ module _ (f : Files) (h : History) (folder : Folder f h) where
 
 pub read_history : (result : Result TableSchema Refusal) (before after : StoreView) → HasTrace (DidRead result) before after
     → ReadsTables before after result
-read_history (Ok s) before after (own, did, trace) =
-    let may = may_call own (ready_calls s own did) in
-    let moment = Traces-first schemas_call own before after may.1 trace in (
-      moment.0,
-      moment.1,
-      λ alone f h has folder.
-          let stay = stayed f own moment.0 after may.0 moment.2 alone has in
-          record { files = stay.0; schema = ready_at f h folder s own did stay.1; cause = tt },
-    )
-read_history (Err refusal) before after (own, shows, trace) =
-    let may = shows_calls refusal own shows in
-    let moment = Traces-first schemas_call own before after may.1 trace in (
-      moment.0,
-      moment.1,
-      λ alone f h has folder.
-          let stay = stayed f own moment.0 after may.0 moment.2 alone has in
-          record { files = stay.0; schema = tt; cause = shows_at f h folder moment.0 after refusal own shows stay.1 moment.2 },
-    )
+read_history (Ok s) before after (own, did, trace) = λ alone f h has folder.
+    let first = at_first_own before after in
+    let stay = stayed f own first after (ready_calls s own did) (Traces-first own before after trace) alone has in
+    record { files = stay.0; schema = ready_at f h folder s own did stay.1; cause = tt }
+read_history (Err refusal) before after (own, shows, trace) = λ alone f h has folder.
+    let first = at_first_own before after in
+    let rest = Traces-first own before after trace in
+    let stay = stayed f own first after (shows_calls refusal own shows) rest alone has in
+    record { files = stay.0; schema = tt; cause = shows_at f h folder first after refusal own shows stay.1 rest }
 
 -- ---- steps in a row
 

@@ -6,11 +6,12 @@ use Rattle.pm_store.specs.declared.call.Call.{Call}
 use Rattle.pm_store.specs.declared.call.Effect.{Effect}
 use Rattle.pm_store.specs.declared.call.Effect.TheVariants as effects
 use Rattle.pm_store.specs.declared.call.Op.{Op}
-use Rattle.pm_store.specs.Answers.{whole, Answers, MayHave}
+use Rattle.pm_store.specs.Answers.{Answers, MayHave}
 use Rattle.pm_store.specs.Files.{Files, after_effect, files_after}
 use Rattle.pm_store.specs.Images.{Extends, MayLeave}
-use Rattle.pm_store.specs.Store.{StoreView, IsAlone}
+use Rattle.pm_store.specs.Store.{StoreView, IsAlone, own_op, whole}
 use Rattle.pm_store.proofs.FileLaws.{effect_left}
+use Rattle.pm_store.proofs.StepLaws.{alone_parts}
 use Rattle.pm_machine.specs.Trace.{Event, Ended, Traces}
 use Rattle.pm_machine.proofs.AloneLaws.{Traces-later, Follows, Follows-first, Follows-meanwhile, Follows-steps}
 use Rattle.pm_view.specs.AllCalls.{HasFiles, Stay}
@@ -45,31 +46,31 @@ image_same f call g image still same left =
     had.1 ∙ still g had.0 ∙ same
 
 one_event : (f : Files) (known : Option (List Op)) (call : Call) (answer : Option Answer) (before middle : StoreView) → IsStill call
-    → Ended call answer before middle → middle.others ≤ before.others → Follows (Is f) known before (Is f)
+    → Ended call answer before middle → IsAlone before middle → Follows (Is f) known before (Is f)
     → Follows (Is f) known middle (Is f) × IfSome answer (λ answer. Answers call answer f)
-one_event f known call (Some answer) before middle still (steps, may) within so =
+one_event f known call (Some answer) before middle still (steps, may) alone so =
     let Told : Files → Type 0 = λ g. (g ≡ f) × Answers call answer f in
-    let came = Follows-steps (Is f) (Is f) Told known (whole call) (λ ops. Answers call answer (files_after ops)) before middle so steps within
+    let came = Follows-steps (Is f) (Is f) Told known (whole call) (λ ops. Answers call answer (files_after ops)) before middle so steps alone
     (λ ops here told. (
       (still (files_after ops) effects.Whole ∙ here, subst (λ (g : Files). Answers call answer g) here told),
       λ image left. image_same f call (files_after ops) image still here left,
     )) in
     (record { ops = came.ops; is = came.is; here = came.here.0; images = came.images }, came.here.1)
-one_event f known call None before middle still ((effect, steps), rose) within so =
-    let op : Op = record { call = call; effect = effect } in (
-      Follows-steps (Is f) (Is f) (Is f) known op (λ ops. MayHave call effect (files_after ops)) before middle so steps within
+one_event f known call None before middle still ((effect, steps), rose) alone so =
+    let op : Op = own_op call effect in (
+      Follows-steps (Is f) (Is f) (Is f) known op (λ ops. MayHave call effect (files_after ops)) before middle so steps alone
           (λ ops here may. (still (files_after ops) effect ∙ here, λ image left. image_same f call (files_after ops) image still here left)),
       tt,
     )
 
 all_events : (f : Files) (known : Option (List Op)) (own : List Event) (before after : StoreView) → AreStill own → Traces own before after
-    → after.others ≤ before.others → Follows (Is f) known before (Is f) → Follows (Is f) known after (Is f) × AreTold f own
-all_events f known [] before after still (meanwhile, later) within so =
-    (Follows-meanwhile (Is f) (Is f) known before after so meanwhile within, tt)
-all_events f known (event ∷ own) before after still (middle, ended, early, rest) within so =
-    let late = Traces-later own middle after rest in
-    let here = one_event f known event.call event.answer before middle still.0 ended (omega (arith, within, late.others)) so in
-    let more = all_events f known own middle after still.1 rest (omega (arith, within, early.others)) here.0 in
+    → IsAlone before after → Follows (Is f) known before (Is f) → Follows (Is f) known after (Is f) × AreTold f own
+all_events f known [] before after still (meanwhile, later) alone so =
+    (Follows-meanwhile (Is f) (Is f) known before after so meanwhile alone, tt)
+all_events f known (event ∷ own) before after still (middle, ended, early, rest) alone so =
+    let parts = alone_parts before middle after early (Traces-later own middle after rest) alone in
+    let here = one_event f known event.call event.answer before middle still.0 ended parts.0 so in
+    let more = all_events f known own middle after still.1 rest parts.1 here.0 in
     (more.0, (here.1, more.1))
 
 same_twice : (f : Files) (known : Option (List Op)) → IsSomeAnd known (λ ops. files_after ops ≡ f)
@@ -81,7 +82,7 @@ pub stayed : (f : Files) (own : List Event) (first after : StoreView) → AreSti
     → HasFiles f first → Stay f first after × AreTold f own
 stayed f own first after still trace alone has =
     let begun = Follows-first (Is f) (Is f) first first.ops refl (same_twice f first.ops has) in
-    let so = all_events f first.ops own first after still trace (omega (arith, alone)) begun in (
+    let so = all_events f first.ops own first after still trace alone begun in (
       record {
         here = subst (λ (known : Option (List Op)). IsSomeAnd known (λ ops. files_after ops ≡ f)) (sym so.0.is) so.0.here;
         images = subst (λ (known : Option (List Op)). Extends (Is f) first.ops known) (sym so.0.is) so.0.images;

@@ -4,16 +4,14 @@ use Rattle.std.specs.Prelude.{◌≡◌, List, IsSomeAnd, Result, Ok, Err, IfOk,
 use Rattle.pm_base.specs.Faults.{Rose}
 use Rattle.pm_values.specs.declared.refusal.Refusal.{Refusal}
 use Rattle.pm_values.specs.declared.refusal.Refusal.TheVariants as refusals
-use Rattle.pm_store.specs.Answers.{IsFirst}
 use Rattle.pm_store.specs.Files.{Files, files_after}
 use Rattle.pm_store.specs.Images.{Extends}
-use Rattle.pm_store.specs.Store.{StoreView, IsAlone}
+use Rattle.pm_store.specs.Store.{StoreView, FromFirst}
 use Rattle.pm_machine.specs.Trace.{Event}
 use Rattle.pm_history.specs.History.{History, IsTableOf}
 use Rattle.pm_schema.specs.declared.schema.TableSchema.{TableSchema}
 use Rattle.pm_folder.specs.Folder.{Folder}
 use Rattle.pm_view.specs.Meaning.{MayRefuse}
-use Rattle.pm_view.specs.Reader.{schemas_call}
 use Rattle.pm_view.specs.Trace.{Did, Shows}
 use Rattle.pm_view.specs.declared.phase.Phase.TheVariants as phases
 
@@ -48,6 +46,5 @@ pub record ReadsTable (f : Files) (h : History) (first after : StoreView) (resul
 -- what it promises of histories, from its first call on
 abbrev pub ReadsTables : StoreView → StoreView → Result TableSchema Refusal → Type 0
 ReadsTables before after result =
-    (first : StoreView) × IsFirst schemas_call before first after
-    × (IsAlone first after → (f : Files) (h : History) → HasFiles f first → Folder f h
-    → ReadsTable f h first after result)
+    FromFirst (λ first after. (f : Files) (h : History) → HasFiles f first → Folder f h
+    → ReadsTable f h first after result) before after

@@ -36,7 +36,8 @@ impl World {
         count
     }
 
-    /// What a power loss leaves, in one of these ways; the first one is what stands there now. Nobody has anything open.
+    /// What a power loss leaves, in one of these ways; the first one is what stands there now. Nobody has anything
+    /// open.
     pub fn image(&self, number: u64) -> io::Result<World> {
         let mut digits = Digits(number);
         let mut nodes = Vec::new(self.alloc);

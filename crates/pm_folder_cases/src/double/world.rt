@@ -15,8 +15,8 @@ const TICK: u64 = 4_000;
 /// How many microseconds each look at the clock takes.
 const GLANCE: u64 = 20;
 
-/// What stands there and who has it open, the time, the calls of the process that is watched, before which of them a rival
-/// acts, and what that one was answered.
+/// What stands there and who has it open, the time, the calls of the process that is watched, before which of them a
+/// rival acts, and what that one was answered.
 pub struct World {
     pub alloc: Global,
     pub nodes: Vec<Node>,
