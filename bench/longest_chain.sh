@@ -26,7 +26,7 @@ awk -F '|' '
             if (waits[needed[i]] > before) { before = waits[needed[i]]; last[crate] = needed[i] }
         }
         level[crate]++
-        waits[crate] = before + seconds[crate]
+        waits[crate] = before + (crate in seconds ? seconds[crate] : 0)
     }
     END {
         for (crate in below) {
