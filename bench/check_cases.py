@@ -1,5 +1,5 @@
 #!/usr/bin/env python3
-"""Runs the cases of crates/pm_commands with the second program (reference_*.py), which was written from the documents,
+"""Runs the cases of crates/pm_cases_commands with the second program (reference_*.py), which was written from the documents,
 and compares its answers with those that stand there. It promises that they are equal, in each case up to the first line
 that it doesn't follow: calls that fail or that others come between, streams that fail, files that bear a session's name,
 and writes on files that stand there. It ends with 1 where two answers differ. The gate never runs it. docs/DEVELOPING.md
@@ -16,7 +16,7 @@ from reference_commands import Table, read_words
 from reference_table import Refused
 from trials import TOP, Tally
 
-CASES = TOP / "crates/pm_commands"
+CASES = TOP / "crates/pm_cases_commands"
 FOLLOWED = {"open"}  # the options of a run that it follows
 
 

@@ -9,11 +9,11 @@ set -eu
 top=$(dirname -- "$(dirname -- "$(readlink -f -- "$0")")")
 work=$(mktemp -d /dev/shm/run_files.XXXXXX)
 trap 'rm -rf "$work"' EXIT
-(cd "$top/crates/pm_vectors" && rt run </dev/null >"$work/first")
+(cd "$top/crates/pm_cases_codecs" && rt run </dev/null >"$work/first")
 cc -O2 -o "$work/avro_c" "$top/bench/avro_c.c" -lavro
 for _ in 1 2 3 4 5; do
     printf 'timed-run\t1000000\n' |
-        command time -f 'memory %M kB' "$top/crates/pm_vectors/out/pm_vectors" >>"$work/ours.txt" 2>>"$work/memory.txt"
+        command time -f 'memory %M kB' "$top/crates/pm_cases_codecs/out/pm_cases_codecs" >>"$work/ours.txt" 2>>"$work/memory.txt"
     "$work/avro_c" "$work/rows.avro" >>"$work/avro_c.txt"
     rm "$work/rows.avro"
 done

@@ -24,12 +24,12 @@ use Rattle.pm_values.specs.declared.kind.Kind.{Kind}
 use Rattle.pm_values.specs.declared.kind.Kind.TheVariants.{Insert}
 use Rattle.pm_values.specs.declared.value.Value.{Value}
 use Rattle.pm_values.specs.declared.value.Value.TheVariants.{Null}
-use Rattle.pm_history.specs.ColumnValue as worth
-use Rattle.pm_history.specs.ColumnValue.{adding, column_value, value_in, aggregate_by, all_value, any_value, counted, delimiter_of, extreme_value, first_value, joined_value, last_left, last_value, non_null, sum_value, summand, text_in, truth_in, value_by, values_at, width_of}
-use Rattle.pm_history.specs.Merge.{HistoryRow, key_of, value_at}
-use Rattle.pm_history.specs.Merged.{shows, shows_by}
-use Rattle.pm_history.specs.Taken.{function_of, is_key, refuses_retractions, refused_at, skips_retractions, stores, stores_by, takes_retractions, verdict, verdict_by}
-use Rattle.pm_history.specs.declared.verdict.Verdict.TheVariants.{Take, Ignore}
+use Rattle.pm_model_history.specs.ColumnValue as worth
+use Rattle.pm_model_history.specs.ColumnValue.{adding, column_value, value_in, aggregate_by, all_value, any_value, counted, delimiter_of, extreme_value, first_value, joined_value, last_left, last_value, non_null, sum_value, summand, text_in, truth_in, value_by, values_at, width_of}
+use Rattle.pm_model_history.specs.Merge.{HistoryRow, key_of, value_at}
+use Rattle.pm_model_history.specs.Merged.{shows, shows_by}
+use Rattle.pm_model_history.specs.Taken.{function_of, is_key, refuses_retractions, refused_at, skips_retractions, stores, stores_by, takes_retractions, verdict, verdict_by}
+use Rattle.pm_model_history.specs.declared.verdict.Verdict.TheVariants.{Take, Ignore}
 use Rattle.pm_engine.specs.Meaning.{AreTaken, IsTaken, SpeaksFor}
 use Rattle.pm_engine.specs.OfSchema as engine
 use Rattle.pm_aggregate.specs.Aggregation.{AreCombined, AreLifted, CanAggregate, Takes}

@@ -13,10 +13,10 @@ use Rattle.pm_values.specs.declared.kind.Kind.{Kind}
 use Rattle.pm_values.specs.declared.kind.Kind.TheVariants.{Insert}
 use Rattle.pm_values.specs.declared.value.Value.{Value}
 use Rattle.pm_values.specs.declared.value.Value.TheVariants.{Null}
-use Rattle.pm_history.specs.ColumnValue as worth
-use Rattle.pm_history.specs.ColumnValue.{adding, column_value, last_left, last_value, summand, value_by, value_in, values_at}
-use Rattle.pm_history.specs.Merge.{HistoryRow, value_at}
-use Rattle.pm_history.specs.Taken.{is_key}
+use Rattle.pm_model_history.specs.ColumnValue as worth
+use Rattle.pm_model_history.specs.ColumnValue.{adding, column_value, last_left, last_value, summand, value_by, value_in, values_at}
+use Rattle.pm_model_history.specs.Merge.{HistoryRow, value_at}
+use Rattle.pm_model_history.specs.Taken.{is_key}
 use Rattle.pm_engine.specs.Meaning.{AreTaken, SpeaksFor}
 use Rattle.pm_engine.specs.OfSchema as engine
 use Rattle.pm_aggregate.specs.Column.{AreTakenCells, Cell, ColumnMeaning, IsOfType, IsTakenCell, SpeaksForCells, rows_of}

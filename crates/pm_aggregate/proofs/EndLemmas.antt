@@ -8,8 +8,8 @@ use Rattle.pm_values.specs.declared.column.ColType.{ColType}
 use Rattle.pm_values.specs.declared.kind.Kind.{Kind}
 use Rattle.pm_values.specs.declared.value.Value.{Value}
 use Rattle.pm_values.specs.declared.value.Value.TheVariants.{Null}
-use Rattle.pm_history.specs.ColumnValue.{first_value, values_at}
-use Rattle.pm_history.specs.Merge.{HistoryRow, value_at}
+use Rattle.pm_model_history.specs.ColumnValue.{first_value, values_at}
+use Rattle.pm_model_history.specs.Merge.{HistoryRow, value_at}
 use Rattle.pm_aggregate.specs.Column.{Cell, IsOfType, IsTakenCell, SpeaksForCells, rows_of}
 use Rattle.pm_aggregate.specs.Functions.{first_of, last_of}
 use Rattle.pm_aggregate.proofs.FoldLemmas.{Joins, combines, lifts}

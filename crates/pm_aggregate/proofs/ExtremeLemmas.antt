@@ -12,7 +12,7 @@ use Rattle.pm_values.specs.Order.{Values, value_cmp, value_total}
 use Rattle.pm_values.proofs.Lemmas.{value_cmp-IsAntisymmetric}
 use Rattle.pm_values.specs.declared.value.Value.{Value}
 use Rattle.pm_values.specs.declared.value.Value.TheVariants.{Null}
-use Rattle.pm_history.specs.ColumnValue.{is_null, non_null, extreme_value}
+use Rattle.pm_model_history.specs.ColumnValue.{is_null, non_null, extreme_value}
 use Rattle.pm_aggregate.specs.Steps.{beside, not_greater, not_less, picked}
 use Rattle.pm_aggregate.proofs.JoinLemmas.{NoneNull, none_null, beside-null}
 

@@ -9,8 +9,8 @@ use Rattle.pm_values.specs.declared.kind.Kind.{Kind}
 use Rattle.pm_values.specs.declared.kind.Kind.TheVariants.{Insert}
 use Rattle.pm_values.specs.declared.value.Value.{Value}
 use Rattle.pm_values.specs.declared.value.Value.TheVariants.{Null}
-use Rattle.pm_history.specs.ColumnValue.{adding, is_null}
-use Rattle.pm_history.specs.Merge.{HistoryRow}
+use Rattle.pm_model_history.specs.ColumnValue.{adding, is_null}
+use Rattle.pm_model_history.specs.Merge.{HistoryRow}
 use Rattle.pm_aggregate.specs.Column.{Cell, ColumnMeaning, IsOfType, IsTakenCell, SpeaksForCells, rows_of}
 use Rattle.pm_aggregate.specs.Functions.{counting}
 use Rattle.pm_aggregate.specs.Steps.{beside}

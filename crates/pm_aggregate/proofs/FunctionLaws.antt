@@ -7,8 +7,8 @@ use Rattle.pm_values.specs.declared.column.ColType.{ColType}
 use Rattle.pm_values.specs.declared.kind.Kind.{Kind}
 use Rattle.pm_values.specs.declared.value.Value.{Value}
 use Rattle.pm_values.specs.declared.value.Value.TheVariants.{Null, Bool as Truth, Text}
-use Rattle.pm_history.specs.ColumnValue.{extreme_value, first_value, last_value, non_null, values_at, width_of}
-use Rattle.pm_history.specs.Merge.{HistoryRow}
+use Rattle.pm_model_history.specs.ColumnValue.{extreme_value, first_value, last_value, non_null, values_at, width_of}
+use Rattle.pm_model_history.specs.Merge.{HistoryRow}
 use Rattle.pm_aggregate.specs.Column.{Cell, ColumnMeaning, IsOfType, SpeaksForCells}
 use Rattle.pm_aggregate.specs.Functions.{all_of, any_of, counting, first_non_null_of, greatest_of, joined_of, last_non_null_of, least_of, sum_of, takes_where}
 use Rattle.pm_aggregate.specs.Steps.{added, beside, both, either, glued, later, not_greater, not_less, earlier, picked, text_alone, truth_alone}

@@ -16,9 +16,9 @@ use Rattle.pm_values.specs.declared.column.ColType.TheVariants as types
 use Rattle.pm_values.specs.declared.kind.Kind.{Kind}
 use Rattle.pm_values.specs.declared.value.Value.{Value}
 use Rattle.pm_values.specs.declared.value.Value.TheVariants.{Null, Bool as Truth, Int, Text}
-use Rattle.pm_history.specs.ColumnValue.{all_value, any_value, extreme_value, first_value, joined_value, last_value, non_null}
-use Rattle.pm_history.specs.ColumnValue.{sum_value, summand, text_in, truth_in, values_at, width_of}
-use Rattle.pm_history.specs.Merge.{HistoryRow, value_at}
+use Rattle.pm_model_history.specs.ColumnValue.{all_value, any_value, extreme_value, first_value, joined_value, last_value, non_null}
+use Rattle.pm_model_history.specs.ColumnValue.{sum_value, summand, text_in, truth_in, values_at, width_of}
+use Rattle.pm_model_history.specs.Merge.{HistoryRow, value_at}
 use Rattle.pm_aggregate.specs.Column.{IsOfType}
 use Rattle.pm_aggregate.specs.Steps.{added, beside, both, either, glued, later, not_greater, not_less, earlier, picked}
 use Rattle.pm_aggregate.proofs.ExtremeLemmas.{extreme-one, greatest-append, least-append, linear_ge, linear_le}

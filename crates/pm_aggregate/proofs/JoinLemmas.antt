@@ -10,7 +10,7 @@ use Rattle.std.proofs.lemmas.List.Elements.{filter-append}
 use Rattle.pm_values.specs.Order.{Values}
 use Rattle.pm_values.specs.declared.value.Value.{Value}
 use Rattle.pm_values.specs.declared.value.Value.TheVariants.{Null, Bool as Truth, Int, Text}
-use Rattle.pm_history.specs.ColumnValue.{is_null, non_null, first_value, last_value, total, sum_value, joined_value, all_value, any_value}
+use Rattle.pm_model_history.specs.ColumnValue.{is_null, non_null, first_value, last_value, total, sum_value, joined_value, all_value, any_value}
 use Rattle.pm_aggregate.specs.Steps.{beside, added, glued, both, either, earlier, later}
 
 -- nothing after a value leaves it

@@ -5,8 +5,8 @@ use Rattle.std.proofs.lemmas.List.Elements.{filter-append}
 use Rattle.std.proofs.lemmas.List.Folds.{list_all-append}
 use Rattle.pm_values.specs.declared.value.Value.{Value}
 use Rattle.pm_values.specs.declared.value.Value.TheVariants.{Null}
-use Rattle.pm_history.specs.ColumnValue.{is_null, leading_row}
-use Rattle.pm_history.specs.Merge.{HistoryRow, value_at}
+use Rattle.pm_model_history.specs.ColumnValue.{is_null, leading_row}
+use Rattle.pm_model_history.specs.Merge.{HistoryRow, value_at}
 use Rattle.pm_aggregate.specs.Steps.{not_greater}
 use Rattle.pm_aggregate.proofs.JoinLemmas.{last_or-append}
 use Rattle.pm_aggregate.proofs.ExtremeLemmas.{linear_le, and_left, and_right, and_both}

@@ -7,7 +7,7 @@ use Rattle.std.proofs.lemmas.Option.{get_or_from_slice_get, slice_get_within}
 use Rattle.pm_values.specs.Order.{Values}
 use Rattle.pm_values.specs.declared.value.Value.{Value}
 use Rattle.pm_values.specs.declared.value.Value.TheVariants.{Null}
-use Rattle.pm_history.specs.Merge.{value_at}
+use Rattle.pm_model_history.specs.Merge.{value_at}
 
 -- what holds of the values so far, for each index below, holds with one more
 pub each-more : {F : Type 0} (P : ℕ → F → Value → Type 0) (fs : List F) (vs : Values) (v : Value) (n : ℕ) (x : F) → x ≡ get_or fs n x → length vs ≡ n

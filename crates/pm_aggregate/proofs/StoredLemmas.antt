@@ -13,11 +13,11 @@ use Rattle.pm_values.specs.Order.{Values}
 use Rattle.pm_values.specs.declared.column.Column.{Column}
 use Rattle.pm_values.specs.declared.kind.Kind.TheVariants.{Insert}
 use Rattle.pm_values.specs.declared.value.Value.TheVariants.{Null}
-use Rattle.pm_history.specs.ColumnValue as worth
-use Rattle.pm_history.specs.ColumnValue.{column_value, index_of, last_value, value_by, value_in, values_at}
-use Rattle.pm_history.specs.Merge.{HistoryRow, key_of, value_at}
-use Rattle.pm_history.specs.Merged.{primary_of, shows}
-use Rattle.pm_history.specs.Taken.{is_key, stores}
+use Rattle.pm_model_history.specs.ColumnValue as worth
+use Rattle.pm_model_history.specs.ColumnValue.{column_value, index_of, last_value, value_by, value_in, values_at}
+use Rattle.pm_model_history.specs.Merge.{HistoryRow, key_of, value_at}
+use Rattle.pm_model_history.specs.Merged.{primary_of, shows}
+use Rattle.pm_model_history.specs.Taken.{is_key, stores}
 use Rattle.pm_engine.specs.Meaning.{AreTaken, IsTaken, Meaning, SpeaksFor}
 use Rattle.pm_engine.specs.OfSchema.{meaning_of}
 use Rattle.pm_engine.proofs.Facts.{AreTaken-append, SameWorth-same, SameWorth-trans, some_after, value_past}

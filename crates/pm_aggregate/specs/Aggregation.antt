@@ -7,7 +7,7 @@ use Rattle.pm_values.specs.Kind.{retracts}
 use Rattle.pm_values.specs.Order.{Values}
 use Rattle.pm_values.specs.declared.kind.Kind.{Kind}
 use Rattle.pm_values.specs.declared.value.Value.{Value}
-use Rattle.pm_history.specs.Merge.{value_at}
+use Rattle.pm_model_history.specs.Merge.{value_at}
 use Rattle.pm_aggregate.specs.Column.{Cell, IsOfType, SpeaksForCells}
 use Rattle.pm_aggregate.specs.ColumnFunction.{meaning_of}
 use Rattle.pm_aggregate.specs.declared.column_function.ColumnFunction.{ColumnFunction}

@@ -4,8 +4,8 @@ use Rattle.pm_options.specs.declared.kinds.Function.{Function}
 use Rattle.pm_options.specs.declared.kinds.Function.TheVariants as names
 use Rattle.pm_schema.specs.declared.schema.TableSchema.{TableSchema}
 use Rattle.pm_values.specs.declared.column.Column.{Column}
-use Rattle.pm_history.specs.ColumnValue.{delimiter_of}
-use Rattle.pm_history.specs.Taken.{function_of, is_key, skips_retractions}
+use Rattle.pm_model_history.specs.ColumnValue.{delimiter_of}
+use Rattle.pm_model_history.specs.Taken.{function_of, is_key, skips_retractions}
 use Rattle.pm_aggregate.specs.Column.{ColumnMeaning}
 use Rattle.pm_aggregate.specs.Functions.{all_of, any_of, first_non_null_of, first_of, greatest_of, joined_of}
 use Rattle.pm_aggregate.specs.Functions.{last_non_null_of, last_of, least_of, sum_of}

@@ -3,10 +3,10 @@ use Rattle.std.specs.Prelude.{ℕ, List, Bool, true, not, ◌||◌, if◌then◌
 use Rattle.std.specs.List.{filter_map}
 use Rattle.std.specs.Ordering.{is_le, is_ge}
 use Rattle.pm_values.specs.declared.column.ColType.{ColType}
-use Rattle.pm_history.specs.ColumnValue.{adding, all_value, any_value, extreme_value, first_value, joined_value}
-use Rattle.pm_history.specs.ColumnValue.{last_left, last_value, non_null, sum_value, summand, text_in, truth_in}
-use Rattle.pm_history.specs.ColumnValue.{values_at, width_of}
-use Rattle.pm_history.specs.Merge.{HistoryRow}
+use Rattle.pm_model_history.specs.ColumnValue.{adding, all_value, any_value, extreme_value, first_value, joined_value}
+use Rattle.pm_model_history.specs.ColumnValue.{last_left, last_value, non_null, sum_value, summand, text_in, truth_in}
+use Rattle.pm_model_history.specs.ColumnValue.{values_at, width_of}
+use Rattle.pm_model_history.specs.Merge.{HistoryRow}
 use Rattle.pm_aggregate.specs.Column.{Cell, ColumnMeaning, rows_of}
 
 -- the rows that count: without those that retract, where the column skips them

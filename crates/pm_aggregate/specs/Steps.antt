@@ -5,7 +5,7 @@ use Rattle.std.specs.Ordering.{is_le, is_ge}
 use Rattle.pm_values.specs.Order.{value_cmp}
 use Rattle.pm_values.specs.declared.value.Value.{Value}
 use Rattle.pm_values.specs.declared.value.Value.TheVariants.{Null, Bool as Truth, Int, Text}
-use Rattle.pm_history.specs.ColumnValue.{is_null}
+use Rattle.pm_model_history.specs.ColumnValue.{is_null}
 
 -- what a function makes of two values, where one that is null counts for nothing
 abbrev pub beside : (Value → Value → Value) → Value → Value → Value

@@ -5,7 +5,7 @@ ghost use Rattle.pm_options.specs.declared.kinds.EngineKind.TheVariants as engin
 ghost use Rattle.pm_engine.specs.OfSchema.{meaning_of};
 ghost use Rattle.pm_aggregate.specs.Aggregation.{AreCombined, AreLifted, CanAggregate, IsCombined, IsLifted, Takes};
 ghost use Rattle.pm_aggregate.specs.ColumnFunction.{function_on};
-ghost use Rattle.pm_history.specs.Merge.{value_at};
+ghost use Rattle.pm_model_history.specs.Merge.{value_at};
 
 use crate::aggregator::Aggregator;
 use crate::column_function::{ColumnFunction, function_on};

@@ -3,7 +3,7 @@
 ghost use Rattle.std.specs.Prelude.{◌≡◌, ◌∷◌, []};
 ghost use Rattle.pm_values.specs.Kind.{retracts};
 ghost use Rattle.pm_values.specs.declared.kind.Kind.{Kind};
-ghost use Rattle.pm_history.specs.ColumnValue.{width_of};
+ghost use Rattle.pm_model_history.specs.ColumnValue.{width_of};
 ghost use Rattle.pm_aggregate.specs.Functions.{sum_of};
 ghost use Rattle.pm_aggregate.specs.Steps.{added, beside};
 

@@ -2,7 +2,7 @@
 
 ghost use Rattle.std.specs.Prelude.{◌≡◌, if◌then◌else◌};
 ghost use Rattle.pm_values.specs.declared.value.Value.TheVariants.{Null};
-ghost use Rattle.pm_history.specs.ColumnValue.{is_null};
+ghost use Rattle.pm_model_history.specs.ColumnValue.{is_null};
 
 use pm_values::Value;
 

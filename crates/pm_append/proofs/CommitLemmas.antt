@@ -16,12 +16,12 @@ use Rattle.pm_values.specs.declared.group.Group.{Group}
 use Rattle.pm_values.specs.declared.record.Stamped.{Stamped}
 use Rattle.pm_values.specs.declared.refusal.Refusal.{Refusal}
 use Rattle.pm_base.proofs.Laws.{AllByRecursion-append}
-use Rattle.pm_history.specs.History.{Entry, append}
-use Rattle.pm_history.specs.Merge.{HistoryRow}
+use Rattle.pm_model_history.specs.History.{Entry, append}
+use Rattle.pm_model_history.specs.Merge.{HistoryRow}
 use Rattle.pm_engine.specs.Covers.{CoversAll}
 use Rattle.pm_engine.specs.OfSchema.{meaning_of}
-use Rattle.pm_following.specs.Following.{HaveBases}
-use Rattle.pm_following.specs.Groups.{rows_in}
+use Rattle.pm_model_following.specs.Following.{HaveBases}
+use Rattle.pm_model_following.specs.Groups.{rows_in}
 use Rattle.pm_schema.specs.Again.{IsDeclared}
 use Rattle.pm_schema.specs.declared.schema.TableSchema.{TableSchema}
 use Rattle.pm_snapshot.specs.Snapshot.{IsConsistent, snapshot_in}
@@ -35,24 +35,24 @@ use Rattle.pm_manifest.specs.Shape.{Shape, shape_of}
 use Rattle.pm_manifest.specs.declared.entry.Entry as files
 use Rattle.pm_manifest.specs.declared.entry.ManifestMeta.{ManifestMeta}
 use Rattle.pm_manifest.specs.declared.file_id.FileId.{FileId}
-use Rattle.pm_contents.specs.Lists.{HaveEntries, IsList, IsManifest, manifest_path, none_live}
-use Rattle.pm_contents.specs.Named as named
-use Rattle.pm_contents.specs.Named.{Contents, HasContents, IsListed, IsNamed}
-use Rattle.pm_contents.specs.Runs.{AreRunsOf, IsLive, data_path}
+use Rattle.pm_model_contents.specs.Lists.{HaveEntries, IsList, IsManifest, manifest_path, none_live}
+use Rattle.pm_model_contents.specs.Named as named
+use Rattle.pm_model_contents.specs.Named.{Contents, HasContents, IsListed, IsNamed}
+use Rattle.pm_model_contents.specs.Runs.{AreRunsOf, IsLive, data_path}
 use Rattle.pm_run.specs.Rows.{HasRows}
 use Rattle.pm_run.specs.Writing.{AreRising}
 use Rattle.pm_write.specs.Batch.{GroupRows, Groups, IsBatchOf, held_of, numbered}
 use Rattle.pm_write.specs.Files.{AreNewFiles, AreWritten, IsWritten, exceeds, next_of, no_sequence}
 use Rattle.pm_write.specs.declared.files.NewFile.{NewFile}
-use Rattle.pm_folder.specs.Changes.{Actor, IsNamedBy, NamesOwn}
-use Rattle.pm_folder.specs.Commits.{AreRunsAt, BeginsOn, FollowsOn, HasCommit, IsAppend, IsAppended, IsCommitted, IsFresh, Names, live_in}
-use Rattle.pm_folder.specs.Entries.{AreLive, BearsEntry, entry_at, fence_at, raised}
-use Rattle.pm_folder.specs.Folder.{HasTable, IsFrom}
-use Rattle.pm_folder.specs.Meaning.{HasSnapshotAt, SnapshotAt}
-use Rattle.pm_folder.specs.Paths.{snapshot_path}
-use Rattle.pm_folder.specs.Stored.{HasGroup, HasRun, top_of}
-use Rattle.pm_folder.proofs.Facts.{same-or-other, some-none}
-use Rattle.pm_folder.proofs.HoldLemmas.{ContentsStay, Holds, OneContents, commit-held, entries-held, group-held, names-held, names-were, one-commit}
+use Rattle.pm_model_folder.specs.Changes.{Actor, IsNamedBy, NamesOwn}
+use Rattle.pm_model_folder.specs.Commits.{AreRunsAt, BeginsOn, FollowsOn, HasCommit, IsAppend, IsAppended, IsCommitted, IsFresh, Names, live_in}
+use Rattle.pm_model_folder.specs.Entries.{AreLive, BearsEntry, entry_at, fence_at, raised}
+use Rattle.pm_model_folder.specs.Folder.{HasTable, IsFrom}
+use Rattle.pm_model_folder.specs.Meaning.{HasSnapshotAt, SnapshotAt}
+use Rattle.pm_model_folder.specs.Paths.{snapshot_path}
+use Rattle.pm_model_folder.specs.Stored.{HasGroup, HasRun, top_of}
+use Rattle.pm_model_folder.proofs.Facts.{same-or-other, some-none}
+use Rattle.pm_model_folder.proofs.HoldLemmas.{ContentsStay, Holds, OneContents, commit-held, entries-held, group-held, names-held, names-were, one-commit}
 use Rattle.pm_append.specs.Commit.{AreBase, AreBaseIf, Attempt, HasAppended, IsAsMade, IsFoundAs, IsReady}
 use Rattle.pm_append.specs.Files.{AreLists, AreManifests, HasBase, IsAppendOf, IsNewList, IsNewManifest, after_names, data_file, empty, kept, merged}
 use Rattle.pm_append.specs.Refusals.{above_files, above_id, above_numbers, fence_of, is_fenced, no_files, no_id, passed, refusal_of}

@@ -7,9 +7,9 @@ use Rattle.pm_schema.specs.declared.schema.TableSchema.{TableSchema}
 use Rattle.pm_snapshot.specs.declared.snapshot.Snapshot.{Snapshot}
 use Rattle.pm_manifest.specs.Live.{Live}
 use Rattle.pm_manifest.specs.declared.entry.Entry.{Entry}
-use Rattle.pm_contents.specs.Lists.{HaveEntries}
-use Rattle.pm_contents.specs.Named.{Contents}
-use Rattle.pm_folder.specs.Entries.{AreLive, BearsCounts, least_delta, rows_added, rows_in_files}
+use Rattle.pm_model_contents.specs.Lists.{HaveEntries}
+use Rattle.pm_model_contents.specs.Named.{Contents}
+use Rattle.pm_model_folder.specs.Entries.{AreLive, BearsCounts, least_delta, rows_added, rows_in_files}
 use Rattle.pm_append.proofs.ListLemmas.{in-head, in-tail}
 
 -- all of them add

@@ -31,12 +31,12 @@ use Rattle.pm_binrow.specs.Row.{IsCell, IsRow, IsShort, body, is_null}
 use Rattle.pm_schema.specs.Again.{IsDeclared}
 use Rattle.pm_schema.specs.Rules.{differ, is_among, is_required, names_of, primary_holds}
 use Rattle.pm_schema.specs.declared.schema.TableSchema.{TableSchema}
-use Rattle.pm_history.specs.ColumnValue.{index_of}
-use Rattle.pm_history.specs.Merge as merge
-use Rattle.pm_history.specs.Merge.{HistoryRow, value_at}
-use Rattle.pm_history.specs.Merged.{primary_of}
+use Rattle.pm_model_history.specs.ColumnValue.{index_of}
+use Rattle.pm_model_history.specs.Merge as merge
+use Rattle.pm_model_history.specs.Merge.{HistoryRow, value_at}
+use Rattle.pm_model_history.specs.Merged.{primary_of}
 use Rattle.pm_engine.specs.Covers.{Run}
-use Rattle.pm_following.specs.Groups.{bucket_key_of, group_of, kind_at, rows_in}
+use Rattle.pm_model_following.specs.Groups.{bucket_key_of, group_of, kind_at, rows_in}
 use Rattle.pm_manifest.specs.Entries.{IsEntry, IsFile, IsFileWithin, IsKey, IsWithin}
 use Rattle.pm_manifest.specs.Rows.{IsFull}
 use Rattle.pm_manifest.specs.Shape.{apart_from, key_of, rest_of, shape_of, type_of}

@@ -13,8 +13,8 @@ use Rattle.pm_values.specs.Names.{Naming, counted, name_of}
 use Rattle.pm_values.specs.declared.group.Group.{Group}
 use Rattle.pm_values.proofs.Lemmas.{group_cmp-IsAntisymmetric}
 use Rattle.pm_schema.specs.declared.schema.TableSchema.{TableSchema}
-use Rattle.pm_history.specs.Merge.{HistoryRow}
-use Rattle.pm_following.specs.Groups.{rows_in}
+use Rattle.pm_model_history.specs.Merge.{HistoryRow}
+use Rattle.pm_model_following.specs.Groups.{rows_in}
 use Rattle.pm_manifest.specs.Live.{id_of}
 use Rattle.pm_manifest.specs.declared.entry.Entry.{Entry}
 use Rattle.pm_manifest.specs.declared.file_id.FileId.{FileId}

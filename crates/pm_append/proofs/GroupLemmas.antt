@@ -10,10 +10,10 @@ use Rattle.pm_levels.specs.Overlap.{AreDisjoint}
 use Rattle.pm_levels.specs.Runs.{AreNamedApart, AreRuns, AreTwoOf, IsNewerThan, RunView, lone}
 use Rattle.pm_manifest.specs.Live.{Live, id_of}
 use Rattle.pm_manifest.specs.declared.entry.Entry.{Entry}
-use Rattle.pm_contents.specs.Runs.{AreFilesOf, AreRunsOf, IsLive, data_path}
+use Rattle.pm_model_contents.specs.Runs.{AreFilesOf, AreRunsOf, IsLive, data_path}
 use Rattle.pm_run.specs.Rows.{HasRows}
 use Rattle.pm_run.specs.Writing.{AreRising, IsMetaOf}
-use Rattle.pm_folder.specs.Stored.{AreNumberedApart, HasFile, HasRun}
+use Rattle.pm_model_folder.specs.Stored.{AreNumberedApart, HasFile, HasRun}
 use Rattle.pm_append.proofs.ListLemmas.{in-head, in-or, in-tail}
 
 -- what the law of a newest run says

@@ -5,9 +5,9 @@ use Rattle.pm_manifest.specs.FileId.{id_eq}
 use Rattle.pm_manifest.specs.Live.{AreInOrder, CanFollow, Live, id_of, left_by, live_after, live_at}
 use Rattle.pm_manifest.specs.declared.entry.Entry.{Entry}
 use Rattle.pm_manifest.specs.declared.file_id.FileId.{FileId}
-use Rattle.pm_contents.specs.Lists.{none_live}
-use Rattle.pm_contents.specs.Runs.{IsLive}
-use Rattle.pm_folder.specs.Entries.{AreLive}
+use Rattle.pm_model_contents.specs.Lists.{none_live}
+use Rattle.pm_model_contents.specs.Runs.{IsLive}
+use Rattle.pm_model_folder.specs.Entries.{AreLive}
 use Rattle.pm_append.proofs.ListLemmas.{Pairs, all-of, in-either, in-head, in-left, in-or, in-right, in-tail, none-in, pairs-append, pairs-from, pairs-to}
 
 -- what the laws of manifests say

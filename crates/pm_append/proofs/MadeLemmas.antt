@@ -5,11 +5,11 @@ use Rattle.pm_values.specs.declared.group.Group.{Group}
 use Rattle.pm_schema.specs.Folder.{folder_text}
 use Rattle.pm_schema.specs.declared.schema.TableSchema.{TableSchema}
 use Rattle.pm_snapshot.specs.Names.{BasedFile, MayName, manifest, manifest_list, prefix_of, rows_file, suffix_of}
-use Rattle.pm_contents.specs.Lists.{manifest_path}
-use Rattle.pm_contents.specs.Runs.{data_path}
+use Rattle.pm_model_contents.specs.Lists.{manifest_path}
+use Rattle.pm_model_contents.specs.Runs.{data_path}
 use Rattle.pm_run.specs.Writing.{data_prefix, suffix}
-use Rattle.pm_folder.specs.Changes.{Actor, IsNamedBy}
-use Rattle.pm_folder.specs.Commits.{IsFresh, Maker}
+use Rattle.pm_model_folder.specs.Changes.{Actor, IsNamedBy}
+use Rattle.pm_model_folder.specs.Commits.{IsFresh, Maker}
 use Rattle.pm_append.specs.Files.{after_names}
 
 -- the maker of names is the actor, with this base, and may name

@@ -11,7 +11,7 @@ use Rattle.pm_manifest.specs.Shape.{shape_of}
 use Rattle.pm_manifest.specs.«Type».{entry_type, meta_type}
 use Rattle.pm_manifest.specs.declared.entry.Entry.{Entry}
 use Rattle.pm_manifest.specs.declared.entry.ManifestMeta.{ManifestMeta}
-use Rattle.pm_contents.specs.Lists.{manifest_path}
+use Rattle.pm_model_contents.specs.Lists.{manifest_path}
 use Rattle.pm_append.specs.Files.{AreLists, AreManifests, HasBase, IsNewList, IsNewManifest, empty, kept, merged, merges}
 use Rattle.pm_append.specs.declared.newest.CommitFile.{CommitFile}
 use Rattle.pm_append.specs.declared.newest.Newest.{Newest}

@@ -6,8 +6,8 @@ use Rattle.pm_values.specs.Names.{Naming, counted, name_of}
 use Rattle.pm_schema.specs.Folder.{folder_text}
 use Rattle.pm_schema.specs.declared.schema.TableSchema.{TableSchema}
 use Rattle.pm_snapshot.specs.Names.{manifest, manifest_list, prefix_of, rows_file, suffix_of}
-use Rattle.pm_contents.specs.Lists.{manifest_path}
-use Rattle.pm_folder.specs.Changes.{Actor, HavePlainNames, IsOwn, bucket, its_file, manifests}
+use Rattle.pm_model_contents.specs.Lists.{manifest_path}
+use Rattle.pm_model_folder.specs.Changes.{Actor, HavePlainNames, IsOwn, bucket, its_file, manifests}
 use Rattle.pm_manifest.specs.declared.entry.ManifestMeta.{ManifestMeta}
 use Rattle.pm_write.specs.declared.files.NewFile.{NewFile}
 use Rattle.pm_append.specs.Commit.{Attempt, IsBuilt, MakesNames}

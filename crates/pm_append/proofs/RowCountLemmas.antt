@@ -16,12 +16,12 @@ use Rattle.pm_values.specs.Order.{Values, key_cmp, key_equiv}
 use Rattle.pm_values.specs.declared.group.Group.{Group}
 use Rattle.pm_values.specs.declared.record.Stamped.{Stamped}
 use Rattle.pm_schema.specs.declared.schema.TableSchema.{TableSchema}
-use Rattle.pm_history.specs.Merge.{HistoryRow, key_of, rows_of}
+use Rattle.pm_model_history.specs.Merge.{HistoryRow, key_of, rows_of}
 use Rattle.pm_engine.specs.Covers.{CoversAll, Holds, IsRising, Run, of_key}
 use Rattle.pm_engine.specs.Meaning.{Meaning}
 use Rattle.pm_engine.specs.OfSchema.{meaning_of}
-use Rattle.pm_following.specs.Groups.{group_of, rows_in}
-use Rattle.pm_folder.specs.Entries.{rows_in_files}
+use Rattle.pm_model_following.specs.Groups.{group_of, rows_in}
+use Rattle.pm_model_folder.specs.Entries.{rows_in_files}
 use Rattle.pm_write.specs.Batch.{GroupRows, Groups, HoldsRows, IsBatchOf, held_of, numbered}
 use Rattle.pm_write.specs.Files.{AreNewFiles, IsNewFile, next_of}
 use Rattle.pm_write.specs.declared.files.NewFile.{NewFile}

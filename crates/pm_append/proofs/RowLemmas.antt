@@ -8,15 +8,15 @@ use Rattle.std.proofs.lemmas.List.{drop-append-le, reverse-append, take_all, tak
 use Rattle.std.proofs.lemmas.List.Elements.{filter-append, filter_map-append}
 use Rattle.pm_values.specs.GroupOrder.{group_cmp}
 use Rattle.pm_values.specs.declared.group.Group.{Group}
-use Rattle.pm_history.specs.History.{Entry, append, compaction, fence, entry_rows, rows_up_to}
-use Rattle.pm_history.specs.Merge.{HistoryRow}
+use Rattle.pm_model_history.specs.History.{Entry, append, compaction, fence, entry_rows, rows_up_to}
+use Rattle.pm_model_history.specs.Merge.{HistoryRow}
 use Rattle.pm_schema.specs.declared.schema.TableSchema.{TableSchema}
 use Rattle.pm_engine.specs.Covers.{Covers, CoversAll, Run}
 use Rattle.pm_engine.specs.Meaning.{Meaning}
 use Rattle.pm_engine.specs.OfSchema.{meaning_of}
-use Rattle.pm_following.specs.Following.{HaveBases, base_of, compacted, greatest, is_named}
-use Rattle.pm_following.specs.Groups.{group_of, rows_in}
-use Rattle.pm_folder.specs.Stored.{StandForRows, StoredRun, oldest_first, rows_after, top_of}
+use Rattle.pm_model_following.specs.Following.{HaveBases, base_of, compacted, greatest, is_named}
+use Rattle.pm_model_following.specs.Groups.{group_of, rows_in}
+use Rattle.pm_model_folder.specs.Stored.{StandForRows, StoredRun, oldest_first, rows_after, top_of}
 
 -- what the law of runs that are added says
 pub record AddedFacts : Type 0 where

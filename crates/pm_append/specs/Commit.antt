@@ -4,8 +4,8 @@ use Rattle.std.specs.FinMap as paths
 use Rattle.std.specs.List.{AllByRecursion}
 use Rattle.pm_store.specs.Files.{Files}
 use Rattle.pm_values.specs.Names.{Naming}
-use Rattle.pm_history.specs.History.{Entry}
-use Rattle.pm_history.specs.Merge.{HistoryRow}
+use Rattle.pm_model_history.specs.History.{Entry}
+use Rattle.pm_model_history.specs.Merge.{HistoryRow}
 use Rattle.pm_options.specs.declared.kinds.Producer.TheVariants as producers
 use Rattle.pm_schema.specs.Again.{IsDeclared}
 use Rattle.pm_schema.specs.declared.schema.TableSchema.{TableSchema}
@@ -13,12 +13,12 @@ use Rattle.pm_snapshot.specs.Names.{MayName}
 use Rattle.pm_snapshot.specs.declared.snapshot.Snapshot.{Snapshot}
 use Rattle.pm_manifest.specs.declared.entry.Entry as files
 use Rattle.pm_manifest.specs.declared.entry.ManifestMeta.{ManifestMeta}
-use Rattle.pm_contents.specs.Lists.{HaveEntries, IsManifest}
-use Rattle.pm_contents.specs.Named.{Contents}
-use Rattle.pm_folder.specs.Changes.{Actor, IsNamedBy}
-use Rattle.pm_folder.specs.Commits.{HasCommit, Names, live_in}
-use Rattle.pm_folder.specs.Entries.{AreLive, rows_in_files}
-use Rattle.pm_folder.specs.Folder.{HasTable}
+use Rattle.pm_model_contents.specs.Lists.{HaveEntries, IsManifest}
+use Rattle.pm_model_contents.specs.Named.{Contents}
+use Rattle.pm_model_folder.specs.Changes.{Actor, IsNamedBy}
+use Rattle.pm_model_folder.specs.Commits.{HasCommit, Names, live_in}
+use Rattle.pm_model_folder.specs.Entries.{AreLive, rows_in_files}
+use Rattle.pm_model_folder.specs.Folder.{HasTable}
 use Rattle.pm_write.specs.Batch.{Groups, IsBatchOf}
 use Rattle.pm_append.specs.Files.{IsAppendOf, merges}
 use Rattle.pm_append.specs.Refusals.{refusal_of}

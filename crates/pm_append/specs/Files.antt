@@ -14,8 +14,8 @@ use Rattle.pm_manifest.specs.Shape.{shape_of}
 use Rattle.pm_manifest.specs.«Type».{entry_type, meta_type}
 use Rattle.pm_manifest.specs.declared.entry.Entry.{Entry}
 use Rattle.pm_manifest.specs.declared.entry.ManifestMeta.{ManifestMeta}
-use Rattle.pm_contents.specs.Lists.{manifest_path}
-use Rattle.pm_contents.specs.Runs.{data_path}
+use Rattle.pm_model_contents.specs.Lists.{manifest_path}
+use Rattle.pm_model_contents.specs.Runs.{data_path}
 use Rattle.pm_write.specs.Batch.{Groups}
 use Rattle.pm_write.specs.Files.{AreNewFiles, next_of}
 use Rattle.pm_write.specs.declared.files.NewFile.{NewFile}

@@ -4,7 +4,7 @@ use Rattle.pm_schema.specs.declared.schema.TableSchema.{TableSchema}
 use Rattle.pm_snapshot.specs.declared.commit_kind.CommitKind.TheVariants as kinds
 use Rattle.pm_snapshot.specs.declared.snapshot.Snapshot.{Snapshot}
 use Rattle.pm_manifest.specs.declared.entry.Entry.{Entry}
-use Rattle.pm_folder.specs.Entries.{rows_in_files}
+use Rattle.pm_model_folder.specs.Entries.{rows_in_files}
 use Rattle.pm_write.specs.declared.files.NewFile.{NewFile}
 use Rattle.pm_append.specs.Refusals.{fence_of}
 use Rattle.pm_append.specs.declared.newest.Author.{Author}

@@ -8,7 +8,7 @@ ghost use Rattle.pm_append.specs.Files.{data_file};
 ghost use Rattle.pm_append.specs.Snapshot.{added_entry};
 
 use crate::newest::CommitFile;
-use pm_contents::data_path;
+use pm_model_contents::data_path;
 use pm_manifest::Entry;
 use pm_schema::TableSchema;
 use pm_write::NewFile;

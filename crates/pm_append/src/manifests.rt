@@ -4,7 +4,7 @@ ghost use Rattle.std.specs.Prelude.{◌≡◌, ◌≤◌, ◌<◌, ◌^◌, ◌+
 ghost use Rattle.pm_values.specs.Names.{counted};
 ghost use Rattle.pm_values.specs.declared.refusal.Refusal.TheVariants.{Memory};
 ghost use Rattle.pm_manifest.specs.declared.entry.Entry.{Entry as EntryView};
-ghost use Rattle.pm_contents.specs.Lists.{manifest_path};
+ghost use Rattle.pm_model_contents.specs.Lists.{manifest_path};
 ghost use Rattle.pm_append.specs.Files.{merges, AreLists, AreManifests, HasBase, IsNewList, IsNewManifest};
 ghost use Rattle.pm_append.specs.declared.newest.CommitFile.{CommitFile as FileView};
 

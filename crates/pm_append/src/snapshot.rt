@@ -1,7 +1,7 @@
 //! The snapshot of a commit.
 
 ghost use Rattle.std.specs.Prelude.{◌≡◌, ◌<◌, ◌+◌, ◌++◌, pos, IfOk, Ok};
-ghost use Rattle.pm_folder.specs.Entries.{rows_in_files};
+ghost use Rattle.pm_model_folder.specs.Entries.{rows_in_files};
 ghost use Rattle.pm_snapshot.specs.Names.{greatest};
 ghost use Rattle.pm_snapshot.specs.Snapshot.{IsConsistent, snapshot_in, snapshot_text};
 ghost use Rattle.pm_append.specs.Snapshot.{appends_of, full_of, new_snapshot, watermark_of};

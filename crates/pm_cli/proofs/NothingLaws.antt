@@ -6,9 +6,9 @@ use Rattle.pm_io.specs.Source.{SourceView}
 use Rattle.pm_store.specs.Store.{StoreView}
 use Rattle.pm_machine.specs.Trace.{HasTrace}
 use Rattle.pm_machine.proofs.Facts.{Traces-none}
-use Rattle.pm_view.specs.AllCalls.{DidRead, ReadsTables}
-use Rattle.pm_view.specs.Trace.{at_first}
-use Rattle.pm_view.proofs.AllCallsLemmas.{read_history}
+use Rattle.pm_read_schema.specs.AllCalls.{DidRead, ReadsTables}
+use Rattle.pm_read_schema.specs.Trace.{at_first}
+use Rattle.pm_read_schema.proofs.AllCallsLemmas.{read_history}
 use Rattle.pm_words.specs.declared.command.Command.{Command}
 use Rattle.pm_words.specs.declared.command.Command.TheVariants as commands
 use Rattle.pm_command.specs.Outside.{Start, outside}

@@ -3,9 +3,9 @@
 ghost use Rattle.std.specs.Prelude.{◌≡◌, ◌≤◌, ℕ, List, length, Some};
 ghost use Rattle.pm_create.specs.Making.{LeavesFiles};
 ghost use Rattle.pm_commit.specs.AllCalls.{MayStart};
-ghost use Rattle.pm_folder.specs.Changes.{Actor};
-ghost use Rattle.pm_folder.specs.Folder.{Folder};
-ghost use Rattle.pm_history.specs.History.{History};
+ghost use Rattle.pm_model_folder.specs.Changes.{Actor};
+ghost use Rattle.pm_model_folder.specs.Folder.{Folder};
+ghost use Rattle.pm_model_history.specs.History.{History};
 ghost use Rattle.pm_store.specs.declared.call.Op.{Op};
 ghost use Rattle.pm_store.specs.Files.{Files, files_after};
 ghost use Rattle.pm_store.specs.Images.{CrashImage, Extends};
@@ -14,7 +14,7 @@ ghost use Rattle.pm_command_create.specs.Create.{StandsForEither};
 ghost use Rattle.pm_command.specs.Outside.{HaveSame, Start};
 ghost use Rattle.pm_command_write.specs.Write.{IsImage, Lines, MayStartAfter, Writer};
 
-use pm_contents::same_law;
+use pm_model_contents::same_law;
 
 /// A store that has what a crash within `create` left stands for the history, or for the draft's table where there was
 /// none; one that has what a crash within `write` left, for the history, or for it with the rows of the input, as once

@@ -9,7 +9,7 @@ use Rattle.std.proofs.Math.Facts.{to_z-neg}
 use Rattle.std.proofs.lemmas.Bool.Decides.{nat_tests}
 use Rattle.pm_values.specs.declared.column.ColType.{ColType}
 use Rattle.pm_values.specs.declared.column.ColType.TheVariants.{Boolean, TinyInt, SmallInt, Int, BigInt, Text, Bytes, Date, Timestamp}
-use Rattle.pm_history.specs.ColumnValue.{width_of}
+use Rattle.pm_model_history.specs.ColumnValue.{width_of}
 use Rattle.pm_columns.specs.Wrapping.{half_of}
 
 -- the remainder of a division as a number

@@ -4,8 +4,8 @@ ghost use Rattle.std.specs.Prelude.{◌≡◌};
 ghost use Rattle.std.specs.Option.{option_copied};
 ghost use Rattle.pm_options.specs.Entries.{entry_at};
 ghost use Rattle.pm_schema.specs.Rules.{is_among};
-ghost use Rattle.pm_history.specs.Taken.{is_key, function_of, skips_retractions};
-ghost use Rattle.pm_history.specs.ColumnValue.{delimiter_of, group_of, is_in_group};
+ghost use Rattle.pm_model_history.specs.Taken.{is_key, function_of, skips_retractions};
+ghost use Rattle.pm_model_history.specs.ColumnValue.{delimiter_of, group_of, is_in_group};
 
 use pm_schema::{Function, Listed, TableSchema};
 use pm_values::{Column, Txt};

@@ -2,10 +2,10 @@
 
 ghost use Rattle.std.specs.Prelude.{◌≡◌};
 ghost use Rattle.std.specs.List.{position};
-ghost use Rattle.pm_history.specs.Taken.{takes_retractions, refuses_retractions, verdict};
+ghost use Rattle.pm_model_history.specs.Taken.{takes_retractions, refuses_retractions, verdict};
 
 use crate::columns::{function_of, is_key, skips_retractions};
-use pm_history::Verdict;
+use pm_model_history::Verdict;
 use pm_schema::{EngineKind, Function, TableSchema};
 use pm_values::{Column, Kind};
 

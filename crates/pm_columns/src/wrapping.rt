@@ -2,7 +2,7 @@
 
 ghost use Rattle.std.specs.Prelude.{◌≡◌, pos, ◌≤ℤ◌, ◌^◌};
 ghost use Rattle.std.specs.Int.{int_wrap};
-ghost use Rattle.pm_history.specs.ColumnValue.{width_of};
+ghost use Rattle.pm_model_history.specs.ColumnValue.{width_of};
 ghost use Rattle.pm_columns.specs.Wrapping.{half_of};
 
 use pm_values::ColType;

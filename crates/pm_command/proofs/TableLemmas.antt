@@ -9,13 +9,13 @@ use Rattle.pm_store.specs.Images.{Extends}
 use Rattle.pm_store.specs.Store.{StoreView}
 use Rattle.pm_store.proofs.ImageLaws.{Extends-weaker}
 use Rattle.pm_machine.specs.Trace.{Event, HasTrace}
-use Rattle.pm_history.specs.History.{History, IsTableOf}
+use Rattle.pm_model_history.specs.History.{History, IsTableOf}
 use Rattle.pm_options.specs.declared.kinds.Producer.{Producer}
 use Rattle.pm_options.specs.declared.kinds.Producer.TheVariants as producers
 use Rattle.pm_schema.specs.declared.schema.TableSchema.{TableSchema}
-use Rattle.pm_folder.specs.Folder.{Folder}
+use Rattle.pm_model_folder.specs.Folder.{Folder}
 use Rattle.pm_create.specs.Making.{LeavesFiles}
-use Rattle.pm_view.specs.AllCalls.{HasFiles, IsCaused}
+use Rattle.pm_read_schema.specs.AllCalls.{HasFiles, IsCaused}
 use Rattle.pm_draft.specs.Built.{unbuilt, unbuilt_producer, unbuilt_bucket, unbuilt_partition}
 use Rattle.pm_command.specs.Outside.{HaveSame, ImagesRest, Rests}
 use Rattle.pm_command.specs.Table.{MayRefuse}

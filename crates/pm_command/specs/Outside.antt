@@ -10,9 +10,9 @@ use Rattle.pm_io.specs.Source.{SourceView, SourceFailed}
 use Rattle.pm_store.specs.Files.{Files}
 use Rattle.pm_store.specs.Images.{Extends}
 use Rattle.pm_store.specs.Store.{StoreView, IsLater}
-use Rattle.pm_history.specs.History.{History}
-use Rattle.pm_folder.specs.Changes.{Actor}
-use Rattle.pm_folder.specs.Folder.{Folder}
+use Rattle.pm_model_history.specs.History.{History}
+use Rattle.pm_model_folder.specs.Changes.{Actor}
+use Rattle.pm_model_folder.specs.Folder.{Folder}
 use Rattle.pm_create.specs.Making.{LeavesFiles}
 use Rattle.pm_report.specs.Report.{code_of, report_text}
 

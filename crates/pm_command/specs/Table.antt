@@ -5,10 +5,10 @@ use Rattle.pm_values.specs.declared.refusal.Refusal.{Refusal}
 use Rattle.pm_values.specs.declared.refusal.Refusal.TheVariants as refusals
 use Rattle.pm_store.specs.Store.{StoreView}
 use Rattle.pm_machine.specs.Trace.{Event}
-use Rattle.pm_history.specs.History.{History, IsTableOf, no_table}
+use Rattle.pm_model_history.specs.History.{History, IsTableOf, no_table}
 use Rattle.pm_schema.specs.declared.schema.TableSchema.{TableSchema}
-use Rattle.pm_view.specs.Trace as reader
-use Rattle.pm_view.specs.declared.phase.Phase.TheVariants as readers
+use Rattle.pm_read_schema.specs.Trace as reader
+use Rattle.pm_read_schema.specs.declared.phase.Phase.TheVariants as readers
 use Rattle.pm_draft.specs.Built.{unbuilt}
 
 -- a command's calls end with the schema, which isn't built, or memory ran out for saying so

@@ -12,10 +12,10 @@ use Rattle.pm_store.specs.Store.{StoreView, at_first_own}
 use Rattle.pm_store.proofs.ImageLaws.{Extends-refl, Extends-weaker}
 use Rattle.pm_machine.specs.Trace.{HasTrace}
 use Rattle.pm_machine.proofs.Facts.{Traces-none}
-use Rattle.pm_history.specs.History.{History, no_table, table}
+use Rattle.pm_model_history.specs.History.{History, no_table, table}
 use Rattle.pm_schema.specs.declared.schema.TableSchema.{TableSchema}
-use Rattle.pm_folder.specs.Changes.{Actor}
-use Rattle.pm_folder.specs.Folder.{Folder}
+use Rattle.pm_model_folder.specs.Changes.{Actor}
+use Rattle.pm_model_folder.specs.Folder.{Folder}
 use Rattle.pm_create.specs.Creator.{CreatorView}
 use Rattle.pm_create.specs.Trace.{before_all}
 use Rattle.pm_create.specs.Making as making

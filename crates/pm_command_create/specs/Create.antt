@@ -10,13 +10,13 @@ use Rattle.pm_store.specs.Files.{Files}
 use Rattle.pm_store.specs.Images.{Extends}
 use Rattle.pm_store.specs.Store.{StoreView, FromFirst}
 use Rattle.pm_machine.specs.Trace.{HasTrace}
-use Rattle.pm_history.specs.History.{History, no_table, table}
+use Rattle.pm_model_history.specs.History.{History, no_table, table}
 use Rattle.pm_input.specs.Limits.{limits, IsWithin}
 use Rattle.pm_input.specs.Lines.{row_lines}
 use Rattle.pm_schema.specs.declared.schema.TableSchema.{TableSchema}
-use Rattle.pm_folder.specs.Changes.{origin_name}
-use Rattle.pm_folder.specs.Folder.{Folder}
-use Rattle.pm_folder.specs.Paths.{schema_path}
+use Rattle.pm_model_folder.specs.Changes.{origin_name}
+use Rattle.pm_model_folder.specs.Folder.{Folder}
+use Rattle.pm_model_folder.specs.Paths.{schema_path}
 use Rattle.pm_create.specs.Creator.{CreatorView, new_creator, own_origin, origin_call}
 use Rattle.pm_create.specs.Making.{DidMake, LeavesFiles, IsThere, IsAbsent, MakesTables, MayStart}
 use Rattle.pm_draft.specs.Draft.{draft_in, IsFirstSchema}

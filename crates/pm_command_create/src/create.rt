@@ -3,7 +3,7 @@
 ghost use Rattle.std.specs.Prelude.{◌≡◌, ℕ, List, Some};
 ghost use Rattle.std.specs.Result.{result_err};
 ghost use Rattle.pm_create.specs.Creator.{actor_of, new_creator};
-ghost use Rattle.pm_folder.specs.Changes.{origin_name};
+ghost use Rattle.pm_model_folder.specs.Changes.{origin_name};
 ghost use Rattle.pm_io.specs.Sink.{SinkLater};
 ghost use Rattle.pm_schema.specs.Again.{IsDeclared};
 ghost use Rattle.pm_store.specs.Store.{IsLater};

@@ -8,13 +8,13 @@ use Rattle.pm_values.specs.declared.refusal.Refusal.TheVariants as refusals
 use Rattle.pm_io.specs.Sink.{SinkView, SinkFailed, TookPrefix}
 use Rattle.pm_store.specs.Store.{StoreView, FromFirst}
 use Rattle.pm_machine.specs.Trace.{Event, HasTrace}
-use Rattle.pm_history.specs.History.{History, IsTableOf, no_table, table, rows_up_to}
-use Rattle.pm_history.specs.Merged.{scan_text}
+use Rattle.pm_model_history.specs.History.{History, IsTableOf, no_table, table, rows_up_to}
+use Rattle.pm_model_history.specs.Merged.{scan_text}
 use Rattle.pm_schema.specs.declared.schema.TableSchema.{TableSchema}
-use Rattle.pm_folder.specs.Folder.{Folder}
-use Rattle.pm_folder.specs.Ledger.{count_of}
+use Rattle.pm_model_folder.specs.Folder.{Folder}
+use Rattle.pm_model_folder.specs.Ledger.{count_of}
 use Rattle.pm_create.specs.Making.{LeavesFiles}
-use Rattle.pm_view.specs.Trace as reader
+use Rattle.pm_read_schema.specs.Trace as reader
 use Rattle.pm_draft.specs.Built.{IsBuilt}
 use Rattle.pm_scan.specs.AllCalls as scanner
 use Rattle.pm_scan.specs.AllCalls.{id_of, path_of, PrintsScan}

@@ -13,7 +13,7 @@ use pm_io::Sink;
 use pm_scan::scan_table;
 use pm_store::FileStore;
 use pm_values::Refusal;
-use pm_view::read_table_schema;
+use pm_read_schema::read_table_schema;
 use std::alloc::Global;
 
 /// Prints the scan of a table at its newest snapshot, or at the one with that id.

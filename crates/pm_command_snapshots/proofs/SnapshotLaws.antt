@@ -8,11 +8,11 @@ use Rattle.pm_io.specs.Sink.{SinkView}
 use Rattle.pm_store.specs.Files.{Files}
 use Rattle.pm_store.specs.Store.{StoreView, at_first_own}
 use Rattle.pm_machine.specs.Trace.{Event, HasTrace}
-use Rattle.pm_history.specs.History.{History, IsTableOf, no_table}
+use Rattle.pm_model_history.specs.History.{History, IsTableOf, no_table}
 use Rattle.pm_schema.specs.declared.schema.TableSchema.{TableSchema}
-use Rattle.pm_folder.specs.Folder.{Folder}
-use Rattle.pm_view.specs.AllCalls.{DidRead, HasFiles, Stay, ReadsTables}
-use Rattle.pm_view.specs.Trace.{listed_snapshots}
+use Rattle.pm_model_folder.specs.Folder.{Folder}
+use Rattle.pm_read_schema.specs.AllCalls.{DidRead, HasFiles, Stay, ReadsTables}
+use Rattle.pm_read_schema.specs.Trace.{listed_snapshots}
 use Rattle.pm_draft.specs.Built.{IsBuilt, unbuilt}
 use Rattle.pm_snapshots.specs.AllCalls as lister
 use Rattle.pm_snapshots.specs.AllCalls.{AreLinesOf, GoesOnFrom}

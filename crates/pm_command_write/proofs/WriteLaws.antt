@@ -17,11 +17,11 @@ use Rattle.pm_store.specs.Images.{Extends}
 use Rattle.pm_store.specs.Store.{StoreView, at_first_own}
 use Rattle.pm_store.proofs.ImageLaws.{Extends-refl, Extends-weaker}
 use Rattle.pm_machine.specs.Trace.{Event, HasTrace}
-use Rattle.pm_history.specs.History.{History, IsTableOf, no_table, table}
-use Rattle.pm_history.specs.Merge.{HistoryRow}
-use Rattle.pm_history.specs.Taken.{verdict}
-use Rattle.pm_history.specs.declared.verdict.Verdict.{Verdict as VerdictByIndex}
-use Rattle.pm_history.specs.declared.verdict.Verdict.TheVariants as by_index
+use Rattle.pm_model_history.specs.History.{History, IsTableOf, no_table, table}
+use Rattle.pm_model_history.specs.Merge.{HistoryRow}
+use Rattle.pm_model_history.specs.Taken.{verdict}
+use Rattle.pm_model_history.specs.declared.verdict.Verdict.{Verdict as VerdictByIndex}
+use Rattle.pm_model_history.specs.declared.verdict.Verdict.TheVariants as by_index
 use Rattle.pm_rows.specs.Reading.{Fault, row_of}
 use Rattle.pm_input.specs.Limits.{limits}
 use Rattle.pm_input.specs.Lines.{row_lines}
@@ -29,17 +29,17 @@ use Rattle.pm_input.specs.Rows.{faulty_column}
 use Rattle.pm_schema.specs.declared.schema.TableSchema.{TableSchema}
 use Rattle.pm_snapshot.specs.Names.{MayName, greatest}
 use Rattle.pm_snapshot.specs.declared.snapshot.Snapshot.{Snapshot}
-use Rattle.pm_contents.specs.Named.{Contents, HasContents, IsNamed}
+use Rattle.pm_model_contents.specs.Named.{Contents, HasContents, IsNamed}
 use Rattle.pm_engines.specs.Verdict.{named, verdict_on}
 use Rattle.pm_engines.specs.declared.verdict.Verdict.{Verdict}
 use Rattle.pm_engines.specs.declared.verdict.Verdict.TheVariants.{Take, Ignore, Refuse}
-use Rattle.pm_folder.specs.Changes.{Actor}
-use Rattle.pm_folder.specs.Folder.{Folder, IsRowOf}
-use Rattle.pm_folder.specs.Ledger.{count_of}
-use Rattle.pm_folder.specs.Meaning.{HasSnapshotAt}
-use Rattle.pm_folder.specs.Paths.{snapshot_path}
+use Rattle.pm_model_folder.specs.Changes.{Actor}
+use Rattle.pm_model_folder.specs.Folder.{Folder, IsRowOf}
+use Rattle.pm_model_folder.specs.Ledger.{count_of}
+use Rattle.pm_model_folder.specs.Meaning.{HasSnapshotAt}
+use Rattle.pm_model_folder.specs.Paths.{snapshot_path}
 use Rattle.pm_create.specs.Making.{LeavesFiles}
-use Rattle.pm_view.specs.AllCalls.{DidRead, HasFiles, Stay, ReadsTables}
+use Rattle.pm_read_schema.specs.AllCalls.{DidRead, HasFiles, Stay, ReadsTables}
 use Rattle.pm_draft.specs.Built.{IsBuilt, unbuilt}
 use Rattle.pm_write.specs.Batch.{Groups, IsBatchOf, ReadsBatch}
 use Rattle.pm_write.specs.Taken.{all_taken, judged, no_room, refusal_in, row_at, taken_at, taken_by, taken_in, taken_of}

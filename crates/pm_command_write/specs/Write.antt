@@ -15,18 +15,18 @@ use Rattle.pm_store.specs.Files.{Files}
 use Rattle.pm_store.specs.Images.{Extends}
 use Rattle.pm_store.specs.Store.{StoreView, FromFirst}
 use Rattle.pm_machine.specs.Trace.{Event, HasTrace}
-use Rattle.pm_history.specs.History.{Entry, History, IsTableOf, append, no_table}
-use Rattle.pm_history.specs.Merge.{HistoryRow}
+use Rattle.pm_model_history.specs.History.{Entry, History, IsTableOf, append, no_table}
+use Rattle.pm_model_history.specs.Merge.{HistoryRow}
 use Rattle.pm_input.specs.Limits.{limits, IsWithin}
 use Rattle.pm_input.specs.Lines.{row_lines}
 use Rattle.pm_schema.specs.declared.schema.TableSchema.{TableSchema}
 use Rattle.pm_snapshot.specs.Names.{greatest}
-use Rattle.pm_folder.specs.Changes.{Actor}
-use Rattle.pm_folder.specs.Folder.{Folder}
-use Rattle.pm_folder.specs.Ledger.{count_of}
-use Rattle.pm_folder.specs.Paths.{snapshot_path}
+use Rattle.pm_model_folder.specs.Changes.{Actor}
+use Rattle.pm_model_folder.specs.Folder.{Folder}
+use Rattle.pm_model_folder.specs.Ledger.{count_of}
+use Rattle.pm_model_folder.specs.Paths.{snapshot_path}
 use Rattle.pm_create.specs.Making.{LeavesFiles}
-use Rattle.pm_view.specs.Trace as reader
+use Rattle.pm_read_schema.specs.Trace as reader
 use Rattle.pm_draft.specs.Built.{IsBuilt, unbuilt}
 use Rattle.pm_write.specs.Batch.{Groups, IsBatchOf}
 use Rattle.pm_write.specs.Taken.{all_taken}

@@ -3,23 +3,23 @@ use Rattle.std.proofs.Common.{◌≡◌, ◌≢◌, ◌⊎◌, inl, inr, ◌↔�
 use Rattle.std.specs.FinMap as map
 use Rattle.std.proofs.lemmas.Bool.{eq-eqb}
 use Rattle.pm_store.specs.Files.{Files, Puts}
-use Rattle.pm_history.specs.History.{Entry, History, IsTableOf, no_table, table}
+use Rattle.pm_model_history.specs.History.{Entry, History, IsTableOf, no_table, table}
 use Rattle.pm_schema.specs.declared.schema.TableSchema.{TableSchema}
 use Rattle.pm_snapshot.specs.Names.{greatest, snapshot_name}
 use Rattle.pm_snapshot.specs.declared.snapshot.Snapshot.{Snapshot}
-use Rattle.pm_contents.specs.Named.{Contents, HasContents, IsNamed}
-use Rattle.pm_folder.specs.Changes.{Actor, Change, IsNamedBy, IsNoOrigin, IsOwn, NamesOwn, nothing, own_file}
-use Rattle.pm_folder.specs.Commits.{IsCommitted, Names, Needs}
-use Rattle.pm_folder.specs.Folder.{HasTable}
-use Rattle.pm_folder.specs.Ledger.{Advances, HasNamedNone, IsKnown, IsOldOrUnnamed, IsUnnamed, KnowsTable, Past, Stands, count_of}
-use Rattle.pm_folder.specs.Meaning.{HasSnapshotAt, SnapshotAt}
-use Rattle.pm_folder.specs.Paths.{snapshot_path}
-use Rattle.pm_folder.proofs.Facts.{same-or-other, some-none, split-last}
-use Rattle.pm_folder.proofs.HoldLemmas.{OneContents, one-commit}
-use Rattle.pm_folder.proofs.LedgerFacts.{at-table, count-is, is-table}
-use Rattle.pm_view.proofs.ListLemmas.{cases, here, more, nowhere}
-use Rattle.pm_table_view.specs.Named.{named_paths, parts_of}
-use Rattle.pm_table_view.specs.View.{live_entries}
+use Rattle.pm_model_contents.specs.Named.{Contents, HasContents, IsNamed}
+use Rattle.pm_model_folder.specs.Changes.{Actor, Change, IsNamedBy, IsNoOrigin, IsOwn, NamesOwn, nothing, own_file}
+use Rattle.pm_model_folder.specs.Commits.{IsCommitted, Names, Needs}
+use Rattle.pm_model_folder.specs.Folder.{HasTable}
+use Rattle.pm_model_folder.specs.Ledger.{Advances, HasNamedNone, IsKnown, IsOldOrUnnamed, IsUnnamed, KnowsTable, Past, Stands, count_of}
+use Rattle.pm_model_folder.specs.Meaning.{HasSnapshotAt, SnapshotAt}
+use Rattle.pm_model_folder.specs.Paths.{snapshot_path}
+use Rattle.pm_model_folder.proofs.Facts.{same-or-other, some-none, split-last}
+use Rattle.pm_model_folder.proofs.HoldLemmas.{OneContents, one-commit}
+use Rattle.pm_model_folder.proofs.LedgerFacts.{at-table, count-is, is-table}
+use Rattle.pm_read_schema.proofs.ListLemmas.{cases, here, more, nowhere}
+use Rattle.pm_read_table.specs.Named.{named_paths, parts_of}
+use Rattle.pm_read_table.specs.View.{live_entries}
 use Rattle.pm_commit.proofs.PathLemmas.{InTable, names-in, not-schema, not-snapshot, same-id, snapshot-schema}
 
 -- ---- whether a path is in a list

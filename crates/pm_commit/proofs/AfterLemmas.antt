@@ -2,8 +2,8 @@
 use Rattle.std.proofs.Common.{◌≡◌, inr, ℕ, ◌+◌, List, length, None, Ok, Err, IfOk, ap, ◌∙◌, subst}
 use Rattle.pm_store.specs.declared.answer.Answer.{Answer}
 use Rattle.pm_schema.specs.declared.schema.TableSchema.{TableSchema}
-use Rattle.pm_table_view.specs.Reader as reader
-use Rattle.pm_table_view.specs.declared.phase.Phase as view_phase
+use Rattle.pm_read_table.specs.Reader as reader
+use Rattle.pm_read_table.specs.declared.phase.Phase as view_phase
 use Rattle.pm_append.specs.Files.{IsAppendOf}
 use Rattle.pm_append.specs.Refusals.{refusal_of}
 use Rattle.pm_append.specs.declared.newest.Append.{Append}

@@ -13,16 +13,16 @@ use Rattle.pm_machine.specs.Moves.{Keeps, Moves}
 use Rattle.pm_machine.specs.Trace.{Event, HasTrace, Traces}
 use Rattle.pm_machine.proofs.AloneLaws.{Follows, Follows-first, Follows-meanwhile, Follows-steps, Traces-first, Traces-later, Traces-same_first}
 use Rattle.pm_machine.proofs.Facts.{HasTrace-acts, Traces-faulted, Traces-join, Traces-none, image_changed}
-use Rattle.pm_history.specs.History.{Entry, History, IsTableOf, table}
+use Rattle.pm_model_history.specs.History.{Entry, History, IsTableOf, table}
 use Rattle.pm_schema.specs.declared.schema.TableSchema.{TableSchema}
 use Rattle.pm_snapshot.specs.declared.snapshot.Snapshot.{Snapshot}
-use Rattle.pm_folder.specs.Changes.{Actor}
-use Rattle.pm_folder.specs.Commits.{Names}
-use Rattle.pm_folder.specs.Folder.{Folder}
-use Rattle.pm_folder.specs.Ledger.{Advances, HasNamedNone, IsKnown, Past, Stands, count_of}
-use Rattle.pm_folder.specs.Meaning.{SnapshotAt}
-use Rattle.pm_view.proofs.AllCallsLemmas as schema_calls
-use Rattle.pm_view.proofs.StillLemmas.{stayed}
+use Rattle.pm_model_folder.specs.Changes.{Actor}
+use Rattle.pm_model_folder.specs.Commits.{Names}
+use Rattle.pm_model_folder.specs.Folder.{Folder}
+use Rattle.pm_model_folder.specs.Ledger.{Advances, HasNamedNone, IsKnown, Past, Stands, count_of}
+use Rattle.pm_model_folder.specs.Meaning.{SnapshotAt}
+use Rattle.pm_read_schema.proofs.AllCallsLemmas as schema_calls
+use Rattle.pm_read_schema.proofs.StillLemmas.{stayed}
 use Rattle.pm_append.specs.declared.newest.Author.{Author}
 use Rattle.pm_commit.specs.AllCalls.{AppendsAlone, AppendsTables, DidAppend, Ends, Has, IsCounted, IsPastOf, KnewFiles, KnowsFiles, LeavesFiles, LeavesFolder, MayBegin, NamesNone, SaysOf, StandsForEither, StandsFreely, StoodSo}
 use Rattle.pm_commit.specs.Alone.{AloneAt, AloneRefused, Beginning, CommitterAlone, IsTryAt, KnewAlone, KnowsAlone, begun_at, newest_id, own_entry, with_entry}

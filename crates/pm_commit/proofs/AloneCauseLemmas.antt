@@ -10,17 +10,17 @@ use Rattle.pm_store.specs.declared.answer.Answer.TheVariants as answers
 use Rattle.pm_store.specs.declared.answer.Made.TheVariants as created
 use Rattle.pm_store.specs.declared.call.Call.{Call}
 use Rattle.pm_store.specs.declared.call.Call.TheVariants as calls
-use Rattle.pm_history.specs.History.{History, IsTableOf}
-use Rattle.pm_history.specs.Merge.{HistoryRow}
+use Rattle.pm_model_history.specs.History.{History, IsTableOf}
+use Rattle.pm_model_history.specs.Merge.{HistoryRow}
 use Rattle.pm_schema.specs.declared.schema.TableSchema.{TableSchema}
-use Rattle.pm_folder.specs.Changes.{Actor, IsNamedBy}
-use Rattle.pm_folder.specs.Ledger.{Past, Stands, count_of}
-use Rattle.pm_folder.specs.Meaning.{HasSnapshotAt}
-use Rattle.pm_table_view.specs.Meaning as reader_meaning
-use Rattle.pm_table_view.specs.Reader as reader
-use Rattle.pm_table_view.specs.declared.phase.Phase as view_phase
-use Rattle.pm_table_view.specs.declared.phase.Phase.TheVariants as readers
-use Rattle.pm_table_view.specs.declared.view.View.{View}
+use Rattle.pm_model_folder.specs.Changes.{Actor, IsNamedBy}
+use Rattle.pm_model_folder.specs.Ledger.{Past, Stands, count_of}
+use Rattle.pm_model_folder.specs.Meaning.{HasSnapshotAt}
+use Rattle.pm_read_table.specs.Meaning as reader_meaning
+use Rattle.pm_read_table.specs.Reader as reader
+use Rattle.pm_read_table.specs.declared.phase.Phase as view_phase
+use Rattle.pm_read_table.specs.declared.phase.Phase.TheVariants as readers
+use Rattle.pm_read_table.specs.declared.view.View.{View}
 use Rattle.pm_append.specs.Refusals.{refusal_of}
 use Rattle.pm_commit.specs.Alone.{AloneIn, AloneRefused, Beginning, GivesReason, IsUnchanged, KnewAlone, ReadsNewest, SeesNewest, begun_at, newest_id}
 use Rattle.pm_commit.specs.Committer.{After, AfterReader, Makes, Reads, found_in, next_call}

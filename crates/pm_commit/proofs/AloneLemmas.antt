@@ -20,16 +20,16 @@ use Rattle.pm_store.proofs.ChangeLaws.{Answers-Changed}
 use Rattle.pm_store.proofs.StepLaws.{Meanwhile-refl, Steps-weaker}
 use Rattle.pm_machine.specs.Moves.{Keeps, Leads, Moves}
 use Rattle.pm_machine.specs.Step.{Stepped, Failed, Refused, Rested, Stopped, Went, path_of}
-use Rattle.pm_history.specs.History.{Entry, History, table}
-use Rattle.pm_history.specs.Merge.{HistoryRow}
+use Rattle.pm_model_history.specs.History.{Entry, History, table}
+use Rattle.pm_model_history.specs.Merge.{HistoryRow}
 use Rattle.pm_snapshot.specs.Names.{greatest}
-use Rattle.pm_folder.specs.Ledger.{Past, Stands, count_of}
-use Rattle.pm_folder.specs.Paths.{snapshot_path}
-use Rattle.pm_table_view.specs.Reader as reader
-use Rattle.pm_table_view.specs.declared.phase.Phase as view_phase
-use Rattle.pm_table_view.specs.declared.phase.Phase.TheVariants as readers
-use Rattle.pm_table_view.specs.declared.view.View.{View}
-use Rattle.pm_table_view.proofs.Facts.{both_if}
+use Rattle.pm_model_folder.specs.Ledger.{Past, Stands, count_of}
+use Rattle.pm_model_folder.specs.Paths.{snapshot_path}
+use Rattle.pm_read_table.specs.Reader as reader
+use Rattle.pm_read_table.specs.declared.phase.Phase as view_phase
+use Rattle.pm_read_table.specs.declared.phase.Phase.TheVariants as readers
+use Rattle.pm_read_table.specs.declared.view.View.{View}
+use Rattle.pm_read_table.proofs.Facts.{both_if}
 use Rattle.pm_append.specs.Refusals.{refusal_of}
 use Rattle.pm_append.specs.declared.newest.CommitFile.{CommitFile}
 use Rattle.pm_commit.specs.Alone.{AloneAt, AloneRefused, AreUntouched, Beginning, IsTryAt, IsUnchanged, KnewAlone, KnowsAlone, ReadsNewest, SeesNewest, begun_at, newest_id, own_entry, with_entry}

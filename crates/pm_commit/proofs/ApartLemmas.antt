@@ -6,13 +6,13 @@ use Rattle.std.proofs.lemmas.List.{length-map}
 use Rattle.pm_store.specs.Files.{Files, Puts}
 use Rattle.pm_values.specs.Names.{Naming, counted, name_of}
 use Rattle.pm_values.specs.declared.group.Group.{Group}
-use Rattle.pm_history.specs.Merge.{HistoryRow}
+use Rattle.pm_model_history.specs.Merge.{HistoryRow}
 use Rattle.pm_schema.specs.Folder.{folder_text}
 use Rattle.pm_schema.specs.declared.schema.TableSchema.{TableSchema}
 use Rattle.pm_engine.specs.Covers.{Run}
 use Rattle.pm_snapshot.specs.Names.{BasedFile, MayName, manifest, manifest_list, prefix_of, rows_file, suffix_of}
 use Rattle.pm_manifest.specs.declared.entry.ManifestMeta.{ManifestMeta}
-use Rattle.pm_folder.specs.Ledger.{Past}
+use Rattle.pm_model_folder.specs.Ledger.{Past}
 use Rattle.pm_write.specs.Batch.{Groups}
 use Rattle.pm_write.specs.Files.{AreFilesOfRuns, next_run}
 use Rattle.pm_write.specs.declared.files.NewFile.{NewFile}

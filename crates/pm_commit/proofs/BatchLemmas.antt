@@ -16,9 +16,9 @@ use Rattle.pm_binrow.specs.Hashing.{bucket_of, hash_of}
 use Rattle.pm_binrow.specs.Row.{body}
 use Rattle.pm_schema.specs.Folder.{FitsPartition}
 use Rattle.pm_schema.specs.declared.schema.TableSchema.{TableSchema}
-use Rattle.pm_history.specs.ColumnValue.{index_of}
-use Rattle.pm_history.specs.Merge.{HistoryRow, key_of}
-use Rattle.pm_following.specs.Groups.{bucket_key_of, group_of, kind_at, rows_in}
+use Rattle.pm_model_history.specs.ColumnValue.{index_of}
+use Rattle.pm_model_history.specs.Merge.{HistoryRow, key_of}
+use Rattle.pm_model_following.specs.Groups.{bucket_key_of, group_of, kind_at, rows_in}
 use Rattle.pm_write.specs.Batch.{GroupRows, Groups, HoldsRows, IsBatchOf, held_of}
 use Rattle.pm_append.specs.Commit.{IsBuilt}
 use Rattle.pm_append.specs.declared.newest.Author.{Author}

@@ -11,8 +11,8 @@ use Rattle.pm_store.specs.declared.answer.Made.TheVariants as created
 use Rattle.pm_store.specs.declared.answer.Published.TheVariants as published
 use Rattle.pm_store.specs.declared.call.Call.{Call}
 use Rattle.pm_store.specs.declared.call.Call.TheVariants as calls
-use Rattle.pm_history.specs.Merge.{HistoryRow}
-use Rattle.pm_history.specs.History.{IsTableOf}
+use Rattle.pm_model_history.specs.Merge.{HistoryRow}
+use Rattle.pm_model_history.specs.History.{IsTableOf}
 use Rattle.pm_schema.specs.declared.schema.TableSchema.{TableSchema}
 use Rattle.pm_snapshot.specs.Names.{greatest}
 use Rattle.pm_snapshot.specs.Snapshot.{snapshot_in}
@@ -23,22 +23,22 @@ use Rattle.pm_manifest.specs.Entries.{entry_in, has_entry_fields}
 use Rattle.pm_manifest.specs.Listed.{has_meta_fields, meta_in}
 use Rattle.pm_manifest.specs.Live.{Live}
 use Rattle.pm_manifest.specs.Shape.{shape_of}
-use Rattle.pm_contents.specs.Groups.{Overlaps}
-use Rattle.pm_contents.specs.Lists.{manifest_path}
-use Rattle.pm_folder.specs.Ledger.{Past, Stands}
-use Rattle.pm_folder.specs.Paths.{snapshot_path}
-use Rattle.pm_folder.proofs.Facts.{snapshot-committed}
-use Rattle.pm_folder.proofs.LedgerFacts.{at-table}
-use Rattle.pm_table_view.specs.Asked.{Asked, asked_of}
-use Rattle.pm_table_view.specs.Meaning as reader_meaning
-use Rattle.pm_table_view.specs.Reader as reader
-use Rattle.pm_table_view.specs.Reader.{IsAbove, disorder, overlap}
-use Rattle.pm_table_view.specs.declared.asked.Wanted.{Wanted}
-use Rattle.pm_table_view.specs.declared.asked.Wanted.TheVariants as wants
-use Rattle.pm_table_view.specs.declared.phase.Phase as view_phase
-use Rattle.pm_table_view.specs.declared.phase.Phase.TheVariants as readers
-use Rattle.pm_table_view.specs.declared.view.View.{View}
-use Rattle.pm_table_view.proofs.Facts as reader_facts
+use Rattle.pm_model_contents.specs.Groups.{Overlaps}
+use Rattle.pm_model_contents.specs.Lists.{manifest_path}
+use Rattle.pm_model_folder.specs.Ledger.{Past, Stands}
+use Rattle.pm_model_folder.specs.Paths.{snapshot_path}
+use Rattle.pm_model_folder.proofs.Facts.{snapshot-committed}
+use Rattle.pm_model_folder.proofs.LedgerFacts.{at-table}
+use Rattle.pm_read_table.specs.Asked.{Asked, asked_of}
+use Rattle.pm_read_table.specs.Meaning as reader_meaning
+use Rattle.pm_read_table.specs.Reader as reader
+use Rattle.pm_read_table.specs.Reader.{IsAbove, disorder, overlap}
+use Rattle.pm_read_table.specs.declared.asked.Wanted.{Wanted}
+use Rattle.pm_read_table.specs.declared.asked.Wanted.TheVariants as wants
+use Rattle.pm_read_table.specs.declared.phase.Phase as view_phase
+use Rattle.pm_read_table.specs.declared.phase.Phase.TheVariants as readers
+use Rattle.pm_read_table.specs.declared.view.View.{View}
+use Rattle.pm_read_table.proofs.Facts as reader_facts
 use Rattle.pm_commit.specs.Committer.{After, AfterReader, Hears, IsCommitter, Loses, Makes, Reads, Refuses, Tries, TriesIf, found_in, manifests_call, newest_of, next_call}
 use Rattle.pm_commit.specs.Meaning.{HasOrigin, IsDenied, IsFoundIn, Knows, KnowsIn, MayRefuse, MayRefuseOwn}
 use Rattle.pm_commit.specs.Own.{OwnView, begun, begun_after}

@@ -4,19 +4,19 @@ use Rattle.std.proofs.Common.{refl, sym, ap, ◌∙◌, subst, arith}
 use Rattle.std.specs.FinMap as map
 use Rattle.std.proofs.lemmas.List.Elements.{Contains-append_left, Contains-append_right}
 use Rattle.pm_store.specs.Files.{Files}
-use Rattle.pm_history.specs.History.{Entry, History, IsTableOf, no_table, table}
+use Rattle.pm_model_history.specs.History.{Entry, History, IsTableOf, no_table, table}
 use Rattle.pm_schema.specs.declared.schema.TableSchema.{TableSchema}
 use Rattle.pm_snapshot.specs.declared.snapshot.Snapshot.{Snapshot}
 use Rattle.pm_manifest.specs.declared.entry.Entry as files
 use Rattle.pm_manifest.specs.declared.entry.ManifestMeta.{ManifestMeta}
-use Rattle.pm_contents.specs.Lists.{HaveEntries, IsManifest, manifest_path}
-use Rattle.pm_contents.specs.Named as named
-use Rattle.pm_contents.specs.Named.{Contents, HasContents, IsNamed}
-use Rattle.pm_folder.specs.Commits.{HasCommit}
-use Rattle.pm_folder.specs.Ledger.{Past, Stands, count_of}
-use Rattle.pm_folder.specs.Meaning.{HasSnapshotAt}
-use Rattle.pm_folder.specs.Paths.{snapshot_path}
-use Rattle.pm_folder.proofs.LedgerFacts.{at-table}
+use Rattle.pm_model_contents.specs.Lists.{HaveEntries, IsManifest, manifest_path}
+use Rattle.pm_model_contents.specs.Named as named
+use Rattle.pm_model_contents.specs.Named.{Contents, HasContents, IsNamed}
+use Rattle.pm_model_folder.specs.Commits.{HasCommit}
+use Rattle.pm_model_folder.specs.Ledger.{Past, Stands, count_of}
+use Rattle.pm_model_folder.specs.Meaning.{HasSnapshotAt}
+use Rattle.pm_model_folder.specs.Paths.{snapshot_path}
+use Rattle.pm_model_folder.proofs.LedgerFacts.{at-table}
 use Rattle.pm_append.specs.Commit.{AreBaseIf, HasAppended}
 use Rattle.pm_append.specs.Files.{merges}
 use Rattle.pm_append.specs.Snapshot.{new_snapshot}

@@ -10,12 +10,12 @@ use Rattle.pm_store.specs.declared.call.Call.TheVariants as calls
 use Rattle.pm_store.specs.declared.call.Effect.{Effect}
 use Rattle.pm_store.specs.declared.call.Effect.TheVariants as effects
 use Rattle.pm_store.proofs.ChangeLaws.{Puts-insert}
-use Rattle.pm_history.specs.History.{History, no_table, table}
-use Rattle.pm_history.specs.Merge.{HistoryRow}
+use Rattle.pm_model_history.specs.History.{History, no_table, table}
+use Rattle.pm_model_history.specs.Merge.{HistoryRow}
 use Rattle.pm_schema.specs.declared.schema.TableSchema.{TableSchema}
-use Rattle.pm_folder.specs.Changes.{Actor, IsNamedBy, IsNoOrigin, IsOwn}
-use Rattle.pm_folder.specs.Ledger.{Past}
-use Rattle.pm_folder.proofs.Facts.{there-absent}
+use Rattle.pm_model_folder.specs.Changes.{Actor, IsNamedBy, IsNoOrigin, IsOwn}
+use Rattle.pm_model_folder.specs.Ledger.{Past}
+use Rattle.pm_model_folder.proofs.Facts.{there-absent}
 use Rattle.pm_append.specs.Commit.{Attempt, IsBuilt, MakesNames}
 use Rattle.pm_append.specs.Files.{IsAppendOf}
 use Rattle.pm_append.specs.declared.newest.CommitFile.{CommitFile}

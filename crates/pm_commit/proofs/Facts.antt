@@ -15,22 +15,22 @@ use Rattle.pm_store.specs.declared.call.Effect.{Effect}
 use Rattle.pm_store.specs.declared.call.Effect.TheVariants as effects
 use Rattle.pm_store.proofs.ChangeLaws.{Answers-Changed}
 use Rattle.pm_machine.specs.Moves.{Changes, Leads, Sound}
-use Rattle.pm_history.specs.Merge.{HistoryRow}
+use Rattle.pm_model_history.specs.Merge.{HistoryRow}
 use Rattle.pm_schema.specs.declared.schema.TableSchema.{TableSchema}
-use Rattle.pm_folder.specs.Ledger.{Past, Stands, count_of}
-use Rattle.pm_folder.specs.Paths.{snapshot_path}
-use Rattle.pm_folder.proofs.HoldLemmas.{OneContents}
-use Rattle.pm_folder.proofs.LedgerFacts.{stood-read}
-use Rattle.pm_view.proofs.Facts.{list_effect, read_effect}
-use Rattle.pm_table_view.specs.Asked.{Asked, asked_of}
-use Rattle.pm_table_view.specs.Meaning as reader_meaning
-use Rattle.pm_table_view.specs.Meaning.{IsKept}
-use Rattle.pm_table_view.specs.Reader as reader
-use Rattle.pm_table_view.specs.declared.phase.Phase as view_phase
-use Rattle.pm_table_view.specs.declared.phase.Phase.TheVariants as readers
-use Rattle.pm_table_view.specs.declared.view.View.{View}
-use Rattle.pm_table_view.proofs.Facts as reader_facts
-use Rattle.pm_table_view.proofs.Facts.{Joined, OneList, both_if}
+use Rattle.pm_model_folder.specs.Ledger.{Past, Stands, count_of}
+use Rattle.pm_model_folder.specs.Paths.{snapshot_path}
+use Rattle.pm_model_folder.proofs.HoldLemmas.{OneContents}
+use Rattle.pm_model_folder.proofs.LedgerFacts.{stood-read}
+use Rattle.pm_read_schema.proofs.Facts.{list_effect, read_effect}
+use Rattle.pm_read_table.specs.Asked.{Asked, asked_of}
+use Rattle.pm_read_table.specs.Meaning as reader_meaning
+use Rattle.pm_read_table.specs.Meaning.{IsKept}
+use Rattle.pm_read_table.specs.Reader as reader
+use Rattle.pm_read_table.specs.declared.phase.Phase as view_phase
+use Rattle.pm_read_table.specs.declared.phase.Phase.TheVariants as readers
+use Rattle.pm_read_table.specs.declared.view.View.{View}
+use Rattle.pm_read_table.proofs.Facts as reader_facts
+use Rattle.pm_read_table.proofs.Facts.{Joined, OneList, both_if}
 use Rattle.pm_commit.specs.Alone.{with_entry}
 use Rattle.pm_commit.specs.Committer.{After, AfterReader, Goes, IsCommitter, Loses, Outcome, Reads, Refuses, Stops, Tries, after_path, first_of_try, found_in, manifests_call, newest_of, next_call, publish_call}
 use Rattle.pm_commit.specs.Meaning.{HasOrigin, IsFoundIn, Knows, KnowsIn, KnowsOwn, KnowsTry, MakesOwn, MakesRows, entry_of}

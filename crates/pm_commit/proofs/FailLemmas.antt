@@ -5,9 +5,9 @@ use Rattle.pm_store.specs.declared.call.Call.{Call}
 use Rattle.pm_store.specs.declared.call.Call.TheVariants as calls
 use Rattle.pm_machine.specs.Trace.{Event, faulted}
 use Rattle.pm_schema.specs.declared.schema.TableSchema.{TableSchema}
-use Rattle.pm_view.specs.Reader.{snapshots_call}
-use Rattle.pm_table_view.specs.Asked.{Asked}
-use Rattle.pm_table_view.specs.Trace.{IsFailed, in_again, in_base, in_delta, in_listing, in_manifest, in_origin, in_snapshot}
+use Rattle.pm_read_schema.specs.Reader.{snapshots_call}
+use Rattle.pm_read_table.specs.Asked.{Asked}
+use Rattle.pm_read_table.specs.Trace.{IsFailed, in_again, in_base, in_delta, in_listing, in_manifest, in_origin, in_snapshot}
 use Rattle.pm_commit.specs.Own.{OwnView}
 use Rattle.pm_commit.specs.Trace.{Shows}
 

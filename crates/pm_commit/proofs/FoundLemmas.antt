@@ -6,19 +6,19 @@ use Rattle.pm_schema.specs.declared.schema.TableSchema.{TableSchema}
 use Rattle.pm_snapshot.specs.declared.snapshot.Snapshot.{Snapshot}
 use Rattle.pm_manifest.specs.Live.{live_after}
 use Rattle.pm_manifest.specs.declared.entry.Entry as files
-use Rattle.pm_contents.specs.Lists.{none_live}
-use Rattle.pm_contents.specs.Named.{Contents, HasContents}
-use Rattle.pm_folder.specs.Commits.{HasCommit}
-use Rattle.pm_folder.specs.Entries.{AreLive}
-use Rattle.pm_folder.specs.Ledger.{IsKnown, Past, Stands}
-use Rattle.pm_folder.specs.Meaning.{HasSnapshotAt}
-use Rattle.pm_folder.specs.Paths.{snapshot_path}
-use Rattle.pm_folder.proofs.LedgerFacts.{at-table}
-use Rattle.pm_table_view.specs.Meaning.{IsViewIn, Stood, view_origin, view_snapshot}
-use Rattle.pm_table_view.specs.View.{kept_for, live_entries}
-use Rattle.pm_table_view.specs.declared.asked.Wanted.{Wanted}
-use Rattle.pm_table_view.specs.declared.view.View.{View}
-use Rattle.pm_table_view.proofs.Facts.{stood_contents}
+use Rattle.pm_model_contents.specs.Lists.{none_live}
+use Rattle.pm_model_contents.specs.Named.{Contents, HasContents}
+use Rattle.pm_model_folder.specs.Commits.{HasCommit}
+use Rattle.pm_model_folder.specs.Entries.{AreLive}
+use Rattle.pm_model_folder.specs.Ledger.{IsKnown, Past, Stands}
+use Rattle.pm_model_folder.specs.Meaning.{HasSnapshotAt}
+use Rattle.pm_model_folder.specs.Paths.{snapshot_path}
+use Rattle.pm_model_folder.proofs.LedgerFacts.{at-table}
+use Rattle.pm_read_table.specs.Meaning.{IsViewIn, Stood, view_origin, view_snapshot}
+use Rattle.pm_read_table.specs.View.{kept_for, live_entries}
+use Rattle.pm_read_table.specs.declared.asked.Wanted.{Wanted}
+use Rattle.pm_read_table.specs.declared.view.View.{View}
+use Rattle.pm_read_table.proofs.Facts.{stood_contents}
 use Rattle.pm_append.specs.Commit.{IsFoundAs}
 use Rattle.pm_append.specs.declared.newest.Newest.{Newest}
 use Rattle.pm_commit.specs.Committer.{newest_in}

@@ -1,14 +1,14 @@
 -- What a committer knows after an answer.
 use Rattle.std.proofs.Common.{◌≡◌, ℕ, ◌+◌, ◌^◌, ◌<◌, ◌≤◌, Bool, true, false, List, [], ◌∷◌, length, Ok, refl, sym, ap, ◌∙◌, subst, arith}
 use Rattle.pm_store.specs.Files.{Files}
-use Rattle.pm_history.specs.History.{History, IsTableOf, no_table, table}
-use Rattle.pm_history.specs.Merge.{HistoryRow}
+use Rattle.pm_model_history.specs.History.{History, IsTableOf, no_table, table}
+use Rattle.pm_model_history.specs.Merge.{HistoryRow}
 use Rattle.pm_schema.specs.declared.schema.TableSchema.{TableSchema}
 use Rattle.pm_snapshot.specs.Names.{greatest}
-use Rattle.pm_folder.specs.Folder.{Folder}
-use Rattle.pm_folder.specs.Ledger.{Past, Stands, count_of}
-use Rattle.pm_table_view.specs.Meaning.{IsViewIn, view_origin, view_snapshot}
-use Rattle.pm_table_view.specs.declared.view.View.{View}
+use Rattle.pm_model_folder.specs.Folder.{Folder}
+use Rattle.pm_model_folder.specs.Ledger.{Past, Stands, count_of}
+use Rattle.pm_read_table.specs.Meaning.{IsViewIn, view_origin, view_snapshot}
+use Rattle.pm_read_table.specs.declared.view.View.{View}
 use Rattle.pm_append.specs.Commit.{Attempt}
 use Rattle.pm_append.specs.declared.newest.Author.{Author}
 use Rattle.pm_append.specs.declared.newest.CommitFile.{CommitFile}

@@ -4,7 +4,7 @@ use Rattle.std.proofs.Common.{◌≡◌, ℕ, ◌+◌, ◌<◌, suc, List, [], �
 use Rattle.std.proofs.lemmas.List.{take_more}
 use Rattle.std.specs.Str.Iter.{HasSubslice}
 use Rattle.pm_values.specs.Names.{Naming}
-use Rattle.pm_contents.specs.Lists.{manifest_path}
+use Rattle.pm_model_contents.specs.Lists.{manifest_path}
 use Rattle.pm_commit.specs.Marks.{FindsUsed, HaveNone, mark_of}
 
 drop_next : {X : Type 0} (xs : List X) (i : ℕ) (x : X) → i < length xs → x ≡ get_or xs i x → drop i xs ≡ x ∷ drop (i + 1) xs

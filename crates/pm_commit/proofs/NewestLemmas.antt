@@ -12,7 +12,7 @@ use Rattle.pm_store.specs.declared.answer.Answer.TheVariants as answers
 use Rattle.pm_store.specs.declared.answer.Published.{Published}
 use Rattle.pm_store.specs.declared.answer.Published.TheVariants as published
 use Rattle.pm_machine.specs.Moves.{Leads}
-use Rattle.pm_history.specs.History.{Entry, IsTableOf}
+use Rattle.pm_model_history.specs.History.{Entry, IsTableOf}
 use Rattle.pm_schema.specs.declared.schema.TableSchema.{TableSchema}
 use Rattle.pm_snapshot.specs.Names.{greatest, snapshot_name}
 use Rattle.pm_snapshot.specs.declared.snapshot.Snapshot.{Snapshot}
@@ -23,26 +23,26 @@ use Rattle.pm_manifest.specs.Live.{Live}
 use Rattle.pm_manifest.specs.Shape.{shape_of}
 use Rattle.pm_manifest.specs.declared.entry.Entry as files
 use Rattle.pm_manifest.specs.declared.entry.ManifestMeta.{ManifestMeta}
-use Rattle.pm_contents.specs.Groups.{Overlaps}
-use Rattle.pm_contents.specs.Lists.{manifest_path}
-use Rattle.pm_folder.specs.Folder.{HasTable}
-use Rattle.pm_folder.specs.Ledger.{Past, Stands, count_of}
-use Rattle.pm_folder.specs.Meaning.{HasSnapshotAt}
-use Rattle.pm_folder.specs.Paths.{snapshot_file, snapshot_folder, snapshot_path}
-use Rattle.pm_folder.proofs.Facts.{newest-there, snapshot-led, some-none}
-use Rattle.pm_folder.proofs.LedgerFacts.{at-table, count-is}
-use Rattle.pm_table_view.specs.Asked.{Asked, SoughtView, sought_of}
-use Rattle.pm_table_view.specs.Meaning as reader_meaning
-use Rattle.pm_table_view.specs.Meaning.{HasGone, IsExpired}
-use Rattle.pm_table_view.specs.Names.{IsLatest}
-use Rattle.pm_table_view.specs.Reader as reader
-use Rattle.pm_table_view.specs.Reader.{disorder, opening, origin_name, origin_path, overlap}
-use Rattle.pm_table_view.specs.Reading.{Filed}
-use Rattle.pm_table_view.specs.View.{kept_for}
-use Rattle.pm_table_view.specs.declared.phase.Phase as view_phase
-use Rattle.pm_table_view.specs.declared.phase.Phase.TheVariants as readers
-use Rattle.pm_table_view.proofs.Facts as reader_facts
-use Rattle.pm_table_view.proofs.Facts.{Joined, OneList}
+use Rattle.pm_model_contents.specs.Groups.{Overlaps}
+use Rattle.pm_model_contents.specs.Lists.{manifest_path}
+use Rattle.pm_model_folder.specs.Folder.{HasTable}
+use Rattle.pm_model_folder.specs.Ledger.{Past, Stands, count_of}
+use Rattle.pm_model_folder.specs.Meaning.{HasSnapshotAt}
+use Rattle.pm_model_folder.specs.Paths.{snapshot_file, snapshot_folder, snapshot_path}
+use Rattle.pm_model_folder.proofs.Facts.{newest-there, snapshot-led, some-none}
+use Rattle.pm_model_folder.proofs.LedgerFacts.{at-table, count-is}
+use Rattle.pm_read_table.specs.Asked.{Asked, SoughtView, sought_of}
+use Rattle.pm_read_table.specs.Meaning as reader_meaning
+use Rattle.pm_read_table.specs.Meaning.{HasGone, IsExpired}
+use Rattle.pm_read_table.specs.Names.{IsLatest}
+use Rattle.pm_read_table.specs.Reader as reader
+use Rattle.pm_read_table.specs.Reader.{disorder, opening, origin_name, origin_path, overlap}
+use Rattle.pm_read_table.specs.Reading.{Filed}
+use Rattle.pm_read_table.specs.View.{kept_for}
+use Rattle.pm_read_table.specs.declared.phase.Phase as view_phase
+use Rattle.pm_read_table.specs.declared.phase.Phase.TheVariants as readers
+use Rattle.pm_read_table.proofs.Facts as reader_facts
+use Rattle.pm_read_table.proofs.Facts.{Joined, OneList}
 use Rattle.pm_commit.specs.Alone.{ReadsNewest}
 use Rattle.pm_commit.specs.Committer.{Reads, after_path, newest_of, publish_call}
 use Rattle.pm_commit.specs.Trace.{IsLost}

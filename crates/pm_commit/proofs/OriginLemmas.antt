@@ -4,28 +4,28 @@ use Rattle.pm_store.specs.Answers.{Answers}
 use Rattle.pm_store.specs.declared.answer.Answer.{Answer}
 use Rattle.pm_store.specs.declared.answer.Answer.TheVariants as answers
 use Rattle.pm_store.specs.Files.{Files, IsListing}
-use Rattle.pm_history.specs.History.{History, IsTableOf, no_table, table}
+use Rattle.pm_model_history.specs.History.{History, IsTableOf, no_table, table}
 use Rattle.pm_schema.specs.declared.schema.TableSchema.{TableSchema}
 use Rattle.pm_snapshot.specs.Names.{snapshot_name}
 use Rattle.pm_snapshot.specs.declared.snapshot.Snapshot.{Snapshot}
 use Rattle.pm_manifest.specs.declared.entry.Entry.{Entry}
 use Rattle.pm_manifest.specs.declared.entry.ManifestMeta.{ManifestMeta}
-use Rattle.pm_folder.specs.Folder.{Folder}
-use Rattle.pm_folder.specs.Ledger.{Past, Stands}
-use Rattle.pm_folder.specs.Paths.{snapshot_folder}
-use Rattle.pm_folder.proofs.Facts.{snapshot-led, unnamed-origin}
-use Rattle.pm_table_view.specs.Asked.{Asked, SoughtView, sought_of}
-use Rattle.pm_table_view.specs.Meaning as meaning
-use Rattle.pm_table_view.specs.Meaning.{Stood}
-use Rattle.pm_table_view.specs.Names.{IsLatest}
-use Rattle.pm_table_view.specs.Reader as reader
-use Rattle.pm_table_view.specs.Reader.{IsAsked, opening}
-use Rattle.pm_table_view.specs.Reading.{Filed}
-use Rattle.pm_table_view.specs.View.{kept_for}
-use Rattle.pm_table_view.specs.declared.asked.Wanted.{Wanted}
-use Rattle.pm_table_view.specs.declared.asked.Wanted.TheVariants as wants
-use Rattle.pm_table_view.specs.declared.phase.Phase as view_phase
-use Rattle.pm_table_view.specs.declared.phase.Phase.TheVariants as readers
+use Rattle.pm_model_folder.specs.Folder.{Folder}
+use Rattle.pm_model_folder.specs.Ledger.{Past, Stands}
+use Rattle.pm_model_folder.specs.Paths.{snapshot_folder}
+use Rattle.pm_model_folder.proofs.Facts.{snapshot-led, unnamed-origin}
+use Rattle.pm_read_table.specs.Asked.{Asked, SoughtView, sought_of}
+use Rattle.pm_read_table.specs.Meaning as meaning
+use Rattle.pm_read_table.specs.Meaning.{Stood}
+use Rattle.pm_read_table.specs.Names.{IsLatest}
+use Rattle.pm_read_table.specs.Reader as reader
+use Rattle.pm_read_table.specs.Reader.{IsAsked, opening}
+use Rattle.pm_read_table.specs.Reading.{Filed}
+use Rattle.pm_read_table.specs.View.{kept_for}
+use Rattle.pm_read_table.specs.declared.asked.Wanted.{Wanted}
+use Rattle.pm_read_table.specs.declared.asked.Wanted.TheVariants as wants
+use Rattle.pm_read_table.specs.declared.phase.Phase as view_phase
+use Rattle.pm_read_table.specs.declared.phase.Phase.TheVariants as readers
 use Rattle.pm_commit.specs.Committer.{Reads, newest_of}
 use Rattle.pm_commit.specs.Meaning.{HasOrigin}
 use Rattle.pm_commit.proofs.CommitterLemmas.{asked-same}

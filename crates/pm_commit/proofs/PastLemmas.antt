@@ -1,10 +1,10 @@
 -- A folder that is found has a past in which each snapshot that is there stood as it stands now.
 use Rattle.std.proofs.Common.{◌≡◌, inr, ℕ, ◌≤◌, List, length, refl, arith}
 use Rattle.pm_store.specs.Files.{Files}
-use Rattle.pm_history.specs.History.{Entry, History, no_table, table}
+use Rattle.pm_model_history.specs.History.{Entry, History, no_table, table}
 use Rattle.pm_schema.specs.declared.schema.TableSchema.{TableSchema}
-use Rattle.pm_folder.specs.Folder.{Folder, HasTable, IsFrom}
-use Rattle.pm_folder.specs.Ledger.{KeepsFiles, KnowsTable, Past, Stands}
+use Rattle.pm_model_folder.specs.Folder.{Folder, HasTable, IsFrom}
+use Rattle.pm_model_folder.specs.Ledger.{KeepsFiles, KnowsTable, Past, Stands}
 
 -- from its least snapshot on, each stands as it is
 abbrev found_past : Files → History → ℕ → Past

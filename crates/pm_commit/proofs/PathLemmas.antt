@@ -9,12 +9,12 @@ use Rattle.pm_schema.specs.Folder.{parts_text}
 use Rattle.pm_schema.specs.declared.schema.TableSchema.{TableSchema}
 use Rattle.pm_snapshot.specs.Names.{greatest}
 use Rattle.pm_snapshot.specs.declared.snapshot.Snapshot.{Snapshot}
-use Rattle.pm_contents.specs.Lists.{manifest_path}
-use Rattle.pm_contents.specs.Named.{Contents, IsNamed, base_list, changelog_list, changes_file, data_file, delta_list, manifest}
-use Rattle.pm_contents.specs.Runs.{data_path}
-use Rattle.pm_folder.specs.Changes.{Actor, IsNamedBy, IsOwn, its_file, its_origin, origin_name}
-use Rattle.pm_folder.specs.Commits.{Names}
-use Rattle.pm_folder.specs.Paths.{schema_path, snapshot_file, snapshot_path}
+use Rattle.pm_model_contents.specs.Lists.{manifest_path}
+use Rattle.pm_model_contents.specs.Named.{Contents, IsNamed, base_list, changelog_list, changes_file, data_file, delta_list, manifest}
+use Rattle.pm_model_contents.specs.Runs.{data_path}
+use Rattle.pm_model_folder.specs.Changes.{Actor, IsNamedBy, IsOwn, its_file, its_origin, origin_name}
+use Rattle.pm_model_folder.specs.Commits.{Names}
+use Rattle.pm_model_folder.specs.Paths.{schema_path, snapshot_file, snapshot_path}
 
 -- a path in the folder of manifests, or in a bucket of a table without partition columns, by its first byte
 abbrev pub InTable : List ℕ → Type 0

@@ -8,20 +8,20 @@ use Rattle.pm_store.specs.Files.{Files, Puts}
 use Rattle.pm_store.specs.Answers.{published_at}
 use Rattle.pm_store.specs.declared.answer.Published.TheVariants as published
 use Rattle.pm_store.proofs.ChangeLaws.{Puts-insert}
-use Rattle.pm_history.specs.History.{Entry, IsTableOf, append, table}
-use Rattle.pm_history.specs.Merge.{HistoryRow}
+use Rattle.pm_model_history.specs.History.{Entry, IsTableOf, append, table}
+use Rattle.pm_model_history.specs.Merge.{HistoryRow}
 use Rattle.pm_schema.specs.declared.schema.TableSchema.{TableSchema}
 use Rattle.pm_snapshot.specs.Names.{greatest}
-use Rattle.pm_folder.specs.Changes.{Actor, IsNamedBy, NamesOwn, appended}
-use Rattle.pm_folder.specs.Commits.{IsAppend, Names}
-use Rattle.pm_folder.specs.Folder.{Folder, HasTable}
-use Rattle.pm_folder.specs.Ledger.{Advances, HasNamedNone, IsKnown, KnowsTable, Past, Stands, count_of}
-use Rattle.pm_folder.specs.Meaning.{HasSnapshotAt}
-use Rattle.pm_folder.specs.Paths.{snapshot_file, snapshot_path}
-use Rattle.pm_folder.proofs.HoldLemmas.{OneContents}
-use Rattle.pm_folder.proofs.LedgerFacts.{at-table, count-is}
-use Rattle.pm_table_view.specs.Reader.{origin_name, origin_path}
-use Rattle.pm_table_view.specs.declared.view.View.{View}
+use Rattle.pm_model_folder.specs.Changes.{Actor, IsNamedBy, NamesOwn, appended}
+use Rattle.pm_model_folder.specs.Commits.{IsAppend, Names}
+use Rattle.pm_model_folder.specs.Folder.{Folder, HasTable}
+use Rattle.pm_model_folder.specs.Ledger.{Advances, HasNamedNone, IsKnown, KnowsTable, Past, Stands, count_of}
+use Rattle.pm_model_folder.specs.Meaning.{HasSnapshotAt}
+use Rattle.pm_model_folder.specs.Paths.{snapshot_file, snapshot_path}
+use Rattle.pm_model_folder.proofs.HoldLemmas.{OneContents}
+use Rattle.pm_model_folder.proofs.LedgerFacts.{at-table, count-is}
+use Rattle.pm_read_table.specs.Reader.{origin_name, origin_path}
+use Rattle.pm_read_table.specs.declared.view.View.{View}
 use Rattle.pm_write.specs.Batch.{Groups, IsBatchOf}
 use Rattle.pm_append.specs.Commit.{Attempt, HasAppended, IsAsMade, IsFoundAs, IsReady}
 use Rattle.pm_append.specs.declared.newest.Author.{Author}

@@ -14,18 +14,18 @@ use Rattle.pm_manifest.specs.Shape.{Shape, shape_of}
 use Rattle.pm_manifest.specs.declared.entry.Entry.{Entry}
 use Rattle.pm_manifest.specs.declared.entry.ManifestMeta.{ManifestMeta}
 use Rattle.pm_run.specs.Row.{most_sequence}
-use Rattle.pm_table_view.specs.Asked.{Asked, SoughtView, asked_of, sought_of}
-use Rattle.pm_view.proofs.ListLemmas.{here, more}
-use Rattle.pm_table_view.specs.Names as listing
-use Rattle.pm_table_view.specs.Reader as reader
-use Rattle.pm_table_view.specs.Reader.{opening}
-use Rattle.pm_table_view.specs.Reading.{Filed}
-use Rattle.pm_table_view.specs.View.{has_entry, kept_for, live_entries}
-use Rattle.pm_table_view.specs.declared.asked.Wanted.{Wanted}
-use Rattle.pm_table_view.specs.declared.asked.Wanted.TheVariants as wants
-use Rattle.pm_table_view.specs.declared.phase.Phase as view_phase
-use Rattle.pm_table_view.specs.declared.phase.Phase.TheVariants as readers
-use Rattle.pm_table_view.specs.declared.view.View.{View}
+use Rattle.pm_read_table.specs.Asked.{Asked, SoughtView, asked_of, sought_of}
+use Rattle.pm_read_schema.proofs.ListLemmas.{here, more}
+use Rattle.pm_read_table.specs.Names as listing
+use Rattle.pm_read_table.specs.Reader as reader
+use Rattle.pm_read_table.specs.Reader.{opening}
+use Rattle.pm_read_table.specs.Reading.{Filed}
+use Rattle.pm_read_table.specs.View.{has_entry, kept_for, live_entries}
+use Rattle.pm_read_table.specs.declared.asked.Wanted.{Wanted}
+use Rattle.pm_read_table.specs.declared.asked.Wanted.TheVariants as wants
+use Rattle.pm_read_table.specs.declared.phase.Phase as view_phase
+use Rattle.pm_read_table.specs.declared.phase.Phase.TheVariants as readers
+use Rattle.pm_read_table.specs.declared.view.View.{View}
 use Rattle.pm_commit.specs.Committer.{AreIds, AreNumbered, Reads, asked_in, entries_in, listed_in, newest_of}
 
 -- what the law of entries that are read says

@@ -9,12 +9,12 @@ use Rattle.pm_store.specs.declared.answer.Published.TheVariants as published
 use Rattle.pm_store.specs.declared.call.Call.{Call}
 use Rattle.pm_machine.specs.Step.{Answered, Stepped, Rested, Went, Refused, Stopped, Failed}
 use Rattle.pm_schema.specs.declared.schema.TableSchema.{TableSchema}
-use Rattle.pm_table_view.specs.Reader as reader
-use Rattle.pm_table_view.specs.Reader.{most}
-use Rattle.pm_table_view.specs.declared.phase.Phase as view_phase
-use Rattle.pm_table_view.specs.declared.phase.Phase.TheVariants as readers
-use Rattle.pm_table_view.specs.declared.view.View.{View}
-use Rattle.pm_table_view.proofs.Facts as reader_facts
+use Rattle.pm_read_table.specs.Reader as reader
+use Rattle.pm_read_table.specs.Reader.{most}
+use Rattle.pm_read_table.specs.declared.phase.Phase as view_phase
+use Rattle.pm_read_table.specs.declared.phase.Phase.TheVariants as readers
+use Rattle.pm_read_table.specs.declared.view.View.{View}
+use Rattle.pm_read_table.proofs.Facts as reader_facts
 use Rattle.pm_append.specs.declared.newest.CommitFile.{CommitFile}
 use Rattle.pm_commit.specs.Committer.{After, AfterReader, Goes, Hears, IsCommitter, Makes, MayMake, Outcome, Reaches, Reads, Refuses, Seeks, Stops, Tries, TriesIf, calls_left, create_next, first_of_try, found_in, later_tries, most_of_try, next_call, publishing_of, reached_at}
 use Rattle.pm_commit.specs.Own.{IsOwn, OwnView, begun, most_files, tries, with_lost, with_named}

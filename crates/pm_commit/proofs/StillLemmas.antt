@@ -3,18 +3,18 @@ use Rattle.std.proofs.Common.{◌≡◌, ◌≢◌, ℕ, ◌≤◌, List, [], �
 use Rattle.std.specs.FinMap as map
 use Rattle.std.specs.List.{AllByRecursion}
 use Rattle.pm_store.specs.Files.{Files}
-use Rattle.pm_history.specs.History.{GoesOn, History, IsTableOf, no_table, table}
-use Rattle.pm_history.specs.Merge.{HistoryRow}
+use Rattle.pm_model_history.specs.History.{GoesOn, History, IsTableOf, no_table, table}
+use Rattle.pm_model_history.specs.Merge.{HistoryRow}
 use Rattle.pm_schema.specs.declared.schema.TableSchema.{TableSchema}
-use Rattle.pm_folder.specs.Changes.{Actor}
-use Rattle.pm_folder.specs.Ledger.{Advances, HasNamedNone, Past, Stands, count_of}
-use Rattle.pm_folder.specs.Meaning.{SnapshotAt}
-use Rattle.pm_folder.proofs.Facts.{goes_on, stays}
-use Rattle.pm_folder.proofs.LedgerFacts.{known-still}
-use Rattle.pm_contents.specs.Lists.{HasEntries}
-use Rattle.pm_table_view.specs.Meaning.{IsViewIn, view_origin, view_snapshot}
-use Rattle.pm_table_view.specs.declared.view.View.{View}
-use Rattle.pm_table_view.proofs.Facts as reader_facts
+use Rattle.pm_model_folder.specs.Changes.{Actor}
+use Rattle.pm_model_folder.specs.Ledger.{Advances, HasNamedNone, Past, Stands, count_of}
+use Rattle.pm_model_folder.specs.Meaning.{SnapshotAt}
+use Rattle.pm_model_folder.proofs.Facts.{goes_on, stays}
+use Rattle.pm_model_folder.proofs.LedgerFacts.{known-still}
+use Rattle.pm_model_contents.specs.Lists.{HasEntries}
+use Rattle.pm_read_table.specs.Meaning.{IsViewIn, view_origin, view_snapshot}
+use Rattle.pm_read_table.specs.declared.view.View.{View}
+use Rattle.pm_read_table.proofs.Facts as reader_facts
 use Rattle.pm_append.specs.Commit.{HasAppended}
 use Rattle.pm_append.specs.declared.newest.Author.{Author}
 use Rattle.pm_append.specs.declared.newest.CommitFile.{CommitFile}

@@ -17,17 +17,17 @@ use Rattle.pm_machine.specs.Trace.{Event, Recounts, answered, faulted}
 use Rattle.pm_schema.specs.declared.schema.TableSchema.{TableSchema}
 use Rattle.pm_snapshot.specs.Snapshot.{snapshot_in}
 use Rattle.pm_snapshot.specs.declared.snapshot.Snapshot.{Snapshot}
-use Rattle.pm_contents.specs.Lists.{manifest_path}
-use Rattle.pm_folder.specs.Paths.{snapshot_folder, snapshot_path}
-use Rattle.pm_table_view.specs.Reader as reader
-use Rattle.pm_table_view.specs.Reader.{origin_path}
-use Rattle.pm_table_view.specs.Trace as reader_trace
-use Rattle.pm_table_view.specs.Trace.{of_origin, of_snapshot, read_file}
-use Rattle.pm_table_view.specs.declared.phase.Phase as view_phase
-use Rattle.pm_table_view.specs.declared.phase.Phase.TheVariants as readers
-use Rattle.pm_table_view.specs.declared.view.View.{View}
-use Rattle.pm_table_view.proofs.Facts as reader_facts
-use Rattle.pm_table_view.proofs.Facts.{Joined}
+use Rattle.pm_model_contents.specs.Lists.{manifest_path}
+use Rattle.pm_model_folder.specs.Paths.{snapshot_folder, snapshot_path}
+use Rattle.pm_read_table.specs.Reader as reader
+use Rattle.pm_read_table.specs.Reader.{origin_path}
+use Rattle.pm_read_table.specs.Trace as reader_trace
+use Rattle.pm_read_table.specs.Trace.{of_origin, of_snapshot, read_file}
+use Rattle.pm_read_table.specs.declared.phase.Phase as view_phase
+use Rattle.pm_read_table.specs.declared.phase.Phase.TheVariants as readers
+use Rattle.pm_read_table.specs.declared.view.View.{View}
+use Rattle.pm_read_table.proofs.Facts as reader_facts
+use Rattle.pm_read_table.proofs.Facts.{Joined}
 use Rattle.pm_write.specs.Batch.{Groups}
 use Rattle.pm_append.specs.Files.{IsAppendOf}
 use Rattle.pm_append.specs.Refusals.{above_files, above_id, above_numbers, is_fenced, no_files, no_id, passed, refusal_of}

@@ -9,20 +9,20 @@ use Rattle.pm_store.specs.Files.{Files, files_after}
 use Rattle.pm_store.specs.Images.{Extends}
 use Rattle.pm_store.specs.Store.{StoreView, FromFirst, IsAlone}
 use Rattle.pm_machine.specs.Trace.{Event}
-use Rattle.pm_history.specs.History.{History, IsTableOf}
+use Rattle.pm_model_history.specs.History.{History, IsTableOf}
 use Rattle.pm_schema.specs.declared.schema.TableSchema.{TableSchema}
 use Rattle.pm_snapshot.specs.Names.{MayName}
 use Rattle.pm_snapshot.specs.declared.snapshot.Snapshot.{Snapshot}
-use Rattle.pm_folder.specs.Changes.{Actor, IsNamedBy}
-use Rattle.pm_folder.specs.Commits.{Names}
-use Rattle.pm_folder.specs.Folder.{Folder, IsRowOf}
-use Rattle.pm_folder.specs.Ledger.{HasNamedNone, IsKnown, Past, Stands, count_of}
-use Rattle.pm_folder.specs.Meaning.{SnapshotAt}
-use Rattle.pm_folder.specs.Paths.{snapshot_path}
-use Rattle.pm_view.specs.AllCalls.{HasFiles}
-use Rattle.pm_view.specs.Reader.{schemas_call}
-use Rattle.pm_view.specs.Trace as schema
-use Rattle.pm_view.specs.declared.phase.Phase.TheVariants as readers
+use Rattle.pm_model_folder.specs.Changes.{Actor, IsNamedBy}
+use Rattle.pm_model_folder.specs.Commits.{Names}
+use Rattle.pm_model_folder.specs.Folder.{Folder, IsRowOf}
+use Rattle.pm_model_folder.specs.Ledger.{HasNamedNone, IsKnown, Past, Stands, count_of}
+use Rattle.pm_model_folder.specs.Meaning.{SnapshotAt}
+use Rattle.pm_model_folder.specs.Paths.{snapshot_path}
+use Rattle.pm_read_schema.specs.AllCalls.{HasFiles}
+use Rattle.pm_read_schema.specs.Reader.{schemas_call}
+use Rattle.pm_read_schema.specs.Trace as schema
+use Rattle.pm_read_schema.specs.declared.phase.Phase.TheVariants as readers
 use Rattle.pm_write.specs.Batch.{IsBatchOf}
 use Rattle.pm_append.specs.Commit.{HasAppended}
 use Rattle.pm_append.specs.declared.newest.Author.{Author}

@@ -8,13 +8,13 @@ use Rattle.pm_values.specs.declared.refusal.Refusal.TheVariants as refusals
 use Rattle.pm_store.specs.Files.{Files, IsListing}
 use Rattle.pm_store.specs.Store.{StoreView}
 use Rattle.pm_machine.specs.Moves.{Moves}
-use Rattle.pm_history.specs.History.{Entry, History, IsTableOf, no_table, table}
-use Rattle.pm_history.specs.Merge.{HistoryRow}
-use Rattle.pm_folder.specs.Changes.{IsNamedBy}
-use Rattle.pm_folder.specs.Ledger.{Past, Stands, count_of}
-use Rattle.pm_folder.specs.Paths.{snapshot_path}
-use Rattle.pm_table_view.specs.declared.phase.Phase as view_phase
-use Rattle.pm_table_view.specs.declared.phase.Phase.TheVariants as readers
+use Rattle.pm_model_history.specs.History.{Entry, History, IsTableOf, no_table, table}
+use Rattle.pm_model_history.specs.Merge.{HistoryRow}
+use Rattle.pm_model_folder.specs.Changes.{IsNamedBy}
+use Rattle.pm_model_folder.specs.Ledger.{Past, Stands, count_of}
+use Rattle.pm_model_folder.specs.Paths.{snapshot_path}
+use Rattle.pm_read_table.specs.declared.phase.Phase as view_phase
+use Rattle.pm_read_table.specs.declared.phase.Phase.TheVariants as readers
 use Rattle.pm_append.specs.Commit.{IsFoundAs}
 use Rattle.pm_append.specs.Refusals.{refusal_of}
 use Rattle.pm_append.specs.declared.newest.CommitFile.{CommitFile}

@@ -4,7 +4,7 @@ use Rattle.std.specs.List.{AllByRecursion}
 use Rattle.std.specs.Str.Iter.{HasSubslice}
 use Rattle.uuid.specs.Text.{hyphenated_text, hyphen, lower}
 use Rattle.pm_values.specs.Names.{Naming}
-use Rattle.pm_contents.specs.Lists.{manifest_path}
+use Rattle.pm_model_contents.specs.Lists.{manifest_path}
 
 -- the session and the number of the actor, between hyphens
 abbrev pub mark_of : Naming → List ℕ

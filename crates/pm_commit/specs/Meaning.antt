@@ -8,21 +8,21 @@ use Rattle.pm_values.specs.declared.refusal.Refusal.TheVariants as refusals
 use Rattle.pm_store.specs.Files.{Files, IsListing}
 use Rattle.pm_store.specs.Store.{StoreView}
 use Rattle.pm_machine.specs.Moves.{Moves}
-use Rattle.pm_history.specs.History.{Entry, History, IsTableOf, append, table}
-use Rattle.pm_history.specs.Merge.{HistoryRow}
+use Rattle.pm_model_history.specs.History.{Entry, History, IsTableOf, append, table}
+use Rattle.pm_model_history.specs.Merge.{HistoryRow}
 use Rattle.pm_schema.specs.declared.schema.TableSchema.{TableSchema}
 use Rattle.pm_snapshot.specs.Names.{MayName}
 use Rattle.pm_snapshot.specs.declared.snapshot.Snapshot.{Snapshot}
-use Rattle.pm_folder.specs.Changes.{Actor}
-use Rattle.pm_folder.specs.Folder.{IsRowOf}
-use Rattle.pm_folder.specs.Ledger.{Advances, HasNamedNone, IsKnown, Past, Stands, count_of}
-use Rattle.pm_folder.specs.Meaning.{SnapshotAt}
-use Rattle.pm_table_view.specs.Meaning as reader
-use Rattle.pm_table_view.specs.Meaning.{IsViewIn}
-use Rattle.pm_table_view.specs.declared.asked.Wanted.TheVariants as wants
-use Rattle.pm_table_view.specs.declared.phase.Phase as view_phase
-use Rattle.pm_table_view.specs.declared.phase.Phase.TheVariants as readers
-use Rattle.pm_table_view.specs.declared.view.View.{View}
+use Rattle.pm_model_folder.specs.Changes.{Actor}
+use Rattle.pm_model_folder.specs.Folder.{IsRowOf}
+use Rattle.pm_model_folder.specs.Ledger.{Advances, HasNamedNone, IsKnown, Past, Stands, count_of}
+use Rattle.pm_model_folder.specs.Meaning.{SnapshotAt}
+use Rattle.pm_read_table.specs.Meaning as reader
+use Rattle.pm_read_table.specs.Meaning.{IsViewIn}
+use Rattle.pm_read_table.specs.declared.asked.Wanted.TheVariants as wants
+use Rattle.pm_read_table.specs.declared.phase.Phase as view_phase
+use Rattle.pm_read_table.specs.declared.phase.Phase.TheVariants as readers
+use Rattle.pm_read_table.specs.declared.view.View.{View}
 use Rattle.pm_write.specs.Batch.{IsBatchOf}
 use Rattle.pm_append.specs.Commit.{Attempt, HasAppended, MakesNames}
 use Rattle.pm_append.specs.Files.{IsAppendOf}

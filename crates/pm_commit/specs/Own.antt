@@ -5,7 +5,7 @@ use Rattle.pm_values.specs.Names.{Naming, based}
 use Rattle.pm_values.specs.declared.group.Group.{Group}
 use Rattle.pm_schema.specs.Folder.{FitsPartition}
 use Rattle.pm_schema.specs.declared.schema.TableSchema.{TableSchema}
-use Rattle.pm_folder.specs.Changes.{Actor}
+use Rattle.pm_model_folder.specs.Changes.{Actor}
 use Rattle.pm_write.specs.Batch.{GroupRows, Groups}
 use Rattle.pm_append.specs.Commit.{IsBuilt}
 use Rattle.pm_append.specs.declared.newest.Author.{Author}

@@ -19,11 +19,11 @@ use Rattle.pm_schema.specs.declared.schema.TableSchema.{TableSchema}
 use Rattle.pm_snapshot.specs.Snapshot.{snapshot_in}
 use Rattle.pm_snapshot.specs.declared.fault.SnapFault.TheVariants as faults
 use Rattle.pm_snapshot.specs.declared.snapshot.Snapshot.{Snapshot}
-use Rattle.pm_folder.specs.Paths.{snapshot_path}
-use Rattle.pm_view.specs.Trace.{Names}
-use Rattle.pm_table_view.specs.Trace as reader
-use Rattle.pm_table_view.specs.Trace.{read_file}
-use Rattle.pm_table_view.specs.declared.view.View.{View}
+use Rattle.pm_model_folder.specs.Paths.{snapshot_path}
+use Rattle.pm_read_schema.specs.Trace.{Names}
+use Rattle.pm_read_table.specs.Trace as reader
+use Rattle.pm_read_table.specs.Trace.{read_file}
+use Rattle.pm_read_table.specs.declared.view.View.{View}
 use Rattle.pm_append.specs.Files.{IsAppendOf}
 use Rattle.pm_append.specs.Refusals.{refusal_of}
 use Rattle.pm_append.specs.declared.newest.Append.{Append}

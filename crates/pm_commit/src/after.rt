@@ -1,13 +1,13 @@
 //! What a committer goes on with after an answer.
 //!
-//! What isn't handed on is dropped by name, as in `pm_table_view`.
+//! What isn't handed on is dropped by name, as in `pm_read_table`.
 
 ghost use Rattle.std.specs.Prelude.{◌≡◌, ◌<◌, ◌≤◌, length, IsSomeAnd};
 ghost use Rattle.pm_store.specs.Answers.{MayAnswer};
 ghost use Rattle.pm_store.specs.declared.answer.Answer.TheVariants as answers;
-ghost use Rattle.pm_table_view.specs.Reader as readers;
-ghost use Rattle.pm_table_view.specs.Reader.{most};
-ghost use Rattle.pm_table_view.specs.declared.phase.Phase.TheVariants as reader_phases;
+ghost use Rattle.pm_read_table.specs.Reader as readers;
+ghost use Rattle.pm_read_table.specs.Reader.{most};
+ghost use Rattle.pm_read_table.specs.declared.phase.Phase.TheVariants as reader_phases;
 ghost use Rattle.pm_commit.specs.Committer.{After, AfterReader, Hears, Loses, Makes, Reads, Seeks};
 ghost use Rattle.pm_commit.specs.Committer.{create_next, first_of_try, IsViewing, MayMake, Misreads};
 ghost use Rattle.pm_commit.specs.Own.{tries, IsOwn, IsTried};
@@ -30,7 +30,7 @@ use pm_manifest::read_entry_law;
 use pm_schema::TableSchema;
 use pm_snapshot::{SnapFault, read_snapshot};
 use pm_store::{Answer, Made, Published};
-use pm_table_view::{View, ViewReader};
+use pm_read_table::{View, ViewReader};
 use pm_values::Refusal;
 use std::alloc::Global;
 use std::collections::VecDeque;

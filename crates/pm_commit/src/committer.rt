@@ -1,7 +1,7 @@
 //! The committer of a batch.
 
 ghost use Rattle.std.specs.Prelude.{◌≡◌, ◌≢◌, ◌<◌, ◌≤◌, ◌^◌, [], List, IfOk, OnOk, OnErr};
-ghost use Rattle.pm_history.specs.Merge.{HistoryRow};
+ghost use Rattle.pm_model_history.specs.Merge.{HistoryRow};
 ghost use Rattle.pm_store.specs.Store.{IsLater};
 ghost use Rattle.pm_write.specs.Batch.{IsBatchOf};
 ghost use Rattle.pm_append.specs.Commit.{IsBuilt};

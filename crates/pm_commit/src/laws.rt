@@ -10,10 +10,10 @@ ghost use Rattle.pm_store.specs.declared.call.Call.{Call};
 ghost use Rattle.pm_machine.specs.Moves.{Moves, Sound};
 ghost use Rattle.pm_machine.specs.Step.{Stepped};
 ghost use Rattle.pm_machine.specs.Trace.{Recounts};
-ghost use Rattle.pm_history.specs.Merge.{HistoryRow};
+ghost use Rattle.pm_model_history.specs.Merge.{HistoryRow};
 ghost use Rattle.pm_schema.specs.declared.schema.TableSchema.{TableSchema as SchemaView};
-ghost use Rattle.pm_folder.specs.Changes.{Actor};
-ghost use Rattle.pm_folder.specs.Ledger.{Advances, Past, Stands};
+ghost use Rattle.pm_model_folder.specs.Changes.{Actor};
+ghost use Rattle.pm_model_folder.specs.Ledger.{Advances, Past, Stands};
 ghost use Rattle.pm_commit.specs.Alone.{Beginning, KnewAlone, KnowsAlone};
 ghost use Rattle.pm_commit.specs.Committer.{next_call, Goes, IsCommitter, Refuses, Stops};
 ghost use Rattle.pm_commit.specs.Meaning.{IsOtherThan, Knows, MakesRows, MayRefuse};
@@ -22,12 +22,12 @@ ghost use Rattle.pm_commit.specs.Trace.{Did, Shows};
 ghost use Rattle.pm_commit.specs.declared.phase.Phase.{Phase};
 
 use pm_append::{append_law, own_files_law};
-use pm_contents::{one_contents_law, same_law};
-use pm_folder::{newest_law, unnamed_law};
+use pm_model_contents::{one_contents_law, same_law};
+use pm_model_folder::{newest_law, unnamed_law};
 use pm_manifest::{ManifestMeta, joined_law, read_entry_law};
 use pm_record::one_reading_law;
 use pm_snapshot::path_law;
-use pm_table_view::{entries_law, named_law};
+use pm_read_table::{entries_law, named_law};
 
 /// A committer keeps the laws of machines.
 pub(crate) fn machine_law()
@@ -51,7 +51,7 @@ pub(crate) fn machine_law()
     append_law();
     own_files_law();
     path_law();
-    pm_table_view::causes_law();
+    pm_read_table::causes_law();
 }
 
 /// What an answer leads to is a committer.
@@ -89,5 +89,5 @@ pub fn causes_law()
     unnamed_law();
     append_law();
     own_files_law();
-    pm_table_view::causes_law();
+    pm_read_table::causes_law();
 }

@@ -2,7 +2,7 @@
 
 ghost use Rattle.std.specs.Prelude.{◌≡◌, ◌↔◌, IfOk, IsTrue};
 ghost use Rattle.std.specs.Str.Iter.{HasSubslice};
-ghost use Rattle.pm_contents.specs.Lists.{manifest_path};
+ghost use Rattle.pm_model_contents.specs.Lists.{manifest_path};
 ghost use Rattle.pm_commit.specs.Marks.{mark_of, FindsUsed};
 
 use pm_base::Txt;

@@ -1,8 +1,8 @@
 //! The paths of a committer's calls.
 
 ghost use Rattle.std.specs.Prelude.{◌≡◌, IfOk};
-ghost use Rattle.pm_folder.specs.Paths.{snapshot_path};
-ghost use Rattle.pm_table_view.specs.Reader.{origin_path};
+ghost use Rattle.pm_model_folder.specs.Paths.{snapshot_path};
+ghost use Rattle.pm_read_table.specs.Reader.{origin_path};
 ghost use Rattle.pm_commit.specs.Committer.{after_path};
 
 use pm_base::Txt;

@@ -5,7 +5,7 @@ use crate::own::Own;
 use crate::search::Searching;
 use pm_append::Author;
 use pm_schema::TableSchema;
-use pm_table_view::ViewReader;
+use pm_read_table::ViewReader;
 
 /// How far a commit has come: the next call lists the manifests; or is one of the newest view; or reads an older
 /// snapshot in search of the user's last commit; or creates a file; or publishes the snapshot. Or the snapshot with

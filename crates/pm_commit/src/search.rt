@@ -1,7 +1,7 @@
 //! The search for an earlier commit of the same user.
 
 ghost use Rattle.std.specs.Prelude.{◌≡◌, ◌<◌, length};
-ghost use Rattle.pm_table_view.specs.Reader.{most};
+ghost use Rattle.pm_read_table.specs.Reader.{most};
 ghost use Rattle.pm_commit.specs.Search.{older_ids, seen_in, seen_of};
 
 use crate::found::Found;

@@ -19,12 +19,12 @@ use Rattle.pm_machine.specs.Moves.{Changes, Lasts, Leads, Sound}
 use Rattle.pm_machine.specs.Step.{path_of, Stepped, Rested, Went, Refused, Stopped, Failed}
 use Rattle.pm_machine.specs.Trace.{Event, Recounts, answered, faulted}
 use Rattle.pm_machine.proofs.Facts.{image_changed}
-use Rattle.pm_history.specs.History.{History, IsTableOf, no_table, table, GoesOn}
-use Rattle.pm_folder.specs.Changes.{Actor, Change, IsNoOrigin, appended, its_origin, nothing, own_file, schema}
-use Rattle.pm_folder.specs.Folder.{Folder}
-use Rattle.pm_folder.specs.Meaning.{HasSnapshotAt}
-use Rattle.pm_folder.specs.Paths.{schema_path, snapshot_file}
-use Rattle.pm_folder.proofs.Facts.{goes_on, some-none, stays, still_there, snapshot_stays}
+use Rattle.pm_model_history.specs.History.{History, IsTableOf, no_table, table, GoesOn}
+use Rattle.pm_model_folder.specs.Changes.{Actor, Change, IsNoOrigin, appended, its_origin, nothing, own_file, schema}
+use Rattle.pm_model_folder.specs.Folder.{Folder}
+use Rattle.pm_model_folder.specs.Meaning.{HasSnapshotAt}
+use Rattle.pm_model_folder.specs.Paths.{schema_path, snapshot_file}
+use Rattle.pm_model_folder.proofs.Facts.{goes_on, some-none, stays, still_there, snapshot_stays}
 use Rattle.pm_schema.specs.declared.schema.TableSchema.{TableSchema}
 use Rattle.pm_create.specs.declared.phase.Phase.{Phase}
 use Rattle.pm_create.specs.declared.phase.Phase.TheVariants as phases

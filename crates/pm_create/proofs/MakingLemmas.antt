@@ -21,12 +21,12 @@ use Rattle.pm_store.proofs.StepLaws.{IsLater-trans, alone_parts}
 use Rattle.pm_machine.specs.Moves.{Changes}
 use Rattle.pm_machine.specs.Trace.{Event, HasTrace, Traces}
 use Rattle.pm_machine.proofs.Facts.{image_changed, HasTrace-acts, Traces-none}
-use Rattle.pm_history.specs.History.{History, no_table, table}
-use Rattle.pm_folder.specs.Changes.{nothing}
-use Rattle.pm_folder.specs.Folder.{Folder}
-use Rattle.pm_folder.specs.Meaning.{HasSnapshotAt}
-use Rattle.pm_folder.specs.Paths.{schema_path}
-use Rattle.pm_folder.proofs.Facts.{some-none}
+use Rattle.pm_model_history.specs.History.{History, no_table, table}
+use Rattle.pm_model_folder.specs.Changes.{nothing}
+use Rattle.pm_model_folder.specs.Folder.{Folder}
+use Rattle.pm_model_folder.specs.Meaning.{HasSnapshotAt}
+use Rattle.pm_model_folder.specs.Paths.{schema_path}
+use Rattle.pm_model_folder.proofs.Facts.{some-none}
 use Rattle.pm_schema.specs.declared.schema.TableSchema.{TableSchema}
 use Rattle.pm_create.specs.Creator.{CreatorView, IsCreator, own_origin, schema_call, at_phase, calls_left, left_at, IsSameTable, Reaches}
 use Rattle.pm_create.specs.Meaning.{Begins, IsFreeOrigin, Makes}

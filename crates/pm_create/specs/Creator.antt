@@ -11,8 +11,8 @@ use Rattle.pm_store.specs.declared.call.Call.TheVariants as calls
 use Rattle.pm_schema.specs.Reading.{schema_of}
 use Rattle.pm_schema.specs.Written.{schema_text}
 use Rattle.pm_schema.specs.declared.schema.TableSchema.{TableSchema}
-use Rattle.pm_folder.specs.Changes.{Actor, origin_name}
-use Rattle.pm_folder.specs.Paths.{schema_path, snapshot_file}
+use Rattle.pm_model_folder.specs.Changes.{Actor, origin_name}
+use Rattle.pm_model_folder.specs.Paths.{schema_path, snapshot_file}
 use Rattle.pm_create.specs.declared.phase.Phase.{Phase}
 use Rattle.pm_create.specs.declared.phase.Phase.TheVariants as phases
 use Rattle.pm_create.specs.declared.creator.CreateStep.{CreateStep}

@@ -10,11 +10,11 @@ use Rattle.pm_store.specs.Files.{Files, files_after}
 use Rattle.pm_store.specs.Images.{Extends}
 use Rattle.pm_store.specs.Store.{StoreView, FromFirst}
 use Rattle.pm_machine.specs.Trace.{Event}
-use Rattle.pm_history.specs.History.{History, no_table, table}
+use Rattle.pm_model_history.specs.History.{History, no_table, table}
 use Rattle.pm_schema.specs.declared.schema.TableSchema.{TableSchema}
-use Rattle.pm_folder.specs.Changes.{Actor}
-use Rattle.pm_folder.specs.Folder.{Folder}
-use Rattle.pm_folder.specs.Paths.{schema_path}
+use Rattle.pm_model_folder.specs.Changes.{Actor}
+use Rattle.pm_model_folder.specs.Folder.{Folder}
+use Rattle.pm_model_folder.specs.Paths.{schema_path}
 use Rattle.pm_create.specs.Creator.{CreatorView, own_origin, origin_call}
 use Rattle.pm_create.specs.Meaning.{IsFreeOrigin}
 use Rattle.pm_create.specs.Trace.{made_origin, made_table, Ended, Shows}

@@ -4,11 +4,11 @@ use Rattle.std.specs.FinMap as map
 use Rattle.pm_store.specs.Files.{Files}
 use Rattle.pm_store.specs.Store.{StoreView}
 use Rattle.pm_machine.specs.Moves.{Moves}
-use Rattle.pm_history.specs.History.{History, IsTableOf, no_table, table}
+use Rattle.pm_model_history.specs.History.{History, IsTableOf, no_table, table}
 use Rattle.pm_schema.specs.declared.schema.TableSchema.{TableSchema}
-use Rattle.pm_folder.specs.Changes.{Change, IsNoOrigin}
-use Rattle.pm_folder.specs.Folder.{Folder}
-use Rattle.pm_folder.specs.Meaning.{HasSnapshotAt}
+use Rattle.pm_model_folder.specs.Changes.{Change, IsNoOrigin}
+use Rattle.pm_model_folder.specs.Folder.{Folder}
+use Rattle.pm_model_folder.specs.Meaning.{HasSnapshotAt}
 use Rattle.pm_create.specs.Creator.{CreatorView, IsCreator}
 use Rattle.pm_create.specs.declared.phase.Phase.{Phase}
 use Rattle.pm_create.specs.declared.phase.Phase.TheVariants as phases

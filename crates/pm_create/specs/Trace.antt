@@ -7,7 +7,7 @@ use Rattle.pm_store.specs.declared.answer.Made.TheVariants as made
 use Rattle.pm_store.specs.declared.answer.Swapped.TheVariants as swaps
 use Rattle.pm_store.specs.Store.{StoreView}
 use Rattle.pm_machine.specs.Trace.{Event, Acts, answered, faulted}
-use Rattle.pm_folder.specs.Paths.{schema_path}
+use Rattle.pm_model_folder.specs.Paths.{schema_path}
 use Rattle.pm_create.specs.Creator.{CreatorView, IsCreator, own_origin, origin_call, schema_call}
 use Rattle.pm_create.specs.declared.creator.CreateStep.{CreateStep}
 use Rattle.pm_create.specs.declared.phase.Phase.{Phase}

@@ -5,7 +5,7 @@ ghost use Rattle.pm_create.specs.Creator.{actor_of, calls_left, new_creator, rea
 ghost use Rattle.pm_create.specs.Creator.{IsCreator, IsSameTable, Reaches};
 ghost use Rattle.pm_create.specs.Meaning.{CreatorMoved};
 ghost use Rattle.pm_create.specs.Trace.{CreatorActed};
-ghost use Rattle.pm_folder.specs.Changes.{origin_name};
+ghost use Rattle.pm_model_folder.specs.Changes.{origin_name};
 ghost use Rattle.pm_schema.specs.Again.{IsDeclared};
 ghost use Rattle.pm_store.specs.Store.{IsLater};
 

@@ -1,12 +1,12 @@
-//! Laws of creators. Each holds with no call but of pm_folder's law.
+//! Laws of creators. Each holds with no call but of pm_model_folder's law.
 
 ghost use Rattle.std.specs.Prelude.{◌≡◌, List, Some};
 ghost use Rattle.pm_create.specs.Creator.{CreatorView, next_call};
 ghost use Rattle.pm_create.specs.Meaning.{Begins, Knows, Makes};
 ghost use Rattle.pm_create.specs.Trace.{Shows};
-ghost use Rattle.pm_folder.specs.Changes.{Actor, Change};
-ghost use Rattle.pm_folder.specs.Folder.{Folder};
-ghost use Rattle.pm_history.specs.History.{History};
+ghost use Rattle.pm_model_folder.specs.Changes.{Actor, Change};
+ghost use Rattle.pm_model_folder.specs.Folder.{Folder};
+ghost use Rattle.pm_model_history.specs.History.{History};
 ghost use Rattle.pm_machine.specs.Moves.{Lasts};
 ghost use Rattle.pm_machine.specs.Trace.{Event};
 ghost use Rattle.pm_store.specs.declared.call.Call.{Call};
@@ -14,7 +14,7 @@ ghost use Rattle.pm_store.specs.Files.{Files};
 ghost use Rattle.pm_store.specs.Images.{MayLeave};
 ghost use Rattle.pm_values.specs.declared.refusal.Refusal.{Refusal};
 
-use pm_folder::kept_law;
+use pm_model_folder::kept_law;
 
 /// What a creator knows stays true through each kind of change of every other actor.
 pub fn known_law()

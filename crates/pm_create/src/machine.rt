@@ -56,8 +56,8 @@ impl Machine for Creator {
 impl Meaning for Creator {
     ghost use Rattle.pm_create.specs.Meaning.{Anything, Knows, Makes};
     ghost use Rattle.pm_create.specs.Trace.{Did, Shows};
-    ghost use Rattle.pm_folder.specs.Folder as folders;
-    ghost use Rattle.pm_history.specs.History as histories;
+    ghost use Rattle.pm_model_folder.specs.Folder as folders;
+    ghost use Rattle.pm_model_history.specs.History as histories;
 
     ghost History = { histories.History };
 

@@ -7,7 +7,7 @@ ghost use Rattle.pm_machine.specs.Trace.{HasTrace};
 ghost use Rattle.pm_store.specs.Store.{IsLater};
 
 use crate::creator::Creator;
-use pm_folder::kept_law;
+use pm_model_folder::kept_law;
 use pm_store::FileStore;
 use pm_values::Refusal;
 use std::alloc::Global;

@@ -2,8 +2,8 @@
 
 ghost use Rattle.std.specs.Prelude.{◌≡◌, IfOk};
 ghost use Rattle.pm_create.specs.Creator.{actor_of};
-ghost use Rattle.pm_folder.specs.Changes.{origin_name};
-ghost use Rattle.pm_folder.specs.Paths.{snapshot_file};
+ghost use Rattle.pm_model_folder.specs.Changes.{origin_name};
+ghost use Rattle.pm_model_folder.specs.Paths.{snapshot_file};
 
 use pm_base::Txt;
 use std::alloc::{AllocError, Global};

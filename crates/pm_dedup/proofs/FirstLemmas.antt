@@ -14,12 +14,12 @@ use Rattle.pm_values.specs.declared.column.Column.{Column}
 use Rattle.pm_values.specs.declared.kind.Kind.{Kind}
 use Rattle.pm_values.specs.declared.value.Value.{Value}
 use Rattle.pm_values.specs.declared.value.Value.TheVariants.{Null}
-use Rattle.pm_history.specs.ColumnValue as worth
-use Rattle.pm_history.specs.ColumnValue.{column_value, first_value, index_of, last_value, value_by, value_in, values_at}
-use Rattle.pm_history.specs.Merge.{HistoryRow, key_of, value_at}
-use Rattle.pm_history.specs.Merged.{shows, shows_by}
-use Rattle.pm_history.specs.Taken.{is_key, stores, stores_by, verdict, verdict_by}
-use Rattle.pm_history.specs.declared.verdict.Verdict.TheVariants.{Take, Ignore, RefuseAll}
+use Rattle.pm_model_history.specs.ColumnValue as worth
+use Rattle.pm_model_history.specs.ColumnValue.{column_value, first_value, index_of, last_value, value_by, value_in, values_at}
+use Rattle.pm_model_history.specs.Merge.{HistoryRow, key_of, value_at}
+use Rattle.pm_model_history.specs.Merged.{shows, shows_by}
+use Rattle.pm_model_history.specs.Taken.{is_key, stores, stores_by, verdict, verdict_by}
+use Rattle.pm_model_history.specs.declared.verdict.Verdict.TheVariants.{Take, Ignore, RefuseAll}
 use Rattle.pm_engine.specs.Meaning.{AreTaken, IsTaken, SameWorth, SpeaksFor}
 use Rattle.pm_engine.specs.OfSchema.{meaning_of, drops_by}
 use Rattle.pm_engine.proofs.Facts.{AreTaken-append, SameWorth-same, SameWorth-trans, some_after, value_past}

@@ -10,12 +10,12 @@ use Rattle.pm_values.specs.Fits.{Fits}
 use Rattle.pm_values.specs.declared.column.Column.{Column}
 use Rattle.pm_values.specs.declared.kind.Kind.{Kind}
 use Rattle.pm_values.specs.declared.value.Value.TheVariants.{Null}
-use Rattle.pm_history.specs.ColumnValue as worth
-use Rattle.pm_history.specs.ColumnValue.{column_value, last_value, value_by, value_in, values_at}
-use Rattle.pm_history.specs.Merge.{HistoryRow, key_of, value_at}
-use Rattle.pm_history.specs.Merged.{shows, shows_by}
-use Rattle.pm_history.specs.Taken.{is_key, stores, stores_by, verdict}
-use Rattle.pm_history.specs.declared.verdict.Verdict.TheVariants.{Take}
+use Rattle.pm_model_history.specs.ColumnValue as worth
+use Rattle.pm_model_history.specs.ColumnValue.{column_value, last_value, value_by, value_in, values_at}
+use Rattle.pm_model_history.specs.Merge.{HistoryRow, key_of, value_at}
+use Rattle.pm_model_history.specs.Merged.{shows, shows_by}
+use Rattle.pm_model_history.specs.Taken.{is_key, stores, stores_by, verdict}
+use Rattle.pm_model_history.specs.declared.verdict.Verdict.TheVariants.{Take}
 use Rattle.pm_engine.specs.Meaning.{HasNoEffect, IsTaken, SameWorth, SpeaksFor}
 use Rattle.pm_engine.specs.OfSchema.{meaning_of}
 use Rattle.pm_engine.proofs.Facts.{AreTaken-append, SameWorth-same, SameWorth-sym, SameWorth-trans, some_after, value_past}

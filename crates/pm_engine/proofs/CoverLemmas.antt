@@ -4,7 +4,7 @@ use Rattle.std.specs.List.{AllZip, flat_map}
 use Rattle.std.specs.Ordering.{eq_by_cmp}
 use Rattle.std.proofs.lemmas.List.Elements.{filter-append}
 use Rattle.pm_values.specs.Order.{Values, key_cmp}
-use Rattle.pm_history.specs.Merge.{HistoryRow, key_of, rows_of}
+use Rattle.pm_model_history.specs.Merge.{HistoryRow, key_of, rows_of}
 use Rattle.pm_engine.specs.Covers.{Covers, CoversAll, CoversKey, Holds, MayBeMissing, Run, of_key, row_of, stored_rows}
 use Rattle.pm_engine.specs.Meaning.{AreTaken, Meaning, SameWorth}
 use Rattle.pm_engine.proofs.Facts.{AreTaken-append, SameWorth-same, SameWorth-trans}

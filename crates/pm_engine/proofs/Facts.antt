@@ -5,7 +5,7 @@ use Rattle.pm_values.specs.Fits.{Fits}
 use Rattle.pm_values.specs.Order.{Values}
 use Rattle.pm_values.specs.declared.column.Column.{Column}
 use Rattle.pm_values.specs.declared.value.Value.TheVariants.{Null}
-use Rattle.pm_history.specs.Merge.{HistoryRow, value_at}
+use Rattle.pm_model_history.specs.Merge.{HistoryRow, value_at}
 use Rattle.pm_engine.specs.Meaning.{Meaning, AreTaken, IsTaken, SameWorth, SpeaksFor}
 
 -- a fitting row has null where there is no column

@@ -11,7 +11,7 @@ use Rattle.std.proofs.Math.Seq.{get_or-append_seam}
 use Rattle.pm_base.proofs.Laws.{AllByRecursion-append, AllByRecursion-parts, last_or-push}
 use Rattle.pm_values.specs.Order.{Values, key_cmp}
 use Rattle.pm_values.specs.declared.record.Stamped.{Stamped}
-use Rattle.pm_history.specs.Merge.{HistoryRow, rows_of}
+use Rattle.pm_model_history.specs.Merge.{HistoryRow, rows_of}
 use Rattle.pm_engine.specs.Covers.{CoversAll, Holds, IsKeyed, IsRising, Run, of_key, row_of}
 use Rattle.pm_engine.specs.Meaning.{Meaning}
 use Rattle.pm_engine.specs.Reducing.{EndsApart, HasGreatestNumbers, IsCombined, IsLifted, Puts, begins, joins, greatest_number}

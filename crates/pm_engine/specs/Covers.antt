@@ -6,7 +6,7 @@ use Rattle.std.specs.Ordering.{eq_by_cmp}
 use Rattle.pm_values.specs.Fits.{Fits}
 use Rattle.pm_values.specs.Order.{Values, key_cmp}
 use Rattle.pm_values.specs.declared.record.Stamped.{Stamped}
-use Rattle.pm_history.specs.Merge.{HistoryRow, key_of, rows_of}
+use Rattle.pm_model_history.specs.Merge.{HistoryRow, key_of, rows_of}
 use Rattle.pm_engine.specs.Meaning.{Meaning, HasNoEffect, SpeaksFor}
 
 -- a run of stored rows

@@ -6,9 +6,9 @@ use Rattle.pm_values.specs.Order.{Values}
 use Rattle.pm_values.specs.declared.column.Column.{Column}
 use Rattle.pm_values.specs.declared.kind.Kind.{Kind}
 use Rattle.pm_values.specs.declared.value.Value.{Value}
-use Rattle.pm_history.specs.Merge.{HistoryRow, key_of, value_at}
-use Rattle.pm_history.specs.declared.verdict.Verdict.{Verdict}
-use Rattle.pm_history.specs.declared.verdict.Verdict.TheVariants.{Take}
+use Rattle.pm_model_history.specs.Merge.{HistoryRow, key_of, value_at}
+use Rattle.pm_model_history.specs.declared.verdict.Verdict.{Verdict}
+use Rattle.pm_model_history.specs.declared.verdict.Verdict.TheVariants.{Take}
 
 -- What an engine means: the columns that rows fit, and the indexes of those of the key; the verdict on a row by its
 -- kind; which kinds a stored row may have; what a column is worth over the rows of one key, and whether a key with

@@ -4,10 +4,10 @@ use Rattle.pm_options.specs.declared.kinds.EngineKind.{EngineKind}
 use Rattle.pm_options.specs.declared.kinds.EngineKind.TheVariants as engines
 use Rattle.pm_schema.specs.declared.schema.TableSchema.{TableSchema}
 use Rattle.pm_values.specs.Kind.{retracts}
-use Rattle.pm_history.specs.ColumnValue.{column_value}
-use Rattle.pm_history.specs.Merge.{HistoryRow}
-use Rattle.pm_history.specs.Merged.{primary_of, shows}
-use Rattle.pm_history.specs.Taken.{stores, verdict}
+use Rattle.pm_model_history.specs.ColumnValue.{column_value}
+use Rattle.pm_model_history.specs.Merge.{HistoryRow}
+use Rattle.pm_model_history.specs.Merged.{primary_of, shows}
+use Rattle.pm_model_history.specs.Taken.{stores, verdict}
 use Rattle.pm_engine.specs.Meaning.{Meaning}
 
 -- a stored row that is left out where nothing older is left: with deduplication one that retracts

@@ -4,7 +4,7 @@ use Rattle.std.specs.List.{AllByRecursion, last_or}
 use Rattle.std.specs.Ordering.{eq_by_cmp}
 use Rattle.pm_values.specs.Order.{Values, key_cmp}
 use Rattle.pm_values.specs.declared.record.Stamped.{Stamped}
-use Rattle.pm_history.specs.Merge.{HistoryRow}
+use Rattle.pm_model_history.specs.Merge.{HistoryRow}
 use Rattle.pm_engine.specs.Covers.{IsKeyed, Run, of_key, row_of}
 use Rattle.pm_engine.specs.Meaning.{Meaning, SpeaksFor}
 

@@ -1,5 +1,5 @@
 -- A stored row as one of a history.
-use Rattle.pm_history.specs.Merge.{HistoryRow}
+use Rattle.pm_model_history.specs.Merge.{HistoryRow}
 use Rattle.pm_engine.specs.declared.stored.Stored.{Stored}
 
 -- the kind and the values of a stored row

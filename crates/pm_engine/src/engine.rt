@@ -3,13 +3,13 @@
 ghost use Rattle.std.specs.Prelude.{◌≡◌, ◌∷◌, [], ◌++◌, true, List, IfOk};
 ghost use Rattle.pm_values.specs.Fits.{Fits};
 ghost use Rattle.pm_values.specs.Order.{Values};
-ghost use Rattle.pm_history.specs.Merge.{HistoryRow, key_of};
-ghost use Rattle.pm_history.specs.declared.verdict.Verdict.TheVariants.{Take};
+ghost use Rattle.pm_model_history.specs.Merge.{HistoryRow, key_of};
+ghost use Rattle.pm_model_history.specs.declared.verdict.Verdict.TheVariants.{Take};
 ghost use Rattle.pm_engine.specs.Meaning.{Meaning, IsTaken, SpeaksFor, HasNoEffect};
 ghost use Rattle.pm_engine.specs.Stored.{as_row};
 
 use crate::stored::Stored;
-use pm_history::Verdict;
+use pm_model_history::Verdict;
 use pm_values::{Kind, Row};
 use std::alloc::{AllocError, Global};
 

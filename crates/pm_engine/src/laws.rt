@@ -2,7 +2,7 @@
 
 ghost use Rattle.std.specs.Prelude.{◌≡◌, ◌≢◌, [], ◌∷◌, ◌++◌, List, false};
 ghost use Rattle.pm_values.specs.Order.{Values};
-ghost use Rattle.pm_history.specs.Merge.{HistoryRow, rows_of};
+ghost use Rattle.pm_model_history.specs.Merge.{HistoryRow, rows_of};
 ghost use Rattle.pm_engine.specs.Covers.{Run, Covers, CoversAll, stored_rows};
 ghost use Rattle.pm_engine.specs.Meaning.{Meaning, SameWorth};
 

@@ -19,6 +19,6 @@ mod stored;
 
 pub use engine::MergeEngine;
 pub use laws::{added_law, covers_law};
-pub use pm_history::Verdict;
+pub use pm_model_history::Verdict;
 pub use reducing::{combined, reduce};
 pub use stored::Stored;

@@ -5,7 +5,7 @@ ghost use Rattle.std.specs.List.{FoldsTo};
 ghost use Rattle.std.specs.List.Sorted.{IsSortedByKey, IsPermutation, IsStableByKey};
 ghost use Rattle.pm_values.specs.Order.{key_cmp};
 ghost use Rattle.pm_values.specs.declared.record.Stamped.{Stamped};
-ghost use Rattle.pm_history.specs.declared.verdict.Verdict.TheVariants.{Take};
+ghost use Rattle.pm_model_history.specs.declared.verdict.Verdict.TheVariants.{Take};
 ghost use Rattle.pm_engine.specs.Covers.{CoversAll, IsKeyed, IsRising, row_of};
 ghost use Rattle.pm_engine.specs.Reducing.{HasGreatestNumbers, IsLifted, IsCombined, Puts};
 

@@ -4,9 +4,9 @@ use Rattle.std.specs.Option.{option_map_or}
 use Rattle.pm_values.specs.declared.column.Column.{Column}
 use Rattle.pm_values.specs.declared.kind.Kind.{Kind}
 use Rattle.pm_schema.specs.declared.schema.TableSchema.{TableSchema}
-use Rattle.pm_history.specs.Taken.{verdict}
-use Rattle.pm_history.specs.declared.verdict.Verdict.{Verdict as VerdictByIndex}
-use Rattle.pm_history.specs.declared.verdict.Verdict.TheVariants as by_index
+use Rattle.pm_model_history.specs.Taken.{verdict}
+use Rattle.pm_model_history.specs.declared.verdict.Verdict.{Verdict as VerdictByIndex}
+use Rattle.pm_model_history.specs.declared.verdict.Verdict.TheVariants as by_index
 use Rattle.pm_engines.specs.declared.verdict.Verdict.{Verdict}
 use Rattle.pm_engines.specs.declared.verdict.Verdict.TheVariants.{Take, Ignore, Refuse}
 

@@ -1,7 +1,7 @@
 -- The rows of lines, one line after another, and the first bad line.
 use Rattle.std.proofs.Common.{◌≡◌, ℕ, ◌+◌, List, [], ◌∷◌, ◌++◌, filter, Bool, true, false, not, Result, Ok, Err, refl, ap, inl, inr, arith, if◌then◌else◌}
 use Rattle.std.specs.List.{enumerate_from}
-use Rattle.pm_history.specs.Merge.{HistoryRow}
+use Rattle.pm_model_history.specs.Merge.{HistoryRow}
 use Rattle.pm_rows.specs.Reading.{Fault, row_of}
 use Rattle.pm_values.specs.declared.column.Column.{Column}
 use Rattle.pm_input.specs.Blank.{is_blank}

@@ -2,7 +2,7 @@
 use Rattle.std.specs.Prelude.{◌≡◌, ◌⊎◌, ℕ, ◌+◌, List, [], ◌∷◌, ◌++◌, length, true, false}
 use Rattle.std.specs.Prelude.{option_map, unwrap_or, slice_get, Result, Ok, Err}
 use Rattle.std.specs.List.{AllByRecursion}
-use Rattle.pm_history.specs.Merge.{HistoryRow}
+use Rattle.pm_model_history.specs.Merge.{HistoryRow}
 use Rattle.pm_rows.specs.Reading.{Fault, row_of}
 use Rattle.pm_values.specs.declared.column.Column.{Column}
 use Rattle.pm_values.specs.declared.refusal.Refusal.{Refusal}

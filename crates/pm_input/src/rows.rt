@@ -1,7 +1,7 @@
 //! The rows of an input's lines.
 
 ghost use Rattle.std.specs.Prelude.{◌≡◌, IfOk, map};
-ghost use Rattle.pm_history.specs.Merge.{AllFit};
+ghost use Rattle.pm_model_history.specs.Merge.{AllFit};
 ghost use Rattle.pm_rows.specs.Reading.{row_of};
 ghost use Rattle.pm_values.specs.Fits.{Fits};
 ghost use Rattle.pm_input.specs.Lines.{line_view};

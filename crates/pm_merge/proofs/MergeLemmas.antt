@@ -9,7 +9,7 @@ use Rattle.std.proofs.lemmas.List.{drop-map, map-append, take-append-drop, take-
 use Rattle.std.proofs.lemmas.List.Elements.{All-drop, All-take, filter-append}
 use Rattle.pm_values.specs.Order.{Values, key_cmp}
 use Rattle.pm_values.specs.declared.record.Stamped.{Stamped}
-use Rattle.pm_history.specs.Merge.{HistoryRow, rows_of}
+use Rattle.pm_model_history.specs.Merge.{HistoryRow, rows_of}
 use Rattle.pm_engine.specs.Covers.{Covers, CoversAll, CoversKey, Holds, IsRising, MayBeMissing, Run, of_key, row_of}
 use Rattle.pm_engine.specs.Meaning.{AreTaken, HasNoEffect, Meaning, SameWorth, SpeaksFor}
 use Rattle.pm_engine.specs.Reducing.{HasGreatestNumbers, greatest_number}

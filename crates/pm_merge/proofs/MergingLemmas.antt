@@ -8,7 +8,7 @@ use Rattle.pm_values.specs.declared.record.Stamped.{Stamped}
 use Rattle.pm_engine.specs.Covers.{Run}
 use Rattle.pm_engine.specs.Meaning.{Meaning}
 use Rattle.pm_engine.proofs.Rising.{tied}
-use Rattle.pm_seen.specs.Slot.{OrdersFirst}
+use Rattle.pm_row_slots.specs.Slot.{OrdersFirst}
 use Rattle.pm_merge.specs.Merging.{CombineFirst, GivesNext, HaveRuns, StillGives}
 use Rattle.pm_merge.specs.Source.{BeginsWith}
 use Rattle.std.proofs.lemmas.List.{take-append-drop}

@@ -4,7 +4,7 @@ use Rattle.std.specs.List.{AllZip, flat_map}
 use Rattle.std.specs.declared.cmp.Ordering.TheVariants.{Less}
 use Rattle.pm_values.specs.Order.{Values, key_cmp}
 use Rattle.pm_values.specs.declared.record.Stamped.{Stamped}
-use Rattle.pm_history.specs.Merge.{HistoryRow}
+use Rattle.pm_model_history.specs.Merge.{HistoryRow}
 use Rattle.pm_engine.specs.Covers.{Holds, IsRising, Run, of_key, row_of}
 use Rattle.pm_engine.specs.Meaning.{HasNoEffect, IsTaken, Meaning}
 use Rattle.pm_engine.specs.Reducing.{IsCombined, greatest_number}

@@ -1,7 +1,7 @@
 //! Several runs made into one.
 
 ghost use Rattle.std.specs.Prelude.{◌≡◌, ◌≤◌, ◌∷◌, [], List, All, IfOk, true, false};
-ghost use Rattle.pm_history.specs.Merge.{HistoryRow};
+ghost use Rattle.pm_model_history.specs.Merge.{HistoryRow};
 ghost use Rattle.pm_engine.specs.Covers.{Run, IsRising, Covers, CoversAll};
 ghost use Rattle.pm_engine.specs.Reducing.{HasGreatestNumbers};
 ghost use Rattle.pm_merge.specs.Merge.{runs_of, all_rows, IsMerge, Replaces, ReplacesOldest, without_droppable};
@@ -13,7 +13,7 @@ use crate::drops::without_droppable;
 use crate::merging::joined;
 use crate::source::RunRows;
 use pm_engine::MergeEngine;
-use pm_seen::RowSlot;
+use pm_row_slots::RowSlot;
 use pm_values::Stamped;
 use std::alloc::{AllocError, Global};
 

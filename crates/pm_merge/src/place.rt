@@ -1,9 +1,9 @@
 //! Places for rows, between which rows are moved.
 
 ghost use Rattle.std.specs.Prelude.{◌≡◌, None, Some, Option, IfOk, OnOk};
-ghost use Rattle.pm_seen.specs.Slot.{OrdersFirst};
+ghost use Rattle.pm_row_slots.specs.Slot.{OrdersFirst};
 
-use pm_seen::RowSlot;
+use pm_row_slots::RowSlot;
 use pm_values::Stamped;
 use std::alloc::{AllocError, Global};
 use std::cmp::Ordering;

@@ -5,7 +5,7 @@ ghost use Rattle.pm_engine.specs.Covers.{Run};
 ghost use Rattle.pm_merge.specs.Source.{BeginsWith};
 
 use crate::place::RowPlace;
-use pm_seen::RowSlot;
+use pm_row_slots::RowSlot;
 use pm_values::Stamped;
 use std::alloc::{AllocError, Global};
 use std::vec::IntoIter;

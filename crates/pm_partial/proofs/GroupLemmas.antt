@@ -7,8 +7,8 @@ use Rattle.pm_values.specs.Order.{Values}
 use Rattle.pm_values.specs.declared.kind.Kind.TheVariants.{Insert}
 use Rattle.pm_values.specs.declared.value.Value.{Value}
 use Rattle.pm_values.specs.declared.value.Value.TheVariants.{Null}
-use Rattle.pm_history.specs.ColumnValue.{group_value, is_null, leading_row, left_by}
-use Rattle.pm_history.specs.Merge.{HistoryRow, value_at}
+use Rattle.pm_model_history.specs.ColumnValue.{group_value, is_null, leading_row, left_by}
+use Rattle.pm_model_history.specs.Merge.{HistoryRow, value_at}
 use Rattle.pm_aggregate.specs.Steps.{not_greater}
 use Rattle.pm_aggregate.proofs.LeadingLemmas.{later, leading_row-append, leading_row-one, null_least}
 use Rattle.pm_partial.specs.PartialUpdate.{follows, kept_of}

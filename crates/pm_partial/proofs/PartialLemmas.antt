@@ -19,11 +19,11 @@ use Rattle.pm_values.specs.declared.kind.Kind.{Kind}
 use Rattle.pm_values.specs.declared.kind.Kind.TheVariants.{Insert}
 use Rattle.pm_values.specs.declared.value.Value.{Value}
 use Rattle.pm_values.specs.declared.value.Value.TheVariants.{Null}
-use Rattle.pm_history.specs.ColumnValue.{SequenceGroup, adding, group_of, group_value, index_of, is_in_group, is_null, last_value, non_null, updated_value, value_by, values_at}
-use Rattle.pm_history.specs.Merge.{HistoryRow, key_of, value_at}
-use Rattle.pm_history.specs.Merged.{shows, shows_by}
-use Rattle.pm_history.specs.Taken.{is_key, stores, stores_by, verdict}
-use Rattle.pm_history.specs.declared.verdict.Verdict.TheVariants.{Take}
+use Rattle.pm_model_history.specs.ColumnValue.{SequenceGroup, adding, group_of, group_value, index_of, is_in_group, is_null, last_value, non_null, updated_value, value_by, values_at}
+use Rattle.pm_model_history.specs.Merge.{HistoryRow, key_of, value_at}
+use Rattle.pm_model_history.specs.Merged.{shows, shows_by}
+use Rattle.pm_model_history.specs.Taken.{is_key, stores, stores_by, verdict}
+use Rattle.pm_model_history.specs.declared.verdict.Verdict.TheVariants.{Take}
 use Rattle.pm_engine.specs.Meaning.{AreTaken, IsTaken, SpeaksFor}
 use Rattle.pm_engine.specs.OfSchema as engine
 use Rattle.pm_aggregate.specs.Column.{AreTakenCells, SpeaksForCells}

@@ -6,8 +6,8 @@ use Rattle.pm_schema.specs.declared.schema.TableSchema.{TableSchema}
 use Rattle.pm_values.specs.Order.{Values, value_cmp}
 use Rattle.pm_values.specs.declared.value.Value.{Value}
 use Rattle.pm_values.specs.declared.value.Value.TheVariants.{Null}
-use Rattle.pm_history.specs.ColumnValue.{is_null, left_by}
-use Rattle.pm_history.specs.Merge.{HistoryRow, value_at}
+use Rattle.pm_model_history.specs.ColumnValue.{is_null, left_by}
+use Rattle.pm_model_history.specs.Merge.{HistoryRow, value_at}
 use Rattle.pm_aggregate.specs.Column.{Cell, IsOfType, SpeaksForCells}
 use Rattle.pm_aggregate.specs.Functions.{last_non_null_of}
 use Rattle.pm_partial.specs.declared.update.Update.{Update}

@@ -2,8 +2,8 @@
 use Rattle.std.specs.Prelude.{Option, Some, None, if◌then◌else◌}
 use Rattle.pm_schema.specs.declared.schema.TableSchema.{TableSchema}
 use Rattle.pm_values.specs.declared.column.Column.{Column}
-use Rattle.pm_history.specs.ColumnValue.{SequenceGroup, group_of, index_of}
-use Rattle.pm_history.specs.Taken.{is_key}
+use Rattle.pm_model_history.specs.ColumnValue.{SequenceGroup, group_of, index_of}
+use Rattle.pm_model_history.specs.Taken.{is_key}
 use Rattle.pm_partial.specs.declared.update.Update.{Update}
 use Rattle.pm_partial.specs.declared.update.Update.TheVariants.{Key, Latest, InGroup}
 

@@ -5,8 +5,8 @@ ghost use Rattle.std.specs.Ordering.{is_le};
 ghost use Rattle.pm_options.specs.declared.kinds.EngineKind.TheVariants as engines;
 ghost use Rattle.pm_values.specs.Order.{value_cmp};
 ghost use Rattle.pm_engine.specs.OfSchema.{meaning_of};
-ghost use Rattle.pm_history.specs.ColumnValue.{is_null};
-ghost use Rattle.pm_history.specs.Merge.{value_at};
+ghost use Rattle.pm_model_history.specs.ColumnValue.{is_null};
+ghost use Rattle.pm_model_history.specs.Merge.{value_at};
 ghost use Rattle.pm_partial.specs.PartialUpdate.{AreCombined, AreLifted, CanUpdate, IsCombined, IsLifted, follows, kept_of};
 ghost use Rattle.pm_partial.specs.Update.{update_on};
 

@@ -4,7 +4,7 @@ ghost use Rattle.std.specs.Prelude.{◌≡◌};
 ghost use Rattle.pm_partial.specs.Update.{update_on};
 
 use pm_columns::{group_of, is_key};
-use pm_history::index_of;
+use pm_model_history::index_of;
 use pm_schema::TableSchema;
 use pm_values::{ColType, Column};
 

@@ -8,9 +8,9 @@ use Rattle.std.specs.Int.{Width, int_wrap}
 use Rattle.std.specs.List.{cons_option, filter_map, flat_map, list_all, list_any}
 use Rattle.pm_values.specs.declared.value.Value.{Value}
 use Rattle.pm_values.specs.declared.value.Value.TheVariants.{Bool as Truth, Int, Text}
-use Rattle.pm_history.specs.Merge.{HistoryRow}
+use Rattle.pm_model_history.specs.Merge.{HistoryRow}
 use Rattle.pm_reference.specs.Steps.{added}
-use Rattle.pm_history.specs.ColumnValue.{total, summand, sum_value, joined_value, all_value, any_value}
+use Rattle.pm_model_history.specs.ColumnValue.{total, summand, sum_value, joined_value, all_value, any_value}
 
 -- the sum of integers after what the first ones came to
 abbrev pub summed : Width → Option ℤ → List ℤ → Value

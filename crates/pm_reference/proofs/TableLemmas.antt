@@ -13,8 +13,8 @@ use Rattle.pm_values.specs.Order.{Values, key_cmp, key_total}
 use Rattle.pm_values.specs.declared.value.Value.{Value}
 use Rattle.pm_values.proofs.Lemmas.{key_cmp-IsAntisymmetric}
 use Rattle.pm_schema.specs.declared.schema.TableSchema.{TableSchema}
-use Rattle.pm_history.specs.Merge.{HistoryRow, key_of}
-use Rattle.pm_history.specs.Merged.{primary_of, merged_row, merged_entry}
+use Rattle.pm_model_history.specs.Merge.{HistoryRow, key_of}
+use Rattle.pm_model_history.specs.Merged.{primary_of, merged_row, merged_entry}
 use Rattle.pm_reference.specs.Table.{placed}
 
 -- an item that passes is the first, where none before it does

@@ -7,7 +7,7 @@ ghost use Rattle.std.specs.Option.{option_map, option_map_or};
 ghost use Rattle.std.specs.Ordering.{is_le, is_ge};
 ghost use Rattle.pm_values.specs.Order.{value_cmp};
 ghost use Rattle.pm_values.specs.declared.value.Value.TheVariants.{Null, Bool as Truth};
-ghost use Rattle.pm_history.specs.ColumnValue.{width_of, summand, sum_value, extreme_value, last_left, text_in, delimiter_of, joined_value, truth_in, all_value, any_value, aggregate_by};
+ghost use Rattle.pm_model_history.specs.ColumnValue.{width_of, summand, sum_value, extreme_value, last_left, text_in, delimiter_of, joined_value, truth_in, all_value, any_value, aggregate_by};
 ghost use Rattle.pm_reference.specs.Steps.{added, appended};
 
 use crate::values::{first_value, last_of, last_value, non_null, value_at, values_at};

@@ -5,11 +5,11 @@ ghost use Rattle.std.specs.List.{list_all};
 ghost use Rattle.std.specs.Option.{option_copied};
 ghost use Rattle.std.specs.Ordering.{is_le};
 ghost use Rattle.pm_values.specs.Order.{value_cmp};
-ghost use Rattle.pm_history.specs.ColumnValue.{is_leading, leading_row, left_by, group_value, updated_value};
-ghost use Rattle.pm_history.specs.Merge.{value_at};
+ghost use Rattle.pm_model_history.specs.ColumnValue.{is_leading, leading_row, left_by, group_value, updated_value};
+ghost use Rattle.pm_model_history.specs.Merge.{value_at};
 
 use crate::values::{adding, is_null, last_value, non_null, value_at, values_at};
-use pm_history::index_of;
+use pm_model_history::index_of;
 use pm_schema::{Listed, TableSchema};
 use pm_values::{Kind, Row, Txt, Value};
 use std::alloc::{AllocError, Global};

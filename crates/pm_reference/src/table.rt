@@ -5,16 +5,16 @@ ghost use Rattle.std.specs.FinMap.{values};
 ghost use Rattle.std.specs.Option.{option_map};
 ghost use Rattle.pm_values.specs.Order.{Values};
 ghost use Rattle.pm_options.specs.declared.kinds.EngineKind.TheVariants.{Aggregation};
-ghost use Rattle.pm_history.specs.ColumnValue.{value_by, value_in, column_value};
-ghost use Rattle.pm_history.specs.Merge.{key_of, rows_of};
-ghost use Rattle.pm_history.specs.Merged.{primary_of, shows, values_of, merged_row, merged};
+ghost use Rattle.pm_model_history.specs.ColumnValue.{value_by, value_in, column_value};
+ghost use Rattle.pm_model_history.specs.Merge.{key_of, rows_of};
+ghost use Rattle.pm_model_history.specs.Merged.{primary_of, shows, values_of, merged_row, merged};
 ghost use Rattle.pm_reference.specs.Table.{placed};
 
 use crate::aggregates::aggregate_by;
 use crate::groups::updated_value;
 use crate::values::{adding, first_value, last_of, last_value, values_at};
 use pm_columns::{function_of, group_of, is_key, skips_retractions};
-use pm_history::{key_of, primary_of};
+use pm_model_history::{key_of, primary_of};
 use pm_schema::{EngineKind, TableSchema};
 use pm_values::{Column, Key, Kind, Row, Value};
 use std::alloc::{AllocError, Global};
@@ -118,7 +118,7 @@ fn values_of(alloc: Global, schema: &TableSchema, rows: &[(Kind, Row)]) -> Resul
 }
 
 /// The value of the column at the index over the rows of one key, null where there is no such column.
-#[tactic(auto, unfolding(pm_history::specs::ColumnValue::column_value))]
+#[tactic(auto, unfolding(pm_model_history::specs::ColumnValue::column_value))]
 fn column_value(
     alloc: Global,
     schema: &TableSchema,

@@ -3,8 +3,8 @@
 ghost use Rattle.std.specs.Prelude.{◌≡◌, None, IfOk};
 ghost use Rattle.std.specs.List.{last_or};
 ghost use Rattle.std.specs.Option.{option_copied};
-ghost use Rattle.pm_history.specs.ColumnValue.{values_at, is_null, non_null, first_value, last_value, adding};
-ghost use Rattle.pm_history.specs.Merge.{value_at};
+ghost use Rattle.pm_model_history.specs.ColumnValue.{values_at, is_null, non_null, first_value, last_value, adding};
+ghost use Rattle.pm_model_history.specs.Merge.{value_at};
 
 use pm_values::{Kind, Row, Value};
 use std::alloc::{AllocError, Global};

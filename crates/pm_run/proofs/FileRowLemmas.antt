@@ -16,9 +16,9 @@ use Rattle.pm_avro_schema.specs.Avro as avro
 use Rattle.pm_avro_schema.specs.Avro.{Avro, Fields, no_fields, field}
 use Rattle.pm_avro_data.specs.Datum.{Data, null, boolean, int, long, bytes, text, record_of, union_of, Items, no_items, item}
 use Rattle.pm_avro_file.specs.Reader.{Reader, HasBlock}
-use Rattle.pm_history.specs.Merge.{key_of}
-use Rattle.pm_history.specs.Merged.{primary_of}
-use Rattle.pm_history.specs.Taken.{stores_by}
+use Rattle.pm_model_history.specs.Merge.{key_of}
+use Rattle.pm_model_history.specs.Merged.{primary_of}
+use Rattle.pm_model_history.specs.Taken.{stores_by}
 use Rattle.pm_record.specs.Scalar.{long_in}
 use Rattle.pm_record.specs.Record.{all_values, beside_null, inner, not_null, optional, present, selected, value_in, values_in}
 use Rattle.pm_record.specs.declared.misfit.Misfit.{Misfit}

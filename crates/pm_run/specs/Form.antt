@@ -8,8 +8,8 @@ use Rattle.pm_schema.specs.Rules.{is_among}
 use Rattle.pm_schema.specs.declared.schema.TableSchema.{TableSchema}
 use Rattle.pm_values.specs.declared.column.Column.{Column}
 use Rattle.pm_values.specs.declared.column.ColType.TheVariants as types
-use Rattle.pm_history.specs.ColumnValue.{index_of}
-use Rattle.pm_history.specs.Merged.{primary_of}
+use Rattle.pm_model_history.specs.ColumnValue.{index_of}
+use Rattle.pm_model_history.specs.Merged.{primary_of}
 use Rattle.pm_run.specs.declared.form.Field.{Field}
 
 pub record Form : Type 0 where

@@ -20,9 +20,9 @@ use Rattle.pm_values.specs.declared.value.Value.TheVariants.{Null, Bool as Truth
 use Rattle.pm_values.specs.declared.value.Value.TheVariants.{Bytes as Octets, Day, Millis}
 use Rattle.pm_rows.specs.RowText.{kind_text}
 use Rattle.pm_schema.specs.declared.schema.TableSchema.{TableSchema}
-use Rattle.pm_history.specs.Merge.{key_of, value_at}
-use Rattle.pm_history.specs.Merged.{primary_of}
-use Rattle.pm_history.specs.Taken.{stores}
+use Rattle.pm_model_history.specs.Merge.{key_of, value_at}
+use Rattle.pm_model_history.specs.Merged.{primary_of}
+use Rattle.pm_model_history.specs.Taken.{stores}
 use Rattle.pm_record.specs.File.{Reading}
 use Rattle.pm_record.specs.Record.{selected}
 use Rattle.pm_record.specs.Scalar.{boolean_in, bytes_in, int_in, long_in, text_in}

@@ -2,7 +2,7 @@
 use Rattle.std.specs.Prelude.{◌≤◌, List, [], ◌∷◌, IsTrue}
 use Rattle.pm_avro_data.specs.Datum.{Data}
 use Rattle.pm_avro_data.specs.HasType.{HasType}
-use Rattle.pm_history.specs.Merge.{key_of}
+use Rattle.pm_model_history.specs.Merge.{key_of}
 use Rattle.pm_values.specs.Fits.{IsInType}
 use Rattle.pm_values.specs.Order.{Values}
 use Rattle.pm_values.specs.declared.record.Stamped.{Stamped}

@@ -9,8 +9,8 @@ use Rattle.pm_values.specs.Order.{Values, key_cmp}
 use Rattle.pm_values.specs.declared.file_meta.FileMeta.{FileMeta}
 use Rattle.pm_values.specs.declared.record.Stamped.{Stamped}
 use Rattle.pm_schema.specs.declared.schema.TableSchema.{TableSchema}
-use Rattle.pm_history.specs.Merge.{key_of}
-use Rattle.pm_history.specs.Merged.{primary_of}
+use Rattle.pm_model_history.specs.Merge.{key_of}
+use Rattle.pm_model_history.specs.Merged.{primary_of}
 use Rattle.pm_record.specs.File.{IsFileOf}
 use Rattle.pm_run.specs.declared.run.RunFile.{RunFile}
 use Rattle.pm_run.specs.Form.{form_of}

@@ -11,7 +11,7 @@ use Rattle.pm_avro_data.specs.Number.{IsInt, IsLong}
 use Rattle.pm_avro_data.proofs.Facts.{Follows, datum_follows, datum_typed}
 use Rattle.pm_avro_file.specs.Container.{IsBlock, magic, metadata}
 use Rattle.pm_avro_file.specs.Reader.{HasBlock, IsOpened, Reader}
-use Rattle.pm_history.specs.Merge.{key_of}
+use Rattle.pm_model_history.specs.Merge.{key_of}
 use Rattle.pm_values.specs.Kind.{code_of}
 use Rattle.pm_values.specs.Order.{Values}
 use Rattle.pm_values.specs.declared.record.Stamped.{Stamped}

@@ -1,7 +1,7 @@
 -- Keys of rows that are judged where they lie.
 use Rattle.std.proofs.Common.{◌≡◌, ◌+◌, Bool, true, false, List, [], ◌∷◌, ◌++◌, Option, Some, map, refl, subst}
-use Rattle.pm_seen.specs.Seen.{seen_value}
-use Rattle.pm_seen.specs.declared.seen.Seen.{Seen}
+use Rattle.pm_row_slots.specs.Seen.{seen_value}
+use Rattle.pm_row_slots.specs.declared.seen.Seen.{Seen}
 use Rattle.pm_values.specs.Order.{Values}
 use Rattle.pm_values.specs.declared.record.Stamped.{Stamped}
 use Rattle.pm_run.specs.Order.{last_key, may_follow}

@@ -11,7 +11,7 @@ ghost use Rattle.pm_run_bytes.specs.Direct.{AreCells, AreRows, HasContent, IsCel
 ghost use Rattle.pm_run_bytes.specs.Direct.{IsRow, IsWritten};
 ghost use Rattle.pm_run.specs.Row.{most_sequence, row_kind};
 ghost use Rattle.pm_run.specs.Rows.{Opened};
-ghost use Rattle.pm_seen.specs.Seen.{seen_value};
+ghost use Rattle.pm_row_slots.specs.Seen.{seen_value};
 
 use crate::judge::judge_rows;
 use crate::same::is_written;
@@ -22,7 +22,7 @@ use pm_run_form::{
 };
 use pm_run_scalars::{read_int, read_long, read_size, see_scalar};
 use pm_schema::EngineKind;
-use pm_seen::{Seen, copied};
+use pm_row_slots::{Seen, copied};
 use pm_values::{Key, Kind, Row, Stamped, Value};
 use std::alloc::{AllocError, Global};
 

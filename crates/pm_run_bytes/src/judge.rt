@@ -4,19 +4,19 @@
 
 ghost use Rattle.std.specs.Prelude.{◌≡◌, ◌++◌, [], List, Some, IfOk, IfSome, IsTrue, OnOk, is_some, length, map, true};
 ghost use Rattle.std.specs.Ordering.{is_eq};
-ghost use Rattle.pm_history.specs.Merge.{value_at};
+ghost use Rattle.pm_model_history.specs.Merge.{value_at};
 ghost use Rattle.pm_values.specs.Order.{value_cmp};
 ghost use Rattle.pm_values.specs.declared.record.Stamped.{Stamped};
 ghost use Rattle.pm_run_bytes.specs.Direct.{AreCells, AreRows, IsRow};
 ghost use Rattle.pm_run.specs.Order.{last_key, may_follow};
 ghost use Rattle.pm_run.specs.Row.{agree};
 ghost use Rattle.pm_run_bytes.specs.Seen.{seen_key};
-ghost use Rattle.pm_seen.specs.Seen.{seen_row, seen_value};
+ghost use Rattle.pm_row_slots.specs.Seen.{seen_row, seen_value};
 
 use crate::direct::{read_kind, read_sequence, see_value};
 use pm_run::Field;
 use pm_run_form::TableForm;
-use pm_seen::{Seen, SeenRow, order_of, seen_of, values_of};
+use pm_row_slots::{Seen, SeenRow, order_of, seen_of, values_of};
 use pm_values::{Key, Kind, Value};
 use std::alloc::{AllocError, Global};
 use std::cmp::Ordering;

@@ -8,7 +8,7 @@ use Rattle.pm_avro_schema.specs.Avro as avro
 use Rattle.pm_avro_schema.specs.Avro.{Avro}
 use Rattle.pm_avro_schema.specs.View.{fields_of}
 use Rattle.pm_avro_data.specs.Datum.{Data, int, items_of, long, record_of}
-use Rattle.pm_history.specs.Merge.{key_of}
+use Rattle.pm_model_history.specs.Merge.{key_of}
 use Rattle.pm_record.specs.Record.{all_differ, all_indexes, all_values, index_in, selected, type_of_field}
 use Rattle.pm_schema.specs.declared.schema.TableSchema.{TableSchema}
 use Rattle.pm_values.specs.Kind.{code_of}

@@ -6,7 +6,7 @@ use Rattle.std.proofs.lemmas.Bool.{and_parts}
 use Rattle.pm_values.specs.Order.{Values, value_cmp}
 use Rattle.pm_values.specs.declared.value.Value.{Value}
 use Rattle.pm_values.proofs.Lemmas.{value_cmp-IsAntisymmetric}
-use Rattle.pm_history.specs.Merge.{key_of, value_at}
+use Rattle.pm_model_history.specs.Merge.{key_of, value_at}
 use Rattle.pm_run.specs.Row.{agree}
 use Rattle.std.specs.Prelude.{slice_get}
 use Rattle.pm_values.specs.declared.record.Stamped.{Stamped}

@@ -10,8 +10,8 @@ use Rattle.std.proofs.lemmas.Int.{ints}
 use Rattle.pm_avro_schema.specs.Avro.{Avro}
 use Rattle.pm_avro_data.specs.Datum.{Data, int, long}
 use Rattle.pm_avro_data.specs.HasType.{HasType}
-use Rattle.pm_history.specs.Merge.{key_of, value_at}
-use Rattle.pm_history.specs.Taken.{stores_by}
+use Rattle.pm_model_history.specs.Merge.{key_of, value_at}
+use Rattle.pm_model_history.specs.Taken.{stores_by}
 use Rattle.pm_options.specs.declared.kinds.EngineKind.{EngineKind}
 use Rattle.pm_options.specs.declared.kinds.EngineKind.TheVariants as engines
 use Rattle.pm_schema.specs.declared.schema.TableSchema.{TableSchema}

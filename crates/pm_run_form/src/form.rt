@@ -1,14 +1,14 @@
 //! What of a table's schema its data files depend on.
 
 ghost use Rattle.std.specs.Prelude.{◌≡◌, ◌++◌, IfOk, OnOk, map};
-ghost use Rattle.pm_history.specs.ColumnValue.{index_of};
+ghost use Rattle.pm_model_history.specs.ColumnValue.{index_of};
 ghost use Rattle.pm_record.specs.Record.{lent};
 ghost use Rattle.pm_schema.specs.Rules.{is_among};
 ghost use Rattle.pm_run.specs.Form.{apart_from, field_of, form_of, key_field, key_field_of, key_name, names_of};
 ghost use Rattle.pm_run.specs.Form.{row_fields, stray_field, written_fields};
 
 use pm_base::Txt;
-use pm_history::{index_of, indexes_of};
+use pm_model_history::{index_of, indexes_of};
 use pm_run::Field;
 use pm_schema::{EngineKind, TableSchema};
 use pm_values::{ColType, Column};

@@ -3,13 +3,13 @@
 ghost use Rattle.std.specs.Prelude.{◌≡◌, Ok, IfOk, IsTrue, true};
 ghost use Rattle.std.specs.Option.{option_copied};
 ghost use Rattle.std.specs.Ordering.{is_eq};
-ghost use Rattle.pm_history.specs.Merge.{key_of, value_at};
+ghost use Rattle.pm_model_history.specs.Merge.{key_of, value_at};
 ghost use Rattle.pm_values.specs.Order.{value_cmp};
 ghost use Rattle.pm_run.specs.Order.{last_key, may_follow, rises};
 ghost use Rattle.pm_run.specs.Row.{agree, row_kind};
 
 use crate::form::TableForm;
-use pm_history::key_of;
+use pm_model_history::key_of;
 use pm_schema::EngineKind;
 use pm_values::{Key, Kind, Row, Stamped, Value};
 use std::alloc::{AllocError, Global};

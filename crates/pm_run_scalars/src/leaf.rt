@@ -7,11 +7,11 @@ ghost use Rattle.pm_avro_data.specs.Number.{AreGroups, IsInt, IsLong};
 ghost use Rattle.pm_avro_data.specs.Reading.{unzigzag};
 ghost use Rattle.pm_run_scalars.specs.Leaf.{IsScalar};
 ghost use Rattle.pm_run.specs.Rows.{AreBytes};
-ghost use Rattle.pm_seen.specs.Seen.{seen_value};
+ghost use Rattle.pm_row_slots.specs.Seen.{seen_value};
 
 use pm_avro_data::{Datum, decode};
 use pm_avro_schema::AvroType;
-use pm_seen::Seen;
+use pm_row_slots::Seen;
 use pm_values::ColType;
 use std::alloc::Global;
 use std::str;

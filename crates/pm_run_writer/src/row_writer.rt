@@ -4,7 +4,7 @@ ghost use Rattle.std.specs.Prelude.{◌≡◌, ◌≤◌, ◌++◌, IfOk, OnOk, 
 ghost use Rattle.std.specs.List.{AllByRecursion};
 ghost use Rattle.pm_avro_data.specs.Datum.{int, items_of, leaf_data, long, record_of, view};
 ghost use Rattle.pm_avro_data.specs.HasType.{HasType};
-ghost use Rattle.pm_history.specs.Merge.{key_of, value_at};
+ghost use Rattle.pm_model_history.specs.Merge.{key_of, value_at};
 ghost use Rattle.pm_values.specs.Kind.{code_of};
 ghost use Rattle.pm_run.specs.Kinds.{field_type, or_null, value_type};
 ghost use Rattle.pm_run.specs.Row.{most_sequence, optional_data, row_data, scalar_data, value_data, values_data};

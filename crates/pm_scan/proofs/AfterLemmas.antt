@@ -12,14 +12,14 @@ use Rattle.pm_schema.specs.declared.schema.TableSchema.{TableSchema}
 use Rattle.pm_snapshot.specs.declared.snapshot.Snapshot.{Snapshot}
 use Rattle.pm_manifest.specs.declared.entry.Entry.{Entry}
 use Rattle.pm_manifest.specs.declared.entry.ManifestMeta.{ManifestMeta}
-use Rattle.pm_table_view.specs.Asked.{SoughtView, sought_of}
-use Rattle.pm_table_view.specs.Reader as reader
-use Rattle.pm_table_view.specs.Reader.{most, opening}
-use Rattle.pm_table_view.specs.Reading.{Filed}
-use Rattle.pm_table_view.specs.View.{kept_for}
-use Rattle.pm_table_view.specs.declared.phase.Phase as view_phase
-use Rattle.pm_table_view.specs.declared.phase.Phase.TheVariants as readers
-use Rattle.pm_table_view.specs.declared.view.View.{View}
+use Rattle.pm_read_table.specs.Asked.{SoughtView, sought_of}
+use Rattle.pm_read_table.specs.Reader as reader
+use Rattle.pm_read_table.specs.Reader.{most, opening}
+use Rattle.pm_read_table.specs.Reading.{Filed}
+use Rattle.pm_read_table.specs.View.{kept_for}
+use Rattle.pm_read_table.specs.declared.phase.Phase as view_phase
+use Rattle.pm_read_table.specs.declared.phase.Phase.TheVariants as readers
+use Rattle.pm_read_table.specs.declared.view.View.{View}
 use Rattle.pm_engine.specs.OfSchema.{meaning_of}
 use Rattle.pm_shown.specs.Shown.{PrintsGroups}
 use Rattle.pm_scan.specs.Collected.{Collected, Takes, nothing_of}

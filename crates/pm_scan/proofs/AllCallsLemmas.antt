@@ -12,30 +12,30 @@ use Rattle.pm_store.specs.Store.{StoreView, IsLater, at_first_own}
 use Rattle.pm_machine.specs.Trace.{Event, HasTrace, Traces, faulted}
 use Rattle.pm_machine.proofs.AloneLaws.{Traces-first}
 use Rattle.pm_machine.proofs.Facts.{HasTrace-acts, Traces-faulted, Traces-join, Traces-meanwhile, Traces-none, Traces-push}
-use Rattle.pm_history.specs.History.{Entry, History, IsTableOf, no_table, rows_up_to, table}
-use Rattle.pm_history.specs.Merged.{scan_text}
+use Rattle.pm_model_history.specs.History.{Entry, History, IsTableOf, no_table, rows_up_to, table}
+use Rattle.pm_model_history.specs.Merged.{scan_text}
 use Rattle.pm_schema.specs.Again.{IsDeclared}
 use Rattle.pm_schema.specs.declared.schema.TableSchema.{TableSchema}
 use Rattle.pm_engine.specs.OfSchema.{meaning_of}
 use Rattle.pm_shown.specs.Shown.{PrintsGroups}
-use Rattle.pm_contents.specs.Groups.{GroupRuns}
-use Rattle.pm_contents.specs.Runs.{data_path}
-use Rattle.pm_folder.specs.Folder.{Folder, HasTable}
-use Rattle.pm_folder.specs.Ledger.{count_of}
-use Rattle.pm_folder.specs.Meaning.{HasSnapshotAt}
-use Rattle.pm_folder.specs.Paths.{snapshot_folder, snapshot_path}
-use Rattle.pm_folder.specs.Stored.{HasGroup}
-use Rattle.pm_folder.proofs.Facts.{newest-there}
-use Rattle.pm_view.specs.Reader.{schemas_call}
-use Rattle.pm_view.proofs.AllCallsLemmas as schema
-use Rattle.pm_view.proofs.AllCallsLemmas.{read_still}
-use Rattle.pm_view.proofs.StillLemmas.{AreStill, AreTold, stayed, told_last}
-use Rattle.pm_table_view.specs.Asked.{Asked, ListsFirst}
-use Rattle.pm_table_view.specs.Reader.{origin_path, IsAbove, IsAsked}
-use Rattle.pm_table_view.specs.Trace as reader
-use Rattle.pm_table_view.specs.Trace.{HasView, of_origin, of_snapshot, read_file}
-use Rattle.pm_table_view.specs.declared.phase.Phase.TheVariants as readers
-use Rattle.pm_table_view.specs.declared.view.View.{View}
+use Rattle.pm_model_contents.specs.Groups.{GroupRuns}
+use Rattle.pm_model_contents.specs.Runs.{data_path}
+use Rattle.pm_model_folder.specs.Folder.{Folder, HasTable}
+use Rattle.pm_model_folder.specs.Ledger.{count_of}
+use Rattle.pm_model_folder.specs.Meaning.{HasSnapshotAt}
+use Rattle.pm_model_folder.specs.Paths.{snapshot_folder, snapshot_path}
+use Rattle.pm_model_folder.specs.Stored.{HasGroup}
+use Rattle.pm_model_folder.proofs.Facts.{newest-there}
+use Rattle.pm_read_schema.specs.Reader.{schemas_call}
+use Rattle.pm_read_schema.proofs.AllCallsLemmas as schema
+use Rattle.pm_read_schema.proofs.AllCallsLemmas.{read_still}
+use Rattle.pm_read_schema.proofs.StillLemmas.{AreStill, AreTold, stayed, told_last}
+use Rattle.pm_read_table.specs.Asked.{Asked, ListsFirst}
+use Rattle.pm_read_table.specs.Reader.{origin_path, IsAbove, IsAsked}
+use Rattle.pm_read_table.specs.Trace as reader
+use Rattle.pm_read_table.specs.Trace.{HasView, of_origin, of_snapshot, read_file}
+use Rattle.pm_read_table.specs.declared.phase.Phase.TheVariants as readers
+use Rattle.pm_read_table.specs.declared.view.View.{View}
 use Rattle.pm_scan.specs.AllCalls.{DidScan, Ends, Has, IsCaused, IsThere, PrintsScan, ScansTables, asked_at, id_of, path_of, wanted_of}
 use Rattle.pm_scan.specs.Collected.{Collected, RefusesFile, nothing_of}
 use Rattle.pm_scan.specs.Jobs.{all_jobs, job_of}

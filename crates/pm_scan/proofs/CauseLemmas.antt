@@ -11,17 +11,17 @@ use Rattle.pm_store.specs.declared.answer.Answer.TheVariants as answers
 use Rattle.pm_store.specs.declared.call.Call.{Call}
 use Rattle.pm_store.specs.declared.call.Call.TheVariants as calls
 use Rattle.pm_schema.specs.declared.schema.TableSchema.{TableSchema}
-use Rattle.pm_contents.specs.Groups.{GroupRuns}
-use Rattle.pm_contents.specs.Runs.{data_path}
-use Rattle.pm_folder.specs.Ledger.{Past, Stands}
-use Rattle.pm_folder.specs.Meaning.{HasSnapshotAt}
-use Rattle.pm_folder.specs.Paths.{snapshot_path}
-use Rattle.pm_folder.specs.Stored.{HasGroup}
-use Rattle.pm_folder.proofs.Facts.{some-none}
-use Rattle.pm_table_view.specs.Meaning as reader_meaning
-use Rattle.pm_table_view.specs.Meaning.{HasGone, MayRefuse}
-use Rattle.pm_table_view.specs.Reader as reader
-use Rattle.pm_table_view.specs.declared.phase.Phase as view_phase
+use Rattle.pm_model_contents.specs.Groups.{GroupRuns}
+use Rattle.pm_model_contents.specs.Runs.{data_path}
+use Rattle.pm_model_folder.specs.Ledger.{Past, Stands}
+use Rattle.pm_model_folder.specs.Meaning.{HasSnapshotAt}
+use Rattle.pm_model_folder.specs.Paths.{snapshot_path}
+use Rattle.pm_model_folder.specs.Stored.{HasGroup}
+use Rattle.pm_model_folder.proofs.Facts.{some-none}
+use Rattle.pm_read_table.specs.Meaning as reader_meaning
+use Rattle.pm_read_table.specs.Meaning.{HasGone, MayRefuse}
+use Rattle.pm_read_table.specs.Reader as reader
+use Rattle.pm_read_table.specs.declared.phase.Phase as view_phase
 use Rattle.pm_scan.specs.Collected.{RefusesFile, nothing_of}
 use Rattle.pm_scan.specs.Jobs.{job_of}
 use Rattle.pm_scan.specs.Meaning.{IsReadingOf, Knows}

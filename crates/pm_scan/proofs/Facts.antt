@@ -21,28 +21,28 @@ use Rattle.pm_store.proofs.FileLaws.{effect_left}
 use Rattle.pm_machine.specs.Moves.{Changes, Leads, Sound}
 use Rattle.pm_machine.specs.Step.{path_of, Answered, Stepped, Rested, Went, Refused, Stopped, Failed}
 use Rattle.pm_machine.specs.Trace.{Event, Recounts, answered, faulted}
-use Rattle.pm_history.specs.History.{IsTableOf}
+use Rattle.pm_model_history.specs.History.{IsTableOf}
 use Rattle.pm_schema.specs.declared.schema.TableSchema.{TableSchema}
 use Rattle.pm_engine.specs.OfSchema.{meaning_of}
 use Rattle.pm_shown.specs.Shown.{PrintsGroups}
-use Rattle.pm_folder.specs.Changes.{Actor}
-use Rattle.pm_folder.specs.Ledger.{Advances, Past, Stands}
-use Rattle.pm_folder.specs.Paths.{snapshot_path}
-use Rattle.pm_folder.proofs.Facts.{goes_on}
-use Rattle.pm_folder.proofs.LedgerFacts.{gone-still, known-still}
-use Rattle.pm_view.proofs.Facts.{read_effect, still_table}
-use Rattle.pm_table_view.specs.Asked.{Asked}
-use Rattle.pm_table_view.specs.Meaning as reader_meaning
-use Rattle.pm_table_view.specs.Meaning.{HasGone, IsKept, IsViewIn}
-use Rattle.pm_table_view.specs.Reader as reader
-use Rattle.pm_table_view.specs.Reader.{most}
-use Rattle.pm_table_view.specs.Trace as reader_trace
-use Rattle.pm_table_view.specs.Trace.{HasView, read_file}
-use Rattle.pm_table_view.specs.declared.phase.Phase as view_phase
-use Rattle.pm_table_view.specs.declared.phase.Phase.TheVariants as readers
-use Rattle.pm_table_view.specs.declared.view.View.{View}
-use Rattle.pm_table_view.proofs.Facts as reader_facts
-use Rattle.pm_table_view.proofs.Facts.{Joined, OneList}
+use Rattle.pm_model_folder.specs.Changes.{Actor}
+use Rattle.pm_model_folder.specs.Ledger.{Advances, Past, Stands}
+use Rattle.pm_model_folder.specs.Paths.{snapshot_path}
+use Rattle.pm_model_folder.proofs.Facts.{goes_on}
+use Rattle.pm_model_folder.proofs.LedgerFacts.{gone-still, known-still}
+use Rattle.pm_read_schema.proofs.Facts.{read_effect, still_table}
+use Rattle.pm_read_table.specs.Asked.{Asked}
+use Rattle.pm_read_table.specs.Meaning as reader_meaning
+use Rattle.pm_read_table.specs.Meaning.{HasGone, IsKept, IsViewIn}
+use Rattle.pm_read_table.specs.Reader as reader
+use Rattle.pm_read_table.specs.Reader.{most}
+use Rattle.pm_read_table.specs.Trace as reader_trace
+use Rattle.pm_read_table.specs.Trace.{HasView, read_file}
+use Rattle.pm_read_table.specs.declared.phase.Phase as view_phase
+use Rattle.pm_read_table.specs.declared.phase.Phase.TheVariants as readers
+use Rattle.pm_read_table.specs.declared.view.View.{View}
+use Rattle.pm_read_table.proofs.Facts as reader_facts
+use Rattle.pm_read_table.proofs.Facts.{Joined, OneList}
 use Rattle.pm_scan.specs.Collected.{Collected, Takes, nothing_of}
 use Rattle.pm_scan.specs.Jobs.{all_jobs}
 use Rattle.pm_scan.specs.Meaning.{HaveTaken, IsReadingOf, IsScan, Knows, LeavesFiles}

@@ -4,17 +4,17 @@ use Rattle.std.specs.List.{flat_map}
 use Rattle.std.proofs.lemmas.List.{take-append-le}
 use Rattle.pm_store.specs.Files.{Files}
 use Rattle.pm_schema.specs.declared.schema.TableSchema.{TableSchema}
-use Rattle.pm_history.specs.History.{GoesOn, History, IsTableOf, entry_rows, no_table, table}
-use Rattle.pm_history.specs.Merged.{scan_text}
-use Rattle.pm_contents.specs.Lists.{HasEntries}
-use Rattle.pm_folder.specs.Changes.{Actor, Change}
-use Rattle.pm_folder.specs.Ledger.{Advances, IsKnown, Past, count_of}
-use Rattle.pm_folder.specs.Meaning.{SnapshotAt}
+use Rattle.pm_model_history.specs.History.{GoesOn, History, IsTableOf, entry_rows, no_table, table}
+use Rattle.pm_model_history.specs.Merged.{scan_text}
+use Rattle.pm_model_contents.specs.Lists.{HasEntries}
+use Rattle.pm_model_folder.specs.Changes.{Actor, Change}
+use Rattle.pm_model_folder.specs.Ledger.{Advances, IsKnown, Past, count_of}
+use Rattle.pm_model_folder.specs.Meaning.{SnapshotAt}
 use Rattle.pm_scan.specs.Collected.{nothing_of}
 use Rattle.pm_scan.specs.Meaning.{HaveTaken, IsReadingOf, IsScan}
 use Rattle.pm_scan.specs.Reading.{ReadingView}
-use Rattle.pm_table_view.specs.Meaning.{IsViewIn, view_origin, view_snapshot}
-use Rattle.pm_table_view.specs.declared.view.View.{View}
+use Rattle.pm_read_table.specs.Meaning.{IsViewIn, view_origin, view_snapshot}
+use Rattle.pm_read_table.specs.declared.view.View.{View}
 
 -- ---- histories that go on
 

@@ -13,8 +13,8 @@ use Rattle.pm_schema.specs.Again.{IsDeclared}
 use Rattle.pm_schema.specs.Meaning.{SchemaOf}
 use Rattle.pm_schema.specs.Reading.{schema_of}
 use Rattle.pm_schema.specs.declared.schema.TableSchema.{TableSchema}
-use Rattle.pm_history.specs.History.{Entry, History, IsTableOf, no_table, rows_up_to, table}
-use Rattle.pm_history.specs.Merged.{scan_text}
+use Rattle.pm_model_history.specs.History.{Entry, History, IsTableOf, no_table, rows_up_to, table}
+use Rattle.pm_model_history.specs.Merged.{scan_text}
 use Rattle.pm_engine.specs.Covers.{Run}
 use Rattle.pm_engine.specs.OfSchema.{meaning_of}
 use Rattle.pm_shown.specs.Shown.{PrintsGroups}
@@ -23,24 +23,24 @@ use Rattle.pm_levels.specs.Runs.{RunView}
 use Rattle.pm_manifest.specs.Live.{Leaves, Live}
 use Rattle.pm_manifest.specs.declared.entry.Entry as files
 use Rattle.pm_manifest.specs.declared.entry.ManifestMeta.{ManifestMeta}
-use Rattle.pm_contents.specs.Groups.{GroupRuns}
-use Rattle.pm_contents.specs.Lists.{HasEntries, none_live}
-use Rattle.pm_folder.specs.Commits.{IsCommitted, Needs}
-use Rattle.pm_folder.specs.Folder.{Folder}
-use Rattle.pm_folder.specs.Ledger.{IsKnown, KeepsFiles, KnowsPast, Past, Stands}
-use Rattle.pm_folder.specs.Meaning.{HasSnapshotAt, SnapshotAt}
-use Rattle.pm_folder.specs.Paths.{snapshot_path}
-use Rattle.pm_folder.specs.Stored.{HasGroup, HasRun, HaveFileRows, StoredRun}
+use Rattle.pm_model_contents.specs.Groups.{GroupRuns}
+use Rattle.pm_model_contents.specs.Lists.{HasEntries, none_live}
+use Rattle.pm_model_folder.specs.Commits.{IsCommitted, Needs}
+use Rattle.pm_model_folder.specs.Folder.{Folder}
+use Rattle.pm_model_folder.specs.Ledger.{IsKnown, KeepsFiles, KnowsPast, Past, Stands}
+use Rattle.pm_model_folder.specs.Meaning.{HasSnapshotAt, SnapshotAt}
+use Rattle.pm_model_folder.specs.Paths.{snapshot_path}
+use Rattle.pm_model_folder.specs.Stored.{HasGroup, HasRun, HaveFileRows, StoredRun}
 use Rattle.pm_scan.specs.Collected.{Closes, Collected, Takes, collected_of, nothing_of}
 use Rattle.pm_scan.specs.Jobs.{Grouped, all_jobs, file_jobs, run_jobs}
 use Rattle.pm_scan.specs.Meaning.{HaveTaken, IsReadingOf, IsScan}
 use Rattle.pm_scan.specs.Reading.{ReadingView, reading_of}
-use Rattle.pm_table_view.specs.View.{IsViewOf, kept_for}
-use Rattle.pm_table_view.specs.Meaning.{HasGone, IsViewIn, Stood, view_origin, view_snapshot}
+use Rattle.pm_read_table.specs.View.{IsViewOf, kept_for}
+use Rattle.pm_read_table.specs.Meaning.{HasGone, IsViewIn, Stood, view_origin, view_snapshot}
 use Rattle.pm_scan.specs.declared.job.Ends.{Ends}
 use Rattle.pm_scan.specs.declared.job.Ends.TheVariants as ends
 use Rattle.pm_scan.specs.declared.job.Job.{Job}
-use Rattle.pm_table_view.specs.declared.view.View.{View}
+use Rattle.pm_read_table.specs.declared.view.View.{View}
 use Rattle.pm_scan.proofs.TakenLemmas.{Laws, taken-more}
 use Rattle.pm_scan.proofs.ScanLemmas.{HasOwn, each-own}
 use Rattle.pm_scan.proofs.ViewLemmas.{OneContents, all-joined, all-parts, needed, no-groups, same-live, scanned-origin, scanned-view}

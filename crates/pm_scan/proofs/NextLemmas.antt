@@ -10,13 +10,13 @@ use Rattle.pm_values.specs.declared.file_meta.FileMeta.{FileMeta}
 use Rattle.pm_values.specs.declared.group.Group.{Group}
 use Rattle.pm_values.specs.declared.record.Stamped.{Stamped}
 use Rattle.pm_schema.specs.declared.schema.TableSchema.{TableSchema}
-use Rattle.pm_history.specs.History.{Entry}
+use Rattle.pm_model_history.specs.History.{Entry}
 use Rattle.pm_engine.specs.Covers.{Run}
 use Rattle.pm_levels.specs.Runs.{IsRun, RunView}
 use Rattle.pm_manifest.specs.Live.{Live}
 use Rattle.pm_run.specs.Order.{keys_of}
 use Rattle.pm_run.specs.Writing.{AreRising}
-use Rattle.pm_folder.specs.Stored.{HasFile, HasGroup, HasRun, HaveFileRows, StoredRun}
+use Rattle.pm_model_folder.specs.Stored.{HasFile, HasGroup, HasRun, HaveFileRows, StoredRun}
 use Rattle.pm_scan.specs.Collected.{Collected, collected_of}
 use Rattle.pm_scan.specs.Jobs.{Grouped, all_jobs, file_jobs, job_of, run_jobs}
 use Rattle.pm_scan.specs.Meaning.{HaveTaken}

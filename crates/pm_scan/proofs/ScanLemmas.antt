@@ -16,18 +16,18 @@ use Rattle.pm_values.specs.declared.group.Group.{Group}
 use Rattle.pm_values.proofs.Lemmas.{group_cmp-IsAntisymmetric}
 use Rattle.pm_schema.specs.Again.{IsDeclared}
 use Rattle.pm_schema.specs.declared.schema.TableSchema.{TableSchema}
-use Rattle.pm_history.specs.History.{Entry, rows_up_to}
-use Rattle.pm_history.specs.Merged.{scan_text}
+use Rattle.pm_model_history.specs.History.{Entry, rows_up_to}
+use Rattle.pm_model_history.specs.Merged.{scan_text}
 use Rattle.pm_engine.specs.Covers.{Covers, Run}
 use Rattle.pm_engine.specs.OfSchema.{meaning_of}
-use Rattle.pm_following.specs.Groups.{rows_in}
+use Rattle.pm_model_following.specs.Groups.{rows_in}
 use Rattle.pm_shown.specs.Shown.{GroupRuns as Covered, GroupsCover, PrintsGroups}
 use Rattle.pm_levels.specs.Runs.{IsRun, RunView, files_of}
 use Rattle.pm_manifest.specs.Live.{Live}
 use Rattle.pm_manifest.specs.declared.entry.Entry as files
-use Rattle.pm_contents.specs.Groups.{GroupRuns}
-use Rattle.pm_contents.specs.Runs.{AreRunsOf, IsLive}
-use Rattle.pm_folder.specs.Stored.{HasGroup, HasRun, StoredRun, oldest_first}
+use Rattle.pm_model_contents.specs.Groups.{GroupRuns}
+use Rattle.pm_model_contents.specs.Runs.{AreRunsOf, IsLive}
+use Rattle.pm_model_folder.specs.Stored.{HasGroup, HasRun, StoredRun, oldest_first}
 use Rattle.pm_scan.specs.Collected.{Collected, collected_of, nothing_of}
 use Rattle.pm_scan.specs.Jobs.{Grouped, all_jobs, run_jobs}
 use Rattle.pm_scan.specs.Meaning.{HaveTaken}

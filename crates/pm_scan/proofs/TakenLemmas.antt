@@ -14,19 +14,19 @@ use Rattle.pm_values.specs.declared.refusal.Refusal.{Refusal}
 use Rattle.pm_values.specs.declared.refusal.Refusal.TheVariants.{Memory}
 use Rattle.pm_schema.specs.Again.{IsDeclared}
 use Rattle.pm_schema.specs.declared.schema.TableSchema.{TableSchema}
-use Rattle.pm_history.specs.Merge.{HistoryRow}
-use Rattle.pm_history.specs.Merged.{scan_text}
+use Rattle.pm_model_history.specs.Merge.{HistoryRow}
+use Rattle.pm_model_history.specs.Merged.{scan_text}
 use Rattle.pm_engine.specs.Covers.{Run}
 use Rattle.pm_engine.specs.OfSchema.{meaning_of}
 use Rattle.pm_shown.specs.Shown.{GroupRuns as Covered, GroupsCover, PrintsGroups}
 use Rattle.pm_levels.specs.Runs.{IsRun, RunView}
 use Rattle.pm_manifest.specs.Live.{Live}
-use Rattle.pm_contents.specs.Runs.{AreRunsOf, data_path}
+use Rattle.pm_model_contents.specs.Runs.{AreRunsOf, data_path}
 use Rattle.pm_run.specs.Order.{are_in_order, keys_of, last_key, may_follow}
 use Rattle.pm_run.specs.Reader.{OpensRun, RunView as ReaderView, StillGives, before_first}
 use Rattle.pm_run.specs.Rows.{Follow, HasRows, Opened, opened_with}
 use Rattle.pm_run.specs.Writing.{AreRising}
-use Rattle.pm_folder.specs.Stored.{HasFile, HasRun, HaveFileRows, StoredRun}
+use Rattle.pm_model_folder.specs.Stored.{HasFile, HasRun, HaveFileRows, StoredRun}
 use Rattle.pm_scan.specs.Collected.{Closes, Collected, HasMore, RefusesFile, Takes, collected_of, misread, unopened}
 use Rattle.pm_scan.specs.Jobs.{file_jobs, job_of, run_jobs}
 use Rattle.pm_scan.specs.Meaning.{HaveTaken}

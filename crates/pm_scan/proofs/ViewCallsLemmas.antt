@@ -11,7 +11,7 @@ use Rattle.pm_store.specs.declared.call.Call.{Call}
 use Rattle.pm_store.specs.declared.call.Call.TheVariants as calls
 use Rattle.pm_store.specs.Files.{Files, IsListing}
 use Rattle.pm_machine.specs.Trace.{Event, faulted}
-use Rattle.pm_history.specs.History.{Entry as HistoryEntry}
+use Rattle.pm_model_history.specs.History.{Entry as HistoryEntry}
 use Rattle.pm_schema.specs.declared.schema.TableSchema.{TableSchema}
 use Rattle.pm_snapshot.specs.Names.{greatest, snapshot_name}
 use Rattle.pm_snapshot.specs.Snapshot.{snapshot_in}
@@ -20,15 +20,15 @@ use Rattle.pm_snapshot.specs.declared.fault.SnapFault.TheVariants as faults
 use Rattle.pm_snapshot.specs.declared.snapshot.Snapshot.{Snapshot}
 use Rattle.pm_avro_schema.specs.Avro.{Avro}
 use Rattle.pm_record.specs.File.{Reading, ReadsFile}
-use Rattle.pm_folder.specs.Commits.{IsCommitted, live_in}
-use Rattle.pm_folder.specs.Folder.{HasTable}
-use Rattle.pm_folder.specs.Meaning.{HasSnapshotAt, SnapshotAt}
-use Rattle.pm_folder.specs.Paths.{snapshot_file, snapshot_folder, snapshot_path}
-use Rattle.pm_folder.proofs.Facts.{newest-there, snapshot-committed, snapshot-led, some-none}
-use Rattle.pm_view.specs.Reader.{snapshots_call}
-use Rattle.pm_view.specs.Trace.{Names, listed_snapshots}
-use Rattle.pm_view.proofs.AllCallsLemmas.{list_still, read_still}
-use Rattle.pm_view.proofs.StillLemmas.{AreStill, AreTold, IsStill, IsTold, told_last}
+use Rattle.pm_model_folder.specs.Commits.{IsCommitted, live_in}
+use Rattle.pm_model_folder.specs.Folder.{HasTable}
+use Rattle.pm_model_folder.specs.Meaning.{HasSnapshotAt, SnapshotAt}
+use Rattle.pm_model_folder.specs.Paths.{snapshot_file, snapshot_folder, snapshot_path}
+use Rattle.pm_model_folder.proofs.Facts.{newest-there, snapshot-committed, snapshot-led, some-none}
+use Rattle.pm_read_schema.specs.Reader.{snapshots_call}
+use Rattle.pm_read_schema.specs.Trace.{Names, listed_snapshots}
+use Rattle.pm_read_schema.proofs.AllCallsLemmas.{list_still, read_still}
+use Rattle.pm_read_schema.proofs.StillLemmas.{AreStill, AreTold, IsStill, IsTold, told_last}
 use Rattle.pm_levels.specs.Runs.{AreTwoOf}
 use Rattle.pm_manifest.specs.Entries.{entry_in, has_entry_fields}
 use Rattle.pm_manifest.specs.Listed.{has_meta_fields, meta_in}
@@ -37,18 +37,18 @@ use Rattle.pm_manifest.specs.Shape.{shape_of}
 use Rattle.pm_manifest.specs.declared.entry.Entry.{Entry}
 use Rattle.pm_manifest.specs.declared.entry.ManifestMeta.{ManifestMeta}
 use Rattle.pm_manifest.specs.declared.file_id.FileId.{FileId}
-use Rattle.pm_contents.specs.Groups.{Overlaps}
-use Rattle.pm_contents.specs.Lists.{HasEntries, HaveEntries, IsList, IsManifest, manifest_path, none_live}
-use Rattle.pm_contents.specs.Named.{Contents, HasContents}
-use Rattle.pm_contents.specs.Runs.{AreFilesOf}
-use Rattle.pm_table_view.specs.Asked.{Asked, ListsFirst, asked_of}
-use Rattle.pm_table_view.specs.Names.{IsLatest}
-use Rattle.pm_table_view.specs.Reader.{origin_name, origin_path, IsAsked, MisreadsList, MisreadsManifest}
-use Rattle.pm_table_view.specs.Trace.{read_file, Lists, ListsFor, Reads, Has, FindsBase, HasBase, FindsDelta, HasDelta, HaveRead, HasPart, FindsNext, HasView, of_origin, of_snapshot, LacksFile, lacks_base, lacks_delta, lacks_manifest, ReadsAgain, Misreads, misreads_base, misreads_delta, misreads_manifest, MayEnd, at_first, at_listing, at_snapshot, at_base, at_delta, at_part, at_manifest, IsFailed, in_listing, in_origin, in_snapshot, in_base, in_delta, in_manifest, in_again, IsGone, gone_origin, gone_snapshot, gone_again, IsDamaged, bad_snapshot, bad_schema, is_absent, is_misread, is_disordered, is_overlap, Shows}
-use Rattle.pm_table_view.specs.declared.asked.Wanted.{Wanted}
-use Rattle.pm_table_view.specs.declared.asked.Wanted.TheVariants as wants
-use Rattle.pm_table_view.specs.declared.view.View.{View}
-use Rattle.pm_table_view.proofs.Facts.{Joined, OneList}
+use Rattle.pm_model_contents.specs.Groups.{Overlaps}
+use Rattle.pm_model_contents.specs.Lists.{HasEntries, HaveEntries, IsList, IsManifest, manifest_path, none_live}
+use Rattle.pm_model_contents.specs.Named.{Contents, HasContents}
+use Rattle.pm_model_contents.specs.Runs.{AreFilesOf}
+use Rattle.pm_read_table.specs.Asked.{Asked, ListsFirst, asked_of}
+use Rattle.pm_read_table.specs.Names.{IsLatest}
+use Rattle.pm_read_table.specs.Reader.{origin_name, origin_path, IsAsked, MisreadsList, MisreadsManifest}
+use Rattle.pm_read_table.specs.Trace.{read_file, Lists, ListsFor, Reads, Has, FindsBase, HasBase, FindsDelta, HasDelta, HaveRead, HasPart, FindsNext, HasView, of_origin, of_snapshot, LacksFile, lacks_base, lacks_delta, lacks_manifest, ReadsAgain, Misreads, misreads_base, misreads_delta, misreads_manifest, MayEnd, at_first, at_listing, at_snapshot, at_base, at_delta, at_part, at_manifest, IsFailed, in_listing, in_origin, in_snapshot, in_base, in_delta, in_manifest, in_again, IsGone, gone_origin, gone_snapshot, gone_again, IsDamaged, bad_snapshot, bad_schema, is_absent, is_misread, is_disordered, is_overlap, Shows}
+use Rattle.pm_read_table.specs.declared.asked.Wanted.{Wanted}
+use Rattle.pm_read_table.specs.declared.asked.Wanted.TheVariants as wants
+use Rattle.pm_read_table.specs.declared.view.View.{View}
+use Rattle.pm_read_table.proofs.Facts.{Joined, OneList}
 use Rattle.pm_scan.specs.AllCalls.{path_of}
 use Rattle.pm_scan.proofs.ViewLemmas.{OneContents, same-live}
 

@@ -14,8 +14,8 @@ use Rattle.pm_values.specs.declared.file_meta.FileMeta.{FileMeta}
 use Rattle.pm_values.specs.declared.group.Group.{Group}
 use Rattle.pm_schema.specs.Again.{IsDeclared}
 use Rattle.pm_schema.specs.declared.schema.TableSchema.{TableSchema}
-use Rattle.pm_history.specs.History.{Entry, entry_rows, rows_up_to}
-use Rattle.pm_history.specs.Merged.{scan_text}
+use Rattle.pm_model_history.specs.History.{Entry, entry_rows, rows_up_to}
+use Rattle.pm_model_history.specs.Merged.{scan_text}
 use Rattle.pm_snapshot.specs.Snapshot.{snapshot_in}
 use Rattle.pm_snapshot.specs.declared.snapshot.Snapshot.{Snapshot}
 use Rattle.pm_engine.specs.OfSchema.{meaning_of}
@@ -24,13 +24,13 @@ use Rattle.pm_levels.specs.Runs.{RunView, files_of}
 use Rattle.pm_manifest.specs.Live.{Leaves, Live, live_after}
 use Rattle.pm_manifest.specs.declared.entry.Entry as files
 use Rattle.pm_manifest.specs.declared.entry.ManifestMeta.{ManifestMeta}
-use Rattle.pm_contents.specs.Groups.{GroupRuns}
-use Rattle.pm_contents.specs.Lists.{HasEntries, none_live}
-use Rattle.pm_contents.specs.Named.{Contents, HasContents, IsNamed, data_file}
-use Rattle.pm_contents.specs.Runs.{AreRunsOf, IsLive, data_path}
-use Rattle.pm_folder.specs.Commits.{IsCommitted, Needs, live_in}
-use Rattle.pm_folder.specs.Meaning.{SnapshotAt}
-use Rattle.pm_folder.specs.Stored.{HasGroup}
+use Rattle.pm_model_contents.specs.Groups.{GroupRuns}
+use Rattle.pm_model_contents.specs.Lists.{HasEntries, none_live}
+use Rattle.pm_model_contents.specs.Named.{Contents, HasContents, IsNamed, data_file}
+use Rattle.pm_model_contents.specs.Runs.{AreRunsOf, IsLive, data_path}
+use Rattle.pm_model_folder.specs.Commits.{IsCommitted, Needs, live_in}
+use Rattle.pm_model_folder.specs.Meaning.{SnapshotAt}
+use Rattle.pm_model_folder.specs.Stored.{HasGroup}
 use Rattle.pm_scan.specs.Collected.{Collected, nothing_of}
 use Rattle.pm_scan.specs.Jobs.{Grouped, all_jobs, file_jobs, run_jobs}
 use Rattle.pm_scan.specs.Meaning.{HaveTaken}

@@ -10,19 +10,19 @@ use Rattle.pm_values.specs.declared.refusal.Refusal.TheVariants as refusals
 use Rattle.pm_store.specs.Files.{Files}
 use Rattle.pm_store.specs.Store.{StoreView, FromFirst}
 use Rattle.pm_machine.specs.Trace.{Event}
-use Rattle.pm_history.specs.History.{History, IsTableOf, no_table, rows_up_to, table}
-use Rattle.pm_history.specs.Merged.{scan_text}
+use Rattle.pm_model_history.specs.History.{History, IsTableOf, no_table, rows_up_to, table}
+use Rattle.pm_model_history.specs.Merged.{scan_text}
 use Rattle.pm_schema.specs.declared.schema.TableSchema.{TableSchema}
-use Rattle.pm_folder.specs.Folder.{Folder}
-use Rattle.pm_folder.specs.Ledger.{count_of}
-use Rattle.pm_folder.specs.Paths.{snapshot_path}
-use Rattle.pm_view.specs.AllCalls.{HasFiles, Stay}
-use Rattle.pm_view.specs.Trace as schema
-use Rattle.pm_view.specs.declared.phase.Phase.TheVariants as readers
-use Rattle.pm_table_view.specs.Asked.{Asked, asked_of}
-use Rattle.pm_table_view.specs.Reader.{origin_path}
-use Rattle.pm_table_view.specs.declared.asked.Wanted.{Wanted}
-use Rattle.pm_table_view.specs.declared.asked.Wanted.TheVariants as wants
+use Rattle.pm_model_folder.specs.Folder.{Folder}
+use Rattle.pm_model_folder.specs.Ledger.{count_of}
+use Rattle.pm_model_folder.specs.Paths.{snapshot_path}
+use Rattle.pm_read_schema.specs.AllCalls.{HasFiles, Stay}
+use Rattle.pm_read_schema.specs.Trace as schema
+use Rattle.pm_read_schema.specs.declared.phase.Phase.TheVariants as readers
+use Rattle.pm_read_table.specs.Asked.{Asked, asked_of}
+use Rattle.pm_read_table.specs.Reader.{origin_path}
+use Rattle.pm_read_table.specs.declared.asked.Wanted.{Wanted}
+use Rattle.pm_read_table.specs.declared.asked.Wanted.TheVariants as wants
 use Rattle.pm_scan.specs.Trace.{HasScan, Shows}
 
 -- the schema was read

@@ -5,7 +5,7 @@ use Rattle.pm_values.specs.declared.file_meta.FileMeta.{FileMeta}
 use Rattle.pm_values.specs.declared.group.Group.{Group}
 use Rattle.pm_schema.specs.declared.schema.TableSchema.{TableSchema}
 use Rattle.pm_levels.specs.Runs.{RunView}
-use Rattle.pm_contents.specs.Runs.{data_path}
+use Rattle.pm_model_contents.specs.Runs.{data_path}
 use Rattle.pm_scan.specs.declared.job.Ends.{Ends}
 use Rattle.pm_scan.specs.declared.job.Ends.TheVariants as ends
 use Rattle.pm_scan.specs.declared.job.Job.{Job}

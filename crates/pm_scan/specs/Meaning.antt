@@ -6,13 +6,13 @@ use Rattle.pm_values.specs.GroupOrder.{group_cmp}
 use Rattle.pm_store.specs.Files.{Files}
 use Rattle.pm_store.specs.Store.{StoreView}
 use Rattle.pm_machine.specs.Moves.{Moves}
-use Rattle.pm_history.specs.History.{Entry, IsTableOf, rows_up_to, table}
-use Rattle.pm_history.specs.Merged.{scan_text}
+use Rattle.pm_model_history.specs.History.{Entry, IsTableOf, rows_up_to, table}
+use Rattle.pm_model_history.specs.Merged.{scan_text}
 use Rattle.pm_schema.specs.declared.schema.TableSchema.{TableSchema}
-use Rattle.pm_folder.specs.Ledger.{IsKnown, Past, Stands}
-use Rattle.pm_table_view.specs.Meaning as reader
-use Rattle.pm_table_view.specs.Meaning.{HasGone, IsKept, IsViewIn}
-use Rattle.pm_table_view.specs.declared.view.View.{View}
+use Rattle.pm_model_folder.specs.Ledger.{IsKnown, Past, Stands}
+use Rattle.pm_read_table.specs.Meaning as reader
+use Rattle.pm_read_table.specs.Meaning.{HasGone, IsKept, IsViewIn}
+use Rattle.pm_read_table.specs.declared.view.View.{View}
 use Rattle.pm_scan.specs.Collected.{Collected, Takes, nothing_of}
 use Rattle.pm_scan.specs.Jobs.{all_jobs}
 use Rattle.pm_scan.specs.Reading.{ReadingView}

@@ -12,12 +12,12 @@ use Rattle.pm_store.specs.declared.call.Call.TheVariants as calls
 use Rattle.pm_engine.specs.OfSchema.{meaning_of}
 use Rattle.pm_engines.specs.TableEngine.{HasEngine}
 use Rattle.pm_shown.specs.Shown.{PrintsGroups}
-use Rattle.pm_folder.specs.Paths.{snapshot_path}
-use Rattle.pm_table_view.specs.Reader as reader
-use Rattle.pm_table_view.specs.Reader.{most}
-use Rattle.pm_table_view.specs.declared.phase.Phase as view_phase
-use Rattle.pm_table_view.specs.declared.phase.Phase.TheVariants as readers
-use Rattle.pm_table_view.specs.declared.view.View.{View}
+use Rattle.pm_model_folder.specs.Paths.{snapshot_path}
+use Rattle.pm_read_table.specs.Reader as reader
+use Rattle.pm_read_table.specs.Reader.{most}
+use Rattle.pm_read_table.specs.declared.phase.Phase as view_phase
+use Rattle.pm_read_table.specs.declared.phase.Phase.TheVariants as readers
+use Rattle.pm_read_table.specs.declared.view.View.{View}
 use Rattle.pm_scan.specs.Collected.{Collected, RefusesFile, Takes, nothing_of}
 use Rattle.pm_scan.specs.Jobs.{all_jobs}
 use Rattle.pm_scan.specs.Reading.{reading_of}

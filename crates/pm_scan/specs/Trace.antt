@@ -7,11 +7,11 @@ use Rattle.pm_store.specs.Store.{StoreView}
 use Rattle.pm_machine.specs.Trace.{Acts, Event, faulted}
 use Rattle.pm_engine.specs.OfSchema.{meaning_of}
 use Rattle.pm_shown.specs.Shown.{PrintsGroups}
-use Rattle.pm_folder.specs.Paths.{snapshot_path}
-use Rattle.pm_table_view.specs.Asked.{Asked}
-use Rattle.pm_table_view.specs.Trace as reader
-use Rattle.pm_table_view.specs.Trace.{HasView, read_file}
-use Rattle.pm_table_view.specs.declared.view.View.{View}
+use Rattle.pm_model_folder.specs.Paths.{snapshot_path}
+use Rattle.pm_read_table.specs.Asked.{Asked}
+use Rattle.pm_read_table.specs.Trace as reader
+use Rattle.pm_read_table.specs.Trace.{HasView, read_file}
+use Rattle.pm_read_table.specs.declared.view.View.{View}
 use Rattle.pm_scan.specs.Collected.{Collected, RefusesFile, Takes, nothing_of}
 use Rattle.pm_scan.specs.Jobs.{all_jobs}
 use Rattle.pm_scan.specs.declared.job.Job.{Job}

@@ -1,22 +1,22 @@
 //! What follows the answers to a scanner's calls.
 //!
-//! What isn't handed on is dropped by name, as in `pm_table_view`.
+//! What isn't handed on is dropped by name, as in `pm_read_table`.
 
 ghost use Rattle.std.specs.Prelude.{◌≡◌, ◌⊎◌, ◌<◌, ◌≤◌, length, IfErr, IfOk, IsSome, IsSomeAnd};
 ghost use Rattle.std.specs.BTreeMap.{get_by, IsOrdered};
 ghost use Rattle.pm_schema.specs.Folder.{FitsPartition};
 ghost use Rattle.pm_scan.specs.Collected.{nothing_of};
 ghost use Rattle.pm_scan.specs.Jobs.{all_jobs};
-ghost use Rattle.pm_table_view.specs.Reader.{most};
+ghost use Rattle.pm_read_table.specs.Reader.{most};
 ghost use Rattle.pm_values.specs.GroupOrder.{group_cmp};
 ghost use Rattle.pm_values.specs.declared.group.Group.{Group as GroupView};
 ghost use Rattle.pm_engines.specs.TableEngine.{HasEngine};
 ghost use Rattle.pm_store.specs.Answers.{MayAnswer};
 ghost use Rattle.pm_store.specs.declared.answer.Answer.TheVariants as answers;
-ghost use Rattle.pm_table_view.specs.Reader as readers;
-ghost use Rattle.pm_table_view.specs.Reader.{IsReady};
-ghost use Rattle.pm_table_view.specs.View.{HasFolders};
-ghost use Rattle.pm_table_view.specs.declared.phase.Phase.TheVariants as reader_phases;
+ghost use Rattle.pm_read_table.specs.Reader as readers;
+ghost use Rattle.pm_read_table.specs.Reader.{IsReady};
+ghost use Rattle.pm_read_table.specs.View.{HasFolders};
+ghost use Rattle.pm_read_table.specs.declared.phase.Phase.TheVariants as reader_phases;
 ghost use Rattle.pm_values.specs.declared.refusal.Refusal.TheVariants as refusals;
 ghost use Rattle.pm_scan.specs.Scanner.{AfterReader, Goes, GoesOn, IsEngineOf, IsScanner, Shown};
 ghost use Rattle.pm_scan.specs.declared.phase.Phase.TheVariants as phases;
@@ -30,7 +30,7 @@ use pm_levels::Levels;
 use pm_machine::Machine;
 use pm_schema::TableSchema;
 use pm_store::Answer;
-use pm_table_view::{View, ViewReader};
+use pm_read_table::{View, ViewReader};
 use pm_values::{Group, Refusal};
 use std::alloc::Global;
 use std::collections::{BTreeMap, VecDeque};

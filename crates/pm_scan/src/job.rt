@@ -6,11 +6,11 @@ ghost use Rattle.pm_values.specs.GroupOrder.{group_cmp};
 ghost use Rattle.pm_values.specs.declared.group.Group.{Group as GroupView};
 ghost use Rattle.pm_schema.specs.Folder.{FitsPartition};
 ghost use Rattle.pm_levels.specs.Runs.{run_of};
-ghost use Rattle.pm_table_view.specs.Reader.{most};
+ghost use Rattle.pm_read_table.specs.Reader.{most};
 ghost use Rattle.pm_scan.specs.Jobs.{all_jobs, file_jobs, job_of, run_jobs};
 
 use pm_base::Txt;
-use pm_contents::data_path;
+use pm_model_contents::data_path;
 use pm_levels::{Levels, RunFiles};
 use pm_schema::TableSchema;
 use pm_values::{FileMeta, Group};

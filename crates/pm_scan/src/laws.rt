@@ -5,18 +5,18 @@ ghost use Rattle.std.specs.BTreeMap.{IsOrdered};
 ghost use Rattle.std.specs.FinMap as map;
 ghost use Rattle.pm_values.specs.GroupOrder.{group_cmp};
 ghost use Rattle.pm_engine.specs.OfSchema.{meaning_of};
-ghost use Rattle.pm_history.specs.History.{IsTableOf};
+ghost use Rattle.pm_model_history.specs.History.{IsTableOf};
 ghost use Rattle.pm_schema.specs.declared.schema.TableSchema.{TableSchema};
 ghost use Rattle.pm_shown.specs.Shown.{PrintsGroups};
-ghost use Rattle.pm_folder.specs.Changes.{Actor};
-ghost use Rattle.pm_folder.specs.Ledger.{Advances, Past, Stands};
+ghost use Rattle.pm_model_folder.specs.Changes.{Actor};
+ghost use Rattle.pm_model_folder.specs.Ledger.{Advances, Past, Stands};
 ghost use Rattle.pm_store.specs.Answers.{Answers};
 ghost use Rattle.pm_store.specs.declared.answer.Answer.{Answer};
 ghost use Rattle.pm_store.specs.declared.call.Call.{Call};
 ghost use Rattle.pm_store.specs.Files.{Files};
 ghost use Rattle.pm_store.specs.Images.{MayLeave};
-ghost use Rattle.pm_table_view.specs.Meaning.{HasGone, IsKept, IsViewIn, MayRefuse};
-ghost use Rattle.pm_table_view.specs.declared.view.View.{View};
+ghost use Rattle.pm_read_table.specs.Meaning.{HasGone, IsKept, IsViewIn, MayRefuse};
+ghost use Rattle.pm_read_table.specs.declared.view.View.{View};
 ghost use Rattle.pm_machine.specs.Trace.{HasTrace};
 ghost use Rattle.pm_schema.specs.Again.{IsDeclared};
 ghost use Rattle.pm_store.specs.Store.{StoreView};
@@ -30,7 +30,7 @@ ghost use Rattle.pm_scan.specs.Scanner.{next_call, Shown};
 ghost use Rattle.pm_scan.specs.declared.job.Job.{Job};
 ghost use Rattle.pm_scan.specs.declared.phase.Phase.{Phase};
 
-use pm_contents::{one_contents_law, one_runs_law};
+use pm_model_contents::{one_contents_law, one_runs_law};
 use pm_manifest::{Entry, ManifestMeta, joined_law};
 use pm_record::one_reading_law;
 use pm_run::{one_list_law, order_law};
@@ -56,7 +56,7 @@ pub fn causes_law()
         → Knows m f p → next_call m ≡ Some call → Answers call answer f → Shown m answer refusal
         → MayRefuse f p refusal }
 {
-    pm_table_view::causes_law();
+    pm_read_table::causes_law();
     declared_law();
     schema_law();
     one_contents_law();

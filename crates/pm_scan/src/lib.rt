@@ -1,6 +1,6 @@
 //! The command `scan` as a machine: it reads a table at a snapshot, and has the text of its scan.
 //!
-//! A `Scanner` reads the view of a table whose schema was read, by the reader of `pm_table_view`, and then the view's
+//! A `Scanner` reads the view of a table whose schema was read, by the reader of `pm_read_table`, and then the view's
 //! data files, each once: by group, the newest run first, by rising key. It changes nothing. It keeps the runs of all
 //! groups until the last file is read, and merges none before. At its end it has the text of the scan, which `pm_shown`
 //! prints of them. A data file that is absent makes it read the snapshot again: where that is absent too it is expired,

@@ -2,7 +2,7 @@
 
 ghost use Rattle.std.specs.Prelude.{◌≡◌, IfOk, IfErr, IsSomeAnd};
 ghost use Rattle.pm_store.specs.Answers.{MayAnswer};
-ghost use Rattle.pm_folder.specs.Paths.{snapshot_path};
+ghost use Rattle.pm_model_folder.specs.Paths.{snapshot_path};
 ghost use Rattle.pm_scan.specs.Scanner.{next_call, Goes, IsScanner, Shown};
 ghost use Rattle.pm_scan.specs.declared.phase.Phase.TheVariants as phases;
 
@@ -101,8 +101,8 @@ fn snapshot_path(alloc: Global, id: u64) -> Result<Txt, AllocError>
 impl Meaning for Scanner {
     ghost use Rattle.pm_scan.specs.Meaning.{Knows, LeavesFiles};
     ghost use Rattle.pm_scan.specs.Trace.{DidSome, SomeShows};
-    ghost use Rattle.pm_folder.specs.Ledger as ledgers;
-    ghost use Rattle.pm_table_view.specs.Meaning.{Anything};
+    ghost use Rattle.pm_model_folder.specs.Ledger as ledgers;
+    ghost use Rattle.pm_read_table.specs.Meaning.{Anything};
 
     ghost History = { ledgers.Past };
 

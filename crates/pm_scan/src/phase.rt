@@ -2,7 +2,7 @@
 
 use crate::reading::Reading;
 use pm_base::Txt;
-use pm_table_view::ViewReader;
+use pm_read_table::ViewReader;
 
 /// How far a scan has come: the view is being read; or the next call reads a data file of it; or reads the snapshot
 /// again, since the file at that path is absent; or the text of the snapshot with that id is ready; or the scan ended

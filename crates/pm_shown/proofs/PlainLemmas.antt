@@ -15,8 +15,8 @@ use Rattle.pm_base.specs.Newline.{line}
 use Rattle.pm_rows.specs.RowText.{item_data, row_text}
 use Rattle.pm_values.specs.Order.{Values}
 use Rattle.pm_values.specs.declared.kind.Kind.TheVariants.{Insert}
-use Rattle.pm_seen.specs.Seen.{seen_value}
-use Rattle.pm_seen.specs.declared.seen.Seen.{Seen}
+use Rattle.pm_row_slots.specs.Seen.{seen_value}
+use Rattle.pm_row_slots.specs.declared.seen.Seen.{Seen}
 use Rattle.pm_shown.specs.Plain.{IsPlain, IsUnescaped, item_text, items_text}
 
 -- ---- escapes

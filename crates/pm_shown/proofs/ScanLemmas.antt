@@ -14,11 +14,11 @@ use Rattle.pm_values.proofs.Lemmas.{group_cmp-IsAntisymmetric}
 use Rattle.pm_schema.specs.Again.{IsDeclared}
 use Rattle.pm_schema.specs.Rules.{partition_holds}
 use Rattle.pm_schema.specs.declared.schema.TableSchema.{TableSchema}
-use Rattle.pm_history.specs.Merge.{HistoryRow, rows_of}
-use Rattle.pm_history.specs.Merged.{merged_row, primary_of, shows}
+use Rattle.pm_model_history.specs.Merge.{HistoryRow, rows_of}
+use Rattle.pm_model_history.specs.Merged.{merged_row, primary_of, shows}
 use Rattle.pm_engine.specs.Covers.{Covers, Run, of_key}
 use Rattle.pm_engine.specs.OfSchema.{meaning_of}
-use Rattle.pm_following.specs.Groups.{group_of, rows_in}
+use Rattle.pm_model_following.specs.Groups.{group_of, rows_in}
 use Rattle.pm_merge.specs.Merge.{IsMerge, all_rows}
 use Rattle.pm_shown.specs.Shown.{GroupRuns, GroupsCover, IsShown}
 use Rattle.pm_shown.proofs.GroupLemmas.{key_rows_in, key_rows_of}

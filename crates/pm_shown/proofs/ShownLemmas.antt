@@ -12,9 +12,9 @@ use Rattle.pm_values.specs.declared.column.Column.{Column}
 use Rattle.pm_values.specs.declared.record.Stamped.{Stamped}
 use Rattle.pm_values.specs.declared.value.Value.TheVariants.{Null}
 use Rattle.pm_schema.specs.declared.schema.TableSchema.{TableSchema}
-use Rattle.pm_history.specs.ColumnValue.{column_value}
-use Rattle.pm_history.specs.Merge.{HistoryRow, rows_of, value_at}
-use Rattle.pm_history.specs.Merged.{primary_of, shows, shows_by, values_of}
+use Rattle.pm_model_history.specs.ColumnValue.{column_value}
+use Rattle.pm_model_history.specs.Merge.{HistoryRow, rows_of, value_at}
+use Rattle.pm_model_history.specs.Merged.{primary_of, shows, shows_by, values_of}
 use Rattle.pm_engine.specs.Covers.{Covers, Holds, IsRising, Run, of_key, row_of, stored_rows}
 use Rattle.pm_engine.specs.Meaning.{Meaning, SameWorth, SpeaksFor}
 use Rattle.pm_engine.specs.OfSchema.{meaning_of}

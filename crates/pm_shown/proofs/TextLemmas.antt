@@ -13,8 +13,8 @@ use Rattle.pm_values.proofs.Lemmas.{key_cmp-IsAntisymmetric}
 use Rattle.pm_rows.specs.RowText.{row_text}
 use Rattle.pm_schema.specs.Again.{IsDeclared}
 use Rattle.pm_schema.specs.declared.schema.TableSchema.{TableSchema}
-use Rattle.pm_history.specs.Merge.{HistoryRow}
-use Rattle.pm_history.specs.Merged.{merged, merged_row, scan_text}
+use Rattle.pm_model_history.specs.Merge.{HistoryRow}
+use Rattle.pm_model_history.specs.Merged.{merged, merged_row, scan_text}
 use Rattle.pm_engine.specs.Covers.{IsRising, Run, of_key}
 use Rattle.pm_engine.specs.Meaning.{Meaning}
 use Rattle.pm_engine.specs.OfSchema.{meaning_of}

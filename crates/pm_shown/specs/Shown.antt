@@ -12,12 +12,12 @@ use Rattle.pm_values.specs.declared.kind.Kind.TheVariants.{Insert}
 use Rattle.pm_values.specs.declared.record.Stamped.{Stamped}
 use Rattle.pm_rows.specs.RowText.{row_text}
 use Rattle.pm_schema.specs.declared.schema.TableSchema.{TableSchema}
-use Rattle.pm_history.specs.Merge.{HistoryRow}
+use Rattle.pm_model_history.specs.Merge.{HistoryRow}
 use Rattle.pm_engine.specs.Covers.{Covers, Run, row_of}
 use Rattle.pm_engine.specs.Meaning.{Meaning}
 use Rattle.pm_engine.specs.OfSchema.{meaning_of}
 use Rattle.pm_merge.specs.Merge.{IsMerge}
-use Rattle.pm_following.specs.Groups.{rows_in}
+use Rattle.pm_model_following.specs.Groups.{rows_in}
 
 -- the rows of a run that show by themselves
 abbrev pub only_shown : Meaning → Run → Run

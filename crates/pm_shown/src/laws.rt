@@ -3,13 +3,13 @@
 ghost use Rattle.std.specs.Prelude.{◌≡◌, ℕ, List, map};
 ghost use Rattle.pm_schema.specs.Again.{IsDeclared};
 ghost use Rattle.pm_schema.specs.declared.schema.TableSchema.{TableSchema};
-ghost use Rattle.pm_history.specs.Merge.{HistoryRow};
-ghost use Rattle.pm_history.specs.Merged.{scan_text};
+ghost use Rattle.pm_model_history.specs.Merge.{HistoryRow};
+ghost use Rattle.pm_model_history.specs.Merged.{scan_text};
 ghost use Rattle.pm_engine.specs.OfSchema.{meaning_of};
 ghost use Rattle.pm_shown.specs.Shown.{GroupRuns, GroupsCover, PrintsGroups, ShowsByKind};
 
 use pm_engine::covers_law;
-use pm_history::merged_table_law;
+use pm_model_history::merged_table_law;
 
 /// Where the runs of all groups cover the rows of a table, what is printed of them is the scan of the table.
 pub fn scan_law()

@@ -6,12 +6,12 @@ ghost use Rattle.std.specs.List.{AllByRecursion};
 ghost use Rattle.json.specs.Print.{quoted};
 ghost use Rattle.pm_base.specs.Newline.{line};
 ghost use Rattle.pm_rows.specs.RowText.{row_text};
-ghost use Rattle.pm_seen.specs.Seen.{seen_value};
+ghost use Rattle.pm_row_slots.specs.Seen.{seen_value};
 ghost use Rattle.pm_values.specs.declared.kind.Kind.TheVariants.{Insert};
 ghost use Rattle.pm_shown.specs.Plain.{IsPlain, IsUnescaped, item_text, items_text};
 
 use itoa::Buffer;
-use pm_seen::{Seen, values_of};
+use pm_row_slots::{Seen, values_of};
 use pm_values::{Kind, Row};
 use std::alloc::{AllocError, Global};
 

@@ -13,7 +13,7 @@ use crate::line::push_line;
 use crate::shown::{push_shown, shown_rows, sources_of};
 use pm_engine::MergeEngine;
 use pm_merge::{Merging, merge_runs, one_run_law};
-use pm_seen::{RowSlot, lend_values};
+use pm_row_slots::{RowSlot, lend_values};
 use pm_stored::{StoredRows, StoredRun};
 use pm_values::Stamped;
 use std::alloc::{AllocError, Global};

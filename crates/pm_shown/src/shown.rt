@@ -3,7 +3,7 @@
 ghost use Rattle.std.specs.Prelude.{◌≡◌, ◌+◌, ◌≤◌, [], ◌∷◌, ◌++◌, All, IfOk, OnOk, Some, length, option_to_list};
 ghost use Rattle.pm_engine.specs.Covers.{IsRising};
 ghost use Rattle.pm_merge.specs.Merging.{rows_left, GivesNext, HaveRuns};
-ghost use Rattle.pm_seen.specs.Seen.{seen_row};
+ghost use Rattle.pm_row_slots.specs.Seen.{seen_row};
 ghost use Rattle.pm_stored.specs.Stored as stored;
 ghost use Rattle.pm_stored.specs.Stored.{StillGives};
 ghost use Rattle.pm_values.specs.Order.{Values};
@@ -14,7 +14,7 @@ ghost use Rattle.pm_shown.specs.Shown.{IsShown, ShowsByKind, lines_of, only_show
 use crate::line::push_line;
 use pm_engine::{MergeEngine, Stored};
 use pm_merge::Merging;
-use pm_seen::{RowSlot, SeenRow, lend_values};
+use pm_row_slots::{RowSlot, SeenRow, lend_values};
 use pm_stored::{StoredRows, StoredRun};
 use pm_values::{Kind, Row, Stamped};
 use std::alloc::{AllocError, Global};

@@ -10,21 +10,21 @@ use Rattle.pm_store.specs.Store.{StoreView, IsLater, at_first_own}
 use Rattle.pm_machine.specs.Trace.{Event, Acts, HasTrace, Traces}
 use Rattle.pm_machine.proofs.AloneLaws.{Traces-first}
 use Rattle.pm_machine.proofs.Facts.{HasTrace-acts, Traces-faulted}
-use Rattle.pm_history.specs.History.{History, IsTableOf}
+use Rattle.pm_model_history.specs.History.{History, IsTableOf}
 use Rattle.pm_schema.specs.declared.schema.TableSchema.{TableSchema}
 use Rattle.pm_snapshot.specs.Names.{greatest, snapshot_name}
 use Rattle.pm_snapshot.specs.Snapshot.{snapshot_in}
 use Rattle.pm_snapshot.specs.declared.fault.SnapFault.TheVariants as faults
-use Rattle.pm_folder.specs.Folder.{Folder}
-use Rattle.pm_folder.specs.Meaning.{LeadsTo}
-use Rattle.pm_folder.specs.Paths.{snapshot_folder, snapshot_path}
-use Rattle.pm_folder.proofs.Facts.{snapshot-led, listed-snapshot, read-snapshot}
-use Rattle.pm_view.specs.AllCalls.{IsCaused}
-use Rattle.pm_view.specs.Reader.{schemas_call, snapshots_call}
-use Rattle.pm_view.specs.Trace.{Names, listed_snapshots}
-use Rattle.pm_view.proofs.AllCallsLemmas as reader
-use Rattle.pm_view.proofs.AllCallsLemmas.{calls_more, list_still, read_still}
-use Rattle.pm_view.proofs.StillLemmas.{AreStill, IsTold, AreTold, IsStill, told_last, stayed}
+use Rattle.pm_model_folder.specs.Folder.{Folder}
+use Rattle.pm_model_folder.specs.Meaning.{LeadsTo}
+use Rattle.pm_model_folder.specs.Paths.{snapshot_folder, snapshot_path}
+use Rattle.pm_model_folder.proofs.Facts.{snapshot-led, listed-snapshot, read-snapshot}
+use Rattle.pm_read_schema.specs.AllCalls.{IsCaused}
+use Rattle.pm_read_schema.specs.Reader.{schemas_call, snapshots_call}
+use Rattle.pm_read_schema.specs.Trace.{Names, listed_snapshots}
+use Rattle.pm_read_schema.proofs.AllCallsLemmas as reader
+use Rattle.pm_read_schema.proofs.AllCallsLemmas.{calls_more, list_still, read_still}
+use Rattle.pm_read_schema.proofs.StillLemmas.{AreStill, IsTold, AreTold, IsStill, told_last, stayed}
 use Rattle.pm_snapshots.specs.AllCalls.{AreIdsOf, AreLinesOf, GoesOnFrom, DidList, ListsTables}
 use Rattle.pm_snapshots.specs.Ids.{AreIds}
 use Rattle.pm_snapshots.specs.Lister.{snapshot_call, calls_left, lines_of, schema_at, IsDone, IsLister, KeepsSchema, Reaches}

@@ -20,27 +20,27 @@ use Rattle.pm_store.proofs.FileLaws.{effect_left}
 use Rattle.pm_machine.specs.Moves.{Leads, Sound}
 use Rattle.pm_machine.specs.Step.{path_of, Stepped, Rested, Went, Refused, Stopped, Failed}
 use Rattle.pm_machine.specs.Trace.{Event, Recounts, answered, faulted}
-use Rattle.pm_history.specs.History.{History}
+use Rattle.pm_model_history.specs.History.{History}
 use Rattle.pm_schema.specs.declared.schema.TableSchema.{TableSchema}
 use Rattle.pm_snapshot.specs.Names.{greatest}
 use Rattle.pm_snapshot.specs.Snapshot.{snapshot_in}
 use Rattle.pm_snapshot.specs.declared.snapshot.Snapshot.{Snapshot}
 use Rattle.pm_snapshot.proofs.Facts.{id_same}
-use Rattle.pm_folder.specs.Changes.{Actor, Change}
-use Rattle.pm_folder.specs.Folder.{Folder}
-use Rattle.pm_folder.specs.Meaning.{SnapshotAt}
-use Rattle.pm_folder.specs.Paths.{snapshot_folder, snapshot_path}
-use Rattle.pm_folder.proofs.Facts.{goes_on, stays}
-use Rattle.pm_view.specs.Meaning as reader_meaning
-use Rattle.pm_view.specs.Meaning.{AreKept}
-use Rattle.pm_view.specs.Reader as reader
-use Rattle.pm_view.specs.Reader.{snapshots_call}
-use Rattle.pm_view.specs.Trace as reader_trace
-use Rattle.pm_view.specs.Trace.{Names, listed_snapshots}
-use Rattle.pm_view.specs.declared.phase.Phase as schema_phase
-use Rattle.pm_view.specs.declared.phase.Phase.TheVariants as readers
-use Rattle.pm_view.proofs.Facts as reader_facts
-use Rattle.pm_view.proofs.Facts.{kept_same, list_effect, read_effect, still_table}
+use Rattle.pm_model_folder.specs.Changes.{Actor, Change}
+use Rattle.pm_model_folder.specs.Folder.{Folder}
+use Rattle.pm_model_folder.specs.Meaning.{SnapshotAt}
+use Rattle.pm_model_folder.specs.Paths.{snapshot_folder, snapshot_path}
+use Rattle.pm_model_folder.proofs.Facts.{goes_on, stays}
+use Rattle.pm_read_schema.specs.Meaning as reader_meaning
+use Rattle.pm_read_schema.specs.Meaning.{AreKept}
+use Rattle.pm_read_schema.specs.Reader as reader
+use Rattle.pm_read_schema.specs.Reader.{snapshots_call}
+use Rattle.pm_read_schema.specs.Trace as reader_trace
+use Rattle.pm_read_schema.specs.Trace.{Names, listed_snapshots}
+use Rattle.pm_read_schema.specs.declared.phase.Phase as schema_phase
+use Rattle.pm_read_schema.specs.declared.phase.Phase.TheVariants as readers
+use Rattle.pm_read_schema.proofs.Facts as reader_facts
+use Rattle.pm_read_schema.proofs.Facts.{kept_same, list_effect, read_effect, still_table}
 use Rattle.pm_snapshots.specs.Ids.{AreIds}
 use Rattle.pm_snapshots.specs.Lines.{line_of}
 use Rattle.pm_snapshots.specs.Lister.{snapshot_call, next_call, IsLister, calls_left, IsDone, lines_of, schema_at, KeepsSchema, after_reader, Goes, Shown, Refuses, Stops, Reaches, done_at, reached_at}

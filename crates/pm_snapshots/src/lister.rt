@@ -9,7 +9,7 @@ ghost use Rattle.pm_snapshots.specs.Lister.{IsDone, IsLister, KeepsSchema, Reach
 ghost use Rattle.pm_snapshots.specs.Meaning.{ListerMoved};
 ghost use Rattle.pm_snapshots.specs.Trace.{ListerActed};
 ghost use Rattle.pm_snapshots.specs.declared.phase.Phase.TheVariants as phases;
-ghost use Rattle.pm_view.specs.declared.phase.Phase.TheVariants as readers;
+ghost use Rattle.pm_read_schema.specs.declared.phase.Phase.TheVariants as readers;
 
 use crate::line::print_lines;
 use crate::phase::Phase;
@@ -17,7 +17,7 @@ use pm_machine::step;
 use pm_schema::TableSchema;
 use pm_store::FileStore;
 use pm_values::Refusal;
-use pm_view::SchemaReader;
+use pm_read_schema::SchemaReader;
 use std::alloc::{AllocError, Global};
 use std::marker::Model;
 

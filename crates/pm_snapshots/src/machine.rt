@@ -4,7 +4,7 @@ ghost use Rattle.std.specs.Prelude.{◌≡◌, Some, IfOk, IfErr, IsSome, IsSome
 ghost use Rattle.pm_store.specs.Answers.{MayAnswer};
 ghost use Rattle.pm_store.specs.declared.answer.Answer.TheVariants as answers;
 ghost use Rattle.pm_values.specs.declared.refusal.Refusal.TheVariants as refusals;
-ghost use Rattle.pm_view.specs.Reader as readers;
+ghost use Rattle.pm_read_schema.specs.Reader as readers;
 ghost use Rattle.pm_snapshots.specs.Lister.{next_call, after_reader, Goes, GoesToRead, IsLister, MayRefuse, Shown};
 ghost use Rattle.pm_snapshots.specs.Reading.{next_id};
 ghost use Rattle.pm_snapshots.specs.declared.phase.Phase.TheVariants as phases;
@@ -20,7 +20,7 @@ use pm_schema::TableSchema;
 use pm_snapshot::{SnapFault, read_snapshot};
 use pm_store::{Answer, Call};
 use pm_values::Refusal;
-use pm_view::SchemaReader;
+use pm_read_schema::SchemaReader;
 use std::alloc::{AllocError, Global};
 use std::mem;
 
@@ -179,9 +179,9 @@ fn damaged(alloc: Global, id: u64, fault: SnapFault) -> Refusal
 impl Meaning for Lister {
     ghost use Rattle.pm_snapshots.specs.Meaning.{Knows, Leaves};
     ghost use Rattle.pm_snapshots.specs.Trace.{Did, Shows};
-    ghost use Rattle.pm_view.specs.Meaning.{Anything};
-    ghost use Rattle.pm_folder.specs.Folder as folders;
-    ghost use Rattle.pm_history.specs.History as histories;
+    ghost use Rattle.pm_read_schema.specs.Meaning.{Anything};
+    ghost use Rattle.pm_model_folder.specs.Folder as folders;
+    ghost use Rattle.pm_model_history.specs.History as histories;
 
     ghost History = { histories.History };
 

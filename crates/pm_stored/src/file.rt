@@ -10,7 +10,7 @@ ghost use Rattle.pm_stored.specs.Stored.{FileGives, left_in_file, rows_of};
 
 use pm_run_bytes::FileRows;
 use pm_run_reader::{JudgedFile, RunReader};
-use pm_seen::RowSlot;
+use pm_row_slots::RowSlot;
 use pm_values::{Key, Refusal, Stamped};
 use std::alloc::{AllocError, Global};
 

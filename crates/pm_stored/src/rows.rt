@@ -7,7 +7,7 @@ ghost use Rattle.pm_stored.specs.Stored.{StillGives, all_of, rows_left};
 
 use crate::file::{ReadFile, RowsLeft};
 use pm_merge::RowSource;
-use pm_seen::RowSlot;
+use pm_row_slots::RowSlot;
 use std::alloc::{AllocError, Global};
 
 /// The rows of a run that are still to be given: those of a file in hand, and of the files after it.

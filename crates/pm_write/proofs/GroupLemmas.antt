@@ -12,10 +12,10 @@ use Rattle.pm_values.specs.declared.group.Group.{Group}
 use Rattle.pm_binrow.specs.Hashing.{bucket_of, hash_of}
 use Rattle.pm_binrow.specs.Row.{body}
 use Rattle.pm_schema.specs.declared.schema.TableSchema.{TableSchema}
-use Rattle.pm_history.specs.ColumnValue.{index_of}
-use Rattle.pm_history.specs.Merge.{HistoryRow, key_of}
+use Rattle.pm_model_history.specs.ColumnValue.{index_of}
+use Rattle.pm_model_history.specs.Merge.{HistoryRow, key_of}
 use Rattle.pm_engine.specs.Covers.{Run, row_of}
-use Rattle.pm_following.specs.Groups.{bucket_key_of, group_of, kind_at, rows_in}
+use Rattle.pm_model_following.specs.Groups.{bucket_key_of, group_of, kind_at, rows_in}
 use Rattle.pm_write.specs.Batch.{AreRowsOf, GroupRows, HoldsRows, IsBatchOf, held_of}
 use Rattle.pm_write.specs.Held.{AreHeld, IsHeld, all_groups, group_rows, only_group}
 use Rattle.pm_write.specs.declared.held.HeldRows.{HeldRows}

@@ -14,11 +14,11 @@ use Rattle.pm_values.specs.declared.group.Group.{Group}
 use Rattle.pm_values.proofs.Lemmas.{group_cmp-IsAntisymmetric}
 use Rattle.pm_schema.specs.Folder.{FitsPart, FitsPartition}
 use Rattle.pm_schema.specs.declared.schema.TableSchema.{TableSchema}
-use Rattle.pm_history.specs.ColumnValue.{index_of}
-use Rattle.pm_history.specs.Merge.{HistoryRow, key_of}
+use Rattle.pm_model_history.specs.ColumnValue.{index_of}
+use Rattle.pm_model_history.specs.Merge.{HistoryRow, key_of}
 use Rattle.pm_engine.specs.Covers.{CoversAll, Run}
 use Rattle.pm_engine.specs.OfSchema.{meaning_of}
-use Rattle.pm_following.specs.Groups.{group_of, rows_in}
+use Rattle.pm_model_following.specs.Groups.{group_of, rows_in}
 use Rattle.pm_run.specs.Row.{most_sequence}
 use Rattle.pm_run.specs.Writing.{IsMetaOf, first_key}
 use Rattle.pm_write.specs.Batch.{AreRowsOf, GroupRows, Groups, HoldsRows, IsBatchOf, held_of, numbered}

@@ -7,7 +7,7 @@ use Rattle.std.proofs.lemmas.List.Elements.{All-from_recursion, recursion_from_A
 use Rattle.pm_values.specs.Order.{Values, key_cmp}
 use Rattle.pm_values.specs.declared.record.Stamped.{Stamped}
 use Rattle.pm_schema.specs.declared.schema.TableSchema.{TableSchema}
-use Rattle.pm_history.specs.Merge.{HistoryRow}
+use Rattle.pm_model_history.specs.Merge.{HistoryRow}
 use Rattle.pm_engine.specs.Covers.{CoversAll, Holds, IsRising, Run, of_key}
 use Rattle.pm_engine.specs.Meaning.{Meaning}
 use Rattle.pm_engine.specs.Reducing.{greatest_number}

@@ -9,8 +9,8 @@ use Rattle.std.proofs.lemmas.List.Elements.{All-from_recursion}
 use Rattle.pm_values.specs.Order.{Values, key_cmp}
 use Rattle.pm_values.specs.declared.record.Stamped.{Stamped}
 use Rattle.pm_schema.specs.declared.schema.TableSchema.{TableSchema}
-use Rattle.pm_history.specs.Merge.{HistoryRow, rows_of}
-use Rattle.pm_history.specs.Merged.{primary_of}
+use Rattle.pm_model_history.specs.Merge.{HistoryRow, rows_of}
+use Rattle.pm_model_history.specs.Merged.{primary_of}
 use Rattle.pm_engine.specs.Covers.{CoversAll, CoversKey, Holds, IsKeyed, IsRising, Run, of_key, row_of}
 use Rattle.pm_engine.specs.Meaning.{Meaning, SpeaksFor}
 use Rattle.pm_engine.specs.OfSchema.{meaning_of}

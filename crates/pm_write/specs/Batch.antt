@@ -11,13 +11,13 @@ use Rattle.pm_values.specs.declared.group.Group.{Group}
 use Rattle.pm_values.specs.declared.record.Stamped.{Stamped}
 use Rattle.pm_values.specs.declared.refusal.Refusal.{Refusal}
 use Rattle.pm_schema.specs.declared.schema.TableSchema.{TableSchema}
-use Rattle.pm_history.specs.Merge.{HistoryRow}
-use Rattle.pm_history.specs.Merged.{primary_of}
-use Rattle.pm_history.specs.Taken.{stores}
+use Rattle.pm_model_history.specs.Merge.{HistoryRow}
+use Rattle.pm_model_history.specs.Merged.{primary_of}
+use Rattle.pm_model_history.specs.Taken.{stores}
 use Rattle.pm_engine.specs.Covers.{CoversAll, IsKeyed, IsRising, Run}
 use Rattle.pm_engine.specs.OfSchema.{meaning_of}
 use Rattle.pm_engine.specs.Reducing.{HasGreatestNumbers, greatest_number}
-use Rattle.pm_following.specs.Groups.{rows_in}
+use Rattle.pm_model_following.specs.Groups.{rows_in}
 use Rattle.pm_write.specs.Taken.{refusal_in, stamped}
 
 -- the rows of a group: how many the table took, and the stored row of each key

@@ -8,9 +8,9 @@ use Rattle.pm_values.specs.declared.refusal.Refusal.{Refusal}
 use Rattle.pm_values.specs.declared.refusal.Refusal.TheVariants as refusals
 use Rattle.pm_rows.specs.Reading.{Fault, row_of}
 use Rattle.pm_schema.specs.declared.schema.TableSchema.{TableSchema}
-use Rattle.pm_history.specs.Merge.{HistoryRow, key_of}
-use Rattle.pm_history.specs.Taken.{verdict}
-use Rattle.pm_history.specs.declared.verdict.Verdict.TheVariants as by_index
+use Rattle.pm_model_history.specs.Merge.{HistoryRow, key_of}
+use Rattle.pm_model_history.specs.Taken.{verdict}
+use Rattle.pm_model_history.specs.declared.verdict.Verdict.TheVariants as by_index
 use Rattle.pm_input.specs.Limits.{limits, limit_number, limit_text}
 use Rattle.pm_input.specs.Rows.{faulty_column}
 use Rattle.pm_input.specs.declared.limits.LimitKind.TheVariants.{BatchRows}

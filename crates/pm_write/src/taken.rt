@@ -4,7 +4,7 @@ ghost use Rattle.std.specs.Prelude.{◌≡◌, [], ◌∷◌, ◌++◌, length, 
 ghost use Rattle.std.specs.List.{AllByRecursion};
 ghost use Rattle.pm_base.specs.Outcome.{Gives};
 ghost use Rattle.pm_values.specs.Fits.{Fits};
-ghost use Rattle.pm_history.specs.Merged.{primary_of};
+ghost use Rattle.pm_model_history.specs.Merged.{primary_of};
 ghost use Rattle.pm_input.specs.Lines.{line_view};
 ghost use Rattle.pm_engine.specs.Covers.{row_of};
 ghost use Rattle.pm_engines.specs.TableEngine.{schema_of};
@@ -13,7 +13,7 @@ ghost use Rattle.pm_write.specs.Taken.{all_taken, no_room, refusal_in, row_at, t
 ghost use Rattle.pm_write.specs.Taken.{IsTakenRow, stamped, with_taken};
 
 use pm_engines::{TableEngine, Verdict};
-use pm_history::{key_of, primary_of};
+use pm_model_history::{key_of, primary_of};
 use pm_input::{InputLine, LIMITS, LimitKind, read_rows};
 use pm_schema::TableSchema;
 use pm_values::{Column, Kind, Refusal, Row, Stamped, Txt};

@@ -1,7 +1,7 @@
 use Rattle.std.proofs.Common.{subst, sym, ◌++◌, List, Option, Some, Result, Ok, Err}
 use Rattle.std.specs.Prelude.{IfOk}
 use Rattle.pm_values.specs.declared.value.Value.{Value}
-use Rattle.pm_history.specs.Merge.{value_at}
+use Rattle.pm_model_history.specs.Merge.{value_at}
 use Rattle.pm_aggregate.specs.Aggregation.{IsCombined}
 use Rattle.pm_aggregate.specs.Column.{Cell, SpeaksForCells}
 use Rattle.pm_aggregate.specs.ColumnFunction.{meaning_of}

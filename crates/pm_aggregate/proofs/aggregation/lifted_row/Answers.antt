@@ -1,5 +1,5 @@
 use Rattle.std.proofs.Common.{subst, sym, arith, ap, ◌+◌, length-append}
-use Rattle.pm_history.specs.Merge.{value_at}
+use Rattle.pm_model_history.specs.Merge.{value_at}
 use Rattle.pm_aggregate.specs.Aggregation.{AreLifted, IsLifted}
 use Rattle.pm_aggregate.proofs.RowLemmas.{each-all, each-more}
 use Rattle.pm_aggregate.proofs.aggregation.lifted_row.Goals as goal

@@ -1,5 +1,5 @@
 use Rattle.std.proofs.Common.{◌≡◌, ℕ, ◌<◌, length, slice_get, Option, Some}
-use Rattle.pm_history.specs.Merge.{value_at}
+use Rattle.pm_model_history.specs.Merge.{value_at}
 use Rattle.pm_aggregate.specs.Aggregation.{IsLifted}
 use Rattle.pm_aggregate.specs.declared.column_function.ColumnFunction.{ColumnFunction}
 use Rattle.pm_aggregate.proofs.aggregation.lifted_row.Given as goal

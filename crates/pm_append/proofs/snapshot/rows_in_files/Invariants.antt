@@ -1,5 +1,5 @@
 use Rattle.std.proofs.Common.{◌≡◌, ◌+◌, drop}
-use Rattle.pm_folder.specs.Entries.{rows_in_files}
+use Rattle.pm_model_folder.specs.Entries.{rows_in_files}
 use Rattle.pm_append.proofs.snapshot.rows_in_files.Given as goal
 
 -- the rows so far, and those of the files that are left

@@ -1,4 +1,4 @@
-use Rattle.pm_folder.specs.Folder.{Folder}
+use Rattle.pm_model_folder.specs.Folder.{Folder}
 use Rattle.pm_command_create.specs.Create.{StandsForEither}
 use Rattle.pm_command.specs.Outside.{HaveSame}
 use Rattle.pm_command_write.specs.Write.{IsImage, MayStartAfter}

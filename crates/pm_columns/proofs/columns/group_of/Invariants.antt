@@ -1,6 +1,6 @@
 use Rattle.std.proofs.Common.{◌≡◌, drop}
 use Rattle.std.specs.List.{find}
-use Rattle.pm_history.specs.ColumnValue.{is_in_group}
+use Rattle.pm_model_history.specs.ColumnValue.{is_in_group}
 use Rattle.pm_columns.proofs.columns.group_of.Given as goal
 
 -- the column is in no group so far

@@ -1,6 +1,6 @@
 use Rattle.std.proofs.Common.{◌≡◌, [], ◌∷◌, ◌++◌, ap, sym, ◌∙◌, append_assoc}
 use Rattle.std.specs.Vec.Iter.{into_iter_items}
-use Rattle.pm_history.specs.declared.verdict.Verdict.TheVariants.{Take}
+use Rattle.pm_model_history.specs.declared.verdict.Verdict.TheVariants.{Take}
 use Rattle.pm_engine.specs.Reducing.{Puts}
 use Rattle.pm_engine.proofs.ReduceLemmas.{All-here, FoldsTo-push}
 use Rattle.pm_engine.proofs.reducing.gathered.Goals as goal

@@ -1,7 +1,7 @@
 use Rattle.std.proofs.Common.{◌≡◌}
 use Rattle.std.proofs.lemmas.List.Sorted.{All-permutation}
 use Rattle.std.proofs.lemmas.Result.{IfOk-weaker}
-use Rattle.pm_history.specs.declared.verdict.Verdict.TheVariants.{Take}
+use Rattle.pm_model_history.specs.declared.verdict.Verdict.TheVariants.{Take}
 use Rattle.pm_engine.specs.Covers.{IsKeyed}
 use Rattle.pm_engine.proofs.ReduceLemmas.{covers_all, gathers-all, numbers_all}
 use Rattle.pm_engine.proofs.reducing.reduce.Goals as goal

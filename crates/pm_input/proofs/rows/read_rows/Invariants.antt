@@ -1,5 +1,5 @@
 use Rattle.std.proofs.Common.{◌≡◌, map, drop}
-use Rattle.pm_history.specs.Merge.{AllFit}
+use Rattle.pm_model_history.specs.Merge.{AllFit}
 use Rattle.pm_input.specs.Lines.{line_view}
 use Rattle.pm_input.specs.Rows.{rows_in}
 use Rattle.pm_input.proofs.RowLemmas.{after_rows}

@@ -3,7 +3,7 @@ use Rattle.std.specs.Prelude.{IfOk}
 use Rattle.pm_values.specs.Order.{Values}
 use Rattle.pm_values.specs.declared.column.ColType.{ColType}
 use Rattle.pm_values.specs.declared.value.Value.{Value}
-use Rattle.pm_history.specs.Merge.{value_at}
+use Rattle.pm_model_history.specs.Merge.{value_at}
 use Rattle.pm_aggregate.specs.Column.{Cell, SpeaksForCells}
 use Rattle.pm_aggregate.specs.Functions.{last_non_null_of}
 use Rattle.pm_partial.specs.PartialUpdate.{IsCombined}

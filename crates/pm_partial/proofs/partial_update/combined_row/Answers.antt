@@ -1,6 +1,6 @@
 use Rattle.std.proofs.Common.{subst, sym, arith, ap, ◌+◌, get_or, length-append}
 use Rattle.std.proofs.lemmas.List.{get_or_default}
-use Rattle.pm_history.specs.Merge.{value_at}
+use Rattle.pm_model_history.specs.Merge.{value_at}
 use Rattle.pm_aggregate.proofs.RowLemmas.{each-all, each-more}
 use Rattle.pm_partial.specs.PartialUpdate.{AreCombined, IsCombined}
 use Rattle.pm_partial.specs.declared.update.Update.TheVariants.{Key}

@@ -1,5 +1,5 @@
 use Rattle.std.proofs.Common.{◌≡◌, ℕ, ◌<◌, length, slice_get, Some}
-use Rattle.pm_history.specs.Merge.{value_at}
+use Rattle.pm_model_history.specs.Merge.{value_at}
 use Rattle.pm_partial.specs.PartialUpdate.{IsLifted}
 use Rattle.pm_partial.specs.declared.update.Update.{Update}
 use Rattle.pm_partial.proofs.partial_update.lifted_row.Given as goal

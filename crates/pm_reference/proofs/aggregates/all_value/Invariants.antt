@@ -1,6 +1,6 @@
 use Rattle.std.proofs.Common.{◌≡◌, drop}
 use Rattle.std.specs.List.{filter_map}
-use Rattle.pm_history.specs.ColumnValue.{truth_in, all_value}
+use Rattle.pm_model_history.specs.ColumnValue.{truth_in, all_value}
 use Rattle.pm_reference.proofs.StepLemmas.{all_on}
 use Rattle.pm_reference.proofs.aggregates.all_value.Given as goal
 

@@ -1,6 +1,6 @@
 use Rattle.std.proofs.Common.{◌≡◌, drop}
 use Rattle.std.specs.List.{filter_map}
-use Rattle.pm_history.specs.ColumnValue.{truth_in, any_value}
+use Rattle.pm_model_history.specs.ColumnValue.{truth_in, any_value}
 use Rattle.pm_reference.proofs.StepLemmas.{any_on}
 use Rattle.pm_reference.proofs.aggregates.any_value.Given as goal
 

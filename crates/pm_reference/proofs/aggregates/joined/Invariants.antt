@@ -1,7 +1,7 @@
 use Rattle.std.proofs.Common.{◌≡◌, drop, string_bytes}
 use Rattle.std.specs.List.{filter_map}
 use Rattle.std.specs.Option.{option_map}
-use Rattle.pm_history.specs.ColumnValue.{text_in, joined_value}
+use Rattle.pm_model_history.specs.ColumnValue.{text_in, joined_value}
 use Rattle.pm_reference.proofs.StepLemmas.{joined_on}
 use Rattle.pm_reference.proofs.aggregates.joined.Given as goal
 

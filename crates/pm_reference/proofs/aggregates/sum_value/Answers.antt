@@ -1,4 +1,4 @@
-use Rattle.pm_history.specs.ColumnValue.{width_of}
+use Rattle.pm_model_history.specs.ColumnValue.{width_of}
 use Rattle.pm_reference.proofs.StepLemmas.{sum_row, added-fits}
 use Rattle.pm_reference.proofs.aggregates.sum_value.Goals as goal
 

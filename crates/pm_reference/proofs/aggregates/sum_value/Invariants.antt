@@ -1,7 +1,7 @@
 use Rattle.std.proofs.Common.{◌≡◌, drop}
 use Rattle.std.specs.List.{filter_map}
 use Rattle.std.specs.Prelude.{FitsSigned, IfSome}
-use Rattle.pm_history.specs.ColumnValue.{width_of, summand, sum_value}
+use Rattle.pm_model_history.specs.ColumnValue.{width_of, summand, sum_value}
 use Rattle.pm_reference.proofs.StepLemmas.{summed}
 use Rattle.pm_reference.proofs.aggregates.sum_value.Given as goal
 

@@ -1,7 +1,7 @@
 use Rattle.std.proofs.Common.{◌≡◌, drop, filter, None}
 use Rattle.std.specs.List.{last_or}
 use Rattle.std.specs.Option.{option_copied}
-use Rattle.pm_history.specs.ColumnValue.{is_leading}
+use Rattle.pm_model_history.specs.ColumnValue.{is_leading}
 use Rattle.pm_reference.proofs.groups.leading_row.Given as goal
 
 -- the last so far, or one of those that are left

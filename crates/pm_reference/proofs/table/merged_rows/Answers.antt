@@ -1,7 +1,7 @@
 use Rattle.std.proofs.Common.{arith, ◌-◌, ◌<◌, length, get_or, ◌∙◌}
 use Rattle.std.proofs.lemmas.List.{get_or_default}
-use Rattle.pm_history.specs.Merge.{HistoryRow}
-use Rattle.pm_history.specs.Merged.{merged_entry}
+use Rattle.pm_model_history.specs.Merge.{HistoryRow}
+use Rattle.pm_model_history.specs.Merged.{merged_entry}
 use Rattle.pm_reference.proofs.TableLemmas.{entries-empty, entries_more}
 use Rattle.pm_reference.proofs.table.merged_rows.Goals as goal
 

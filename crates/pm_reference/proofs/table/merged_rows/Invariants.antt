@@ -2,7 +2,7 @@ use Rattle.std.proofs.Common.{◌≡◌, ◌≤◌, drop, length}
 use Rattle.std.specs.FinMap.{entries, from_entries}
 use Rattle.std.specs.List.{filter_map}
 use Rattle.pm_values.specs.Order.{key_cmp}
-use Rattle.pm_history.specs.Merged.{merged_entry}
+use Rattle.pm_model_history.specs.Merged.{merged_entry}
 use Rattle.pm_reference.proofs.table.merged_rows.Given as goal
 
 -- the entries of the rows from the index on

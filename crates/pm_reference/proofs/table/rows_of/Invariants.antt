@@ -1,5 +1,5 @@
 use Rattle.std.proofs.Common.{◌≡◌, ◌++◌, drop}
-use Rattle.pm_history.specs.Merge.{rows_of}
+use Rattle.pm_model_history.specs.Merge.{rows_of}
 use Rattle.pm_reference.proofs.table.rows_of.Given as goal
 
 -- the rows so far, and those that are left

@@ -1,4 +1,4 @@
-use Rattle.pm_history.specs.ColumnValue.{column_value}
+use Rattle.pm_model_history.specs.ColumnValue.{column_value}
 use Rattle.pm_reference.proofs.TableLemmas.{values_more}
 use Rattle.pm_reference.proofs.table.values_of.Goals as goal
 

@@ -1,6 +1,6 @@
 use Rattle.std.proofs.Common.{◌≡◌, ◌++◌, ◌-◌, map}
 use Rattle.std.specs.List.{range_with_len}
-use Rattle.pm_history.specs.ColumnValue.{column_value}
+use Rattle.pm_model_history.specs.ColumnValue.{column_value}
 use Rattle.pm_reference.proofs.table.values_of.Given as goal
 
 -- the values so far, and those that are left

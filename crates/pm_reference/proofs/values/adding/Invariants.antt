@@ -1,5 +1,5 @@
 use Rattle.std.proofs.Common.{◌≡◌, ◌++◌, drop}
-use Rattle.pm_history.specs.ColumnValue.{adding}
+use Rattle.pm_model_history.specs.ColumnValue.{adding}
 use Rattle.pm_reference.proofs.values.adding.Given as goal
 
 -- the rows so far, and those that are left

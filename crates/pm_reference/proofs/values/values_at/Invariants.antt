@@ -1,5 +1,5 @@
 use Rattle.std.proofs.Common.{◌≡◌, ◌++◌, drop}
-use Rattle.pm_history.specs.ColumnValue.{values_at}
+use Rattle.pm_model_history.specs.ColumnValue.{values_at}
 use Rattle.pm_reference.proofs.values.values_at.Given as goal
 
 -- the values so far, and those that are left

@@ -1,5 +1,5 @@
 use Rattle.std.proofs.Common.{◌≡◌, Ok, rules, subst, true}
-use Rattle.pm_history.specs.Merge.{key_of}
+use Rattle.pm_model_history.specs.Merge.{key_of}
 use Rattle.pm_values.specs.declared.record.Stamped.{Stamped}
 use Rattle.pm_run_bytes.specs.Direct.{AreCells}
 use Rattle.pm_run.specs.Form.{Form}

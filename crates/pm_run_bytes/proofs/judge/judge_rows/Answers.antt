@@ -5,7 +5,7 @@ use Rattle.pm_values.specs.declared.record.Stamped.{Stamped}
 use Rattle.pm_run_bytes.specs.Direct.{AreRows}
 use Rattle.pm_run.specs.Order.{last_key, may_follow}
 use Rattle.pm_run_bytes.specs.Seen.{seen_key}
-use Rattle.pm_seen.specs.Seen.{seen_row, seen_value}
+use Rattle.pm_row_slots.specs.Seen.{seen_row, seen_value}
 use Rattle.pm_run_bytes.proofs.DirectLemmas.{rows_push}
 use Rattle.pm_run_bytes.proofs.JudgeLemmas.{follows_last, follows_none, last_more}
 use Rattle.pm_run_bytes.proofs.judge.judge_rows.Goals as goal

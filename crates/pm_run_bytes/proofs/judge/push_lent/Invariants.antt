@@ -1,5 +1,5 @@
 use Rattle.std.proofs.Common.{◌≡◌, ◌++◌, map, take}
-use Rattle.pm_seen.specs.Seen.{seen_value}
+use Rattle.pm_row_slots.specs.Seen.{seen_value}
 use Rattle.pm_run_bytes.proofs.judge.push_lent.Given as goal
 
 -- the values so far were added

@@ -1,5 +1,5 @@
 use Rattle.std.proofs.Common.{◌≡◌, map, true, Ok, rules, subst}
-use Rattle.pm_seen.specs.Seen.{seen_value}
+use Rattle.pm_row_slots.specs.Seen.{seen_value}
 use Rattle.pm_values.specs.declared.record.Stamped.{Stamped}
 use Rattle.pm_run_bytes.specs.Direct.{AreCells}
 use Rattle.pm_run.specs.Form.{Form}

@@ -1,6 +1,6 @@
 use Rattle.std.proofs.Common.{◌≡◌, [], ◌∷◌, ◌++◌, map, ap, ◌∙◌, rules}
 use Rattle.std.proofs.lemmas.List.{map-append}
-use Rattle.pm_seen.specs.Seen.{seen_value}
+use Rattle.pm_row_slots.specs.Seen.{seen_value}
 use Rattle.pm_run_bytes.proofs.DirectLemmas.{cells_end, cells_next}
 use Rattle.pm_run_bytes.proofs.judge.see_values.Goals as goal
 

@@ -1,6 +1,6 @@
 use Rattle.std.proofs.Common.{map, take}
 use Rattle.pm_run_bytes.specs.Direct.{AreCells}
-use Rattle.pm_seen.specs.Seen.{seen_value}
+use Rattle.pm_row_slots.specs.Seen.{seen_value}
 use Rattle.pm_run_bytes.proofs.judge.see_values.Given as goal
 
 -- the values so far

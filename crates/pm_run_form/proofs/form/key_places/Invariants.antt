@@ -1,5 +1,5 @@
 use Rattle.std.proofs.Common.{◌≡◌, ◌++◌, map, drop}
-use Rattle.pm_history.specs.ColumnValue.{index_of}
+use Rattle.pm_model_history.specs.ColumnValue.{index_of}
 use Rattle.pm_run.specs.Form.{apart_from}
 use Rattle.pm_run_form.proofs.form.key_places.Given as goal
 

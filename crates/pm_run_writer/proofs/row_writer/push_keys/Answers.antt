@@ -2,7 +2,7 @@ use Rattle.std.proofs.Common.{◌≡◌, ◌++◌, ◌<◌, ℕ, length, get_or,
 use Rattle.std.proofs.lemmas.List.{get_or-map, length-map}
 use Rattle.pm_avro_data.specs.Datum.{view}
 use Rattle.pm_avro_data.specs.HasType.{HasType}
-use Rattle.pm_history.specs.Merge.{key_of, value_at}
+use Rattle.pm_model_history.specs.Merge.{key_of, value_at}
 use Rattle.pm_run.specs.Kinds.{field_type}
 use Rattle.pm_run.specs.Row.{value_data, values_data}
 use Rattle.pm_run_writer.proofs.LoopLemmas.{data_end, data_next, have_end, have_next}

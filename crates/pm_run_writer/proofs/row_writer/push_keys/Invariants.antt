@@ -1,6 +1,6 @@
 use Rattle.std.proofs.Common.{◌≡◌, ◌++◌, drop, map, take}
 use Rattle.pm_avro_data.specs.Datum.{view}
-use Rattle.pm_history.specs.Merge.{key_of}
+use Rattle.pm_model_history.specs.Merge.{key_of}
 use Rattle.pm_run.specs.Row.{values_data}
 use Rattle.pm_run.specs.Typed.{HaveFields}
 use Rattle.pm_run_writer.proofs.row_writer.push_keys.Given as goal

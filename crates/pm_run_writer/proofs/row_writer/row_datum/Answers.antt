@@ -1,7 +1,7 @@
 use Rattle.std.proofs.Common.{◌≡◌, ◌++◌, ◌∷◌, [], List, map, pos, refl, ap, ◌∙◌, append_assoc}
 use Rattle.std.proofs.lemmas.List.{map_push}
 use Rattle.pm_avro_data.specs.Datum.{Data, int, items_of, long, record_of, view}
-use Rattle.pm_history.specs.Merge.{key_of}
+use Rattle.pm_model_history.specs.Merge.{key_of}
 use Rattle.pm_values.specs.Kind.{code_of}
 use Rattle.pm_run.specs.Form.{Form}
 use Rattle.pm_run.specs.Row.{values_data}

@@ -1,7 +1,7 @@
 use Rattle.std.proofs.Common.{◌<◌}
 use Rattle.pm_machine.specs.Trace.{HasTrace}
 use Rattle.pm_store.specs.Store.{StoreView, IsLater}
-use Rattle.pm_table_view.specs.Asked.{Asked}
+use Rattle.pm_read_table.specs.Asked.{Asked}
 use Rattle.pm_scan.specs.Scanner.{calls_left, IsReady}
 use Rattle.pm_scan.specs.Trace.{Did}
 use Rattle.pm_scan.proofs.all_calls.make_calls.Given as goal

@@ -1,5 +1,5 @@
 use Rattle.std.proofs.Common.{rules}
-use Rattle.pm_seen.specs.declared.seen.Seen.TheVariants.{Null}
+use Rattle.pm_row_slots.specs.declared.seen.Seen.TheVariants.{Null}
 use Rattle.pm_shown.proofs.PlainLemmas.{items_next, plain_at}
 use Rattle.pm_shown.proofs.line.push_items.Goals as goal
 

@@ -1,5 +1,5 @@
 use Rattle.std.proofs.Common.{◌≡◌, ◌++◌, map, take}
-use Rattle.pm_seen.specs.Seen.{seen_value}
+use Rattle.pm_row_slots.specs.Seen.{seen_value}
 use Rattle.pm_shown.specs.Plain.{items_text}
 use Rattle.pm_shown.proofs.line.push_items.Given as goal
 

@@ -1,6 +1,6 @@
 use Rattle.std.proofs.Common.{ℕ, List, ◌++◌, map, sym, ap, append_assoc, ◌∙◌}
 use Rattle.std.specs.Prelude.{codes}
-use Rattle.pm_seen.specs.Seen.{seen_value}
+use Rattle.pm_row_slots.specs.Seen.{seen_value}
 use Rattle.pm_shown.specs.Plain.{items_text}
 use Rattle.pm_shown.proofs.PlainLemmas.{line_is}
 use Rattle.pm_shown.proofs.line.push_plain.Goals as goal

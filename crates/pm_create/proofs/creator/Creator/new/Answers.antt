@@ -3,8 +3,8 @@ use Rattle.pm_schema.specs.Meaning.{SchemaOf}
 use Rattle.pm_schema.specs.Reading.{schema_of}
 use Rattle.pm_schema.specs.declared.schema.TableSchema.{TableSchema}
 use Rattle.pm_schema.specs.Written.{schema_text}
-use Rattle.pm_folder.specs.Changes.{Actor}
-use Rattle.pm_folder.specs.Paths.{schema_path, snapshot_file}
+use Rattle.pm_model_folder.specs.Changes.{Actor}
+use Rattle.pm_model_folder.specs.Paths.{schema_path, snapshot_file}
 use Rattle.pm_create.specs.Creator.{actor_of, new_creator, own_origin, seen_as}
 use Rattle.pm_create.specs.declared.phase.Phase.TheVariants as phases
 use Rattle.pm_create.proofs.creator.Creator.new.Goals as goal

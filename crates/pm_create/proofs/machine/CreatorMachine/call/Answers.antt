@@ -2,7 +2,7 @@ use Rattle.std.proofs.Common.{◌≡◌, ◌++◌, List, ℕ, codes, Some, None,
 use Rattle.std.proofs.lemmas.Fmt.{decimal_digit}
 use Rattle.pm_store.specs.declared.call.Call.{Call}
 use Rattle.pm_store.specs.declared.call.Call.TheVariants as calls
-use Rattle.pm_folder.specs.Paths.{schema_path}
+use Rattle.pm_model_folder.specs.Paths.{schema_path}
 use Rattle.pm_create.specs.Creator.{CreatorView, call_at, next_call}
 use Rattle.pm_create.specs.declared.phase.Phase.TheVariants as phases
 use Rattle.pm_create.proofs.machine.CreatorMachine.call.Goals as goal

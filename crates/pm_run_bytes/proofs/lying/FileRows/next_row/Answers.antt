@@ -1,5 +1,5 @@
 use Rattle.std.proofs.Common.{◌≡◌, ◌+◌, ◌-◌, sym, subst, arith, option_copied}
-use Rattle.pm_seen.specs.Seen.{seen_row}
+use Rattle.pm_row_slots.specs.Seen.{seen_row}
 use Rattle.pm_run_bytes.specs.Lying.{StillLie}
 use Rattle.pm_run_bytes.proofs.LyingLemmas.{lies_row}
 use Rattle.pm_run_bytes.proofs.lying.FileRows.next_row.Goals as goal

@@ -1,6 +1,0 @@
-use Rattle.std.proofs.Common.{◌≡◌, false}
-use Rattle.pm_case_runs.proofs.long_run.count_rows.Given as goal
-
--- the reader isn't over
-abbrev pub invariant-loop-count : goal.invariant-loop-count
-invariant-loop-count l = l.reader.over ≡ false

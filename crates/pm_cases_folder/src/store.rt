@@ -1,0 +1,207 @@
+//! Calls of a store, one after another: of one in memory, of one that fails, and of two on one folder.
+
+use crate::foreign::say_foreign;
+use pm_base::{Blob, Txt};
+use pm_cases::{Case, say_between};
+use pm_store::{
+    Answer, Call, Effect, FailStore, FileStore, Made, MemStore, Planned, Published, Removed,
+    StoreFail, Swapped, perform,
+};
+use std::alloc::{AllocError, Global};
+use std::{fs, io, str};
+
+/// The answers of calls on a store in memory, and how many operations it has.
+pub fn memory_answer(case: &mut Case, calls: &str) {
+    let mut store = MemStore::new(case.alloc());
+    make_calls(case, &mut store, calls);
+    case.say_made(format!(in case.alloc(); " | {} operations", store.ops().len()));
+    drop(store);
+}
+
+/// The same of a store whose calls fail as a plan says.
+pub fn failing_answer(case: &mut Case, plan: &str, calls: &str) {
+    let plan = read_plan(case, plan);
+    let mut store = FailStore::new(case.alloc(), plan);
+    make_calls(case, &mut store, calls);
+    case.say_made(format!(in case.alloc(); " | {} operations", store.ops().len()));
+    drop(store);
+}
+
+/// A text up to its first blank, and what follows that.
+pub fn split(text: &str) -> (&str, &str) {
+    text.split_once(' ').unwrap_or((text, ""))
+}
+
+/// The calls that fail, as `NUMBER=EFFECT` with blanks between them.
+fn read_plan(case: &mut Case, text: &str) -> Vec<Planned> {
+    let mut plan = Vec::new(case.alloc());
+    for part in text.split(' ') {
+        let (call, effect) = part.split_once('=').unwrap_or((part, ""));
+        push_planned(case, &mut plan, call.parse::<u64>().unwrap_or(0), effect);
+    }
+    plan
+}
+
+/// Adds a call that fails with an effect: `none`, `whole`, `absent`, or else the bytes that a create leaves.
+fn push_planned(case: &mut Case, plan: &mut Vec<Planned>, call: u64, effect: &str) {
+    match read_effect(case.alloc(), effect) {
+        Ok(effect) => {
+            let planned = Planned { call, effect };
+            case.push(plan, planned);
+        }
+        Err(_) => case.run_out(),
+    }
+}
+
+/// The effect of a text.
+fn read_effect(alloc: Global, text: &str) -> Result<Effect, AllocError> {
+    match text {
+        "none" => Ok(Effect::None),
+        "whole" => Ok(Effect::Whole),
+        "absent" => Ok(Effect::Part(None)),
+        bytes => Ok(Effect::Part(Some(Blob::from_slice(alloc, bytes.as_bytes())?))),
+    }
+}
+
+/// Says the answers of calls with semicolons between them.
+fn make_calls<F: FileStore>(case: &mut Case, store: &mut F, calls: &str) {
+    let mut is_later = false;
+    for call in calls.split(';') {
+        say_between(case, is_later, "; ");
+        make_call(case, store, call);
+        is_later = true;
+    }
+}
+
+/// Says the answers of calls on a store on the folder, and on another where `other` stands before the call. Both were
+/// opened before the first call. `hidden` counts the names with a dot in the folder, and the files that were begun;
+/// `foreign` makes something past the store.
+pub fn folder_answer<F: FileStore>(
+    rt: &HostRuntime,
+    case: &mut Case,
+    store: &mut F,
+    other: &mut F,
+    folder: &str,
+    calls: &str,
+) {
+    let mut is_later = false;
+    for call in calls.split(';') {
+        say_between(case, is_later, "; ");
+        match split(call) {
+            ("hidden", _) => say_hidden(rt, case, folder),
+            ("foreign", act) => say_foreign(rt, case, act),
+            ("other", call) => make_call(case, other, call),
+            _ => make_call(case, store, call),
+        }
+        is_later = true;
+    }
+}
+
+/// Says how many names of a folder begin with a dot, and how many files stand that are being written.
+fn say_hidden(rt: &HostRuntime, case: &mut Case, folder: &str) {
+    match hidden(rt, case.alloc(), folder) {
+        Ok(Some((hidden, begun))) => {
+            case.say_made(format!(in case.alloc(); "{hidden} hidden, {begun} begun"));
+        }
+        Ok(None) => case.say("no folder"),
+        Err(error) => {
+            drop(error);
+            case.reject();
+        }
+    }
+}
+
+/// How many names of a folder begin with a dot, and how many files stand that are being written; none where there is no
+/// folder.
+fn hidden(rt: &HostRuntime, alloc: Global, folder: &str) -> io::Result<Option<(usize, usize)>> {
+    if !fs::exists(rt, folder)? {
+        return Ok(None);
+    }
+    let mut count = 0usize;
+    for entry in fs::read_dir(rt, folder)? {
+        if entry?.file_name().starts_with('.') {
+            count = count.saturating_add(1);
+        }
+    }
+    let begun = fs::read_dir(rt, format!(in alloc; "{folder}/.new")?.as_str())?.count();
+    Ok(Some((count, begun)))
+}
+
+/// Says the answer of a call: its word, its paths, and its bytes, with blanks between them; `-` is no content.
+fn make_call<F: FileStore>(case: &mut Case, store: &mut F, call: &str) {
+    match read_call(case.alloc(), call) {
+        Ok(Some(call)) => perform_call(case, store, call),
+        Ok(None) => case.say("no such call"),
+        Err(_) => case.run_out(),
+    }
+}
+
+/// Says the answer of a call.
+fn perform_call<F: FileStore>(case: &mut Case, store: &mut F, call: Call) {
+    match perform(case.alloc(), store, &call) {
+        Ok(answer) => say_answer(case, answer),
+        Err(StoreFail::Memory) => case.say("memory"),
+        Err(StoreFail::Failed) => case.say("failed"),
+    }
+    drop(call);
+}
+
+/// The call of a text.
+fn read_call(alloc: Global, text: &str) -> Result<Option<Call>, AllocError> {
+    let (word, rest) = split(text);
+    let (path, rest) = split(rest);
+    let (middle, last) = split(rest);
+    let call = match word {
+        "list" => Call::list(alloc, path),
+        "read" => Call::read(alloc, path),
+        "create" => Call::create(alloc, path, rest.as_bytes()),
+        "publish" => Call::publish(alloc, path, middle, last.as_bytes()),
+        "swap" if middle == "-" => Call::swap(alloc, path, None, last.as_bytes()),
+        "swap" => Call::swap(alloc, path, Some(middle.as_bytes()), last.as_bytes()),
+        "remove" => Call::remove(alloc, path),
+        _ => return Ok(None),
+    };
+    match call {
+        Ok(call) => Ok(Some(call)),
+        Err(error) => Err(error),
+    }
+}
+
+/// Says an answer.
+fn say_answer(case: &mut Case, answer: Answer) {
+    match &answer {
+        Answer::Listed(names) => say_names(case, names),
+        Answer::Found(found) => say_content(case, found),
+        Answer::Swapped(Swapped::Differs(found)) => {
+            case.say("differs ");
+            say_content(case, found);
+        }
+        Answer::Made(Made::Created) | Answer::Published(Published::Created) => case.say("created"),
+        Answer::Made(Made::Exists) | Answer::Published(Published::Exists) => case.say("exists"),
+        Answer::Published(Published::AfterGone) => case.say("after gone"),
+        Answer::Swapped(Swapped::Swapped) => case.say("swapped"),
+        Answer::Removed(Removed::Removed) => case.say("removed"),
+        Answer::Removed(Removed::Absent) => case.say("absent"),
+    }
+    drop(answer);
+}
+
+/// Says a content as text, `-` for none.
+fn say_content(case: &mut Case, content: &Option<Blob>) {
+    case.say(match content {
+        Some(bytes) => str::from_utf8(bytes.as_bytes()).unwrap_or("?"),
+        None => "-",
+    });
+}
+
+/// Says names in brackets.
+fn say_names(case: &mut Case, names: &[Txt]) {
+    let mut is_later = false;
+    case.say("[");
+    for name in names {
+        say_between(case, is_later, " ");
+        case.say(name.as_str());
+        is_later = true;
+    }
+    case.say("]");
+}

@@ -1,5 +1,0 @@
-use Rattle.pm_folder.proofs.LedgerFacts.{found}
-use Rattle.pm_folder.proofs.laws.found_law.Goals as goal
-
-pub returns : goal.returns
-returns c = found

@@ -1,5 +1,0 @@
-use Rattle.pm_folder.proofs.Facts.{kept}
-use Rattle.pm_folder.proofs.laws.kept_law.Goals as goal
-
-pub returns : goal.returns
-returns c = kept c.one_contents_law.ensures c.kept_law.ensures

@@ -1,5 +1,0 @@
-use Rattle.pm_folder.proofs.Facts.{stays}
-use Rattle.pm_folder.proofs.laws.stays_law.Goals as goal
-
-pub returns : goal.returns
-returns c = stays

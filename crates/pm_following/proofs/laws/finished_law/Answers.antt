@@ -1,5 +1,0 @@
-use Rattle.pm_following.proofs.FollowingLemmas.{finished-input}
-use Rattle.pm_following.proofs.laws.finished_law.Goals as goal
-
-pub returns : goal.returns
-returns c = finished-input

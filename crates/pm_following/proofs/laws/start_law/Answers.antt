@@ -1,5 +1,0 @@
-use Rattle.pm_following.proofs.GrowthLemmas.{followed-start}
-use Rattle.pm_following.proofs.laws.start_law.Goals as goal
-
-pub returns : goal.returns
-returns c = followed-start

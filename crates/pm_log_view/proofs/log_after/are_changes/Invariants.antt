@@ -1,8 +1,0 @@
-use Rattle.std.proofs.Common.{◌↔◌, drop}
-use Rattle.std.specs.List.{AllByRecursion}
-use Rattle.pm_contents.specs.Lists.{IsChangelogEntry}
-use Rattle.pm_log_view.proofs.log_after.are_changes.Given as goal
-
-abbrev pub invariant-loop-entry : goal.invariant-loop-entry
-invariant-loop-entry l =
-    AllByRecursion IsChangelogEntry (drop l.entry-index l.entries) ↔ AllByRecursion IsChangelogEntry l.entries

@@ -1,5 +1,0 @@
-use Rattle.pm_log_view.proofs.LogFacts.{knows_still}
-use Rattle.pm_log_view.proofs.log_laws.log_known_law.Goals as goal
-
-pub returns : goal.returns
-returns c = knows_still

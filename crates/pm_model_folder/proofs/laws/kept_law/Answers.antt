@@ -1,0 +1,5 @@
+use Rattle.pm_model_folder.proofs.Facts.{kept}
+use Rattle.pm_model_folder.proofs.laws.kept_law.Goals as goal
+
+pub returns : goal.returns
+returns c = kept c.one_contents_law.ensures c.kept_law.ensures

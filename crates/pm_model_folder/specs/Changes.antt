@@ -1,0 +1,90 @@
+-- The kinds of change that commands make, whoever makes them.
+use Rattle.std.specs.Prelude.{◌≡◌, ◌≢◌, ℕ, suc, ◌<◌, ◌≤◌, ◌^◌, ℤ, List, [], ◌∷◌, ◌++◌, All, length, codes, Some, None}
+use Rattle.std.specs.Prelude.{decimal}
+use Rattle.std.specs.FinMap as map
+use Rattle.std.specs.List.{AllByRecursion}
+use Rattle.uuid.specs.Text.{hyphenated_text, hyphen, lower}
+use Rattle.pm_values.specs.Names.{Naming, name_of}
+use Rattle.pm_values.specs.declared.group.Group.{Group}
+use Rattle.pm_store.specs.Files.{Files, Puts}
+use Rattle.pm_model_history.specs.History.{Entry, History, append, no_table, table}
+use Rattle.pm_model_history.specs.Merge.{HistoryRow}
+use Rattle.pm_snapshot.specs.Names.{BasedFile, MayName, greatest, prefix_of, suffix_of}
+use Rattle.pm_model_folder.specs.Commits.{IsAppend, Names}
+use Rattle.pm_model_folder.specs.Folder.{IsRowOf}
+use Rattle.pm_model_folder.specs.Meaning.{SchemaAt, HasSnapshotAt}
+use Rattle.pm_model_folder.specs.Paths.{schema_path, snapshot_file, snapshot_path}
+use Rattle.pm_schema.specs.Folder.{folder_text}
+use Rattle.pm_schema.specs.declared.schema.TableSchema.{TableSchema}
+
+-- an actor: the sixteen bytes of its session, and its number in it
+pub record Actor : Type 0 where
+  pub session : List ℕ
+  pub number : ℕ
+
+-- an actor's session has sixteen bytes, and its number 64 bits
+pub record IsActor (me : Actor) : Type 0 where
+  pub sixteen : length me.session ≡ 16
+  pub bytes : All (λ b. b < 256) me.session
+  pub bits : me.number < 2 ^ 64
+
+-- the name of the origin that an actor makes
+abbrev pub origin_name : Actor → List ℕ
+origin_name me =
+    codes "ORIGIN-" ++ (hyphenated_text lower me.session ++ hyphen ∷ decimal me.number)
+
+-- the file's name is one that a maker of names with the actor's session and number gives
+pub record IsNamedBy (me : Actor) (path : List ℕ) : Type 0 where
+  pub folder : List ℕ
+  pub file : BasedFile
+  pub names : Naming
+  pub may : MayName names
+  pub session : names.session ≡ me.session
+  pub actor : names.actor ≡ me.number
+  pub is : path ≡ folder ++ 47 ∷ name_of (prefix_of file) (suffix_of file) names
+
+-- the names of the partition columns have no slash
+abbrev pub HavePlainNames : TableSchema → Type 0
+HavePlainNames s = AllByRecursion (AllByRecursion (λ b. b ≢ 47)) s.partition
+
+-- a folder of files that snapshots name: that of manifests, and those of buckets
+pub data IsTableFolder : List ℕ → Type 0 where
+  manifests : IsTableFolder (codes "manifest")
+  bucket : (s : TableSchema) (g : Group) → HavePlainNames s → IsTableFolder (folder_text s g)
+
+-- The file bears the actor's name: only this actor makes a file there. It is the origin that the actor makes, or one
+-- among those that snapshots name.
+pub data IsOwn (me : Actor) (path : List ℕ) : Type 0 where
+  its_origin : path ≡ snapshot_file (origin_name me) → IsOwn me path
+  its_file : (by : IsNamedBy me path) → IsTableFolder by.folder → IsOwn me path
+
+-- what the snapshot after the newest names and that doesn't was named by the actor
+abbrev pub NamesOwn : Actor → Files → Files → TableSchema → ℕ → Type 0
+NamesOwn me f after s newest =
+    (path : List ℕ) → Names after s (suc newest) path → (Names f s newest path → ⊥) → IsNamedBy me path
+
+-- the path isn't that of the origin that the table's schema names
+abbrev pub IsNoOrigin : History → List ℕ → Type 0
+IsNoOrigin no_table path = Unit {0}
+IsNoOrigin (table s entries) path = (name : List ℕ) → s.origin ≡ Some name → snapshot_file name ≢ path
+
+-- What an actor may change of a folder that stands for a history, and the history that it stands for then.
+pub data Change (me : Actor) (f : Files) : History → Files → History → Type 0 where
+  -- no path has another content
+  nothing : {h : History} {after : Files} → ((path : List ℕ) → map.get after path ≡ map.get f path)
+      → Change me f h after h
+  -- a file of the actor's own appears where there was none, whole or in part; the table's origin doesn't come again
+  own_file : {h : History} {after : Files} (path content : List ℕ) → IsOwn me path → IsNoOrigin h path
+      → map.get f path ≡ None → Puts f path (Some content) after → Change me f h after h
+  -- the schema of a new table appears, whole, once its origin is there
+  schema : {after : Files} (s : TableSchema) (bytes : List ℕ) → HasSnapshotAt f s 0
+      → Puts f (schema_path 0) (Some bytes) after → SchemaAt after 0 s
+      → Change me f no_table after (table s [])
+  -- the snapshot after the newest appears, whole, while that stands, and appends rows to the history; its new files are
+  -- the actor's own
+  appended : {after : Files} (s : TableSchema) (entries : List Entry) (user : List ℕ) (identifier : ℤ)
+      (rows : List HistoryRow) (bytes : List ℕ) → HasSnapshotAt f s (length entries) → suc (length entries) ≤ greatest
+      → map.get f (snapshot_path (suc (length entries))) ≡ None
+      → Puts f (snapshot_path (suc (length entries))) (Some bytes) after → AllByRecursion (IsRowOf s) rows
+      → IsAppend f after s entries (append user identifier rows) → NamesOwn me f after s (length entries)
+      → Change me f (table s entries) after (table s (entries ++ append user identifier rows ∷ []))

@@ -1,0 +1,119 @@
+-- What a folder stands for, sentence by sentence. Ids are those that may stand in a name.
+use Rattle.std.specs.Prelude.{◌≡◌, ◌≢◌, ◌↔◌, ◌⊎◌, ℕ, ◌<◌, ◌≤◌, List, length, take, false, Some, None, IsSome}
+use Rattle.std.specs.Prelude.{Contains}
+use Rattle.std.specs.FinMap as map
+use Rattle.std.specs.List.{AllByRecursion, flat_map}
+use Rattle.pm_store.specs.Files.{Files}
+use Rattle.pm_values.specs.Fits.{Fits}
+use Rattle.pm_model_history.specs.History.{Entry, History, no_table, table, entry_rows}
+use Rattle.pm_model_history.specs.Merge.{HistoryRow}
+use Rattle.pm_model_history.specs.Taken.{verdict}
+use Rattle.pm_model_history.specs.declared.verdict.Verdict.TheVariants.{Take}
+use Rattle.pm_model_following.specs.Following.{HaveBases}
+use Rattle.pm_schema.specs.declared.schema.TableSchema.{TableSchema}
+use Rattle.pm_snapshot.specs.Names.{greatest, snapshot_name}
+use Rattle.pm_snapshot.specs.declared.consumer.Consumer.{Consumer}
+use Rattle.pm_model_folder.specs.Commits.{BeginsOn, FollowsOn, IsCommitted, NeverReturn}
+use Rattle.pm_model_folder.specs.Meaning.{SchemaAt, ConsumerAt, HasSnapshotAt, LeadsTo}
+use Rattle.pm_model_folder.specs.Paths.{schema_folder, schema_name, schema_path, snapshot_folder, snapshot_path}
+use Rattle.pm_model_folder.specs.Paths.{consumer_path, tag_path, changelog_path, floor_path}
+
+-- ---- what a listing has
+
+-- Where a file leads to the name of a schema or of a snapshot, the file of that name is there: nothing else stands in
+-- its place, as a folder would.
+pub record HaveFiles (f : Files) : Type 0 where
+  pub schemas : (id : ℕ) → id ≤ greatest → LeadsTo f schema_folder (schema_name id) →
+      IsSome (map.get f (schema_path id))
+  pub snapshots : (id : ℕ) → id ≤ greatest → LeadsTo f snapshot_folder (snapshot_name id) →
+      IsSome (map.get f (snapshot_path id))
+
+-- ---- no table
+
+-- nothing of a table is there: no schema, no snapshot, no consumer, no tag and no changelog; an origin may be, which a
+-- stopped command left
+pub record HasNoTable (f : Files) : Type 0 where
+  pub names : HaveFiles f
+  pub schemas : (id : ℕ) → id ≤ greatest → map.get f (schema_path id) ≡ None
+  pub snapshots : (id : ℕ) → id ≤ greatest → map.get f (snapshot_path id) ≡ None
+  pub consumers : (name : List ℕ) → map.get f (consumer_path name) ≡ None
+  pub tags : (name : List ℕ) → map.get f (tag_path name) ≡ None
+  pub changelogs : (id : ℕ) → id ≤ greatest → map.get f (changelog_path id) ≡ None
+
+-- ---- a table, with its schema and its entries
+
+-- the table's schema is there with the id 0, and no other; the origin that it names has the name of no snapshot
+pub record HasSchema (f : Files) (s : TableSchema) : Type 0 where
+  pub first : SchemaAt f 0 s
+  pub only : (id : ℕ) → id ≢ 0 → id ≤ greatest → map.get f (schema_path id) ≡ None
+  pub origin : (id : ℕ) → id ≤ greatest → s.origin ≢ Some (snapshot_name id)
+
+-- a row that an entry may have: it fits the table, and the table's engine takes its kind
+pub record IsRowOf (s : TableSchema) (r : HistoryRow) : Type 0 where
+  pub fits : Fits s.columns r.1
+  pub taken : verdict s r.0 ≡ Take
+
+-- entries that a table may have: their rows are rows of the table, and a compaction's base is an earlier snapshot
+pub record AreEntriesOf (s : TableSchema) (entries : List Entry) : Type 0 where
+  pub rows : AllByRecursion (IsRowOf s) (flat_map entry_rows entries)
+  pub bases : HaveBases 1 entries
+
+-- The snapshots that are there, the origin counted as 0, are all from some id on to the newest, which is as great as
+-- there are entries.
+pub record HasSnapshots (f : Files) (s : TableSchema) (newest : ℕ) : Type 0 where
+  pub least : ℕ
+  pub some : least ≤ newest
+  pub within : newest ≤ greatest
+  pub exact : (id : ℕ) → id ≤ greatest → HasSnapshotAt f s id ↔ ((least ≤ id) × (id ≤ newest))
+
+-- a snapshot from the least one on, the origin left out
+pub record IsFrom (least newest id : ℕ) : Type 0 where
+  pub after_origin : 1 ≤ id
+  pub from : least ≤ id
+  pub to : id ≤ newest
+
+-- Each snapshot is that of its entry and of those before it, and all that it needs is there. What one names and the one
+-- before it doesn't is new, and a path that left never returns.
+pub record HasCommits (f : Files) (s : TableSchema) (entries : List Entry) (least : ℕ) : Type 0 where
+  pub committed : (id : ℕ) → IsFrom least (length entries) id → IsCommitted f s (take id entries) id
+  pub begins : least ≡ 0 → 1 ≤ length entries → BeginsOn f s
+  pub next : (id : ℕ) → IsFrom least (length entries) id → id < length entries → FollowsOn f s id
+  pub gone : (first : ℕ) → IsFrom least (length entries) first → NeverReturn f s first (length entries)
+
+-- where a snapshot after the origin is the least, a floor announced that those below it go
+abbrev pub HasFloor : Files → ℕ → Type 0
+HasFloor f least = (least ≤ 1) ⊎ ((n : ℕ) × (n ≤ greatest) × (least ≤ n) × IsSome (map.get f (floor_path n)))
+
+-- each file of a consumer reads
+abbrev pub HaveConsumers : Files → Type 0
+HaveConsumers f = (name : List ℕ) → IsSome (map.get f (consumer_path name)) → (c : Consumer) × ConsumerAt f name c
+
+-- the sentences of a table's folder
+pub record HasTable (f : Files) (s : TableSchema) (entries : List Entry) : Type 0 where
+  pub names : HaveFiles f
+  pub schema : HasSchema f s
+  pub history : AreEntriesOf s entries
+  pub snapshots : HasSnapshots f s (length entries)
+  pub commits : HasCommits f s entries snapshots.least
+  pub floor : HasFloor f snapshots.least
+  pub consumers : HaveConsumers f
+
+-- The files stand for the history.
+abbrev pub Folder : Files → History → Type 0
+Folder f no_table = HasNoTable f
+Folder f (table s entries) = HasTable f s entries
+
+-- ---- settled consumers
+
+-- a consumer that is settled: its file isn't new, and the snapshot that it reads next hasn't gone
+pub record IsSettled (f : Files) (least : ℕ) (name : List ℕ) : Type 0 where
+  pub consumer : Consumer
+  pub at : ConsumerAt f name consumer
+  pub known : consumer.fresh ≡ false
+  pub next : least ≤ consumer.next
+
+-- the consumers of these names are settled, and there is a table if there is one of them
+abbrev pub HaveSettled : Files → History → List (List ℕ) → Type 0
+HaveSettled f no_table names = (name : List ℕ) → ¬ Contains names name
+HaveSettled f (table s entries) names = (name : List ℕ) → Contains names name
+    → (least : ℕ) × HasSnapshotAt f s least × ((id : ℕ) → id < least → ¬ HasSnapshotAt f s id) × IsSettled f least name

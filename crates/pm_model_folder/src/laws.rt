@@ -1,0 +1,95 @@
+//! Laws of folders. Each holds with no call.
+
+ghost use Rattle.std.specs.Prelude.{◌≡◌, ◌≢◌, ◌↔◌, ℕ, ◌+◌, ◌≤◌, List, length, Contains, None, IsSome};
+ghost use Rattle.std.specs.FinMap as map;
+ghost use Rattle.pm_store.specs.Files.{Files, IsListing};
+ghost use Rattle.pm_model_history.specs.History.{Entry, History, GoesOn, IsTableOf, no_table, table};
+ghost use Rattle.pm_schema.specs.declared.schema.TableSchema.{TableSchema};
+ghost use Rattle.pm_snapshot.specs.Names.{greatest};
+ghost use Rattle.pm_model_folder.specs.Changes.{Actor, Change, IsActor, IsNamedBy, IsOwn};
+ghost use Rattle.pm_model_folder.specs.Commits.{Names};
+ghost use Rattle.pm_model_folder.specs.Folder.{Folder};
+ghost use Rattle.pm_model_folder.specs.Ledger.{Advances, HasNamedNone, Past, Stands, count_of};
+ghost use Rattle.pm_model_folder.specs.Meaning.{HasSnapshotAt};
+ghost use Rattle.pm_model_folder.specs.Paths.{schema_folder, schema_name, snapshot_path};
+
+use pm_model_contents::{one_contents_law, same_law};
+use pm_snapshot::{path_law, snapshot_law};
+use pm_values::names_law;
+
+/// Each kind of change, whoever makes it, leads to a folder that stands for the history with that change.
+pub fn kept_law()
+    ensures { (me : Actor) (f after : Files) (h later : History) → Folder f h → Change me f h after later
+        → Folder after later }
+{
+    pm_model_contents::kept_law();
+    one_contents_law();
+}
+
+/// And the history goes on as that one.
+pub fn goes_on_law()
+    ensures { (me : Actor) (f after : Files) (h later : History) → Change me f h after later → GoesOn h later }
+{}
+
+/// What is there stays as it is: no kind of change writes a file again, or takes one away.
+pub fn stays_law()
+    ensures { (me : Actor) (f after : Files) (h later : History) (path : List ℕ) → Folder f h
+        → Change me f h after later → IsSome (map.get f path) → map.get after path ≡ map.get f path }
+{}
+
+/// A file bears the name of one actor at most.
+pub fn own_law()
+    ensures own { (me other : Actor) (path : List ℕ) → IsActor me → IsActor other → IsOwn me path → IsOwn other path
+        → me ≡ other }
+    ensures named { (me other : Actor) (path : List ℕ) → IsNamedBy me path → IsNamedBy other path → me ≡ other }
+{
+    names_law();
+    path_law();
+}
+
+/// The names in the folder of schemas are those of no schema exactly where there is no table. Where there is one, they
+/// have the schema of id 0, and no other.
+pub fn listed_law()
+    ensures none { (f : Files) (h : History) (names : List (List ℕ)) → Folder f h → IsListing schema_folder names f
+        → ((id : ℕ) → id ≤ greatest → ¬ Contains names (schema_name id)) ↔ (h ≡ no_table) }
+    ensures first { (f : Files) (s : TableSchema) (entries : List Entry) (names : List (List ℕ))
+        → Folder f (table s entries) → IsListing schema_folder names f
+        → (id : ℕ) → id ≤ greatest → Contains names (schema_name id) ↔ (id ≡ 0) }
+{}
+
+/// A folder that is found has a past, in which each snapshot that is there stands as it is. What stands for a past
+/// stands for its history.
+pub fn found_law()
+    ensures { (f : Files) (h : History) → Folder f h → (p : Past) × (p.history ≡ h) × Stands f p }
+{}
+
+/// Each kind of change keeps what is known of the snapshots, those that are gone among them.
+pub fn past_law()
+    ensures { (me : Actor) (f after : Files) (p q : Past) → Stands f p → Advances me f p after q → Stands after q }
+{
+    pm_model_contents::kept_law();
+    one_contents_law();
+}
+
+/// Where a snapshot is there and the one after it isn't, it is the newest.
+pub fn newest_law()
+    ensures { (f : Files) (s : TableSchema) (entries : List Entry) (id : ℕ) → Folder f (table s entries)
+        → HasSnapshotAt f s id → id + 1 ≤ greatest → map.get f (snapshot_path (id + 1)) ≡ None
+        → id ≡ length entries }
+{}
+
+/// That no snapshot names a file of an actor stays so, whatever other actors do, and where it commits nothing itself.
+pub fn unnamed_law()
+    ensures others { (me other : Actor) (f after : Files) (p q : Past) → Stands f p → Advances other f p after q
+        → me ≢ other → HasNamedNone me p → HasNamedNone me q }
+    ensures own { (me : Actor) (f after : Files) (p q : Past) → Stands f p → Advances me f p after q
+        → count_of q.history ≡ count_of p.history → HasNamedNone me p → HasNamedNone me q }
+    // So no snapshot of the folder does.
+    ensures here { (me : Actor) (f : Files) (p : Past) (s : TableSchema) (id : ℕ) (path : List ℕ) → Stands f p
+        → IsTableOf s p.history → id ≤ greatest → HasNamedNone me p → Names f s id path → IsNamedBy me path → ⊥ }
+{
+    one_contents_law();
+    path_law();
+    same_law();
+    snapshot_law();
+}

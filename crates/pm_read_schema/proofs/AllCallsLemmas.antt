@@ -1,0 +1,197 @@
+-- All calls of a reader of a schema, and what they say where nobody else acts.
+use Rattle.std.proofs.Common.{◌≡◌, inl, inr, ℕ, ◌<◌, List, [], ◌∷◌, ◌++◌, codes, Option, None, Some, Result, Ok, Err, refl, sym, subst}
+use Rattle.std.specs.FinMap as map
+use Rattle.pm_base.specs.Faults.{Rose}
+use Rattle.pm_base.proofs.Laws.{AllByRecursion-push}
+use Rattle.pm_values.specs.declared.refusal.Refusal.{Refusal}
+use Rattle.pm_values.specs.declared.refusal.Refusal.TheVariants as refusals
+use Rattle.pm_store.specs.declared.answer.Answer.TheVariants as answers
+use Rattle.pm_store.specs.declared.call.Call.TheVariants as calls
+use Rattle.pm_store.specs.Files.{Files}
+use Rattle.pm_store.specs.Store.{StoreView, IsLater, at_first_own}
+use Rattle.pm_machine.specs.Trace.{Event, HasTrace, Traces}
+use Rattle.pm_machine.proofs.AloneLaws.{Traces-first}
+use Rattle.pm_machine.proofs.Facts.{HasTrace-acts, Traces-faulted, Traces-none}
+use Rattle.pm_model_history.specs.History.{History, IsTableOf}
+use Rattle.pm_schema.specs.declared.schema.TableSchema.{TableSchema}
+use Rattle.pm_model_folder.specs.Folder.{Folder}
+use Rattle.pm_model_folder.specs.Paths.{schema_folder, schema_path, snapshot_folder}
+use Rattle.pm_read_schema.specs.AllCalls.{DidRead, IsCaused, ReadsTables}
+use Rattle.pm_read_schema.specs.Meaning.{Knows, MayRefuse}
+use Rattle.pm_read_schema.specs.Reader.{schemas_call, schema_call, snapshots_call, calls_left, IsReady, Reaches}
+use Rattle.pm_read_schema.specs.Trace.{Names, listed_schemas, read_schema, listed_snapshots, Lists, Reads, Has, Looks, Misreads, LacksOrigin, MayEnd, at_first, at_schemas, at_schema, at_snapshots, IsFailed, in_schemas, in_schema, in_snapshots, Shows, Did, ReaderActed}
+use Rattle.pm_read_schema.specs.declared.phase.Phase.{Phase}
+use Rattle.pm_read_schema.specs.declared.phase.Phase.TheVariants as phases
+use Rattle.pm_read_schema.specs.declared.reader.SchemaStep.{SchemaStep}
+use Rattle.pm_read_schema.specs.declared.reader.SchemaStep.TheVariants as steps
+use Rattle.pm_read_schema.proofs.Facts.{list_effect, read_effect, own_schema, cause_at}
+use Rattle.pm_read_schema.proofs.StillLemmas.{IsStill, AreStill, IsTold, AreTold, told_last, stayed}
+
+-- ---- its calls change nothing
+
+pub list_still : (folder : List ℕ) → IsStill (calls.List folder)
+list_still folder = λ f effect. list_effect folder effect f
+
+pub read_still : (path : List ℕ) → IsStill (calls.Read path)
+read_still path = λ f effect. read_effect path effect f
+
+pub calls_more : (own : List Event) (event : Event) → AreStill own → IsStill event.call → AreStill (own ++ event ∷ [])
+calls_more own event still one = AllByRecursion-push (λ (event : Event). IsStill event.call) own event still one
+
+lists_calls : (id : ℕ) (own : List Event) → Lists id own → AreStill own
+lists_calls id own (names, newest, is) = subst AreStill (sym is) (list_still schema_folder, tt)
+
+reads_calls : (id : ℕ) (found : Option (List ℕ)) (own : List Event) → Reads id found own → AreStill own
+reads_calls id found own (earlier, lists, is) =
+    subst AreStill (sym is) (calls_more earlier (read_schema id found) (lists_calls id earlier lists) (read_still (schema_path id)))
+
+has_calls : (s : TableSchema) (own : List Event) → Has s own → AreStill own
+has_calls s own (id, bytes, reads, did) = reads_calls id (Some bytes) own did
+
+looks_calls : (s : TableSchema) (names : Names) (own : List Event) → Looks s names own → AreStill own
+looks_calls s names own (earlier, has, none, is) =
+    subst AreStill (sym is) (calls_more earlier (listed_snapshots names) (has_calls s earlier has) (list_still snapshot_folder))
+
+pub ready_calls : (s : TableSchema) (own : List Event) → Did (phases.Ready s) own → AreStill own
+ready_calls s own (inl (has, some)) = has_calls s own has
+ready_calls s own (inr (names, some, looks)) = looks_calls s names own looks
+
+-- there are some
+not_pushed : (own : List Event) (event : Event) → [] ≡ own ++ event ∷ [] → ⊥
+not_pushed [] event e = cc
+not_pushed (first ∷ own) event e = cc
+
+pub ready_some : (s : TableSchema) → Did (phases.Ready s) [] → ⊥
+ready_some s (inl ((id, bytes, reads, (earlier, lists, is)), some)) = not_pushed earlier (read_schema id (Some bytes)) is
+ready_some s (inr (names, some, (earlier, has, none, is))) = not_pushed earlier (listed_snapshots names) is
+
+misreads_calls : (refusal : Refusal) (own : List Event) → Misreads refusal own → AreStill own
+misreads_calls refusal own (id, bytes, is, did) = reads_calls id (Some bytes) own did
+
+lacks_calls : (own : List Event) → LacksOrigin own → AreStill own
+lacks_calls own (s, names, none, looks) = looks_calls s names own looks
+
+ended_calls : (own : List Event) → MayEnd own → AreStill own
+ended_calls own (at_first is) = subst AreStill (sym is) tt
+ended_calls own (at_schemas id lists) = lists_calls id own lists
+ended_calls own (at_schema id found reads) = reads_calls id found own reads
+ended_calls own (at_snapshots lacks) = lacks_calls own lacks
+
+failed_calls : (path : List ℕ) (own : List Event) → IsFailed path own → AreStill own
+failed_calls path own (in_schemas at is) = subst AreStill (sym is) (list_still schema_folder, tt)
+failed_calls path own (in_schema id earlier lists at is) =
+    subst AreStill (sym is) (calls_more earlier _ (lists_calls id earlier lists) (read_still (schema_path id)))
+failed_calls path own (in_snapshots s earlier has none at is) =
+    subst AreStill (sym is) (calls_more earlier _ (has_calls s earlier has) (list_still snapshot_folder))
+
+pub shows_calls : (refusal : Refusal) (own : List Event) → Shows refusal own → AreStill own
+shows_calls refusals.Memory own shows = ended_calls own shows
+shows_calls refusals.NoTable own (names, none, is) = subst AreStill (sym is) (list_still schema_folder, tt)
+shows_calls (refusals.StoreFault path) own shows = failed_calls path own shows
+shows_calls (refusals.Damaged path place) own (inl (id, at, zero, did)) = reads_calls id None own did
+shows_calls (refusals.Damaged path place) own (inr misreads) = misreads_calls (refusals.Damaged path place) own misreads
+shows_calls (refusals.Unsupported what text) own (inl (what_is, text_is, lacks)) = lacks_calls own lacks
+shows_calls (refusals.Unsupported what text) own (inr misreads) = misreads_calls (refusals.Unsupported what text) own misreads
+shows_calls (refusals.Limit which number) own misreads = misreads_calls (refusals.Limit which number) own misreads
+shows_calls (refusals.SchemaRule rule) own misreads = misreads_calls (refusals.SchemaRule rule) own misreads
+shows_calls other own shows = absurd shows
+
+-- ---- what they say of the files that each answer is of
+
+lists_at : (f : Files) (h : History) (id : ℕ) (own : List Event) → Lists id own → AreTold f own → Knows (phases.Schema id) f h
+lists_at f h id own (names, newest, is) told =
+    let one : IsTold f (listed_schemas names) = (subst (AreTold f) is told).0 in
+    (newest.within, (one.exact _).0 newest.listed)
+
+reads_at : (f : Files) (h : History) (id : ℕ) (found : Option (List ℕ)) (own : List Event) → Reads id found own → AreTold f own
+    → Knows (phases.Schema id) f h × (found ≡ map.get f (schema_path id))
+reads_at f h id found own (earlier, lists, is) told =
+    let parts = told_last f earlier (read_schema id found) (subst (AreTold f) is told) in
+    (lists_at f h id earlier lists parts.0, parts.1)
+
+-- a fault of the store was counted
+pub failed_rose : (path : List ℕ) (own : List Event) (first after : StoreView) → IsFailed path own → Traces own first after
+    → Rose first.faults after.faults
+failed_rose path own first after (in_schemas at is) trace =
+    Traces-faulted [] schemas_call first after (subst (λ (own : List Event). Traces own first after) is trace)
+failed_rose path own first after (in_schema id earlier lists at is) trace =
+    Traces-faulted earlier (schema_call id) first after (subst (λ (own : List Event). Traces own first after) is trace)
+failed_rose path own first after (in_snapshots s earlier has none at is) trace =
+    Traces-faulted earlier snapshots_call first after (subst (λ (own : List Event). Traces own first after) is trace)
+
+module _ (f : Files) (h : History) (folder : Folder f h) where
+  has_at : (s : TableSchema) (own : List Event) → Has s own → AreTold f own → IsTableOf s h
+  has_at s own (id, bytes, reads, did) told =
+      let at = reads_at f h id (Some bytes) own did told in
+      own_schema f h id bytes s folder at.0 at.1 reads
+
+  pub ready_at : (s : TableSchema) (own : List Event) → Did (phases.Ready s) own → AreTold f own → IsTableOf s h
+  ready_at s own (inl (has, some)) told = has_at s own has told
+  ready_at s own (inr (names, some, (earlier, has, none, is))) told =
+      has_at s earlier has (told_last f earlier (listed_snapshots names) (subst (AreTold f) is told)).0
+
+  misreads_at : (refusal : Refusal) (own : List Event) → Misreads refusal own → AreTold f own → MayRefuse h refusal
+  misreads_at refusal own (id, bytes, is, did) told =
+      let at = reads_at f h id (Some bytes) own did told in
+      cause_at (phases.Schema id) (answers.Found (Some bytes)) refusal f h folder at.0 (inr is) at.1
+
+  lacks_at : (own : List Event) → LacksOrigin own → AreTold f own → ⊥
+  lacks_at own (s, names, none, (earlier, has, no_origin, is)) told =
+      let parts = told_last f earlier (listed_snapshots names) (subst (AreTold f) is told) in
+      cause_at (phases.Snapshots s) (answers.Listed names) (refusals.Unsupported (codes "origin") []) f h folder
+      (has_at s earlier has parts.0, no_origin) (inr refl, none) parts.1
+
+  absent_at : (id : ℕ) (own : List Event) → Reads id None own → AreTold f own → ⊥
+  absent_at id own did told =
+      let at = reads_at f h id None own did told in
+      cause_at (phases.Schema id) (answers.Found None) (refusals.Damaged (schema_path id) 0) f h folder at.0 (inr refl) at.1
+
+  pub shows_at : (first after : StoreView) (refusal : Refusal) (own : List Event) → Shows refusal own → AreTold f own → Traces own first after
+      → IsCaused h first after refusal
+  shows_at first after refusals.Memory own shows told trace = tt
+  shows_at first after refusals.NoTable own (names, none, is) told trace =
+      cause_at phases.Schemas (answers.Listed names) refusals.NoTable f h folder tt (refl, none) (subst (AreTold f) is told).0
+  shows_at first after (refusals.StoreFault path) own shows told trace = failed_rose path own first after shows trace
+  shows_at first after (refusals.Damaged path place) own (inl (id, at, zero, did)) told trace = absent_at id own did told
+  shows_at first after (refusals.Damaged path place) own (inr misreads) told trace = misreads_at (refusals.Damaged path place) own misreads told
+  shows_at first after (refusals.Unsupported what text) own (inl (what_is, text_is, lacks)) told trace = lacks_at own lacks told
+  shows_at first after (refusals.Unsupported what text) own (inr misreads) told trace = misreads_at (refusals.Unsupported what text) own misreads told
+  shows_at first after (refusals.Limit which number) own misreads told trace = misreads_at (refusals.Limit which number) own misreads told
+  shows_at first after (refusals.SchemaRule rule) own misreads told trace = misreads_at (refusals.SchemaRule rule) own misreads told
+  shows_at first after other own shows told trace = absurd shows
+
+-- ---- all calls
+
+pub read_history : (result : Result TableSchema Refusal) (before after : StoreView) → HasTrace (DidRead result) before after
+    → ReadsTables before after result
+read_history (Ok s) before after (own, did, trace) = λ alone f h has folder.
+    let first = at_first_own before after in
+    let stay = stayed f own first after (ready_calls s own did) (Traces-first own before after trace) alone has in
+    record { files = stay.0; schema = ready_at f h folder s own did stay.1; cause = tt }
+read_history (Err refusal) before after (own, shows, trace) = λ alone f h has folder.
+    let first = at_first_own before after in
+    let rest = Traces-first own before after trace in
+    let stay = stayed f own first after (shows_calls refusal own shows) rest alone has in
+    record { files = stay.0; schema = tt; cause = shows_at f h folder first after refusal own shows stay.1 rest }
+
+-- ---- steps in a row
+
+pub begun : (store : StoreView) → HasTrace (Did phases.Schemas) store store
+begun store = ([], refl, Traces-none store)
+
+pub went_further : (old new : Phase) (first before after : StoreView) (step : SchemaStep) → HasTrace (Did old) first before
+    → ReaderActed old new before after (Ok step) → IsLater before after → HasTrace (Did new) first after
+went_further old new first before after step trace acted later =
+    let t = HasTrace-acts {did = Did old} {before = before} trace acted later in
+    (t.0, t.1.0, t.2)
+
+pub was_refused : (old new : Phase) (first before after : StoreView) (refusal : Refusal) → HasTrace (Did old) first before
+    → ReaderActed old new before after (Err refusal) → IsLater before after → HasTrace (DidRead (Err refusal)) first after
+was_refused old new first before after refusal trace acted later =
+    let t = HasTrace-acts {did = Did old} {before = before} trace acted later in
+    (t.0, t.1.1, t.2)
+
+-- a step that went on leaves a call, or the schema is ready
+pub call_left : (step : SchemaStep) (m : Phase) → Reaches step m → ¬ IsReady m → 0 < calls_left m
+call_left steps.More m reaches not = reaches
+call_left steps.Ready m reaches not = absurd (not reaches)

@@ -1,0 +1,42 @@
+//! All calls of a reader, one after another.
+
+ghost use Rattle.std.specs.Prelude.{IfOk};
+ghost use Rattle.pm_machine.specs.Trace.{HasTrace};
+ghost use Rattle.pm_schema.specs.Again.{IsDeclared};
+ghost use Rattle.pm_store.specs.Store.{IsLater};
+ghost use Rattle.pm_read_schema.specs.AllCalls.{DidRead, ReadsTables};
+
+use crate::reader::SchemaReader;
+use pm_schema::TableSchema;
+use pm_store::FileStore;
+use pm_values::Refusal;
+use std::alloc::Global;
+
+/// Reads the schema of a table: all calls of a reader, one after another.
+pub fn read_table_schema<F: FileStore>(alloc: Global, store: &mut F) -> Result<TableSchema, Refusal>
+    ensures trace { HasTrace (DidRead result) (F.seen store.old) (F.seen store.new) }
+    ensures history { ReadsTables (F.seen store.old) (F.seen store.new) result }
+    ensures declared { IfOk result IsDeclared }
+    ensures later { IsLater (F.seen store.old) (F.seen store.new) }
+{
+    make_calls(alloc, store)
+}
+
+/// Makes the calls up to the schema, or those up to a refusal.
+fn make_calls<F: FileStore>(alloc: Global, store: &mut F) -> Result<TableSchema, Refusal>
+    ensures trace { HasTrace (DidRead result) (F.seen store.old) (F.seen store.new) }
+    ensures declared { IfOk result IsDeclared }
+    ensures later { IsLater (F.seen store.old) (F.seen store.new) }
+{
+    let mut reader = SchemaReader::new();
+    while !reader.is_ready() {
+        match reader.step(alloc, store) {
+            Ok(_) => {}
+            Err(refusal) => {
+                drop(reader);
+                return Err(refusal);
+            }
+        }
+    }
+    Ok(reader.into_schema())
+}

@@ -1,0 +1,172 @@
+//! A reader of a schema as a machine.
+
+ghost use Rattle.std.specs.Prelude.{◌≡◌, ◌⊎◌, [], codes, IfOk, IfErr, IsSomeAnd};
+ghost use Rattle.pm_model_folder.specs.Paths.{schema_path};
+ghost use Rattle.pm_schema.specs.Again.{IsDeclared};
+ghost use Rattle.pm_store.specs.Answers.{MayAnswer};
+ghost use Rattle.pm_store.specs.declared.answer.Answer.TheVariants as answers;
+ghost use Rattle.pm_values.specs.declared.refusal.Refusal.TheVariants as refusals;
+ghost use Rattle.pm_read_schema.specs.Reader.{next_call, with_origin, Goes, HasDeclared, Shown};
+ghost use Rattle.pm_read_schema.specs.declared.phase.Phase.TheVariants as phases;
+
+use crate::names::{lists_snapshot, newest_schema, schema_path};
+use crate::phase::Phase;
+use crate::reader::SchemaReader;
+use pm_base::{Blob, Txt};
+use pm_machine::{Machine, Meaning};
+use pm_schema::{TableSchema, declared_law, schema_law};
+use pm_schema_file::read_schema;
+use pm_store::{Answer, Call};
+use pm_values::Refusal;
+use std::alloc::{AllocError, Global};
+use std::mem;
+
+impl Machine for SchemaReader {
+    ghost use Rattle.pm_read_schema.specs.Reader.{next_call, Goes, Refuses, Stops};
+
+    ghost call_of = { next_call };
+
+    ghost goes = { Goes };
+
+    ghost refuses = { Refuses };
+
+    ghost stops = { Stops };
+
+    fn call(&self, alloc: Global) -> Result<Option<Call>, AllocError> {
+        match &self.phase {
+            Phase::Schemas => Ok(Some(Call::list(alloc, "schema")?)),
+            Phase::Schema { id } => Ok(Some(Call::Read {
+                path: schema_path(alloc, *id)?,
+            })),
+            Phase::Snapshots { .. } => Ok(Some(Call::list(alloc, "snapshot")?)),
+            Phase::Ready { .. } | Phase::Over => Ok(None),
+        }
+    }
+
+    fn take(&mut self, alloc: Global, answer: Answer) -> Result<(), Refusal> {
+        let phase = mem::replace(&mut self.phase, Phase::Over);
+        match next_phase(alloc, phase, answer) {
+            Ok(phase) => {
+                drop(mem::replace(&mut self.phase, phase));
+                Ok(())
+            }
+            Err(refusal) => Err(refusal),
+        }
+    }
+
+    fn stop(&mut self) {
+        drop(mem::replace(&mut self.phase, Phase::Over));
+    }
+}
+
+/// The phase after an answer, or the refusal that it shows.
+fn next_phase(alloc: Global, phase: Phase, answer: Answer) -> Result<Phase, Refusal>
+    requires may { IsSomeAnd (next_call phase) (λ call. MayAnswer call answer) }
+    requires declared { HasDeclared phase }
+    ensures goes { IfOk result (Goes phase answer) }
+    ensures declared { IfOk result HasDeclared }
+    ensures refuses { IfErr result (Shown phase answer) }
+{
+    match (phase, answer) {
+        (Phase::Schemas, Answer::Listed(names)) => after_schemas(names),
+        (Phase::Schema { id }, Answer::Found(found)) => after_schema(alloc, id, found),
+        (Phase::Snapshots { schema }, Answer::Listed(names)) => {
+            after_snapshots(alloc, schema, names)
+        }
+        _ => unreachable!(),
+    }
+}
+
+/// The phase once the schemas were listed.
+fn after_schemas(names: Vec<Txt>) -> Result<Phase, Refusal>
+    ensures goes { IfOk result (Goes phases.Schemas (answers.Listed names)) }
+    ensures declared { IfOk result HasDeclared }
+    ensures refuses { IfErr result (Shown phases.Schemas (answers.Listed names)) }
+{
+    match newest_schema(names.as_slice()) {
+        Some(id) => Ok(Phase::Schema { id }),
+        None => Err(Refusal::NoTable),
+    }
+}
+
+/// The phase once this was found at the path of the schema with an id.
+fn after_schema(alloc: Global, id: u64, found: Option<Blob>) -> Result<Phase, Refusal>
+    ensures goes { IfOk result (Goes (phases.Schema id) (answers.Found found)) }
+    ensures declared { IfOk result HasDeclared }
+    ensures refuses { IfErr result (Shown (phases.Schema id) (answers.Found found)) }
+{
+    schema_law();
+    declared_law();
+    let path = match schema_path(alloc, id) {
+        Ok(path) => path,
+        Err(_) => return Err(Refusal::Memory),
+    };
+    let Some(bytes) = found else {
+        return Err(Refusal::Damaged { path, place: 0 });
+    };
+    match read_schema(alloc, path.as_str(), bytes.as_bytes()) {
+        Ok(schema) => Ok(with_origin(schema)),
+        Err(refusal) => Err(refusal),
+    }
+}
+
+/// The phase once this schema was read.
+fn with_origin(schema: TableSchema) -> Phase
+    requires { IsDeclared schema }
+    ensures phase { result ≡ with_origin schema.origin schema }
+    ensures declared { HasDeclared result }
+{
+    match schema.origin {
+        Some(_) => Phase::Ready { schema },
+        None => Phase::Snapshots { schema },
+    }
+}
+
+/// The phase once the snapshots of a table were listed whose schema names no origin.
+fn after_snapshots(alloc: Global, schema: TableSchema, names: Vec<Txt>) -> Result<Phase, Refusal>
+    requires { IsDeclared schema }
+    ensures goes { IfOk result (Goes (phases.Snapshots schema) (answers.Listed names)) }
+    ensures declared { IfOk result HasDeclared }
+    ensures refuses { IfErr result (Shown (phases.Snapshots schema) (answers.Listed names)) }
+{
+    if lists_snapshot(names.as_slice()) {
+        Ok(Phase::Ready { schema })
+    } else {
+        drop(schema);
+        Err(no_origin(alloc))
+    }
+}
+
+/// The refusal of a schema that names no origin, where no snapshot stands.
+fn no_origin(alloc: Global) -> Refusal
+    ensures { (result ≡ refusals.Memory) ⊎ (result ≡ refusals.Unsupported (codes "origin") []) }
+{
+    let Ok(what) = Txt::from_str(alloc, "origin") else {
+        return Refusal::Memory;
+    };
+    match Txt::from_str(alloc, "") {
+        Ok(text) => Refusal::Unsupported { what, text },
+        Err(_) => Refusal::Memory,
+    }
+}
+
+impl Meaning for SchemaReader {
+    ghost use Rattle.pm_read_schema.specs.Meaning.{Anything, Knows, Leaves};
+    ghost use Rattle.pm_read_schema.specs.Trace.{Did, Shows};
+    ghost use Rattle.pm_model_folder.specs.Folder as folders;
+    ghost use Rattle.pm_model_history.specs.History as histories;
+
+    ghost History = { histories.History };
+
+    ghost Folder = { folders.Folder };
+
+    ghost Change = { Leaves };
+
+    ghost knows = { Knows };
+
+    ghost others = { Anything };
+
+    ghost did = { Did };
+
+    ghost shows = { Shows };
+}

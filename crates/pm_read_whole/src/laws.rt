@@ -1,0 +1,47 @@
+//! Laws of readers of a whole view. Each holds with no call but of the laws of crates below.
+
+ghost use Rattle.std.specs.Prelude.{◌≡◌, Some};
+ghost use Rattle.pm_model_folder.specs.Changes.{Actor};
+ghost use Rattle.pm_model_folder.specs.Ledger.{Advances, Past, Stands};
+ghost use Rattle.pm_store.specs.Answers.{Answers};
+ghost use Rattle.pm_store.specs.declared.answer.Answer.{Answer};
+ghost use Rattle.pm_store.specs.declared.call.Call.{Call};
+ghost use Rattle.pm_store.specs.Files.{Files};
+ghost use Rattle.pm_store.specs.Images.{MayLeave};
+ghost use Rattle.pm_read_table.specs.Meaning.{IsKept};
+ghost use Rattle.pm_values.specs.declared.refusal.Refusal.{Refusal};
+ghost use Rattle.pm_read_whole.specs.Meaning.{AreNamed, Knows, MayRefuse};
+ghost use Rattle.pm_read_whole.specs.Whole.{next_call, paths_of, IsReady, IsWhole, Shown};
+ghost use Rattle.pm_read_whole.specs.declared.phase.Phase.{Phase};
+
+use pm_read_log::{log_causes_law, whole_law};
+
+/// What a reader knows stays true through each kind of change of every actor.
+pub fn known_law()
+    ensures { (m : Phase) (other : Actor) (f after : Files) (p q : Past) → Stands f p
+        → Advances other f p after q → Knows m f p → Knows m after q }
+{}
+
+/// Whatever others do between its calls, a folder that stands shows a reader no refusal but that memory ran out, or
+/// that the snapshot has gone. So E10 and E11 never come of such a folder.
+pub fn causes_law()
+    ensures { (m : Phase) (call : Call) (answer : Answer) (refusal : Refusal) (f : Files) (p : Past) → Stands f p
+        → IsWhole m → Knows m f p → next_call m ≡ Some call → Answers call answer f → Shown m answer refusal
+        → MayRefuse f p refusal }
+{
+    pm_read_table::causes_law();
+    log_causes_law();
+}
+
+/// The paths of a reader that is ready are exactly those that the snapshot named, as it stood.
+pub fn paths_law()
+    ensures { (m : Phase) (f : Files) (p : Past) → IsReady m → IsWhole m → Knows m f p → AreNamed p m (paths_of m) }
+{
+    whole_law();
+}
+
+/// Whatever a crash leaves of a reader's next call has the same content at each path.
+pub fn images_law()
+    ensures { (m : Phase) (call : Call) (f image : Files) (p : Past) → next_call m ≡ Some call
+        → MayLeave call f image → IsKept f p image p }
+{}

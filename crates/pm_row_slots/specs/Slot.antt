@@ -1,0 +1,20 @@
+-- The row of a place, and how those of two compare.
+use Rattle.std.specs.Prelude.{◌≡◌, Bool, true, false, Option, None, Some}
+use Rattle.std.specs.declared.cmp.Ordering.{Ordering}
+use Rattle.std.specs.declared.cmp.Ordering.TheVariants.{Less, Greater}
+use Rattle.pm_values.specs.Order.{key_cmp}
+use Rattle.pm_values.specs.declared.record.Stamped.{Stamped}
+use Rattle.pm_row_slots.specs.Seen.{seen_row}
+use Rattle.pm_row_slots.specs.declared.slot.SeenRow.{SeenRow}
+
+-- the row of a place, by whether it lies in bytes
+abbrev pub row_in : Bool → SeenRow → Option Stamped → Option Stamped
+row_in true seen own = Some (seen_row seen)
+row_in false seen own = own
+
+-- the order of two rows by their keys, where one that isn't there is as if above all
+abbrev pub OrdersFirst : Option Stamped → Option Stamped → Option Ordering → Type 0
+OrdersFirst (Some a) (Some b) order = order ≡ Some (key_cmp a.key b.key)
+OrdersFirst (Some a) None order = order ≡ Some Less
+OrdersFirst None (Some b) order = order ≡ Some Greater
+OrdersFirst None None order = order ≡ None

@@ -1,5 +1,0 @@
-use Rattle.pm_table_view.proofs.Facts.{images}
-use Rattle.pm_table_view.proofs.laws.images_law.Goals as goal
-
-pub returns : goal.returns
-returns c = images

@@ -1,5 +1,0 @@
-use Rattle.std.proofs.Common.{◌≡◌, ◌++◌, drop}
-use Rattle.pm_table_view.proofs.live.append_copies.Given as goal
-
-abbrev pub invariant-loop-entry : goal.invariant-loop-entry
-invariant-loop-entry l = l.kept.items ++ drop l.entry-index l.entries ≡ l.fn.kept.items ++ l.entries

@@ -1,5 +1,0 @@
-use Rattle.pm_view.proofs.Facts.{knows_still}
-use Rattle.pm_view.proofs.laws.known_law.Goals as goal
-
-pub returns : goal.returns
-returns c = knows_still

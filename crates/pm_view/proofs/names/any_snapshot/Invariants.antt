@@ -1,7 +1,0 @@
-use Rattle.std.proofs.Common.{◌≡◌, drop}
-use Rattle.std.specs.List.{list_any}
-use Rattle.pm_view.specs.Names.{names_snapshot}
-use Rattle.pm_view.proofs.names.any_snapshot.Given as goal
-
-abbrev pub invariant-loop-name : goal.invariant-loop-name
-invariant-loop-name l = list_any names_snapshot (drop l.name-index l.names) ≡ list_any names_snapshot l.names

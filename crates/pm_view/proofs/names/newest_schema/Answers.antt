@@ -1,8 +1,0 @@
-use Rattle.pm_view.proofs.NameLemmas.{newest_is}
-use Rattle.pm_view.proofs.names.newest_schema.Goals as goal
-
-pub returns-clause-found : goal.returns-clause-found
-returns-clause-found c = rw c.newest_from.ensures ((newest_is c.args.names.now).0)
-
-pub returns-clause-other : goal.returns-clause-other
-returns-clause-other c = rw c.newest_from.ensures ((newest_is c.args.names.now).1)

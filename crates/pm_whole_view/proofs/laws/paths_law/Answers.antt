@@ -1,5 +1,0 @@
-use Rattle.pm_whole_view.proofs.CauseLemmas.{are_named}
-use Rattle.pm_whole_view.proofs.laws.paths_law.Goals as goal
-
-pub returns : goal.returns
-returns c = are_named c.whole_law.ensures
