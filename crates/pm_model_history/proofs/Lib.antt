@@ -1,3 +1,2 @@
 mod MergeLemmas
 mod MergedLemmas
-mod TableLemmas

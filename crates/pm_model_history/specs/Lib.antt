@@ -2,5 +2,4 @@ pub mod ColumnValue
 pub mod History
 pub mod Merge
 pub mod Merged
-pub mod Table
 pub mod Taken

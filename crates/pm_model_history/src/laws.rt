@@ -1,20 +1,13 @@
 //! What holds of all merged tables.
 
-ghost use Rattle.std.specs.Prelude.{◌≡◌, ℕ, List};
+ghost use Rattle.std.specs.Prelude.{◌≡◌, List};
 ghost use Rattle.std.specs.FinMap.{get};
 ghost use Rattle.pm_schema.specs.declared.schema.TableSchema.{TableSchema};
-ghost use Rattle.pm_values.specs.declared.column.Column.{Column};
 ghost use Rattle.pm_values.specs.Order.{Values};
-ghost use Rattle.pm_model_history.specs.Merge.{HistoryRow, merged_row, merged};
+ghost use Rattle.pm_model_history.specs.Merge.{HistoryRow};
 ghost use Rattle.pm_model_history.specs.Merged.{merged_row as row_in, merged as table_of};
 
-/// The merged table has at each key the row that its definition says of the key's rows.
-pub fn merged_law()
-    ensures { (columns : List Column) (primary : List ℕ) (rows : List HistoryRow) (key : Values)
-        → get (merged columns primary rows) key ≡ merged_row columns primary rows key }
-{}
-
-/// So has that of a schema, whatever the engine.
+/// The merged table has at each key the row that its definition says of the key's rows, whatever the engine.
 pub fn merged_table_law()
     ensures { (s : TableSchema) (rows : List HistoryRow) (key : Values)
         → get (table_of s rows) key ≡ row_in s rows key }
