@@ -3,6 +3,8 @@
 ghost use Rattle.std.specs.Prelude.{◌≡◌, ◌<◌, ◌≤◌, ◌%◌, ◌^◌, length};
 ghost use Rattle.pm_binrow.specs.Hashing.{bucket_of, finished, folded, hash_of, mixed, scrambled};
 
+use crate::fixed::read_word;
+
 /// The hash of a row's body, which takes words of four bytes.
 #[tactic(auto, unfolding(crate::specs::Hashing::hash_of))]
 pub fn hash(body: &[u8]) -> i32
@@ -12,7 +14,7 @@ pub fn hash(body: &[u8]) -> i32
     let mut hash = 42;
     let mut rest = body;
     while let Some((word, after)) = rest.split_first_chunk::<4>() {
-        hash = mixed(hash, u32::from_le_bytes(*word));
+        hash = mixed(hash, read_word(word));
         rest = after;
     }
     finished(hash ^ (body.len() % 0x1_0000_0000) as u32).cast_signed()

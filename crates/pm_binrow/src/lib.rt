@@ -11,6 +11,7 @@
 #![tactic(auto)]
 
 mod fault;
+mod fixed;
 mod hashing;
 mod laws;
 mod null_bytes;

@@ -7,6 +7,7 @@ ghost use Rattle.pm_binrow.specs.Answer.{Answers};
 ghost use Rattle.pm_binrow.specs.Reading.{Yields, body_in, cell_in, cells_in, day_in, row_in, some_in, value_in, whole_in};
 
 use crate::fault::BinFault;
+use crate::fixed::{read_count, read_slot};
 use crate::null_bytes::{are_null_bytes, is_marked, null_count};
 use crate::text::{is_zero, read_text};
 use crate::writing::{LIMIT, fixed_size};
@@ -43,7 +44,7 @@ fn read_row(alloc: Global, types: &[ColType], bytes: &[u8]) -> Result<Vec<Value>
     let Some((count, body)) = bytes.split_first_chunk::<4>() else {
         return Err(BinFault::Bad);
     };
-    if u32::from_be_bytes(*count) as usize != types.len() {
+    if read_count(count) as usize != types.len() {
         return Err(BinFault::Bad);
     }
     read_body(alloc, types, body)
@@ -151,7 +152,7 @@ fn read_some<'a>(
             Ok((Value::Bytes(Blob::from_slice(alloc, bytes)?), later))
         }
         _ => {
-            let value = value_in(kind, u64::from_le_bytes(*slot)).ok_or(BinFault::Bad)?;
+            let value = value_in(kind, read_slot(slot)).ok_or(BinFault::Bad)?;
             Ok((value, tails))
         }
     }

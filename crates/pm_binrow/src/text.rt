@@ -4,6 +4,7 @@ ghost use Rattle.std.specs.Prelude.{◌≡◌, ◌++◌, ◌+◌, ◌≤◌, ◌
 ghost use Rattle.pm_binrow.specs.Row.{padded, text_slot, text_tail, zeros};
 ghost use Rattle.pm_binrow.specs.Reading.{is_zero, long_in, short_in, text_in};
 
+use crate::fixed::{push_word, read_word};
 use std::alloc::AllocError;
 
 /// How many bytes stand in a slot of a text at most.
@@ -39,8 +40,8 @@ pub(crate) fn push_text_slot(
     ensures { OnOk result (out.new.items ≡ out.old.items ++ text_slot offset text.now) }
 {
     if text.len() > SHORT {
-        out.extend_from_slice(&(text.len() as u32).to_le_bytes())?;
-        out.extend_from_slice(&(offset as u32).to_le_bytes())
+        push_word(out, text.len() as u32)?;
+        push_word(out, offset as u32)
     } else {
         out.extend_from_slice(text)?;
         push_zeros(out, SHORT - text.len())?;
@@ -136,7 +137,7 @@ pub(crate) fn read_text<'a>(
     }
     let (length, rest) = slot.split_first_chunk::<4>()?;
     let (offset, _) = rest.split_first_chunk::<4>()?;
-    let length = u32::from_le_bytes(*length) as usize;
-    let offset = u32::from_le_bytes(*offset) as usize;
+    let length = read_word(length) as usize;
+    let offset = read_word(offset) as usize;
     read_long(size, length, offset, tails)
 }

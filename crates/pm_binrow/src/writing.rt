@@ -1,10 +1,10 @@
 //! Writing a row.
 
 ghost use Rattle.std.specs.Prelude.{◌≡◌, ◌++◌, ◌+◌, ◌*◌, ◌%◌, ◌≤◌, ◌<◌, ◌^◌, ℕ, length, take, IfOk, OnOk};
-ghost use Rattle.std.specs.Int.{w64, to_le_bytes};
 ghost use Rattle.std.specs.List.{flat_map};
 ghost use Rattle.pm_binrow.specs.Row.{IsShort, bytes_of, cut, filled, fixed_size, row_bytes, slot, slots, tail};
 
+use crate::fixed::{push_count, push_number};
 use crate::null_bytes::{null_count, push_null_bytes};
 use crate::text::{push_text_slot, push_text_tail, push_zeros, tail_size};
 use pm_values::{ColType, Row, Value};
@@ -54,7 +54,7 @@ fn write_row(alloc: Global, types: &[ColType], values: &[Value]) -> Result<Vec<u
 {
     let size = row_size(values)?;
     let mut out = Vec::with_capacity(alloc, size)?;
-    out.extend_from_slice(&(types.len() as u32).to_be_bytes())?;
+    push_count(&mut out, types.len() as u32)?;
     push_null_bytes(&mut out, values)?;
     push_slots(&mut out, fixed_size(types.len()), types, values)?;
     push_tails(&mut out, values)?;
@@ -142,13 +142,6 @@ fn push_slot(
         Value::Text(text) => push_text_slot(out, offset, text.as_bytes()),
         Value::Bytes(bytes) => push_text_slot(out, offset, bytes.as_bytes()),
     }
-}
-
-/// Adds a number in eight bytes, lowest first.
-fn push_number(out: &mut Vec<u8>, number: u64) -> Result<(), AllocError>
-    ensures { OnOk result (out.new.items ≡ out.old.items ++ to_le_bytes w64 number) }
-{
-    out.extend_from_slice(&number.to_le_bytes())
 }
 
 /// A number, cut to the bits of a type.

@@ -10,7 +10,7 @@ use Rattle.pm_binrow.proofs.hashing.hash.Goals as goal
 pub loop-word-preserved : goal.loop-word-preserved
 loop-word-preserved c =
     let cases = c.in-Some.ensures.cases in
-    rw (c.mixed-hash.ensures, c.from_le_bytes.ensures)
+    rw (c.mixed-hash.ensures, c.read_word.ensures)
     (taken c.loop-word.hash c.loop-word.rest.now c.in-Some.word.now c.in-Some.after.now _ (omega (arith, cases.2)) cases.0 cases.1 c.loop-word.invariant)
 
 pub returns : goal.returns
