@@ -25,7 +25,7 @@ use Rattle.pm_model_history.specs.declared.verdict.Verdict.TheVariants as by_ind
 use Rattle.pm_rows.specs.Reading.{Fault, row_of}
 use Rattle.pm_input.specs.Limits.{limits}
 use Rattle.pm_input.specs.Lines.{row_lines}
-use Rattle.pm_input.specs.Rows.{faulty_column}
+use Rattle.pm_input.specs.Rows.{faulty_column, judged, refusal_in, row_at}
 use Rattle.pm_schema.specs.declared.schema.TableSchema.{TableSchema}
 use Rattle.pm_snapshot.specs.Names.{MayName, greatest}
 use Rattle.pm_snapshot.specs.declared.snapshot.Snapshot.{Snapshot}
@@ -42,7 +42,7 @@ use Rattle.pm_create.specs.Making.{LeavesFiles}
 use Rattle.pm_read_schema.specs.AllCalls.{DidRead, HasFiles, Stay, ReadsTables}
 use Rattle.pm_draft.specs.Built.{IsBuilt, unbuilt}
 use Rattle.pm_write.specs.Batch.{Groups, IsBatchOf, ReadsBatch}
-use Rattle.pm_write.specs.Taken.{all_taken, judged, no_room, refusal_in, row_at, taken_at, taken_by, taken_in, taken_of}
+use Rattle.pm_write.specs.Taken.{all_taken, no_room, taken_at, taken_by, taken_in, taken_of}
 use Rattle.pm_commit.specs.AllCalls as commit
 use Rattle.pm_commit.specs.AllCalls.{AppendsTables, DidAppend, HasBorne, MayBegin, MayStart, NamesNone}
 use Rattle.pm_commit.specs.Alone.{Beginning, GivesReason, IsUnchanged, WasUsed, with_entry}

@@ -3,4 +3,3 @@ mod InputLemmas
 mod JudgeLemmas
 mod LawLemmas
 mod LimitLemmas
-mod RowLemmas

@@ -1,8 +1,8 @@
-//! A command's input: its lines within the limits, and its rows.
+//! A command's input: its lines within the limits, and the row of each.
 //!
 //! The definitions stand in `specs/Limits.antt` (the limits, and which is exceeded first), `specs/Lines.antt`
 //! (the lines that aren't blank), `specs/Refusals.antt` (the refusal of an input that wasn't read) and
-//! `specs/Rows.antt` (the rows, or the first bad line).
+//! `specs/Rows.antt` (the row of a line, or the refusal of a bad one).
 #![tactic(auto)]
 
 mod blank;
@@ -13,8 +13,8 @@ mod lines;
 mod refusals;
 mod rows;
 
-pub use laws::{first_bad_line_law, limits_law};
+pub use laws::limits_law;
 pub use limits::{LIMITS, LimitKind, Limits};
 pub use lines::{InputFault, InputLine, read_lines};
 pub use refusals::refusal_of;
-pub use rows::read_rows;
+pub use rows::row_at;

@@ -1,36 +1,19 @@
-//! The rows of an input's lines.
+//! The row of an input's line.
 
-ghost use Rattle.std.specs.Prelude.{◌≡◌, IfOk, map};
-ghost use Rattle.pm_model_history.specs.Merge.{AllFit};
-ghost use Rattle.pm_rows.specs.Reading.{row_of};
+ghost use Rattle.std.specs.Prelude.{◌≡◌, IfOk};
+ghost use Rattle.pm_base.specs.Outcome.{Gives};
 ghost use Rattle.pm_values.specs.Fits.{Fits};
 ghost use Rattle.pm_input.specs.Lines.{line_view};
-ghost use Rattle.pm_input.specs.Rows.{faulty_column, rows_in, GivesRow, GivesRows};
+ghost use Rattle.pm_input.specs.Rows.{faulty_column, refusal_in, row_at};
 
 use crate::lines::InputLine;
 use pm_rows::{RowFault, read_row};
 use pm_values::{Column, Kind, Refusal, Row, Txt, Why};
 use std::alloc::{AllocError, Global};
 
-/// The rows of the lines, or the refusal of the first bad one, by its number.
-pub fn read_rows(
-    alloc: Global,
-    columns: &[Column],
-    lines: &[InputLine],
-) -> Result<Vec<(Kind, Row)>, Refusal>
-    ensures exact { GivesRows (λ rows. rows.items) result (rows_in columns.now (map line_view lines.now)) }
-    ensures fits { IfOk result (λ rows. AllFit columns.now rows.items) }
-{
-    let mut rows = Vec::new(alloc);
-    for line in lines {
-        rows.push(row_at(alloc, columns, line)?)?;
-    }
-    Ok(rows)
-}
-
-/// The row of a line.
-fn row_at(alloc: Global, columns: &[Column], line: &InputLine) -> Result<(Kind, Row), Refusal>
-    ensures exact { GivesRow result line.now.number columns.now (row_of columns.now line.now.bytes.items) }
+/// The kind and the row of a line, or the refusal of a bad one, by its number.
+pub fn row_at(alloc: Global, columns: &[Column], line: &InputLine) -> Result<(Kind, Row), Refusal>
+    ensures exact { Gives (λ row. row) refusal_in result (row_at columns.now (line_view line.now)) }
     ensures fits { IfOk result (λ row. Fits columns.now row.1) }
 {
     match read_row(alloc, columns, &line.bytes) {

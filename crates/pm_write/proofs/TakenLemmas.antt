@@ -8,9 +8,10 @@ use Rattle.pm_values.specs.declared.refusal.Refusal.{Refusal}
 use Rattle.pm_model_history.specs.Merge.{HistoryRow}
 use Rattle.pm_schema.specs.declared.schema.TableSchema.{TableSchema}
 use Rattle.pm_input.specs.Lines.{line_view}
+use Rattle.pm_input.specs.Rows.{refusal_in}
 use Rattle.pm_input.specs.declared.lines.InputLine.{InputLine}
 use Rattle.pm_run.specs.Writing.{CountFrom}
-use Rattle.pm_write.specs.Taken.{no_room, refusal_in, taken_at, taken_in, taken_of, with_taken}
+use Rattle.pm_write.specs.Taken.{no_room, taken_at, taken_in, taken_of, with_taken}
 
 -- what is taken of a line, and then of the later ones
 abbrev and_later : Result (List HistoryRow) Refusal → Result (List HistoryRow) Refusal → Result (List HistoryRow) Refusal

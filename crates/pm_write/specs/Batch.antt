@@ -18,7 +18,8 @@ use Rattle.pm_engine.specs.Covers.{CoversAll, IsKeyed, IsRising, Run}
 use Rattle.pm_engine.specs.OfSchema.{meaning_of}
 use Rattle.pm_engine.specs.Reducing.{HasGreatestNumbers, greatest_number}
 use Rattle.pm_model_following.specs.Groups.{rows_in}
-use Rattle.pm_write.specs.Taken.{refusal_in, stamped}
+use Rattle.pm_input.specs.Rows.{refusal_in}
+use Rattle.pm_write.specs.Taken.{stamped}
 
 -- the rows of a group: how many the table took, and the stored row of each key
 pub record GroupRows : Type 0 where

@@ -1,18 +1,16 @@
 -- What a table takes of the lines of a batch: the rows in their order, or the first refusal.
-use Rattle.std.specs.Prelude.{◌≡◌, ℕ, ◌-◌, ◌==◌, List, [], ◌∷◌, ◌++◌, Option, Some, None, Result, Ok, Err}
+use Rattle.std.specs.Prelude.{◌≡◌, ℕ, ◌-◌, ◌==◌, List, [], ◌∷◌, ◌++◌, Result, Ok, Err}
 use Rattle.std.specs.Prelude.{if◌then◌else◌}
 use Rattle.pm_base.specs.Outcome.{◌>>=◌}
-use Rattle.pm_values.specs.declared.column.Column.{Column}
 use Rattle.pm_values.specs.declared.record.Stamped.{Stamped}
 use Rattle.pm_values.specs.declared.refusal.Refusal.{Refusal}
 use Rattle.pm_values.specs.declared.refusal.Refusal.TheVariants as refusals
-use Rattle.pm_rows.specs.Reading.{Fault, row_of}
 use Rattle.pm_schema.specs.declared.schema.TableSchema.{TableSchema}
 use Rattle.pm_model_history.specs.Merge.{HistoryRow, key_of}
 use Rattle.pm_model_history.specs.Taken.{verdict}
 use Rattle.pm_model_history.specs.declared.verdict.Verdict.TheVariants as by_index
 use Rattle.pm_input.specs.Limits.{limits, limit_number, limit_text}
-use Rattle.pm_input.specs.Rows.{faulty_column}
+use Rattle.pm_input.specs.Rows.{row_at}
 use Rattle.pm_input.specs.declared.limits.LimitKind.TheVariants.{BatchRows}
 use Rattle.pm_engine.specs.Covers.{IsKeyed}
 use Rattle.pm_engine.specs.OfSchema.{meaning_of}
@@ -20,24 +18,9 @@ use Rattle.pm_engines.specs.Verdict.{verdict_on}
 use Rattle.pm_engines.specs.declared.verdict.Verdict.{Verdict}
 use Rattle.pm_engines.specs.declared.verdict.Verdict.TheVariants.{Take, Ignore, Refuse}
 
--- the refusal that a call answered; out of memory is none
-abbrev pub refusal_in : Refusal → Option Refusal
-refusal_in refusals.Memory = None
-refusal_in e = Some e
-
 -- the refusal of a line for which a batch has no room
 abbrev pub no_room : Refusal
 no_room = refusals.Limit (limit_text BatchRows) (limit_number limits BatchRows)
-
--- the row that a line of the number was read as, or the refusal of a bad line
-abbrev pub judged : List Column → ℕ → Result HistoryRow Fault → Result HistoryRow Refusal
-judged columns number (Ok row) = Ok row
-judged columns number (Err fault) =
-    Err (refusals.BadLine number fault.0 (faulty_column columns fault.0 fault.1))
-
--- the row of a numbered line
-abbrev pub row_at : List Column → ℕ × List ℕ → Result HistoryRow Refusal
-row_at columns line = judged columns line.0 (row_of columns line.1)
 
 -- what is taken of a line's row by the verdict on it: the row, or nothing where it has no effect
 abbrev pub taken_by : Verdict → ℕ → HistoryRow → Result (List HistoryRow) Refusal

@@ -3,22 +3,21 @@
 ghost use Rattle.std.specs.Prelude.{◌≡◌, [], ◌∷◌, ◌++◌, length, map, IfOk, OnOk, Ok};
 ghost use Rattle.std.specs.List.{AllByRecursion};
 ghost use Rattle.pm_base.specs.Outcome.{Gives};
-ghost use Rattle.pm_values.specs.Fits.{Fits};
 ghost use Rattle.pm_model_history.specs.Merged.{primary_of};
 ghost use Rattle.pm_input.specs.Lines.{line_view};
+ghost use Rattle.pm_input.specs.Rows.{refusal_in};
 ghost use Rattle.pm_engine.specs.Covers.{row_of};
 ghost use Rattle.pm_engines.specs.TableEngine.{schema_of};
 ghost use Rattle.pm_run.specs.Writing.{CountFrom};
-ghost use Rattle.pm_write.specs.Taken.{all_taken, no_room, refusal_in, row_at, taken_by, taken_of};
+ghost use Rattle.pm_write.specs.Taken.{all_taken, no_room, taken_by, taken_of};
 ghost use Rattle.pm_write.specs.Taken.{IsTakenRow, stamped, with_taken};
 
 use pm_engines::{TableEngine, Verdict};
 use pm_model_history::{key_of, primary_of};
-use pm_input::{InputLine, LIMITS, LimitKind, read_rows};
+use pm_input::{InputLine, LIMITS, LimitKind, row_at};
 use pm_schema::TableSchema;
-use pm_values::{Column, Kind, Refusal, Row, Stamped, Txt};
+use pm_values::{Kind, Refusal, Row, Stamped, Txt};
 use std::alloc::{AllocError, Global};
-use std::slice;
 
 /// The rows that the table takes of the lines, with their keys, their numbers counted from 0.
 pub(crate) fn taken_rows(
@@ -74,7 +73,7 @@ fn take_line(
         → AllByRecursion (IsTakenRow schema.now) rows.new.items) }
     ensures numbers { OnOk result (CountFrom 0 rows.old.items → CountFrom 0 rows.new.items) }
 {
-    let (kind, row) = read_line(alloc, schema.columns.as_slice(), line)?;
+    let (kind, row) = row_at(alloc, schema.columns.as_slice(), line)?;
     match engine.verdict(alloc, kind)? {
         Verdict::Take => Ok(keep(alloc, primary, rows, kind, row)?),
         Verdict::Ignore => Ok(()),
@@ -82,18 +81,6 @@ fn take_line(
             line: line.number,
             column,
         }),
-    }
-}
-
-/// The kind and the row of a line.
-fn read_line(alloc: Global, columns: &[Column], line: &InputLine) -> Result<(Kind, Row), Refusal>
-    ensures exact { Gives (λ row. row) refusal_in result (row_at columns.now (line_view line.now)) }
-    ensures fits { IfOk result (λ row. Fits columns.now row.1) }
-{
-    let mut rows = read_rows(alloc, columns, slice::from_ref(line))?;
-    match rows.pop() {
-        Some(row) => Ok(row),
-        None => unreachable!(),
     }
 }
 
