@@ -10,4 +10,4 @@
 mod row_writer;
 mod writer;
 
-pub use writer::{write_changes, write_run};
+pub use writer::{write_changes, write_data, write_run};

@@ -14,7 +14,8 @@ ghost use Rattle.pm_run.specs.Order.{are_in_order};
 ghost use Rattle.pm_run.specs.Row.{IsOfFile, row_data};
 ghost use Rattle.pm_run.specs.Rows.{HasRows};
 ghost use Rattle.pm_run.specs.Writing.{AreFilesOf, AreRising, CountFrom, HasOwnKey, IsFileWith, IsMetaOf, IsRun};
-ghost use Rattle.pm_run.specs.Writing.{bytes_of, changes_prefix, first_sequence, greatest_of, least_of, suffix};
+ghost use Rattle.pm_run.specs.Writing.{bytes_of, changes_prefix, data_prefix, first_sequence, greatest_of};
+ghost use Rattle.pm_run.specs.Writing.{least_of, suffix};
 
 use crate::row_writer::row_records;
 use pm_avro_file::whole_file_law;
@@ -58,6 +59,35 @@ pub fn write_run(
     let files = writer.write_files(alloc, rows, limit, level, names)?;
     whole_file_law();
     Ok(files)
+}
+
+/// The one data file of rows by rising key, of a table of the schema, at a level. The only refusal is out of memory, as
+/// for `write_run`.
+pub fn write_data(
+    alloc: Global,
+    schema: &TableSchema,
+    rows: &[Stamped],
+    level: u32,
+    names: &mut Names,
+) -> Result<RunFile, Refusal>
+    requires some { 1 ≤ length rows.now }
+    requires rising { AreRising rows.now }
+    requires count { names.old.count < 2 ^ 62 }
+    ensures file { IfOk result (λ f.
+        IsFileWith schema.now level names.old.session (name_of data_prefix suffix names.old) rows.now f) }
+    // What is written of rows that data files can have has these rows.
+    ensures again { IfOk result (λ f. AllByRecursion (IsOfFile schema.now false) rows.now
+        → HasRows schema.now false f.bytes rows.now) }
+    ensures names { names.new ≡ record names.old { count = names.new.count } }
+    ensures taken { IfOk result (λ f. names.new.count ≡ names.old.count + 1) }
+    ensures counted { (names.old.count ≤ names.new.count) × (names.new.count ≤ names.old.count + 1) }
+    ensures memory { IfErr result (λ e. e ≡ Memory) }
+{
+    let writer = FileWriter::of(alloc, schema)?;
+    let name = names.take(alloc, "data-", ".avro")?;
+    let file = writer.write_file(alloc, rows, level, name, names.session())?;
+    whole_file_law();
+    Ok(file)
 }
 
 /// The file of a changelog of rows whose keys don't fall and whose sequence numbers count from 0, of a table of the

@@ -1,64 +1,20 @@
--- The one file of a run, and the files of groups.
+-- The files of groups.
 use Rattle.std.proofs.Common.{◌≡◌, ℕ, zero, suc, ◌+◌, ◌<◌, ◌≤◌, List, [], ◌∷◌, ◌++◌, length, map, drop, get_or, Bool, true, false, ◌||◌, refl, sym, ap, subst, ◌∙◌, append_assoc, append-nil, arith}
 use Rattle.std.specs.Prelude.{nat_lt}
 use Rattle.std.specs.BTreeMap.{BTreeMap}
-use Rattle.std.specs.List.{AllByRecursion}
 use Rattle.std.proofs.Math.ListN.{set}
 use Rattle.std.proofs.lemmas.Bool.Decides.{nat_tests}
-use Rattle.std.proofs.lemmas.List.{at_drop_more, drop_all, get_or-map, length-drop, length-map, length_push, map-set, set-get_or, take_all}
-use Rattle.pm_values.specs.Names.{Naming, counted, name_of, with_count}
+use Rattle.std.proofs.lemmas.List.{at_drop_more, drop_all, get_or-map, length-map, length_push, map-set, set-get_or}
+use Rattle.pm_values.specs.Names.{Naming, counted, with_count}
 use Rattle.pm_values.specs.declared.group.Group.{Group}
 use Rattle.pm_schema.specs.declared.schema.TableSchema.{TableSchema}
 use Rattle.pm_engine.specs.Covers.{Run}
-use Rattle.pm_run.specs.declared.run.RunFile.{RunFile}
-use Rattle.pm_run.specs.Row.{IsOfFile, most_sequence}
-use Rattle.pm_run.specs.Rows.{HasRows}
-use Rattle.pm_run.specs.Writing.{AreFilesOf, HaveRows, IsFileWith, IsRun, bytes_of, data_prefix, suffix}
+use Rattle.pm_run.specs.Row.{most_sequence}
 use Rattle.pm_write.specs.Batch.{Groups, numbered}
-use Rattle.pm_write.specs.Files.{AreFilesOfRuns, IsFileOfRun, IsNewFile, exceeds, exceeds_at, next_of, next_run}
+use Rattle.pm_write.specs.Files.{AreFilesOfRuns, IsNewFile, exceeds, exceeds_at, next_of, next_run}
 use Rattle.pm_write.specs.Held.{all_groups, group_rows}
 use Rattle.pm_write.specs.declared.files.NewFile.{NewFile}
 use Rattle.pm_write.specs.declared.held.HeldRows.{HeldRows}
-
--- all rows go into one file
-one_file : (s : TableSchema) (limit : ℕ) (names : Naming) (rows : Run) (files : List RunFile) → AreFilesOf s limit 0 names rows files → 1 ≤ length rows → length rows ≤ limit
-    → (f : RunFile) × (files ≡ f ∷ []) × IsFileWith s 0 names.session (name_of data_prefix suffix names) rows f
-one_file s limit names rows [] are some most = let none = ap length are in absurd (omega arith)
-one_file s limit names rows (f ∷ []) are some most =
-    (f, refl, subst (λ (xs : Run). IsFileWith s 0 names.session (name_of data_prefix suffix names) xs f) (take_all limit rows most) are.1)
-one_file s limit names rows (f ∷ g ∷ more) are some most = let later = are.2.0 in absurd (omega (arith, length-drop limit rows))
-
--- the rows of one file are those of its run
-rows_of_one : (s : TableSchema) (f : RunFile) (rows : Run) → IsRun s (bytes_of (f ∷ [])) rows → HasRows s false f.bytes rows
-rows_of_one s f rows run =
-    let have : HaveRows s (f.bytes ∷ []) rows = run.have in
-    let all : rows ≡ have.0 = have.2 ∙ ap (λ (later : Run). have.0 ++ later) have.4 ∙ append-nil have.0 in
-    subst (HasRows s false f.bytes) (sym all) have.3
-
-last_is : (before : List RunFile) (last f : RunFile) → before ++ last ∷ [] ≡ f ∷ [] → f ≡ last
-last_is [] last f e = cc
-last_is (x ∷ []) last f e = cc
-last_is (x ∷ y ∷ more) last f e = cc
-
--- the last of the files of a run that go into one
-pub last_file : (s : TableSchema) (names : Naming) (rows : Run) (files before : List RunFile) (last : RunFile) → AreFilesOf s (length rows) 0 names rows files → 1 ≤ length rows
-    → (AllByRecursion (IsOfFile s false) rows → IsRun s (bytes_of files) rows) → files ≡ before ++ last ∷ [] → IsFileOfRun s names rows last
-last_file s names rows files before last are some run ends =
-    let one = one_file s (length rows) names rows files are some (omega arith) in
-    let same : one.0 ≡ last = last_is before last one.0 (sym ends ∙ one.1) in
-    subst (IsFileOfRun s names rows) same
-    (record { made = one.2; again = λ each. rows_of_one s one.0 rows (subst (λ (fs : List RunFile). IsRun s (bytes_of fs) rows) one.1 (run each)) })
-
--- one name was taken
-pub one_name : (s : TableSchema) (old new : Naming) (rows : Run) (files : List RunFile) → AreFilesOf s (length rows) 0 old rows files → 1 ≤ length rows
-    → new ≡ with_count old.session old.actor old.base new.count → new.count ≡ old.count + length files → new ≡ counted old
-one_name s old new rows files are some same count =
-    let one = one_file s (length rows) old rows files are some (omega arith) in
-    let number = ap length one.1 in
-    let next : new.count ≡ old.count + 1 = omega arith in
-    same ∙ ap (with_count old.session old.actor old.base) next
-
--- ---- the files of groups
 
 -- one group that is counted anew is seen as it was
 pub kept_at : (groups : List HeldRows) (all : Groups) (i : ℕ) (d new : HeldRows) → all_groups groups ≡ all → group_rows new ≡ group_rows (get_or groups i d) → all_groups (set groups i new) ≡ all

@@ -3,17 +3,16 @@
 ghost use Rattle.std.specs.Prelude.{◌≡◌, ◌+◌, ◌<◌, ◌≤◌, ◌^◌, false, length, map, All, IfOk, IfErr, OnOk};
 ghost use Rattle.pm_values.specs.Names.{counted, name_of};
 ghost use Rattle.pm_values.specs.declared.refusal.Refusal.TheVariants.{Memory};
-ghost use Rattle.pm_engine.specs.Covers.{IsRising};
 ghost use Rattle.pm_run.specs.Row.{most_sequence};
 ghost use Rattle.pm_write.specs.Batch.{numbered};
-ghost use Rattle.pm_write.specs.Files.{next_of, exceeds, no_sequence, AreNewFiles, IsFileOfRun, IsNewFile};
+ghost use Rattle.pm_write.specs.Files.{next_of, exceeds, no_sequence, AreNewFiles, IsNewFile};
 ghost use Rattle.pm_write.specs.Held.{all_groups, group_rows, IsHeld};
 
 use crate::held::{HeldRows, count_from};
 use pm_run::RunFile;
-use pm_run_writer::write_run;
+use pm_run_writer::write_data;
 use pm_schema::TableSchema;
-use pm_values::{Blob, FileMeta, Group, Names, Refusal, Stamped, Txt};
+use pm_values::{Blob, FileMeta, Group, Names, Refusal, Txt};
 use std::alloc::{AllocError, Global};
 use std::collections::BTreeMap;
 
@@ -110,34 +109,11 @@ fn write_group(
 {
     count_from(held, first);
     let group = held.group.copy(alloc)?;
-    let RunFile { meta, bytes } = write_file(alloc, schema, &held.run, names)?;
+    let RunFile { meta, bytes } = write_data(alloc, schema, &held.run, 0, names)?;
     Ok(NewFile {
         group,
         meta,
         changelog: false,
         bytes,
     })
-}
-
-/// The file of a run.
-fn write_file(
-    alloc: Global,
-    schema: &TableSchema,
-    rows: &[Stamped],
-    names: &mut Names,
-) -> Result<RunFile, Refusal>
-    requires some { 1 ≤ length rows.now }
-    requires rising { IsRising rows.now }
-    requires count { names.old.count < 2 ^ 62 }
-    ensures file { IfOk result (IsFileOfRun schema.now names.old rows.now) }
-    ensures names { names.new ≡ record names.old { count = names.new.count } }
-    ensures counted { names.old.count ≤ names.new.count }
-    ensures taken { OnOk result (names.new ≡ counted names.old) }
-    ensures memory { IfErr result (λ e. e ≡ Memory) }
-{
-    let mut files = write_run(alloc, schema, rows, rows.len(), 0, names)?;
-    match files.pop() {
-        Some(file) => Ok(file),
-        None => unreachable!(),
-    }
 }

@@ -1,4 +1,5 @@
-use Rattle.std.proofs.Common.{subst, refl, ◌∙◌}
+use Rattle.std.proofs.Common.{ap, subst, refl, ◌∙◌}
+use Rattle.pm_values.specs.Names.{with_count}
 use Rattle.pm_engine.specs.Covers.{Run}
 use Rattle.pm_write.specs.Files.{IsFileOfRun}
 use Rattle.pm_write.proofs.files.write_group.Goals as goal
@@ -8,5 +9,12 @@ pub returns-clause-file : goal.returns-clause-file
 returns-clause-file c = record {
   own = c.in_ok-group.ensures ∙ c.count_from.ensures.group;
   no_changelog = refl;
-  file = subst (λ (rows : Run). IsFileOfRun c.args.schema.now c.args.names.now rows c.in_ok-meta.field-0) (c.deref.ensures.value ∙ c.count_from.ensures.run) c.in_ok-meta.ensures.file;
+  file = subst (λ (rows : Run). IsFileOfRun c.args.schema.now c.args.names.now rows c.in_ok-meta.field-0) (c.deref.ensures.value ∙ c.count_from.ensures.run)
+      (record { made = c.in_ok-meta.ensures.file; again = c.in_ok-meta.ensures.again });
 }
+
+-- one name was taken
+pub returns-clause-taken : goal.returns-clause-taken
+returns-clause-taken c =
+    let old = c.args.names.now in
+    c.in_ok-meta.ensures.names ∙ ap (with_count old.session old.actor old.base) c.in_ok-meta.ensures.taken
