@@ -1,7 +1,8 @@
 -- The paths of a table's files, each below the table's folder.
-use Rattle.std.specs.Prelude.{ℕ, List, ◌++◌, codes, decimal}
+use Rattle.std.specs.Prelude.{ℕ, List, ◌++◌, codes, decimal, Option, None, Some}
 use Rattle.pm_snapshot.specs.Names as names
 use Rattle.pm_schema.specs.Stated as schemas
+use Rattle.pm_schema.specs.declared.schema.TableSchema.{TableSchema}
 
 -- the folders of schemas and of snapshots
 abbrev pub schema_folder : List ℕ
@@ -25,6 +26,15 @@ snapshot_file name = codes "snapshot/" ++ name
 -- the snapshot with an id, from 1
 abbrev pub snapshot_path : ℕ → List ℕ
 snapshot_path id = snapshot_file (names.snapshot_name id)
+
+-- the name of a table's origin: the one that its schema names, or that of snapshot 0
+abbrev pub named_origin : Option (List ℕ) → List ℕ
+named_origin None = names.snapshot_name 0
+named_origin (Some name) = name
+
+-- the origin of the table with a schema
+abbrev pub origin_path : TableSchema → List ℕ
+origin_path s = snapshot_file (named_origin s.origin)
 
 -- the consumer of a name
 abbrev pub consumer_path : List ℕ → List ℕ

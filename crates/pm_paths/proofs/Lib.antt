@@ -1,0 +1,3 @@
+pub mod IdLemmas
+pub mod ListLemmas
+pub mod ListedLemmas
