@@ -2,7 +2,7 @@
 use Rattle.std.proofs.Common.{◌≡◌, ◌⊎◌, inl, inr, ◌↔◌, ℕ, ◌≤◌, List, [], ◌∷◌, Contains, codes, nat_lt, Bool, true, false, IsTrue, if◌then◌else◌, ◌||◌, Option, None, Some, IfSome, IfNone, refl, sym, ap, ◌∙◌, subst, arith}
 use Rattle.std.specs.List.{list_any}
 use Rattle.std.proofs.lemmas.Bool.Decides.{nat_tests}
-use Rattle.pm_read_schema.proofs.ListLemmas.{here, more, nowhere, cases}
+use Rattle.pm_paths.proofs.ListLemmas.{here, more, nowhere, cases}
 use Rattle.pm_snapshot.specs.Names.{greatest, id_in, snapshot_name}
 use Rattle.pm_snapshot.proofs.Facts.{number_is, id_is}
 use Rattle.pm_model_folder.specs.Paths.{schema_name}

@@ -9,11 +9,12 @@ ghost use Rattle.pm_values.specs.declared.refusal.Refusal.TheVariants as refusal
 ghost use Rattle.pm_read_schema.specs.Reader.{next_call, with_origin, Goes, HasDeclared, Shown};
 ghost use Rattle.pm_read_schema.specs.declared.phase.Phase.TheVariants as phases;
 
-use crate::names::{lists_snapshot, newest_schema, schema_path};
+use crate::names::{lists_snapshot, newest_schema};
 use crate::phase::Phase;
 use crate::reader::SchemaReader;
 use pm_base::{Blob, Txt};
 use pm_machine::{Machine, Meaning};
+use pm_paths::schema_path;
 use pm_schema::{TableSchema, declared_law, schema_law};
 use pm_schema_file::read_schema;
 use pm_store::{Answer, Call};

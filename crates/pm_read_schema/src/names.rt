@@ -1,14 +1,12 @@
 //! The names in the folders of schemas and of snapshots.
 
-ghost use Rattle.std.specs.Prelude.{◌≡◌, ◌↔◌, None, IfOk, IfSome, IfNone, IsTrue};
+ghost use Rattle.std.specs.Prelude.{◌≡◌, ◌↔◌, None, IfSome, IfNone, IsTrue};
 ghost use Rattle.std.specs.List.{list_any};
-ghost use Rattle.pm_model_folder.specs.Paths.{schema_path};
 ghost use Rattle.pm_read_schema.specs.Names.{greater, names_snapshot, newest_from, schema_id_in};
 ghost use Rattle.pm_read_schema.specs.Names.{HasNoSchema, HasSnapshot, IsNewest};
 
 use pm_base::Txt;
 use pm_snapshot::{id_of_name, number_after};
-use std::alloc::{AllocError, Global};
 
 /// The id in the name of a schema, and none in another name.
 #[tactic(auto, unfolding(crate::specs::Names::schema_id_in))]
@@ -16,14 +14,6 @@ pub fn schema_id_of_name(name: &[u8]) -> Option<u64>
     ensures { result ≡ schema_id_in name.now }
 {
     number_after(b"schema-", name)
-}
-
-/// The path of the schema with an id.
-pub(crate) fn schema_path(alloc: Global, id: u64) -> Result<Txt, AllocError>
-    ensures { IfOk result (λ path. path ≡ schema_path id) }
-{
-    let text = format!(in alloc; "schema/schema-{id}")?;
-    Txt::from_str(alloc, text.as_str())
 }
 
 /// The id of the newest schema that names list, or none where they list no schema.
