@@ -18,7 +18,9 @@ use Rattle.pm_snapshot.specs.declared.fault.SnapFault.TheVariants as faults
 use Rattle.pm_model_folder.specs.Folder.{Folder}
 use Rattle.pm_model_folder.specs.Meaning.{LeadsTo}
 use Rattle.pm_model_folder.specs.Paths.{snapshot_folder, snapshot_path}
-use Rattle.pm_model_folder.proofs.Facts.{snapshot-led, listed-snapshot, read-snapshot}
+use Rattle.pm_model_folder.proofs.Facts.{listed-snapshot, read-snapshot}
+use Rattle.pm_paths.specs.Ids.{AreIds}
+use Rattle.pm_paths.proofs.ListedLemmas.{ids_there}
 use Rattle.pm_read_schema.specs.AllCalls.{IsCaused}
 use Rattle.pm_read_schema.specs.Reader.{schemas_call, snapshots_call}
 use Rattle.pm_read_schema.specs.Trace.{Names, listed_snapshots}
@@ -26,7 +28,6 @@ use Rattle.pm_read_schema.proofs.AllCallsLemmas as reader
 use Rattle.pm_read_schema.proofs.AllCallsLemmas.{calls_more, list_still, read_still}
 use Rattle.pm_read_schema.proofs.StillLemmas.{AreStill, IsTold, AreTold, IsStill, told_last, stayed}
 use Rattle.pm_snapshots.specs.AllCalls.{AreIdsOf, AreLinesOf, GoesOnFrom, DidList, ListsTables}
-use Rattle.pm_snapshots.specs.Ids.{AreIds}
 use Rattle.pm_snapshots.specs.Lister.{snapshot_call, calls_left, lines_of, schema_at, IsDone, IsLister, KeepsSchema, Reaches}
 use Rattle.pm_snapshots.specs.Meaning.{IsLineAt}
 use Rattle.pm_snapshots.specs.Reading.{ReadingView, next_id}
@@ -135,11 +136,7 @@ module _ (f : Files) (h : History) (folder : Folder f h) where
   ids_at : (names : List (List ℕ)) (ids : List ℕ) → AreIds names ids → IsListing snapshot_folder names f → AreIdsOf f ids
   ids_at names ids are listing = record {
     rising = are.rising;
-    exact = λ id. (
-      λ has. (let bears = (are.exact id).0 has in
-          (bears.0, bears.1, listed-snapshot f h id folder bears.1 ((listing.exact (snapshot_name id)).0 bears.2))),
-      λ there. (are.exact id).1 (there.0, there.1, (listing.exact (snapshot_name id)).1 (snapshot-led f id there.1 there.2)),
-    );
+    exact = λ id. ids_there f h names ids id folder are listing;
   }
 
   listed_at : (s : TableSchema) (lines : List SnapshotLine) (own : List Event) → HasListed s lines own → AreTold f own

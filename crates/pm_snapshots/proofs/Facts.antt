@@ -31,6 +31,8 @@ use Rattle.pm_model_folder.specs.Folder.{Folder}
 use Rattle.pm_model_folder.specs.Meaning.{SnapshotAt}
 use Rattle.pm_model_folder.specs.Paths.{snapshot_folder, snapshot_path}
 use Rattle.pm_model_folder.proofs.Facts.{goes_on, stays}
+use Rattle.pm_paths.specs.Ids.{AreIds}
+use Rattle.pm_paths.proofs.IdLemmas.{ids_within}
 use Rattle.pm_read_schema.specs.Meaning as reader_meaning
 use Rattle.pm_read_schema.specs.Meaning.{AreKept}
 use Rattle.pm_read_schema.specs.Reader as reader
@@ -41,7 +43,6 @@ use Rattle.pm_read_schema.specs.declared.phase.Phase as schema_phase
 use Rattle.pm_read_schema.specs.declared.phase.Phase.TheVariants as readers
 use Rattle.pm_read_schema.proofs.Facts as reader_facts
 use Rattle.pm_read_schema.proofs.Facts.{kept_same, list_effect, read_effect, still_table}
-use Rattle.pm_snapshots.specs.Ids.{AreIds}
 use Rattle.pm_snapshots.specs.Lines.{line_of}
 use Rattle.pm_snapshots.specs.Lister.{snapshot_call, next_call, IsLister, calls_left, IsDone, lines_of, schema_at, KeepsSchema, after_reader, Goes, Shown, Refuses, Stops, Reaches, done_at, reached_at}
 use Rattle.pm_snapshots.specs.Meaning.{Leaves, IsLineAt, Knows}
@@ -50,7 +51,6 @@ use Rattle.pm_snapshots.specs.Trace.{read_snapshot, IsLineOf, HasRead, Meets, Ha
 use Rattle.pm_snapshots.specs.declared.line.SnapshotLine.{SnapshotLine}
 use Rattle.pm_snapshots.specs.declared.phase.Phase.{Phase}
 use Rattle.pm_snapshots.specs.declared.phase.Phase.TheVariants as phases
-use Rattle.pm_snapshots.proofs.IdLemmas.{ids_within}
 use Rattle.pm_snapshots.proofs.ReadingLemmas.{none_left, one_more, within_none}
 
 -- ---- its calls change nothing

@@ -11,11 +11,11 @@ use Rattle.pm_snapshot.specs.Snapshot.{snapshot_in}
 use Rattle.pm_snapshot.specs.declared.fault.SnapFault.TheVariants as faults
 use Rattle.pm_snapshot.specs.declared.snapshot.Snapshot.{Snapshot}
 use Rattle.pm_model_folder.specs.Paths.{snapshot_folder, snapshot_path}
+use Rattle.pm_paths.specs.Ids.{AreIds}
 use Rattle.pm_read_schema.specs.Reader.{snapshots_call}
 use Rattle.pm_read_schema.specs.Trace as reader
 use Rattle.pm_read_schema.specs.Trace.{Names, listed_snapshots}
 use Rattle.pm_read_schema.specs.declared.phase.Phase.TheVariants as readers
-use Rattle.pm_snapshots.specs.Ids.{AreIds}
 use Rattle.pm_snapshots.specs.Lines.{line_of}
 use Rattle.pm_snapshots.specs.Lister.{snapshot_call}
 use Rattle.pm_snapshots.specs.Reading.{ReadingView, IsReading, next_id}

@@ -9,13 +9,13 @@ ghost use Rattle.pm_snapshots.specs.Lister.{next_call, after_reader, Goes, GoesT
 ghost use Rattle.pm_snapshots.specs.Reading.{next_id};
 ghost use Rattle.pm_snapshots.specs.declared.phase.Phase.TheVariants as phases;
 
-use crate::ids::{ids_of, snapshot_path};
 use crate::line::line_of;
 use crate::lister::Lister;
 use crate::phase::Phase;
 use crate::reading::Reading;
 use pm_base::{Blob, Txt};
 use pm_machine::{Machine, Meaning};
+use pm_paths::{ids_of, snapshot_path};
 use pm_schema::TableSchema;
 use pm_snapshot::{SnapFault, read_snapshot};
 use pm_store::{Answer, Call};
