@@ -4,7 +4,6 @@ ghost use Rattle.std.specs.Prelude.{◌≡◌, ◌≤◌, ◌<◌, ◌^◌, ◌+
 ghost use Rattle.pm_values.specs.Names.{counted};
 ghost use Rattle.pm_values.specs.declared.refusal.Refusal.TheVariants.{Memory};
 ghost use Rattle.pm_manifest.specs.declared.entry.Entry.{Entry as EntryView};
-ghost use Rattle.pm_model_contents.specs.Lists.{manifest_path};
 ghost use Rattle.pm_append.specs.Files.{merges, AreLists, AreManifests, HasBase, IsNewList, IsNewManifest};
 ghost use Rattle.pm_append.specs.declared.newest.CommitFile.{CommitFile as FileView};
 
@@ -13,9 +12,10 @@ use crate::snapshot::ListNames;
 use pm_base::{Blob, Txt};
 use pm_manifest::{Entry, ManifestMeta};
 use pm_manifest_writer::{write_list, write_manifest};
+use pm_paths::manifest_path;
 use pm_schema::TableSchema;
 use pm_values::{Names, Refusal};
-use std::alloc::{AllocError, Global};
+use std::alloc::Global;
 
 /// A manifest that isn't in the store yet: what lists have of it, and its file.
 #[derive(Drop)]
@@ -109,14 +109,6 @@ pub(crate) fn new_list(
             bytes: Blob::new(bytes),
         },
     })
-}
-
-/// The path of a file in the folder of manifests.
-fn manifest_path(alloc: Global, name: &Txt) -> Result<Txt, AllocError>
-    ensures { IfOk result (λ path. path ≡ manifest_path name.now) }
-{
-    let path = format!(in alloc; "manifest/{}", name.as_str())?;
-    Txt::from_str(alloc, path.as_str())
 }
 
 /// The one manifest of all live entries that a base list names where manifests are merged, or none; its file goes to
