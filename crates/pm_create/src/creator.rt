@@ -9,10 +9,11 @@ ghost use Rattle.pm_model_folder.specs.Changes.{origin_name};
 ghost use Rattle.pm_schema.specs.Again.{IsDeclared};
 ghost use Rattle.pm_store.specs.Store.{IsLater};
 
-use crate::names::{origin_name, origin_path};
+use crate::names::origin_name;
 use crate::phase::Phase;
 use pm_base::Blob;
 use pm_machine::step;
+use pm_paths::snapshot_file;
 use pm_schema::{TableSchema, schema_law};
 use pm_schema_file::write_schema;
 use pm_store::FileStore;
@@ -74,7 +75,7 @@ impl Creator {
     {
         schema_law();
         let name = origin_name(alloc, session, actor)?;
-        let path = origin_path(alloc, &name)?;
+        let path = snapshot_file(alloc, &name)?;
         let bytes = match write_schema(alloc, &schema) {
             Ok(bytes) => Blob::new(bytes),
             Err(_) => return Err(AllocError),

@@ -3,7 +3,6 @@
 ghost use Rattle.std.specs.Prelude.{◌≡◌, IfOk};
 ghost use Rattle.pm_create.specs.Creator.{actor_of};
 ghost use Rattle.pm_model_folder.specs.Changes.{origin_name};
-ghost use Rattle.pm_model_folder.specs.Paths.{snapshot_file};
 
 use pm_base::Txt;
 use std::alloc::{AllocError, Global};
@@ -15,14 +14,5 @@ pub fn origin_name(alloc: Global, session: [u8; 16], actor: u32) -> Result<Txt, 
 {
     let session = Uuid::from_bytes(session);
     let text = format!(in alloc; "ORIGIN-{session}-{actor}")?;
-    Txt::from_str(alloc, text.as_str())
-}
-
-/// The path of the origin with a name.
-pub(crate) fn origin_path(alloc: Global, name: &Txt) -> Result<Txt, AllocError>
-    ensures { IfOk result (λ path. path ≡ snapshot_file name.now) }
-{
-    let name = name.as_str();
-    let text = format!(in alloc; "snapshot/{name}")?;
     Txt::from_str(alloc, text.as_str())
 }
