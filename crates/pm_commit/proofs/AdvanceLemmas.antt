@@ -17,7 +17,7 @@ use Rattle.pm_model_folder.specs.Paths.{snapshot_path}
 use Rattle.pm_model_folder.proofs.Facts.{same-or-other, some-none, split-last}
 use Rattle.pm_model_folder.proofs.HoldLemmas.{OneContents, one-commit}
 use Rattle.pm_model_folder.proofs.LedgerFacts.{at-table, count-is, is-table}
-use Rattle.pm_read_schema.proofs.ListLemmas.{cases, here, more, nowhere}
+use Rattle.pm_paths.proofs.ListLemmas.{cases, here, more, nowhere}
 use Rattle.pm_read_table.specs.Named.{named_paths, parts_of}
 use Rattle.pm_read_table.specs.View.{live_entries}
 use Rattle.pm_commit.proofs.PathLemmas.{InTable, names-in, not-schema, not-snapshot, same-id, snapshot-schema}

@@ -39,6 +39,7 @@ use Rattle.pm_read_table.specs.declared.phase.Phase as view_phase
 use Rattle.pm_read_table.specs.declared.phase.Phase.TheVariants as readers
 use Rattle.pm_read_table.specs.declared.view.View.{View}
 use Rattle.pm_read_table.proofs.Facts as reader_facts
+use Rattle.pm_read_table.proofs.FaultLemmas.{IsFileFault, file_fault}
 use Rattle.pm_commit.specs.Committer.{After, AfterReader, Hears, IsCommitter, Loses, Makes, Reads, Refuses, Tries, TriesIf, found_in, manifests_call, newest_of, next_call}
 use Rattle.pm_commit.specs.Meaning.{HasOrigin, IsDenied, IsFoundIn, Knows, KnowsIn, MayRefuse, MayRefuseOwn}
 use Rattle.pm_commit.specs.Own.{OwnView, begun, begun_after}
@@ -50,7 +51,6 @@ use Rattle.pm_commit.specs.declared.phase.Phase.{Phase}
 use Rattle.pm_commit.specs.declared.phase.Phase.TheVariants as phases
 use Rattle.pm_commit.proofs.Facts.{Laws}
 use Rattle.pm_commit.proofs.CommitterLemmas.{asked-same, err-ok, err-same}
-use Rattle.pm_commit.proofs.FaultLemmas.{IsFileFault, file_fault}
 use Rattle.pm_commit.proofs.OriginLemmas.{origin-on}
 use Rattle.pm_commit.proofs.ReadsLemmas.{reads-on}
 use Rattle.pm_commit.proofs.TraceLemmas.{IsReason, is-reason, some-at}

@@ -11,7 +11,6 @@ mod CommitterLemmas
 mod CreateLemmas
 mod Facts
 mod FailLemmas
-mod FaultLemmas
 mod FoundLemmas
 mod KnownLemmas
 mod MadeLemmas

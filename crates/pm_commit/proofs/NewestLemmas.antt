@@ -1,5 +1,5 @@
 -- The newest snapshot is there: a view's reader that is alone reads it, and the publish after it takes effect.
-use Rattle.std.proofs.Common.{◌≡◌, ◌⊎◌, inl, inr, ℕ, zero, suc, ◌+◌, ◌-◌, ◌≤◌, ◌==◌, nat_le, Bool, true, false, if◌then◌else◌, List, [], ◌∷◌, ◌++◌, length, Option, None, Some, IsSome, IsSomeAnd, IfSome, refl, sym, ap, ◌∙◌, subst, eqb-true, arith}
+use Rattle.std.proofs.Common.{◌≡◌, ◌⊎◌, inl, inr, ℕ, zero, suc, ◌+◌, ◌-◌, ◌≤◌, ◌==◌, nat_le, Bool, true, false, if◌then◌else◌, List, [], ◌∷◌, ◌++◌, Option, None, Some, IsSome, IsSomeAnd, IfSome, refl, sym, ap, ◌∙◌, subst, eqb-true, arith}
 use Rattle.std.specs.FinMap as map
 use Rattle.std.proofs.lemmas.Bool.Decides.{nat_tests}
 use Rattle.std.proofs.lemmas.Option.{IfSome_then}
@@ -12,9 +12,9 @@ use Rattle.pm_store.specs.declared.answer.Answer.TheVariants as answers
 use Rattle.pm_store.specs.declared.answer.Published.{Published}
 use Rattle.pm_store.specs.declared.answer.Published.TheVariants as published
 use Rattle.pm_machine.specs.Moves.{Leads}
-use Rattle.pm_model_history.specs.History.{Entry, IsTableOf}
+use Rattle.pm_model_history.specs.History.{IsTableOf}
 use Rattle.pm_schema.specs.declared.schema.TableSchema.{TableSchema}
-use Rattle.pm_snapshot.specs.Names.{greatest, snapshot_name}
+use Rattle.pm_snapshot.specs.Names.{greatest}
 use Rattle.pm_snapshot.specs.declared.snapshot.Snapshot.{Snapshot}
 use Rattle.pm_snapshot.proofs.Facts.{id_same}
 use Rattle.pm_manifest.specs.Entries.{entry_in, has_entry_fields}
@@ -25,30 +25,30 @@ use Rattle.pm_manifest.specs.declared.entry.Entry as files
 use Rattle.pm_manifest.specs.declared.entry.ManifestMeta.{ManifestMeta}
 use Rattle.pm_model_contents.specs.Groups.{Overlaps}
 use Rattle.pm_model_contents.specs.Lists.{manifest_path}
-use Rattle.pm_model_folder.specs.Folder.{HasTable}
 use Rattle.pm_model_folder.specs.Ledger.{Past, Stands, count_of}
 use Rattle.pm_model_folder.specs.Meaning.{HasSnapshotAt}
-use Rattle.pm_model_folder.specs.Paths.{snapshot_file, snapshot_folder, snapshot_path}
-use Rattle.pm_model_folder.proofs.Facts.{newest-there, snapshot-led, some-none}
+use Rattle.pm_model_folder.specs.Paths.{named_origin, origin_path, snapshot_file, snapshot_folder, snapshot_path}
+use Rattle.pm_model_folder.proofs.Facts.{newest-there, some-none}
 use Rattle.pm_model_folder.proofs.LedgerFacts.{at-table, count-is}
+use Rattle.pm_paths.specs.Ids.{IsLatest}
+use Rattle.pm_paths.proofs.ListedLemmas.{latest_is}
 use Rattle.pm_read_table.specs.Asked.{Asked, SoughtView, sought_of}
 use Rattle.pm_read_table.specs.Meaning as reader_meaning
 use Rattle.pm_read_table.specs.Meaning.{HasGone, IsExpired}
-use Rattle.pm_read_table.specs.Names.{IsLatest}
 use Rattle.pm_read_table.specs.Reader as reader
-use Rattle.pm_read_table.specs.Reader.{disorder, opening, origin_name, origin_path, overlap}
+use Rattle.pm_read_table.specs.Reader.{disorder, opening, overlap}
 use Rattle.pm_read_table.specs.Reading.{Filed}
 use Rattle.pm_read_table.specs.View.{kept_for}
 use Rattle.pm_read_table.specs.declared.phase.Phase as view_phase
 use Rattle.pm_read_table.specs.declared.phase.Phase.TheVariants as readers
 use Rattle.pm_read_table.proofs.Facts as reader_facts
 use Rattle.pm_read_table.proofs.Facts.{Joined, OneList}
+use Rattle.pm_read_table.proofs.FaultLemmas.{IsFileFault, file_fault}
 use Rattle.pm_commit.specs.Alone.{ReadsNewest}
 use Rattle.pm_commit.specs.Committer.{Reads, after_path, newest_of, publish_call}
 use Rattle.pm_commit.specs.Trace.{IsLost}
 use Rattle.pm_commit.specs.declared.making.Publishing.{Publishing}
 use Rattle.pm_commit.proofs.CommitterLemmas.{asked-same}
-use Rattle.pm_commit.proofs.FaultLemmas.{IsFileFault, file_fault}
 use Rattle.pm_commit.proofs.OriginLemmas.{asked-latest}
 
 -- ---- the newest snapshot is there
@@ -93,7 +93,7 @@ after-there f s zero there = at s.origin refl there
   where
     at : (o : Option (List ℕ)) → s.origin ≡ o → IsSomeAnd o (λ origin. IsSome (map.get f (snapshot_file origin))) → IsSome (map.get f (after_path s (0 + 1)))
     at None none is = absurd is
-    at (Some name) some is = subst (λ (o : Option (List ℕ)). IsSome (map.get f (snapshot_file (origin_name o)))) (sym some) is
+    at (Some name) some is = subst (λ (o : Option (List ℕ)). IsSome (map.get f (snapshot_file (named_origin o)))) (sym some) is
 after-there f s (suc k) there =
     subst (λ (path : List ℕ). IsSome (map.get f path)) (sym (at (nat_le (suc k + 1) 1) refl)) there
   where
@@ -116,30 +116,11 @@ never-lost f p x answer stands table is bound told lost =
 
 -- ---- a reader reads it
 
--- the latest that a listing has is the newest
-module _ (f : Files) (s : TableSchema) (entries : List Entry) (folder : HasTable f s entries) where
-  newest-listed : (n latest : ℕ) (names : List (List ℕ)) → n ≤ greatest → HasSnapshotAt f s n → IsLatest names latest → IsListing snapshot_folder names f → n ≤ latest
-  newest-listed zero latest names within there is listing = omega arith
-  newest-listed (suc n) latest names within there is listing =
-      is.most (suc n) within ((listing.exact (snapshot_name (suc n))).1 (snapshot-led f (suc n) within there))
-
-  latest-there : (latest : ℕ) (names : List (List ℕ)) → IsLatest names latest → IsListing snapshot_folder names f → latest ≤ length entries
-  latest-there zero names is listing = omega arith
-  latest-there (suc n) names is listing =
-      let led = (listing.exact (snapshot_name (suc n))).0 (is.listed (omega arith)) in
-      ((folder.snapshots.exact (suc n) is.within).0 (folder.names.snapshots (suc n) is.within led)).1
-
-  latest-is : (latest : ℕ) (names : List (List ℕ)) → IsLatest names latest → IsListing snapshot_folder names f → latest ≡ length entries
-  latest-is latest names is listing =
-      let up = latest-there latest names is listing in
-      let down = newest-listed (length entries) latest names folder.snapshots.within (newest-there f s entries folder) is listing in
-      omega (arith, up, down)
-
 listed-newest : (f : Files) (p : Past) (s : TableSchema) (latest : ℕ) (names : List (List ℕ)) → Stands f p → IsTableOf s p.history → IsLatest names latest
     → IsListing snapshot_folder names f → latest ≡ count_of p.history
 listed-newest f p s latest names stands is is_latest listing =
     let own = at-table f p s stands is in
-    latest-is f s own.0 own.2 latest names is_latest listing ∙ sym (count-is p s own.0 own.1)
+    latest_is f s own.0 own.2 latest names is_latest listing ∙ sym (count-is p s own.0 own.1)
 
 opening-newest : (n : ℕ) (q : SoughtView) (id : ℕ) (to : view_phase.Phase) → id ≡ n → to ≡ opening q id → ReadsNewest n to
 opening-newest n q id to same is = by_test (id == 0) refl is

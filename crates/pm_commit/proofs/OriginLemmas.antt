@@ -14,10 +14,10 @@ use Rattle.pm_model_folder.specs.Folder.{Folder}
 use Rattle.pm_model_folder.specs.Ledger.{Past, Stands}
 use Rattle.pm_model_folder.specs.Paths.{snapshot_folder}
 use Rattle.pm_model_folder.proofs.Facts.{snapshot-led, unnamed-origin}
+use Rattle.pm_paths.specs.Ids.{IsLatest}
 use Rattle.pm_read_table.specs.Asked.{Asked, SoughtView, sought_of}
 use Rattle.pm_read_table.specs.Meaning as meaning
 use Rattle.pm_read_table.specs.Meaning.{Stood}
-use Rattle.pm_read_table.specs.Names.{IsLatest}
 use Rattle.pm_read_table.specs.Reader as reader
 use Rattle.pm_read_table.specs.Reader.{IsAsked, opening}
 use Rattle.pm_read_table.specs.Reading.{Filed}

@@ -17,10 +17,9 @@ use Rattle.pm_model_folder.specs.Commits.{IsAppend, Names}
 use Rattle.pm_model_folder.specs.Folder.{Folder, HasTable}
 use Rattle.pm_model_folder.specs.Ledger.{Advances, HasNamedNone, IsKnown, KnowsTable, Past, Stands, count_of}
 use Rattle.pm_model_folder.specs.Meaning.{HasSnapshotAt}
-use Rattle.pm_model_folder.specs.Paths.{snapshot_file, snapshot_path}
+use Rattle.pm_model_folder.specs.Paths.{named_origin, origin_path, snapshot_file, snapshot_path}
 use Rattle.pm_model_folder.proofs.HoldLemmas.{OneContents}
 use Rattle.pm_model_folder.proofs.LedgerFacts.{at-table, count-is}
-use Rattle.pm_read_table.specs.Reader.{origin_name, origin_path}
 use Rattle.pm_read_table.specs.declared.view.View.{View}
 use Rattle.pm_write.specs.Batch.{Groups, IsBatchOf}
 use Rattle.pm_append.specs.Commit.{Attempt, HasAppended, IsAsMade, IsFoundAs, IsReady}
@@ -72,7 +71,7 @@ before-there f s zero origin there = at s.origin refl (origin refl)
     at None none is = absurd (let clash = is in cc)
     at (Some name) some is =
         let here : IsSome (map.get f (snapshot_file name)) =
-        subst (λ (o : Option (List ℕ)). IsSome (map.get f (snapshot_file (origin_name o)))) some there in
+        subst (λ (o : Option (List ℕ)). IsSome (map.get f (snapshot_file (named_origin o)))) some there in
         subst (λ (o : Option (List ℕ)). IsSomeAnd o (λ origin. IsSome (map.get f (snapshot_file origin)))) (sym some) here
 before-there f s (suc k) origin there =
     subst (λ (path : List ℕ). IsSome (map.get f path)) (at (nat_le (suc k + 1) 1) refl) there

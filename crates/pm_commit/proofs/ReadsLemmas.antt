@@ -15,8 +15,8 @@ use Rattle.pm_manifest.specs.declared.entry.Entry.{Entry}
 use Rattle.pm_manifest.specs.declared.entry.ManifestMeta.{ManifestMeta}
 use Rattle.pm_run.specs.Row.{most_sequence}
 use Rattle.pm_read_table.specs.Asked.{Asked, SoughtView, asked_of, sought_of}
-use Rattle.pm_read_schema.proofs.ListLemmas.{here, more}
-use Rattle.pm_read_table.specs.Names as listing
+use Rattle.pm_paths.proofs.ListLemmas.{here, more}
+use Rattle.pm_paths.specs.Ids as listing
 use Rattle.pm_read_table.specs.Reader as reader
 use Rattle.pm_read_table.specs.Reader.{opening}
 use Rattle.pm_read_table.specs.Reading.{Filed}

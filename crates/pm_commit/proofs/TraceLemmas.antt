@@ -18,9 +18,8 @@ use Rattle.pm_schema.specs.declared.schema.TableSchema.{TableSchema}
 use Rattle.pm_snapshot.specs.Snapshot.{snapshot_in}
 use Rattle.pm_snapshot.specs.declared.snapshot.Snapshot.{Snapshot}
 use Rattle.pm_model_contents.specs.Lists.{manifest_path}
-use Rattle.pm_model_folder.specs.Paths.{snapshot_folder, snapshot_path}
+use Rattle.pm_model_folder.specs.Paths.{origin_path, snapshot_folder, snapshot_path}
 use Rattle.pm_read_table.specs.Reader as reader
-use Rattle.pm_read_table.specs.Reader.{origin_path}
 use Rattle.pm_read_table.specs.Trace as reader_trace
 use Rattle.pm_read_table.specs.Trace.{of_origin, of_snapshot, read_file}
 use Rattle.pm_read_table.specs.declared.phase.Phase as view_phase

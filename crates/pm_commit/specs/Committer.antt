@@ -18,10 +18,10 @@ use Rattle.pm_snapshot.specs.declared.fault.SnapFault.TheVariants as faults
 use Rattle.pm_snapshot.specs.declared.snapshot.Snapshot.{Snapshot}
 use Rattle.pm_manifest.specs.declared.entry.Entry.{Entry}
 use Rattle.pm_run.specs.Row.{most_sequence}
-use Rattle.pm_model_folder.specs.Paths.{snapshot_path}
+use Rattle.pm_model_folder.specs.Paths.{origin_path, snapshot_path}
 use Rattle.pm_read_table.specs.Asked.{Asked, asked_of}
 use Rattle.pm_read_table.specs.Reader as reader
-use Rattle.pm_read_table.specs.Reader.{most, origin_path}
+use Rattle.pm_read_table.specs.Reader.{most}
 use Rattle.pm_read_table.specs.declared.asked.Wanted.TheVariants as wants
 use Rattle.pm_read_table.specs.declared.phase.Phase as view_phase
 use Rattle.pm_read_table.specs.declared.phase.Phase.TheVariants as readers

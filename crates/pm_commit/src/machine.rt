@@ -9,9 +9,10 @@ use crate::after::{after_create, after_names, after_publish, after_search, after
 use crate::committer::Committer;
 use crate::laws::committer_law;
 use crate::making::Publishing;
-use crate::paths::{after_path, snapshot_path};
+use crate::paths::after_path;
 use crate::phase::Phase;
 use pm_machine::Machine;
+use pm_paths::snapshot_path;
 use pm_store::{Answer, Call};
 use pm_values::Refusal;
 use std::alloc::{AllocError, Global};

@@ -2,10 +2,10 @@
 
 ghost use Rattle.std.specs.Prelude.{◌≡◌, ◌↔◌, IfOk, IsTrue};
 ghost use Rattle.std.specs.Str.Iter.{HasSubslice};
-ghost use Rattle.pm_model_contents.specs.Lists.{manifest_path};
 ghost use Rattle.pm_commit.specs.Marks.{mark_of, FindsUsed};
 
 use pm_base::Txt;
+use pm_paths::manifest_path;
 use pm_values::Names;
 use std::alloc::{AllocError, Global};
 use uuid::Uuid;
@@ -50,12 +50,4 @@ fn has_text(text: &str, part: &str) -> bool
     ensures { IsTrue result ↔ HasSubslice text.now part.now }
 {
     text.contains(part)
-}
-
-/// The path of a file in the folder of manifests.
-fn manifest_path(alloc: Global, name: &Txt) -> Result<Txt, AllocError>
-    ensures { IfOk result (λ path. path ≡ manifest_path name.now) }
-{
-    let path = format!(in alloc; "manifest/{}", name.as_str())?;
-    Txt::from_str(alloc, path.as_str())
 }

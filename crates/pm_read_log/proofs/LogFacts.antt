@@ -29,7 +29,7 @@ use Rattle.pm_model_folder.specs.Paths.{schema_path, snapshot_path}
 use Rattle.pm_model_folder.proofs.Facts.{goes_on}
 use Rattle.pm_model_folder.proofs.LedgerFacts.{gone-still, known-still}
 use Rattle.pm_read_schema.proofs.Facts.{read_effect}
-use Rattle.pm_read_schema.proofs.ListLemmas.{here}
+use Rattle.pm_paths.proofs.ListLemmas.{here}
 use Rattle.pm_manifest.specs.declared.entry.Entry.{Entry}
 use Rattle.pm_manifest.specs.declared.entry.ManifestMeta.{ManifestMeta}
 use Rattle.pm_model_contents.specs.Named.{Contents, HasContents, IsNamed, changelog_list, manifest}

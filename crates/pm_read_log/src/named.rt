@@ -10,9 +10,10 @@ use crate::log::Log;
 use pm_base::Txt;
 use pm_model_contents::data_path;
 use pm_manifest::{Entry, ManifestMeta};
+use pm_paths::manifest_path;
 use pm_schema::TableSchema;
 use pm_snapshot::Snapshot;
-use pm_read_table::{View, manifest_path};
+use pm_read_table::View;
 use std::alloc::{AllocError, Global};
 
 /// The paths that a snapshot names, by a view of it that has the entries of its live files, and by its changelog: of

@@ -1,6 +1,5 @@
 pub mod AllCallsLemmas
 pub mod Facts
 mod FaultLemmas
-pub mod ListLemmas
 mod NameLemmas
 pub mod StillLemmas

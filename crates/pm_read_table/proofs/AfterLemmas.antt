@@ -14,6 +14,7 @@ use Rattle.pm_snapshot.specs.Snapshot.{snapshot_in}
 use Rattle.pm_snapshot.specs.declared.fault.SnapFault.TheVariants as faults
 use Rattle.pm_snapshot.specs.declared.snapshot.Snapshot.{Snapshot}
 use Rattle.pm_model_folder.specs.Paths.{snapshot_path}
+use Rattle.pm_paths.specs.Ids.{AreIds, IsLatest}
 use Rattle.pm_manifest.specs.Entries.{IsEntry, entry_in, has_entry_fields}
 use Rattle.pm_manifest.specs.Listed.{has_meta_fields, meta_in}
 use Rattle.pm_manifest.specs.Shape.{Shape, shape_of}
@@ -25,7 +26,6 @@ use Rattle.pm_model_contents.specs.Lists.{manifest_path, none_live}
 use Rattle.pm_read_schema.specs.Trace.{Names}
 use Rattle.pm_read_table.specs.Asked.{Asked, SoughtView, sought_of}
 use Rattle.pm_read_table.specs.View.{HaveGroups}
-use Rattle.pm_read_table.specs.Names.{AreIds, IsLatest}
 use Rattle.pm_read_table.specs.Reader.{most, opening, IsAbove, IsAsked, IsListOf, IsManifestOf, MisreadsManifest, Goes, GoesOn, Starts, Takes, Shown, RefusesEntries, disorder, overlap}
 use Rattle.pm_read_table.specs.Reading.{Filed, ReadingView, live_of}
 use Rattle.pm_read_table.specs.View.{IsOriginView, IsSoughtBy, IsViewOf, has_entry, kept_for, live_entries}

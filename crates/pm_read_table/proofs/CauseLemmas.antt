@@ -32,13 +32,14 @@ use Rattle.pm_model_contents.specs.Runs.{AreFilesOf}
 use Rattle.pm_model_folder.specs.Commits.{IsCommitted, live_in}
 use Rattle.pm_model_folder.specs.Ledger.{Past, Stands, count_of}
 use Rattle.pm_model_folder.specs.Meaning.{HasSnapshotAt}
-use Rattle.pm_model_folder.specs.Paths.{snapshot_file, snapshot_folder, snapshot_path}
+use Rattle.pm_model_folder.specs.Paths.{named_origin, snapshot_file, snapshot_folder, snapshot_path}
 use Rattle.pm_model_folder.proofs.Facts.{snapshot-committed, some-none}
 use Rattle.pm_model_folder.proofs.LedgerFacts.{at-table}
+use Rattle.pm_paths.specs.Ids.{IsLatest}
+use Rattle.pm_paths.proofs.ListedLemmas.{latest_is}
 use Rattle.pm_read_table.specs.Asked.{Asked}
 use Rattle.pm_read_table.specs.Meaning.{IsReadingOf, Knows, MayRefuse, Stood}
-use Rattle.pm_read_table.specs.Names.{IsLatest}
-use Rattle.pm_read_table.specs.Reader.{origin_name, next_call, IsAbove, IsBad, MisreadsList, MisreadsManifest, RefusesEntries, Shown, disorder, overlap}
+use Rattle.pm_read_table.specs.Reader.{next_call, IsAbove, IsBad, MisreadsList, MisreadsManifest, RefusesEntries, Shown, disorder, overlap}
 use Rattle.pm_read_table.specs.Reading.{ReadingView, live_of}
 use Rattle.pm_read_table.specs.declared.asked.Wanted.{Wanted}
 use Rattle.pm_read_table.specs.declared.asked.Wanted.TheVariants as wants
@@ -46,7 +47,6 @@ use Rattle.pm_read_table.specs.declared.phase.Phase.{Phase}
 use Rattle.pm_read_table.specs.declared.phase.Phase.TheVariants as phases
 use Rattle.pm_read_table.proofs.Facts.{Joined, OneList, bytes_same, found_stood, leaves_more, next_named, one_list, one_snapshot, order_same, some_there, stood_contents}
 use Rattle.pm_read_table.proofs.FaultLemmas.{IsFileFault, file_fault}
-use Rattle.pm_read_table.proofs.ListedLemmas.{latest_is}
 use Rattle.pm_read_table.proofs.TwoLemmas.{first_in, two_in}
 
 -- what the laws of readings say of manifests, and of the files of a snapshot
@@ -219,7 +219,7 @@ list_cause f p a names latest id refusal stands table listing newest above is =
     let count : count_of p.history ≡ length own.0 = ap count_of own.1 in
     subst (MayRefuse f p) (sym is) (latest_is f a.schema own.0 own.2 latest names newest listing ∙ sym count, above_latest a.wanted latest id above)
 
-gone_origin : (f : Files) (o : Option (List ℕ)) → None ≡ map.get f (snapshot_file (origin_name o)) → IsSomeAnd o (λ origin. IsSome (map.get f (snapshot_file origin))) → ⊥
+gone_origin : (f : Files) (o : Option (List ℕ)) → None ≡ map.get f (snapshot_file (named_origin o)) → IsSomeAnd o (λ origin. IsSome (map.get f (snapshot_file origin))) → ⊥
 gone_origin f None none there = there
 gone_origin f (Some name) none there = some-none (map.get f (snapshot_file name)) there (sym none)
 

@@ -4,7 +4,7 @@ use Rattle.std.specs.List.{AllPairs, last_or}
 use Rattle.std.specs.Option.{option_map_or}
 use Rattle.std.proofs.lemmas.List.Elements.{All-contains_itself, All-weaker}
 use Rattle.std.proofs.lemmas.List.Kept.{AllPairs-cons}
-use Rattle.pm_read_schema.proofs.ListLemmas.{here, more, nowhere, cases}
+use Rattle.pm_paths.proofs.ListLemmas.{here, more, nowhere, cases}
 use Rattle.pm_manifest.specs.FileId.{id_eq, id_equiv}
 use Rattle.pm_manifest.specs.Live.{id_of, left_by, live_after, live_at}
 use Rattle.pm_manifest.specs.declared.entry.Entry.{Entry}

@@ -32,13 +32,15 @@ use Rattle.pm_model_folder.specs.Changes.{Actor}
 use Rattle.pm_model_folder.specs.Commits.{Needs}
 use Rattle.pm_model_folder.specs.Ledger.{Advances, IsKnown, Past, Stands, count_of}
 use Rattle.pm_model_folder.specs.Meaning.{SnapshotAt}
-use Rattle.pm_model_folder.specs.Paths.{schema_path, snapshot_folder, snapshot_path}
+use Rattle.pm_model_folder.specs.Paths.{origin_path, schema_path, snapshot_folder, snapshot_path}
 use Rattle.pm_model_folder.proofs.Facts.{goes_on}
 use Rattle.pm_model_folder.proofs.LedgerFacts.{at-table, stood-read, stood-same, stood-gone, known-still, gone-still}
+use Rattle.pm_paths.specs.Ids.{AreIds, IsLatest}
+use Rattle.pm_paths.proofs.ListedLemmas.{latest_is}
 use Rattle.pm_read_schema.specs.Reader.{snapshots_call}
 use Rattle.pm_read_schema.specs.Trace.{Names, listed_snapshots}
 use Rattle.pm_read_schema.proofs.Facts.{list_effect, read_effect, still_table}
-use Rattle.pm_read_schema.proofs.ListLemmas.{here}
+use Rattle.pm_paths.proofs.ListLemmas.{here}
 use Rattle.pm_manifest.specs.Live.{AreInOrder, Leaves, Live, live_after, live_at, id_of}
 use Rattle.pm_manifest.specs.declared.entry.Entry.{Entry}
 use Rattle.pm_manifest.specs.declared.entry.ManifestMeta.{ManifestMeta}
@@ -49,7 +51,7 @@ use Rattle.pm_manifest.specs.Listed.{has_meta_fields, meta_in}
 use Rattle.pm_model_contents.specs.Groups.{Overlaps}
 use Rattle.pm_model_contents.specs.Named.{Contents, HasContents, IsNamed, base_list, delta_list, manifest}
 use Rattle.pm_model_contents.specs.Lists.{HasEntries, HaveEntries, IsList, IsManifest, manifest_path, none_live}
-use Rattle.pm_read_table.specs.Reader.{origin_path, next_call, most, calls_left, opening, IsAsked, IsListOf, IsManifestOf, GoesOn, Goes, disorder, overlap, Shown, Refuses, Stops, Reaches, reached_at}
+use Rattle.pm_read_table.specs.Reader.{next_call, most, calls_left, opening, IsAsked, IsListOf, IsManifestOf, GoesOn, Goes, disorder, overlap, Shown, Refuses, Stops, Reaches, reached_at}
 use Rattle.pm_read_table.specs.Reading.{Filed, ReadingView, live_of}
 use Rattle.pm_read_table.specs.Meaning.{HasGone, IsKept, IsReadingOf, IsViewIn, view_origin, view_snapshot, Knows, KnowsSought, LeavesFiles, Stood}
 use Rattle.pm_read_table.specs.declared.asked.Wanted.{Wanted}
@@ -60,9 +62,8 @@ use Rattle.pm_read_table.specs.Asked.{Asked, ListsFirst, SoughtView, sought_of}
 use Rattle.pm_read_table.specs.declared.phase.Phase.{Phase}
 use Rattle.pm_read_table.specs.declared.phase.Phase.TheVariants as phases
 use Rattle.pm_read_table.specs.declared.view.View.{View}
-use Rattle.pm_read_table.specs.Names.{AreIds, IsLatest}
 use Rattle.pm_read_table.proofs.FaultLemmas.{IsFileFault, file_fault}
-use Rattle.pm_read_table.proofs.ListedLemmas.{latest_is, sought_at, sought_by, sought_new, sought_still}
+use Rattle.pm_read_table.proofs.ListedLemmas.{sought_at, sought_by, sought_new, sought_still}
 use Rattle.pm_read_table.proofs.LiveLemmas.{kept_join, kept_none}
 
 -- ---- its calls change nothing

@@ -15,7 +15,7 @@ IsFileFault (refusals.Damaged path place) = Unit {0}
 IsFileFault (refusals.Unsupported what text) = Unit {0}
 IsFileFault other = ⊥
 
-of_fault : (path : List ℕ) (fault : AvroFault) → IsFileFault (refusal_of path fault)
+pub of_fault : (path : List ℕ) (fault : AvroFault) → IsFileFault (refusal_of path fault)
 of_fault path faults.Memory = tt
 of_fault path (faults.Unsupported what text) = tt
 of_fault path (faults.Bad offset) = tt

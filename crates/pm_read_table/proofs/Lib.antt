@@ -5,6 +5,5 @@ pub mod Facts
 pub mod FaultLemmas
 pub mod ListedLemmas
 pub mod LiveLemmas
-mod NameLemmas
-mod TwoLemmas
+pub mod TwoLemmas
 pub mod NamedLemmas

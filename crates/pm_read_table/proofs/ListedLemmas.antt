@@ -1,53 +1,24 @@
--- The snapshots that a listing of a table's folder has.
-use Rattle.std.proofs.Common.{◌≡◌, ◌⊎◌, inl, inr, ◌↔◌, ℕ, zero, suc, ◌≤◌, List, Contains, length, Option, None, Some, IsSome, arith, ap, refl, sym, subst, length-append}
+-- What a reader knows of the snapshots that were listed.
+use Rattle.std.proofs.Common.{◌≡◌, ◌⊎◌, inl, inr, ℕ, zero, suc, ◌≤◌, List, Contains, length, Option, None, Some, IsSome, arith, ap, refl, sym, subst, length-append}
 use Rattle.std.specs.FinMap as map
 use Rattle.pm_store.specs.Files.{Files, IsListing}
-use Rattle.pm_model_history.specs.History.{Entry, GoesOn, History, IsTableOf, no_table, table}
+use Rattle.pm_model_history.specs.History.{GoesOn, History, IsTableOf, no_table, table}
 use Rattle.pm_schema.specs.declared.schema.TableSchema.{TableSchema}
-use Rattle.pm_snapshot.specs.Names.{greatest, snapshot_name}
-use Rattle.pm_model_folder.specs.Folder.{HasTable}
 use Rattle.pm_model_folder.specs.Changes.{Actor}
 use Rattle.pm_model_folder.specs.Ledger.{Advances, IsKnown, Past, Stands, count_of}
 use Rattle.pm_model_folder.specs.Meaning.{HasSnapshotAt}
 use Rattle.pm_model_folder.specs.Paths.{snapshot_folder, snapshot_path}
-use Rattle.pm_model_folder.proofs.Facts.{goes_on, newest-there, snapshot-led, some-none}
+use Rattle.pm_model_folder.proofs.Facts.{goes_on, some-none}
 use Rattle.pm_model_folder.proofs.LedgerFacts.{at-table, gone-still}
+use Rattle.pm_paths.specs.Ids.{AreIds, IsGreatestOf, IsLatest}
+use Rattle.pm_paths.proofs.ListedLemmas.{ids_there, latest_of_ids}
 use Rattle.pm_read_table.specs.Meaning.{IsFor, KnowsListed, KnowsSought}
-use Rattle.pm_read_table.specs.Names.{AreIds, IsGreatestOf, IsLatest}
 use Rattle.pm_read_table.specs.Reader.{IsAsked}
 use Rattle.pm_read_table.specs.View.{IsSoughtBy}
 use Rattle.pm_read_table.specs.Asked.{SoughtView}
 use Rattle.pm_read_table.specs.declared.asked.Wanted.{Wanted}
 use Rattle.pm_read_table.specs.declared.asked.Wanted.TheVariants as wants
 use Rattle.pm_read_table.specs.declared.view.View.{View}
-
-module _ (f : Files) (s : TableSchema) (entries : List Entry) (folder : HasTable f s entries) where
-  newest_listed : (n latest : ℕ) (names : List (List ℕ)) → n ≤ greatest → HasSnapshotAt f s n → IsLatest names latest → IsListing snapshot_folder names f → n ≤ latest
-  newest_listed zero latest names within there is listing = omega arith
-  newest_listed (suc n) latest names within there is listing =
-      is.most (suc n) within ((listing.exact (snapshot_name (suc n))).1 (snapshot-led f (suc n) within there))
-
-  latest_there : (latest : ℕ) (names : List (List ℕ)) → IsLatest names latest → IsListing snapshot_folder names f → latest ≤ length entries
-  latest_there zero names is listing = omega arith
-  latest_there (suc n) names is listing =
-      let led = (listing.exact (snapshot_name (suc n))).0 (is.listed (omega arith)) in
-      ((folder.snapshots.exact (suc n) is.within).0 (folder.names.snapshots (suc n) is.within led)).1
-
-  -- the latest that is listed is the newest
-  pub latest_is : (latest : ℕ) (names : List (List ℕ)) → IsLatest names latest → IsListing snapshot_folder names f → latest ≡ length entries
-  latest_is latest names is listing =
-      let up = latest_there latest names is listing in
-      let down = newest_listed (length entries) latest names folder.snapshots.within (newest-there f s entries folder) is listing in
-      omega (arith, up, down)
-
-  -- the ids that are listed are those of the snapshots that are there
-  pub ids_there : (names : List (List ℕ)) (ids : List ℕ) (id : ℕ) → AreIds names ids → IsListing snapshot_folder names f
-      → Contains ids id ↔ ((1 ≤ id) × (id ≤ greatest) × IsSome (map.get f (snapshot_path id)))
-  ids_there names ids id are listing = (
-    λ c. (let bears = (are.exact id).0 c in
-        (bears.0, bears.1, folder.names.snapshots id bears.1 ((listing.exact (snapshot_name id)).0 bears.2))),
-    λ there. (are.exact id).1 (there.0, there.1, (listing.exact (snapshot_name id)).1 (snapshot-led f id there.1 there.2)),
-  )
 
 -- a history that goes on has no fewer entries
 pub count_grows : (h later : History) → GoesOn h later → count_of h ≤ count_of later
@@ -57,13 +28,6 @@ count_grows (table s entries) (table t later) (same, more, is) =
     let size = ap length is in let both = length-append entries more in omega (arith, size, both)
 
 -- ---- what was listed
-
--- the latest that is listed is the greatest of the ids
-latest_of_ids : (names : List (List ℕ)) (ids : List ℕ) (latest : ℕ) → AreIds names ids → IsLatest names latest → IsGreatestOf ids latest
-latest_of_ids names ids latest are newest = record {
-  one = λ least. (are.exact latest).1 (least, newest.within, newest.listed least);
-  most = λ other c. (let bears = (are.exact other).0 c in newest.most other bears.1 bears.2);
-}
 
 asked_for : (w : Wanted) (names : List (List ℕ)) (ids : List ℕ) (latest id : ℕ) → AreIds names ids → IsLatest names latest → IsAsked w latest id → IsFor w ids id
 asked_for wants.Newest names ids latest id are newest is = subst (IsGreatestOf ids) (sym is) (latest_of_ids names ids latest are newest)
@@ -82,12 +46,12 @@ listed_new f p s names ids stands table_is are listing =
     let own = at-table f p s stands table_is in
     let count : count_of p.history ≡ length own.0 = ap count_of own.1 in
     let within = own.2.snapshots.within in record {
-      within = λ id c. (let there = (ids_there f s own.0 own.2 names ids id are listing).0 c in
+      within = λ id c. (let there = (ids_there f (table s own.0) names ids id own.2 are listing).0 c in
           let bounds = (own.2.snapshots.exact id there.1).0 (there_at f s id there.0 there.2) in
           let high = bounds.1 in
           (there.0, omega (arith, high, count)));
       all = λ id later known below c there. (let high = known.to in
-          (ids_there f s own.0 own.2 names ids id are listing).1 (known.after_origin, omega (arith, high, count, within), there));
+          (ids_there f (table s own.0) names ids id own.2 are listing).1 (known.after_origin, omega (arith, high, count, within), there));
     }
 
 pub sought_new : (f : Files) (p : Past) (s : TableSchema) (w : Wanted) (names : List (List ℕ)) (ids : List ℕ) (latest id : ℕ) → Stands f p → IsTableOf s p.history

@@ -1,7 +1,7 @@
 -- The paths that are listed of a snapshot are those that it names.
 use Rattle.std.proofs.Common.{◌≡◌, inl, inr, ◌↔◌, ℕ, List, [], ◌∷◌, ◌++◌, map, Contains, Option, None, Some, refl, sym, subst}
 use Rattle.std.proofs.lemmas.List.Elements.{Contains-append_cases, Contains-append_left, Contains-append_right}
-use Rattle.pm_read_schema.proofs.ListLemmas.{here, more, nowhere, cases}
+use Rattle.pm_paths.proofs.ListLemmas.{here, more, nowhere, cases}
 use Rattle.pm_schema.specs.declared.schema.TableSchema.{TableSchema}
 use Rattle.pm_snapshot.specs.declared.snapshot.Snapshot.{Snapshot}
 use Rattle.pm_manifest.specs.declared.entry.Entry.{Entry}

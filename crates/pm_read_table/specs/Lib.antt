@@ -1,6 +1,5 @@
 pub mod Asked
 pub mod Meaning
-pub mod Names
 pub mod Reader
 pub mod Reading
 pub mod Trace

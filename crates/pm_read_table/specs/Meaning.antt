@@ -13,11 +13,11 @@ use Rattle.pm_snapshot.specs.declared.snapshot.Snapshot.{Snapshot}
 use Rattle.pm_model_folder.specs.Ledger.{IsKnown, Past, Stands, count_of}
 use Rattle.pm_model_folder.specs.Meaning.{HasSnapshotAt, SnapshotAt}
 use Rattle.pm_model_folder.specs.Paths.{snapshot_path}
+use Rattle.pm_paths.specs.Ids.{IsGreatestOf}
 use Rattle.pm_manifest.specs.Live.{AreInOrder, Leaves, Live}
 use Rattle.pm_manifest.specs.declared.entry.Entry.{Entry}
 use Rattle.pm_manifest.specs.declared.entry.ManifestMeta.{ManifestMeta}
 use Rattle.pm_model_contents.specs.Lists.{HasEntries, HaveEntries, IsList, none_live}
-use Rattle.pm_read_table.specs.Names.{IsGreatestOf}
 use Rattle.pm_read_table.specs.Reading.{ReadingView, live_of}
 use Rattle.pm_read_table.specs.View.{IsOriginView, IsViewOf, kept_for}
 use Rattle.pm_read_table.specs.declared.asked.Wanted.{Wanted}

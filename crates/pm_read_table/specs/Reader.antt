@@ -11,11 +11,11 @@ use Rattle.pm_store.specs.declared.call.Call.TheVariants as calls
 use Rattle.pm_record.specs.File.{ReadsFile}
 use Rattle.pm_schema.specs.Again.{IsDeclared}
 use Rattle.pm_schema.specs.declared.schema.TableSchema.{TableSchema}
-use Rattle.pm_snapshot.specs.Names.{snapshot_name}
 use Rattle.pm_snapshot.specs.Snapshot.{snapshot_in}
 use Rattle.pm_snapshot.specs.declared.fault.SnapFault.TheVariants as faults
 use Rattle.pm_snapshot.specs.declared.snapshot.Snapshot.{Snapshot}
-use Rattle.pm_model_folder.specs.Paths.{schema_path, snapshot_file, snapshot_path}
+use Rattle.pm_model_folder.specs.Paths.{origin_path, schema_path, snapshot_path}
+use Rattle.pm_paths.specs.Ids.{AreIds, IsLatest}
 use Rattle.pm_read_schema.specs.Reader.{snapshots_call}
 use Rattle.pm_manifest.specs.Entries.{entry_in, has_entry_fields}
 use Rattle.pm_manifest.specs.Listed.{has_meta_fields, meta_in}
@@ -26,7 +26,6 @@ use Rattle.pm_manifest.specs.declared.entry.ManifestMeta.{ManifestMeta}
 use Rattle.pm_model_contents.specs.Groups.{Overlaps}
 use Rattle.pm_model_contents.specs.Lists.{manifest_path, none_live}
 use Rattle.pm_read_table.specs.View.{HaveGroups}
-use Rattle.pm_read_table.specs.Names.{AreIds, IsLatest}
 use Rattle.pm_read_table.specs.Reading.{Filed, ReadingView, live_of, reading_of}
 use Rattle.pm_read_table.specs.View.{HasFolders, IsOriginView, IsSoughtBy, IsViewOf, kept_for}
 use Rattle.pm_read_table.specs.Asked.{ListsFirst, SoughtView, sought_of}
@@ -39,14 +38,6 @@ use Rattle.pm_read_table.specs.declared.reader.ViewStep.TheVariants as steps
 use Rattle.pm_read_table.specs.declared.view.View.{View}
 
 -- ---- its calls
-
--- the name of the origin: the one that the schema has, or that of snapshot 0
-abbrev pub origin_name : Option (List ℕ) → List ℕ
-origin_name None = snapshot_name 0
-origin_name (Some name) = name
-
-abbrev pub origin_path : TableSchema → List ℕ
-origin_path s = snapshot_file (origin_name s.origin)
 
 -- its next call, or none at its end
 abbrev pub next_call : Phase → Option Call

@@ -10,7 +10,8 @@ use Rattle.pm_schema.specs.declared.schema.TableSchema.{TableSchema}
 use Rattle.pm_snapshot.specs.Snapshot.{snapshot_in}
 use Rattle.pm_snapshot.specs.declared.fault.SnapFault.TheVariants as faults
 use Rattle.pm_snapshot.specs.declared.snapshot.Snapshot.{Snapshot}
-use Rattle.pm_model_folder.specs.Paths.{schema_path, snapshot_folder, snapshot_path}
+use Rattle.pm_model_folder.specs.Paths.{origin_path, schema_path, snapshot_folder, snapshot_path}
+use Rattle.pm_paths.specs.Ids.{AreIds, IsLatest}
 use Rattle.pm_read_schema.specs.Reader.{snapshots_call}
 use Rattle.pm_read_schema.specs.Trace.{Names, listed_snapshots}
 use Rattle.pm_manifest.specs.Live.{AreInOrder, IsOutOfOrder, Leaves, Live}
@@ -18,8 +19,7 @@ use Rattle.pm_manifest.specs.declared.entry.Entry.{Entry}
 use Rattle.pm_manifest.specs.declared.entry.ManifestMeta.{ManifestMeta}
 use Rattle.pm_model_contents.specs.Groups.{Overlaps}
 use Rattle.pm_model_contents.specs.Lists.{manifest_path, none_live}
-use Rattle.pm_read_table.specs.Names.{AreIds, IsLatest}
-use Rattle.pm_read_table.specs.Reader.{origin_path, IsAsked, IsAbove, IsListOf, MisreadsList}
+use Rattle.pm_read_table.specs.Reader.{IsAsked, IsAbove, IsListOf, MisreadsList}
 use Rattle.pm_read_table.specs.Reader.{IsManifestOf, MisreadsManifest}
 use Rattle.pm_read_table.specs.Reading.{live_of}
 use Rattle.pm_read_table.specs.View.{IsOriginView, IsSoughtBy, IsViewOf, kept_for}

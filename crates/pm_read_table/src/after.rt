@@ -23,8 +23,6 @@ ghost use Rattle.pm_values.specs.declared.refusal.Refusal.TheVariants as refusal
 
 use crate::asked::{Asked, Sought, Wanted};
 use crate::live::{keep, live_entries};
-use crate::names::{ids_of, latest_of};
-use crate::paths::{manifest_path, schema_path, snapshot_path};
 use crate::phase::Phase;
 use crate::reading::Reading;
 use crate::view::View;
@@ -34,6 +32,7 @@ use pm_model_contents::{folder_law, group_levels, live_law};
 use pm_levels::Levels;
 use pm_manifest::{Entry, FileId, ManifestMeta, fold_entries, read_entry_law};
 use pm_manifest_reader::{read_list, read_manifest};
+use pm_paths::{ids_of, latest_of, manifest_path, schema_path, snapshot_path};
 use pm_snapshot::{SnapFault, Snapshot, read_snapshot};
 use pm_values::{Group, Refusal};
 use std::alloc::{AllocError, Global};

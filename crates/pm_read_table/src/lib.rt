@@ -7,11 +7,11 @@
 //! order in which they come. Snapshot 0 is the origin, a table without files. A file that the snapshot names and that
 //! is absent makes it read the snapshot again: where that is absent too it is expired, else the folder is damaged.
 //!
-//! `specs/Reader.antt` has the phases, the calls and what each answer leads to, `specs/Names.antt` which snapshots a
-//! listing has, and `specs/View.antt` what a view says of the live files; `specs/Meaning.antt` what a reader knows of
-//! the snapshots in each phase, what a step means for the files, and which refusals a folder that stands can show;
-//! `specs/Trace.antt` which calls it made, and which show a refusal; `specs/Named.antt` lists the paths that a snapshot
-//! names. `pm_read_log` reads the changelog of a snapshot.
+//! `specs/Reader.antt` has the phases, the calls and what each answer leads to, and `specs/View.antt` what a view says
+//! of the live files; `specs/Meaning.antt` what a reader knows of the snapshots in each phase, what a step means for
+//! the files, and which refusals a folder that stands can show; `specs/Trace.antt` which calls it made, and which show
+//! a refusal; `specs/Named.antt` lists the paths that a snapshot names. `pm_read_log` reads the changelog of a
+//! snapshot.
 #![tactic(auto)]
 
 mod after;
@@ -19,8 +19,6 @@ mod asked;
 mod laws;
 mod live;
 mod machine;
-mod names;
-mod paths;
 mod phase;
 mod reader;
 mod reading;
@@ -31,7 +29,6 @@ pub use asked::{Asked, Sought, Wanted};
 pub use laws::{
     absent_law, causes_law, entries_law, images_law, known_law, listed_law, named_law, sought_law,
 };
-pub use paths::{manifest_path, snapshot_path};
 pub use phase::Phase;
 pub use reader::{ViewReader, ViewStep};
 pub use reading::Reading;

@@ -8,10 +8,10 @@ ghost use Rattle.pm_read_table.specs.declared.phase.Phase.TheVariants as phases;
 use crate::after::{
     after_again, after_base, after_delta, after_list, after_manifest, after_origin, after_snapshot,
 };
-use crate::paths::{manifest_path, origin_path, snapshot_path};
 use crate::phase::Phase;
 use crate::reader::ViewReader;
 use pm_machine::{Machine, Meaning};
+use pm_paths::{manifest_path, origin_path, snapshot_path};
 use pm_store::{Answer, Call};
 use pm_values::Refusal;
 use std::alloc::{AllocError, Global};

@@ -23,15 +23,16 @@ use Rattle.pm_model_contents.specs.Runs.{data_path}
 use Rattle.pm_model_folder.specs.Folder.{Folder, HasTable}
 use Rattle.pm_model_folder.specs.Ledger.{count_of}
 use Rattle.pm_model_folder.specs.Meaning.{HasSnapshotAt}
-use Rattle.pm_model_folder.specs.Paths.{snapshot_folder, snapshot_path}
+use Rattle.pm_model_folder.specs.Paths.{origin_path, snapshot_folder, snapshot_path}
 use Rattle.pm_model_folder.specs.Stored.{HasGroup}
 use Rattle.pm_model_folder.proofs.Facts.{newest-there}
+use Rattle.pm_paths.proofs.ListedLemmas.{latest_is}
 use Rattle.pm_read_schema.specs.Reader.{schemas_call}
 use Rattle.pm_read_schema.proofs.AllCallsLemmas as schema
 use Rattle.pm_read_schema.proofs.AllCallsLemmas.{read_still}
 use Rattle.pm_read_schema.proofs.StillLemmas.{AreStill, AreTold, stayed, told_last}
 use Rattle.pm_read_table.specs.Asked.{Asked, ListsFirst}
-use Rattle.pm_read_table.specs.Reader.{origin_path, IsAbove, IsAsked}
+use Rattle.pm_read_table.specs.Reader.{IsAbove, IsAsked}
 use Rattle.pm_read_table.specs.Trace as reader
 use Rattle.pm_read_table.specs.Trace.{HasView, of_origin, of_snapshot, read_file}
 use Rattle.pm_read_table.specs.declared.phase.Phase.TheVariants as readers
@@ -51,7 +52,7 @@ use Rattle.pm_scan.proofs.KnownLemmas.{taken-schema}
 use Rattle.pm_scan.proofs.NextLemmas.{FollowsOn, next-group}
 use Rattle.pm_scan.proofs.ScanLemmas.{each-own}
 use Rattle.pm_scan.proofs.TakenLemmas.{Laws, file-refused}
-use Rattle.pm_scan.proofs.ViewCallsLemmas.{FailsLast, ViewLaws, absent_gone, asked_up_to, committed, entries_of, latest_is, live_of_part, part_at, path_is, reads_at, still_join, still_more, told_join, view_damaged_at, view_failed, view_gone_at, view_misreads_at, view_shows_still, view_still}
+use Rattle.pm_scan.proofs.ViewCallsLemmas.{FailsLast, ViewLaws, absent_gone, asked_up_to, committed, entries_of, live_of_part, part_at, path_is, reads_at, still_join, still_more, told_join, view_damaged_at, view_failed, view_gone_at, view_misreads_at, view_shows_still, view_still}
 use Rattle.pm_scan.proofs.ViewLemmas.{no-groups, scanned-origin, scanned-view}
 
 -- ---- they change nothing, and the first lists the schemas
@@ -289,7 +290,7 @@ module _ (laws : AllLaws) (f : Files) (s : TableSchema) (entries : List Entry) (
   view_caused first after (refusals.NoSnapshot id latest) own (names, newest, above, is) told rose =
       let listing : IsListing snapshot_folder names.items f = (subst (AreTold f) is told).0 in
       let asked = above_is at latest id above in
-      (asked.0, latest_is laws.views f s entries folder (wanted_of at) (begins at) latest names.items newest listing, asked.1)
+      (asked.0, latest_is f s entries folder latest names.items newest listing, asked.1)
   view_caused first after (refusals.Expired id) own shows told rose =
       let gone = view_gone_at laws.views f s entries folder (wanted_of at) (begins at) id own shows told in
       let none = absent_gone laws.views f s entries folder (wanted_of at) (begins at) id gone.1 in

@@ -43,6 +43,7 @@ use Rattle.pm_read_table.specs.declared.phase.Phase.TheVariants as readers
 use Rattle.pm_read_table.specs.declared.view.View.{View}
 use Rattle.pm_read_table.proofs.Facts as reader_facts
 use Rattle.pm_read_table.proofs.Facts.{Joined, OneList}
+use Rattle.pm_read_table.proofs.FaultLemmas.{IsFileFault}
 use Rattle.pm_scan.specs.Collected.{Collected, Takes, nothing_of}
 use Rattle.pm_scan.specs.Jobs.{all_jobs}
 use Rattle.pm_scan.specs.Meaning.{HaveTaken, IsReadingOf, IsScan, Knows, LeavesFiles}
@@ -52,7 +53,7 @@ use Rattle.pm_scan.specs.Trace.{HaveRead, HasPart, MayEnd, at_part, at_file, at_
 use Rattle.pm_scan.specs.declared.job.Job.{Job}
 use Rattle.pm_scan.specs.declared.phase.Phase.{Phase}
 use Rattle.pm_scan.specs.declared.phase.Phase.TheVariants as phases
-use Rattle.pm_scan.proofs.FaultLemmas.{IsFileFault, refuses_fault}
+use Rattle.pm_scan.proofs.FaultLemmas.{refuses_fault}
 use Rattle.pm_scan.proofs.KeptLemmas.{reading-kept, scan-kept}
 
 -- what the law of a view's files says

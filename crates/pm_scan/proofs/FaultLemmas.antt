@@ -5,30 +5,17 @@ use Rattle.pm_values.specs.declared.record.Stamped.{Stamped}
 use Rattle.pm_values.specs.declared.refusal.Refusal.{Refusal}
 use Rattle.pm_values.specs.declared.refusal.Refusal.TheVariants as refusals
 use Rattle.pm_schema.specs.declared.schema.TableSchema.{TableSchema}
-use Rattle.pm_avro_schema.specs.declared.fault.AvroFault.{AvroFault}
-use Rattle.pm_avro_schema.specs.declared.fault.AvroFault.TheVariants as faults
 use Rattle.pm_avro_data.specs.Datum.{Data}
-use Rattle.pm_record.specs.File.{refusal_of, misfit_refusal}
+use Rattle.pm_record.specs.File.{misfit_refusal}
 use Rattle.pm_record.specs.declared.misfit.Misfit.{Misfit}
 use Rattle.pm_record.specs.declared.misfit.Misfit.TheVariants as misfits
 use Rattle.pm_engine.specs.Covers.{Run}
 use Rattle.pm_run.specs.Order.{last_key}
 use Rattle.pm_run.specs.Reader.{RefusesRun, UnlessMemory}
 use Rattle.pm_run.specs.Rows.{Ends, Follow, Opened, all_placed, judged, next_row, then_judged}
+use Rattle.pm_read_table.proofs.FaultLemmas.{IsFileFault, of_fault}
 use Rattle.pm_scan.specs.Collected.{RefusesFile, misread, unopened}
 use Rattle.pm_scan.specs.declared.job.Job.{Job}
-
--- out of memory, damaged or not supported
-abbrev pub IsFileFault : Refusal → Type 0
-IsFileFault refusals.Memory = Unit {0}
-IsFileFault (refusals.Damaged path place) = Unit {0}
-IsFileFault (refusals.Unsupported what text) = Unit {0}
-IsFileFault other = ⊥
-
-of_fault : (path : List ℕ) (fault : AvroFault) → IsFileFault (refusal_of path fault)
-of_fault path faults.Memory = tt
-of_fault path (faults.Unsupported what text) = tt
-of_fault path (faults.Bad offset) = tt
 
 of_misfit : (path : List ℕ) (offset : ℕ) (misfit : Misfit) → IsFileFault (misfit_refusal path offset misfit)
 of_misfit path offset misfits.Memory = tt

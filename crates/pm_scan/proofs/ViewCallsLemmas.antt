@@ -1,8 +1,7 @@
 -- The calls of a view's reader: they change nothing, and what they say of the files that each answer is of.
-use Rattle.std.proofs.Common.{◌≡◌, ◌≢◌, ℕ, zero, suc, ◌≤◌, List, [], ◌∷◌, ◌++◌, length, take, remove, Bool, Option, None, Some, IsSome, IsSomeAnd, Result, Ok, Err, Contains, IsPermutation, refl, sym, ap, subst, ◌∙◌, arith, append_assoc, is_some, not}
+use Rattle.std.proofs.Common.{◌≡◌, ◌≢◌, ℕ, zero, suc, ◌≤◌, List, [], ◌∷◌, ◌++◌, length, take, Bool, Option, None, Some, IsSome, IsSomeAnd, Result, Ok, Err, refl, sym, ap, subst, ◌∙◌, arith, append_assoc, is_some, not}
 use Rattle.std.specs.FinMap as map
 use Rattle.std.proofs.lemmas.List.{append-nil}
-use Rattle.std.proofs.lemmas.List.Sorted.{Contains-permutation, IsPermutation-cons, IsPermutation-remove, IsPermutation-sym, IsPermutation-trans}
 use Rattle.pm_base.proofs.Laws.{AllByRecursion-append, AllByRecursion-parts, AllByRecursion-push}
 use Rattle.pm_values.specs.declared.file_meta.FileMeta.{FileMeta}
 use Rattle.pm_values.specs.declared.refusal.Refusal.{Refusal}
@@ -13,7 +12,7 @@ use Rattle.pm_store.specs.Files.{Files, IsListing}
 use Rattle.pm_machine.specs.Trace.{Event, faulted}
 use Rattle.pm_model_history.specs.History.{Entry as HistoryEntry}
 use Rattle.pm_schema.specs.declared.schema.TableSchema.{TableSchema}
-use Rattle.pm_snapshot.specs.Names.{greatest, snapshot_name}
+use Rattle.pm_snapshot.specs.Names.{greatest}
 use Rattle.pm_snapshot.specs.Snapshot.{snapshot_in}
 use Rattle.pm_snapshot.specs.declared.fault.SnapFault.{SnapFault}
 use Rattle.pm_snapshot.specs.declared.fault.SnapFault.TheVariants as faults
@@ -23,13 +22,14 @@ use Rattle.pm_record.specs.File.{Reading, ReadsFile}
 use Rattle.pm_model_folder.specs.Commits.{IsCommitted, live_in}
 use Rattle.pm_model_folder.specs.Folder.{HasTable}
 use Rattle.pm_model_folder.specs.Meaning.{HasSnapshotAt, SnapshotAt}
-use Rattle.pm_model_folder.specs.Paths.{snapshot_file, snapshot_folder, snapshot_path}
-use Rattle.pm_model_folder.proofs.Facts.{newest-there, snapshot-committed, snapshot-led, some-none}
+use Rattle.pm_model_folder.specs.Paths.{named_origin, origin_path, snapshot_file, snapshot_folder, snapshot_path}
+use Rattle.pm_model_folder.proofs.Facts.{snapshot-committed, some-none}
+use Rattle.pm_paths.specs.Ids.{IsLatest}
+use Rattle.pm_paths.proofs.ListedLemmas.{latest_is}
 use Rattle.pm_read_schema.specs.Reader.{snapshots_call}
 use Rattle.pm_read_schema.specs.Trace.{Names, listed_snapshots}
 use Rattle.pm_read_schema.proofs.AllCallsLemmas.{list_still, read_still}
 use Rattle.pm_read_schema.proofs.StillLemmas.{AreStill, AreTold, IsStill, IsTold, told_last}
-use Rattle.pm_levels.specs.Runs.{AreTwoOf}
 use Rattle.pm_manifest.specs.Entries.{entry_in, has_entry_fields}
 use Rattle.pm_manifest.specs.Listed.{has_meta_fields, meta_in}
 use Rattle.pm_manifest.specs.Live.{AreInOrder, IsOutOfOrder, Leaves, Live, id_of, live_after, live_at}
@@ -42,13 +42,13 @@ use Rattle.pm_model_contents.specs.Lists.{HasEntries, HaveEntries, IsList, IsMan
 use Rattle.pm_model_contents.specs.Named.{Contents, HasContents}
 use Rattle.pm_model_contents.specs.Runs.{AreFilesOf}
 use Rattle.pm_read_table.specs.Asked.{Asked, ListsFirst, asked_of}
-use Rattle.pm_read_table.specs.Names.{IsLatest}
-use Rattle.pm_read_table.specs.Reader.{origin_name, origin_path, IsAsked, MisreadsList, MisreadsManifest}
+use Rattle.pm_read_table.specs.Reader.{IsAsked, MisreadsList, MisreadsManifest}
 use Rattle.pm_read_table.specs.Trace.{read_file, Lists, ListsFor, Reads, Has, FindsBase, HasBase, FindsDelta, HasDelta, HaveRead, HasPart, FindsNext, HasView, of_origin, of_snapshot, LacksFile, lacks_base, lacks_delta, lacks_manifest, ReadsAgain, Misreads, misreads_base, misreads_delta, misreads_manifest, MayEnd, at_first, at_listing, at_snapshot, at_base, at_delta, at_part, at_manifest, IsFailed, in_listing, in_origin, in_snapshot, in_base, in_delta, in_manifest, in_again, IsGone, gone_origin, gone_snapshot, gone_again, IsDamaged, bad_snapshot, bad_schema, is_absent, is_misread, is_disordered, is_overlap, Shows}
 use Rattle.pm_read_table.specs.declared.asked.Wanted.{Wanted}
 use Rattle.pm_read_table.specs.declared.asked.Wanted.TheVariants as wants
 use Rattle.pm_read_table.specs.declared.view.View.{View}
 use Rattle.pm_read_table.proofs.Facts.{Joined, OneList}
+use Rattle.pm_read_table.proofs.TwoLemmas.{first_in, two_in}
 use Rattle.pm_scan.specs.AllCalls.{path_of}
 use Rattle.pm_scan.proofs.ViewLemmas.{OneContents, same-live}
 
@@ -219,53 +219,16 @@ order_same : (one other : Live) (own : List Entry) → ((id : FileId) → one id
 order_same one other own same order = λ i e is.
     subst (λ (o : Option Entry). is_some (live_at o (id_of e) (take i own)) ≡ not e.add) (same (id_of e)) (order i e is)
 
--- of two items of a list that differ, both stand in it
-module _ {X : Type 0} where
-  left_in : (x y : X) (xs : List X) → x ≢ y → Contains (x ∷ xs) y → Contains xs y
-  left_in x y xs other (zero, within, is) = absurd (other is)
-  left_in x y xs other (suc k, within, is) = (k, omega (arith, within), is)
-
-  pub two_in : (x y : X) (xs : List X) → Contains xs x → Contains xs y → x ≢ y → AreTwoOf x y xs
-  two_in x y xs (i, within, at) there other =
-      let zs = remove xs i in
-      let split : IsPermutation xs (x ∷ zs) = IsPermutation-remove xs i x within (sym at) in
-      let later = left_in x y zs other (Contains-permutation xs (x ∷ zs) y split there) in
-      let rest = IsPermutation-remove zs later.0 y later.1 (sym later.2) in
-      (remove zs later.0, IsPermutation-trans xs (x ∷ zs) (x ∷ y ∷ remove zs later.0) split (IsPermutation-cons x zs (y ∷ remove zs later.0) rest))
-
-  pub first_in : (x y : X) (xs : List X) → AreTwoOf x y xs → Contains xs x × Contains xs y
-  first_in x y xs (rest, same) =
-      let back = IsPermutation-sym xs (x ∷ y ∷ rest) same in
-      (Contains-permutation (x ∷ y ∷ rest) xs x back (0, omega arith, refl), Contains-permutation (x ∷ y ∷ rest) xs y back (1, omega arith, refl))
-
 module _ (laws : ViewLaws) (f : Files) (s : TableSchema) (entries : List HistoryEntry) (folder : HasTable f s entries) (w : Wanted)
     (lists_first : ListsFirst w) where
   abbrev a : Asked
   a = asked_of s w
 
-  newest_listed : (n latest : ℕ) (names : List (List ℕ)) → n ≤ greatest → HasSnapshotAt f s n → IsLatest names latest → IsListing snapshot_folder names f → n ≤ latest
-  newest_listed zero latest names within there is listing = omega arith
-  newest_listed (suc n) latest names within there is listing =
-      is.most (suc n) within ((listing.exact (snapshot_name (suc n))).1 (snapshot-led f (suc n) within there))
-
-  latest_there : (latest : ℕ) (names : List (List ℕ)) → IsLatest names latest → IsListing snapshot_folder names f → latest ≤ length entries
-  latest_there zero names is listing = omega arith
-  latest_there (suc n) names is listing =
-      let led = (listing.exact (snapshot_name (suc n))).0 (is.listed (omega arith)) in
-      ((folder.snapshots.exact (suc n) is.within).0 (folder.names.snapshots (suc n) is.within led)).1
-
-  -- the latest that is listed is the newest
-  pub latest_is : (latest : ℕ) (names : List (List ℕ)) → IsLatest names latest → IsListing snapshot_folder names f → latest ≡ length entries
-  latest_is latest names is listing =
-      let up = latest_there latest names is listing in
-      let down = newest_listed (length entries) latest names folder.snapshots.within (newest-there f s entries folder) is listing in
-      omega (arith, up, down)
-
   lists_at : (id : ℕ) (own : List Event) → Lists a id own → AreTold f own → IsAsked w (length entries) id
   lists_at id own lists told =
       let (names, latest, newest, asked, is) = was_listed w id own lists_first lists in
       let listing : IsListing snapshot_folder names.items f = (subst (AreTold f) is told).0 in
-      subst (λ (n : ℕ). IsAsked w n id) (latest_is latest names.items newest listing) asked
+      subst (λ (n : ℕ). IsAsked w n id) (latest_is f s entries folder latest names.items newest listing) asked
 
   pub reads_at : (id : ℕ) (path : List ℕ) (found : Option (List ℕ)) (own : List Event) → Reads a id path found own → AreTold f own
       → IsAsked w (length entries) id × (found ≡ map.get f path)
@@ -548,7 +511,7 @@ module _ (laws : ViewLaws) (f : Files) (s : TableSchema) (entries : List History
       runs.disjoint o.0 file (two_in o.0 file runs.files ((own.exact o.0).1 ((are.exact o.0).0 both.0)) ((own.exact file).1 ((are.exact file).0 both.1))
       (λ same. are.apart o.0 file o.1 o.2.level (ap (λ (m : FileMeta). m.name) same))) o.2
 
-  origin_gone : (o : Option (List ℕ)) → map.get f (snapshot_file (origin_name o)) ≡ None → IsSomeAnd o (λ origin. IsSome (map.get f (snapshot_file origin))) → ⊥
+  origin_gone : (o : Option (List ℕ)) → map.get f (snapshot_file (named_origin o)) ≡ None → IsSomeAnd o (λ origin. IsSome (map.get f (snapshot_file origin))) → ⊥
   origin_gone None none there = there
   origin_gone (Some name) none there = some-none (map.get f (snapshot_file name)) there none
 

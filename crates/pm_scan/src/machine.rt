@@ -2,15 +2,14 @@
 
 ghost use Rattle.std.specs.Prelude.{◌≡◌, IfOk, IfErr, IsSomeAnd};
 ghost use Rattle.pm_store.specs.Answers.{MayAnswer};
-ghost use Rattle.pm_model_folder.specs.Paths.{snapshot_path};
 ghost use Rattle.pm_scan.specs.Scanner.{next_call, Goes, IsScanner, Shown};
 ghost use Rattle.pm_scan.specs.declared.phase.Phase.TheVariants as phases;
 
 use crate::after::{after_again, after_file, after_view};
 use crate::phase::Phase;
 use crate::scanner::Scanner;
-use pm_base::Txt;
 use pm_machine::{Machine, Meaning};
+use pm_paths::snapshot_path;
 use pm_store::{Answer, Call};
 use pm_values::Refusal;
 use std::alloc::{AllocError, Global};
@@ -88,14 +87,6 @@ fn next_phase(alloc: Global, phase: Phase, answer: Answer) -> Result<Phase, Refu
         (Phase::Again { id, path }, Answer::Found(found)) => Err(after_again(id, path, found)),
         _ => unreachable!(),
     }
-}
-
-/// The path of the snapshot with an id.
-fn snapshot_path(alloc: Global, id: u64) -> Result<Txt, AllocError>
-    ensures { IfOk result (λ path. path ≡ snapshot_path id) }
-{
-    let text = format!(in alloc; "snapshot/snapshot-{id}")?;
-    Txt::from_str(alloc, text.as_str())
 }
 
 impl Meaning for Scanner {
