@@ -1,5 +1,5 @@
 -- The moment of a trace's first call, and what calls from then on leave where nobody else acts.
-use Rattle.std.proofs.Common.{◌≡◌, ◌≤◌, List, [], ◌∷◌, ◌++◌, true, Option, None, Some, IsSomeAnd, ap, refl, sym, subst, arith}
+use Rattle.std.proofs.Common.{◌≡◌, List, [], ◌∷◌, ◌++◌, true, Option, None, Some, IsSomeAnd, ap, refl, sym, subst, arith}
 use Rattle.pm_store.specs.declared.answer.Answer.{Answer}
 use Rattle.pm_store.specs.declared.call.Call.{Call}
 use Rattle.pm_store.specs.declared.call.Op.{Op}
@@ -46,11 +46,6 @@ ended_first call (Some answer) before middle after (steps, may) late =
     (at_first_own-steps (whole call) (λ ops. Answers call answer (files_after ops)) before middle after refl steps late, may)
 ended_first call None before middle after ((effect, steps), rose) late =
     ((effect, at_first_own-steps (own_op call effect) (λ ops. MayHave call effect (files_after ops)) before middle after refl steps late), rose)
-
--- events are none, or begin with this call
-abbrev pub StartsWith : Call → List Event → Type 0
-StartsWith call [] = Unit {0}
-StartsWith call (event ∷ own) = event.call ≡ call
 
 -- from the moment of the first own operation on, these events came
 pub Traces-first : (own : List Event) (before after : StoreView) → Traces own before after → Traces own (at_first_own before after) after

@@ -1,5 +1,5 @@
 -- Laws of steps, for the machines.
-use Rattle.std.proofs.Common.{◌≡◌, inl, inr, ℕ, List, [], ◌∷◌, ◌++◌, Option, None, Some, IsSome, IsSomeAnd, Result, OnOk, IfErr, refl, sym, ap, ◌∙◌, subst, arith, append_assoc, append-nil}
+use Rattle.std.proofs.Common.{◌≡◌, inl, inr, List, [], ◌∷◌, ◌++◌, Option, None, Some, IsSome, IsSomeAnd, Result, OnOk, IfErr, refl, sym, subst, arith, append_assoc, append-nil}
 use Rattle.pm_base.specs.Faults.{Rose}
 use Rattle.pm_values.specs.declared.refusal.Refusal.{Refusal}
 use Rattle.pm_store.specs.declared.answer.Answer.{Answer}
@@ -9,7 +9,7 @@ use Rattle.pm_store.specs.declared.call.Op.{Op}
 use Rattle.pm_store.specs.Answers.{Answers, MayHave}
 use Rattle.pm_store.specs.Files.{Files, after_effect, after_op, files_after}
 use Rattle.pm_store.specs.Images.{MayLeave}
-use Rattle.pm_store.specs.Store.{StoreView, IsAlone, IsLater, Meanwhile, Steps, own_op, whole}
+use Rattle.pm_store.specs.Store.{StoreView, IsAlone, IsLater, Meanwhile, own_op, whole}
 use Rattle.pm_store.proofs.FileLaws.{MayLeave-after_effect, effect_left, files_after-push}
 use Rattle.pm_store.proofs.StepLaws.{IsLater-refl, IsLater-trans, Meanwhile-exact, Meanwhile-refl, Meanwhile-trans, Steps-after, Steps-exact, Steps-weaker}
 use Rattle.pm_machine.specs.Moves.{Changes, Keeps, Lasts, Moves, Sound, Stands}

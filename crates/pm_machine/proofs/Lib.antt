@@ -1,3 +1,4 @@
 pub mod AloneLaws
 pub mod Facts
+pub mod PhaseFacts
 mod StepLemmas

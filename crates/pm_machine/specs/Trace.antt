@@ -1,5 +1,5 @@
 -- A machine's own calls, one after another, and what they say of it.
-use Rattle.std.specs.Prelude.{◌⊎◌, List, [], ◌∷◌, ◌++◌, Option, None, Some, IsSome, IfSome}
+use Rattle.std.specs.Prelude.{◌≡◌, ◌⊎◌, ℕ, List, [], ◌∷◌, ◌++◌, Option, None, Some, IsSome, IfSome}
 use Rattle.pm_values.specs.declared.refusal.Refusal.{Refusal}
 use Rattle.pm_values.specs.declared.refusal.Refusal.TheVariants as refusals
 use Rattle.pm_store.specs.declared.answer.Answer.{Answer}
@@ -55,3 +55,24 @@ pub record Recounts {M : Type 0} (call_of : M → Option Call) (goes : M → Ans
       did new (own ++ faulted call ∷ []) × shows (refusals.StoreFault (path_of call)) (own ++ faulted call ∷ []))
   pub stopped : (m new : M) (own : List Event) → IsSome (call_of m) → stops m new → did m own →
       did new own × shows refusals.Memory own
+
+-- ---- what the calls of machines of phases show
+
+-- The last call failed, and names its path: it was the next of a phase, after the calls that led there.
+pub record IsFailed {P : Type 0} (call_of : P → Option Call) (did : P → List Event → Type 0) (path : List ℕ)
+    (own : List Event) : Type 0 where
+  pub phase : P
+  pub call : Call
+  pub earlier : List Event
+  pub did_so : did phase earlier
+  pub next : call_of phase ≡ Some call
+  pub is_path : path ≡ path_of call
+  pub is : own ≡ earlier ++ faulted call ∷ []
+
+-- Memory ran out before the next call of a phase, or after an answer to it. Not each answer takes memory.
+pub data MayEnd {P : Type 0} (call_of : P → Option Call) (did : P → List Event → Type 0)
+    (Takes : P → Answer → Type 0) (own : List Event) : Type 0 where
+  before_call : (m : P) → IsSome (call_of m) → did m own → MayEnd call_of did Takes own
+  after_answer : (m : P) (call : Call) (answer : Answer) (earlier : List Event) → did m earlier → call_of m ≡ Some call
+      → MayAnswer call answer → Takes m answer → own ≡ earlier ++ answered call answer ∷ []
+      → MayEnd call_of did Takes own

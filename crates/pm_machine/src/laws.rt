@@ -10,7 +10,9 @@ ghost use Rattle.pm_store.specs.Images.{MayLeave};
 ghost use Rattle.pm_store.specs.Store.{StoreView, IsAlone, IsLater};
 ghost use Rattle.pm_values.specs.declared.refusal.Refusal.{Refusal};
 
-use crate::Machine;
+use crate::machine::Machine;
+use crate::phase_meaning::PhaseMeaning;
+use crate::running::Running;
 
 /// What the laws say of a machine, and of the world that it acts in. No code asks for it.
 pub trait Meaning: Machine {
@@ -34,6 +36,23 @@ pub trait Meaning: Machine {
 
     /// Which calls show a refusal.
     ghost shows: { Refusal → List Event → Type 0 };
+}
+
+/// What the laws say of a machine of phases: some were asked for, and no fact of others' is of concern to it.
+impl<P: PhaseMeaning> Meaning for Running<P> {
+    ghost History = { P.History };
+
+    ghost Folder = { P.Folder };
+
+    ghost Change = { P.Change };
+
+    ghost knows = { P.knows };
+
+    ghost others = { λ f h. Unit {0} };
+
+    ghost did = { λ m own. (asked : P.Asked) × P.did asked m own };
+
+    ghost shows = { λ refusal own. (asked : P.Asked) × P.shows asked refusal own };
 }
 
 /// What a step does is a change of some kind, or none, and what the machine knows then is true.

@@ -1,0 +1,108 @@
+-- What a machine of phases proves of its steps and of its calls, from less.
+use Rattle.std.proofs.Common.{◌≡◌, ℕ, List, [], ◌∷◌, ◌++◌, Option, None, Some, IsSome, IfSome, refl, sym, subst}
+use Rattle.std.proofs.lemmas.Option.{IfSome_then}
+use Rattle.pm_base.specs.Faults.{Rose}
+use Rattle.pm_values.specs.declared.refusal.Refusal.{Refusal}
+use Rattle.pm_values.specs.declared.refusal.Refusal.TheVariants as refusals
+use Rattle.pm_store.specs.Answers.{Answers, MayAnswer}
+use Rattle.pm_store.specs.Files.{Files, after_effect, carried}
+use Rattle.pm_store.specs.Store.{StoreView}
+use Rattle.pm_store.specs.declared.answer.Answer.{Answer}
+use Rattle.pm_store.specs.declared.call.Call.{Call}
+use Rattle.pm_store.specs.declared.call.Effect.{Effect}
+use Rattle.pm_store.specs.declared.call.Effect.TheVariants as effects
+use Rattle.pm_machine.specs.Moves.{Leads, Sound}
+use Rattle.pm_machine.specs.Running.{Refuses, Stops}
+use Rattle.pm_machine.specs.Step.{path_of}
+use Rattle.pm_machine.specs.Trace.{Event, IsFailed, MayEnd, Recounts, Traces, after_answer, before_call, answered, faulted}
+use Rattle.pm_machine.proofs.Facts.{Traces-faulted}
+
+-- ---- machines that change nothing
+
+-- each effect of the call leaves these files as they are
+abbrev pub Spares : Files → Call → Type 0
+Spares f call = (effect : Effect) → after_effect call effect f ≡ f
+
+pub both_if : (next : Option Call) (P Q R : Call → Type 0) → ((call : Call) → P call → Q call → R call) → IfSome next P → IfSome next Q → IfSome next R
+both_if None P Q R both one two = tt
+both_if (Some call) P Q R both one two = both call one two
+
+-- they are sound once an answer leads to what is known of the same files
+module _ {P H : Type 0} (call_of : P → Option Call) (Goes : P → Answer → P → Type 0) (Shown : P → Answer → Refusal → Type 0) (end : P)
+    (Folder : Files → H → Type 0) (Change : P → Files → H → Files → H → Type 0) (knows : P → Files → H → Type 0)
+    (kept : (m : P) (f after : Files) (h : H) → after ≡ f → Change m f h after h)
+    (spares : (m : P) (f : Files) → IfSome (call_of m) (Spares f))
+    (knows_next : (m : P) (answer : Answer) (new : P) (f : Files) (h : H) → Goes m answer new → Folder f h → knows m f h
+    → IfSome (call_of m) (λ call. Answers call answer f → knows new f h))
+    (knows_end : (f : Files) (h : H) → knows end f h) where
+  leads_still : (m new : P) (f after : Files) (h : H) → after ≡ f → knows new f h → Leads (Change m) (knows new) f h after
+  leads_still m new f after h same known = (h, kept m f after h same, subst (λ (g : Files). knows new g h) (sym same) known)
+
+  over_knows : (new : P) (f : Files) (h : H) → new ≡ end → knows new f h
+  over_knows new f h over = subst (λ (m : P). knows m f h) (sym over) (knows_end f h)
+
+  pub sound_of_spared : Sound call_of Goes (Refuses Shown end) (Stops end) Folder Change knows
+  sound_of_spared = record {
+    changes = λ m f h folder known. IfSome_then (call_of m) (spares m f)
+        (λ call same effect. (h, kept m f (after_effect call effect f) h (same effect)));
+    went = λ m new answer f h goes folder known. both_if (call_of m) _ _ _
+        (λ call same next told. leads_still m new f (carried call f) h (same effects.Whole) (next told))
+        (spares m f) (knows_next m answer new f h goes folder known);
+    refused = λ m new answer refusal f h refuses folder known. IfSome_then (call_of m) (spares m f)
+        (λ call same told. leads_still m new f (carried call f) h (same effects.Whole) (over_knows new f h refuses.1));
+    failed = λ m new effect f h stops folder known. IfSome_then (call_of m) (spares m f)
+        (λ call same may. leads_still m new f (after_effect call effect f) h (same effect) (over_knows new f h stops));
+    stopped = λ m new f h called stops folder known. over_knows new f h stops;
+  }
+
+-- ---- what calls show
+
+-- they are recounted once answers are, with what shows that the store failed or memory ran out
+module _ {P : Type 0} (call_of : P → Option Call) (Goes : P → Answer → P → Type 0) (Shown : P → Answer → Refusal → Type 0) (end : P)
+    (did Did : P → List Event → Type 0) (Takes : P → Answer → Type 0) (shows : Refusal → List Event → Type 0)
+    (so_far : (m : P) (own : List Event) → IsSome (call_of m) → Did m own → did m own)
+    (ends : (refusal : Refusal) (own : List Event) → shows refusal own → Did end own)
+    (fails : (path : List ℕ) (own : List Event) → IsFailed call_of did path own → shows (refusals.StoreFault path) own)
+    (memory : (own : List Event) → MayEnd call_of did Takes own → shows refusals.Memory own)
+    (went_on : (m : P) (answer : Answer) (new : P) (own : List Event) → Goes m answer new → Did m own
+    → IfSome (call_of m) (λ call. MayAnswer call answer → Did new (own ++ answered call answer ∷ [])))
+    (refused_on : (m : P) (answer : Answer) (refusal : Refusal) (own : List Event) → Shown m answer refusal → Did m own
+    → IfSome (call_of m) (λ call. MayAnswer call answer → shows refusal (own ++ answered call answer ∷ []))) where
+  failed_on : (m : P) (next : Option Call) (own : List Event) → call_of m ≡ next → Did m own
+      → IfSome next (λ call. shows (refusals.StoreFault (path_of call)) (own ++ faulted call ∷ []))
+  failed_on m None own is done = tt
+  failed_on m (Some call) own is done = fails (path_of call) (own ++ faulted call ∷ []) (record {
+    phase = m;
+    call = call;
+    earlier = own;
+    did_so = so_far m own (subst (λ (o : Option Call). IsSome o) (sym is) refl) done;
+    next = is;
+    is_path = refl;
+    is = refl;
+  })
+
+  over_did : (new : P) (refusal : Refusal) (own : List Event) → new ≡ end → shows refusal own → Did new own × shows refusal own
+  over_did new refusal own over shown = (subst (λ (m : P). Did m own) (sym over) (ends refusal own shown), shown)
+
+  pub recounts_of : Recounts call_of Goes (Refuses Shown end) (Stops end) Did shows
+  recounts_of = record {
+    went = λ m new answer own goes done. went_on m answer new own goes done;
+    refused = λ m new answer refusal own refuses done. IfSome_then (call_of m) (refused_on m answer refusal own refuses.0 done)
+        (λ call shown may. over_did new refusal (own ++ answered call answer ∷ []) refuses.1 (shown may));
+    failed = λ m new own stops done. IfSome_then (call_of m) (failed_on m (call_of m) own refl done)
+        (λ call shown. over_did new (refusals.StoreFault (path_of call)) (own ++ faulted call ∷ []) stops shown);
+    stopped = λ m new own called stops done. over_did new refusals.Memory own stops (memory own (before_call m called (so_far m own called done)));
+  }
+
+-- where the last call failed, a fault rose
+pub failed_rose : {P : Type 0} (call_of : P → Option Call) (did : P → List Event → Type 0) (path : List ℕ) (own : List Event)
+    (first after : StoreView) → IsFailed call_of did path own → Traces own first after → Rose first.faults after.faults
+failed_rose call_of did path own first after failed trace =
+    Traces-faulted failed.earlier failed.call first after (subst (λ (own : List Event). Traces own first after) failed.is trace)
+
+-- memory ran out after an answer that it is taken for
+pub ended : {P : Type 0} (call_of : P → Option Call) (did : P → List Event → Type 0) (Takes : P → Answer → Type 0) (m : P) (next : Option Call)
+    (answer : Answer) (own : List Event) → call_of m ≡ next → did m own → Takes m answer
+    → IfSome next (λ call. MayAnswer call answer → MayEnd call_of did Takes (own ++ answered call answer ∷ []))
+ended call_of did Takes m None answer own is done takes = tt
+ended call_of did Takes m (Some call) answer own is done takes = λ may. after_answer m call answer own done is may takes refl
