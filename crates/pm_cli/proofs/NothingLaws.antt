@@ -4,10 +4,10 @@ use Rattle.pm_values.specs.declared.refusal.Refusal.TheVariants as refusals
 use Rattle.pm_io.specs.Sink.{SinkView}
 use Rattle.pm_io.specs.Source.{SourceView}
 use Rattle.pm_store.specs.Store.{StoreView}
-use Rattle.pm_machine.specs.Trace.{HasTrace}
+use Rattle.pm_machine.specs.Trace.{HasTrace, before_call}
 use Rattle.pm_machine.proofs.Facts.{Traces-none}
 use Rattle.pm_read_schema.specs.AllCalls.{DidRead, ReadsTables}
-use Rattle.pm_read_schema.specs.Trace.{at_first}
+use Rattle.pm_read_schema.specs.declared.phase.Phase.TheVariants as readers
 use Rattle.pm_read_schema.proofs.AllCallsLemmas.{read_history}
 use Rattle.pm_words.specs.declared.command.Command.{Command}
 use Rattle.pm_words.specs.declared.command.Command.TheVariants as commands
@@ -23,7 +23,7 @@ use Rattle.pm_command_write.proofs.WriteLaws.{input_acts, input_refused, refused
 
 -- no schema was read
 read_none : (store : StoreView) → HasTrace (DidRead (Err refusals.Memory)) store store
-read_none store = ([], at_first refl, Traces-none store)
+read_none store = ([], before_call readers.Schemas refl refl, Traces-none store)
 
 reads_none : (store : StoreView) → ReadsTables store store (Err refusals.Memory)
 reads_none store = read_history (Err refusals.Memory) store store (read_none store)

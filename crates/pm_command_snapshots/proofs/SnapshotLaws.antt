@@ -1,6 +1,5 @@
 -- Laws of `snapshots`: what is so of its calls, and of a history.
-use Rattle.std.proofs.Common.{◌≡◌, ◌≢◌, ◌⊎◌, inl, inr, ℕ, List, [], ◌∷◌, map, Option, None, Some, Result, Ok, Err, refl, sym, subst, ◌++◌, ◌≤◌, length, ap, append_assoc, arith, ◌∙◌}
-use Rattle.std.proofs.lemmas.List.{take_all}
+use Rattle.std.proofs.Common.{◌≡◌, ◌≢◌, ◌⊎◌, inl, inr, ℕ, List, [], ◌∷◌, Option, None, Some, Result, Ok, Err, refl, sym, subst, ◌++◌, ap, append_assoc, ◌∙◌}
 use Rattle.std.specs.Result.{result_err}
 use Rattle.pm_values.specs.declared.refusal.Refusal.{Refusal}
 use Rattle.pm_values.specs.declared.refusal.Refusal.TheVariants as refusals
@@ -17,8 +16,7 @@ use Rattle.pm_draft.specs.Built.{IsBuilt, unbuilt}
 use Rattle.pm_snapshots.specs.AllCalls as lister
 use Rattle.pm_snapshots.specs.AllCalls.{AreLinesOf, GoesOnFrom}
 use Rattle.pm_snapshots.specs.Lister.{lines_of}
-use Rattle.pm_snapshots.specs.Reading.{IsReading, reading_of}
-use Rattle.pm_snapshots.specs.Trace.{HasListed, HasRead, at_read}
+use Rattle.pm_snapshots.specs.Trace.{HasListed}
 use Rattle.pm_snapshots.specs.declared.line.SnapshotLine.{SnapshotLine}
 use Rattle.pm_snapshots.specs.declared.phase.Phase.{Phase}
 use Rattle.pm_command.specs.Outside.{Outside, Prints}
@@ -41,20 +39,7 @@ pub listed_trace : (s : TableSchema) (result : Result Phase Refusal) (before aft
 listed_trace s (Ok m) before after built = trace_weaker (lister.DidList s (Ok m)) (DidSnapshots (Ok (lines_of m))) (λ own listed. (s, built, listed)) before after
 listed_trace s (Err e) before after built = trace_weaker (lister.DidList s (Err e)) (DidSnapshots (Err e)) (λ own (from, shows). inr (inr (s, built, from, shows))) before after
 
--- the lines were read, and the calls go on from the schema
-abbrev ids_of : List SnapshotLine → List ℕ
-ids_of lines = map (λ l. l.id) lines
-
-all_read : (s : TableSchema) (lines : List SnapshotLine) → IsReading (reading_of s (ids_of lines) lines)
-all_read s lines = sym (take_all (length lines) (ids_of lines) (at_most lines))
-  where
-    at_most : (lines : List SnapshotLine) → length (ids_of lines) ≤ length lines
-    at_most [] = omega arith
-    at_most (l ∷ lines) = let more = at_most lines in omega (arith, more)
-
-listed_reading : (s : TableSchema) (lines : List SnapshotLine) (own : List Event) → HasListed s lines own → HasRead (reading_of s (ids_of lines) lines) own
-listed_reading s lines own (names, earlier, reads, are, lists, all, is) = (names, earlier, reads, are, all_read s lines, lists, all, is)
-
+-- the calls of the lines go on from the schema
 listed_from : (s : TableSchema) (lines : List SnapshotLine) (own : List Event) → HasListed s lines own → GoesOnFrom s own
 listed_from s lines own (names, earlier, reads, are, (before, has, listed), all, is) = (
   before,
@@ -67,7 +52,7 @@ listed_from s lines own (names, earlier, reads, are, (before, has, listed), all,
 memory_trace : (lines : List SnapshotLine) (before after : StoreView) → HasTrace (DidSnapshots (Ok lines)) before after → HasTrace (DidSnapshots (Err refusals.Memory)) before after
 memory_trace lines before after =
     trace_weaker (DidSnapshots (Ok lines)) (DidSnapshots (Err refusals.Memory))
-    (λ own (s, built, listed). inr (inr (s, built, listed_from s lines own listed, at_read (reading_of s (ids_of lines) lines) (listed_reading s lines own listed))))
+    (λ own (s, built, listed). inr (inr (s, built, listed_from s lines own listed, inr (inr (s, lines, listed)))))
     before after
 
 -- and go on to stand for a history

@@ -1,8 +1,6 @@
 -- All calls of a reader of a schema, and what they say where nobody else acts.
-use Rattle.std.proofs.Common.{◌≡◌, inl, inr, ℕ, ◌<◌, List, [], ◌∷◌, ◌++◌, codes, Option, None, Some, Result, Ok, Err, refl, sym, subst}
+use Rattle.std.proofs.Common.{◌≡◌, inl, inr, ℕ, ◌<◌, List, [], ◌∷◌, ◌++◌, codes, Option, None, Some, IsSome, Result, Ok, Err, refl, sym, subst}
 use Rattle.std.specs.FinMap as map
-use Rattle.pm_base.specs.Faults.{Rose}
-use Rattle.pm_base.proofs.Laws.{AllByRecursion-push}
 use Rattle.pm_values.specs.declared.refusal.Refusal.{Refusal}
 use Rattle.pm_values.specs.declared.refusal.Refusal.TheVariants as refusals
 use Rattle.pm_store.specs.declared.answer.Answer.TheVariants as answers
@@ -11,21 +9,22 @@ use Rattle.pm_store.specs.Files.{Files}
 use Rattle.pm_store.specs.Store.{StoreView, IsLater, at_first_own}
 use Rattle.pm_machine.specs.Trace.{Event, HasTrace, Traces}
 use Rattle.pm_machine.proofs.AloneLaws.{Traces-first}
-use Rattle.pm_machine.proofs.Facts.{HasTrace-acts, Traces-faulted, Traces-none}
+use Rattle.pm_machine.proofs.Facts.{HasTrace-acts, Traces-none}
+use Rattle.pm_machine.proofs.PhaseFacts.{failed_rose}
 use Rattle.pm_model_history.specs.History.{History, IsTableOf}
 use Rattle.pm_schema.specs.declared.schema.TableSchema.{TableSchema}
 use Rattle.pm_model_folder.specs.Folder.{Folder}
 use Rattle.pm_model_folder.specs.Paths.{schema_folder, schema_path, snapshot_folder}
 use Rattle.pm_read_schema.specs.AllCalls.{DidRead, IsCaused, ReadsTables}
 use Rattle.pm_read_schema.specs.Meaning.{Knows, MayRefuse}
-use Rattle.pm_read_schema.specs.Reader.{schemas_call, schema_call, snapshots_call, calls_left, IsReady, Reaches}
-use Rattle.pm_read_schema.specs.Trace.{Names, listed_schemas, read_schema, listed_snapshots, Lists, Reads, Has, Looks, Misreads, LacksOrigin, MayEnd, at_first, at_schemas, at_schema, at_snapshots, IsFailed, in_schemas, in_schema, in_snapshots, Shows, Did, ReaderActed}
+use Rattle.pm_read_schema.specs.Reader.{next_call, calls_left, IsReady, Reaches}
+use Rattle.pm_read_schema.specs.Trace.{Names, listed_schemas, read_schema, listed_snapshots, Lists, Reads, Has, Looks, Misreads, LacksOrigin, DidSoFar, MayTakeMemory, Shows, Did, ReaderActed}
 use Rattle.pm_read_schema.specs.declared.phase.Phase.{Phase}
 use Rattle.pm_read_schema.specs.declared.phase.Phase.TheVariants as phases
 use Rattle.pm_read_schema.specs.declared.reader.SchemaStep.{SchemaStep}
 use Rattle.pm_read_schema.specs.declared.reader.SchemaStep.TheVariants as steps
-use Rattle.pm_read_schema.proofs.Facts.{list_effect, read_effect, own_schema, cause_at}
-use Rattle.pm_read_schema.proofs.StillLemmas.{IsStill, AreStill, IsTold, AreTold, told_last, stayed}
+use Rattle.pm_read_schema.proofs.Facts.{list_effect, read_effect, own_schema, cause_at, spares}
+use Rattle.pm_read_schema.proofs.StillLemmas.{IsStill, AreStill, IsTold, AreTold, calls_more, ended_still, failed_still, told_last, stayed}
 
 -- ---- its calls change nothing
 
@@ -34,9 +33,6 @@ list_still folder = λ f effect. list_effect folder effect f
 
 pub read_still : (path : List ℕ) → IsStill (calls.Read path)
 read_still path = λ f effect. read_effect path effect f
-
-pub calls_more : (own : List Event) (event : Event) → AreStill own → IsStill event.call → AreStill (own ++ event ∷ [])
-calls_more own event still one = AllByRecursion-push (λ (event : Event). IsStill event.call) own event still one
 
 lists_calls : (id : ℕ) (own : List Event) → Lists id own → AreStill own
 lists_calls id own (names, newest, is) = subst AreStill (sym is) (list_still schema_folder, tt)
@@ -71,23 +67,17 @@ misreads_calls refusal own (id, bytes, is, did) = reads_calls id (Some bytes) ow
 lacks_calls : (own : List Event) → LacksOrigin own → AreStill own
 lacks_calls own (s, names, none, looks) = looks_calls s names own looks
 
-ended_calls : (own : List Event) → MayEnd own → AreStill own
-ended_calls own (at_first is) = subst AreStill (sym is) tt
-ended_calls own (at_schemas id lists) = lists_calls id own lists
-ended_calls own (at_schema id found reads) = reads_calls id found own reads
-ended_calls own (at_snapshots lacks) = lacks_calls own lacks
-
-failed_calls : (path : List ℕ) (own : List Event) → IsFailed path own → AreStill own
-failed_calls path own (in_schemas at is) = subst AreStill (sym is) (list_still schema_folder, tt)
-failed_calls path own (in_schema id earlier lists at is) =
-    subst AreStill (sym is) (calls_more earlier _ (lists_calls id earlier lists) (read_still (schema_path id)))
-failed_calls path own (in_snapshots s earlier has none at is) =
-    subst AreStill (sym is) (calls_more earlier _ (has_calls s earlier has) (list_still snapshot_folder))
+so_far_calls : (m : Phase) (own : List Event) → IsSome (next_call m) → DidSoFar m own → AreStill own
+so_far_calls phases.Schemas own called did = subst AreStill (sym did) tt
+so_far_calls (phases.Schema id) own called did = lists_calls id own did
+so_far_calls (phases.Snapshots s) own called did = has_calls s own did.0
+so_far_calls (phases.Ready s) own called did = ready_calls s own did
+so_far_calls phases.Over own called did = absurd did
 
 pub shows_calls : (refusal : Refusal) (own : List Event) → Shows refusal own → AreStill own
-shows_calls refusals.Memory own shows = ended_calls own shows
+shows_calls refusals.Memory own ends = ended_still next_call DidSoFar MayTakeMemory spares so_far_calls own ends
 shows_calls refusals.NoTable own (names, none, is) = subst AreStill (sym is) (list_still schema_folder, tt)
-shows_calls (refusals.StoreFault path) own shows = failed_calls path own shows
+shows_calls (refusals.StoreFault path) own failed = failed_still next_call DidSoFar MayTakeMemory spares so_far_calls path own failed
 shows_calls (refusals.Damaged path place) own (inl (id, at, zero, did)) = reads_calls id None own did
 shows_calls (refusals.Damaged path place) own (inr misreads) = misreads_calls (refusals.Damaged path place) own misreads
 shows_calls (refusals.Unsupported what text) own (inl (what_is, text_is, lacks)) = lacks_calls own lacks
@@ -108,16 +98,6 @@ reads_at : (f : Files) (h : History) (id : ℕ) (found : Option (List ℕ)) (own
 reads_at f h id found own (earlier, lists, is) told =
     let parts = told_last f earlier (read_schema id found) (subst (AreTold f) is told) in
     (lists_at f h id earlier lists parts.0, parts.1)
-
--- a fault of the store was counted
-pub failed_rose : (path : List ℕ) (own : List Event) (first after : StoreView) → IsFailed path own → Traces own first after
-    → Rose first.faults after.faults
-failed_rose path own first after (in_schemas at is) trace =
-    Traces-faulted [] schemas_call first after (subst (λ (own : List Event). Traces own first after) is trace)
-failed_rose path own first after (in_schema id earlier lists at is) trace =
-    Traces-faulted earlier (schema_call id) first after (subst (λ (own : List Event). Traces own first after) is trace)
-failed_rose path own first after (in_snapshots s earlier has none at is) trace =
-    Traces-faulted earlier snapshots_call first after (subst (λ (own : List Event). Traces own first after) is trace)
 
 module _ (f : Files) (h : History) (folder : Folder f h) where
   has_at : (s : TableSchema) (own : List Event) → Has s own → AreTold f own → IsTableOf s h
@@ -151,7 +131,7 @@ module _ (f : Files) (h : History) (folder : Folder f h) where
   shows_at first after refusals.Memory own shows told trace = tt
   shows_at first after refusals.NoTable own (names, none, is) told trace =
       cause_at phases.Schemas (answers.Listed names) refusals.NoTable f h folder tt (refl, none) (subst (AreTold f) is told).0
-  shows_at first after (refusals.StoreFault path) own shows told trace = failed_rose path own first after shows trace
+  shows_at first after (refusals.StoreFault path) own shows told trace = failed_rose next_call DidSoFar path own first after shows trace
   shows_at first after (refusals.Damaged path place) own (inl (id, at, zero, did)) told trace = absent_at id own did told
   shows_at first after (refusals.Damaged path place) own (inr misreads) told trace = misreads_at (refusals.Damaged path place) own misreads told
   shows_at first after (refusals.Unsupported what text) own (inl (what_is, text_is, lacks)) told trace = lacks_at own lacks told

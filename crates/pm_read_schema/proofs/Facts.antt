@@ -1,7 +1,6 @@
 -- A reader of a schema keeps the laws of machines.
-use Rattle.std.proofs.Common.{◌≡◌, ◌⊎◌, inl, inr, ℕ, ◌<◌, List, [], ◌∷◌, ◌++◌, Option, None, Some, IsSome, IfSome, Ok, Err, refl, sym, ap, ◌∙◌, subst, arith}
+use Rattle.std.proofs.Common.{◌≡◌, inl, inr, ℕ, ◌<◌, List, [], ◌∷◌, ◌++◌, Option, None, Some, IsSome, IfSome, Ok, Err, refl, sym, ap, ◌∙◌, subst, arith}
 use Rattle.std.specs.FinMap as map
-use Rattle.std.proofs.lemmas.Option.{IfSome_then}
 use Rattle.pm_values.specs.declared.refusal.Refusal.{Refusal}
 use Rattle.pm_values.specs.declared.refusal.Refusal.TheVariants as refusals
 use Rattle.pm_store.specs.declared.answer.Answer.{Answer}
@@ -11,11 +10,13 @@ use Rattle.pm_store.specs.declared.call.Call.TheVariants as calls
 use Rattle.pm_store.specs.declared.call.Effect.{Effect}
 use Rattle.pm_store.specs.declared.call.Effect.TheVariants as effects
 use Rattle.pm_store.specs.Answers.{Answers, MayAnswer}
-use Rattle.pm_store.specs.Files.{Files, IsListing, after_effect, carried}
+use Rattle.pm_store.specs.Files.{Files, IsListing, after_effect}
 use Rattle.pm_store.specs.Images.{MayLeave}
-use Rattle.pm_machine.specs.Moves.{Changes, Leads, Sound}
-use Rattle.pm_machine.specs.Step.{path_of}
-use Rattle.pm_machine.specs.Trace.{Event, Recounts, answered, faulted}
+use Rattle.pm_store.proofs.FileLaws.{effect_left}
+use Rattle.pm_machine.specs.Moves.{Sound}
+use Rattle.pm_machine.specs.Running.{Refuses, Stops}
+use Rattle.pm_machine.specs.Trace.{Event, Recounts, after_answer, answered}
+use Rattle.pm_machine.proofs.PhaseFacts.{Spares, recounts_of, sound_of_spared}
 use Rattle.pm_model_history.specs.History.{History, IsTableOf, no_table, table, GoesOn}
 use Rattle.pm_schema.specs.Reading.{schema_of}
 use Rattle.pm_schema.specs.declared.schema.TableSchema.{TableSchema}
@@ -28,8 +29,8 @@ use Rattle.pm_schema.proofs.Facts.{file_faults}
 use Rattle.pm_snapshot.specs.Names.{snapshot_name}
 use Rattle.pm_read_schema.specs.Names.{HasSnapshot}
 use Rattle.pm_read_schema.specs.Meaning.{AreKept, Leaves, Knows, MayRefuse}
-use Rattle.pm_read_schema.specs.Reader.{schemas_call, next_call, calls_left, with_origin, IsReady, Goes, Shown, Refuses, Stops}
-use Rattle.pm_read_schema.specs.Trace.{listed_schemas, read_schema, listed_snapshots, Has, Misreads, MayEnd, at_first, at_schemas, at_schema, at_snapshots, in_schemas, in_schema, in_snapshots, Shows, Did}
+use Rattle.pm_read_schema.specs.Reader.{schemas_call, schema_call, snapshots_call, next_call, calls_left, reached_at, with_origin, Goes, HasDeclared, Reaches, Shown}
+use Rattle.pm_read_schema.specs.Trace.{listed_schemas, read_schema, listed_snapshots, Has, Misreads, DidSoFar, MayTakeMemory, Shows, Did}
 use Rattle.pm_read_schema.specs.declared.phase.Phase.{Phase}
 use Rattle.pm_read_schema.specs.declared.phase.Phase.TheVariants as phases
 
@@ -49,19 +50,12 @@ read_effect path (effects.Part found) f = refl
 read_effect path effects.Whole f = refl
 
 -- each effect of its next call leaves the files as they are
-pub rests : (m : Phase) (f : Files) → IfSome (next_call m) (λ call. (effect : Effect) → after_effect call effect f ≡ f)
-rests phases.Schemas f = λ effect. list_effect schema_folder effect f
-rests (phases.Schema id) f = λ effect. read_effect (schema_path id) effect f
-rests (phases.Snapshots s) f = λ effect. list_effect snapshot_folder effect f
-rests (phases.Ready s) f = tt
-rests phases.Over f = tt
-
-changes_at : (m p : Phase) (f : Files) (h : History) → IfSome (next_call p) (λ call. Changes (Leaves m) call f h)
-changes_at m phases.Schemas f h = λ effect. (h, kept_same f _ h (list_effect schema_folder effect f))
-changes_at m (phases.Schema id) f h = λ effect. (h, kept_same f _ h (read_effect (schema_path id) effect f))
-changes_at m (phases.Snapshots s) f h = λ effect. (h, kept_same f _ h (list_effect snapshot_folder effect f))
-changes_at m (phases.Ready s) f h = tt
-changes_at m phases.Over f h = tt
+pub spares : (m : Phase) (f : Files) → IfSome (next_call m) (Spares f)
+spares phases.Schemas f = λ effect. list_effect schema_folder effect f
+spares (phases.Schema id) f = λ effect. read_effect (schema_path id) effect f
+spares (phases.Snapshots s) f = λ effect. list_effect snapshot_folder effect f
+spares (phases.Ready s) f = tt
+spares phases.Over f = tt
 
 -- ---- what it knows
 
@@ -102,36 +96,8 @@ knows_next (phases.Snapshots s) (answers.Listed names) new f h (some, is) folder
     subst (λ (m : Phase). Knows m f h) (sym is) known.0
 knows_next m answer new f h goes folder known = absurd goes
 
-over_knows : (new : Phase) (f : Files) (h : History) → new ≡ phases.Over → Knows new f h
-over_knows new f h over = subst (λ (m : Phase). Knows m f h) (sym over) tt
-
-went_at : (m p : Phase) (answer : Answer) (new : Phase) (f : Files) (h : History)
-    → IfSome (next_call p) (λ call. Answers call answer f → Knows new f h)
-    → IfSome (next_call p) (λ call. Answers call answer f → Leads (Leaves m) (Knows new) f h (carried call f))
-went_at m phases.Schemas answer new f h next = λ told. (h, kept_same f f h refl, next told)
-went_at m (phases.Schema id) answer new f h next = λ told. (h, kept_same f f h refl, next told)
-went_at m (phases.Snapshots s) answer new f h next = λ told. (h, kept_same f f h refl, next told)
-went_at m (phases.Ready s) answer new f h next = tt
-went_at m phases.Over answer new f h next = tt
-
-failed_at : (m p : Phase) (new : Phase) (effect : Effect) (f : Files) (h : History) → new ≡ phases.Over
-    → IfSome (next_call p) (λ call. Leads (Leaves m) (Knows new) f h (after_effect call effect f))
-failed_at m phases.Schemas new effect f h over = (h, kept_same f _ h (list_effect schema_folder effect f), over_knows new _ h over)
-failed_at m (phases.Schema id) new effect f h over = (h, kept_same f _ h (read_effect (schema_path id) effect f), over_knows new _ h over)
-failed_at m (phases.Snapshots s) new effect f h over = (h, kept_same f _ h (list_effect snapshot_folder effect f), over_knows new _ h over)
-failed_at m (phases.Ready s) new effect f h over = tt
-failed_at m phases.Over new effect f h over = tt
-
-pub sound : Sound next_call Goes Refuses Stops Folder Leaves Knows
-sound = record {
-  changes = λ m f h folder known. changes_at m m f h;
-  went = λ m new answer f h goes folder known. went_at m m answer new f h (knows_next m answer new f h goes folder known);
-  refused = λ m new answer refusal f h refuses folder known. IfSome_then (next_call m) (failed_at m m new effects.Whole f h refuses.1)
-      (λ call leads told. leads);
-  failed = λ m new effect f h stops folder known. IfSome_then (next_call m) (failed_at m m new effect f h stops)
-      (λ call leads may. leads);
-  stopped = λ m new f h called stops folder known. over_knows new f h stops;
-}
+pub sound : Sound next_call Goes (Refuses Shown phases.Over) (Stops phases.Over) Folder Leaves Knows
+sound = sound_of_spared next_call Goes Shown phases.Over Folder Leaves Knows (λ m. kept_same) spares knows_next (λ f h. tt)
 
 -- ---- its calls
 
@@ -165,48 +131,33 @@ refused_on phases.Schemas (answers.Listed names) refusal own (is, none) did = λ
     subst (λ (refusal : Refusal). Shows refusal (own ++ listed_schemas names ∷ [])) (sym is)
     (names, none, ap (λ (own : List Event). own ++ listed_schemas names ∷ []) did)
 refused_on (phases.Schema id) (answers.Found None) refusal own (inl is) did = λ may.
-    subst (λ (refusal : Refusal). Shows refusal (own ++ read_schema id None ∷ [])) (sym is) (at_schema id None (own, did, refl))
+    subst (λ (refusal : Refusal). Shows refusal (own ++ read_schema id None ∷ [])) (sym is)
+    (after_answer (phases.Schema id) (schema_call id) (answers.Found None) own did refl may tt refl)
 refused_on (phases.Schema id) (answers.Found None) refusal own (inr is) did = λ may.
     subst (λ (refusal : Refusal). Shows refusal (own ++ read_schema id None ∷ [])) (sym is) (inl (id, refl, refl, (own, did, refl)))
 refused_on (phases.Schema id) (answers.Found (Some bytes)) refusal own (inl is) did = λ may.
-    subst (λ (refusal : Refusal). Shows refusal (own ++ read_schema id (Some bytes) ∷ [])) (sym is) (at_schema id (Some bytes) (own, did, refl))
+    subst (λ (refusal : Refusal). Shows refusal (own ++ read_schema id (Some bytes) ∷ [])) (sym is)
+    (after_answer (phases.Schema id) (schema_call id) (answers.Found (Some bytes)) own did refl may tt refl)
 refused_on (phases.Schema id) (answers.Found (Some bytes)) refusal own (inr is) did = λ may.
     misread refusal (own ++ read_schema id (Some bytes) ∷ []) (id, bytes, is, (own, did, refl))
 refused_on (phases.Snapshots s) (answers.Listed names) refusal own (inl is, none) did = λ may.
     subst (λ (refusal : Refusal). Shows refusal (own ++ listed_snapshots names ∷ [])) (sym is)
-    (at_snapshots (s, names, none, (own, did.0, did.1, refl)))
+    (after_answer (phases.Snapshots s) snapshots_call (answers.Listed names) own did refl may none refl)
 refused_on (phases.Snapshots s) (answers.Listed names) refusal own (inr is, none) did = λ may.
     subst (λ (refusal : Refusal). Shows refusal (own ++ listed_snapshots names ∷ [])) (sym is)
     (inl (refl, refl, (s, names, none, (own, did.0, did.1, refl))))
 refused_on m answer refusal own shown did = absurd shown
 
-failed_on : (m : Phase) (own : List Event) → Did m own
-    → IfSome (next_call m) (λ call. Shows (refusals.StoreFault (path_of call)) (own ++ faulted call ∷ []))
-failed_on phases.Schemas own did = in_schemas refl (ap (λ (own : List Event). own ++ faulted schemas_call ∷ []) did)
-failed_on (phases.Schema id) own did = in_schema id own did refl refl
-failed_on (phases.Snapshots s) own did = in_snapshots s own did.0 did.1 refl refl
-failed_on (phases.Ready s) own did = tt
-failed_on phases.Over own did = tt
+so_far : (m : Phase) (own : List Event) → IsSome (next_call m) → Did m own → DidSoFar m own
+so_far phases.Schemas own called did = did
+so_far (phases.Schema id) own called did = did
+so_far (phases.Snapshots s) own called did = did
+so_far (phases.Ready s) own called did = did
+so_far phases.Over own called did = absurd (let clash = called in cc)
 
-stopped_on : (m : Phase) (own : List Event) → IsSome (next_call m) → Did m own → MayEnd own
-stopped_on phases.Schemas own called did = at_first did
-stopped_on (phases.Schema id) own called did = at_schemas id did
-stopped_on (phases.Snapshots s) own called ((id, bytes, reads, did), none) = at_schema id (Some bytes) did
-stopped_on (phases.Ready s) own called did = absurd (let clash = called in cc)
-stopped_on phases.Over own called did = absurd (let clash = called in cc)
-
-over_did : (new : Phase) (refusal : Refusal) (own : List Event) → new ≡ phases.Over → Shows refusal own → Did new own × Shows refusal own
-over_did new refusal own over shows = (subst (λ (m : Phase). Did m own) (sym over) (refusal, shows), shows)
-
-pub recounts : Recounts next_call Goes Refuses Stops Did Shows
-recounts = record {
-  went = λ m new answer own goes did. went_on m answer new own goes did;
-  refused = λ m new answer refusal own refuses did. IfSome_then (next_call m) (refused_on m answer refusal own refuses.0 did)
-      (λ call shows may. over_did new refusal (own ++ answered call answer ∷ []) refuses.1 (shows may));
-  failed = λ m new own stops did. IfSome_then (next_call m) (failed_on m own did)
-      (λ call shows. over_did new (refusals.StoreFault (path_of call)) (own ++ faulted call ∷ []) stops shows);
-  stopped = λ m new own called stops did. over_did new refusals.Memory own stops (stopped_on m own called did);
-}
+pub recounts : Recounts next_call Goes (Refuses Shown phases.Over) (Stops phases.Over) Did Shows
+recounts = recounts_of next_call Goes Shown phases.Over DidSoFar Did MayTakeMemory Shows so_far (λ refusal own shows. (refusal, shows))
+    (λ path own failed. failed) (λ own ends. ends) went_on refused_on
 
 -- ---- how far it has come
 
@@ -222,17 +173,28 @@ goes_fewer (phases.Snapshots s) (answers.Listed names) new (some, is) = subst (�
 goes_fewer m answer new goes = absurd goes
 
 -- and the schema, or a call that is left
-pub goes_on_to : (m : Phase) (answer : Answer) (new : Phase) → Goes m answer new → ¬ IsReady new → 0 < calls_left new
-goes_on_to phases.Schemas (answers.Listed names) new (id, newest, is) = subst (λ (new : Phase). ¬ IsReady new → 0 < calls_left new) (sym is) (λ not. omega arith)
-goes_on_to (phases.Schema id) (answers.Found (Some bytes)) new (s, reads, is) =
-    subst (λ (new : Phase). ¬ IsReady new → 0 < calls_left new) (sym is) (left_with s.origin s)
+goes_reaches : (m : Phase) (answer : Answer) (new : Phase) → Goes m answer new → Reaches (reached_at new) new
+goes_reaches phases.Schemas (answers.Listed names) new (id, newest, is) = subst (λ (new : Phase). Reaches (reached_at new) new) (sym is) (omega arith)
+goes_reaches (phases.Schema id) (answers.Found (Some bytes)) new (s, reads, is) =
+    subst (λ (new : Phase). Reaches (reached_at new) new) (sym is) (reaches_with s.origin s)
   where
-    left_with : (o : Option (List ℕ)) (s : TableSchema) → ¬ IsReady (with_origin o s) → 0 < calls_left (with_origin o s)
-    left_with None s not = omega arith
-    left_with (Some origin) s not = absurd (not tt)
-goes_on_to (phases.Snapshots s) (answers.Listed names) new (some, is) =
-    subst (λ (new : Phase). ¬ IsReady new → 0 < calls_left new) (sym is) (λ not. absurd (not tt))
-goes_on_to m answer new goes = absurd goes
+    reaches_with : (o : Option (List ℕ)) (s : TableSchema) → Reaches (reached_at (with_origin o s)) (with_origin o s)
+    reaches_with None s = omega arith
+    reaches_with (Some origin) s = tt
+goes_reaches (phases.Snapshots s) (answers.Listed names) new (some, is) = subst (λ (new : Phase). Reaches (reached_at new) new) (sym is) tt
+goes_reaches m answer new goes = absurd goes
+
+pub goes : (m : Phase) (answer : Answer) (new : Phase) → HasDeclared m → Goes m answer new
+    → (calls_left new < calls_left m) × Reaches (reached_at new) new × Unit {0}
+goes m answer new is on = (goes_fewer m answer new on, goes_reaches m answer new on, tt)
+
+-- a reader with calls left has a next one
+pub has_call : (m : Phase) → HasDeclared m → 0 < calls_left m → IsSome (next_call m)
+has_call phases.Schemas is left = refl
+has_call (phases.Schema id) is left = refl
+has_call (phases.Snapshots s) is left = refl
+has_call (phases.Ready s) is left = absurd (omega (arith, left))
+has_call phases.Over is left = absurd (omega (arith, left))
 
 -- ---- what answers show where the files stand for a history
 
@@ -285,16 +247,8 @@ knows_still phases.Over other f after h later folder change known = tt
 pub kept_nothing : (me : Actor) (f after : Files) (h later : History) → AreKept f h after later → Change me f h after later
 kept_nothing me f after h later kept = subst (λ (later : History). Change me f h after later) (sym kept.history) (nothing kept.files)
 
-either_same : {f image : Files} (h : History) → (image ≡ f) ⊎ (image ≡ f) → AreKept f h image h
-either_same {f} {image} h (inl same) = kept_same f image h same
-either_same {f} {image} h (inr same) = kept_same f image h same
-
-image_at : (m : Phase) (f image : Files) (h : History) → IfSome (next_call m) (λ call. MayLeave call f image → AreKept f h image h)
-image_at phases.Schemas f image h = λ left. either_same h left
-image_at (phases.Schema id) f image h = λ left. either_same h left
-image_at (phases.Snapshots s) f image h = λ left. either_same h left
-image_at (phases.Ready s) f image h = tt
-image_at phases.Over f image h = tt
-
 pub images : (m : Phase) (call : Call) (f image : Files) (h : History) → next_call m ≡ Some call → MayLeave call f image → AreKept f h image h
-images m call f image h is left = (rw is at (image_at m f image h)) left
+images m call f image h is left =
+    let had = effect_left call f image left in
+    let still = rw is at (spares m f) in
+    kept_same f image h (had.1 ∙ still had.0)

@@ -1,6 +1,7 @@
 -- Calls that change nothing, one after another, where nobody else acts: the files stay, and each answer is of them.
-use Rattle.std.proofs.Common.{◌≡◌, ◌≤◌, List, [], ◌∷◌, ◌++◌, Option, None, Some, IfSome, IsSomeAnd, refl, sym, subst, ◌∙◌, arith}
+use Rattle.std.proofs.Common.{◌≡◌, ℕ, List, [], ◌∷◌, ◌++◌, Option, None, Some, IfSome, IsSome, IsSomeAnd, refl, sym, subst, ◌∙◌}
 use Rattle.std.specs.List.{AllByRecursion}
+use Rattle.pm_base.proofs.Laws.{AllByRecursion-push}
 use Rattle.pm_store.specs.declared.answer.Answer.{Answer}
 use Rattle.pm_store.specs.declared.call.Call.{Call}
 use Rattle.pm_store.specs.declared.call.Effect.{Effect}
@@ -12,8 +13,9 @@ use Rattle.pm_store.specs.Images.{Extends, MayLeave}
 use Rattle.pm_store.specs.Store.{StoreView, IsAlone, own_op, whole}
 use Rattle.pm_store.proofs.FileLaws.{effect_left}
 use Rattle.pm_store.proofs.StepLaws.{alone_parts}
-use Rattle.pm_machine.specs.Trace.{Event, Ended, Traces}
+use Rattle.pm_machine.specs.Trace.{Event, Ended, IsFailed, MayEnd, Traces, after_answer, before_call}
 use Rattle.pm_machine.proofs.AloneLaws.{Traces-later, Follows, Follows-first, Follows-meanwhile, Follows-steps}
+use Rattle.pm_machine.proofs.PhaseFacts.{Spares}
 use Rattle.pm_read_schema.specs.AllCalls.{HasFiles, Stay}
 
 -- whatever of the call is carried out, the files are as they were
@@ -22,6 +24,28 @@ IsStill call = (f : Files) (effect : Effect) → after_effect call effect f ≡ 
 
 abbrev pub AreStill : List Event → Type 0
 AreStill own = AllByRecursion (λ event. IsStill event.call) own
+
+pub calls_more : (own : List Event) (event : Event) → AreStill own → IsStill event.call → AreStill (own ++ event ∷ [])
+calls_more own event still one = AllByRecursion-push (λ (event : Event). IsStill event.call) own event still one
+
+-- calls up to the end of a machine that changes nothing
+module _ {P : Type 0} (call_of : P → Option Call) (did : P → List Event → Type 0) (Takes : P → Answer → Type 0)
+    (spares : (m : P) (f : Files) → IfSome (call_of m) (Spares f))
+    (so_far : (m : P) (own : List Event) → IsSome (call_of m) → did m own → AreStill own) where
+  one_more : (m : P) (call : Call) (answer : Option Answer) (own : List Event) → call_of m ≡ Some call → did m own
+      → AreStill (own ++ record { call = call; answer = answer } ∷ [])
+  one_more m call answer own is done =
+      calls_more own (record { call = call; answer = answer }) (so_far m own (subst (λ (next : Option Call). IsSome next) (sym is) refl) done)
+      (λ f. rw is at (spares m f))
+
+  pub ended_still : (own : List Event) → MayEnd call_of did Takes own → AreStill own
+  ended_still own (before_call m called done) = so_far m own called done
+  ended_still own (after_answer m call answer earlier done is may takes same) =
+      subst AreStill (sym same) (one_more m call (Some answer) earlier is done)
+
+  pub failed_still : (path : List ℕ) (own : List Event) → IsFailed call_of did path own → AreStill own
+  failed_still path own failed =
+      subst AreStill (sym failed.is) (one_more failed.phase failed.call None failed.earlier failed.next failed.did_so)
 
 -- the answer of an event, if there is one, is of these files
 abbrev pub IsTold : Files → Event → Type 0

@@ -41,7 +41,3 @@ MayRefuse h other = ⊥
 -- a step changes nothing, and what the reader knows holds after it
 abbrev pub ReaderMoved : Phase → Phase → StoreView → StoreView → Type 0
 ReaderMoved old new before after = Moves Folder (Leaves old) (Knows old) (Knows new) before after
-
--- no fact of others' is of concern to it
-abbrev pub Anything : Files → History → Type 0
-Anything f h = Unit {0}

@@ -83,12 +83,6 @@ Shown (phases.Snapshots s) (answers.Listed names) refusal =
     ((refusal ≡ refusals.Memory) ⊎ (refusal ≡ refusals.Unsupported (codes "origin") [])) × (¬ HasSnapshot names.items)
 Shown phase other refusal = ⊥
 
-abbrev pub Refuses : Phase → Answer → Refusal → Phase → Type 0
-Refuses phase answer refusal later = Shown phase answer refusal × (later ≡ phases.Over)
-
-abbrev pub Stops : Phase → Phase → Type 0
-Stops phase later = later ≡ phases.Over
-
 -- what a step that goes on has reached
 abbrev pub Reaches : SchemaStep → Phase → Type 0
 Reaches steps.More phase = 0 < calls_left phase

@@ -6,12 +6,13 @@ use Rattle.pm_values.specs.declared.refusal.Refusal.{Refusal}
 use Rattle.pm_values.specs.declared.refusal.Refusal.TheVariants as refusals
 use Rattle.pm_store.specs.declared.answer.Answer.TheVariants as answers
 use Rattle.pm_store.specs.Store.{StoreView}
-use Rattle.pm_machine.specs.Trace.{Event, Acts, answered, faulted}
+use Rattle.pm_store.specs.declared.answer.Answer.{Answer}
+use Rattle.pm_machine.specs.Trace.{Event, Acts, IsFailed, MayEnd, answered}
 use Rattle.pm_schema.specs.Reading.{schema_of}
 use Rattle.pm_schema.specs.declared.schema.TableSchema.{TableSchema}
-use Rattle.pm_model_folder.specs.Paths.{schema_folder, schema_path, snapshot_folder}
+use Rattle.pm_model_folder.specs.Paths.{schema_path}
 use Rattle.pm_read_schema.specs.Names.{IsNewest, HasNoSchema, HasSnapshot}
-use Rattle.pm_read_schema.specs.Reader.{schemas_call, schema_call, snapshots_call}
+use Rattle.pm_read_schema.specs.Reader.{schemas_call, schema_call, snapshots_call, next_call}
 use Rattle.pm_read_schema.specs.declared.phase.Phase.{Phase}
 use Rattle.pm_read_schema.specs.declared.phase.Phase.TheVariants as phases
 use Rattle.pm_read_schema.specs.declared.reader.SchemaStep.{SchemaStep}
@@ -60,29 +61,28 @@ Misreads refusal own =
 abbrev pub LacksOrigin : List Event → Type 0
 LacksOrigin own = (s : TableSchema) × (names : Names) × (¬ HasSnapshot names.items) × Looks s names own
 
--- calls after which memory may have run out: each was answered, and no snapshot stood where they were listed
-pub data MayEnd (own : List Event) : Type 0 where
-  at_first : own ≡ [] → MayEnd own
-  at_schemas : (id : ℕ) → Lists id own → MayEnd own
-  at_schema : (id : ℕ) (found : Option (List ℕ)) → Reads id found own → MayEnd own
-  at_snapshots : LacksOrigin own → MayEnd own
+-- its calls so far, before its end
+abbrev pub DidSoFar : Phase → List Event → Type 0
+DidSoFar phases.Schemas own = own ≡ []
+DidSoFar (phases.Schema id) own = Lists id own
+DidSoFar (phases.Snapshots s) own = Has s own × (s.origin ≡ None)
+DidSoFar (phases.Ready s) own =
+    (Has s own × IsSome s.origin) ⊎ ((names : Names) × HasSnapshot names.items × Looks s names own)
+DidSoFar phases.Over own = ⊥
 
--- The last call failed, and names its path: the listing of the schemas, the read of the newest, or the listing of the
--- snapshots.
-pub data IsFailed (path : List ℕ) (own : List Event) : Type 0 where
-  in_schemas : path ≡ schema_folder → own ≡ faulted schemas_call ∷ [] → IsFailed path own
-  in_schema : (id : ℕ) (earlier : List Event) → Lists id earlier → path ≡ schema_path id
-      → own ≡ earlier ++ faulted (schema_call id) ∷ [] → IsFailed path own
-  in_snapshots : (s : TableSchema) (earlier : List Event) → Has s earlier → s.origin ≡ None → path ≡ snapshot_folder
-      → own ≡ earlier ++ faulted snapshots_call ∷ [] → IsFailed path own
+-- What follows the answer may take memory: not where the schemas were listed, nor where a snapshot stood.
+abbrev pub MayTakeMemory : Phase → Answer → Type 0
+MayTakeMemory (phases.Schema id) answer = Unit {0}
+MayTakeMemory (phases.Snapshots s) (answers.Listed names) = ¬ HasSnapshot names.items
+MayTakeMemory m answer = ⊥
 
 -- Which calls show a refusal. There is no table where the names that were listed have no schema. A file is damaged
 -- where the newest that they have is absent, or is not a schema's. An origin isn't supported where none is named and
 -- the second listing had no snapshot. All else is the very fault of the bytes that were read.
 abbrev pub Shows : Refusal → List Event → Type 0
-Shows refusals.Memory own = MayEnd own
+Shows refusals.Memory own = MayEnd next_call DidSoFar MayTakeMemory own
 Shows refusals.NoTable own = (names : Names) × HasNoSchema names.items × (own ≡ listed_schemas names ∷ [])
-Shows (refusals.StoreFault path) own = IsFailed path own
+Shows (refusals.StoreFault path) own = IsFailed next_call DidSoFar path own
 Shows (refusals.Damaged path place) own =
     ((id : ℕ) × (path ≡ schema_path id) × (place ≡ 0) × Reads id None own) ⊎ Misreads (refusals.Damaged path place) own
 Shows (refusals.Unsupported what text) own =
@@ -93,12 +93,8 @@ Shows other own = ⊥
 
 -- its calls so far, by its phase: at its end they show a refusal
 abbrev pub Did : Phase → List Event → Type 0
-Did phases.Schemas own = own ≡ []
-Did (phases.Schema id) own = Lists id own
-Did (phases.Snapshots s) own = Has s own × (s.origin ≡ None)
-Did (phases.Ready s) own =
-    (Has s own × IsSome s.origin) ⊎ ((names : Names) × HasSnapshot names.items × Looks s names own)
 Did phases.Over own = (refusal : Refusal) × Shows refusal own
+Did m own = DidSoFar m own
 
 -- Its next call is the next event of its calls so far, or none was made; and a refusal is shown by the calls up to it.
 abbrev pub ReaderActed : Phase → Phase → StoreView → StoreView → Result SchemaStep Refusal → Type 0

@@ -1,40 +1,40 @@
-//! A reader of a schema as a machine.
+//! The phases of a reader of a schema, and what they mean.
 
-ghost use Rattle.std.specs.Prelude.{◌≡◌, ◌⊎◌, [], codes, IfOk, IfErr, IsSomeAnd};
+ghost use Rattle.std.specs.Prelude.{◌≡◌, ◌⊎◌, [], codes, IfOk, IfErr};
 ghost use Rattle.pm_model_folder.specs.Paths.{schema_path};
 ghost use Rattle.pm_schema.specs.Again.{IsDeclared};
-ghost use Rattle.pm_store.specs.Answers.{MayAnswer};
 ghost use Rattle.pm_store.specs.declared.answer.Answer.TheVariants as answers;
 ghost use Rattle.pm_values.specs.declared.refusal.Refusal.TheVariants as refusals;
-ghost use Rattle.pm_read_schema.specs.Reader.{next_call, with_origin, Goes, HasDeclared, Shown};
+ghost use Rattle.pm_read_schema.specs.Reader.{with_origin, Goes, HasDeclared, Shown};
 ghost use Rattle.pm_read_schema.specs.declared.phase.Phase.TheVariants as phases;
 
 use crate::names::{lists_snapshot, newest_schema};
 use crate::phase::Phase;
-use crate::reader::SchemaReader;
+use crate::reader::SchemaStep;
 use pm_base::{Blob, Txt};
-use pm_machine::{Machine, Meaning};
+use pm_machine::PhaseMeaning;
 use pm_paths::schema_path;
 use pm_schema::{TableSchema, declared_law, schema_law};
 use pm_schema_file::read_schema;
 use pm_store::{Answer, Call};
 use pm_values::Refusal;
 use std::alloc::{AllocError, Global};
-use std::mem;
 
-impl Machine for SchemaReader {
-    ghost use Rattle.pm_read_schema.specs.Reader.{next_call, Goes, Refuses, Stops};
+impl pm_machine::Phase for Phase {
+    ghost use Rattle.pm_read_schema.specs.Reader.{next_call, Goes, HasDeclared, Shown};
 
     ghost call_of = { next_call };
 
     ghost goes = { Goes };
 
-    ghost refuses = { Refuses };
+    ghost shown = { Shown };
 
-    ghost stops = { Stops };
+    ghost holds = { HasDeclared };
+
+    ghost end = { phases.Over };
 
     fn call(&self, alloc: Global) -> Result<Option<Call>, AllocError> {
-        match &self.phase {
+        match self {
             Phase::Schemas => Ok(Some(Call::list(alloc, "schema")?)),
             Phase::Schema { id } => Ok(Some(Call::Read {
                 path: schema_path(alloc, *id)?,
@@ -44,37 +44,19 @@ impl Machine for SchemaReader {
         }
     }
 
-    fn take(&mut self, alloc: Global, answer: Answer) -> Result<(), Refusal> {
-        let phase = mem::replace(&mut self.phase, Phase::Over);
-        match next_phase(alloc, phase, answer) {
-            Ok(phase) => {
-                drop(mem::replace(&mut self.phase, phase));
-                Ok(())
+    fn next(self, alloc: Global, answer: Answer) -> Result<Phase, Refusal> {
+        match (self, answer) {
+            (Phase::Schemas, Answer::Listed(names)) => after_schemas(names),
+            (Phase::Schema { id }, Answer::Found(found)) => after_schema(alloc, id, found),
+            (Phase::Snapshots { schema }, Answer::Listed(names)) => {
+                after_snapshots(alloc, schema, names)
             }
-            Err(refusal) => Err(refusal),
+            _ => unreachable!(),
         }
     }
 
-    fn stop(&mut self) {
-        drop(mem::replace(&mut self.phase, Phase::Over));
-    }
-}
-
-/// The phase after an answer, or the refusal that it shows.
-fn next_phase(alloc: Global, phase: Phase, answer: Answer) -> Result<Phase, Refusal>
-    requires may { IsSomeAnd (next_call phase) (λ call. MayAnswer call answer) }
-    requires declared { HasDeclared phase }
-    ensures goes { IfOk result (Goes phase answer) }
-    ensures declared { IfOk result HasDeclared }
-    ensures refuses { IfErr result (Shown phase answer) }
-{
-    match (phase, answer) {
-        (Phase::Schemas, Answer::Listed(names)) => after_schemas(names),
-        (Phase::Schema { id }, Answer::Found(found)) => after_schema(alloc, id, found),
-        (Phase::Snapshots { schema }, Answer::Listed(names)) => {
-            after_snapshots(alloc, schema, names)
-        }
-        _ => unreachable!(),
+    fn over() -> Phase {
+        Phase::Over
     }
 }
 
@@ -151,11 +133,14 @@ fn no_origin(alloc: Global) -> Refusal
     }
 }
 
-impl Meaning for SchemaReader {
-    ghost use Rattle.pm_read_schema.specs.Meaning.{Anything, Knows, Leaves};
+impl PhaseMeaning for Phase {
+    ghost use Rattle.pm_read_schema.specs.Meaning.{Knows, Leaves};
+    ghost use Rattle.pm_read_schema.specs.Reader.{calls_left, reached_at, Reaches};
     ghost use Rattle.pm_read_schema.specs.Trace.{Did, Shows};
     ghost use Rattle.pm_model_folder.specs.Folder as folders;
     ghost use Rattle.pm_model_history.specs.History as histories;
+
+    type Step = SchemaStep;
 
     ghost History = { histories.History };
 
@@ -165,9 +150,24 @@ impl Meaning for SchemaReader {
 
     ghost knows = { Knows };
 
-    ghost others = { Anything };
+    ghost Asked = { Unit {0} };
 
-    ghost did = { Did };
+    ghost did = { λ asked. Did };
 
-    ghost shows = { Shows };
+    ghost shows = { λ asked. Shows };
+
+    ghost calls_left = { calls_left };
+
+    ghost reached_at = { reached_at };
+
+    ghost reaches = { Reaches };
+
+    ghost keeps = { λ old new. Unit {0} };
+
+    fn reached(&self) -> SchemaStep {
+        match self {
+            Phase::Ready { .. } => SchemaStep::Ready,
+            _ => SchemaStep::More,
+        }
+    }
 }

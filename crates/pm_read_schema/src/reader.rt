@@ -4,12 +4,12 @@ ghost use Rattle.std.specs.Prelude.{◌≡◌, ◌↔◌, ◌<◌, IfOk, OnOk, O
 ghost use Rattle.pm_schema.specs.Again.{IsDeclared};
 ghost use Rattle.pm_store.specs.Store.{IsLater};
 ghost use Rattle.pm_read_schema.specs.Meaning.{ReaderMoved};
-ghost use Rattle.pm_read_schema.specs.Reader.{calls_left, reached_at, IsReady, Reaches};
+ghost use Rattle.pm_read_schema.specs.Reader.{calls_left, IsReady, Reaches};
 ghost use Rattle.pm_read_schema.specs.Trace.{ReaderActed};
 ghost use Rattle.pm_read_schema.specs.declared.phase.Phase.TheVariants as phases;
 
 use crate::phase::Phase;
-use pm_machine::step;
+use pm_machine::{Running, make_step};
 use pm_schema::TableSchema;
 use pm_store::FileStore;
 use pm_values::Refusal;
@@ -25,24 +25,21 @@ pub enum SchemaStep {
 
 /// Reads the schema of a table, a call of the store a step.
 pub struct SchemaReader {
-    pub(crate) phase: Phase,
+    running: Running<Phase>,
 }
 
 impl Drop for SchemaReader {
     fn drop(self) {
-        let SchemaReader { phase } = self;
+        let SchemaReader { running } = self;
     }
 }
 
 impl Model for SchemaReader {
-    ghost use Rattle.pm_read_schema.specs.Reader.{HasDeclared};
     ghost use Rattle.pm_read_schema.specs.declared.phase.Phase.{Phase};
 
     ghost Value = { Phase };
 
-    ghost view = { λ r. r.phase };
-
-    ghost invariant = { λ r. HasDeclared r.phase };
+    ghost view = { λ r. r.running };
 }
 
 impl SchemaReader {
@@ -51,7 +48,7 @@ impl SchemaReader {
         ensures { result ≡ phases.Schemas }
     {
         SchemaReader {
-            phase: Phase::Schemas,
+            running: Running::new(Phase::Schemas),
         }
     }
 
@@ -59,7 +56,7 @@ impl SchemaReader {
     pub fn is_ready(&self) -> bool
         ensures { IsTrue result ↔ IsReady self.now }
     {
-        matches!(self.phase, Phase::Ready { .. })
+        matches!(self.running.phase(), Phase::Ready { .. })
     }
 
     /// The schema, once it is ready.
@@ -68,8 +65,8 @@ impl SchemaReader {
         ensures schema { self ≡ phases.Ready result }
         ensures declared { IsDeclared result }
     {
-        let SchemaReader { phase } = self;
-        match phase {
+        let SchemaReader { running } = self;
+        match running.into_phase() {
             Phase::Ready { schema } => schema,
             _ => unreachable!(),
         }
@@ -89,19 +86,6 @@ impl SchemaReader {
         ensures over { OnErr result (self.new ≡ phases.Over) }
         ensures later { IsLater (F.seen store.old) (F.seen store.new) }
     {
-        match step(alloc, self, store) {
-            Ok(()) => Ok(self.reached()),
-            Err(refusal) => Err(refusal),
-        }
-    }
-
-    /// What a step that went on has reached.
-    fn reached(&self) -> SchemaStep
-        ensures { result ≡ reached_at self.now }
-    {
-        match self.phase {
-            Phase::Ready { .. } => SchemaStep::Ready,
-            _ => SchemaStep::More,
-        }
+        make_step(alloc, &mut self.running, store)
     }
 }

@@ -1,15 +1,15 @@
 -- All calls of a lister, and what they say where nobody else acts.
-use Rattle.std.proofs.Common.{◌≡◌, inl, inr, ℕ, ◌<◌, ◌≤◌, List, [], ◌∷◌, ◌++◌, map, Option, None, Some, IfSome, IsSome, Result, Ok, Err, sym, ap, ◌∙◌, subst, append-nil, append_assoc}
+use Rattle.std.proofs.Common.{◌≡◌, inl, inr, ℕ, ◌<◌, ◌≤◌, List, [], ◌∷◌, ◌++◌, map, Option, None, Some, IfSome, IsSome, Result, Ok, Err, refl, sym, ap, ◌∙◌, subst, append-nil, append_assoc}
 use Rattle.std.specs.FinMap as finite
 use Rattle.std.specs.List.{AllByRecursion, AllZip}
-use Rattle.pm_base.specs.Faults.{Rose}
 use Rattle.pm_values.specs.declared.refusal.Refusal.{Refusal}
 use Rattle.pm_values.specs.declared.refusal.Refusal.TheVariants as refusals
 use Rattle.pm_store.specs.Files.{Files, IsListing}
 use Rattle.pm_store.specs.Store.{StoreView, IsLater, at_first_own}
 use Rattle.pm_machine.specs.Trace.{Event, Acts, HasTrace, Traces}
 use Rattle.pm_machine.proofs.AloneLaws.{Traces-first}
-use Rattle.pm_machine.proofs.Facts.{HasTrace-acts, Traces-faulted}
+use Rattle.pm_machine.proofs.Facts.{HasTrace-acts}
+use Rattle.pm_machine.proofs.PhaseFacts.{failed_rose}
 use Rattle.pm_model_history.specs.History.{History, IsTableOf}
 use Rattle.pm_schema.specs.declared.schema.TableSchema.{TableSchema}
 use Rattle.pm_snapshot.specs.Names.{greatest, snapshot_name}
@@ -22,22 +22,23 @@ use Rattle.pm_model_folder.proofs.Facts.{listed-snapshot, read-snapshot}
 use Rattle.pm_paths.specs.Ids.{AreIds}
 use Rattle.pm_paths.proofs.ListedLemmas.{ids_there}
 use Rattle.pm_read_schema.specs.AllCalls.{IsCaused}
-use Rattle.pm_read_schema.specs.Reader.{schemas_call, snapshots_call}
+use Rattle.pm_read_schema.specs.declared.phase.Phase.TheVariants as readers
 use Rattle.pm_read_schema.specs.Trace.{Names, listed_snapshots}
 use Rattle.pm_read_schema.proofs.AllCallsLemmas as reader
-use Rattle.pm_read_schema.proofs.AllCallsLemmas.{calls_more, list_still, read_still}
-use Rattle.pm_read_schema.proofs.StillLemmas.{AreStill, IsTold, AreTold, IsStill, told_last, stayed}
+use Rattle.pm_read_schema.proofs.AllCallsLemmas.{list_still, read_still}
+use Rattle.pm_read_schema.proofs.Facts as reader_facts
+use Rattle.pm_read_schema.proofs.StillLemmas.{AreStill, IsTold, AreTold, IsStill, calls_more, ended_still, failed_still, told_last, stayed}
 use Rattle.pm_snapshots.specs.AllCalls.{AreIdsOf, AreLinesOf, GoesOnFrom, DidList, ListsTables}
-use Rattle.pm_snapshots.specs.Lister.{snapshot_call, calls_left, lines_of, schema_at, IsDone, IsLister, KeepsSchema, Reaches}
+use Rattle.pm_snapshots.specs.Lister.{IsDone, IsLister, KeepsSchema, Reaches, calls_left, lines_of, next_call, schema_at}
 use Rattle.pm_snapshots.specs.Meaning.{IsLineAt}
 use Rattle.pm_snapshots.specs.Reading.{ReadingView, next_id}
-use Rattle.pm_snapshots.specs.Trace.{Has, read_snapshot, Lists, IsLineOf, HasRead, Meets, HasListed, MayEnd, of_reader, at_list, at_ids, at_read, at_snapshot, IsFailed, in_reader, in_list, in_read, Shows, Did, ListerActed}
+use Rattle.pm_snapshots.specs.Trace.{Has, read_snapshot, Lists, IsLineOf, HasRead, Meets, HasListed, DidSoFar, MayTakeMemory, ShowsOwn, Shows, Did, ListerActed}
 use Rattle.pm_snapshots.specs.declared.line.SnapshotLine.{SnapshotLine}
 use Rattle.pm_snapshots.specs.declared.lister.ListStep.{ListStep}
 use Rattle.pm_snapshots.specs.declared.lister.ListStep.TheVariants as steps
 use Rattle.pm_snapshots.specs.declared.phase.Phase.{Phase}
 use Rattle.pm_snapshots.specs.declared.phase.Phase.TheVariants as phases
-use Rattle.pm_snapshots.proofs.Facts.{printed}
+use Rattle.pm_snapshots.proofs.Facts.{printed, spares}
 use Rattle.pm_snapshots.proofs.ReadingLemmas.{next_listed}
 
 -- ---- its calls change nothing
@@ -69,27 +70,23 @@ meets_calls : (r : ReadingView) (id : ℕ) (found : Option (List ℕ)) (own : Li
 meets_calls r id found own (earlier, has, next, is) =
     subst AreStill (sym is) (calls_more earlier (read_snapshot id found) (read_calls r earlier has) (read_still (snapshot_path id)))
 
-ended_calls : (own : List Event) → MayEnd own → AreStill own
-ended_calls own (of_reader shows) = reader.shows_calls refusals.Memory own shows
-ended_calls own (at_list s has) = reader.ready_calls s own has
-ended_calls own (at_ids s names lists) = lists_calls s names own lists
-ended_calls own (at_read r has) = read_calls r own has
-ended_calls own (at_snapshot r id bytes meets) = meets_calls r id (Some bytes) own meets
+so_far_calls : (m : Phase) (own : List Event) → IsSome (next_call m) → DidSoFar m own → AreStill own
+so_far_calls (phases.Schema r) own called did = reader.shows_calls refusals.Memory own ((reader_facts.recounts.stopped r readers.Over own called refl did).1)
+so_far_calls (phases.List s) own called did = reader.ready_calls s own did
+so_far_calls (phases.Read r) own called did = read_calls r own did
+so_far_calls phases.Over own called did = absurd did
 
-failed_calls : (path : List ℕ) (own : List Event) → IsFailed path own → AreStill own
-failed_calls path own (in_reader shows) = reader.shows_calls (refusals.StoreFault path) own shows
-failed_calls path own (in_list s earlier has at is) =
-    subst AreStill (sym is) (calls_more earlier _ (reader.ready_calls s earlier has) (list_still snapshot_folder))
-failed_calls path own (in_read r id earlier has next at is) =
-    subst AreStill (sym is) (calls_more earlier _ (read_calls r earlier has) (read_still (snapshot_path id)))
+own_calls : (refusal : Refusal) (own : List Event) → ShowsOwn refusal own → AreStill own
+own_calls refusals.Memory own (inl ends) = ended_still next_call DidSoFar MayTakeMemory spares so_far_calls own ends
+own_calls refusals.Memory own (inr (s, lines, listed)) = listed_calls s lines own listed
+own_calls (refusals.StoreFault path) own failed = failed_still next_call DidSoFar MayTakeMemory spares so_far_calls path own failed
+own_calls (refusals.Expired id) own (r, meets) = meets_calls r id None own meets
+own_calls (refusals.Damaged path place) own (r, id, bytes, at, zero, bad, meets) = meets_calls r id (Some bytes) own meets
+own_calls other own shows = absurd shows
 
 shows_calls : (refusal : Refusal) (own : List Event) → Shows refusal own → AreStill own
-shows_calls refusals.Memory own shows = ended_calls own shows
-shows_calls (refusals.StoreFault path) own shows = failed_calls path own shows
-shows_calls (refusals.Expired id) own (r, meets) = meets_calls r id None own meets
-shows_calls (refusals.Damaged path place) own (inl shows) = reader.shows_calls (refusals.Damaged path place) own shows
-shows_calls (refusals.Damaged path place) own (inr (r, id, bytes, at, zero, bad, meets)) = meets_calls r id (Some bytes) own meets
-shows_calls other own shows = reader.shows_calls other own shows
+shows_calls refusal own (inl shows) = reader.shows_calls refusal own shows
+shows_calls refusal own (inr shows) = own_calls refusal own shows
 
 -- ---- what they say of the files that each answer is of
 
@@ -123,14 +120,6 @@ meets_at : (f : Files) (r : ReadingView) (id : ℕ) (found : Option (List ℕ)) 
 meets_at f r id found own (earlier, has, next, is) told =
     let parts = told_last f earlier (read_snapshot id found) (subst (AreTold f) is told) in
     (next_at f r id earlier has next parts.0, parts.1)
-
-failed_rose : (path : List ℕ) (own : List Event) (first after : StoreView) → IsFailed path own → Traces own first after
-    → Rose first.faults after.faults
-failed_rose path own first after (in_reader shows) trace = reader.failed_rose path own first after shows trace
-failed_rose path own first after (in_list s earlier has at is) trace =
-    Traces-faulted earlier snapshots_call first after (subst (λ (own : List Event). Traces own first after) is trace)
-failed_rose path own first after (in_read r id earlier has next at is) trace =
-    Traces-faulted earlier (snapshot_call id) first after (subst (λ (own : List Event). Traces own first after) is trace)
 
 module _ (f : Files) (h : History) (folder : Folder f h) where
   ids_at : (names : List (List ℕ)) (ids : List ℕ) → AreIds names ids → IsListing snapshot_folder names f → AreIdsOf f ids
@@ -167,15 +156,18 @@ module _ (f : Files) (h : History) (folder : Folder f h) where
       let clash : Err faults.Bad ≡ Ok reads.0 = sym bad ∙ ap (snapshot_in id) bytes_are ∙ reads.1.2 in
       cc
 
+  own_at : (first after : StoreView) (refusal : Refusal) (own : List Event) → ShowsOwn refusal own → AreTold f own → Traces own first after
+      → IsCaused h first after refusal
+  own_at first after refusals.Memory own shows told trace = tt
+  own_at first after (refusals.StoreFault path) own shows told trace = failed_rose next_call DidSoFar path own first after shows trace
+  own_at first after (refusals.Expired id) own (r, meets) told trace = absent_at r id own meets told
+  own_at first after (refusals.Damaged path place) own (r, id, bytes, at, zero, bad, meets) told trace = damaged_at r id bytes own bad meets told
+  own_at first after other own shows told trace = absurd shows
+
   shows_at : (first after : StoreView) (refusal : Refusal) (own : List Event) → Shows refusal own → AreTold f own → Traces own first after
       → IsCaused h first after refusal
-  shows_at first after refusals.Memory own shows told trace = tt
-  shows_at first after (refusals.StoreFault path) own shows told trace = failed_rose path own first after shows trace
-  shows_at first after (refusals.Expired id) own (r, meets) told trace = absent_at r id own meets told
-  shows_at first after (refusals.Damaged path place) own (inl shows) told trace =
-      reader.shows_at f h folder first after (refusals.Damaged path place) own shows told trace
-  shows_at first after (refusals.Damaged path place) own (inr (r, id, bytes, at, zero, bad, meets)) told trace = damaged_at r id bytes own bad meets told
-  shows_at first after other own shows told trace = reader.shows_at f h folder first after other own shows told trace
+  shows_at first after refusal own (inl shows) told trace = reader.shows_at f h folder first after refusal own shows told trace
+  shows_at first after refusal own (inr shows) told trace = own_at first after refusal own shows told trace
 
 -- ---- all calls
 

@@ -1,25 +1,22 @@
 -- A lister of snapshots keeps the laws of machines.
-use Rattle.std.proofs.Common.{◌≡◌, inl, inr, ℕ, ◌<◌, ◌+◌, List, [], ◌∷◌, ◌++◌, length, Option, None, Some, option_map, IsSome, IfSome, Result, Ok, OnOk, refl, sym, ap, ◌∙◌, subst, arith, append_assoc}
+use Rattle.std.proofs.Common.{◌≡◌, inl, inr, ℕ, ◌<◌, ◌+◌, List, [], ◌∷◌, ◌++◌, length, Option, None, Some, option_map, IsSome, IfSome, Ok, refl, sym, ap, ◌∙◌, subst, arith, append_assoc}
 use Rattle.std.specs.FinMap as map
 use Rattle.std.specs.List.{AllByRecursion, AllZip}
 use Rattle.std.proofs.lemmas.List.{append-nil, length_push}
 use Rattle.std.proofs.lemmas.Option.{IfSome_then, slice_get_within}
 use Rattle.pm_base.proofs.Laws.{AllByRecursion-push}
 use Rattle.pm_values.specs.declared.refusal.Refusal.{Refusal}
-use Rattle.pm_values.specs.declared.refusal.Refusal.TheVariants as refusals
 use Rattle.pm_store.specs.declared.answer.Answer.{Answer}
 use Rattle.pm_store.specs.declared.answer.Answer.TheVariants as answers
 use Rattle.pm_store.specs.declared.call.Call.{Call}
-use Rattle.pm_store.specs.declared.call.Effect.{Effect}
-use Rattle.pm_store.specs.declared.call.Effect.TheVariants as effects
 use Rattle.pm_store.specs.Answers.{Answers, MayAnswer}
-use Rattle.pm_store.specs.Files.{Files, after_effect, carried}
+use Rattle.pm_store.specs.Files.{Files}
 use Rattle.pm_store.specs.Images.{MayLeave}
-use Rattle.pm_store.specs.Store.{StoreView}
 use Rattle.pm_store.proofs.FileLaws.{effect_left}
-use Rattle.pm_machine.specs.Moves.{Leads, Sound}
-use Rattle.pm_machine.specs.Step.{path_of, Stepped, Rested, Went, Refused, Stopped, Failed}
-use Rattle.pm_machine.specs.Trace.{Event, Recounts, answered, faulted}
+use Rattle.pm_machine.specs.Moves.{Sound}
+use Rattle.pm_machine.specs.Running.{Refuses, Stops}
+use Rattle.pm_machine.specs.Trace.{Event, Recounts, after_answer, answered}
+use Rattle.pm_machine.proofs.PhaseFacts.{Spares, ended, recounts_of, sound_of_spared}
 use Rattle.pm_model_history.specs.History.{History}
 use Rattle.pm_schema.specs.declared.schema.TableSchema.{TableSchema}
 use Rattle.pm_snapshot.specs.Names.{greatest}
@@ -44,10 +41,10 @@ use Rattle.pm_read_schema.specs.declared.phase.Phase.TheVariants as readers
 use Rattle.pm_read_schema.proofs.Facts as reader_facts
 use Rattle.pm_read_schema.proofs.Facts.{kept_same, list_effect, read_effect, still_table}
 use Rattle.pm_snapshots.specs.Lines.{line_of}
-use Rattle.pm_snapshots.specs.Lister.{snapshot_call, next_call, IsLister, calls_left, IsDone, lines_of, schema_at, KeepsSchema, after_reader, Goes, Shown, Refuses, Stops, Reaches, done_at, reached_at}
+use Rattle.pm_snapshots.specs.Lister.{snapshot_call, next_call, IsLister, calls_left, IsDone, lines_of, schema_at, KeepsSchema, after_reader, Goes, Shown, Reaches, done_at, reached_at}
 use Rattle.pm_snapshots.specs.Meaning.{Leaves, IsLineAt, Knows}
 use Rattle.pm_snapshots.specs.Reading.{ReadingView, reading_of, next_id, add_line}
-use Rattle.pm_snapshots.specs.Trace.{read_snapshot, IsLineOf, HasRead, Meets, HasListed, MayEnd, of_reader, at_list, at_ids, at_read, at_snapshot, in_reader, in_list, in_read, Shows, Did}
+use Rattle.pm_snapshots.specs.Trace.{read_snapshot, IsLineOf, HasRead, Meets, HasListed, DidSoFar, MayTakeMemory, Shows, Did}
 use Rattle.pm_snapshots.specs.declared.line.SnapshotLine.{SnapshotLine}
 use Rattle.pm_snapshots.specs.declared.phase.Phase.{Phase}
 use Rattle.pm_snapshots.specs.declared.phase.Phase.TheVariants as phases
@@ -55,23 +52,15 @@ use Rattle.pm_snapshots.proofs.ReadingLemmas.{none_left, one_more, within_none}
 
 -- ---- its calls change nothing
 
-both_if : (next : Option Call) (P Q R : Call → Type 0) → ((call : Call) → P call → Q call → R call) → IfSome next P → IfSome next Q → IfSome next R
-both_if None P Q R weaker one two = tt
-both_if (Some call) P Q R weaker one two = weaker call one two
+read_spares : (next : Option ℕ) (f : Files) → IfSome (option_map snapshot_call next) (Spares f)
+read_spares None f = tt
+read_spares (Some id) f = λ effect. read_effect (snapshot_path id) effect f
 
--- each effect leaves the files as they are
-abbrev IsStill : Files → Call → Type 0
-IsStill f call = (effect : Effect) → after_effect call effect f ≡ f
-
-read_rests : (next : Option ℕ) (f : Files) → IfSome (option_map snapshot_call next) (IsStill f)
-read_rests None f = tt
-read_rests (Some id) f = λ effect. read_effect (snapshot_path id) effect f
-
-rests : (m : Phase) (f : Files) → IfSome (next_call m) (IsStill f)
-rests (phases.Schema r) f = reader_facts.rests r f
-rests (phases.List s) f = λ effect. list_effect snapshot_folder effect f
-rests (phases.Read r) f = read_rests (next_id r) f
-rests phases.Over f = tt
+pub spares : (m : Phase) (f : Files) → IfSome (next_call m) (Spares f)
+spares (phases.Schema r) f = reader_facts.spares r f
+spares (phases.List s) f = λ effect. list_effect snapshot_folder effect f
+spares (phases.Read r) f = read_spares (next_id r) f
+spares phases.Over f = tt
 
 -- ---- what it knows
 
@@ -109,26 +98,8 @@ knows_next (phases.Read r) (answers.Found (Some bytes)) new f h (id, s, next, re
     (λ call knows told. subst (λ (m : Phase). Knows m f h) (sym is) (is_table, knows told))
 knows_next m answer new f h goes folder known = absurd goes
 
-over_knows : (new : Phase) (f : Files) (h : History) → new ≡ phases.Over → Knows new f h
-over_knows new f h over = subst (λ (m : Phase). Knows m f h) (sym over) tt
-
-leads_still : (m new : Phase) (f after : Files) (h : History) → after ≡ f → Knows new f h → Leads (Leaves m) (Knows new) f h after
-leads_still m new f after h same known =
-    (h, kept_same f after h same, subst (λ (g : Files). Knows new g h) (sym same) known)
-
-pub sound : Sound next_call Goes Refuses Stops Folder Leaves Knows
-sound = record {
-  changes = λ m f h folder known. IfSome_then (next_call m) (rests m f)
-      (λ call still effect. (h, kept_same f (after_effect call effect f) h (still effect)));
-  went = λ m new answer f h goes folder known. both_if (next_call m) _ _ _
-      (λ call still knows told. leads_still m new f (carried call f) h (still effects.Whole) (knows told))
-      (rests m f) (knows_next m answer new f h goes folder known);
-  refused = λ m new answer refusal f h refuses folder known. IfSome_then (next_call m) (rests m f)
-      (λ call still told. leads_still m new f (carried call f) h (still effects.Whole) (over_knows new f h refuses.1));
-  failed = λ m new effect f h stops folder known. IfSome_then (next_call m) (rests m f)
-      (λ call still may. leads_still m new f (after_effect call effect f) h (still effect) (over_knows new f h stops));
-  stopped = λ m new f h called stops folder known. over_knows new f h stops;
-}
+pub sound : Sound next_call Goes (Refuses Shown phases.Over) (Stops phases.Over) Folder Leaves Knows
+sound = sound_of_spared next_call Goes Shown phases.Over Folder Leaves Knows (λ m. kept_same) spares knows_next (λ f h. tt)
 
 -- ---- its calls
 
@@ -186,14 +157,6 @@ went_on (phases.Read r) (answers.Found (Some bytes)) new own (id, s, next, reads
     (λ call done may. subst (λ (m : Phase). Did m (own ++ answered call (answers.Found (Some bytes)) ∷ [])) (sym is) done)
 went_on m answer new own goes did = absurd goes
 
--- what the calls of the schema's reader show is shown
-from_reader : (refusal : Refusal) (own : List Event) → reader_trace.Shows refusal own → Shows refusal own
-from_reader refusals.Memory own shows = of_reader shows
-from_reader (refusals.StoreFault path) own shows = in_reader shows
-from_reader (refusals.Expired id) own shows = absurd shows
-from_reader (refusals.Damaged path place) own shows = inl shows
-from_reader other own shows = shows
-
 -- what was found at the path of the next snapshot
 met : (r : ReadingView) (next : Option ℕ) (id : ℕ) (found : Option (List ℕ)) (own : List Event) → next_id r ≡ next → next ≡ Some id → HasRead r own
     → IfSome (option_map snapshot_call next) (λ call. Meets r id found (own ++ answered call (answers.Found found) ∷ []))
@@ -206,54 +169,32 @@ refused_on : (m : Phase) (answer : Answer) (refusal : Refusal) (own : List Event
     → IfSome (next_call m) (λ call. MayAnswer call answer → Shows refusal (own ++ answered call answer ∷ []))
 refused_on (phases.Schema r) answer refusal own shown did =
     IfSome_then (reader.next_call r) (reader_facts.recounts.refused r readers.Over answer refusal own (shown, refl) did)
-    (λ call done may. from_reader refusal (own ++ answered call answer ∷ []) (done may).1)
+    (λ call done may. inl (done may).1)
 refused_on (phases.List s) (answers.Listed names) refusal own is did = λ may.
-    subst (λ (refusal : Refusal). Shows refusal (own ++ listed_snapshots names ∷ [])) (sym is) (at_ids s names (own, did, refl))
+    subst (λ (refusal : Refusal). Shows refusal (own ++ listed_snapshots names ∷ [])) (sym is)
+    (inr (inl (after_answer (phases.List s) snapshots_call (answers.Listed names) own did refl may tt refl)))
 refused_on (phases.Read r) (answers.Found None) refusal own (id, next, is) did =
     IfSome_then (next_call (phases.Read r)) (met r (next_id r) id None own refl next did)
-    (λ call meets may. subst (λ (refusal : Refusal). Shows refusal (own ++ answered call (answers.Found None) ∷ [])) (sym is) (r, meets))
+    (λ call meets may. subst (λ (refusal : Refusal). Shows refusal (own ++ answered call (answers.Found None) ∷ [])) (sym is) (inr (r, meets)))
 refused_on (phases.Read r) (answers.Found (Some bytes)) refusal own (id, next, inl is) did =
-    IfSome_then (next_call (phases.Read r)) (met r (next_id r) id (Some bytes) own refl next did)
-    (λ call meets may. subst (λ (refusal : Refusal). Shows refusal (own ++ answered call (answers.Found (Some bytes)) ∷ [])) (sym is)
-    (at_snapshot r id bytes meets))
+    IfSome_then (next_call (phases.Read r))
+    (ended next_call DidSoFar MayTakeMemory (phases.Read r) (next_call (phases.Read r)) (answers.Found (Some bytes)) own refl did tt)
+    (λ call ends may. subst (λ (refusal : Refusal). Shows refusal (own ++ answered call (answers.Found (Some bytes)) ∷ [])) (sym is) (inr (inl (ends may))))
 refused_on (phases.Read r) (answers.Found (Some bytes)) refusal own (id, next, inr is) did =
     IfSome_then (next_call (phases.Read r)) (met r (next_id r) id (Some bytes) own refl next did)
     (λ call meets may. subst (λ (refusal : Refusal). Shows refusal (own ++ answered call (answers.Found (Some bytes)) ∷ [])) (sym is.0)
     (inr (r, id, bytes, refl, refl, is.1, meets)))
 refused_on m answer refusal own shown did = absurd shown
 
-failed_read : (r : ReadingView) (next : Option ℕ) (own : List Event) → next_id r ≡ next → HasRead r own
-    → IfSome (option_map snapshot_call next) (λ call. Shows (refusals.StoreFault (path_of call)) (own ++ faulted call ∷ []))
-failed_read r None own is did = tt
-failed_read r (Some id) own is did = in_read r id own did is refl refl
+so_far : (m : Phase) (own : List Event) → IsSome (next_call m) → Did m own → DidSoFar m own
+so_far (phases.Schema r) own called did = did
+so_far (phases.List s) own called did = did
+so_far (phases.Read r) own called did = did
+so_far phases.Over own called did = absurd (let clash = called in cc)
 
-failed_on : (m : Phase) (own : List Event) → Did m own
-    → IfSome (next_call m) (λ call. Shows (refusals.StoreFault (path_of call)) (own ++ faulted call ∷ []))
-failed_on (phases.Schema r) own did =
-    IfSome_then (reader.next_call r) (reader_facts.recounts.failed r readers.Over own refl did)
-    (λ call done. in_reader done.1)
-failed_on (phases.List s) own did = in_list s own did refl refl
-failed_on (phases.Read r) own did = failed_read r (next_id r) own refl did
-failed_on phases.Over own did = tt
-
-stopped_on : (m : Phase) (own : List Event) → IsSome (next_call m) → Did m own → MayEnd own
-stopped_on (phases.Schema r) own called did = of_reader ((reader_facts.recounts.stopped r readers.Over own called refl did).1)
-stopped_on (phases.List s) own called did = at_list s did
-stopped_on (phases.Read r) own called did = at_read r did
-stopped_on phases.Over own called did = absurd (let clash = called in cc)
-
-over_did : (new : Phase) (refusal : Refusal) (own : List Event) → new ≡ phases.Over → Shows refusal own → Did new own × Shows refusal own
-over_did new refusal own over shows = (subst (λ (m : Phase). Did m own) (sym over) (refusal, shows), shows)
-
-pub recounts : Recounts next_call Goes Refuses Stops Did Shows
-recounts = record {
-  went = λ m new answer own goes did. went_on m answer new own goes did;
-  refused = λ m new answer refusal own refuses did. IfSome_then (next_call m) (refused_on m answer refusal own refuses.0 did)
-      (λ call shows may. over_did new refusal (own ++ answered call answer ∷ []) refuses.1 (shows may));
-  failed = λ m new own stops did. IfSome_then (next_call m) (failed_on m own did)
-      (λ call shows. over_did new (refusals.StoreFault (path_of call)) (own ++ faulted call ∷ []) stops shows);
-  stopped = λ m new own called stops did. over_did new refusals.Memory own stops (stopped_on m own called did);
-}
+pub recounts : Recounts next_call Goes (Refuses Shown phases.Over) (Stops phases.Over) Did Shows
+recounts = recounts_of next_call Goes Shown phases.Over DidSoFar Did MayTakeMemory Shows so_far (λ refusal own shows. (refusal, shows))
+    (λ path own failed. inr failed) (λ own ends. inr (inl ends)) went_on refused_on
 
 -- ---- how far it has come
 
@@ -317,22 +258,16 @@ read_called r None is left = absurd (let within = within_none r is in omega (ari
 read_called r (Some id) is left = refl
 
 -- a lister with calls left has a next one
-has_call : (m : Phase) → IsLister m → 0 < calls_left m → IsSome (next_call m)
+pub has_call : (m : Phase) → IsLister m → 0 < calls_left m → IsSome (next_call m)
 has_call (phases.Schema r) is left = reader_called r is
 has_call (phases.List s) is left = refl
 has_call (phases.Read r) is left = read_called r (next_id r) refl (omega (arith, left))
 has_call phases.Over is left = absurd (omega (arith, left))
 
 -- a step that goes on leaves fewer calls, what it reached, and the schema
-pub steps_on : {old new : Phase} {before after : StoreView} {result : Result (Unit {0}) Refusal}
-    → Stepped next_call Goes Refuses Stops old new before after result → IsLister old → 0 < calls_left old
-    → OnOk result ((calls_left new < calls_left old) × Reaches (reached_at new) new × KeepsSchema old new)
-steps_on {old = old} {new = new} (Rested none same still) is left =
-    absurd (let called = has_call old is left in let clash = rw none at called in cc)
-steps_on {old = old} {new = new} (Went call answer at came on) is left = (goes_fewer old answer new on, goes_reaches old answer new on, goes_kept old answer new on)
-steps_on (Refused call answer refusal at came on) is left = tt
-steps_on (Stopped call at meanwhile stop) is left = tt
-steps_on (Failed call at came stop) is left = tt
+pub goes : (m : Phase) (answer : Answer) (new : Phase) → IsLister m → Goes m answer new
+    → (calls_left new < calls_left m) × Reaches (reached_at new) new × KeepsSchema m new
+goes m answer new is on = (goes_fewer m answer new on, goes_reaches m answer new on, goes_kept m answer new on)
 
 -- ---- laws
 
@@ -355,7 +290,7 @@ knows_still phases.Over other f after h later folder change known = tt
 pub images : (m : Phase) (call : Call) (f image : Files) (h : History) → next_call m ≡ Some call → MayLeave call f image → AreKept f h image h
 images m call f image h is left =
     let had = effect_left call f image left in
-    let still = rw is at (rests m f) in
+    let still = rw is at (spares m f) in
     kept_same f image h (had.1 ∙ still had.0)
 
 pub printed : (m : Phase) (s : TableSchema) (own : List Event) → IsLister m → IsDone m → schema_at m ≡ Some s → Did m own

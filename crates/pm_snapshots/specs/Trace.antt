@@ -5,19 +5,19 @@ use Rattle.pm_values.specs.declared.refusal.Refusal.{Refusal}
 use Rattle.pm_values.specs.declared.refusal.Refusal.TheVariants as refusals
 use Rattle.pm_store.specs.declared.answer.Answer.TheVariants as answers
 use Rattle.pm_store.specs.Store.{StoreView}
-use Rattle.pm_machine.specs.Trace.{Event, Acts, answered, faulted}
+use Rattle.pm_store.specs.declared.answer.Answer.{Answer}
+use Rattle.pm_machine.specs.Trace.{Event, Acts, IsFailed, MayEnd, answered}
 use Rattle.pm_schema.specs.declared.schema.TableSchema.{TableSchema}
 use Rattle.pm_snapshot.specs.Snapshot.{snapshot_in}
 use Rattle.pm_snapshot.specs.declared.fault.SnapFault.TheVariants as faults
 use Rattle.pm_snapshot.specs.declared.snapshot.Snapshot.{Snapshot}
-use Rattle.pm_model_folder.specs.Paths.{snapshot_folder, snapshot_path}
+use Rattle.pm_model_folder.specs.Paths.{snapshot_path}
 use Rattle.pm_paths.specs.Ids.{AreIds}
-use Rattle.pm_read_schema.specs.Reader.{snapshots_call}
 use Rattle.pm_read_schema.specs.Trace as reader
 use Rattle.pm_read_schema.specs.Trace.{Names, listed_snapshots}
 use Rattle.pm_read_schema.specs.declared.phase.Phase.TheVariants as readers
 use Rattle.pm_snapshots.specs.Lines.{line_of}
-use Rattle.pm_snapshots.specs.Lister.{snapshot_call}
+use Rattle.pm_snapshots.specs.Lister.{next_call, snapshot_call}
 use Rattle.pm_snapshots.specs.Reading.{ReadingView, IsReading, next_id}
 use Rattle.pm_snapshots.specs.declared.line.SnapshotLine.{SnapshotLine}
 use Rattle.pm_snapshots.specs.declared.lister.ListStep.{ListStep}
@@ -64,41 +64,42 @@ HasListed s lines own =
 
 -- ---- what they show
 
--- calls after which memory may have run out: each was answered, and no snapshot that was listed was absent
-pub data MayEnd (own : List Event) : Type 0 where
-  of_reader : reader.Shows refusals.Memory own → MayEnd own
-  at_list : (s : TableSchema) → Has s own → MayEnd own
-  at_ids : (s : TableSchema) (names : Names) → Lists s names own → MayEnd own
-  at_read : (r : ReadingView) → HasRead r own → MayEnd own
-  at_snapshot : (r : ReadingView) (id : ℕ) (bytes : List ℕ) → Meets r id (Some bytes) own → MayEnd own
+-- its calls so far, before its end
+abbrev pub DidSoFar : Phase → List Event → Type 0
+DidSoFar (phases.Schema r) own = reader.Did r own
+DidSoFar (phases.List s) own = Has s own
+DidSoFar (phases.Read r) own = HasRead r own
+DidSoFar phases.Over own = ⊥
 
--- The last call failed, and names its path: one of the reader of the schema, the listing of the snapshots, or the read
--- of the next of them.
-pub data IsFailed (path : List ℕ) (own : List Event) : Type 0 where
-  in_reader : reader.Shows (refusals.StoreFault path) own → IsFailed path own
-  in_list : (s : TableSchema) (earlier : List Event) → Has s earlier → path ≡ snapshot_folder
-      → own ≡ earlier ++ faulted snapshots_call ∷ [] → IsFailed path own
-  in_read : (r : ReadingView) (id : ℕ) (earlier : List Event) → HasRead r earlier → next_id r ≡ Some id
-      → path ≡ snapshot_path id → own ≡ earlier ++ faulted (snapshot_call id) ∷ [] → IsFailed path own
+-- What follows the answer may take memory: but what the reader of the schema makes of it is told by that, and that a
+-- snapshot which was listed is absent takes none.
+abbrev pub MayTakeMemory : Phase → Answer → Type 0
+MayTakeMemory (phases.Schema r) answer = ⊥
+MayTakeMemory (phases.Read r) (answers.Found None) = ⊥
+MayTakeMemory m answer = Unit {0}
 
--- Which calls show a refusal. A snapshot is expired where it was listed and read as absent. A file is damaged where it
--- is that of a listed snapshot whose bytes aren't one's. All else is shown by the calls of the reader of the schema.
+-- Which calls show a refusal, beside those of the reader of the schema. Memory ran out in a step, or where the lines of
+-- all snapshots are printed. A snapshot is expired where it was listed and read as absent. A file is damaged where it
+-- is that of a listed snapshot whose bytes aren't one's.
+abbrev pub ShowsOwn : Refusal → List Event → Type 0
+ShowsOwn refusals.Memory own =
+    MayEnd next_call DidSoFar MayTakeMemory own
+    ⊎ ((s : TableSchema) × (lines : List SnapshotLine) × HasListed s lines own)
+ShowsOwn (refusals.StoreFault path) own = IsFailed next_call DidSoFar path own
+ShowsOwn (refusals.Expired id) own = (r : ReadingView) × Meets r id None own
+ShowsOwn (refusals.Damaged path place) own =
+    (r : ReadingView) × (id : ℕ) × (bytes : List ℕ) × (path ≡ snapshot_path id) × (place ≡ 0)
+    × (snapshot_in id bytes ≡ Err faults.Bad) × Meets r id (Some bytes) own
+ShowsOwn other own = ⊥
+
+-- which calls show a refusal: what the reader of the schema shows is shown
 abbrev pub Shows : Refusal → List Event → Type 0
-Shows refusals.Memory own = MayEnd own
-Shows (refusals.StoreFault path) own = IsFailed path own
-Shows (refusals.Expired id) own = (r : ReadingView) × Meets r id None own
-Shows (refusals.Damaged path place) own =
-    reader.Shows (refusals.Damaged path place) own
-    ⊎ ((r : ReadingView) × (id : ℕ) × (bytes : List ℕ) × (path ≡ snapshot_path id) × (place ≡ 0)
-    × (snapshot_in id bytes ≡ Err faults.Bad) × Meets r id (Some bytes) own)
-Shows other own = reader.Shows other own
+Shows refusal own = reader.Shows refusal own ⊎ ShowsOwn refusal own
 
 -- its calls so far, by its phase: at its end they show a refusal
 abbrev pub Did : Phase → List Event → Type 0
-Did (phases.Schema r) own = reader.Did r own
-Did (phases.List s) own = Has s own
-Did (phases.Read r) own = HasRead r own
 Did phases.Over own = (refusal : Refusal) × Shows refusal own
+Did m own = DidSoFar m own
 
 -- Its next call is the next event of its calls so far, or none was made; and a refusal is shown by the calls up to it.
 abbrev pub ListerActed : Phase → Phase → StoreView → StoreView → Result ListStep Refusal → Type 0

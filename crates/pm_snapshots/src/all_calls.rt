@@ -50,6 +50,6 @@ fn make_calls<F: FileStore>(alloc: Global, lister: Lister, store: &mut F) -> Res
             }
         }
     }
-    let _ = &lister.phase;
+    lister.known();
     Ok(lister)
 }

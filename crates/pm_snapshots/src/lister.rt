@@ -4,7 +4,7 @@ ghost use Rattle.std.specs.Prelude.{◌≡◌, ◌↔◌, ◌<◌, IfOk, OnOk, O
 ghost use Rattle.std.specs.Option.{option_copied};
 ghost use Rattle.pm_store.specs.Store.{IsLater};
 ghost use Rattle.pm_snapshots.specs.Lines.{snapshots_text};
-ghost use Rattle.pm_snapshots.specs.Lister.{calls_left, lines_of, reached_at, schema_at};
+ghost use Rattle.pm_snapshots.specs.Lister.{calls_left, lines_of, schema_at};
 ghost use Rattle.pm_snapshots.specs.Lister.{IsDone, IsLister, KeepsSchema, Reaches};
 ghost use Rattle.pm_snapshots.specs.Meaning.{ListerMoved};
 ghost use Rattle.pm_snapshots.specs.Trace.{ListerActed};
@@ -13,11 +13,11 @@ ghost use Rattle.pm_read_schema.specs.declared.phase.Phase.TheVariants as reader
 
 use crate::line::print_lines;
 use crate::phase::Phase;
-use pm_machine::step;
+use pm_machine::{Running, make_step};
 use pm_schema::TableSchema;
 use pm_store::FileStore;
 use pm_values::Refusal;
-use pm_read_schema::SchemaReader;
+use pm_read_schema::Phase as SchemaPhase;
 use std::alloc::{AllocError, Global};
 use std::marker::Model;
 
@@ -30,24 +30,21 @@ pub enum ListStep {
 
 /// Lists the snapshots of a table, a call of the store a step.
 pub struct Lister {
-    pub(crate) phase: Phase,
+    running: Running<Phase>,
 }
 
 impl Drop for Lister {
     fn drop(self) {
-        let Lister { phase } = self;
+        let Lister { running } = self;
     }
 }
 
 impl Model for Lister {
-    ghost use Rattle.pm_snapshots.specs.Lister.{IsLister};
     ghost use Rattle.pm_snapshots.specs.declared.phase.Phase.{Phase};
 
     ghost Value = { Phase };
 
-    ghost view = { λ l. l.phase };
-
-    ghost invariant = { λ l. IsLister l.phase };
+    ghost view = { λ l. l.running };
 }
 
 impl Lister {
@@ -56,9 +53,9 @@ impl Lister {
         ensures { result ≡ phases.Schema readers.Schemas }
     {
         Lister {
-            phase: Phase::Schema {
-                reader: SchemaReader::new(),
-            },
+            running: Running::new(Phase::Schema {
+                reader: Running::new(SchemaPhase::Schemas),
+            }),
         }
     }
 
@@ -67,7 +64,7 @@ impl Lister {
         ensures { result ≡ phases.List schema }
     {
         Lister {
-            phase: Phase::List { schema },
+            running: Running::new(Phase::List { schema }),
         }
     }
 
@@ -75,7 +72,7 @@ impl Lister {
     pub fn schema(&self) -> Option<&TableSchema>
         ensures { option_copied result ≡ schema_at self.now }
     {
-        match &self.phase {
+        match self.running.phase() {
             Phase::List { schema } => Some(schema),
             Phase::Read { reading } => Some(reading.schema()),
             _ => None,
@@ -86,7 +83,7 @@ impl Lister {
     pub fn is_done(&self) -> bool
         ensures { IsTrue result ↔ IsDone self.now }
     {
-        match &self.phase {
+        match self.running.phase() {
             Phase::Read { reading } => reading.next().is_none(),
             _ => false,
         }
@@ -97,7 +94,7 @@ impl Lister {
         requires { IsDone self.now }
         ensures { IfOk result (λ text. text.items ≡ snapshots_text (lines_of self.now)) }
     {
-        match &self.phase {
+        match self.running.phase() {
             Phase::Read { reading } => print_lines(alloc, reading.lines()),
             _ => unreachable!(),
         }
@@ -114,23 +111,13 @@ impl Lister {
         ensures over { OnErr result (self.new ≡ phases.Over) }
         ensures later { IsLater (F.seen store.old) (F.seen store.new) }
     {
-        let _ = &self.phase;
-        match step(alloc, self, store) {
-            Ok(()) => Ok(self.reached()),
-            Err(refusal) => Err(refusal),
-        }
+        make_step(alloc, &mut self.running, store)
     }
 
-    /// What a step that went on has reached.
-    fn reached(&self) -> ListStep
-        ensures { result ≡ reached_at self.now }
+    /// States for clauses what each lister is.
+    pub(crate) fn known(&self)
+        ensures { IsLister self.now }
     {
-        match &self.phase {
-            Phase::Read { reading } => match reading.next() {
-                Some(_) => ListStep::More,
-                None => ListStep::Done,
-            },
-            _ => ListStep::More,
-        }
+        self.running.known();
     }
 }

@@ -1,42 +1,43 @@
-//! A lister of snapshots as a machine.
+//! The phases of a lister of snapshots, and what they mean.
 
 ghost use Rattle.std.specs.Prelude.{◌≡◌, Some, IfOk, IfErr, IsSome, IsSomeAnd};
 ghost use Rattle.pm_store.specs.Answers.{MayAnswer};
 ghost use Rattle.pm_store.specs.declared.answer.Answer.TheVariants as answers;
 ghost use Rattle.pm_values.specs.declared.refusal.Refusal.TheVariants as refusals;
 ghost use Rattle.pm_read_schema.specs.Reader as readers;
-ghost use Rattle.pm_snapshots.specs.Lister.{next_call, after_reader, Goes, GoesToRead, IsLister, MayRefuse, Shown};
+ghost use Rattle.pm_snapshots.specs.Lister.{after_reader, Goes, GoesToRead, IsLister, MayRefuse, Shown};
 ghost use Rattle.pm_snapshots.specs.Reading.{next_id};
 ghost use Rattle.pm_snapshots.specs.declared.phase.Phase.TheVariants as phases;
 
 use crate::line::line_of;
-use crate::lister::Lister;
+use crate::lister::ListStep;
 use crate::phase::Phase;
 use crate::reading::Reading;
 use pm_base::{Blob, Txt};
-use pm_machine::{Machine, Meaning};
+use pm_machine::{Machine, PhaseMeaning, Running};
 use pm_paths::{ids_of, snapshot_path};
 use pm_schema::TableSchema;
 use pm_snapshot::{SnapFault, read_snapshot};
 use pm_store::{Answer, Call};
 use pm_values::Refusal;
-use pm_read_schema::SchemaReader;
+use pm_read_schema::Phase as SchemaPhase;
 use std::alloc::{AllocError, Global};
-use std::mem;
 
-impl Machine for Lister {
-    ghost use Rattle.pm_snapshots.specs.Lister.{next_call, Goes, Refuses, Stops};
+impl pm_machine::Phase for Phase {
+    ghost use Rattle.pm_snapshots.specs.Lister.{next_call, Goes, IsLister, Shown};
 
     ghost call_of = { next_call };
 
     ghost goes = { Goes };
 
-    ghost refuses = { Refuses };
+    ghost shown = { Shown };
 
-    ghost stops = { Stops };
+    ghost holds = { IsLister };
+
+    ghost end = { phases.Over };
 
     fn call(&self, alloc: Global) -> Result<Option<Call>, AllocError> {
-        match &self.phase {
+        match self {
             Phase::Schema { reader } => reader.call(alloc),
             Phase::List { .. } => Ok(Some(Call::list(alloc, "snapshot")?)),
             Phase::Read { reading } => match reading.next() {
@@ -49,39 +50,26 @@ impl Machine for Lister {
         }
     }
 
-    fn take(&mut self, alloc: Global, answer: Answer) -> Result<(), Refusal> {
-        let phase = mem::replace(&mut self.phase, Phase::Over);
-        match next_phase(alloc, phase, answer) {
-            Ok(phase) => {
-                drop(mem::replace(&mut self.phase, phase));
-                Ok(())
-            }
-            Err(refusal) => Err(refusal),
+    fn next(self, alloc: Global, answer: Answer) -> Result<Phase, Refusal> {
+        match (self, answer) {
+            (Phase::Schema { reader }, answer) => after_schema(alloc, reader, answer),
+            (Phase::List { schema }, Answer::Listed(names)) => after_list(alloc, schema, names),
+            (Phase::Read { reading }, Answer::Found(found)) => after_read(alloc, reading, found),
+            _ => unreachable!(),
         }
     }
 
-    fn stop(&mut self) {
-        drop(mem::replace(&mut self.phase, Phase::Over));
-    }
-}
-
-/// The phase after an answer, or the refusal that it shows.
-fn next_phase(alloc: Global, phase: Phase, answer: Answer) -> Result<Phase, Refusal>
-    requires may { IsSomeAnd (next_call phase) (λ call. MayAnswer call answer) }
-    ensures goes { IfOk result (Goes phase answer) }
-    ensures is_lister { IfOk result IsLister }
-    ensures refuses { IfErr result (Shown phase answer) }
-{
-    match (phase, answer) {
-        (Phase::Schema { reader }, answer) => after_schema(alloc, reader, answer),
-        (Phase::List { schema }, Answer::Listed(names)) => after_list(alloc, schema, names),
-        (Phase::Read { reading }, Answer::Found(found)) => after_read(alloc, reading, found),
-        _ => unreachable!(),
+    fn over() -> Phase {
+        Phase::Over
     }
 }
 
 /// The phase after an answer to a call of the schema's reader.
-fn after_schema(alloc: Global, reader: SchemaReader, answer: Answer) -> Result<Phase, Refusal>
+fn after_schema(
+    alloc: Global,
+    reader: Running<SchemaPhase>,
+    answer: Answer,
+) -> Result<Phase, Refusal>
     requires may { IsSomeAnd (readers.next_call reader) (λ call. MayAnswer call answer) }
     ensures goes { IfOk result (Goes (phases.Schema reader) answer) }
     ensures is_lister { IfOk result IsLister }
@@ -97,16 +85,15 @@ fn after_schema(alloc: Global, reader: SchemaReader, answer: Answer) -> Result<P
     }
 }
 
-/// The phase with this reader: the snapshots are to be listed once the schema is ready.
-fn after_reader(reader: SchemaReader) -> Phase
+/// The phase with this reader of the schema: the snapshots are to be listed once it is ready.
+fn after_reader(reader: Running<SchemaPhase>) -> Phase
     ensures { result ≡ after_reader reader }
 {
-    if reader.is_ready() {
-        Phase::List {
-            schema: reader.into_schema(),
-        }
-    } else {
-        Phase::Schema { reader }
+    match reader.into_phase() {
+        SchemaPhase::Ready { schema } => Phase::List { schema },
+        phase => Phase::Schema {
+            reader: Running::new(phase),
+        },
     }
 }
 
@@ -176,12 +163,14 @@ fn damaged(alloc: Global, id: u64, fault: SnapFault) -> Refusal
     }
 }
 
-impl Meaning for Lister {
+impl PhaseMeaning for Phase {
+    ghost use Rattle.pm_snapshots.specs.Lister.{calls_left, reached_at, KeepsSchema, Reaches};
     ghost use Rattle.pm_snapshots.specs.Meaning.{Knows, Leaves};
     ghost use Rattle.pm_snapshots.specs.Trace.{Did, Shows};
-    ghost use Rattle.pm_read_schema.specs.Meaning.{Anything};
     ghost use Rattle.pm_model_folder.specs.Folder as folders;
     ghost use Rattle.pm_model_history.specs.History as histories;
+
+    type Step = ListStep;
 
     ghost History = { histories.History };
 
@@ -191,9 +180,27 @@ impl Meaning for Lister {
 
     ghost knows = { Knows };
 
-    ghost others = { Anything };
+    ghost Asked = { Unit {0} };
 
-    ghost did = { Did };
+    ghost did = { λ asked. Did };
 
-    ghost shows = { Shows };
+    ghost shows = { λ asked. Shows };
+
+    ghost calls_left = { calls_left };
+
+    ghost reached_at = { reached_at };
+
+    ghost reaches = { Reaches };
+
+    ghost keeps = { KeepsSchema };
+
+    fn reached(&self) -> ListStep {
+        match self {
+            Phase::Read { reading } => match reading.next() {
+                Some(_) => ListStep::More,
+                None => ListStep::Done,
+            },
+            _ => ListStep::More,
+        }
+    }
 }

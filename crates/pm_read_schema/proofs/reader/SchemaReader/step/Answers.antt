@@ -1,15 +1,17 @@
-use Rattle.pm_machine.proofs.Facts.{moved, acted}
-use Rattle.pm_read_schema.proofs.Facts.{sound, recounts}
+use Rattle.pm_read_schema.proofs.Facts.{sound, recounts, goes, has_call}
 use Rattle.pm_read_schema.proofs.reader.SchemaReader.step.Goals as goal
 
-pub returns-in-Err-clause-moves : goal.returns-in-Err-clause-moves
-returns-in-Err-clause-moves g c = moved sound c.step.ensures.stepped
+pub make_step-requires-clause-sound : goal.make_step-requires-clause-sound
+make_step-requires-clause-sound g c = sound
 
-pub returns-in-Err-clause-acts : goal.returns-in-Err-clause-acts
-returns-in-Err-clause-acts g c = rw c.in-Err.is at (acted recounts c.step.ensures.stepped)
+pub make_step-requires-clause-recounts : goal.make_step-requires-clause-recounts
+make_step-requires-clause-recounts g c = λ asked. recounts
 
-pub returns-in-Ok-clause-moves : goal.returns-in-Ok-clause-moves
-returns-in-Ok-clause-moves g c = moved sound c.step.ensures.stepped
+pub make_step-requires-clause-goes : goal.make_step-requires-clause-goes
+make_step-requires-clause-goes g c = goes
 
-pub returns-in-Ok-clause-acts : goal.returns-in-Ok-clause-acts
-returns-in-Ok-clause-acts g c = rw c.in-Ok.is at (acted recounts c.step.ensures.stepped)
+pub make_step-requires-clause-has_call : goal.make_step-requires-clause-has_call
+make_step-requires-clause-has_call g c = has_call
+
+pub returns-clause-acts : goal.returns-clause-acts
+returns-clause-acts g c = rw c.self.view_is at (c.make_step.ensures.acts tt)
