@@ -29,7 +29,7 @@ use Rattle.pm_read_table.specs.Reader as reader
 use Rattle.pm_read_table.specs.declared.phase.Phase as view_phase
 use Rattle.pm_read_table.specs.declared.phase.Phase.TheVariants as readers
 use Rattle.pm_read_table.specs.declared.view.View.{View}
-use Rattle.pm_read_table.proofs.Facts.{both_if}
+use Rattle.pm_machine.proofs.PhaseFacts.{both_if}
 use Rattle.pm_append.specs.Refusals.{refusal_of}
 use Rattle.pm_append.specs.declared.newest.CommitFile.{CommitFile}
 use Rattle.pm_commit.specs.Alone.{AloneAt, AloneRefused, AreUntouched, Beginning, IsTryAt, IsUnchanged, KnewAlone, KnowsAlone, ReadsNewest, SeesNewest, begun_at, newest_id, own_entry, with_entry}

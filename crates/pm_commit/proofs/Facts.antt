@@ -30,7 +30,8 @@ use Rattle.pm_read_table.specs.declared.phase.Phase as view_phase
 use Rattle.pm_read_table.specs.declared.phase.Phase.TheVariants as readers
 use Rattle.pm_read_table.specs.declared.view.View.{View}
 use Rattle.pm_read_table.proofs.Facts as reader_facts
-use Rattle.pm_read_table.proofs.Facts.{Joined, OneList, both_if}
+use Rattle.pm_machine.proofs.PhaseFacts.{both_if}
+use Rattle.pm_read_table.proofs.Facts.{Joined, OneList}
 use Rattle.pm_commit.specs.Alone.{with_entry}
 use Rattle.pm_commit.specs.Committer.{After, AfterReader, Goes, IsCommitter, Loses, Outcome, Reads, Refuses, Stops, Tries, after_path, first_of_try, found_in, manifests_call, newest_of, next_call, publish_call}
 use Rattle.pm_commit.specs.Meaning.{HasOrigin, IsFoundIn, Knows, KnowsIn, KnowsOwn, KnowsTry, MakesOwn, MakesRows, entry_of}

@@ -129,7 +129,7 @@ goes-ahead : EntriesRead → (m : Phase) (answer : Answer) (new : Phase) (call :
 goes-ahead law (phases.Names own s) (answers.Listed names) new call before after at came (none, is) own_of =
     first-ahead own s new (1 + most_of_try + later_tries own) (omega arith) is
 goes-ahead law (phases.View own m) answer new call before after at came (to, goes, on) (left, (s, reads, own_of)) =
-    let ahead = reader_facts.steps_on {old = m} {new = to} {before = before} {after = after} {result = Ok tt} (Went call answer at came goes) left in
+    let ahead = reader_facts.goes_ahead m answer to goes in
     reader-ahead own s m to new own_of (reads-on law s m answer to reads goes).reads ahead.0 on
 goes-ahead law (phases.Search own q) (answers.Found None) new call before after at came on (may, few, ids) =
     makes-ahead own q.found new (length q.left + 1 + (most_files + 1) + later_tries own) may.own_of (omega arith) on

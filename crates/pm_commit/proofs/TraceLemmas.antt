@@ -13,7 +13,8 @@ use Rattle.pm_store.specs.declared.answer.Published.TheVariants as published
 use Rattle.pm_store.specs.declared.call.Call.{Call}
 use Rattle.pm_store.specs.declared.call.Call.TheVariants as calls
 use Rattle.pm_machine.specs.Step.{path_of}
-use Rattle.pm_machine.specs.Trace.{Event, Recounts, answered, faulted}
+use Rattle.pm_machine.specs.Trace.{Event, Recounts, answered, faulted, after_answer}
+use Rattle.pm_machine.proofs.PhaseFacts.{recounts_of}
 use Rattle.pm_schema.specs.declared.schema.TableSchema.{TableSchema}
 use Rattle.pm_snapshot.specs.Snapshot.{snapshot_in}
 use Rattle.pm_snapshot.specs.declared.snapshot.Snapshot.{Snapshot}
@@ -35,11 +36,11 @@ use Rattle.pm_append.specs.declared.newest.Append.{Append}
 use Rattle.pm_append.specs.declared.newest.Author.{Author}
 use Rattle.pm_append.specs.declared.newest.CommitFile.{CommitFile}
 use Rattle.pm_append.specs.declared.newest.Newest.{Newest}
-use Rattle.pm_commit.specs.Committer.{After, AfterReader, Goes, Hears, Loses, Makes, Outcome, Refuses, Seeks, Stops, Tries, TriesIf, create_next, first_of_try, found_in, manifests_call, newest_in, newest_of, next_call, publish_call, publishing_of}
+use Rattle.pm_commit.specs.Committer.{After, AfterReader, Goes, Hears, Loses, Makes, Outcome, Refuses, Seeks, Shown, Stops, Tries, TriesIf, create_next, first_of_try, found_in, manifests_call, newest_in, newest_of, next_call, publish_call, publishing_of}
 use Rattle.pm_commit.specs.Marks.{FindsUsed}
 use Rattle.pm_commit.specs.Own.{OwnView, begun, begun_after, tries, with_lost}
 use Rattle.pm_commit.specs.Search.{SearchingView, older_ids, seen_in, seen_of}
-use Rattle.pm_commit.specs.Trace.{AfterLost, Did, DidInTry, DidSoFar, FindsReason, HasSearch, HasTry, HaveCreated, HaveLost, HavePassed, IsLost, MayTakeMemory, LosesTry, MayCommit, Meets, Searched, Shows, ShowsOwn, Views, after_answer, at_newest, at_older, before_call, creates, has_listed, has_lost, is_absent, is_below, is_none, listed_manifests, lost_by, named_by, not_asked, publishes}
+use Rattle.pm_commit.specs.Trace.{AfterLost, Did, DidInTry, DidSoFar, FindsReason, HasSearch, HasTry, HaveCreated, HaveLost, HavePassed, IsLost, MayTakeMemory, LosesTry, MayCommit, Meets, Searched, Shows, ShowsOwn, Views, at_newest, at_older, creates, has_listed, has_lost, is_absent, is_below, is_none, listed_manifests, lost_by, named_by, not_asked, publishes}
 use Rattle.pm_commit.specs.declared.search.Seen.{Seen}
 use Rattle.pm_commit.specs.declared.search.Seen.TheVariants as seen
 use Rattle.pm_commit.specs.declared.found.Found.{Found}
@@ -598,26 +599,7 @@ module _ (s : TableSchema) where
     so-far (phases.Already author) own called did = did
     so-far phases.Over own called did = absurd (let clash = called in cc)
 
-    over-did : (new : Phase) (refusal : Refusal) (own : List Event) → new ≡ phases.Over → Shows s first refusal own → Did s first new own × Shows s first refusal own
-    over-did new refusal own over shows = (subst (λ (m : Phase). Did s first m own) (sym over) (refusal, shows), shows)
-
-    failed-on : (m new : Phase) (call : Call) (own : List Event) → next_call m ≡ Some call → new ≡ phases.Over → Did s first m own
-        → Did s first new (own ++ faulted call ∷ []) × Shows s first (refusals.StoreFault (path_of call)) (own ++ faulted call ∷ [])
-    failed-on m new call own at over did = over-did new (refusals.StoreFault (path_of call)) (own ++ faulted call ∷ []) over (inr (record {
-      phase = m;
-      call = call;
-      earlier = own;
-      did = so-far m own (subst (λ (o : Option Call). IsSome o) (sym at) refl) did;
-      next = at;
-      is_path = refl;
-      is = refl;
-    }))
-
     pub recounts : Joined → Recounts next_call Goes Refuses Stops (Did s first) (Shows s first)
-    recounts law = record {
-      went = λ m new answer own goes did. went-on law m answer new own goes did;
-      refused = λ m new answer refusal own refuses did. if-is (next_call m) _
-          (λ call at may. over-did new refusal (own ++ answered call answer ∷ []) refuses.1 (refused-on law m call answer refusal own refuses.0 did at may));
-      failed = λ m new own stops did. if-is (next_call m) _ (λ call at. failed-on m new call own at stops did);
-      stopped = λ m new own called stops did. over-did new refusals.Memory own stops (inr (before_call m called (so-far m own called did)));
-    }
+    recounts law = recounts_of next_call Goes Shown phases.Over (DidSoFar s first) (Did s first) (λ m. MayTakeMemory) (Shows s first) so-far
+        (λ refusal own shows. (refusal, shows)) (λ path own failed. inr failed) (λ own ends. inr ends) (went-on law)
+        (λ m answer refusal own shown did. if-is (next_call m) _ (λ call at may. refused-on law m call answer refusal own shown did at may))

@@ -10,6 +10,7 @@ use Rattle.pm_store.specs.declared.answer.Made.TheVariants as makes
 use Rattle.pm_store.specs.declared.answer.Published.TheVariants as published
 use Rattle.pm_store.specs.declared.call.Call.{Call}
 use Rattle.pm_store.specs.declared.call.Call.TheVariants as calls
+use Rattle.pm_machine.specs.Running as machine
 use Rattle.pm_schema.specs.declared.schema.TableSchema.{TableSchema}
 use Rattle.pm_snapshot.specs.Names.{greatest}
 use Rattle.pm_snapshot.specs.Snapshot.{snapshot_in}
@@ -268,11 +269,15 @@ After phase other outcome = ⊥
 abbrev pub Goes : Phase → Answer → Phase → Type 0
 Goes phase answer later = After phase answer (Ok later)
 
+-- the refusal that an answer shows
+abbrev pub Shown : Phase → Answer → Refusal → Type 0
+Shown phase answer refusal = After phase answer (Err refusal)
+
 abbrev pub Refuses : Phase → Answer → Refusal → Phase → Type 0
-Refuses phase answer refusal later = After phase answer (Err refusal) × (later ≡ phases.Over)
+Refuses = machine.Refuses Shown phases.Over
 
 abbrev pub Stops : Phase → Phase → Type 0
-Stops phase later = later ≡ phases.Over
+Stops = machine.Stops phases.Over
 
 -- what a step that goes on has reached
 abbrev pub Reaches : CommitStep → Phase → Type 0

@@ -1,9 +1,8 @@
 -- The own calls of a committer, and what they show.
-use Rattle.std.specs.Prelude.{◌≡◌, ◌⊎◌, ℕ, ◌+◌, ◌<◌, List, [], ◌∷◌, ◌++◌, length, true, false, None, Some, IsSome, Ok, Err}
+use Rattle.std.specs.Prelude.{◌≡◌, ◌⊎◌, ℕ, ◌+◌, ◌<◌, List, [], ◌∷◌, ◌++◌, length, true, false, None, Some, Ok, Err}
 use Rattle.std.specs.Prelude.{Result, IfErr}
 use Rattle.pm_values.specs.declared.refusal.Refusal.{Refusal}
 use Rattle.pm_values.specs.declared.refusal.Refusal.TheVariants as refusals
-use Rattle.pm_store.specs.Answers.{MayAnswer}
 use Rattle.pm_store.specs.declared.answer.Answer.{Answer}
 use Rattle.pm_store.specs.declared.answer.Answer.TheVariants as answers
 use Rattle.pm_store.specs.declared.answer.Made.{Made}
@@ -13,8 +12,7 @@ use Rattle.pm_store.specs.declared.answer.Published.TheVariants as published
 use Rattle.pm_store.specs.declared.call.Call.{Call}
 use Rattle.pm_store.specs.declared.call.Call.TheVariants as calls
 use Rattle.pm_store.specs.Store.{StoreView}
-use Rattle.pm_machine.specs.Step.{path_of}
-use Rattle.pm_machine.specs.Trace.{Acts, Event, answered, faulted}
+use Rattle.pm_machine.specs.Trace.{Acts, Event, IsFailed, MayEnd, answered}
 use Rattle.pm_schema.specs.declared.schema.TableSchema.{TableSchema}
 use Rattle.pm_snapshot.specs.Snapshot.{snapshot_in}
 use Rattle.pm_snapshot.specs.declared.fault.SnapFault.TheVariants as faults
@@ -220,27 +218,10 @@ MayTakeMemory (answers.Made made) = ⊥
 MayTakeMemory (answers.Published answer) = ⊥
 MayTakeMemory answer = Unit {0}
 
--- memory ran out before a call, or after an answer that it is taken for
-pub data MayEnd (s : TableSchema) (first : OwnView) (own : List Event) : Type 0 where
-  before_call : (m : Phase) → IsSome (next_call m) → DidSoFar s first m own → MayEnd s first own
-  after_answer : (m : Phase) (call : Call) (answer : Answer) (earlier : List Event) → DidSoFar s first m earlier
-      → next_call m ≡ Some call → MayAnswer call answer → MayTakeMemory answer
-      → own ≡ earlier ++ answered call answer ∷ [] → MayEnd s first own
-
--- the last call failed, and names its path
-pub record IsFailed (s : TableSchema) (first : OwnView) (path : List ℕ) (own : List Event) : Type 0 where
-  pub phase : Phase
-  pub call : Call
-  pub earlier : List Event
-  pub did : DidSoFar s first phase earlier
-  pub next : next_call phase ≡ Some call
-  pub is_path : path ≡ path_of call
-  pub is : own ≡ earlier ++ faulted call ∷ []
-
 -- which calls show a refusal, but those of a view's reader
 abbrev pub ShowsOwn : TableSchema → OwnView → Refusal → List Event → Type 0
-ShowsOwn s first refusals.Memory own = MayEnd s first own
-ShowsOwn s first (refusals.StoreFault path) own = IsFailed s first path own
+ShowsOwn s first refusals.Memory own = MayEnd next_call (DidSoFar s first) (λ m. MayTakeMemory) own
+ShowsOwn s first (refusals.StoreFault path) own = IsFailed next_call (DidSoFar s first) path own
 ShowsOwn s first (refusals.SessionUsed path) own = IsUsed s first path own
 ShowsOwn s first (refusals.Contended ids) own = IsContended s first ids own
 ShowsOwn s first (refusals.Damaged path place) own = AfterLost s first (Misreads s path place) own

@@ -16,7 +16,7 @@ use crate::laws::machine_law;
 use crate::own::Own;
 use crate::phase::Phase;
 use pm_base::Txt;
-use pm_machine::step;
+use pm_machine::{Running, step};
 use pm_manifest::read_entry_law;
 use pm_schema::TableSchema;
 use pm_store::FileStore;
@@ -36,17 +36,16 @@ pub enum CommitStep {
 
 /// Appends the rows of a batch to a table, a call of the store a step.
 pub struct Committer {
-    pub(crate) phase: Phase,
+    running: Running<Phase>,
 }
 
 impl Drop for Committer {
     fn drop(self) {
-        let Committer { phase } = self;
+        let Committer { running } = self;
     }
 }
 
 impl Model for Committer {
-    ghost use Rattle.pm_commit.specs.Committer.{IsCommitter};
     ghost use Rattle.pm_commit.specs.contracts.phase.Phase as phases;
     ghost use Rattle.pm_commit.specs.declared.phase.Phase.{Phase};
 
@@ -54,9 +53,7 @@ impl Model for Committer {
 
     ghost coded = { phases.the_row.coded };
 
-    ghost view = { λ c. c.phase };
-
-    ghost invariant = { λ c. IsCommitter c.phase };
+    ghost view = { λ c. c.running };
 }
 
 impl Committer {
@@ -79,10 +76,10 @@ impl Committer {
     {
         batch_law();
         Committer {
-            phase: Phase::Names {
+            running: Running::new(Phase::Names {
                 own: Own::new(batch, user, identifier, check, names, now_millis),
                 schema,
-            },
+            }),
         }
     }
 
@@ -105,7 +102,7 @@ impl Committer {
         machine_law();
         read_entry_law();
         self.known();
-        match step(alloc, self, store) {
+        match step(alloc, &mut self.running, store) {
             Ok(()) => Ok(self.reached()),
             Err(refusal) => Err(refusal),
         }
@@ -115,14 +112,14 @@ impl Committer {
     pub(crate) fn known(&self)
         ensures { IsCommitter self.now }
     {
-        let _ = &self.phase;
+        self.running.known();
     }
 
     /// What a step that went on has reached.
     fn reached(&self) -> CommitStep
         ensures { result ≡ reached_at self.now }
     {
-        match &self.phase {
+        match self.running.phase() {
             Phase::Committed { id, .. } => CommitStep::Committed(*id),
             Phase::Already { .. } => CommitStep::Already,
             _ => CommitStep::More,

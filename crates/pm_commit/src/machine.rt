@@ -1,4 +1,4 @@
-//! A committer as a machine.
+//! The phases of a committer as a machine.
 
 ghost use Rattle.std.specs.Prelude.{◌≡◌, IfOk, IsSomeAnd};
 ghost use Rattle.pm_store.specs.Answers.{MayAnswer};
@@ -6,7 +6,6 @@ ghost use Rattle.pm_commit.specs.Committer.{next_call, publish_call, After, IsCo
 ghost use Rattle.pm_commit.specs.declared.phase.Phase.TheVariants as phases;
 
 use crate::after::{after_create, after_names, after_publish, after_search, after_view};
-use crate::committer::Committer;
 use crate::laws::committer_law;
 use crate::making::Publishing;
 use crate::paths::after_path;
@@ -16,21 +15,22 @@ use pm_paths::snapshot_path;
 use pm_store::{Answer, Call};
 use pm_values::Refusal;
 use std::alloc::{AllocError, Global};
-use std::mem;
 
-impl Machine for Committer {
-    ghost use Rattle.pm_commit.specs.Committer.{next_call, Goes, Refuses, Stops};
+impl pm_machine::Phase for Phase {
+    ghost use Rattle.pm_commit.specs.Committer.{next_call, Goes, IsCommitter, Shown};
 
     ghost call_of = { next_call };
 
     ghost goes = { Goes };
 
-    ghost refuses = { Refuses };
+    ghost shown = { Shown };
 
-    ghost stops = { Stops };
+    ghost holds = { IsCommitter };
+
+    ghost end = { phases.Over };
 
     fn call(&self, alloc: Global) -> Result<Option<Call>, AllocError> {
-        match &self.phase {
+        match self {
             Phase::Names { .. } => Ok(Some(Call::list(alloc, "manifest")?)),
             Phase::View { reader, .. } => reader.call(alloc),
             Phase::Search { searching, .. } => Ok(Some(Call::Read {
@@ -45,19 +45,15 @@ impl Machine for Committer {
         }
     }
 
-    fn take(&mut self, alloc: Global, answer: Answer) -> Result<(), Refusal> {
-        let phase = self.leave();
-        match next_phase(alloc, phase, answer) {
-            Ok(phase) => {
-                self.enter(phase);
-                Ok(())
-            }
+    fn next(self, alloc: Global, answer: Answer) -> Result<Phase, Refusal> {
+        match next_phase(alloc, self, answer) {
+            Ok(phase) => Ok(phase),
             Err(refusal) => Err(refusal),
         }
     }
 
-    fn stop(&mut self) {
-        drop(self.leave());
+    fn over() -> Phase {
+        Phase::Over
     }
 }
 
@@ -73,24 +69,6 @@ fn publish_call(alloc: Global, publishing: &Publishing) -> Result<Call, AllocErr
         path.as_str(),
         publishing.text.as_bytes(),
     )
-}
-
-impl Committer {
-    /// Its phase, which is over then.
-    fn leave(&mut self) -> Phase
-        ensures left { (result ≡ self.old) × (self.new ≡ phases.Over) }
-        ensures is_committer { IsCommitter result }
-    {
-        mem::replace(&mut self.phase, Phase::Over)
-    }
-
-    /// It is in this phase now.
-    fn enter(&mut self, phase: Phase)
-        requires { IsCommitter phase }
-        ensures { self.new ≡ phase }
-    {
-        drop(mem::replace(&mut self.phase, phase));
-    }
 }
 
 /// The phase after an answer, or the refusal that it shows.

@@ -1,9 +1,8 @@
 -- A reader of a changelog keeps the laws of machines.
-use Rattle.std.proofs.Common.{◌≡◌, inl, inr, ℕ, ◌<◌, ◌+◌, suc, List, [], ◌∷◌, ◌++◌, length, Option, None, Some, IsSome, IfSome, Result, OnOk, Contains, refl, sym, ap, ◌∙◌, subst, arith, append_assoc}
+use Rattle.std.proofs.Common.{◌≡◌, inl, inr, ℕ, ◌<◌, ◌+◌, suc, List, [], ◌∷◌, ◌++◌, length, Option, None, Some, IsSome, IfSome, Contains, refl, sym, ap, ◌∙◌, subst, arith, append_assoc}
 use Rattle.std.specs.List.{AllByRecursion}
 use Rattle.std.proofs.lemmas.List.{append-nil}
 use Rattle.std.proofs.lemmas.List.Elements.{Contains-append_right}
-use Rattle.std.proofs.lemmas.Option.{IfSome_then}
 use Rattle.pm_base.proofs.Laws.{AllByRecursion-append}
 use Rattle.pm_values.specs.declared.refusal.Refusal.{Refusal}
 use Rattle.pm_values.specs.declared.refusal.Refusal.TheVariants as refusals
@@ -11,15 +10,14 @@ use Rattle.pm_store.specs.declared.answer.Answer.{Answer}
 use Rattle.pm_store.specs.declared.answer.Answer.TheVariants as answers
 use Rattle.pm_store.specs.declared.call.Call.{Call}
 use Rattle.pm_store.specs.declared.call.Call.TheVariants as calls
-use Rattle.pm_store.specs.declared.call.Effect.TheVariants as effects
 use Rattle.pm_store.specs.Answers.{Answers, MayAnswer}
-use Rattle.pm_store.specs.Files.{Files, after_effect, carried}
+use Rattle.pm_store.specs.Files.{Files}
 use Rattle.pm_store.specs.Images.{MayLeave}
-use Rattle.pm_store.specs.Store.{StoreView}
 use Rattle.pm_store.proofs.FileLaws.{effect_left}
-use Rattle.pm_machine.specs.Moves.{Leads, Sound}
-use Rattle.pm_machine.specs.Step.{path_of, Stepped, Rested, Went, Refused, Stopped, Failed}
-use Rattle.pm_machine.specs.Trace.{Event, Recounts, answered, faulted}
+use Rattle.pm_machine.specs.Moves.{Sound}
+use Rattle.pm_machine.specs.Running.{Refuses, Stops}
+use Rattle.pm_machine.specs.Trace.{Event, Recounts, after_answer, answered}
+use Rattle.pm_machine.proofs.PhaseFacts.{Spares, recounts_of, sound_of_spared}
 use Rattle.pm_schema.specs.declared.schema.TableSchema.{TableSchema}
 use Rattle.pm_snapshot.specs.declared.snapshot.Snapshot.{Snapshot}
 use Rattle.pm_snapshot.proofs.Facts.{id_same}
@@ -36,27 +34,27 @@ use Rattle.pm_model_contents.specs.Named.{Contents, HasContents, IsNamed, change
 use Rattle.pm_model_contents.specs.Lists.{HasChangelog, HaveEntries, IsChangelogEntry, IsList, IsManifest, manifest_path}
 use Rattle.pm_read_log.specs.Log.{IsLogOf, LogAskedView, LogReadingView}
 use Rattle.pm_read_log.specs.LogMeaning.{IsLogIn, IsReadingOf, Knows, LeavesFiles}
-use Rattle.pm_read_log.specs.LogReader.{calls_left, next_call, reached_at, Goes, GoesOn, Opens, Reaches, Refuses, Shown, Stops}
-use Rattle.pm_read_log.specs.LogTrace.{Did, FindsList, Has, HasLog, HasPart, IsFailed, LacksFile, MayEnd, Misreads, Shows, at_first, at_list, at_manifest, at_part, at_snapshot, bad_schema, bad_snapshot, gone_again, gone_first, has_other, in_again, in_list, in_manifest, in_snapshot, is_absent, is_misread, lacks_list, lacks_manifest, misreads_list, misreads_manifest, of_list, without}
+use Rattle.pm_read_log.specs.LogReader.{calls_left, next_call, reached_at, Goes, GoesOn, IsLogReader, Opens, Reaches, Shown}
+use Rattle.pm_read_log.specs.LogTrace.{Did, DidSoFar, FindsList, Has, HasLog, HasPart, IsDamaged, MayTakeMemory, Misreads, Shows, bad_schema, bad_snapshot, gone_again, gone_first, has_other, is_absent, is_misread, lacks_list, lacks_manifest, misreads_list, misreads_manifest, of_list, without}
 use Rattle.pm_read_table.specs.Meaning.{HasGone, IsKept, Stood}
 use Rattle.pm_read_table.specs.Reader.{most, IsListOf, IsManifestOf}
 use Rattle.pm_read_table.specs.Trace.{read_file}
 use Rattle.pm_read_log.specs.declared.log.Log.{Log}
 use Rattle.pm_read_log.specs.declared.log_phase.LogPhase.{LogPhase}
 use Rattle.pm_read_log.specs.declared.log_phase.LogPhase.TheVariants as phases
-use Rattle.pm_read_table.proofs.Facts.{IsStill, OneList, both_if, damaged_other, entries_push, expired_other, fault_other, found_stood, gone_now, have_at, kept_same, memory_other, one_list, read_push, some_there, stood_contents, stood_new, stood_still, table_still}
+use Rattle.pm_read_table.proofs.Facts.{OneList, damaged_other, entries_push, expired_other, fault_other, found_stood, gone_now, have_at, kept_same, memory_other, one_list, read_push, some_there, stood_contents, stood_new, stood_still, table_still}
 use Rattle.pm_read_table.proofs.FaultLemmas.{IsFileFault, file_fault}
 use Rattle.pm_read_table.proofs.ListedLemmas.{count_grows}
 
 -- ---- its calls change nothing
 
-rests : (m : LogPhase) (f : Files) → IfSome (next_call m) (IsStill f)
-rests (phases.Snapshot a) f = λ effect. read_effect (snapshot_path a.id) effect f
-rests (phases.List a x list) f = λ effect. read_effect (manifest_path list) effect f
-rests (phases.Manifests r) f = λ effect. read_effect (manifest_path r.next.name) effect f
-rests (phases.Again a path) f = λ effect. read_effect (snapshot_path a.id) effect f
-rests (phases.Ready l) f = tt
-rests phases.Over f = tt
+pub spares : (m : LogPhase) (f : Files) → IfSome (next_call m) (Spares f)
+spares (phases.Snapshot a) f = λ effect. read_effect (snapshot_path a.id) effect f
+spares (phases.List a x list) f = λ effect. read_effect (manifest_path list) effect f
+spares (phases.Manifests r) f = λ effect. read_effect (manifest_path r.next.name) effect f
+spares (phases.Again a path) f = λ effect. read_effect (snapshot_path a.id) effect f
+spares (phases.Ready l) f = tt
+spares phases.Over f = tt
 
 -- ---- what it knows
 
@@ -142,27 +140,8 @@ knows_next law (phases.Manifests r) (answers.Found (Some bytes)) new f p (own, r
     (AllByRecursion-append IsChangelogEntry r.changes own before each)
 knows_next law m answer new f p goes stands known = absurd goes
 
-over_knows : (new : LogPhase) (f : Files) (p : Past) → new ≡ phases.Over → Knows new f p
-over_knows new f p over = subst (λ (m : LogPhase). Knows m f p) (sym over) tt
-
-leads_still : (m new : LogPhase) (f after : Files) (p : Past) → after ≡ f → Knows new f p → Leads (LeavesFiles m) (Knows new) f p after
-leads_still m new f after p same known =
-    (p, kept_same f after p same, subst (λ (g : Files). Knows new g p) (sym same) known)
-
-pub sound : OneList → Sound next_call Goes Refuses Stops Stands LeavesFiles Knows
-sound law = record {
-  changes = λ m f p stands known. IfSome_then (next_call m) (rests m f)
-      (λ call still effect. (p, kept_same f (after_effect call effect f) p (still effect)));
-  went = λ m new answer f p goes stands known. both_if (next_call m) (IsStill f) (λ call. Answers call answer f → Knows new f p)
-      (λ call. Answers call answer f → Leads (LeavesFiles m) (Knows new) f p (carried call f))
-      (λ call still knows told. leads_still m new f (carried call f) p (still effects.Whole) (knows told))
-      (rests m f) (knows_next law m answer new f p goes stands known);
-  refused = λ m new answer refusal f p refuses stands known. IfSome_then (next_call m) (rests m f)
-      (λ call still told. leads_still m new f (carried call f) p (still effects.Whole) (over_knows new f p refuses.1));
-  failed = λ m new effect f p stops stands known. IfSome_then (next_call m) (rests m f)
-      (λ call still may. leads_still m new f (after_effect call effect f) p (still effect) (over_knows new f p stops));
-  stopped = λ m new f p called stops stands known. over_knows new f p stops;
-}
+pub sound : OneList → Sound next_call Goes (Refuses Shown phases.Over) (Stops phases.Over) Stands LeavesFiles Knows
+sound law = sound_of_spared next_call Goes Shown phases.Over Stands LeavesFiles Knows (λ m. kept_same) spares (knows_next law) (λ f p. tt)
 
 -- ---- its calls
 
@@ -227,42 +206,48 @@ went_on a (phases.Manifests r) (answers.Found (Some bytes)) new own (later, read
     (part_more r.asked r.snapshot r.done r.next r.rest r.changes later bytes own part reads each)
 went_on a m answer new own goes did = absurd goes
 
-misread : (a : LogAskedView) (refusal : Refusal) (own : List Event) → IsFileFault refusal → MayEnd a own → Misreads a refusal own → Shows a refusal own
-misread a refusals.Memory own fault ends bad = ends
-misread a (refusals.Damaged path place) own fault ends bad = is_misread bad
-misread a (refusals.Unsupported what text) own fault ends bad = bad
-misread a other own fault ends bad = absurd fault
+misread : (a b : LogAskedView) (refusal : Refusal) (own : List Event) → b ≡ a → IsFileFault refusal → Shows a refusals.Memory own → Misreads b refusal own → Shows a refusal own
+misread a b refusals.Memory own same fault ends bad = ends
+misread a b (refusals.Damaged path place) own same fault ends bad = subst (λ (a : LogAskedView). IsDamaged a path place own) same (is_misread bad)
+misread a b (refusals.Unsupported what text) own same fault ends bad = subst (λ (a : LogAskedView). Misreads a (refusals.Unsupported what text) own) same bad
+misread a b other own same fault ends bad = absurd fault
 
 shown_as : (a b : LogAskedView) (refusal defined : Refusal) (own : List Event) → b ≡ a → refusal ≡ defined → Shows b defined own → Shows a refusal own
 shown_as a b refusal defined own same is shows =
     subst (λ (refusal : Refusal). Shows a refusal own) (sym is) (subst (λ (a : LogAskedView). Shows a defined own) same shows)
 
+-- memory ran out after an answer
+memory_after : (a : LogAskedView) (m : LogPhase) (call : Call) (answer : Answer) (refusal : Refusal) (own : List Event) → next_call m ≡ Some call → DidSoFar a m own
+    → MayTakeMemory m answer → MayAnswer call answer → refusal ≡ refusals.Memory → Shows a refusal (own ++ answered call answer ∷ [])
+memory_after a m call answer refusal own next did takes may is =
+    subst (λ (refusal : Refusal). Shows a refusal (own ++ answered call answer ∷ [])) (sym is) (after_answer m call answer own did next may takes refl)
+
 refused_on : (a : LogAskedView) (m : LogPhase) (answer : Answer) (refusal : Refusal) (own : List Event) → Shown m answer refusal → Did a m own
     → IfSome (next_call m) (λ call. MayAnswer call answer → Shows a refusal (own ++ answered call answer ∷ []))
 refused_on a (phases.Snapshot b) (answers.Found None) refusal own is (same, none) = λ may.
     shown_as a b refusal (refusals.Expired b.id) _ same is (refl, gone_first (ap (λ (own : List Event). own ++ read_file (snapshot_path b.id) None ∷ []) none))
-refused_on a (phases.Snapshot b) (answers.Found (Some bytes)) refusal own (inl is) (same, none) = λ may.
-    shown_as a b refusal refusals.Memory _ same is (at_snapshot bytes (ap (λ (own : List Event). own ++ read_file (snapshot_path b.id) (Some bytes) ∷ []) none))
+refused_on a (phases.Snapshot b) (answers.Found (Some bytes)) refusal own (inl is) did = λ may.
+    memory_after a (phases.Snapshot b) (calls.Read (snapshot_path b.id)) (answers.Found (Some bytes)) refusal own refl did tt may is
 refused_on a (phases.Snapshot b) (answers.Found (Some bytes)) refusal own (inr (inl (is, bad))) (same, none) = λ may.
     shown_as a b refusal (refusals.Damaged (snapshot_path b.id) 0) _ same is
     (bad_snapshot bytes refl refl bad (ap (λ (own : List Event). own ++ read_file (snapshot_path b.id) (Some bytes) ∷ []) none))
 refused_on a (phases.Snapshot b) (answers.Found (Some bytes)) refusal own (inr (inr (x, is, reads, other))) (same, none) = λ may.
     shown_as a b refusal (refusals.Damaged (schema_path x.schema_id) 0) _ same is
     (bad_schema x bytes refl refl reads other (ap (λ (own : List Event). own ++ read_file (snapshot_path b.id) (Some bytes) ∷ []) none))
-refused_on a (phases.List b x list) (answers.Found found) refusal own (inl is) (same, named) = λ may.
-    shown_as a b refusal refusals.Memory _ same is (at_list x list found (own, named, refl))
+refused_on a (phases.List b x list) (answers.Found found) refusal own (inl is) did = λ may.
+    memory_after a (phases.List b x list) (calls.Read (manifest_path list)) (answers.Found found) refusal own refl did tt may is
 refused_on a (phases.List b x list) (answers.Found None) refusal own (inr none) did = absurd none
 refused_on a (phases.List b x list) (answers.Found (Some bytes)) refusal own (inr bad) (same, named) = λ may.
-    shown_as a b refusal refusal _ same refl
-    (misread b refusal _ (file_fault _ _ (manifest_path list) bytes refusal bad) (at_list x list (Some bytes) (own, named, refl)) (misreads_list x list bytes bad (own, named, refl)))
-refused_on a (phases.Manifests r) (answers.Found found) refusal own (inl is) (same, part) = λ may.
-    shown_as a r.asked refusal refusals.Memory _ same is (at_manifest r.snapshot r.done r.next r.rest r.changes found (own, part, refl))
+    misread a b refusal _ same (file_fault _ _ (manifest_path list) bytes refusal bad)
+    (memory_after a (phases.List b x list) (calls.Read (manifest_path list)) (answers.Found (Some bytes)) refusals.Memory own refl (same, named) tt may refl)
+    (misreads_list x list bytes bad (own, named, refl))
+refused_on a (phases.Manifests r) (answers.Found found) refusal own (inl is) did = λ may.
+    memory_after a (phases.Manifests r) (calls.Read (manifest_path r.next.name)) (answers.Found found) refusal own refl did tt may is
 refused_on a (phases.Manifests r) (answers.Found None) refusal own (inr none) did = absurd none
 refused_on a (phases.Manifests r) (answers.Found (Some bytes)) refusal own (inr (inl bad)) (same, part) = λ may.
-    shown_as a r.asked refusal refusal _ same refl
-    (misread r.asked refusal _ (file_fault _ _ (manifest_path r.next.name) bytes refusal bad)
-    (at_manifest r.snapshot r.done r.next r.rest r.changes (Some bytes) (own, part, refl))
-    (misreads_manifest r.snapshot r.done r.next r.rest r.changes bytes bad (own, part, refl)))
+    misread a r.asked refusal _ same (file_fault _ _ (manifest_path r.next.name) bytes refusal bad)
+    (memory_after a (phases.Manifests r) (calls.Read (manifest_path r.next.name)) (answers.Found (Some bytes)) refusals.Memory own refl (same, part) tt may refl)
+    (misreads_manifest r.snapshot r.done r.next r.rest r.changes bytes bad (own, part, refl))
 refused_on a (phases.Manifests r) (answers.Found (Some bytes)) refusal own (inr (inr (later, reads, other, is))) (same, part) = λ may.
     shown_as a r.asked refusal (refusals.Damaged (manifest_path r.next.name) 0) _ same is
     (has_other r.snapshot r.done r.next r.rest r.changes later bytes refl refl reads other (own, part, refl))
@@ -272,47 +257,17 @@ refused_on a (phases.Again b path) (answers.Found (Some bytes)) refusal own is (
     shown_as a b refusal (refusals.Damaged path 0) _ same is (is_absent bytes refl (own, lacks, refl))
 refused_on a m answer refusal own shown did = absurd shown
 
-failed_as : (a b : LogAskedView) (path : List ℕ) (own : List Event) → b ≡ a → IsFailed b path own → IsFailed a path own
-failed_as a b path own same failed = subst (λ (a : LogAskedView). IsFailed a path own) same failed
+so_far : (a : LogAskedView) (m : LogPhase) (own : List Event) → IsSome (next_call m) → Did a m own → DidSoFar a m own
+so_far a (phases.Snapshot b) own called did = did
+so_far a (phases.List b x list) own called did = did
+so_far a (phases.Manifests r) own called did = did
+so_far a (phases.Again b path) own called did = did
+so_far a (phases.Ready l) own called did = did
+so_far a phases.Over own called did = absurd (let clash = called in cc)
 
-failed_on : (a : LogAskedView) (m : LogPhase) (own : List Event) → Did a m own
-    → IfSome (next_call m) (λ call. Shows a (refusals.StoreFault (path_of call)) (own ++ faulted call ∷ []))
-failed_on a (phases.Snapshot b) own (same, none) =
-    failed_as a b (snapshot_path b.id) _ same (in_snapshot refl (ap (λ (own : List Event). own ++ faulted (calls.Read (snapshot_path b.id)) ∷ []) none))
-failed_on a (phases.List b x list) own (same, named) = failed_as a b (manifest_path list) _ same (in_list x list own named refl refl)
-failed_on a (phases.Manifests r) own (same, part) =
-    failed_as a r.asked (manifest_path r.next.name) _ same (in_manifest r.snapshot r.done r.next r.rest r.changes own part refl refl)
-failed_on a (phases.Again b path) own (same, lacks) = failed_as a b (snapshot_path b.id) _ same (in_again path own lacks refl refl)
-failed_on a (phases.Ready l) own did = tt
-failed_on a phases.Over own did = tt
-
-lacks_end : (a : LogAskedView) (path : List ℕ) (own : List Event) → LacksFile a path own → MayEnd a own
-lacks_end a path own (lacks_list x list at finds) = at_list x list None finds
-lacks_end a path own (lacks_manifest x done meta rest changes at finds) = at_manifest x done meta rest changes None finds
-
-ends_as : (a b : LogAskedView) (own : List Event) → b ≡ a → MayEnd b own → MayEnd a own
-ends_as a b own same ends = subst (λ (a : LogAskedView). MayEnd a own) same ends
-
-stopped_on : (a : LogAskedView) (m : LogPhase) (own : List Event) → IsSome (next_call m) → Did a m own → MayEnd a own
-stopped_on a (phases.Snapshot b) own called (same, none) = at_first none
-stopped_on a (phases.List b x list) own called (same, ((bytes, reads, schema, did), named)) = ends_as a b own same (at_snapshot bytes did)
-stopped_on a (phases.Manifests r) own called (same, part) = ends_as a r.asked own same (at_part r.snapshot r.done (r.next ∷ r.rest) r.changes part)
-stopped_on a (phases.Again b path) own called (same, lacks) = ends_as a b own same (lacks_end b path own lacks)
-stopped_on a (phases.Ready l) own called did = absurd (let clash = called in cc)
-stopped_on a phases.Over own called did = absurd (let clash = called in cc)
-
-over_did : (a : LogAskedView) (new : LogPhase) (refusal : Refusal) (own : List Event) → new ≡ phases.Over → Shows a refusal own → Did a new own × Shows a refusal own
-over_did a new refusal own over shows = (subst (λ (m : LogPhase). Did a m own) (sym over) (refusal, shows), shows)
-
-pub recounts : (a : LogAskedView) → Recounts next_call Goes Refuses Stops (Did a) (Shows a)
-recounts a = record {
-  went = λ m new answer own goes did. went_on a m answer new own goes did;
-  refused = λ m new answer refusal own refuses did. IfSome_then (next_call m) (refused_on a m answer refusal own refuses.0 did)
-      (λ call shows may. over_did a new refusal (own ++ answered call answer ∷ []) refuses.1 (shows may));
-  failed = λ m new own stops did. IfSome_then (next_call m) (failed_on a m own did)
-      (λ call shows. over_did a new (refusals.StoreFault (path_of call)) (own ++ faulted call ∷ []) stops shows);
-  stopped = λ m new own called stops did. over_did a new refusals.Memory own stops (stopped_on a m own called did);
-}
+pub recounts : (a : LogAskedView) → Recounts next_call Goes (Refuses Shown phases.Over) (Stops phases.Over) (Did a) (Shows a)
+recounts a = recounts_of next_call Goes Shown phases.Over (DidSoFar a) (Did a) MayTakeMemory (Shows a) (so_far a)
+    (λ refusal own shows. (refusal, shows)) (λ path own failed. failed) (λ own ends. ends) (went_on a) (refused_on a)
 
 -- ---- how far it has come
 
@@ -344,7 +299,7 @@ again_ahead a path new n below is =
     let some : 0 < 1 = omega arith in
     subst (IsAhead n) (sym is) (below, some)
 
-goes_ahead : (m : LogPhase) (answer : Answer) (new : LogPhase) → Goes m answer new → IsAhead (calls_left m) new
+pub goes_ahead : (m : LogPhase) (answer : Answer) (new : LogPhase) → Goes m answer new → IsAhead (calls_left m) new
 goes_ahead (phases.Snapshot a) (answers.Found (Some bytes)) new (x, reads, schema, on) = opens_ahead a x x.changelog_list new on
 goes_ahead (phases.List a x list) (answers.Found None) new is = again_ahead a (manifest_path list) new (most + 2) (omega arith) is
 goes_ahead (phases.List a x list) (answers.Found (Some bytes)) new (metas, reads, within, on) = on_ahead a x [] metas [] new (most + 2) (omega (arith, within)) on
@@ -361,16 +316,10 @@ has_call (phases.Again a path) left = refl
 has_call (phases.Ready l) left = absurd (let none : 0 < 0 = left in omega (arith, none))
 has_call phases.Over left = absurd (let none : 0 < 0 = left in omega (arith, none))
 
--- a step that goes on leaves fewer calls, and what it reached
-pub steps_on : {old new : LogPhase} {before after : StoreView} {result : Result (Unit {0}) Refusal}
-    → Stepped next_call Goes Refuses Stops old new before after result → 0 < calls_left old
-    → OnOk result ((calls_left new < calls_left old) × Reaches (reached_at new) new)
-steps_on {old = old} {new = new} (Rested none same still) left =
-    absurd (let called = has_call old left in let clash = rw none at called in cc)
-steps_on {old = old} {new = new} (Went call answer at came on) left = goes_ahead old answer new on
-steps_on (Refused call answer refusal at came on) left = tt
-steps_on (Stopped call at meanwhile stop) left = tt
-steps_on (Failed call at came stop) left = tt
+-- an answer that it goes on with leaves fewer calls, and what was reached
+pub goes : (m : LogPhase) (answer : Answer) (new : LogPhase) → IsLogReader m → Goes m answer new
+    → (calls_left new < calls_left m) × Reaches (reached_at new) new × Unit {0}
+goes m answer new is on = let ahead = goes_ahead m answer new on in (ahead.0, ahead.1, tt)
 
 -- ---- laws
 
@@ -423,5 +372,5 @@ knows_still phases.Over other f after p q stands advances known = tt
 pub images : (m : LogPhase) (call : Call) (f image : Files) (p : Past) → next_call m ≡ Some call → MayLeave call f image → IsKept f p image p
 images m call f image p is left =
     let had = effect_left call f image left in
-    let still = rw is at (rests m f) in
+    let still = rw is at (spares m f) in
     kept_same f image p (had.1 ∙ still had.0)

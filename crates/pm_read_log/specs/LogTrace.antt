@@ -3,9 +3,10 @@ use Rattle.std.specs.Prelude.{◌≡◌, ◌≢◌, ℕ, List, [], ◌∷◌, �
 use Rattle.std.specs.List.{AllByRecursion}
 use Rattle.pm_values.specs.declared.refusal.Refusal.{Refusal}
 use Rattle.pm_values.specs.declared.refusal.Refusal.TheVariants as refusals
-use Rattle.pm_store.specs.declared.call.Call.TheVariants as calls
+use Rattle.pm_store.specs.declared.answer.Answer.{Answer}
+use Rattle.pm_store.specs.declared.answer.Answer.TheVariants as answers
 use Rattle.pm_store.specs.Store.{StoreView}
-use Rattle.pm_machine.specs.Trace.{Event, Acts, faulted}
+use Rattle.pm_machine.specs.Trace.{Event, Acts, IsFailed, MayEnd}
 use Rattle.pm_snapshot.specs.Snapshot.{snapshot_in}
 use Rattle.pm_snapshot.specs.declared.fault.SnapFault.TheVariants as faults
 use Rattle.pm_snapshot.specs.declared.snapshot.Snapshot.{Snapshot}
@@ -14,6 +15,7 @@ use Rattle.pm_manifest.specs.declared.entry.Entry.{Entry}
 use Rattle.pm_manifest.specs.declared.entry.ManifestMeta.{ManifestMeta}
 use Rattle.pm_model_contents.specs.Lists.{IsChangelogEntry, manifest_path}
 use Rattle.pm_read_log.specs.Log.{IsLogOf, LogAskedView}
+use Rattle.pm_read_log.specs.LogReader.{next_call}
 use Rattle.pm_read_table.specs.Reader.{IsListOf, IsManifestOf, MisreadsList, MisreadsManifest}
 use Rattle.pm_read_table.specs.Trace.{HaveRead, read_file}
 use Rattle.pm_read_log.specs.declared.log.Log.{Log}
@@ -91,26 +93,23 @@ pub data Misreads (a : LogAskedView) (refusal : Refusal) (own : List Event) : Ty
       (changes : List Entry) (bytes : List ℕ) → MisreadsManifest a.schema (manifest_path meta.name) bytes refusal
       → FindsNext a x done meta rest changes (Some bytes) own → Misreads a refusal own
 
--- calls after which memory may have run out: each was answered, and the snapshot wasn't absent
-pub data MayEnd (a : LogAskedView) (own : List Event) : Type 0 where
-  at_first : own ≡ [] → MayEnd a own
-  at_snapshot : (bytes : List ℕ) → Reads a (Some bytes) own → MayEnd a own
-  at_list : (x : Snapshot) (list : List ℕ) (found : Option (List ℕ)) → FindsList a x list found own → MayEnd a own
-  at_part : (x : Snapshot) (done rest : List ManifestMeta) (changes : List Entry) → HasPart a x done rest changes own
-      → MayEnd a own
-  at_manifest : (x : Snapshot) (done : List ManifestMeta) (meta : ManifestMeta) (rest : List ManifestMeta)
-      (changes : List Entry) (found : Option (List ℕ)) → FindsNext a x done meta rest changes found own → MayEnd a own
+-- its calls so far, by its phase before its end, where this was asked
+abbrev pub DidSoFar : LogAskedView → LogPhase → List Event → Type 0
+DidSoFar a (phases.Snapshot b) own = (b ≡ a) × (own ≡ [])
+DidSoFar a (phases.List b x list) own = (b ≡ a) × HasName b x list own
+DidSoFar a (phases.Manifests r) own =
+    (r.asked ≡ a) × HasPart r.asked r.snapshot r.done (r.next ∷ r.rest) r.changes own
+DidSoFar a (phases.Again b path) own = (b ≡ a) × LacksFile b path own
+DidSoFar a (phases.Ready l) own = HasLog a l own
+DidSoFar a phases.Over own = ⊥
 
--- the last call failed, and names its path
-pub data IsFailed (a : LogAskedView) (path : List ℕ) (own : List Event) : Type 0 where
-  in_snapshot : path ≡ snapshot_path a.id → own ≡ faulted (calls.Read path) ∷ [] → IsFailed a path own
-  in_list : (x : Snapshot) (list : List ℕ) (earlier : List Event) → HasName a x list earlier → path ≡ manifest_path list
-      → own ≡ earlier ++ faulted (calls.Read path) ∷ [] → IsFailed a path own
-  in_manifest : (x : Snapshot) (done : List ManifestMeta) (meta : ManifestMeta) (rest : List ManifestMeta)
-      (changes : List Entry) (earlier : List Event) → HasPart a x done (meta ∷ rest) changes earlier
-      → path ≡ manifest_path meta.name → own ≡ earlier ++ faulted (calls.Read path) ∷ [] → IsFailed a path own
-  in_again : (absent : List ℕ) (earlier : List Event) → LacksFile a absent earlier → path ≡ snapshot_path a.id
-      → own ≡ earlier ++ faulted (calls.Read path) ∷ [] → IsFailed a path own
+-- What follows the answer may take memory: neither where the snapshot is absent nor, where a file that it names is,
+-- once it was read again.
+abbrev pub MayTakeMemory : LogPhase → Answer → Type 0
+MayTakeMemory (phases.Snapshot a) (answers.Found (Some bytes)) = Unit {0}
+MayTakeMemory (phases.List a x list) answer = Unit {0}
+MayTakeMemory (phases.Manifests r) answer = Unit {0}
+MayTakeMemory m answer = ⊥
 
 -- the snapshot was found absent at its first read, or at its second after a file that it names
 pub data IsGone (a : LogAskedView) (own : List Event) : Type 0 where
@@ -135,8 +134,8 @@ pub data IsDamaged (a : LogAskedView) (path : List ℕ) (place : ℕ) (own : Lis
 
 -- which calls show a refusal
 abbrev pub Shows : LogAskedView → Refusal → List Event → Type 0
-Shows a refusals.Memory own = MayEnd a own
-Shows a (refusals.StoreFault path) own = IsFailed a path own
+Shows a refusals.Memory own = MayEnd next_call (DidSoFar a) MayTakeMemory own
+Shows a (refusals.StoreFault path) own = IsFailed next_call (DidSoFar a) path own
 Shows a (refusals.Expired id) own = (id ≡ a.id) × IsGone a own
 Shows a (refusals.Damaged path place) own = IsDamaged a path place own
 Shows a (refusals.Unsupported what text) own = Misreads a (refusals.Unsupported what text) own
@@ -144,22 +143,11 @@ Shows a other own = ⊥
 
 -- its calls so far, by its phase, where this was asked: at its end they show a refusal
 abbrev pub Did : LogAskedView → LogPhase → List Event → Type 0
-Did a (phases.Snapshot b) own = (b ≡ a) × (own ≡ [])
-Did a (phases.List b x list) own = (b ≡ a) × HasName b x list own
-Did a (phases.Manifests r) own = (r.asked ≡ a) × HasPart r.asked r.snapshot r.done (r.next ∷ r.rest) r.changes own
-Did a (phases.Again b path) own = (b ≡ a) × LacksFile b path own
-Did a (phases.Ready l) own = HasLog a l own
 Did a phases.Over own = (refusal : Refusal) × Shows a refusal own
+Did a m own = DidSoFar a m own
 
 -- Whatever was asked, its next call is the next event of its calls so far, or none was made; and a refusal is shown by
 -- the calls up to it.
 abbrev pub LogReaderActed : LogPhase → LogPhase → StoreView → StoreView → Result LogStep Refusal → Type 0
 LogReaderActed old new before after result = (a : LogAskedView)
     → Acts (Did a old) (λ own. Did a new own × IfErr result (λ refusal. Shows a refusal own)) before after
-
--- something was asked, and these are the calls so far, or those that show a refusal
-abbrev pub DidSome : LogPhase → List Event → Type 0
-DidSome phase own = (a : LogAskedView) × Did a phase own
-
-abbrev pub SomeShows : Refusal → List Event → Type 0
-SomeShows refusal own = (a : LogAskedView) × Shows a refusal own

@@ -1,33 +1,31 @@
-//! A reader of a changelog as a machine.
+//! The phases of a reader of a changelog, and what they mean.
 
-ghost use Rattle.std.specs.Prelude.{◌≡◌, IfOk, IfErr, IsSomeAnd};
-ghost use Rattle.pm_store.specs.Answers.{MayAnswer};
-ghost use Rattle.pm_read_log.specs.LogReader.{next_call, Goes, IsLogReader, Shown};
 ghost use Rattle.pm_read_log.specs.declared.log_phase.LogPhase.TheVariants as phases;
 
 use crate::log_after::{after_again, after_list, after_manifest, after_snapshot};
 use crate::log_phase::LogPhase;
-use crate::log_reader::LogReader;
-use pm_machine::{Machine, Meaning};
+use crate::log_reader::LogStep;
+use pm_machine::{Phase, PhaseMeaning};
 use pm_paths::{manifest_path, snapshot_path};
 use pm_store::{Answer, Call};
 use pm_values::Refusal;
 use std::alloc::{AllocError, Global};
-use std::mem;
 
-impl Machine for LogReader {
-    ghost use Rattle.pm_read_log.specs.LogReader.{next_call, Goes, Refuses, Stops};
+impl Phase for LogPhase {
+    ghost use Rattle.pm_read_log.specs.LogReader.{next_call, Goes, IsLogReader, Shown};
 
     ghost call_of = { next_call };
 
     ghost goes = { Goes };
 
-    ghost refuses = { Refuses };
+    ghost shown = { Shown };
 
-    ghost stops = { Stops };
+    ghost holds = { IsLogReader };
+
+    ghost end = { phases.Over };
 
     fn call(&self, alloc: Global) -> Result<Option<Call>, AllocError> {
-        match &self.phase {
+        match self {
             LogPhase::Snapshot { asked } | LogPhase::Again { asked, .. } => Ok(Some(Call::Read {
                 path: snapshot_path(alloc, asked.id())?,
             })),
@@ -41,71 +39,42 @@ impl Machine for LogReader {
         }
     }
 
-    fn take(&mut self, alloc: Global, answer: Answer) -> Result<(), Refusal> {
-        let phase = self.leave();
-        match next_phase(alloc, phase, answer) {
-            Ok(phase) => {
-                self.enter(phase);
-                Ok(())
+    fn next(self, alloc: Global, answer: Answer) -> Result<LogPhase, Refusal> {
+        match (self, answer) {
+            (LogPhase::Snapshot { asked }, Answer::Found(found)) => {
+                after_snapshot(alloc, asked, found)
             }
-            Err(refusal) => Err(refusal),
+            (
+                LogPhase::List {
+                    asked,
+                    snapshot,
+                    list,
+                },
+                Answer::Found(found),
+            ) => after_list(alloc, asked, snapshot, list, found),
+            (LogPhase::Manifests { reading }, Answer::Found(found)) => {
+                after_manifest(alloc, reading, found)
+            }
+            (LogPhase::Again { asked, path }, Answer::Found(found)) => {
+                Err(after_again(asked, path, found))
+            }
+            _ => unreachable!(),
         }
     }
 
-    fn stop(&mut self) {
-        drop(self.leave());
+    fn over() -> LogPhase {
+        LogPhase::Over
     }
 }
 
-impl LogReader {
-    /// Its phase, which is over then.
-    fn leave(&mut self) -> LogPhase
-        ensures { (result ≡ self.old) × (self.new ≡ phases.Over) }
-    {
-        mem::replace(&mut self.phase, LogPhase::Over)
-    }
-
-    /// It is in this phase now.
-    fn enter(&mut self, phase: LogPhase)
-        requires { IsLogReader phase }
-        ensures { self.new ≡ phase }
-    {
-        drop(mem::replace(&mut self.phase, phase));
-    }
-}
-
-/// The phase after an answer, or the refusal that it shows.
-fn next_phase(alloc: Global, phase: LogPhase, answer: Answer) -> Result<LogPhase, Refusal>
-    requires may { IsSomeAnd (next_call phase) (λ call. MayAnswer call answer) }
-    ensures goes { IfOk result (Goes phase answer) }
-    ensures is_reader { IfOk result IsLogReader }
-    ensures refuses { IfErr result (Shown phase answer) }
-{
-    match (phase, answer) {
-        (LogPhase::Snapshot { asked }, Answer::Found(found)) => after_snapshot(alloc, asked, found),
-        (
-            LogPhase::List {
-                asked,
-                snapshot,
-                list,
-            },
-            Answer::Found(found),
-        ) => after_list(alloc, asked, snapshot, list, found),
-        (LogPhase::Manifests { reading }, Answer::Found(found)) => {
-            after_manifest(alloc, reading, found)
-        }
-        (LogPhase::Again { asked, path }, Answer::Found(found)) => {
-            Err(after_again(asked, path, found))
-        }
-        _ => unreachable!(),
-    }
-}
-
-impl Meaning for LogReader {
-    ghost use Rattle.pm_read_log.specs.LogMeaning.{Knows, LeavesFiles};
-    ghost use Rattle.pm_read_log.specs.LogTrace.{DidSome, SomeShows};
-    ghost use Rattle.pm_read_table.specs.Meaning.{Anything};
+impl PhaseMeaning for LogPhase {
     ghost use Rattle.pm_model_folder.specs.Ledger as ledgers;
+    ghost use Rattle.pm_read_log.specs.Log as logs;
+    ghost use Rattle.pm_read_log.specs.LogMeaning.{Knows, LeavesFiles};
+    ghost use Rattle.pm_read_log.specs.LogReader.{calls_left, reached_at, Reaches};
+    ghost use Rattle.pm_read_log.specs.LogTrace.{Did, Shows};
+
+    type Step = LogStep;
 
     ghost History = { ledgers.Past };
 
@@ -115,9 +84,24 @@ impl Meaning for LogReader {
 
     ghost knows = { Knows };
 
-    ghost others = { Anything };
+    ghost Asked = { logs.LogAskedView };
 
-    ghost did = { DidSome };
+    ghost did = { Did };
 
-    ghost shows = { SomeShows };
+    ghost shows = { Shows };
+
+    ghost calls_left = { calls_left };
+
+    ghost reached_at = { reached_at };
+
+    ghost reaches = { Reaches };
+
+    ghost keeps = { λ old new. Unit {0} };
+
+    fn reached(&self) -> LogStep {
+        match self {
+            LogPhase::Ready { .. } => LogStep::Ready,
+            _ => LogStep::More,
+        }
+    }
 }

@@ -6,19 +6,19 @@ ghost use Rattle.pm_store.specs.Store.{IsLater};
 ghost use Rattle.pm_read_log.specs.Log.{log_asked_of};
 ghost use Rattle.pm_read_table.specs.View.{HaveGroups};
 ghost use Rattle.pm_read_log.specs.LogMeaning.{LogReaderMoved};
-ghost use Rattle.pm_read_log.specs.LogReader.{calls_left, reached_at, IsReady, Opens, Reaches};
+ghost use Rattle.pm_read_log.specs.LogReader.{calls_left, IsReady, Opens, Reaches};
 ghost use Rattle.pm_read_log.specs.LogTrace.{LogReaderActed};
 ghost use Rattle.pm_read_log.specs.declared.log_phase.LogPhase.TheVariants as phases;
 
 use crate::log::{Log, LogAsked};
 use crate::log_after::open;
 use crate::log_phase::LogPhase;
-use pm_machine::step;
+use pm_machine::{Machine, Running, make_step};
 use pm_manifest::ManifestMeta;
 use pm_record::one_reading_law;
 use pm_schema::TableSchema;
 use pm_snapshot::Snapshot;
-use pm_store::FileStore;
+use pm_store::{Answer, Call, FileStore};
 use pm_values::Refusal;
 use std::alloc::{AllocError, Global};
 use std::marker::Model;
@@ -32,17 +32,16 @@ pub enum LogStep {
 
 /// Reads the changelog of a table at a snapshot, a call of the store a step.
 pub struct LogReader {
-    pub(crate) phase: LogPhase,
+    running: Running<LogPhase>,
 }
 
 impl Drop for LogReader {
     fn drop(self) {
-        let LogReader { phase } = self;
+        let LogReader { running } = self;
     }
 }
 
 impl Model for LogReader {
-    ghost use Rattle.pm_read_log.specs.LogReader.{IsLogReader};
     ghost use Rattle.pm_read_log.specs.declared.log_phase.LogPhase.{LogPhase};
     ghost use Rattle.pm_read_log.specs.contracts.log_phase.LogPhase as phases;
 
@@ -50,9 +49,7 @@ impl Model for LogReader {
 
     ghost coded = { phases.the_row.coded };
 
-    ghost view = { λ r. r.phase };
-
-    ghost invariant = { λ r. IsLogReader r.phase };
+    ghost view = { λ r. r.running };
 }
 
 impl LogReader {
@@ -63,9 +60,9 @@ impl LogReader {
         ensures { result ≡ phases.Snapshot (log_asked_of schema id) }
     {
         LogReader {
-            phase: LogPhase::Snapshot {
+            running: Running::new(LogPhase::Snapshot {
                 asked: LogAsked::new(schema, id),
-            },
+            }),
         }
     }
 
@@ -82,14 +79,16 @@ impl LogReader {
     {
         let asked = LogAsked::new(schema, snapshot.id);
         let phase = open(alloc, asked, snapshot)?;
-        Ok(LogReader { phase })
+        Ok(LogReader {
+            running: Running::new(phase),
+        })
     }
 
     /// Whether the changelog is ready.
     pub fn is_ready(&self) -> bool
         ensures { IsTrue result ↔ IsReady self.now }
     {
-        matches!(self.phase, LogPhase::Ready { .. })
+        matches!(self.running.phase(), LogPhase::Ready { .. })
     }
 
     /// The changelog, once it is ready.
@@ -98,8 +97,8 @@ impl LogReader {
         ensures log { self ≡ phases.Ready result }
         ensures groups { HaveGroups result.schema result.changes.items }
     {
-        let LogReader { phase } = self;
-        match phase {
+        let LogReader { running } = self;
+        match running.into_phase() {
             LogPhase::Ready { log } => log,
             _ => unreachable!(),
         }
@@ -116,19 +115,32 @@ impl LogReader {
         ensures later { IsLater (F.seen store.old) (F.seen store.new) }
     {
         one_reading_law::<ManifestMeta>();
-        match step(alloc, self, store) {
-            Ok(()) => Ok(self.reached()),
-            Err(refusal) => Err(refusal),
-        }
+        make_step(alloc, &mut self.running, store)
+    }
+}
+
+/// A part of other machines: they make its calls.
+impl Machine for LogReader {
+    ghost use Rattle.pm_read_log.specs.LogReader.{next_call, Goes, Shown};
+    ghost use Rattle.pm_machine.specs.Running.{Refuses, Stops};
+
+    ghost call_of = { next_call };
+
+    ghost goes = { Goes };
+
+    ghost refuses = { Refuses Shown phases.Over };
+
+    ghost stops = { Stops phases.Over };
+
+    fn call(&self, alloc: Global) -> Result<Option<Call>, AllocError> {
+        self.running.call(alloc)
     }
 
-    /// What a step that went on has reached.
-    fn reached(&self) -> LogStep
-        ensures { result ≡ reached_at self.now }
-    {
-        match self.phase {
-            LogPhase::Ready { .. } => LogStep::Ready,
-            _ => LogStep::More,
-        }
+    fn take(&mut self, alloc: Global, answer: Answer) -> Result<(), Refusal> {
+        self.running.take(alloc, answer)
+    }
+
+    fn stop(&mut self) {
+        self.running.stop();
     }
 }

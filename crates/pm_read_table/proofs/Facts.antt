@@ -1,9 +1,8 @@
 -- A reader of a view keeps the laws of machines.
-use Rattle.std.proofs.Common.{◌≡◌, ◌≢◌, inl, inr, ℕ, ◌<◌, ◌≤◌, ◌+◌, ◌==◌, suc, List, [], ◌∷◌, ◌++◌, length, Bool, true, false, if◌then◌else◌, Option, None, Some, IsSome, IfSome, Result, Ok, Err, OnOk, Contains, refl, sym, ap, ◌∙◌, ◌↔◌, subst, arith, append_assoc, is_some, take, not}
+use Rattle.std.proofs.Common.{◌≡◌, ◌≢◌, inl, inr, ℕ, ◌<◌, ◌≤◌, ◌+◌, ◌==◌, suc, List, [], ◌∷◌, ◌++◌, length, Bool, true, false, if◌then◌else◌, Option, None, Some, IsSome, IfSome, Result, Ok, Err, Contains, refl, sym, ap, ◌∙◌, ◌↔◌, subst, arith, append_assoc, is_some, take, not}
 use Rattle.std.specs.FinMap as map
 use Rattle.std.proofs.lemmas.List.{append-nil}
 use Rattle.std.proofs.lemmas.List.Elements.{Contains-append_right}
-use Rattle.std.proofs.lemmas.Option.{IfSome_then}
 use Rattle.std.proofs.lemmas.Bool.Decides.{nat_tests}
 use Rattle.pm_values.specs.declared.refusal.Refusal.{Refusal}
 use Rattle.pm_values.specs.declared.refusal.Refusal.TheVariants as refusals
@@ -11,16 +10,14 @@ use Rattle.pm_store.specs.declared.answer.Answer.{Answer}
 use Rattle.pm_store.specs.declared.answer.Answer.TheVariants as answers
 use Rattle.pm_store.specs.declared.call.Call.{Call}
 use Rattle.pm_store.specs.declared.call.Call.TheVariants as calls
-use Rattle.pm_store.specs.declared.call.Effect.{Effect}
-use Rattle.pm_store.specs.declared.call.Effect.TheVariants as effects
 use Rattle.pm_store.specs.Answers.{Answers, MayAnswer}
-use Rattle.pm_store.specs.Files.{Files, IsListing, after_effect, carried}
+use Rattle.pm_store.specs.Files.{Files, IsListing}
 use Rattle.pm_store.specs.Images.{MayLeave}
-use Rattle.pm_store.specs.Store.{StoreView}
 use Rattle.pm_store.proofs.FileLaws.{effect_left}
-use Rattle.pm_machine.specs.Moves.{Leads, Sound}
-use Rattle.pm_machine.specs.Step.{path_of, Stepped, Rested, Went, Refused, Stopped, Failed}
-use Rattle.pm_machine.specs.Trace.{Event, Recounts, answered, faulted}
+use Rattle.pm_machine.specs.Moves.{Sound}
+use Rattle.pm_machine.specs.Running.{Refuses, Stops}
+use Rattle.pm_machine.specs.Trace.{Event, Recounts, after_answer, answered}
+use Rattle.pm_machine.proofs.PhaseFacts.{Spares, recounts_of, sound_of_spared}
 use Rattle.pm_model_history.specs.History.{IsTableOf}
 use Rattle.pm_schema.specs.declared.schema.TableSchema.{TableSchema}
 use Rattle.pm_snapshot.specs.Names.{greatest}
@@ -51,12 +48,12 @@ use Rattle.pm_manifest.specs.Listed.{has_meta_fields, meta_in}
 use Rattle.pm_model_contents.specs.Groups.{Overlaps}
 use Rattle.pm_model_contents.specs.Named.{Contents, HasContents, IsNamed, base_list, delta_list, manifest}
 use Rattle.pm_model_contents.specs.Lists.{HasEntries, HaveEntries, IsList, IsManifest, manifest_path, none_live}
-use Rattle.pm_read_table.specs.Reader.{next_call, most, calls_left, opening, IsAsked, IsListOf, IsManifestOf, GoesOn, Goes, disorder, overlap, Shown, Refuses, Stops, Reaches, reached_at}
+use Rattle.pm_read_table.specs.Reader.{Goes, GoesOn, IsAsked, IsListOf, IsManifestOf, IsViewer, Reaches, Shown, calls_left, disorder, most, next_call, opening, overlap, reached_at}
 use Rattle.pm_read_table.specs.Reading.{Filed, ReadingView, live_of}
 use Rattle.pm_read_table.specs.Meaning.{HasGone, IsKept, IsReadingOf, IsViewIn, view_origin, view_snapshot, Knows, KnowsSought, LeavesFiles, Stood}
 use Rattle.pm_read_table.specs.declared.asked.Wanted.{Wanted}
 use Rattle.pm_read_table.specs.declared.asked.Wanted.TheVariants as wants
-use Rattle.pm_read_table.specs.Trace.{read_file, HasListed, HasSought, IsSought, Lists, ListsFor, Reads, Has, HaveRead, HasPart, HasView, of_origin, of_snapshot, LacksFile, lacks_base, lacks_delta, lacks_manifest, Misreads, misreads_base, misreads_delta, misreads_manifest, MayEnd, at_first, at_listing, at_snapshot, at_base, at_delta, at_part, at_manifest, IsFailed, in_listing, in_origin, in_snapshot, in_base, in_delta, in_manifest, in_again, gone_origin, gone_snapshot, gone_again, IsDamaged, bad_snapshot, bad_schema, is_absent, is_misread, is_disordered, is_overlap, Shows, Did}
+use Rattle.pm_read_table.specs.Trace.{read_file, HasListed, HasSought, IsSought, Lists, ListsFor, Reads, Has, HaveRead, HasPart, HasView, of_origin, of_snapshot, lacks_base, lacks_delta, lacks_manifest, Misreads, misreads_base, misreads_delta, misreads_manifest, DidSoFar, MayTakeMemory, gone_origin, gone_snapshot, gone_again, IsDamaged, bad_snapshot, bad_schema, is_absent, is_misread, is_disordered, is_overlap, Shows, Did}
 use Rattle.pm_read_table.specs.View.{IsOriginView, IsSoughtBy, IsViewOf, kept_for}
 use Rattle.pm_read_table.specs.Asked.{Asked, ListsFirst, SoughtView, sought_of}
 use Rattle.pm_read_table.specs.declared.phase.Phase.{Phase}
@@ -68,24 +65,16 @@ use Rattle.pm_read_table.proofs.LiveLemmas.{kept_join, kept_none}
 
 -- ---- its calls change nothing
 
-pub both_if : (next : Option Call) (P Q R : Call → Type 0) → ((call : Call) → P call → Q call → R call) → IfSome next P → IfSome next Q → IfSome next R
-both_if None P Q R weaker one two = tt
-both_if (Some call) P Q R weaker one two = weaker call one two
-
--- each effect leaves the files as they are
-abbrev pub IsStill : Files → Call → Type 0
-IsStill f call = (effect : Effect) → after_effect call effect f ≡ f
-
-rests : (m : Phase) (f : Files) → IfSome (next_call m) (IsStill f)
-rests (phases.List a) f = λ effect. list_effect snapshot_folder effect f
-rests (phases.Origin q) f = λ effect. read_effect (origin_path q.asked.schema) effect f
-rests (phases.Snapshot q id) f = λ effect. read_effect (snapshot_path id) effect f
-rests (phases.Base q x) f = λ effect. read_effect (manifest_path x.base_list) effect f
-rests (phases.Delta q x base) f = λ effect. read_effect (manifest_path x.delta_list) effect f
-rests (phases.Manifests r) f = λ effect. read_effect (manifest_path r.next.name) effect f
-rests (phases.Again a id path) f = λ effect. read_effect (snapshot_path id) effect f
-rests (phases.Ready v) f = tt
-rests phases.Over f = tt
+pub spares : (m : Phase) (f : Files) → IfSome (next_call m) (Spares f)
+spares (phases.List a) f = λ effect. list_effect snapshot_folder effect f
+spares (phases.Origin q) f = λ effect. read_effect (origin_path q.asked.schema) effect f
+spares (phases.Snapshot q id) f = λ effect. read_effect (snapshot_path id) effect f
+spares (phases.Base q x) f = λ effect. read_effect (manifest_path x.base_list) effect f
+spares (phases.Delta q x base) f = λ effect. read_effect (manifest_path x.delta_list) effect f
+spares (phases.Manifests r) f = λ effect. read_effect (manifest_path r.next.name) effect f
+spares (phases.Again a id path) f = λ effect. read_effect (snapshot_path id) effect f
+spares (phases.Ready v) f = tt
+spares phases.Over f = tt
 
 -- ---- entries
 
@@ -348,30 +337,11 @@ knows_next law one_law (phases.Manifests r) (answers.Found (Some bytes)) new f p
     (kept_more r entries own keeps) sought
 knows_next law one_law m answer new f p goes stands known = absurd goes
 
-over_knows : (new : Phase) (f : Files) (p : Past) → new ≡ phases.Over → Knows new f p
-over_knows new f p over = subst (λ (m : Phase). Knows m f p) (sym over) tt
-
 pub kept_same : (f after : Files) (p : Past) → after ≡ f → IsKept f p after p
 kept_same f after p same = record { files = λ q. ap (λ (g : Files). map.get g q) same; past = refl }
 
-leads_still : (m new : Phase) (f after : Files) (p : Past) → after ≡ f → Knows new f p → Leads (LeavesFiles m) (Knows new) f p after
-leads_still m new f after p same known =
-    (p, kept_same f after p same, subst (λ (g : Files). Knows new g p) (sym same) known)
-
-pub sound : Joined → OneList → Sound next_call Goes Refuses Stops Stands LeavesFiles Knows
-sound law one_law = record {
-  changes = λ m f p stands known. IfSome_then (next_call m) (rests m f)
-      (λ call still effect. (p, kept_same f (after_effect call effect f) p (still effect)));
-  went = λ m new answer f p goes stands known. both_if (next_call m) (IsStill f) (λ call. Answers call answer f → Knows new f p)
-      (λ call. Answers call answer f → Leads (LeavesFiles m) (Knows new) f p (carried call f))
-      (λ call still knows told. leads_still m new f (carried call f) p (still effects.Whole) (knows told))
-      (rests m f) (knows_next law one_law m answer new f p goes stands known);
-  refused = λ m new answer refusal f p refuses stands known. IfSome_then (next_call m) (rests m f)
-      (λ call still told. leads_still m new f (carried call f) p (still effects.Whole) (over_knows new f p refuses.1));
-  failed = λ m new effect f p stops stands known. IfSome_then (next_call m) (rests m f)
-      (λ call still may. leads_still m new f (after_effect call effect f) p (still effect) (over_knows new f p stops));
-  stopped = λ m new f p called stops stands known. over_knows new f p stops;
-}
+pub sound : Joined → OneList → Sound next_call Goes (Refuses Shown phases.Over) (Stops phases.Over) Stands LeavesFiles Knows
+sound law one_law = sound_of_spared next_call Goes Shown phases.Over Stands LeavesFiles Knows (λ m. kept_same) spares (knows_next law one_law) (λ f p. tt)
 
 -- ---- its calls
 
@@ -511,41 +481,46 @@ went_on law a (phases.Manifests r) (answers.Found (Some bytes)) new own (later, 
     (leaves_more law entries later (live_of r.files) (live_of files) was left) (kept_more r entries later keeps)
 went_on law a m answer new own goes did = absurd goes
 
--- where bytes have a fault, memory may have run out
-misread_end : (a : Asked) (refusal : Refusal) (own : List Event) → Misreads a refusal own → MayEnd a own
-misread_end a refusal own (misreads_base x bytes bad finds) = at_base x (Some bytes) finds
-misread_end a refusal own (misreads_delta x base bytes bad finds) = at_delta x base (Some bytes) finds
-misread_end a refusal own (misreads_manifest x done meta rest entries bytes bad finds) = at_manifest x done meta rest entries (Some bytes) finds
-
 misread_fault : (a : Asked) (refusal : Refusal) (own : List Event) → Misreads a refusal own → IsFileFault refusal
 misread_fault a refusal own (misreads_base x bytes bad finds) = file_fault _ _ (manifest_path x.base_list) bytes refusal bad
 misread_fault a refusal own (misreads_delta x base bytes bad finds) = file_fault _ _ (manifest_path x.delta_list) bytes refusal bad
 misread_fault a refusal own (misreads_manifest x done meta rest entries bytes bad finds) = file_fault _ _ (manifest_path meta.name) bytes refusal bad
 
-misread : (a : Asked) (refusal : Refusal) (own : List Event) → Misreads a refusal own → Shows a refusal own
-misread a refusals.Memory own is = misread_end a refusals.Memory own is
-misread a (refusals.Damaged path place) own is = is_misread is
-misread a (refusals.Unsupported what text) own is = is
-misread a other own is = absurd (misread_fault a other own is)
+misread : (a b : Asked) (refusal : Refusal) (own : List Event) → b ≡ a → Shows a refusals.Memory own → Misreads b refusal own → Shows a refusal own
+misread a b refusals.Memory own same ends is = ends
+misread a b (refusals.Damaged path place) own same ends is = subst (λ (a : Asked). IsDamaged a path place own) same (is_misread is)
+misread a b (refusals.Unsupported what text) own same ends is = subst (λ (a : Asked). Misreads a (refusals.Unsupported what text) own) same is
+misread a b other own same ends is = absurd (misread_fault b other own is)
 
 -- files that overlap are shown
 overlapped : (a b : Asked) (x : Snapshot) (metas : List ManifestMeta) (entries : List Entry) (live : Live) (refusal : Refusal) (own : List Event) → b ≡ a
-    → HasPart b x metas [] entries own → Leaves none_live entries live → Overlaps b.schema live refusal → Shows a refusal own
-overlapped a b x metas entries live refusals.Memory own same part left over =
-    subst (λ (a : Asked). MayEnd a own) same (at_part x metas [] entries part)
-overlapped a b x metas entries live (refusals.Damaged path place) own same part left over =
+    → Shows a refusals.Memory own → HasPart b x metas [] entries own → Leaves none_live entries live → Overlaps b.schema live refusal → Shows a refusal own
+overlapped a b x metas entries live refusals.Memory own same ends part left over = ends
+overlapped a b x metas entries live (refusals.Damaged path place) own same ends part left over =
     subst (λ (a : Asked). IsDamaged a path place own) same (is_overlap x metas entries live part left over)
-overlapped a b x metas entries live other own same part left over = absurd over
+overlapped a b x metas entries live other own same ends part left over = absurd over
 
 -- what another one that asks the same shows
 shown_as : (a b : Asked) (refusal defined : Refusal) (own : List Event) → b ≡ a → refusal ≡ defined → Shows b defined own → Shows a refusal own
 shown_as a b refusal defined own same is shows =
     subst (λ (refusal : Refusal). Shows a refusal own) (sym is) (subst (λ (a : Asked). Shows a defined own) same shows)
 
+-- memory ran out after an answer
+memory_after : (a : Asked) (m : Phase) (call : Call) (answer : Answer) (refusal : Refusal) (own : List Event) → next_call m ≡ Some call → DidSoFar a m own
+    → MayTakeMemory m answer → MayAnswer call answer → refusal ≡ refusals.Memory → Shows a refusal (own ++ answered call answer ∷ [])
+memory_after a m call answer refusal own next did takes may is =
+    subst (λ (refusal : Refusal). Shows a refusal (own ++ answered call answer ∷ [])) (sym is) (after_answer m call answer own did next may takes refl)
+
+manifest_ends : (a : Asked) (r : ReadingView) (bytes : List ℕ) (own : List Event) → DidSoFar a (phases.Manifests r) own
+    → MayAnswer (calls.Read (manifest_path r.next.name)) (answers.Found (Some bytes))
+    → Shows a refusals.Memory (own ++ read_file (manifest_path r.next.name) (Some bytes) ∷ [])
+manifest_ends a r bytes own did may =
+    memory_after a (phases.Manifests r) (calls.Read (manifest_path r.next.name)) (answers.Found (Some bytes)) refusals.Memory own refl did tt may refl
+
 refused_on : Joined → (a : Asked) (m : Phase) (answer : Answer) (refusal : Refusal) (own : List Event) → Shown m answer refusal → Did a m own
     → IfSome (next_call m) (λ call. MayAnswer call answer → Shows a refusal (own ++ answered call answer ∷ []))
-refused_on law a (phases.List b) (answers.Listed names) refusal own (inl is) (same, none, begins) = λ may.
-    shown_as a a refusal refusals.Memory _ refl is (at_listing names begins (ap (λ (own : List Event). own ++ listed_snapshots names ∷ []) none))
+refused_on law a (phases.List b) (answers.Listed names) refusal own (inl is) did = λ may.
+    memory_after a (phases.List b) snapshots_call (answers.Listed names) refusal own refl did tt may is
 refused_on law a (phases.List b) (answers.Listed names) refusal own (inr (latest, id, newest, above, is)) (same, none, begins) = λ may.
     shown_as a b refusal (refusals.NoSnapshot id latest) _ same is
     (names, newest, above, ap (λ (own : List Event). own ++ listed_snapshots names ∷ []) none)
@@ -553,34 +528,39 @@ refused_on law a (phases.Origin q) (answers.Found None) refusal own is ((same, i
     shown_as a q.asked refusal (refusals.Expired 0) _ same is (gone_origin refl (own, lists, refl))
 refused_on law a (phases.Snapshot q id) (answers.Found None) refusal own is ((same, ids), least, lists) = λ may.
     shown_as a q.asked refusal (refusals.Expired id) _ same is (gone_snapshot least (own, lists, refl))
-refused_on law a (phases.Snapshot q id) (answers.Found (Some bytes)) refusal own (inl is) ((same, ids), least, lists) = λ may.
-    shown_as a q.asked refusal refusals.Memory _ same is (at_snapshot id bytes least (own, lists, refl))
+refused_on law a (phases.Snapshot q id) (answers.Found (Some bytes)) refusal own (inl is) did = λ may.
+    memory_after a (phases.Snapshot q id) (calls.Read (snapshot_path id)) (answers.Found (Some bytes)) refusal own refl did tt may is
 refused_on law a (phases.Snapshot q id) (answers.Found (Some bytes)) refusal own (inr (inl (is, bad))) ((same, ids), least, lists) = λ may.
     shown_as a q.asked refusal (refusals.Damaged (snapshot_path id) 0) _ same is (bad_snapshot id bytes least refl refl bad (own, lists, refl))
 refused_on law a (phases.Snapshot q id) (answers.Found (Some bytes)) refusal own (inr (inr (x, is, reads, other))) ((same, ids), least, lists) = λ may.
     shown_as a q.asked refusal (refusals.Damaged (schema_path x.schema_id) 0) _ same is (bad_schema x id bytes least refl refl reads other (own, lists, refl))
-refused_on law a (phases.Base q x) (answers.Found found) refusal own (inl is) ((same, ids), has) = λ may.
-    shown_as a q.asked refusal refusals.Memory _ same is (at_base x found (own, has, refl))
+refused_on law a (phases.Base q x) (answers.Found found) refusal own (inl is) did = λ may.
+    memory_after a (phases.Base q x) (calls.Read (manifest_path x.base_list)) (answers.Found found) refusal own refl did tt may is
 refused_on law a (phases.Base q x) (answers.Found None) refusal own (inr none) did = absurd none
 refused_on law a (phases.Base q x) (answers.Found (Some bytes)) refusal own (inr bad) ((same, ids), has) = λ may.
-    shown_as a q.asked refusal refusal _ same refl (misread q.asked refusal _ (misreads_base x bytes bad (own, has, refl)))
-refused_on law a (phases.Delta q x base) (answers.Found found) refusal own (inl is) ((same, ids), has) = λ may.
-    shown_as a q.asked refusal refusals.Memory _ same is (at_delta x base.items found (own, has, refl))
+    misread a q.asked refusal _ same
+    (memory_after a (phases.Base q x) (calls.Read (manifest_path x.base_list)) (answers.Found (Some bytes)) refusals.Memory own refl ((same, ids), has) tt may refl)
+    (misreads_base x bytes bad (own, has, refl))
+refused_on law a (phases.Delta q x base) (answers.Found found) refusal own (inl is) did = λ may.
+    memory_after a (phases.Delta q x base) (calls.Read (manifest_path x.delta_list)) (answers.Found found) refusal own refl did tt may is
 refused_on law a (phases.Delta q x base) (answers.Found None) refusal own (inr none) did = absurd none
 refused_on law a (phases.Delta q x base) (answers.Found (Some bytes)) refusal own (inr bad) ((same, ids), has) = λ may.
-    shown_as a q.asked refusal refusal _ same refl (misread q.asked refusal _ (misreads_delta x base.items bytes bad (own, has, refl)))
-refused_on law a (phases.Manifests r) (answers.Found found) refusal own (inl is) ((same, ids), entries, part, was, keeps) = λ may.
-    shown_as a r.sought.asked refusal refusals.Memory _ same is (at_manifest r.snapshot r.done r.next r.rest entries found (own, part, refl))
+    misread a q.asked refusal _ same
+    (memory_after a (phases.Delta q x base) (calls.Read (manifest_path x.delta_list)) (answers.Found (Some bytes)) refusals.Memory own refl ((same, ids), has) tt may refl)
+    (misreads_delta x base.items bytes bad (own, has, refl))
+refused_on law a (phases.Manifests r) (answers.Found found) refusal own (inl is) did = λ may.
+    memory_after a (phases.Manifests r) (calls.Read (manifest_path r.next.name)) (answers.Found found) refusal own refl did tt may is
 refused_on law a (phases.Manifests r) (answers.Found None) refusal own (inr none) did = absurd none
 refused_on law a (phases.Manifests r) (answers.Found (Some bytes)) refusal own (inr (inl bad)) ((same, ids), entries, part, was, keeps) = λ may.
-    shown_as a r.sought.asked refusal refusal _ same refl
-    (misread r.sought.asked refusal _ (misreads_manifest r.snapshot r.done r.next r.rest entries bytes bad (own, part, refl)))
+    misread a r.sought.asked refusal _ same (manifest_ends a r bytes own ((same, ids), entries, part, was, keeps) may)
+    (misreads_manifest r.snapshot r.done r.next r.rest entries bytes bad (own, part, refl))
 refused_on law a (phases.Manifests r) (answers.Found (Some bytes)) refusal own (inr (inr (later, reads, disorder i out is))) ((same, ids), entries, part, was, keeps) = λ may.
     shown_as a r.sought.asked refusal (refusals.Damaged (manifest_path r.next.name) 0) _ same is
     (is_disordered r.snapshot r.done r.next r.rest entries (live_of r.files) bytes later i refl refl was reads out (own, part, refl))
 refused_on law a (phases.Manifests r) (answers.Found (Some bytes)) refusal own (inr (inr (later, reads, overlap live order left none over))) ((same, ids), entries, part, was, keeps) = λ may.
     let now : List Event = own ++ read_file (manifest_path r.next.name) (Some bytes) ∷ [] in
     overlapped a r.sought.asked r.snapshot (r.done ++ r.next ∷ []) (entries ++ later) live refusal now same
+    (manifest_ends a r bytes own ((same, ids), entries, part, was, keeps) may)
     (subst (λ (rest : List ManifestMeta). HasPart r.sought.asked r.snapshot (r.done ++ r.next ∷ []) rest (entries ++ later) now) none
     (part_more law r.sought.asked r.snapshot r.done r.next r.rest entries later (live_of r.files) bytes own part reads was order))
     (leaves_more law entries later (live_of r.files) live was left) over
@@ -590,70 +570,25 @@ refused_on law a (phases.Again b id path) (answers.Found (Some bytes)) refusal o
     shown_as a b refusal (refusals.Damaged path 0) _ same is (is_absent id bytes refl (own, lacks, refl))
 refused_on law a m answer refusal own shown did = absurd shown
 
-failed_as : (a b : Asked) (path : List ℕ) (own : List Event) → b ≡ a → IsFailed b path own → IsFailed a path own
-failed_as a b path own same failed = subst (λ (a : Asked). IsFailed a path own) same failed
+so_far : (a : Asked) (m : Phase) (own : List Event) → IsSome (next_call m) → Did a m own → DidSoFar a m own
+so_far a (phases.List b) own called did = did
+so_far a (phases.Origin q) own called did = did
+so_far a (phases.Snapshot q id) own called did = did
+so_far a (phases.Base q x) own called did = did
+so_far a (phases.Delta q x base) own called did = did
+so_far a (phases.Manifests r) own called did = did
+so_far a (phases.Again b id path) own called did = did
+so_far a (phases.Ready v) own called did = did
+so_far a phases.Over own called did = absurd (let clash = called in cc)
 
-failed_on : (a : Asked) (m : Phase) (own : List Event) → Did a m own
-    → IfSome (next_call m) (λ call. Shows a (refusals.StoreFault (path_of call)) (own ++ faulted call ∷ []))
-failed_on a (phases.List b) own (same, none, begins) = in_listing refl begins (ap (λ (own : List Event). own ++ faulted snapshots_call ∷ []) none)
-failed_on a (phases.Origin q) own ((same, ids), lists) = failed_as a q.asked (origin_path q.asked.schema) _ same (in_origin own lists refl refl)
-failed_on a (phases.Snapshot q id) own ((same, ids), least, lists) = failed_as a q.asked (snapshot_path id) _ same (in_snapshot id own least lists refl refl)
-failed_on a (phases.Base q x) own ((same, ids), has) = failed_as a q.asked (manifest_path x.base_list) _ same (in_base x own has refl refl)
-failed_on a (phases.Delta q x base) own ((same, ids), has) = failed_as a q.asked (manifest_path x.delta_list) _ same (in_delta x base.items own has refl refl)
-failed_on a (phases.Manifests r) own ((same, ids), entries, part, was, keeps) =
-    failed_as a r.sought.asked (manifest_path r.next.name) _ same (in_manifest r.snapshot r.done r.next r.rest entries own part refl refl)
-failed_on a (phases.Again b id path) own (same, lacks) = failed_as a b (snapshot_path id) _ same (in_again id path own lacks refl refl)
-failed_on a (phases.Ready v) own did = tt
-failed_on a phases.Over own did = tt
-
-lacks_end : (a : Asked) (id : ℕ) (path : List ℕ) (own : List Event) → LacksFile a id path own → MayEnd a own
-lacks_end a id path own (lacks_base x bears at finds) = at_base x None finds
-lacks_end a id path own (lacks_delta x base bears at finds) = at_delta x base None finds
-lacks_end a id path own (lacks_manifest x done meta rest entries bears at finds) = at_manifest x done meta rest entries None finds
-
-lists_end : (a : Asked) (id : ℕ) (own : List Event) → Lists a id own → MayEnd a own
-lists_end a id own lists = at a.wanted refl lists
-  where
-    first : (w : Wanted) → a.wanted ≡ w → ListsFirst w → ListsFirst a.wanted
-    first w is begins = subst ListsFirst (sym is) begins
-
-    at : (w : Wanted) → a.wanted ≡ w → ListsFor w id own → MayEnd a own
-    at wants.Newest same (names, latest, newest, asked, is) = at_listing names (first wants.Newest same tt) is
-    at wants.Entries same (names, latest, newest, asked, is) = at_listing names (first wants.Entries same tt) is
-    at (wants.At asked_id) same (names, latest, newest, asked, is) = at_listing names (first (wants.At asked_id) same tt) is
-    at (wants.Whole asked_id) same (asked, none) = at_first none
-
-ends_as : (a b : Asked) (own : List Event) → b ≡ a → MayEnd b own → MayEnd a own
-ends_as a b own same ends = subst (λ (a : Asked). MayEnd a own) same ends
-
-stopped_on : (a : Asked) (m : Phase) (own : List Event) → IsSome (next_call m) → Did a m own → MayEnd a own
-stopped_on a (phases.List b) own called (same, none, begins) = at_first none
-stopped_on a (phases.Origin q) own called ((same, ids), lists) = ends_as a q.asked own same (lists_end q.asked 0 own lists)
-stopped_on a (phases.Snapshot q id) own called ((same, ids), least, lists) = ends_as a q.asked own same (lists_end q.asked id own lists)
-stopped_on a (phases.Base q x) own called ((same, ids), (bytes, least, reads, schema, did)) = ends_as a q.asked own same (at_snapshot x.id bytes least did)
-stopped_on a (phases.Delta q x base) own called ((same, ids), (bytes, reads, finds)) = ends_as a q.asked own same (at_base x (Some bytes) finds)
-stopped_on a (phases.Manifests r) own called ((same, ids), entries, part, was, keeps) = ends_as a r.sought.asked own same (at_part r.snapshot r.done (r.next ∷ r.rest) entries part)
-stopped_on a (phases.Again b id path) own called (same, lacks) = ends_as a b own same (lacks_end b id path own lacks)
-stopped_on a (phases.Ready v) own called did = absurd (let clash = called in cc)
-stopped_on a phases.Over own called did = absurd (let clash = called in cc)
-
-over_did : (a : Asked) (new : Phase) (refusal : Refusal) (own : List Event) → new ≡ phases.Over → Shows a refusal own → Did a new own × Shows a refusal own
-over_did a new refusal own over shows = (subst (λ (m : Phase). Did a m own) (sym over) (refusal, shows), shows)
-
-pub recounts : Joined → (a : Asked) → Recounts next_call Goes Refuses Stops (Did a) (Shows a)
-recounts law a = record {
-  went = λ m new answer own goes did. went_on law a m answer new own goes did;
-  refused = λ m new answer refusal own refuses did. IfSome_then (next_call m) (refused_on law a m answer refusal own refuses.0 did)
-      (λ call shows may. over_did a new refusal (own ++ answered call answer ∷ []) refuses.1 (shows may));
-  failed = λ m new own stops did. IfSome_then (next_call m) (failed_on a m own did)
-      (λ call shows. over_did a new (refusals.StoreFault (path_of call)) (own ++ faulted call ∷ []) stops shows);
-  stopped = λ m new own called stops did. over_did a new refusals.Memory own stops (stopped_on a m own called did);
-}
+pub recounts : Joined → (a : Asked) → Recounts next_call Goes (Refuses Shown phases.Over) (Stops phases.Over) (Did a) (Shows a)
+recounts law a = recounts_of next_call Goes Shown phases.Over (DidSoFar a) (Did a) MayTakeMemory (Shows a) (so_far a)
+    (λ refusal own shows. (refusal, shows)) (λ path own failed. failed) (λ own ends. ends) (went_on law a) (refused_on law a)
 
 -- ---- how far it has come
 
 -- fewer calls than that are left, and what was reached
-abbrev IsAhead : ℕ → Phase → Type 0
+abbrev pub IsAhead : ℕ → Phase → Type 0
 IsAhead n m = (calls_left m < n) × Reaches (reached_at m) m
 
 on_ahead : (q : SoughtView) (x : Snapshot) (done rest : List ManifestMeta) (files : Filed) (kept : List Entry) (new : Phase) (n : ℕ) → length rest + 1 < n
@@ -674,7 +609,7 @@ again_ahead a id path new n below is =
     let some : 0 < 1 = omega arith in
     subst (IsAhead n) (sym is) (below, some)
 
-goes_ahead : (m : Phase) (answer : Answer) (new : Phase) → Goes m answer new → IsAhead (calls_left m) new
+pub goes_ahead : (m : Phase) (answer : Answer) (new : Phase) → Goes m answer new → IsAhead (calls_left m) new
 goes_ahead (phases.List a) (answers.Listed names) new (ids, latest, id, are, newest, is_asked, is) =
     let one : 1 < most + 5 = omega arith in
     let less : most + 4 < most + 5 = omega arith in
@@ -714,16 +649,10 @@ has_call (phases.Again a id path) left = refl
 has_call (phases.Ready v) left = absurd (let none : 0 < 0 = left in omega (arith, none))
 has_call phases.Over left = absurd (let none : 0 < 0 = left in omega (arith, none))
 
--- a step that goes on leaves fewer calls, and what it reached
-pub steps_on : {old new : Phase} {before after : StoreView} {result : Result (Unit {0}) Refusal}
-    → Stepped next_call Goes Refuses Stops old new before after result → 0 < calls_left old
-    → OnOk result ((calls_left new < calls_left old) × Reaches (reached_at new) new)
-steps_on {old = old} {new = new} (Rested none same still) left =
-    absurd (let called = has_call old left in let clash = rw none at called in cc)
-steps_on {old = old} {new = new} (Went call answer at came on) left = goes_ahead old answer new on
-steps_on (Refused call answer refusal at came on) left = tt
-steps_on (Stopped call at meanwhile stop) left = tt
-steps_on (Failed call at came stop) left = tt
+-- an answer that it goes on with leaves fewer calls, and what was reached
+pub goes : (m : Phase) (answer : Answer) (new : Phase) → IsViewer m → Goes m answer new
+    → (calls_left new < calls_left m) × Reaches (reached_at new) new × Unit {0}
+goes m answer new is on = let ahead = goes_ahead m answer new on in (ahead.0, ahead.1, tt)
 
 -- ---- which answers show that a snapshot is above the latest
 
@@ -836,5 +765,5 @@ again_absent a id path found f p gone told = told ∙ gone.absent
 pub images : (m : Phase) (call : Call) (f image : Files) (p : Past) → next_call m ≡ Some call → MayLeave call f image → IsKept f p image p
 images m call f image p is left =
     let had = effect_left call f image left in
-    let still = rw is at (rests m f) in
+    let still = rw is at (spares m f) in
     kept_same f image p (had.1 ∙ still had.0)

@@ -208,12 +208,6 @@ Shown (phases.Manifests r) (answers.Found found) refusal =
     (refusal ≡ refusals.Memory) ⊎ Reveals (phases.Manifests r) (answers.Found found) refusal
 Shown phase other refusal = ⊥
 
-abbrev pub Refuses : Phase → Answer → Refusal → Phase → Type 0
-Refuses phase answer refusal later = Shown phase answer refusal × (later ≡ phases.Over)
-
-abbrev pub Stops : Phase → Phase → Type 0
-Stops phase later = later ≡ phases.Over
-
 -- what a step that goes on has reached
 abbrev pub Reaches : ViewStep → Phase → Type 0
 Reaches steps.More phase = 0 < calls_left phase

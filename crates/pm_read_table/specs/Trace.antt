@@ -2,24 +2,24 @@
 use Rattle.std.specs.Prelude.{◌≡◌, ◌≢◌, ℕ, ◌≤◌, List, [], ◌∷◌, ◌++◌, Option, None, Some, Result, Ok, Err, IfErr}
 use Rattle.pm_values.specs.declared.refusal.Refusal.{Refusal}
 use Rattle.pm_values.specs.declared.refusal.Refusal.TheVariants as refusals
+use Rattle.pm_store.specs.declared.answer.Answer.{Answer}
 use Rattle.pm_store.specs.declared.answer.Answer.TheVariants as answers
 use Rattle.pm_store.specs.declared.call.Call.TheVariants as calls
 use Rattle.pm_store.specs.Store.{StoreView}
-use Rattle.pm_machine.specs.Trace.{Event, Acts, answered, faulted}
+use Rattle.pm_machine.specs.Trace.{Event, Acts, IsFailed, MayEnd, answered}
 use Rattle.pm_schema.specs.declared.schema.TableSchema.{TableSchema}
 use Rattle.pm_snapshot.specs.Snapshot.{snapshot_in}
 use Rattle.pm_snapshot.specs.declared.fault.SnapFault.TheVariants as faults
 use Rattle.pm_snapshot.specs.declared.snapshot.Snapshot.{Snapshot}
-use Rattle.pm_model_folder.specs.Paths.{origin_path, schema_path, snapshot_folder, snapshot_path}
+use Rattle.pm_model_folder.specs.Paths.{origin_path, schema_path, snapshot_path}
 use Rattle.pm_paths.specs.Ids.{AreIds, IsLatest}
-use Rattle.pm_read_schema.specs.Reader.{snapshots_call}
 use Rattle.pm_read_schema.specs.Trace.{Names, listed_snapshots}
 use Rattle.pm_manifest.specs.Live.{AreInOrder, IsOutOfOrder, Leaves, Live}
 use Rattle.pm_manifest.specs.declared.entry.Entry.{Entry}
 use Rattle.pm_manifest.specs.declared.entry.ManifestMeta.{ManifestMeta}
 use Rattle.pm_model_contents.specs.Groups.{Overlaps}
 use Rattle.pm_model_contents.specs.Lists.{manifest_path, none_live}
-use Rattle.pm_read_table.specs.Reader.{IsAsked, IsAbove, IsListOf, MisreadsList}
+use Rattle.pm_read_table.specs.Reader.{IsAbove, IsAsked, IsListOf, MisreadsList, next_call}
 use Rattle.pm_read_table.specs.Reader.{IsManifestOf, MisreadsManifest}
 use Rattle.pm_read_table.specs.Reading.{live_of}
 use Rattle.pm_read_table.specs.View.{IsOriginView, IsSoughtBy, IsViewOf, kept_for}
@@ -154,36 +154,34 @@ pub data Misreads (a : Asked) (refusal : Refusal) (own : List Event) : Type 0 wh
       (entries : List Entry) (bytes : List ℕ) → MisreadsManifest a.schema (manifest_path meta.name) bytes refusal
       → FindsNext a x done meta rest entries (Some bytes) own → Misreads a refusal own
 
--- calls after which memory may have run out: each was answered, and neither the snapshot was absent nor, where a named
--- file was, read again
-pub data MayEnd (a : Asked) (own : List Event) : Type 0 where
-  at_first : own ≡ [] → MayEnd a own
-  at_listing : (names : Names) → ListsFirst a.wanted → own ≡ listed_snapshots names ∷ [] → MayEnd a own
-  at_snapshot : (id : ℕ) (bytes : List ℕ) → 1 ≤ id → Reads a id (snapshot_path id) (Some bytes) own → MayEnd a own
-  at_base : (x : Snapshot) (found : Option (List ℕ)) → FindsBase a x found own → MayEnd a own
-  at_delta : (x : Snapshot) (base : List ManifestMeta) (found : Option (List ℕ)) → FindsDelta a x base found own
-      → MayEnd a own
-  at_part : (x : Snapshot) (done rest : List ManifestMeta) (entries : List Entry) → HasPart a x done rest entries own
-      → MayEnd a own
-  at_manifest : (x : Snapshot) (done : List ManifestMeta) (meta : ManifestMeta) (rest : List ManifestMeta)
-      (entries : List Entry) (found : Option (List ℕ)) → FindsNext a x done meta rest entries found own → MayEnd a own
+-- this was asked, and these are the ids of the snapshots that were listed
+abbrev pub IsSought : Asked → SoughtView → List Event → Type 0
+IsSought a q own = (q.asked ≡ a) × HasListed a.wanted q.listed own
 
--- The last call failed, and names its path.
-pub data IsFailed (a : Asked) (path : List ℕ) (own : List Event) : Type 0 where
-  in_listing : path ≡ snapshot_folder → ListsFirst a.wanted → own ≡ faulted snapshots_call ∷ [] → IsFailed a path own
-  in_origin : (earlier : List Event) → Lists a 0 earlier → path ≡ origin_path a.schema
-      → own ≡ earlier ++ faulted (calls.Read path) ∷ [] → IsFailed a path own
-  in_snapshot : (id : ℕ) (earlier : List Event) → 1 ≤ id → Lists a id earlier → path ≡ snapshot_path id
-      → own ≡ earlier ++ faulted (calls.Read path) ∷ [] → IsFailed a path own
-  in_base : (x : Snapshot) (earlier : List Event) → Has a x earlier → path ≡ manifest_path x.base_list
-      → own ≡ earlier ++ faulted (calls.Read path) ∷ [] → IsFailed a path own
-  in_delta : (x : Snapshot) (base : List ManifestMeta) (earlier : List Event) → HasBase a x base earlier
-      → path ≡ manifest_path x.delta_list → own ≡ earlier ++ faulted (calls.Read path) ∷ [] → IsFailed a path own
-  in_manifest : (x : Snapshot) (done : List ManifestMeta) (meta : ManifestMeta) (rest : List ManifestMeta)
-      (entries : List Entry) (earlier : List Event) → HasPart a x done (meta ∷ rest) entries earlier
-      → path ≡ manifest_path meta.name → own ≡ earlier ++ faulted (calls.Read path) ∷ [] → IsFailed a path own
-  in_again : (id : ℕ) (absent : List ℕ) (earlier : List Event) → LacksFile a id absent earlier
-      → path ≡ snapshot_path id → own ≡ earlier ++ faulted (calls.Read path) ∷ [] → IsFailed a path own
+-- its calls so far, by its phase before its end, where this was asked
+abbrev pub DidSoFar : Asked → Phase → List Event → Type 0
+DidSoFar a (phases.List b) own = (b ≡ a) × (own ≡ []) × ListsFirst a.wanted
+DidSoFar a (phases.Origin q) own = IsSought a q own × Lists q.asked 0 own
+DidSoFar a (phases.Snapshot q id) own = IsSought a q own × (1 ≤ id) × Lists q.asked id own
+DidSoFar a (phases.Base q x) own = IsSought a q own × Has q.asked x own
+DidSoFar a (phases.Delta q x base) own = IsSought a q own × HasBase q.asked x base.items own
+DidSoFar a (phases.Manifests r) own =
+    IsSought a r.sought own × (entries : List Entry)
+    × HasPart r.sought.asked r.snapshot r.done (r.next ∷ r.rest) entries own
+    × Leaves none_live entries (live_of r.files) × (r.kept ≡ kept_for r.sought.asked.wanted entries)
+DidSoFar a (phases.Again b id path) own = (b ≡ a) × LacksFile b id path own
+DidSoFar a (phases.Ready v) own = HasView a v own × HasSought a v own
+DidSoFar a phases.Over own = ⊥
+
+-- What follows the answer may take memory: neither where the snapshot is absent nor, where a file that it names is,
+-- once it was read again; nor where the origin was read.
+abbrev pub MayTakeMemory : Phase → Answer → Type 0
+MayTakeMemory (phases.List a) answer = Unit {0}
+MayTakeMemory (phases.Snapshot q id) (answers.Found (Some bytes)) = Unit {0}
+MayTakeMemory (phases.Base q x) answer = Unit {0}
+MayTakeMemory (phases.Delta q x base) answer = Unit {0}
+MayTakeMemory (phases.Manifests r) answer = Unit {0}
+MayTakeMemory m answer = ⊥
 
 -- the snapshot that is asked for was found absent at its first read, or at its second after a file that it names
 pub data IsGone (a : Asked) (id : ℕ) (own : List Event) : Type 0 where
@@ -215,8 +213,8 @@ pub data IsDamaged (a : Asked) (path : List ℕ) (place : ℕ) (own : List Event
 -- Which calls show a refusal. There is no such snapshot where the id that is asked for is above the latest of those
 -- that were listed.
 abbrev pub Shows : Asked → Refusal → List Event → Type 0
-Shows a refusals.Memory own = MayEnd a own
-Shows a (refusals.StoreFault path) own = IsFailed a path own
+Shows a refusals.Memory own = MayEnd next_call (DidSoFar a) MayTakeMemory own
+Shows a (refusals.StoreFault path) own = IsFailed next_call (DidSoFar a) path own
 Shows a (refusals.NoSnapshot id latest) own =
     (names : Names) × IsLatest names.items latest × IsAbove a.wanted latest id × (own ≡ listed_snapshots names ∷ [])
 Shows a (refusals.Expired id) own = IsGone a id own
@@ -224,34 +222,13 @@ Shows a (refusals.Damaged path place) own = IsDamaged a path place own
 Shows a (refusals.Unsupported what text) own = Misreads a (refusals.Unsupported what text) own
 Shows a other own = ⊥
 
--- this was asked, and these are the ids of the snapshots that were listed
-abbrev pub IsSought : Asked → SoughtView → List Event → Type 0
-IsSought a q own = (q.asked ≡ a) × HasListed a.wanted q.listed own
-
 -- its calls so far, by its phase, where this was asked: at its end they show a refusal
 abbrev pub Did : Asked → Phase → List Event → Type 0
-Did a (phases.List b) own = (b ≡ a) × (own ≡ []) × ListsFirst a.wanted
-Did a (phases.Origin q) own = IsSought a q own × Lists q.asked 0 own
-Did a (phases.Snapshot q id) own = IsSought a q own × (1 ≤ id) × Lists q.asked id own
-Did a (phases.Base q x) own = IsSought a q own × Has q.asked x own
-Did a (phases.Delta q x base) own = IsSought a q own × HasBase q.asked x base.items own
-Did a (phases.Manifests r) own =
-    IsSought a r.sought own × (entries : List Entry)
-    × HasPart r.sought.asked r.snapshot r.done (r.next ∷ r.rest) entries own
-    × Leaves none_live entries (live_of r.files) × (r.kept ≡ kept_for r.sought.asked.wanted entries)
-Did a (phases.Again b id path) own = (b ≡ a) × LacksFile b id path own
-Did a (phases.Ready v) own = HasView a v own × HasSought a v own
 Did a phases.Over own = (refusal : Refusal) × Shows a refusal own
+Did a m own = DidSoFar a m own
 
 -- Whatever was asked, its next call is the next event of its calls so far, or none was made; and a refusal is shown by
 -- the calls up to it.
 abbrev pub ViewerActed : Phase → Phase → StoreView → StoreView → Result ViewStep Refusal → Type 0
 ViewerActed old new before after result = (a : Asked)
     → Acts (Did a old) (λ own. Did a new own × IfErr result (λ refusal. Shows a refusal own)) before after
-
--- something was asked, and these are the calls so far, or those that show a refusal
-abbrev pub DidSome : Phase → List Event → Type 0
-DidSome phase own = (a : Asked) × Did a phase own
-
-abbrev pub SomeShows : Refusal → List Event → Type 0
-SomeShows refusal own = (a : Asked) × Shows a refusal own

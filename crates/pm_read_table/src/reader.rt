@@ -4,7 +4,7 @@ ghost use Rattle.std.specs.Prelude.{◌≡◌, ◌↔◌, ◌<◌, ◌≤◌, �
 ghost use Rattle.pm_schema.specs.Again.{IsDeclared};
 ghost use Rattle.pm_store.specs.Store.{IsLater};
 ghost use Rattle.pm_read_table.specs.Meaning.{ViewerMoved};
-ghost use Rattle.pm_read_table.specs.Reader.{calls_left, reached_at, IsReady, Reaches};
+ghost use Rattle.pm_read_table.specs.Reader.{calls_left, IsReady, Reaches};
 ghost use Rattle.pm_read_table.specs.Asked.{asked_of, sought_of};
 ghost use Rattle.pm_read_table.specs.View.{HaveGroups};
 ghost use Rattle.pm_read_table.specs.Trace.{ViewerActed};
@@ -15,13 +15,13 @@ ghost use Rattle.pm_read_table.specs.declared.phase.Phase.TheVariants as phases;
 use crate::asked::{Asked, Sought, Wanted};
 use crate::phase::Phase;
 use crate::view::View;
-use pm_machine::step;
+use pm_machine::{Machine, Running, make_step};
 use pm_manifest::{ManifestMeta, joined_law};
 use pm_record::one_reading_law;
 use pm_schema::TableSchema;
-use pm_store::FileStore;
+use pm_store::{Answer, Call, FileStore};
 use pm_values::Refusal;
-use std::alloc::Global;
+use std::alloc::{AllocError, Global};
 use std::marker::Model;
 
 /// What a step of a reader reached: it goes on, or the view is ready.
@@ -33,17 +33,16 @@ pub enum ViewStep {
 
 /// Reads the table at a snapshot, a call of the store a step.
 pub struct ViewReader {
-    pub(crate) phase: Phase,
+    running: Running<Phase>,
 }
 
 impl Drop for ViewReader {
     fn drop(self) {
-        let ViewReader { phase } = self;
+        let ViewReader { running } = self;
     }
 }
 
 impl Model for ViewReader {
-    ghost use Rattle.pm_read_table.specs.Reader.{IsViewer};
     ghost use Rattle.pm_read_table.specs.declared.phase.Phase.{Phase};
     ghost use Rattle.pm_read_table.specs.contracts.phase.Phase as phases;
 
@@ -51,9 +50,7 @@ impl Model for ViewReader {
 
     ghost coded = { phases.the_row.coded };
 
-    ghost view = { λ r. r.phase };
-
-    ghost invariant = { λ r. IsViewer r.phase };
+    ghost view = { λ r. r.running };
 }
 
 impl ViewReader {
@@ -63,9 +60,9 @@ impl ViewReader {
         ensures { result ≡ phases.List (asked_of schema wants.Newest) }
     {
         ViewReader {
-            phase: Phase::List {
+            running: Running::new(Phase::List {
                 asked: Asked::new(schema, Wanted::Newest),
-            },
+            }),
         }
     }
 
@@ -75,9 +72,9 @@ impl ViewReader {
         ensures { result ≡ phases.List (asked_of schema (wants.At id)) }
     {
         ViewReader {
-            phase: Phase::List {
+            running: Running::new(Phase::List {
                 asked: Asked::new(schema, Wanted::At { id }),
-            },
+            }),
         }
     }
 
@@ -88,9 +85,9 @@ impl ViewReader {
         ensures { result ≡ phases.List (asked_of schema wants.Entries) }
     {
         ViewReader {
-            phase: Phase::List {
+            running: Running::new(Phase::List {
                 asked: Asked::new(schema, Wanted::Entries),
-            },
+            }),
         }
     }
 
@@ -102,10 +99,10 @@ impl ViewReader {
         ensures { result ≡ phases.Snapshot (sought_of (asked_of schema (wants.Whole id)) []) id }
     {
         ViewReader {
-            phase: Phase::Snapshot {
+            running: Running::new(Phase::Snapshot {
                 sought: Sought::new(Asked::new(schema, Wanted::Whole { id }), Vec::new(alloc)),
                 id,
-            },
+            }),
         }
     }
 
@@ -113,7 +110,7 @@ impl ViewReader {
     pub fn is_ready(&self) -> bool
         ensures { IsTrue result ↔ IsReady self.now }
     {
-        matches!(self.phase, Phase::Ready { .. })
+        matches!(self.running.phase(), Phase::Ready { .. })
     }
 
     /// The view, once it is ready.
@@ -124,8 +121,8 @@ impl ViewReader {
         ensures groups { HaveGroups result.schema result.live.items }
         ensures declared { IsDeclared result.schema }
     {
-        let ViewReader { phase } = self;
-        match phase {
+        let ViewReader { running } = self;
+        match running.into_phase() {
             Phase::Ready { view } => view,
             _ => unreachable!(),
         }
@@ -143,19 +140,32 @@ impl ViewReader {
     {
         joined_law();
         one_reading_law::<ManifestMeta>();
-        match step(alloc, self, store) {
-            Ok(()) => Ok(self.reached()),
-            Err(refusal) => Err(refusal),
-        }
+        make_step(alloc, &mut self.running, store)
+    }
+}
+
+/// A part of other machines: they make its calls.
+impl Machine for ViewReader {
+    ghost use Rattle.pm_machine.specs.Running.{Refuses, Stops};
+    ghost use Rattle.pm_read_table.specs.Reader.{next_call, Goes, Shown};
+
+    ghost call_of = { next_call };
+
+    ghost goes = { Goes };
+
+    ghost refuses = { Refuses Shown phases.Over };
+
+    ghost stops = { Stops phases.Over };
+
+    fn call(&self, alloc: Global) -> Result<Option<Call>, AllocError> {
+        self.running.call(alloc)
     }
 
-    /// What a step that went on has reached.
-    fn reached(&self) -> ViewStep
-        ensures { result ≡ reached_at self.now }
-    {
-        match self.phase {
-            Phase::Ready { .. } => ViewStep::Ready,
-            _ => ViewStep::More,
-        }
+    fn take(&mut self, alloc: Global, answer: Answer) -> Result<(), Refusal> {
+        self.running.take(alloc, answer)
+    }
+
+    fn stop(&mut self) {
+        self.running.stop();
     }
 }

@@ -1,20 +1,22 @@
 -- A reader of a whole view keeps the laws of machines.
-use Rattle.std.proofs.Common.{◌≡◌, inl, inr, ℕ, ◌<◌, ◌+◌, List, [], ◌∷◌, ◌++◌, Option, None, Some, IsSome, IfSome, Result, Ok, OnOk, OnErr, refl, sym, ap, ◌∙◌, subst, arith, append_assoc}
+use Rattle.std.proofs.Common.{◌≡◌, inl, inr, ℕ, ◌<◌, ◌+◌, List, [], ◌∷◌, ◌++◌, Option, None, Some, IsSome, IfSome, Ok, refl, sym, ap, ◌∙◌, subst, arith, append_assoc}
 use Rattle.std.proofs.lemmas.List.{append-nil}
 use Rattle.std.proofs.lemmas.Option.{IfSome_then}
 use Rattle.pm_values.specs.declared.refusal.Refusal.{Refusal}
 use Rattle.pm_values.specs.declared.refusal.Refusal.TheVariants as refusals
 use Rattle.pm_store.specs.declared.answer.Answer.{Answer}
+use Rattle.pm_store.specs.declared.answer.Answer.TheVariants as answers
 use Rattle.pm_store.specs.declared.call.Call.{Call}
+use Rattle.pm_store.specs.declared.call.Call.TheVariants as calls
 use Rattle.pm_store.specs.declared.call.Effect.{Effect}
 use Rattle.pm_store.specs.declared.call.Effect.TheVariants as effects
 use Rattle.pm_store.specs.Answers.{Answers, MayAnswer}
 use Rattle.pm_store.specs.Files.{Files, after_effect, carried}
 use Rattle.pm_store.specs.Images.{MayLeave}
-use Rattle.pm_store.specs.Store.{StoreView}
 use Rattle.pm_machine.specs.Moves.{Changes, Leads, Sound}
-use Rattle.pm_machine.specs.Step.{path_of, Answered, Stepped, Rested, Went, Refused, Stopped, Failed}
-use Rattle.pm_machine.specs.Trace.{Event, Recounts, answered, faulted}
+use Rattle.pm_machine.specs.Running.{Refuses, Stops}
+use Rattle.pm_machine.specs.Step.{path_of}
+use Rattle.pm_machine.specs.Trace.{Event, Recounts, after_answer, answered, faulted}
 use Rattle.pm_snapshot.specs.Snapshot.{snapshot_in}
 use Rattle.pm_snapshot.specs.declared.snapshot.Snapshot.{Snapshot}
 use Rattle.pm_schema.specs.declared.schema.TableSchema.{TableSchema}
@@ -28,7 +30,6 @@ use Rattle.pm_read_log.specs.Log.{LogAskedView, log_asked_of}
 use Rattle.pm_read_log.specs.LogMeaning as log_meaning
 use Rattle.pm_read_log.specs.LogReader as log
 use Rattle.pm_read_log.specs.LogTrace as log_trace
-use Rattle.pm_read_log.specs.LogTrace.{at_snapshot}
 use Rattle.pm_read_table.specs.Meaning as reader_meaning
 use Rattle.pm_read_table.specs.Meaning.{IsKept, IsViewIn, Stood, view_origin, view_snapshot}
 use Rattle.pm_read_table.specs.Reader as reader
@@ -45,7 +46,7 @@ use Rattle.pm_read_table.proofs.Facts.{Joined, OneList}
 use Rattle.pm_read_log.proofs.LogFacts as log_facts
 use Rattle.pm_read_whole.specs.Meaning.{Knows, LeavesFiles}
 use Rattle.pm_read_whole.specs.Trace.{Did, Follows, Shows, read_first, view_asked}
-use Rattle.pm_read_whole.specs.Whole.{next_call, calls_left, AfterLog, AfterView, Goes, IsWhole, Reaches, Refuses, Shown, Stops, reached_at}
+use Rattle.pm_read_whole.specs.Whole.{next_call, calls_left, AfterLog, AfterView, Goes, IsWhole, Reaches, Shown, reached_at}
 use Rattle.pm_read_whole.specs.declared.phase.Phase.{Phase}
 use Rattle.pm_read_whole.specs.declared.phase.Phase.TheVariants as phases
 use Rattle.pm_read_whole.proofs.AfterLemmas.{some_same}
@@ -145,7 +146,7 @@ over_leads m new call f p effect over changes =
     let change = changes effect in
     (change.0, change.1, over_knows new (after_effect call effect f) change.0 over)
 
-pub sound : Joined → OneList → Sound next_call Goes Refuses Stops Stands LeavesFiles Knows
+pub sound : Joined → OneList → Sound next_call Goes (Refuses Shown phases.Over) (Stops phases.Over) Stands LeavesFiles Knows
 sound law one = record {
   changes = λ m f p stands known. changes_on law one m f p stands known;
   went = λ m new answer f p goes stands known. leads_on law one m answer new f p goes stands known;
@@ -282,7 +283,11 @@ unopened : (a : LogAskedView) (v : View) (x : Snapshot) (refusal : Refusal) (own
 unopened a v x refusal own is at viewed =
     let began = (began_view a v x own viewed.0 at).0 in
     subst (λ (refusal : Refusal). Shows a refusal own) (sym is)
-    (inr (v, follows_first a v x own (log_trace.Shows a refusals.Memory) began viewed (at_snapshot began.bytes refl)))
+    (inr (
+      v,
+      follows_first a v x own (log_trace.Shows a refusals.Memory) began viewed
+          (after_answer (logs.Snapshot a) (calls.Read (snapshot_path a.id)) (answers.Found (Some began.bytes)) [] (refl, refl) refl tt tt refl),
+    ))
 
 refused_on : Joined → (a : LogAskedView) (m : Phase) (answer : Answer) (refusal : Refusal) (own : List Event) → Shown m answer refusal → Did a m own
     → IfSome (next_call m) (λ call. MayAnswer call answer → Shows a refusal (own ++ answered call answer ∷ []))
@@ -327,7 +332,7 @@ stopped_on law a phases.Over own called did = absurd (let clash = called in cc)
 over_did : (a : LogAskedView) (new : Phase) (refusal : Refusal) (own : List Event) → new ≡ phases.Over → Shows a refusal own → Did a new own × Shows a refusal own
 over_did a new refusal own over shows = (subst (λ (m : Phase). Did a m own) (sym over) (refusal, shows), shows)
 
-pub recounts : Joined → (a : LogAskedView) → Recounts next_call Goes Refuses Stops (Did a) (Shows a)
+pub recounts : Joined → (a : LogAskedView) → Recounts next_call Goes (Refuses Shown phases.Over) (Stops phases.Over) (Did a) (Shows a)
 recounts law a = record {
   went = λ m new answer own goes did. went_on law a m answer new own goes did;
   refused = λ m new answer refusal own refuses did. IfSome_then (next_call m) (refused_on law a m answer refusal own refuses.0 did)
@@ -374,42 +379,26 @@ after_ahead r (readers.Ready v) new fewer (to, (x, at, opens), after) =
     log_ahead v to new (reader.calls_left r + (most + 3)) (omega (arith, below)) ahead.1 after
 after_ahead r readers.Over new fewer is = view_ahead r readers.Over new fewer is
 
-goes_ahead : (m : Phase) (answer : Answer) (new : Phase) (call : Call) (before after : StoreView) → next_call m ≡ Some call → Answered call answer before after → Goes m answer new
-    → IsWhole m → IsAhead (calls_left m) new
-goes_ahead (phases.View r) answer new call before after at came (to, on, then) (left, whole) =
-    let ahead = reader_facts.steps_on {old = r} {new = to} {before = before} {after = after} {result = Ok tt} (Went call answer at came on) left in
+goes_ahead : (m : Phase) (answer : Answer) (new : Phase) → Goes m answer new → IsAhead (calls_left m) new
+goes_ahead (phases.View r) answer new (to, on, then) =
+    let ahead = reader_facts.goes_ahead r answer to on in
     after_ahead r to new ahead.0 then
-goes_ahead (phases.Log v r) answer new call before after at came (to, on, then) (left, of, whole, groups) =
-    let ahead = log_facts.steps_on {old = r} {new = to} {before = before} {after = after} {result = Ok tt} (Went call answer at came on) left in
+goes_ahead (phases.Log v r) answer new (to, on, then) =
+    let ahead = log_facts.goes_ahead r answer to on in
     log_ahead v to new (log.calls_left r) ahead.0 ahead.1 then
-goes_ahead m answer new call before after at came goes known = absurd goes
+goes_ahead m answer new goes = absurd goes
+
+-- an answer that it goes on with leaves fewer calls, and what was reached
+pub goes : (m : Phase) (answer : Answer) (new : Phase) → IsWhole m → Goes m answer new
+    → (calls_left new < calls_left m) × Reaches (reached_at new) new × Unit {0}
+goes m answer new is on = let ahead = goes_ahead m answer new on in (ahead.0, ahead.1, tt)
 
 -- a reader with calls left has a next one
-has_call : (m : Phase) → IsWhole m → 0 < calls_left m → IsSome (next_call m)
+pub has_call : (m : Phase) → IsWhole m → 0 < calls_left m → IsSome (next_call m)
 has_call (phases.View r) (has, whole) left = reader_facts.has_call r has
 has_call (phases.Log v r) (has, of, whole, groups) left = log_facts.has_call r has
 has_call (phases.Ready v l) is left = absurd (let none : 0 < 0 = left in omega (arith, none))
 has_call phases.Over is left = absurd (let none : 0 < 0 = left in omega (arith, none))
-
--- a step that goes on leaves fewer calls, and what it reached
-pub steps_on : {old new : Phase} {before after : StoreView} {result : Result (Unit {0}) Refusal}
-    → Stepped next_call Goes Refuses Stops old new before after result → IsWhole old → 0 < calls_left old
-    → OnOk result ((calls_left new < calls_left old) × Reaches (reached_at new) new)
-steps_on {old = old} {new = new} (Rested none same still) is left =
-    absurd (let called = has_call old is left in let clash = rw none at called in cc)
-steps_on {old = old} {new = new} {before = before} {after = after} (Went call answer at came on) is left = goes_ahead old answer new call before after at came on is
-steps_on (Refused call answer refusal at came on) is left = tt
-steps_on (Stopped call at meanwhile stop) is left = tt
-steps_on (Failed call at came stop) is left = tt
-
--- a step with a refusal ends it
-pub over_on : {old new : Phase} {before after : StoreView} {result : Result (Unit {0}) Refusal}
-    → Stepped next_call Goes Refuses Stops old new before after result → OnErr result (new ≡ phases.Over)
-over_on (Rested none same still) = tt
-over_on (Went call answer at came on) = tt
-over_on (Refused call answer refusal at came on) = on.1
-over_on (Stopped call at meanwhile stop) = stop
-over_on (Failed call at came stop) = stop
 
 -- ---- laws
 

@@ -54,10 +54,3 @@ Did a phases.Over own = (refusal : Refusal) × Shows a refusal own
 abbrev pub WholeActed : Phase → Phase → StoreView → StoreView → Result WholeStep Refusal → Type 0
 WholeActed old new before after result = (a : LogAskedView)
     → Acts (Did a old) (λ own. Did a new own × IfErr result (λ refusal. Shows a refusal own)) before after
-
--- something was asked, and these are the calls so far, or those that show a refusal
-abbrev pub DidSome : Phase → List Event → Type 0
-DidSome phase own = (a : LogAskedView) × Did a phase own
-
-abbrev pub SomeShows : Refusal → List Event → Type 0
-SomeShows refusal own = (a : LogAskedView) × Shows a refusal own

@@ -130,12 +130,6 @@ Shown (phases.View m) answer refusal = FailsToOpen m answer refusal ⊎ reader.S
 Shown (phases.Log v m) answer refusal = log.Shown m answer refusal
 Shown phase other refusal = ⊥
 
-abbrev pub Refuses : Phase → Answer → Refusal → Phase → Type 0
-Refuses phase answer refusal later = Shown phase answer refusal × (later ≡ phases.Over)
-
-abbrev pub Stops : Phase → Phase → Type 0
-Stops phase later = later ≡ phases.Over
-
 -- what a step that goes on has reached
 abbrev pub Reaches : WholeStep → Phase → Type 0
 Reaches steps.More phase = 0 < calls_left phase

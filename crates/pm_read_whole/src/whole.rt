@@ -10,14 +10,14 @@ ghost use Rattle.pm_read_table.specs.declared.asked.Wanted.TheVariants as wants;
 ghost use Rattle.pm_read_table.specs.declared.phase.Phase.TheVariants as readers;
 ghost use Rattle.pm_read_whole.specs.Meaning.{AreNamed, Knows, WholeMoved};
 ghost use Rattle.pm_read_whole.specs.Trace.{WholeActed};
-ghost use Rattle.pm_read_whole.specs.Whole.{calls_left, paths_of, reached_at, IsReady, IsWhole, Reaches};
+ghost use Rattle.pm_read_whole.specs.Whole.{calls_left, paths_of, IsReady, IsWhole, Reaches};
 ghost use Rattle.pm_read_whole.specs.declared.phase.Phase.TheVariants as phases;
 
 use crate::laws::paths_law;
 use crate::phase::Phase;
 use pm_base::Txt;
 use pm_read_log::{Log, named_paths};
-use pm_machine::step;
+use pm_machine::{Running, make_step};
 use pm_manifest::{ManifestMeta, joined_law};
 use pm_record::one_reading_law;
 use pm_schema::TableSchema;
@@ -36,17 +36,16 @@ pub enum WholeStep {
 
 /// Reads all that a snapshot of a table names but its rows, a call of the store a step.
 pub struct WholeReader {
-    pub(crate) phase: Phase,
+    running: Running<Phase>,
 }
 
 impl Drop for WholeReader {
     fn drop(self) {
-        let WholeReader { phase } = self;
+        let WholeReader { running } = self;
     }
 }
 
 impl Model for WholeReader {
-    ghost use Rattle.pm_read_whole.specs.Whole.{IsWhole};
     ghost use Rattle.pm_read_whole.specs.contracts.phase.Phase as phases;
     ghost use Rattle.pm_read_whole.specs.declared.phase.Phase.{Phase};
 
@@ -54,9 +53,7 @@ impl Model for WholeReader {
 
     ghost coded = { phases.the_row.coded };
 
-    ghost view = { λ r. r.phase };
-
-    ghost invariant = { λ r. IsWhole r.phase };
+    ghost view = { λ r. r.running };
 }
 
 impl WholeReader {
@@ -68,9 +65,9 @@ impl WholeReader {
         ensures { result ≡ phases.View (readers.Snapshot (sought_of (asked_of schema (wants.Whole id)) []) id) }
     {
         WholeReader {
-            phase: Phase::View {
+            running: Running::new(Phase::View {
                 reader: ViewReader::whole(alloc, schema, id),
-            },
+            }),
         }
     }
 
@@ -78,7 +75,7 @@ impl WholeReader {
     pub fn is_ready(&self) -> bool
         ensures { IsTrue result ↔ IsReady self.now }
     {
-        matches!(self.phase, Phase::Ready { .. })
+        matches!(self.running.phase(), Phase::Ready { .. })
     }
 
     /// The view and the changelog, once they are ready.
@@ -87,8 +84,8 @@ impl WholeReader {
         ensures parts { self ≡ phases.Ready result.0 result.1 }
         ensures whole { IsWhole (phases.Ready result.0 result.1) }
     {
-        let WholeReader { phase } = self;
-        match phase {
+        let WholeReader { running } = self;
+        match running.into_phase() {
             Phase::Ready { view, log } => (view, log),
             _ => unreachable!(),
         }
@@ -102,7 +99,7 @@ impl WholeReader {
         ensures named { (f : Files) (p : Past) → Knows self.now f p → AreNamed p self.now (paths_of self.now) }
     {
         paths_law();
-        match &self.phase {
+        match self.running.phase() {
             Phase::Ready { view, log } => named_paths(alloc, view, log),
             _ => unreachable!(),
         }
@@ -120,27 +117,13 @@ impl WholeReader {
     {
         joined_law();
         one_reading_law::<ManifestMeta>();
-        self.known();
-        match step(alloc, self, store) {
-            Ok(()) => Ok(self.reached()),
-            Err(refusal) => Err(refusal),
-        }
+        make_step(alloc, &mut self.running, store)
     }
 
     /// States for clauses what each reader is.
     pub fn known(&self)
         ensures { IsWhole self.now }
     {
-        let _ = &self.phase;
-    }
-
-    /// What a step that went on has reached.
-    fn reached(&self) -> WholeStep
-        ensures { result ≡ reached_at self.now }
-    {
-        match self.phase {
-            Phase::Ready { .. } => WholeStep::Ready,
-            _ => WholeStep::More,
-        }
+        self.running.known();
     }
 }

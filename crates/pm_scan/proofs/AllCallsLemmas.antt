@@ -1,17 +1,17 @@
 -- All calls of a scanner, and what they say where nobody else acts.
-use Rattle.std.proofs.Common.{◌≡◌, ◌≢◌, inl, inr, ℕ, ◌<◌, ◌≤◌, List, [], ◌∷◌, ◌++◌, length, take, Option, None, Some, IsSome, Result, Ok, Err, Vec, refl, sym, ap, subst, ◌∙◌, arith, append_assoc, append-nil}
+use Rattle.std.proofs.Common.{◌≡◌, ◌≢◌, inl, inr, ℕ, ◌<◌, ◌≤◌, List, [], ◌∷◌, ◌++◌, length, take, Option, None, Some, IfSome, IsSome, Result, Ok, Err, Vec, refl, sym, ap, subst, ◌∙◌, arith, append_assoc, append-nil}
 use Rattle.std.specs.FinMap as map
 use Rattle.std.specs.Global.{Global}
 use Rattle.pm_base.specs.Faults.{Rose}
 use Rattle.pm_values.specs.declared.group.Group.{Group}
 use Rattle.pm_values.specs.declared.refusal.Refusal.{Refusal}
 use Rattle.pm_values.specs.declared.refusal.Refusal.TheVariants as refusals
-use Rattle.pm_store.specs.declared.call.Call.TheVariants as calls
 use Rattle.pm_store.specs.Files.{Files, IsListing}
 use Rattle.pm_store.specs.Store.{StoreView, IsLater, at_first_own}
 use Rattle.pm_machine.specs.Trace.{Event, HasTrace, Traces, faulted}
 use Rattle.pm_machine.proofs.AloneLaws.{Traces-first}
-use Rattle.pm_machine.proofs.Facts.{HasTrace-acts, Traces-faulted, Traces-join, Traces-meanwhile, Traces-none, Traces-push}
+use Rattle.pm_machine.proofs.Facts.{HasTrace-acts, Traces-faulted, Traces-join, Traces-none}
+use Rattle.pm_machine.proofs.PhaseFacts.{Spares}
 use Rattle.pm_model_history.specs.History.{Entry, History, IsTableOf, no_table, rows_up_to, table}
 use Rattle.pm_model_history.specs.Merged.{scan_text}
 use Rattle.pm_schema.specs.Again.{IsDeclared}
@@ -27,22 +27,22 @@ use Rattle.pm_model_folder.specs.Paths.{origin_path, snapshot_folder, snapshot_p
 use Rattle.pm_model_folder.specs.Stored.{HasGroup}
 use Rattle.pm_model_folder.proofs.Facts.{newest-there}
 use Rattle.pm_paths.proofs.ListedLemmas.{latest_is}
-use Rattle.pm_read_schema.specs.Reader.{schemas_call}
 use Rattle.pm_read_schema.proofs.AllCallsLemmas as schema
 use Rattle.pm_read_schema.proofs.AllCallsLemmas.{read_still}
-use Rattle.pm_read_schema.proofs.StillLemmas.{AreStill, AreTold, stayed, told_last}
+use Rattle.pm_read_schema.proofs.StillLemmas.{AreStill, AreTold, ended_still, failed_still, stayed, told_last}
 use Rattle.pm_read_table.specs.Asked.{Asked, ListsFirst}
 use Rattle.pm_read_table.specs.Reader.{IsAbove, IsAsked}
 use Rattle.pm_read_table.specs.Trace as reader
 use Rattle.pm_read_table.specs.Trace.{HasView, of_origin, of_snapshot, read_file}
 use Rattle.pm_read_table.specs.declared.phase.Phase.TheVariants as readers
 use Rattle.pm_read_table.specs.declared.view.View.{View}
+use Rattle.pm_read_table.proofs.Facts as reader_facts
 use Rattle.pm_scan.specs.AllCalls.{DidScan, Ends, Has, IsCaused, IsThere, PrintsScan, ScansTables, asked_at, id_of, path_of, wanted_of}
 use Rattle.pm_scan.specs.Collected.{Collected, RefusesFile, nothing_of}
 use Rattle.pm_scan.specs.Jobs.{all_jobs, job_of}
 use Rattle.pm_scan.specs.Meaning.{HaveTaken}
-use Rattle.pm_scan.specs.Scanner.{calls_left, IsReady, Reaches}
-use Rattle.pm_scan.specs.Trace.{HaveRead, HasPart, FindsNext, LacksFile, ReadsAgain, HasScan, MayEnd, at_part, at_file, at_lack, IsFailed, in_file, in_again, Misreads, IsDamaged, ShowsOfFiles, Shows, Did, ScannerActed}
+use Rattle.pm_scan.specs.Scanner.{next_call, calls_left, IsReady, Reaches}
+use Rattle.pm_scan.specs.Trace.{HaveRead, HasPart, FindsNext, LacksFile, ReadsAgain, HasScan, DidSoFar, MayTakeMemory, Misreads, IsDamaged, ShowsOfFiles, Shows, Did, ScannerActed}
 use Rattle.pm_scan.specs.declared.job.Job.{Job}
 use Rattle.pm_scan.specs.declared.phase.Phase.{Phase}
 use Rattle.pm_scan.specs.declared.phase.Phase.TheVariants as phases
@@ -52,7 +52,7 @@ use Rattle.pm_scan.proofs.KnownLemmas.{taken-schema}
 use Rattle.pm_scan.proofs.NextLemmas.{FollowsOn, next-group}
 use Rattle.pm_scan.proofs.ScanLemmas.{each-own}
 use Rattle.pm_scan.proofs.TakenLemmas.{Laws, file-refused}
-use Rattle.pm_scan.proofs.ViewCallsLemmas.{FailsLast, ViewLaws, absent_gone, asked_up_to, committed, entries_of, live_of_part, part_at, path_is, reads_at, still_join, still_more, told_join, view_damaged_at, view_failed, view_gone_at, view_misreads_at, view_shows_still, view_still}
+use Rattle.pm_scan.proofs.ViewCallsLemmas.{FailsLast, ViewLaws, absent_gone, asked_up_to, committed, entries_of, live_of_part, part_at, path_is, reads_at, still_join, still_more, told_join, view_damaged_at, view_did_still, view_gone_at, view_misreads_at, view_shows_still, view_still}
 use Rattle.pm_scan.proofs.ViewLemmas.{no-groups, scanned-origin, scanned-view}
 
 -- ---- they change nothing, and the first lists the schemas
@@ -77,16 +77,19 @@ again_still : (a : Asked) (id : ℕ) (path : List ℕ) (found : Option (List ℕ
 again_still a id path found own (earlier, lacks, is) =
     still_more earlier own (read_file (snapshot_path id) found) is (lacks_still a id path earlier lacks) (read_still (snapshot_path id))
 
-ended_still : (a : Asked) (own : List Event) → MayEnd a own → AreStill own
-ended_still a own (at_part v c rest part) = part_still a v c rest own part
-ended_still a own (at_file v c job rest found finds) = next_still a v c job rest found own finds
-ended_still a own (at_lack id path lacks) = lacks_still a id path own lacks
+call_still : (m : Phase) (f : Files) → IfSome (next_call m) (Spares f)
+call_still (phases.View r) f = reader_facts.spares r f
+call_still (phases.Files r) f = λ effect. read_still r.next.path f effect
+call_still (phases.Again id path) f = λ effect. read_still (snapshot_path id) f effect
+call_still (phases.Ready id text) f = tt
+call_still phases.Over f = tt
 
-failed_still : (a : Asked) (path : List ℕ) (own : List Event) → IsFailed a path own → AreStill own
-failed_still a path own (in_file v c job rest earlier part at is) =
-    still_more earlier own (faulted (calls.Read path)) is (part_still a v c (job ∷ rest) earlier part) (read_still path)
-failed_still a path own (in_again id absent earlier lacks at is) =
-    still_more earlier own (faulted (calls.Read path)) is (lacks_still a id absent earlier lacks) (read_still path)
+so_far_still : (a : Asked) (m : Phase) (own : List Event) → IsSome (next_call m) → DidSoFar a m own → AreStill own
+so_far_still a (phases.View r) own called did = view_did_still a r own called did
+so_far_still a (phases.Files r) own called (v, same, part) = part_still a v r.collected (r.next ∷ r.rest) own part
+so_far_still a (phases.Again id path) own called lacks = lacks_still a id path own lacks
+so_far_still a (phases.Ready id text) own called scan = part_still a scan.view scan.collected [] own scan.all_read
+so_far_still a phases.Over own called did = absurd did
 
 misreads_still : (a : Asked) (refusal : Refusal) (own : List Event) → Misreads a refusal own → AreStill own
 misreads_still a refusal own (v, c, job, rest, bytes, refuses, finds) = next_still a v c job rest (Some bytes) own finds
@@ -96,8 +99,8 @@ damaged_still a path place own (inl (first, id, bytes, again)) = again_still a i
 damaged_still a path place own (inr misreads) = misreads_still a (refusals.Damaged path place) own misreads
 
 files_shows_still : (a : Asked) (refusal : Refusal) (own : List Event) → ShowsOfFiles a refusal own → AreStill own
-files_shows_still a refusals.Memory own shows = ended_still a own shows
-files_shows_still a (refusals.StoreFault path) own shows = failed_still a path own shows
+files_shows_still a refusals.Memory own ends = ended_still next_call (DidSoFar a) MayTakeMemory call_still (so_far_still a) own ends
+files_shows_still a (refusals.StoreFault path) own failed = failed_still next_call (DidSoFar a) MayTakeMemory call_still (so_far_still a) path own failed
 files_shows_still a (refusals.Expired id) own (path, again) = again_still a id path None own again
 files_shows_still a (refusals.Damaged path place) own shows = damaged_still a path place own shows
 files_shows_still a (refusals.Unsupported what text) own shows = misreads_still a (refusals.Unsupported what text) own shows
@@ -116,10 +119,6 @@ did_still s at result own (earlier, later, has, is, does) =
     subst AreStill (sym is) (still_join earlier later (schema.ready_calls s earlier has) (ends_still (asked_at s at) result later does))
 
 -- ---- where the last one failed
-
-files_failed : (a : Asked) (path : List ℕ) (own : List Event) → IsFailed a path own → FailsLast own
-files_failed a path own (in_file v c job rest earlier part at is) = (earlier, calls.Read path, is)
-files_failed a path own (in_again id absent earlier lacks at is) = (earlier, calls.Read path, is)
 
 -- a fault of the store was counted
 rose_after : (earlier later own : List Event) (first after : StoreView) → own ≡ earlier ++ later → Traces own first after → FailsLast later
@@ -286,7 +285,7 @@ module _ (laws : AllLaws) (f : Files) (s : TableSchema) (entries : List Entry) (
   view_caused : (first after : StoreView) (refusal : Refusal) (own : List Event) → reader.Shows a refusal own → AreTold f own → (FailsLast own → Rose first.faults after.faults)
       → IsCaused f s (table s entries) at first after refusal
   view_caused first after refusals.Memory own shows told rose = tt
-  view_caused first after (refusals.StoreFault path) own shows told rose = rose (view_failed a path own shows)
+  view_caused first after (refusals.StoreFault path) own shows told rose = rose (shows.earlier, shows.call, shows.is)
   view_caused first after (refusals.NoSnapshot id latest) own (names, newest, above, is) told rose =
       let listing : IsListing snapshot_folder names.items f = (subst (AreTold f) is told).0 in
       let asked = above_is at latest id above in
@@ -304,7 +303,7 @@ module _ (laws : AllLaws) (f : Files) (s : TableSchema) (entries : List Entry) (
   files_caused : (first after : StoreView) (refusal : Refusal) (own : List Event) → ShowsOfFiles a refusal own → AreTold f own → (FailsLast own → Rose first.faults after.faults)
       → IsCaused f s (table s entries) at first after refusal
   files_caused first after refusals.Memory own shows told rose = tt
-  files_caused first after (refusals.StoreFault path) own shows told rose = rose (files_failed a path own shows)
+  files_caused first after (refusals.StoreFault path) own shows told rose = rose (shows.earlier, shows.call, shows.is)
   files_caused first after (refusals.Expired id) own (path, again) told rose = absurd (again_at id path None own again told)
   files_caused first after (refusals.Damaged path place) own (inl (zero, id, bytes, again)) told rose = absurd (again_at id path (Some bytes) own again told)
   files_caused first after (refusals.Damaged path place) own (inr misreads) told rose =

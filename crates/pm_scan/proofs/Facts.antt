@@ -1,5 +1,5 @@
 -- A scanner keeps the laws of machines.
-use Rattle.std.proofs.Common.{◌≡◌, inl, inr, ℕ, ◌<◌, ◌+◌, suc, List, [], ◌∷◌, ◌++◌, length, None, Some, IsSome, IfSome, Result, Ok, OnOk, OnErr, refl, sym, ap, ◌∙◌, subst, arith, append_assoc}
+use Rattle.std.proofs.Common.{◌≡◌, inl, inr, ℕ, ◌<◌, ◌+◌, suc, List, [], ◌∷◌, ◌++◌, length, None, Some, IsSome, IfSome, refl, sym, ap, ◌∙◌, subst, arith, append_assoc}
 use Rattle.std.specs.BTreeMap.{IsOrdered}
 use Rattle.std.specs.FinMap as map
 use Rattle.std.proofs.lemmas.List.{append-nil}
@@ -16,11 +16,11 @@ use Rattle.pm_store.specs.declared.call.Effect.TheVariants as effects
 use Rattle.pm_store.specs.Answers.{Answers, MayAnswer}
 use Rattle.pm_store.specs.Files.{Files, after_effect, carried}
 use Rattle.pm_store.specs.Images.{MayLeave}
-use Rattle.pm_store.specs.Store.{StoreView}
 use Rattle.pm_store.proofs.FileLaws.{effect_left}
 use Rattle.pm_machine.specs.Moves.{Changes, Leads, Sound}
-use Rattle.pm_machine.specs.Step.{path_of, Answered, Stepped, Rested, Went, Refused, Stopped, Failed}
-use Rattle.pm_machine.specs.Trace.{Event, Recounts, answered, faulted}
+use Rattle.pm_machine.specs.Running.{Refuses, Stops}
+use Rattle.pm_machine.specs.Trace.{Event, Recounts, after_answer, answered}
+use Rattle.pm_machine.proofs.PhaseFacts.{ended, recounts_of}
 use Rattle.pm_model_history.specs.History.{IsTableOf}
 use Rattle.pm_schema.specs.declared.schema.TableSchema.{TableSchema}
 use Rattle.pm_engine.specs.OfSchema.{meaning_of}
@@ -48,8 +48,8 @@ use Rattle.pm_scan.specs.Collected.{Collected, Takes, nothing_of}
 use Rattle.pm_scan.specs.Jobs.{all_jobs}
 use Rattle.pm_scan.specs.Meaning.{HaveTaken, IsReadingOf, IsScan, Knows, LeavesFiles}
 use Rattle.pm_scan.specs.Reading.{ReadingView, reading_of}
-use Rattle.pm_scan.specs.Scanner.{next_call, calls_left, IsScanner, GoesOn, AfterReader, Goes, Shown, Refuses, Stops, Reaches, reached_at}
-use Rattle.pm_scan.specs.Trace.{HaveRead, HasPart, MayEnd, at_part, at_file, at_lack, in_file, in_again, Misreads, ShowsOfFiles, Shows, Did}
+use Rattle.pm_scan.specs.Scanner.{next_call, calls_left, IsScanner, GoesOn, AfterReader, Goes, Shown, Reaches, reached_at}
+use Rattle.pm_scan.specs.Trace.{HaveRead, HasPart, DidSoFar, MayTakeMemory, Misreads, ShowsOfFiles, Shows, Did}
 use Rattle.pm_scan.specs.declared.job.Job.{Job}
 use Rattle.pm_scan.specs.declared.phase.Phase.{Phase}
 use Rattle.pm_scan.specs.declared.phase.Phase.TheVariants as phases
@@ -147,7 +147,7 @@ over_leads m new call f p effect over changes =
     let change = changes effect in
     (change.0, change.1, over_knows new (after_effect call effect f) change.0 over)
 
-pub sound : Joined → OneList → FileLaws → Sound next_call Goes Refuses Stops Stands LeavesFiles Knows
+pub sound : Joined → OneList → FileLaws → Sound next_call Goes (Refuses Shown phases.Over) (Stops phases.Over) Stands LeavesFiles Knows
 sound law one laws = record {
   changes = λ m f p stands known. changes_on law one m f p stands known;
   went = λ m new answer f p goes stands known. leads_on law one laws m answer new f p goes stands known;
@@ -232,7 +232,8 @@ shows_as : (a : Asked) (refusal defined : Refusal) (own : List Event) → refusa
 shows_as a refusal defined own is shows = inr (subst (λ (e : Refusal). ShowsOfFiles a e own) (sym is) shows)
 
 -- a file was refused so
-misread_as : (a : Asked) (refusal : Refusal) (own : List Event) → IsFileFault refusal → MayEnd a own → Misreads a refusal own → ShowsOfFiles a refusal own
+misread_as : (a : Asked) (refusal : Refusal) (own : List Event) → IsFileFault refusal → ShowsOfFiles a refusals.Memory own → Misreads a refusal own
+    → ShowsOfFiles a refusal own
 misread_as a refusals.Memory own fault ends bad = ends
 misread_as a (refusals.Damaged path place) own fault ends bad = inr bad
 misread_as a (refusals.Unsupported what text) own fault ends bad = bad
@@ -241,51 +242,35 @@ misread_as a other own fault ends bad = absurd fault
 refused_on : Joined → (a : Asked) (m : Phase) (answer : Answer) (refusal : Refusal) (own : List Event) → Shown m answer refusal → Did a m own
     → IfSome (next_call m) (λ call. MayAnswer call answer → Shows a refusal (own ++ answered call answer ∷ []))
 refused_on law a (phases.View r) answer refusal own (inl (is, v, on)) did =
-    IfSome_then (reader.next_call r) ((reader_facts.recounts law a).went r (readers.Ready v) answer own on did)
-    (λ call did may. shows_as a refusal refusals.Memory (own ++ answered call answer ∷ []) is
-    (at_part v (nothing_of v.schema) (all_jobs v.schema v.groups.entries) (part_none a v (own ++ answered call answer ∷ []) (did may).0)))
+    IfSome_then (reader.next_call r)
+    (ended next_call (DidSoFar a) MayTakeMemory (phases.View r) (reader.next_call r) answer own refl did (v, on))
+    (λ call ends may. shows_as a refusal refusals.Memory (own ++ answered call answer ∷ []) is (ends may))
 refused_on law a (phases.View r) answer refusal own (inr shown) did =
     IfSome_then (reader.next_call r) ((reader_facts.recounts law a).refused r readers.Over answer refusal own (shown, refl) did)
     (λ call shows may. inl (shows may).1)
-refused_on law a (phases.Files r) (answers.Found (Some bytes)) refusal own (inl is) (v, same, part) = λ may.
-    shows_as a refusal refusals.Memory _ is (at_file v r.collected r.next r.rest (Some bytes) (own, part, refl))
+refused_on law a (phases.Files r) (answers.Found (Some bytes)) refusal own (inl is) did = λ may.
+    shows_as a refusal refusals.Memory _ is
+    (after_answer (phases.Files r) (calls.Read r.next.path) (answers.Found (Some bytes)) own did refl may tt refl)
 refused_on law a (phases.Files r) (answers.Found (Some bytes)) refusal own (inr bad) (v, same, part) = λ may.
     inr (misread_as a refusal _ (refuses_fault r.collected.schema r.next bytes r.collected.rows refusal bad)
-    (at_file v r.collected r.next r.rest (Some bytes) (own, part, refl)) (v, r.collected, r.next, r.rest, bytes, bad, (own, part, refl)))
+    (after_answer (phases.Files r) (calls.Read r.next.path) (answers.Found (Some bytes)) own (v, same, part) refl may tt refl)
+    (v, r.collected, r.next, r.rest, bytes, bad, (own, part, refl)))
 refused_on law a (phases.Again id path) (answers.Found None) refusal own is lacks = λ may.
     shows_as a refusal (refusals.Expired id) _ is (path, (own, lacks, refl))
 refused_on law a (phases.Again id path) (answers.Found (Some bytes)) refusal own is lacks = λ may.
     shows_as a refusal (refusals.Damaged path 0) _ is (inl (refl, id, bytes, (own, lacks, refl)))
 refused_on law a m answer refusal own shown did = absurd shown
 
-failed_on : Joined → (a : Asked) (m : Phase) (own : List Event) → Did a m own
-    → IfSome (next_call m) (λ call. Shows a (refusals.StoreFault (path_of call)) (own ++ faulted call ∷ []))
-failed_on law a (phases.View r) own did =
-    IfSome_then (reader.next_call r) ((reader_facts.recounts law a).failed r readers.Over own refl did) (λ call shows. inl shows.1)
-failed_on law a (phases.Files r) own (v, same, part) = inr (in_file v r.collected r.next r.rest own part refl refl)
-failed_on law a (phases.Again id path) own lacks = inr (in_again id path own lacks refl refl)
-failed_on law a (phases.Ready id text) own did = tt
-failed_on law a phases.Over own did = tt
+so_far : (a : Asked) (m : Phase) (own : List Event) → IsSome (next_call m) → Did a m own → DidSoFar a m own
+so_far a (phases.View r) own called did = did
+so_far a (phases.Files r) own called did = did
+so_far a (phases.Again id path) own called did = did
+so_far a (phases.Ready id text) own called did = did
+so_far a phases.Over own called did = absurd (let clash = called in cc)
 
-stopped_on : Joined → (a : Asked) (m : Phase) (own : List Event) → IsSome (next_call m) → Did a m own → Shows a refusals.Memory own
-stopped_on law a (phases.View r) own called did = inl ((reader_facts.recounts law a).stopped r readers.Over own called refl did).1
-stopped_on law a (phases.Files r) own called (v, same, part) = inr (at_part v r.collected (r.next ∷ r.rest) part)
-stopped_on law a (phases.Again id path) own called lacks = inr (at_lack id path lacks)
-stopped_on law a (phases.Ready id text) own called did = absurd (let clash = called in cc)
-stopped_on law a phases.Over own called did = absurd (let clash = called in cc)
-
-over_did : (a : Asked) (new : Phase) (refusal : Refusal) (own : List Event) → new ≡ phases.Over → Shows a refusal own → Did a new own × Shows a refusal own
-over_did a new refusal own over shows = (subst (λ (m : Phase). Did a m own) (sym over) (refusal, shows), shows)
-
-pub recounts : Joined → (a : Asked) → Recounts next_call Goes Refuses Stops (Did a) (Shows a)
-recounts law a = record {
-  went = λ m new answer own goes did. went_on law a m answer new own goes did;
-  refused = λ m new answer refusal own refuses did. IfSome_then (next_call m) (refused_on law a m answer refusal own refuses.0 did)
-      (λ call shows may. over_did a new refusal (own ++ answered call answer ∷ []) refuses.1 (shows may));
-  failed = λ m new own stops did. IfSome_then (next_call m) (failed_on law a m own did)
-      (λ call shows. over_did a new (refusals.StoreFault (path_of call)) (own ++ faulted call ∷ []) stops shows);
-  stopped = λ m new own called stops did. over_did a new refusals.Memory own stops (stopped_on law a m own called did);
-}
+pub recounts : Joined → (a : Asked) → Recounts next_call Goes (Refuses Shown phases.Over) (Stops phases.Over) (Did a) (Shows a)
+recounts law a = recounts_of next_call Goes Shown phases.Over (DidSoFar a) (Did a) MayTakeMemory (Shows a) (so_far a)
+    (λ refusal own shows. (refusal, shows)) (λ path own failed. inr failed) (λ own ends. inr ends) (went_on law a) (refused_on law a)
 
 -- ---- how far it has come
 
@@ -322,18 +307,22 @@ after_ahead r (readers.Ready v) new fewer (order, within, on) =
     on_ahead v.id (nothing_of v.schema) (all_jobs v.schema v.groups.entries) new (reader.calls_left r + (most + 2)) (omega (arith, within)) on
 after_ahead r readers.Over new fewer is = view_ahead r readers.Over new fewer is
 
-goes_ahead : (m : Phase) (answer : Answer) (new : Phase) (call : Call) (before after : StoreView) → next_call m ≡ Some call → Answered call answer before after → Goes m answer new
-    → IsScanner m → IsAhead (calls_left m) new
-goes_ahead (phases.View r) answer new call before after at came (to, on, then) (left, engine) =
-    let ahead = reader_facts.steps_on {old = r} {new = to} {before = before} {after = after} {result = Ok tt} (Went call answer at came on) left in
+goes_ahead : (m : Phase) (answer : Answer) (new : Phase) → Goes m answer new → IsAhead (calls_left m) new
+goes_ahead (phases.View r) answer new (to, on, then) =
+    let ahead = reader_facts.goes_ahead r answer to on in
     after_ahead r to new ahead.0 then
-goes_ahead (phases.Files r) (answers.Found None) new call before after at came is known =
+goes_ahead (phases.Files r) (answers.Found None) new is =
     let less : 1 < length r.rest + 2 = omega arith in
     let some : 0 < 1 = omega arith in
     subst (IsAhead (length r.rest + 2)) (sym is) (less, some)
-goes_ahead (phases.Files r) (answers.Found (Some bytes)) new call before after at came (c, takes, on) known =
+goes_ahead (phases.Files r) (answers.Found (Some bytes)) new (c, takes, on) =
     on_ahead r.id c r.rest new (length r.rest + 2) (omega arith) on
-goes_ahead m answer new call before after at came goes known = absurd goes
+goes_ahead m answer new goes = absurd goes
+
+-- a step that goes on leaves fewer calls, and what it reached
+pub goes : (m : Phase) (answer : Answer) (new : Phase) → IsScanner m → Goes m answer new
+    → (calls_left new < calls_left m) × Reaches (reached_at new) new × Unit {0}
+goes m answer new is on = let ahead = goes_ahead m answer new on in (ahead.0, ahead.1, tt)
 
 reader_call : (r : view_phase.Phase) → 0 < reader.calls_left r → IsSome (reader.next_call r)
 reader_call (readers.List a) left = refl
@@ -347,32 +336,12 @@ reader_call (readers.Ready v) left = absurd (let none : 0 < 0 = left in omega (a
 reader_call readers.Over left = absurd (let none : 0 < 0 = left in omega (arith, none))
 
 -- a scanner with calls left has a next one
-has_call : (m : Phase) → IsScanner m → 0 < calls_left m → IsSome (next_call m)
+pub has_call : (m : Phase) → IsScanner m → 0 < calls_left m → IsSome (next_call m)
 has_call (phases.View r) (has, engine) left = reader_call r has
 has_call (phases.Files r) is left = refl
 has_call (phases.Again id path) is left = refl
 has_call (phases.Ready id text) is left = absurd (let none : 0 < 0 = left in omega (arith, none))
 has_call phases.Over is left = absurd (let none : 0 < 0 = left in omega (arith, none))
-
--- a step that goes on leaves fewer calls, and what it reached
-pub steps_on : {old new : Phase} {before after : StoreView} {result : Result (Unit {0}) Refusal}
-    → Stepped next_call Goes Refuses Stops old new before after result → IsScanner old → 0 < calls_left old
-    → OnOk result ((calls_left new < calls_left old) × Reaches (reached_at new) new)
-steps_on {old = old} {new = new} (Rested none same still) is left =
-    absurd (let called = has_call old is left in let clash = rw none at called in cc)
-steps_on {old = old} {new = new} {before = before} {after = after} (Went call answer at came on) is left = goes_ahead old answer new call before after at came on is
-steps_on (Refused call answer refusal at came on) is left = tt
-steps_on (Stopped call at meanwhile stop) is left = tt
-steps_on (Failed call at came stop) is left = tt
-
--- a step with a refusal ends it
-pub over_on : {old new : Phase} {before after : StoreView} {result : Result (Unit {0}) Refusal}
-    → Stepped next_call Goes Refuses Stops old new before after result → OnErr result (new ≡ phases.Over)
-over_on (Rested none same still) = tt
-over_on (Went call answer at came on) = tt
-over_on (Refused call answer refusal at came on) = on.1
-over_on (Stopped call at meanwhile stop) = stop
-over_on (Failed call at came stop) = stop
 
 -- ---- laws
 

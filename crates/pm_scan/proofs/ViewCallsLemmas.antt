@@ -7,7 +7,6 @@ use Rattle.pm_values.specs.declared.file_meta.FileMeta.{FileMeta}
 use Rattle.pm_values.specs.declared.refusal.Refusal.{Refusal}
 use Rattle.pm_values.specs.declared.refusal.Refusal.TheVariants as refusals
 use Rattle.pm_store.specs.declared.call.Call.{Call}
-use Rattle.pm_store.specs.declared.call.Call.TheVariants as calls
 use Rattle.pm_store.specs.Files.{Files, IsListing}
 use Rattle.pm_machine.specs.Trace.{Event, faulted}
 use Rattle.pm_model_history.specs.History.{Entry as HistoryEntry}
@@ -26,10 +25,9 @@ use Rattle.pm_model_folder.specs.Paths.{named_origin, origin_path, snapshot_file
 use Rattle.pm_model_folder.proofs.Facts.{snapshot-committed, some-none}
 use Rattle.pm_paths.specs.Ids.{IsLatest}
 use Rattle.pm_paths.proofs.ListedLemmas.{latest_is}
-use Rattle.pm_read_schema.specs.Reader.{snapshots_call}
 use Rattle.pm_read_schema.specs.Trace.{Names, listed_snapshots}
 use Rattle.pm_read_schema.proofs.AllCallsLemmas.{list_still, read_still}
-use Rattle.pm_read_schema.proofs.StillLemmas.{AreStill, AreTold, IsStill, IsTold, told_last}
+use Rattle.pm_read_schema.proofs.StillLemmas.{AreStill, AreTold, IsStill, IsTold, ended_still, failed_still, told_last}
 use Rattle.pm_manifest.specs.Entries.{entry_in, has_entry_fields}
 use Rattle.pm_manifest.specs.Listed.{has_meta_fields, meta_in}
 use Rattle.pm_manifest.specs.Live.{AreInOrder, IsOutOfOrder, Leaves, Live, id_of, live_after, live_at}
@@ -42,12 +40,14 @@ use Rattle.pm_model_contents.specs.Lists.{HasEntries, HaveEntries, IsList, IsMan
 use Rattle.pm_model_contents.specs.Named.{Contents, HasContents}
 use Rattle.pm_model_contents.specs.Runs.{AreFilesOf}
 use Rattle.pm_read_table.specs.Asked.{Asked, ListsFirst, asked_of}
-use Rattle.pm_read_table.specs.Reader.{IsAsked, MisreadsList, MisreadsManifest}
-use Rattle.pm_read_table.specs.Trace.{read_file, Lists, ListsFor, Reads, Has, FindsBase, HasBase, FindsDelta, HasDelta, HaveRead, HasPart, FindsNext, HasView, of_origin, of_snapshot, LacksFile, lacks_base, lacks_delta, lacks_manifest, ReadsAgain, Misreads, misreads_base, misreads_delta, misreads_manifest, MayEnd, at_first, at_listing, at_snapshot, at_base, at_delta, at_part, at_manifest, IsFailed, in_listing, in_origin, in_snapshot, in_base, in_delta, in_manifest, in_again, IsGone, gone_origin, gone_snapshot, gone_again, IsDamaged, bad_snapshot, bad_schema, is_absent, is_misread, is_disordered, is_overlap, Shows}
+use Rattle.pm_read_table.specs.Reader.{IsAsked, MisreadsList, MisreadsManifest, next_call}
+use Rattle.pm_read_table.specs.Trace.{Did, DidSoFar, FindsBase, FindsDelta, FindsNext, Has, HasBase, HasDelta, HasPart, HasView, HaveRead, IsDamaged, IsGone, LacksFile, Lists, ListsFor, MayTakeMemory, Misreads, Reads, ReadsAgain, Shows, bad_schema, bad_snapshot, gone_again, gone_origin, gone_snapshot, is_absent, is_disordered, is_misread, is_overlap, lacks_base, lacks_delta, lacks_manifest, misreads_base, misreads_delta, misreads_manifest, of_origin, of_snapshot, read_file}
 use Rattle.pm_read_table.specs.declared.asked.Wanted.{Wanted}
 use Rattle.pm_read_table.specs.declared.asked.Wanted.TheVariants as wants
+use Rattle.pm_read_table.specs.declared.phase.Phase.{Phase}
+use Rattle.pm_read_table.specs.declared.phase.Phase.TheVariants as phases
 use Rattle.pm_read_table.specs.declared.view.View.{View}
-use Rattle.pm_read_table.proofs.Facts.{Joined, OneList}
+use Rattle.pm_read_table.proofs.Facts.{Joined, OneList, spares}
 use Rattle.pm_read_table.proofs.TwoLemmas.{first_in, two_in}
 use Rattle.pm_scan.specs.AllCalls.{path_of}
 use Rattle.pm_scan.proofs.ViewLemmas.{OneContents, same-live}
@@ -121,24 +121,17 @@ misreads_still a refusal own (misreads_base x bytes fault finds) = base_still a 
 misreads_still a refusal own (misreads_delta x base bytes fault finds) = delta_still a x base (Some bytes) own finds
 misreads_still a refusal own (misreads_manifest x done meta rest entries bytes fault finds) = next_still a x done meta rest entries (Some bytes) own finds
 
-ended_still : (a : Asked) (own : List Event) → MayEnd a own → AreStill own
-ended_still a own (at_first is) = subst AreStill (sym is) tt
-ended_still a own (at_listing names first is) = subst AreStill (sym is) (list_still snapshot_folder, tt)
-ended_still a own (at_snapshot id bytes least reads) = reads_still a id (snapshot_path id) (Some bytes) own reads
-ended_still a own (at_base x found finds) = base_still a x found own finds
-ended_still a own (at_delta x base found finds) = delta_still a x base found own finds
-ended_still a own (at_part x done rest entries part) = part_still a x done rest entries own part
-ended_still a own (at_manifest x done meta rest entries found finds) = next_still a x done meta rest entries found own finds
-
-failed_still : (a : Asked) (path : List ℕ) (own : List Event) → IsFailed a path own → AreStill own
-failed_still a path own (in_listing at first is) = subst AreStill (sym is) (list_still snapshot_folder, tt)
-failed_still a path own (in_origin earlier lists at is) = still_more earlier own (faulted (calls.Read path)) is (lists_still a 0 earlier lists) (read_still path)
-failed_still a path own (in_snapshot id earlier least lists at is) = still_more earlier own (faulted (calls.Read path)) is (lists_still a id earlier lists) (read_still path)
-failed_still a path own (in_base x earlier has at is) = still_more earlier own (faulted (calls.Read path)) is (has_still a x earlier has) (read_still path)
-failed_still a path own (in_delta x base earlier has at is) = still_more earlier own (faulted (calls.Read path)) is (has_base_still a x base earlier has) (read_still path)
-failed_still a path own (in_manifest x done meta rest entries earlier part at is) =
-    still_more earlier own (faulted (calls.Read path)) is (part_still a x done (meta ∷ rest) entries earlier part) (read_still path)
-failed_still a path own (in_again id absent earlier lacks at is) = still_more earlier own (faulted (calls.Read path)) is (lacks_still a id absent earlier lacks) (read_still path)
+so_far_still : (a : Asked) (m : Phase) (own : List Event) → IsSome (next_call m) → DidSoFar a m own → AreStill own
+so_far_still a (phases.List b) own called (same, none, first) = subst AreStill (sym none) tt
+so_far_still a (phases.Origin q) own called (sought, lists) = lists_still q.asked 0 own lists
+so_far_still a (phases.Snapshot q id) own called (sought, least, lists) = lists_still q.asked id own lists
+so_far_still a (phases.Base q x) own called (sought, has) = has_still q.asked x own has
+so_far_still a (phases.Delta q x base) own called (sought, has) = has_base_still q.asked x base.items own has
+so_far_still a (phases.Manifests r) own called (sought, entries, part, leaves, kept) =
+    part_still r.sought.asked r.snapshot r.done (r.next ∷ r.rest) entries own part
+so_far_still a (phases.Again b id path) own called (same, lacks) = lacks_still b id path own lacks
+so_far_still a (phases.Ready v) own called (view, sought) = view_still a v own view
+so_far_still a phases.Over own called did = absurd did
 
 gone_still : (a : Asked) (id : ℕ) (own : List Event) → IsGone a id own → AreStill own
 gone_still a id own (gone_origin first reads) = reads_still a 0 (origin_path a.schema) None own reads
@@ -154,27 +147,23 @@ damaged_still a path place own (is_disordered x done meta rest entries live byte
 damaged_still a path place own (is_overlap x metas entries live part left overlaps) = part_still a x metas [] entries own part
 
 pub view_shows_still : (a : Asked) (refusal : Refusal) (own : List Event) → Shows a refusal own → AreStill own
-view_shows_still a refusals.Memory own shows = ended_still a own shows
-view_shows_still a (refusals.StoreFault path) own shows = failed_still a path own shows
+view_shows_still a refusals.Memory own ends = ended_still next_call (DidSoFar a) MayTakeMemory spares (so_far_still a) own ends
+view_shows_still a (refusals.StoreFault path) own failed = failed_still next_call (DidSoFar a) MayTakeMemory spares (so_far_still a) path own failed
 view_shows_still a (refusals.NoSnapshot id latest) own (names, newest, above, is) = subst AreStill (sym is) (list_still snapshot_folder, tt)
 view_shows_still a (refusals.Expired id) own shows = gone_still a id own shows
 view_shows_still a (refusals.Damaged path place) own shows = damaged_still a path place own shows
 view_shows_still a (refusals.Unsupported what text) own shows = misreads_still a (refusals.Unsupported what text) own shows
 view_shows_still a other own shows = absurd shows
 
+-- its calls so far, by its phase
+pub view_did_still : (a : Asked) (m : Phase) (own : List Event) → IsSome (next_call m) → Did a m own → AreStill own
+view_did_still a phases.Over own called (refusal, shows) = view_shows_still a refusal own shows
+view_did_still a m own called did = so_far_still a m own called did
+
 -- ---- where the last one failed
 
 abbrev pub FailsLast : List Event → Type 0
 FailsLast own = (earlier : List Event) × (call : Call) × (own ≡ earlier ++ faulted call ∷ [])
-
-pub view_failed : (a : Asked) (path : List ℕ) (own : List Event) → IsFailed a path own → FailsLast own
-view_failed a path own (in_listing at first is) = ([], snapshots_call, is)
-view_failed a path own (in_origin earlier lists at is) = (earlier, calls.Read path, is)
-view_failed a path own (in_snapshot id earlier least lists at is) = (earlier, calls.Read path, is)
-view_failed a path own (in_base x earlier has at is) = (earlier, calls.Read path, is)
-view_failed a path own (in_delta x base earlier has at is) = (earlier, calls.Read path, is)
-view_failed a path own (in_manifest x done meta rest entries earlier part at is) = (earlier, calls.Read path, is)
-view_failed a path own (in_again id absent earlier lacks at is) = (earlier, calls.Read path, is)
 
 -- ---- what they say of the files
 

@@ -105,12 +105,6 @@ Shown (phases.Again id path) (answers.Found None) refusal = refusal ≡ refusals
 Shown (phases.Again id path) (answers.Found (Some bytes)) refusal = refusal ≡ refusals.Damaged path 0
 Shown phase other refusal = ⊥
 
-abbrev pub Refuses : Phase → Answer → Refusal → Phase → Type 0
-Refuses phase answer refusal later = Shown phase answer refusal × (later ≡ phases.Over)
-
-abbrev pub Stops : Phase → Phase → Type 0
-Stops phase later = later ≡ phases.Over
-
 -- what a step that goes on has reached
 abbrev pub Reaches : ScanStep → Phase → Type 0
 Reaches steps.More phase = 0 < calls_left phase

@@ -2,18 +2,22 @@
 use Rattle.std.specs.Prelude.{◌≡◌, ◌⊎◌, ℕ, List, [], ◌∷◌, ◌++◌, Option, None, Some, Result, IfErr}
 use Rattle.pm_values.specs.declared.refusal.Refusal.{Refusal}
 use Rattle.pm_values.specs.declared.refusal.Refusal.TheVariants as refusals
-use Rattle.pm_store.specs.declared.call.Call.TheVariants as calls
+use Rattle.pm_store.specs.declared.answer.Answer.{Answer}
+use Rattle.pm_store.specs.declared.answer.Answer.TheVariants as answers
 use Rattle.pm_store.specs.Store.{StoreView}
-use Rattle.pm_machine.specs.Trace.{Acts, Event, faulted}
+use Rattle.pm_machine.specs.Trace.{Acts, Event, IsFailed, MayEnd}
 use Rattle.pm_engine.specs.OfSchema.{meaning_of}
 use Rattle.pm_shown.specs.Shown.{PrintsGroups}
 use Rattle.pm_model_folder.specs.Paths.{snapshot_path}
 use Rattle.pm_read_table.specs.Asked.{Asked}
+use Rattle.pm_read_table.specs.Reader as reader_machine
 use Rattle.pm_read_table.specs.Trace as reader
 use Rattle.pm_read_table.specs.Trace.{HasView, read_file}
+use Rattle.pm_read_table.specs.declared.phase.Phase.TheVariants as readers
 use Rattle.pm_read_table.specs.declared.view.View.{View}
 use Rattle.pm_scan.specs.Collected.{Collected, RefusesFile, Takes, nothing_of}
 use Rattle.pm_scan.specs.Jobs.{all_jobs}
+use Rattle.pm_scan.specs.Scanner.{next_call}
 use Rattle.pm_scan.specs.declared.job.Job.{Job}
 use Rattle.pm_scan.specs.declared.phase.Phase.{Phase}
 use Rattle.pm_scan.specs.declared.phase.Phase.TheVariants as phases
@@ -67,20 +71,19 @@ pub record HasScan (a : Asked) (id : ℕ) (text : List ℕ) (own : List Event) :
 
 -- ---- what they show
 
--- calls after which memory may have run out, once the view was read
-pub data MayEnd (a : Asked) (own : List Event) : Type 0 where
-  at_part : (v : View) (c : Collected) (rest : List Job) → HasPart a v c rest own → MayEnd a own
-  at_file : (v : View) (c : Collected) (job : Job) (rest : List Job) (found : Option (List ℕ))
-      → FindsNext a v c job rest found own → MayEnd a own
-  at_lack : (id : ℕ) (path : List ℕ) → LacksFile a id path own → MayEnd a own
+-- its calls so far, by its phase before its end, where this was asked
+abbrev pub DidSoFar : Asked → Phase → List Event → Type 0
+DidSoFar a (phases.View m) own = reader.Did a m own
+DidSoFar a (phases.Files r) own = (v : View) × (r.id ≡ v.id) × HasPart a v r.collected (r.next ∷ r.rest) own
+DidSoFar a (phases.Again id path) own = LacksFile a id path own
+DidSoFar a (phases.Ready id text) own = HasScan a id text.items own
+DidSoFar a phases.Over own = ⊥
 
--- the last call failed, and names its path
-pub data IsFailed (a : Asked) (path : List ℕ) (own : List Event) : Type 0 where
-  in_file : (v : View) (c : Collected) (job : Job) (rest : List Job) (earlier : List Event)
-      → HasPart a v c (job ∷ rest) earlier → path ≡ job.path → own ≡ earlier ++ faulted (calls.Read path) ∷ []
-      → IsFailed a path own
-  in_again : (id : ℕ) (absent : List ℕ) (earlier : List Event) → LacksFile a id absent earlier → path ≡ snapshot_path id
-      → own ≡ earlier ++ faulted (calls.Read path) ∷ [] → IsFailed a path own
+-- what follows the answer may take memory: where the view is ready by it, or a data file was found
+abbrev pub MayTakeMemory : Phase → Answer → Type 0
+MayTakeMemory (phases.View m) answer = (v : View) × reader_machine.Goes m answer (readers.Ready v)
+MayTakeMemory (phases.Files r) (answers.Found (Some bytes)) = Unit {0}
+MayTakeMemory m answer = ⊥
 
 -- a data file was found with bytes that are refused so
 abbrev pub Misreads : Asked → Refusal → List Event → Type 0
@@ -93,37 +96,26 @@ IsDamaged a path place own =
     ((place ≡ 0) × (id : ℕ) × (bytes : List ℕ) × ReadsAgain a id path (Some bytes) own)
     ⊎ Misreads a (refusals.Damaged path place) own
 
--- which calls that came after the view was read show a refusal
+-- which calls show a refusal, beside those of the view's reader
 abbrev pub ShowsOfFiles : Asked → Refusal → List Event → Type 0
-ShowsOfFiles a refusals.Memory own = MayEnd a own
-ShowsOfFiles a (refusals.StoreFault path) own = IsFailed a path own
+ShowsOfFiles a refusals.Memory own = MayEnd next_call (DidSoFar a) MayTakeMemory own
+ShowsOfFiles a (refusals.StoreFault path) own = IsFailed next_call (DidSoFar a) path own
 ShowsOfFiles a (refusals.Expired id) own = (path : List ℕ) × ReadsAgain a id path None own
 ShowsOfFiles a (refusals.Damaged path place) own = IsDamaged a path place own
 ShowsOfFiles a (refusals.Unsupported what text) own = Misreads a (refusals.Unsupported what text) own
 ShowsOfFiles a other own = ⊥
 
--- which calls show a refusal: those of the view's reader, or those that came after it was ready
+-- which calls show a refusal: what the reader of the view shows is shown
 abbrev pub Shows : Asked → Refusal → List Event → Type 0
 Shows a refusal own = reader.Shows a refusal own ⊎ ShowsOfFiles a refusal own
 
 -- its calls so far, by its phase, where this was asked: at its end they show a refusal
 abbrev pub Did : Asked → Phase → List Event → Type 0
-Did a (phases.View m) own = reader.Did a m own
-Did a (phases.Files r) own =
-    (v : View) × (r.id ≡ v.id) × HasPart a v r.collected (r.next ∷ r.rest) own
-Did a (phases.Again id path) own = LacksFile a id path own
-Did a (phases.Ready id text) own = HasScan a id text.items own
 Did a phases.Over own = (refusal : Refusal) × Shows a refusal own
+Did a m own = DidSoFar a m own
 
 -- Whatever was asked, its next call is the next event of its calls so far, or none was made; and a refusal is shown by
 -- the calls up to it.
 abbrev pub ScannerActed : Phase → Phase → StoreView → StoreView → Result ScanStep Refusal → Type 0
 ScannerActed old new before after result = (a : Asked)
     → Acts (Did a old) (λ own. Did a new own × IfErr result (λ refusal. Shows a refusal own)) before after
-
--- something was asked, and these are the calls so far, or those that show a refusal
-abbrev pub DidSome : Phase → List Event → Type 0
-DidSome phase own = (a : Asked) × Did a phase own
-
-abbrev pub SomeShows : Refusal → List Event → Type 0
-SomeShows refusal own = (a : Asked) × Shows a refusal own

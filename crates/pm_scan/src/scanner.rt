@@ -8,13 +8,13 @@ ghost use Rattle.pm_read_table.specs.Asked.{asked_of};
 ghost use Rattle.pm_read_table.specs.declared.asked.Wanted.TheVariants as wants;
 ghost use Rattle.pm_read_table.specs.declared.phase.Phase.TheVariants as readers;
 ghost use Rattle.pm_scan.specs.Meaning.{ScannerMoved};
-ghost use Rattle.pm_scan.specs.Scanner.{calls_left, reached_at, IsReady, IsScanner, Reaches};
+ghost use Rattle.pm_scan.specs.Scanner.{calls_left, IsReady, Reaches};
 ghost use Rattle.pm_scan.specs.Trace.{ScannerActed};
 ghost use Rattle.pm_scan.specs.declared.phase.Phase.TheVariants as phases;
 
 use crate::laws::files_law;
 use crate::phase::Phase;
-use pm_machine::step;
+use pm_machine::{Running, make_step};
 use pm_manifest::{ManifestMeta, joined_law};
 use pm_record::one_reading_law;
 use pm_schema::TableSchema;
@@ -33,17 +33,16 @@ pub enum ScanStep {
 
 /// Reads a table at a snapshot, a call of the store a step, and has the text of its scan in the end.
 pub struct Scanner {
-    pub(crate) phase: Phase,
+    running: Running<Phase>,
 }
 
 impl Drop for Scanner {
     fn drop(self) {
-        let Scanner { phase } = self;
+        let Scanner { running } = self;
     }
 }
 
 impl Model for Scanner {
-    ghost use Rattle.pm_scan.specs.Scanner.{IsScanner};
     ghost use Rattle.pm_scan.specs.contracts.phase.Phase as phases;
     ghost use Rattle.pm_scan.specs.declared.phase.Phase.{Phase};
 
@@ -51,9 +50,7 @@ impl Model for Scanner {
 
     ghost coded = { phases.the_row.coded };
 
-    ghost view = { λ s. s.phase };
-
-    ghost invariant = { λ s. IsScanner s.phase };
+    ghost view = { λ s. s.running };
 }
 
 impl Scanner {
@@ -65,9 +62,9 @@ impl Scanner {
         ensures { result ≡ phases.View (readers.List (asked_of schema wants.Newest)) }
     {
         Scanner {
-            phase: Phase::View {
+            running: Running::new(Phase::View {
                 reader: ViewReader::newest(schema),
-            },
+            }),
         }
     }
 
@@ -78,9 +75,9 @@ impl Scanner {
         ensures { result ≡ phases.View (readers.List (asked_of schema (wants.At id))) }
     {
         Scanner {
-            phase: Phase::View {
+            running: Running::new(Phase::View {
                 reader: ViewReader::at(schema, id),
-            },
+            }),
         }
     }
 
@@ -88,7 +85,7 @@ impl Scanner {
     pub fn is_ready(&self) -> bool
         ensures { IsTrue result ↔ IsReady self.now }
     {
-        matches!(self.phase, Phase::Ready { .. })
+        matches!(self.running.phase(), Phase::Ready { .. })
     }
 
     /// The text of the scan, once it is ready.
@@ -96,8 +93,8 @@ impl Scanner {
         requires { IsReady self }
         ensures { (id : ℕ) × (self ≡ phases.Ready id result) }
     {
-        let Scanner { phase } = self;
-        match phase {
+        let Scanner { running } = self;
+        match running.into_phase() {
             Phase::Ready { text, .. } => text,
             _ => unreachable!(),
         }
@@ -116,27 +113,6 @@ impl Scanner {
         joined_law();
         one_reading_law::<ManifestMeta>();
         files_law();
-        self.known();
-        match step(alloc, self, store) {
-            Ok(()) => Ok(self.reached()),
-            Err(refusal) => Err(refusal),
-        }
-    }
-
-    /// States for clauses what each scanner is.
-    fn known(&self)
-        ensures { IsScanner self.now }
-    {
-        let _ = &self.phase;
-    }
-
-    /// What a step that went on has reached.
-    fn reached(&self) -> ScanStep
-        ensures { result ≡ reached_at self.now }
-    {
-        match self.phase {
-            Phase::Ready { .. } => ScanStep::Ready,
-            _ => ScanStep::More,
-        }
+        make_step(alloc, &mut self.running, store)
     }
 }

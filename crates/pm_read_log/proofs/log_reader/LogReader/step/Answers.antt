@@ -1,25 +1,17 @@
-use Rattle.pm_machine.proofs.Facts.{moved, acted}
-use Rattle.pm_read_log.proofs.LogFacts.{sound, recounts, steps_on}
+use Rattle.pm_read_log.proofs.LogFacts.{sound, recounts, goes, has_call}
 use Rattle.pm_read_log.proofs.log_reader.LogReader.step.Goals as goal
 
-pub returns-in-Err-clause-moves : goal.returns-in-Err-clause-moves
-returns-in-Err-clause-moves g c = moved (sound c.one_reading_law.ensures) c.step.ensures.stepped
+pub make_step-requires-clause-sound : goal.make_step-requires-clause-sound
+make_step-requires-clause-sound g c = sound c.one_reading_law.ensures
 
-pub returns-in-Err-clause-acts : goal.returns-in-Err-clause-acts
-returns-in-Err-clause-acts g c = λ a. rw c.in-Err.is at (acted (recounts a) c.step.ensures.stepped)
+pub make_step-requires-clause-recounts : goal.make_step-requires-clause-recounts
+make_step-requires-clause-recounts g c = recounts
 
-pub returns-in-Ok-clause-moves : goal.returns-in-Ok-clause-moves
-returns-in-Ok-clause-moves g c = moved (sound c.one_reading_law.ensures) c.step.ensures.stepped
+pub make_step-requires-clause-goes : goal.make_step-requires-clause-goes
+make_step-requires-clause-goes g c = goes
 
-pub returns-in-Ok-clause-acts : goal.returns-in-Ok-clause-acts
-returns-in-Ok-clause-acts g c = λ a. rw c.in-Ok.is at (acted (recounts a) c.step.ensures.stepped)
+pub make_step-requires-clause-has_call : goal.make_step-requires-clause-has_call
+make_step-requires-clause-has_call g c = λ m is. has_call m
 
-pub returns-in-Ok-clause-reaches : goal.returns-in-Ok-clause-reaches
-returns-in-Ok-clause-reaches g c =
-    let on = rw c.in-Ok.is at (steps_on c.step.ensures.stepped c.requires) in
-    rw c.reached.ensures on.1
-
-pub returns-in-Ok-clause-fewer : goal.returns-in-Ok-clause-fewer
-returns-in-Ok-clause-fewer g c =
-    let on = rw c.in-Ok.is at (steps_on c.step.ensures.stepped c.requires) in
-    on.0
+pub returns-clause-acts : goal.returns-clause-acts
+returns-clause-acts g c = rw c.self.view_is at c.make_step.ensures.acts

@@ -1,9 +1,8 @@
-use Rattle.pm_machine.proofs.Facts.{moved, acted}
-use Rattle.pm_scan.proofs.Facts.{FileLaws, over_on, sound, recounts, steps_on}
+use Rattle.pm_scan.proofs.Facts.{FileLaws, sound, recounts, goes, has_call}
 use Rattle.pm_scan.proofs.scanner.Scanner.step.Goals as goal
 
-pub returns-in-Err-clause-moves : goal.returns-in-Err-clause-moves
-returns-in-Err-clause-moves g c =
+pub make_step-requires-clause-sound : goal.make_step-requires-clause-sound
+make_step-requires-clause-sound g c =
     let files : FileLaws = record {
       first = c.files_law.ensures.first;
       all = c.files_law.ensures.all;
@@ -11,34 +10,16 @@ returns-in-Err-clause-moves g c =
       last = c.files_law.ensures.last;
       gone = c.files_law.ensures.gone;
     } in
-    moved (sound (c.joined_law.ensures.left, c.joined_law.ensures.order) c.one_reading_law.ensures files) c.step.ensures.stepped
+    sound (c.joined_law.ensures.left, c.joined_law.ensures.order) c.one_reading_law.ensures files
 
-pub returns-in-Err-clause-acts : goal.returns-in-Err-clause-acts
-returns-in-Err-clause-acts g c = λ a. rw c.in-Err.is at (acted (recounts (c.joined_law.ensures.left, c.joined_law.ensures.order) a) c.step.ensures.stepped)
+pub make_step-requires-clause-recounts : goal.make_step-requires-clause-recounts
+make_step-requires-clause-recounts g c = recounts (c.joined_law.ensures.left, c.joined_law.ensures.order)
 
-pub returns-in-Err-clause-over : goal.returns-in-Err-clause-over
-returns-in-Err-clause-over g c = rw c.in-Err.is at (over_on c.step.ensures.stepped)
+pub make_step-requires-clause-goes : goal.make_step-requires-clause-goes
+make_step-requires-clause-goes g c = goes
 
-pub returns-in-Ok-clause-moves : goal.returns-in-Ok-clause-moves
-returns-in-Ok-clause-moves g c =
-    let files : FileLaws = record {
-      first = c.files_law.ensures.first;
-      all = c.files_law.ensures.all;
-      more = c.files_law.ensures.more;
-      last = c.files_law.ensures.last;
-      gone = c.files_law.ensures.gone;
-    } in
-    moved (sound (c.joined_law.ensures.left, c.joined_law.ensures.order) c.one_reading_law.ensures files) c.step.ensures.stepped
+pub make_step-requires-clause-has_call : goal.make_step-requires-clause-has_call
+make_step-requires-clause-has_call g c = has_call
 
-pub returns-in-Ok-clause-acts : goal.returns-in-Ok-clause-acts
-returns-in-Ok-clause-acts g c = λ a. rw c.in-Ok.is at (acted (recounts (c.joined_law.ensures.left, c.joined_law.ensures.order) a) c.step.ensures.stepped)
-
-pub returns-in-Ok-clause-reaches : goal.returns-in-Ok-clause-reaches
-returns-in-Ok-clause-reaches g c =
-    let on = rw c.in-Ok.is at (steps_on c.step.ensures.stepped c.known.ensures c.requires) in
-    rw c.reached.ensures on.1
-
-pub returns-in-Ok-clause-fewer : goal.returns-in-Ok-clause-fewer
-returns-in-Ok-clause-fewer g c =
-    let on = rw c.in-Ok.is at (steps_on c.step.ensures.stepped c.known.ensures c.requires) in
-    on.0
+pub returns-clause-acts : goal.returns-clause-acts
+returns-clause-acts g c = rw c.self.view_is at c.make_step.ensures.acts

@@ -1,4 +1,4 @@
-use Rattle.pm_read_table.proofs.machine.next_phase.Goals as goal
+use Rattle.pm_read_table.proofs.machine.PhasePhase.next.Goals as goal
 
 pub returns-in-Again-Found-clause-refuses : goal.returns-in-Again-Found-clause-refuses
 returns-in-Again-Found-clause-refuses c =
