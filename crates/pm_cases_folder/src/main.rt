@@ -1,13 +1,10 @@
-//! The cases of streams, of stores and of real folders, a line in and a line out: each line of standard input names
-//! what is tried, and its arguments, with a TAB between them, and the line that is printed for it is the answer. Blank
-//! lines and lines that begin with `#` are printed as they are, so that both texts can be read side by side.
+//! The cases of commands on a real folder, and of the lines of an input, a line in and a line out: each line of standard
+//! input names what is tried, and its arguments, with a TAB between them, and the line that is printed for it is the
+//! answer. Blank lines and lines that begin with `#` are printed as they are, so that both texts can be read side by side.
 //!
 //! | What is tried | Arguments | Answer |
 //! |---|---|---|
-//! | `source` | see `stream.rt` | the lines of a source that fails |
-//! | `sink` | see `stream.rt` | what a sink takes, and whether that is all |
 //! | `lines` | the number of a read that fails, or 0; a text | the lines that aren't blank, or why not |
-//! | `store` | `memory`, `fails` and a plan, or `folder` and a name; calls | their answers |
 //! | `created` | a name, a draft | `create` through one store of that folder and through another, then `snapshots` |
 //! | `scanned` | a name; paths, each with a file's bytes | `scan` of that folder, in which these files were created |
 //! | `writers` | a name, the table's commits, two row lines | two writers of that folder in turn, see `writers.rt` |
@@ -16,10 +13,8 @@
 #![tactic(auto)]
 
 mod command;
-mod foreign;
+mod lines;
 mod real_folder;
-mod store;
-mod stream;
 mod writers;
 
 use pm_cases::Case;
@@ -47,25 +42,12 @@ fn answer(rt: &HostRuntime, line: &str) -> Result<String, AllocError> {
     case.into_answer()
 }
 
-/// What is answered of a stream, a store or a real folder.
+/// What is answered of an input or a real folder.
 fn answer_line(rt: &HostRuntime, case: &mut Case, tried: &str, arguments: &str) {
     let (first, rest) = arguments.split_once('\t').unwrap_or((arguments, ""));
     match tried {
-        "source" => stream::source_answer(case, arguments),
-        "sink" => stream::sink_answer(case, arguments),
-        "lines" => stream::lines_answer(case, arguments),
-        "store" => answer_store(rt, case, first, rest),
+        "lines" => lines::lines_answer(case, arguments),
         "created" | "scanned" | "writers" => real_folder::answer(rt, case, tried, first, rest),
-        _ => case.reject(),
-    }
-}
-
-/// What a store of a kind answers to calls.
-fn answer_store(rt: &HostRuntime, case: &mut Case, kind: &str, calls: &str) {
-    match store::split(kind) {
-        ("memory", _) => store::memory_answer(case, calls),
-        ("fails", plan) => store::failing_answer(case, plan, calls),
-        ("folder", folder) => real_folder::answer(rt, case, "store", folder, calls),
         _ => case.reject(),
     }
 }

@@ -1,15 +1,15 @@
-//! What is tried on a real folder, through two stores of it.
+//! Commands on a real folder, through two stores of it.
 
 use crate::command::run_command;
-use crate::{store, writers};
+use crate::writers;
 use pm_cases::Case;
 use pm_folder_store::{FolderStore, System};
 use pm_store::{FileStore, Made};
 
-/// What a codec answers of a folder, of which two stores are opened before any call.
-pub fn answer(rt: &HostRuntime, case: &mut Case, codec: &str, folder: &str, rest: &str) {
+/// What is answered of a folder, of which two stores are opened before any call.
+pub fn answer(rt: &HostRuntime, case: &mut Case, tried: &str, folder: &str, rest: &str) {
     match open(rt, case, folder) {
-        Some(store) => open_other(rt, case, codec, folder, rest, store),
+        Some(store) => open_other(rt, case, tried, folder, rest, store),
         None => case.say("no store"),
     }
 }
@@ -31,14 +31,14 @@ fn open(
 fn open_other(
     rt: &HostRuntime,
     case: &mut Case,
-    codec: &str,
+    tried: &str,
     folder: &str,
     rest: &str,
     store: FolderStore<System<HostRuntime>>,
 ) {
     let mut store = store;
     match open(rt, case, folder) {
-        Some(other) => answer_of(rt, case, codec, folder, rest, &mut store, other),
+        Some(other) => answer_of(case, tried, rest, &mut store, other),
         None => case.say("no store"),
     }
     drop(store);
@@ -46,17 +46,14 @@ fn open_other(
 
 /// The same with both stores.
 fn answer_of(
-    rt: &HostRuntime,
     case: &mut Case,
-    codec: &str,
-    folder: &str,
+    tried: &str,
     rest: &str,
     store: &mut FolderStore<System<HostRuntime>>,
     other: FolderStore<System<HostRuntime>>,
 ) {
     let mut other = other;
-    match codec {
-        "store" => store::folder_answer(rt, case, store, &mut other, folder, rest),
+    match tried {
         "created" => say_created(case, store, &mut other, rest),
         "scanned" => say_scanned(case, store, &mut other, rest),
         _ => writers::answer(case, store, &mut other, rest),

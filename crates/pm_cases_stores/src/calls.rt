@@ -18,7 +18,7 @@ pub fn said<F: FileStore>(alloc: Global, store: &mut F, call: &str) -> Result<St
 }
 
 /// Says what a store answers to a call.
-fn say_call<F: FileStore>(case: &mut Case, store: &mut F, call: &str) {
+pub fn say_call<F: FileStore>(case: &mut Case, store: &mut F, call: &str) {
     let (word, rest) = split(call);
     let (path, bytes) = split(rest);
     match word {

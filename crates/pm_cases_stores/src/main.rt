@@ -1,6 +1,14 @@
-//! The cases of the store on a real folder over a double of the operating system, a line in and a line out: each line
-//! of standard input names what is tried, and its arguments, with a TAB between them, and the line that is printed for
-//! it is the answer. Blank lines and lines that begin with `#` are printed as they are.
+//! The cases of streams, of stores and of the store on a folder, a line in and a line out: each line of standard input
+//! names what is tried, and its arguments, with a TAB between them, and the line that is printed for it is the answer.
+//! Blank lines and lines that begin with `#` are printed as they are, so that both texts can be read side by side.
+//!
+//! | What is tried | Arguments | Answer |
+//! |---|---|---|
+//! | `source` | see `stream.rt` | the lines of a source that fails |
+//! | `sink` | see `stream.rt` | what a sink takes, and whether that is all |
+//! | `store` | `memory`, `fails` and a plan, or `folder` and a name; calls | their answers, of a folder through two stores |
+//!
+//! The others are of the store on a folder over a double of the operating system:
 //!
 //! | What is tried | Arguments | Answer |
 //! |---|---|---|
@@ -10,48 +18,78 @@
 //! | `rival` | paths, what stands there, acts, an act | what comes of a rival's act before each call of the last act |
 //!
 //! What stands there is said in the words of `state.rt`. Acts stand with semicolons between them: the calls of the
-//! store as in `pm_cases_folder`, on the folder `t`, and those of `process.rt`. Paths that are asked for are the
-//! store's, and the double's where they begin with a slash.
+//! store, as in `calls.rt`, on the folder `t`, and those of `process.rt`. Paths that are asked for are the store's, and
+//! the double's where they begin with a slash.
 #![tactic(auto)]
 
 mod calls;
 mod double;
+mod foreign;
 mod outcomes;
 mod process;
+mod real_folder;
 mod rival;
 mod shown;
 mod state;
+mod store;
+mod stream;
 mod trial;
 
+use crate::calls::split;
 use crate::trial::{Trial, say_calls, say_fails, say_images, say_rival};
 use pm_cases::Case;
-use std::alloc::{AllocError, Global};
+use pm_folder_store::HostError;
+use std::alloc::AllocError;
 use std::io;
-use std::io::ErrorKind;
 
 /// Answers each line of standard input.
 fn main(rt: HostRuntime) -> io::Result<()> {
     for line in rt.lines(rt.alloc()) {
-        let answer = answer(rt.alloc(), line?.as_str())?;
+        let answer = answer(&rt, line?.as_str())?;
         println!(rt; "{answer}")?;
     }
     Ok(())
 }
 
 /// What is printed for a line.
-fn answer(alloc: Global, line: &str) -> Result<String, AllocError> {
-    let mut case = Case::new(alloc);
+fn answer(rt: &HostRuntime, line: &str) -> Result<String, AllocError> {
+    let mut case = Case::new(rt.alloc());
     if line.is_empty() || line.starts_with('#') {
         case.say(line);
-    } else if answer_line(&mut case, line).is_err() {
-        case.reject();
+    } else {
+        answer_line(rt, &mut case, line);
     }
     case.into_answer()
 }
 
 /// Says what comes of a line.
-fn answer_line(case: &mut Case, line: &str) -> io::Result<()> {
+fn answer_line(rt: &HostRuntime, case: &mut Case, line: &str) {
     let (tried, rest) = case.split(line);
+    match tried {
+        "source" => stream::source_answer(case, rest),
+        "sink" => stream::sink_answer(case, rest),
+        "store" => answer_store(rt, case, rest),
+        _ => {
+            if answer_double(case, tried, rest).is_err() {
+                case.reject();
+            }
+        }
+    }
+}
+
+/// Says what a store of a kind answers to calls.
+fn answer_store(rt: &HostRuntime, case: &mut Case, rest: &str) {
+    let (kind, calls) = case.split(rest);
+    match split(kind) {
+        ("memory", _) => store::memory_answer(case, calls),
+        ("fails", plan) => store::failing_answer(case, plan, calls),
+        ("folder", folder) => real_folder::answer(rt, case, folder, calls),
+        _ => case.reject(),
+    }
+}
+
+/// Says what comes of a line on a double.
+fn answer_double(case: &mut Case, tried: &str, rest: &str) -> Result<(), HostError> {
     match tried {
         "calls" => {
             let trial = trial_of(case, "", rest);
@@ -64,7 +102,7 @@ fn answer_line(case: &mut Case, line: &str) -> io::Result<()> {
         }
         "fails" => answer_fails(case, rest),
         "rival" => answer_rival(case, rest),
-        _ => Err(io::Error::other("no case")),
+        _ => Err(HostError::Other),
     }
 }
 
@@ -80,7 +118,7 @@ fn trial_of<'a>(case: &mut Case, asked: &'a str, rest: &'a str) -> Trial<'a> {
 }
 
 /// Says what comes of failures.
-fn answer_fails(case: &mut Case, rest: &str) -> io::Result<()> {
+fn answer_fails(case: &mut Case, rest: &str) -> Result<(), HostError> {
     let (kind, rest) = case.split(rest);
     let (asked, rest) = case.split(rest);
     let trial = trial_of(case, asked, rest);
@@ -88,7 +126,7 @@ fn answer_fails(case: &mut Case, rest: &str) -> io::Result<()> {
 }
 
 /// Says what comes of a rival.
-fn answer_rival(case: &mut Case, rest: &str) -> io::Result<()> {
+fn answer_rival(case: &mut Case, rest: &str) -> Result<(), HostError> {
     let (asked, rest) = case.split(rest);
     let (state, rest) = case.split(rest);
     let (acts, rival) = case.split(rest);
@@ -102,13 +140,13 @@ fn answer_rival(case: &mut Case, rest: &str) -> io::Result<()> {
 }
 
 /// The kind of error of a word.
-fn kind_of(word: &str) -> ErrorKind {
+fn kind_of(word: &str) -> HostError {
     match word {
-        "memory" => ErrorKind::OutOfMemory,
-        "absent" => ErrorKind::NotFound,
-        "denied" => ErrorKind::PermissionDenied,
-        "invalid" => ErrorKind::InvalidInput,
-        "readonly" => ErrorKind::ReadOnlyFilesystem,
-        _ => ErrorKind::Other,
+        "memory" => HostError::OutOfMemory,
+        "absent" => HostError::NotFound,
+        "denied" => HostError::PermissionDenied,
+        "invalid" => HostError::InvalidInput,
+        "readonly" => HostError::ReadOnlyFilesystem,
+        _ => HostError::Other,
     }
 }

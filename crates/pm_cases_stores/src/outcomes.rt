@@ -1,8 +1,8 @@
 //! Distinct outcomes in the order in which they came.
 
 use pm_cases::{Case, say_between};
+use pm_folder_store::HostError;
 use std::alloc::Global;
-use std::io;
 
 /// An outcome, how often it came, and after which calls of the host.
 struct Outcome {
@@ -39,7 +39,7 @@ impl Outcomes {
     }
 
     /// Adds an outcome.
-    pub fn add(&mut self, text: &str) -> io::Result<()> {
+    pub fn add(&mut self, text: &str) -> Result<(), HostError> {
         let at = self
             .items
             .iter()
@@ -60,7 +60,7 @@ impl Outcomes {
     }
 
     /// Adds an outcome that came after a call of the host.
-    pub fn add_after(&mut self, text: &str, call: &str) -> io::Result<()> {
+    pub fn add_after(&mut self, text: &str, call: &str) -> Result<(), HostError> {
         self.add(text)?;
         for item in self.items.iter_mut() {
             if item.text.as_str() == text {
@@ -95,7 +95,7 @@ impl Outcomes {
 }
 
 /// Adds a text unless it is there.
-fn add_distinct(alloc: Global, texts: &mut Vec<String>, text: &str) -> io::Result<()> {
+fn add_distinct(alloc: Global, texts: &mut Vec<String>, text: &str) -> Result<(), HostError> {
     if !texts.iter().any(|other| other.as_str() == text) {
         texts.push(String::from_str(alloc, text)?)?;
     }

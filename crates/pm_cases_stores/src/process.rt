@@ -3,21 +3,20 @@
 use crate::calls::{said, split};
 use crate::double::seat::Seat;
 use crate::double::steps::Plan;
-use crate::double::world::World;
+use crate::double::world::{World, held, lent};
 use crate::state::put_word;
-use pm_folder_store::{FolderStore, Host};
+use pm_folder_store::{FolderStore, Host, HostError};
 use std::alloc::Global;
 use std::cell::RefCell;
-use std::io;
 
 /// The table's folder.
 const TABLE: &str = "t";
 
 /// The store of a process.
-pub fn open_store<H: Host + Drop>(alloc: Global, host: H) -> io::Result<FolderStore<H>> {
+pub fn open_store<H: Host + Drop>(alloc: Global, host: H) -> Result<FolderStore<H>, HostError> {
     match FolderStore::open(alloc, host, TABLE) {
         Ok(store) => Ok(store),
-        Err(_) => Err(io::Error::other("no store")),
+        Err(_) => Err(HostError::Other),
     }
 }
 
@@ -27,12 +26,12 @@ pub fn said_of<H: Host + Drop>(
     world: &RefCell<World>,
     store: &mut FolderStore<H>,
     act: &str,
-) -> io::Result<String> {
-    let alloc = world.try_borrow()?.alloc;
+) -> Result<String, HostError> {
+    let alloc = lent(world)?.alloc;
     let (word, _rest) = split(act);
     match word {
         "wait" => {
-            world.try_borrow_mut()?.wait();
+            held(world)?.wait();
             Ok(String::from_str(alloc, "later")?)
         }
         "other" | "foreign" => said_beside(world, act),
@@ -47,21 +46,21 @@ pub fn is_own_call(act: &str) -> bool {
 
 /// What others do beside a process: `foreign WORD`, which puts what a word of a state says past any store, or
 /// `other CALL`, a call of another process's store. Answers what that one was answered.
-pub fn said_beside(world: &RefCell<World>, act: &str) -> io::Result<String> {
+pub fn said_beside(world: &RefCell<World>, act: &str) -> Result<String, HostError> {
     let (word, rest) = split(act);
-    let alloc = world.try_borrow()?.alloc;
+    let alloc = lent(world)?.alloc;
     if word == "foreign" {
-        put_word(&mut *world.try_borrow_mut()?, rest)?;
+        put_word(&mut *held(world)?, rest)?;
         return Ok(String::from_str(alloc, "made")?);
     }
-    world.try_borrow_mut()?.is_aside = true;
+    held(world)?.is_aside = true;
     let answer = said_by_another(alloc, world, rest);
-    world.try_borrow_mut()?.end_aside();
+    held(world)?.end_aside();
     answer
 }
 
 /// What another process's store answers to a call.
-fn said_by_another(alloc: Global, world: &RefCell<World>, call: &str) -> io::Result<String> {
+fn said_by_another(alloc: Global, world: &RefCell<World>, call: &str) -> Result<String, HostError> {
     let mut store = open_store(alloc, Seat { world })?;
     let answer = said(alloc, &mut store, call);
     drop(store);
@@ -69,7 +68,7 @@ fn said_by_another(alloc: Global, world: &RefCell<World>, call: &str) -> io::Res
 }
 
 /// Begins to count a process's calls of its host anew, of which these fail.
-pub fn start(world: &RefCell<World>, plan: Plan) -> io::Result<()> {
-    world.try_borrow_mut()?.start(plan);
+pub fn start(world: &RefCell<World>, plan: Plan) -> Result<(), HostError> {
+    held(world)?.start(plan);
     Ok(())
 }

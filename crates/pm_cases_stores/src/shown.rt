@@ -2,22 +2,21 @@
 
 use crate::calls::say_content;
 use crate::double::seat::Seat;
-use crate::double::world::World;
+use crate::double::world::{World, held, lent};
 use crate::outcomes::Outcomes;
 use crate::process::open_store;
 use crate::trial::Trial;
 use pm_cases::{Case, say_between};
-use pm_folder_store::FolderStore;
+use pm_folder_store::{FolderStore, HostError};
 use pm_store::FileStore;
 use std::alloc::Global;
 use std::cell::RefCell;
-use std::io;
 
 /// More images than any case has.
 const MOST_IMAGES: u64 = 4096;
 
 /// What the paths show that a trial asks for: in the folder as it is, and then whatever else in its images.
-pub fn shows(trial: &Trial, world: &RefCell<World>) -> io::Result<String> {
+pub fn shows(trial: &Trial, world: &RefCell<World>) -> Result<String, HostError> {
     let mut outcomes = Outcomes::new(trial.alloc);
     add_shows(&mut outcomes, trial, world)?;
     let mut case = Case::new(trial.alloc);
@@ -31,13 +30,13 @@ pub fn add_shows(
     outcomes: &mut Outcomes,
     trial: &Trial,
     world: &RefCell<World>,
-) -> io::Result<u64> {
-    let count = world.try_borrow()?.images();
+) -> Result<u64, HostError> {
+    let count = lent(world)?.images();
     if count > MOST_IMAGES {
-        return Err(io::Error::other("too many images"));
+        return Err(HostError::Other);
     }
     for number in 0..count {
-        let image = world.try_borrow()?.image(number)?;
+        let image = lent(world)?.image(number)?;
         let text = shown(trial, RefCell::new(image))?;
         outcomes.add(text.as_str())?;
     }
@@ -45,11 +44,11 @@ pub fn add_shows(
 }
 
 /// What the paths show in an image, and whether anything else that stood there isn't as it was.
-fn shown(trial: &Trial, world: RefCell<World>) -> io::Result<String> {
-    world.try_borrow_mut()?.is_aside = true;
+fn shown(trial: &Trial, world: RefCell<World>) -> Result<String, HostError> {
+    held(&world)?.is_aside = true;
     let mut case = Case::new(trial.alloc);
     say_asked(&mut case, trial, &world)?;
-    if is_harmed(trial, &*world.try_borrow()?)? {
+    if is_harmed(trial, &*lent(&world)?)? {
         case.say(" harmed");
     }
     drop(world);
@@ -57,13 +56,13 @@ fn shown(trial: &Trial, world: RefCell<World>) -> io::Result<String> {
 }
 
 /// Says what the paths show.
-fn say_asked(case: &mut Case, trial: &Trial, world: &RefCell<World>) -> io::Result<()> {
+fn say_asked(case: &mut Case, trial: &Trial, world: &RefCell<World>) -> Result<(), HostError> {
     let mut store = open_store(trial.alloc, Seat { world })?;
     let mut is_later = false;
     for path in trial.asked.split(' ') {
         say_between(case, is_later, " ");
         match path.strip_prefix('/') {
-            Some(place) => say_place(case, &*world.try_borrow()?, place),
+            Some(place) => say_place(case, &*lent(world)?, place),
             None => say_path(case, &mut store, path),
         }
         is_later = true;
@@ -113,7 +112,7 @@ fn is_listed(alloc: Global, store: &mut FolderStore<Seat<'_>>, path: &str) -> Op
 
 /// Whether a file that stood there before isn't as it was: one that isn't asked for, isn't about to be written, and
 /// that no power loss may undo.
-fn is_harmed(trial: &Trial, world: &World) -> io::Result<bool> {
+fn is_harmed(trial: &Trial, world: &World) -> Result<bool, HostError> {
     for word in trial.state.split(' ') {
         if let Some((path, text)) = word.rsplit_once('=') {
             if is_other(trial, path) && world.content(path) != Some(written(text)) {

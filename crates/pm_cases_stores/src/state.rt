@@ -11,11 +11,11 @@
 
 use crate::double::parts::{Bytes, Lock, Owner, Thing};
 use crate::double::world::{TOP, World, there};
+use pm_folder_store::HostError;
 use std::alloc::Global;
-use std::io;
 
 /// A world in which all of these words say what stands there.
-pub fn world_of(alloc: Global, words: &str) -> io::Result<World> {
+pub fn world_of(alloc: Global, words: &str) -> Result<World, HostError> {
     let mut world = World::new(alloc)?;
     put_words(&mut world, words, false)?;
     world.settle_all();
@@ -25,7 +25,7 @@ pub fn world_of(alloc: Global, words: &str) -> io::Result<World> {
 }
 
 /// Puts the words that a power loss may undo, or the others.
-fn put_words(world: &mut World, words: &str, is_pending: bool) -> io::Result<()> {
+fn put_words(world: &mut World, words: &str, is_pending: bool) -> Result<(), HostError> {
     for word in words.split(' ') {
         let named = word.strip_prefix('?');
         if named.is_some() == is_pending {
@@ -36,7 +36,7 @@ fn put_words(world: &mut World, words: &str, is_pending: bool) -> io::Result<()>
 }
 
 /// Puts what a word says, past any store.
-pub fn put_word(world: &mut World, word: &str) -> io::Result<()> {
+pub fn put_word(world: &mut World, word: &str) -> Result<(), HostError> {
     if word == "-" {
         return Ok(());
     }
@@ -56,7 +56,7 @@ pub fn put_word(world: &mut World, word: &str) -> io::Result<()> {
 }
 
 /// Puts a file, which somebody has locked if an exclamation mark follows its bytes.
-fn put_file(world: &mut World, path: &str, text: &str) -> io::Result<()> {
+fn put_file(world: &mut World, path: &str, text: &str) -> Result<(), HostError> {
     let locked = text.strip_suffix('!');
     let bytes = Bytes::synced(world.alloc, locked.unwrap_or(text).as_bytes())?;
     let file = put(world, path, Thing::File(bytes))?;
@@ -67,14 +67,14 @@ fn put_file(world: &mut World, path: &str, text: &str) -> io::Result<()> {
 }
 
 /// Takes away what stands at a path.
-fn take_away(world: &mut World, path: &str) -> io::Result<()> {
+fn take_away(world: &mut World, path: &str) -> Result<(), HostError> {
     let spot = world.spot(path)?;
     let _thing = there(spot)?;
     world.lead(spot.folder, spot.name, None)
 }
 
 /// Puts a thing at a path, in place of what stands there.
-fn put(world: &mut World, path: &str, thing: Thing) -> io::Result<usize> {
+fn put(world: &mut World, path: &str, thing: Thing) -> Result<usize, HostError> {
     let (around, name) = path.rsplit_once('/').unwrap_or(("", path));
     let folder = folders(world, around)?;
     let number = world.add(thing, folder)?;
@@ -83,7 +83,7 @@ fn put(world: &mut World, path: &str, thing: Thing) -> io::Result<usize> {
 }
 
 /// The folder at a path. It is made, and those on its way.
-fn folders(world: &mut World, path: &str) -> io::Result<usize> {
+fn folders(world: &mut World, path: &str) -> Result<usize, HostError> {
     let mut folder = TOP;
     for name in path.split('/') {
         if !name.is_empty() {
@@ -94,7 +94,7 @@ fn folders(world: &mut World, path: &str) -> io::Result<usize> {
 }
 
 /// The folder of a name in a folder. It is made where nothing has that name.
-fn folder_in(world: &mut World, folder: usize, name: &str) -> io::Result<usize> {
+fn folder_in(world: &mut World, folder: usize, name: &str) -> Result<usize, HostError> {
     if let Some(found) = world.led(folder, name)? {
         return world.end_of(found);
     }

@@ -3,17 +3,16 @@
 
 use crate::double::seat::Seat;
 use crate::double::steps::{Plan, Step};
-use crate::double::world::World;
+use crate::double::world::{World, held, lent};
 use crate::outcomes::Outcomes;
 use crate::process::{is_own_call, open_store, said_of, start};
 use crate::rival::Watched;
 use crate::shown::{add_shows, shows};
 use crate::state::world_of;
 use pm_cases::{Case, say_between};
+use pm_folder_store::HostError;
 use std::alloc::Global;
 use std::cell::RefCell;
-use std::io;
-use std::io::ErrorKind;
 
 /// The paths that are asked for, what stands there before, and the acts, with semicolons between them.
 #[derive(Clone, Copy)]
@@ -31,7 +30,7 @@ impl Trial<'_> {
     }
 
     /// The world before the first act.
-    fn world(&self) -> io::Result<RefCell<World>> {
+    fn world(&self) -> Result<RefCell<World>, HostError> {
         Ok(RefCell::new(world_of(self.alloc, self.state)?))
     }
 }
@@ -49,15 +48,15 @@ impl Drop for Played {
 }
 
 /// Plays so many acts of a process, and ends it. In the last of them calls of the host fail as planned.
-fn play(trial: &Trial, count: usize, plan: Plan) -> io::Result<Played> {
+fn play(trial: &Trial, count: usize, plan: Plan) -> Result<Played, HostError> {
     let world = trial.world()?;
     let answer = acted(trial, &world, count, plan)?;
-    world.try_borrow_mut()?.end_watched();
+    held(&world)?.end_watched();
     Ok(Played { world, answer })
 }
 
 /// Has a process act so often, and answers what it was answered at last.
-fn acted(trial: &Trial, world: &RefCell<World>, count: usize, plan: Plan) -> io::Result<String> {
+fn acted(trial: &Trial, world: &RefCell<World>, count: usize, plan: Plan) -> Result<String, HostError> {
     let mut store = open_store(trial.alloc, Seat { world })?;
     let mut answer = String::new(trial.alloc);
     let mut left = count;
@@ -71,12 +70,12 @@ fn acted(trial: &Trial, world: &RefCell<World>, count: usize, plan: Plan) -> io:
 }
 
 /// Says the answer of each act, with the changes, the syncs and the locks that it asked the host for, in their order.
-pub fn say_calls(case: &mut Case, trial: &Trial) -> io::Result<()> {
+pub fn say_calls(case: &mut Case, trial: &Trial) -> Result<(), HostError> {
     for count in 1..trial.count().saturating_add(1) {
         say_between(case, count > 1, "; ");
         let played = play(trial, count, Plan::healthy())?;
         case.say(played.answer.as_str());
-        say_steps(case, &played.world.try_borrow()?.steps);
+        say_steps(case, &lent(&played.world)?.steps);
         drop(played);
     }
     Ok(())
@@ -96,7 +95,7 @@ fn say_steps(case: &mut Case, steps: &[Step]) {
 
 /// Says the answer of each act, then in how many ways a power loss may leave the folder before it and after each of its
 /// changes, what these images show until it answers, and what they show from then on.
-pub fn say_images(case: &mut Case, trial: &Trial) -> io::Result<()> {
+pub fn say_images(case: &mut Case, trial: &Trial) -> Result<(), HostError> {
     let mut is_later = false;
     let mut count = 0usize;
     for act in trial.acts.split(';') {
@@ -109,12 +108,12 @@ pub fn say_images(case: &mut Case, trial: &Trial) -> io::Result<()> {
 }
 
 /// The same of the last of so many acts.
-fn say_images_of(case: &mut Case, trial: &Trial, count: usize, is_call: bool) -> io::Result<()> {
+fn say_images_of(case: &mut Case, trial: &Trial, count: usize, is_call: bool) -> Result<(), HostError> {
     let whole = play(trial, count, Plan::healthy())?;
     case.say(whole.answer.as_str());
     if is_call {
         case.say(":");
-        let ends = stops(trial.alloc, &whole.world.try_borrow()?.steps)?;
+        let ends = stops(trial.alloc, &lent(&whole.world)?.steps)?;
         let mut during = Outcomes::new(trial.alloc);
         for end in &ends {
             let stopped = play(trial, count, Plan::stop(*end))?;
@@ -133,7 +132,7 @@ fn say_images_of(case: &mut Case, trial: &Trial, count: usize, is_call: bool) ->
 }
 
 /// After how many calls of the host to stop: before the first one, and after each that changed something.
-fn stops(alloc: Global, steps: &[Step]) -> io::Result<Vec<u64>> {
+fn stops(alloc: Global, steps: &[Step]) -> Result<Vec<u64>, HostError> {
     let mut stops = Vec::new(alloc);
     stops.push(0)?;
     for step in steps {
@@ -146,14 +145,14 @@ fn stops(alloc: Global, steps: &[Step]) -> io::Result<Vec<u64>> {
 
 /// Says what comes of the last act where one of its calls of the host fails, each in turn: once, and with all that
 /// follow.
-pub fn say_fails(case: &mut Case, trial: &Trial, kind: ErrorKind) -> io::Result<()> {
+pub fn say_fails(case: &mut Case, trial: &Trial, error: HostError) -> Result<(), HostError> {
     let whole = play(trial, trial.count(), Plan::healthy())?;
-    let calls = whole.world.try_borrow()?.calls;
+    let calls = lent(&whole.world)?.calls;
     drop(whole);
     case.say("once ");
-    say_fails_by(case, trial, calls, kind, false)?;
+    say_fails_by(case, trial, calls, error, false)?;
     case.say(" | on ");
-    say_fails_by(case, trial, calls, kind, true)
+    say_fails_by(case, trial, calls, error, true)
 }
 
 /// The same, once or on.
@@ -161,15 +160,15 @@ fn say_fails_by(
     case: &mut Case,
     trial: &Trial,
     calls: u64,
-    kind: ErrorKind,
+    error: HostError,
     is_lasting: bool,
-) -> io::Result<()> {
+) -> Result<(), HostError> {
     let mut outcomes = Outcomes::new(trial.alloc);
     for call in 1..calls.saturating_add(1) {
         let plan = if is_lasting {
-            Plan::from(call, kind)
+            Plan::from(call, error)
         } else {
-            Plan::once(call, kind)
+            Plan::once(call, error)
         };
         add_failed(&mut outcomes, trial, plan)?;
     }
@@ -179,12 +178,12 @@ fn say_fails_by(
 }
 
 /// Adds what comes of the last act where calls of the host fail, and of the same act once more when none fails.
-fn add_failed(outcomes: &mut Outcomes, trial: &Trial, plan: Plan) -> io::Result<()> {
+fn add_failed(outcomes: &mut Outcomes, trial: &Trial, plan: Plan) -> Result<(), HostError> {
     let world = trial.world()?;
     let mut case = Case::new(trial.alloc);
     say_failed(&mut case, trial, &world, plan)?;
     let text = case.into_answer()?;
-    let call = first_failed(trial.alloc, &*world.try_borrow()?)?;
+    let call = first_failed(trial.alloc, &*lent(&world)?)?;
     outcomes.add_after(text.as_str(), call.as_str())
 }
 
@@ -195,7 +194,7 @@ fn say_failed(
     trial: &Trial,
     world: &RefCell<World>,
     plan: Plan,
-) -> io::Result<()> {
+) -> Result<(), HostError> {
     let mut store = open_store(trial.alloc, Seat { world })?;
     let mut left = trial.count();
     for act in trial.acts.split(';') {
@@ -205,7 +204,7 @@ fn say_failed(
         if left == 0 {
             case.say(answer.as_str());
             say_left(case, trial, world)?;
-            world.try_borrow_mut()?.plan = Plan::healthy();
+            held(world)?.plan = Plan::healthy();
             case.say(" then ");
             case.say(said_of(world, &mut store, act)?.as_str());
             say_left(case, trial, world)?;
@@ -216,17 +215,17 @@ fn say_failed(
 }
 
 /// Says what the folder shows, and whether the process has left anything open.
-fn say_left(case: &mut Case, trial: &Trial, world: &RefCell<World>) -> io::Result<()> {
+fn say_left(case: &mut Case, trial: &Trial, world: &RefCell<World>) -> Result<(), HostError> {
     case.say(" ");
     case.say(shows(trial, world)?.as_str());
-    if world.try_borrow()?.is_open() {
+    if lent(world)?.is_open() {
         case.say(" open");
     }
     Ok(())
 }
 
 /// The first call of the host that failed.
-fn first_failed(alloc: Global, world: &World) -> io::Result<String> {
+fn first_failed(alloc: Global, world: &World) -> Result<String, HostError> {
     for step in &world.steps {
         if step.is_failed() {
             return Ok(step.text(alloc)?);
@@ -237,9 +236,9 @@ fn first_failed(alloc: Global, world: &World) -> io::Result<String> {
 
 /// Says what comes of the last act where a rival acts before one of its calls of the host, each in turn: the answers of
 /// both, and what the folder shows then.
-pub fn say_rival(case: &mut Case, trial: &Trial, rival: &str) -> io::Result<()> {
+pub fn say_rival(case: &mut Case, trial: &Trial, rival: &str) -> Result<(), HostError> {
     let whole = play(trial, trial.count(), Plan::healthy())?;
-    let calls = whole.world.try_borrow()?.calls;
+    let calls = lent(&whole.world)?.calls;
     drop(whole);
     let mut outcomes = Outcomes::new(trial.alloc);
     for call in 1..calls.saturating_add(1) {
@@ -252,11 +251,11 @@ pub fn say_rival(case: &mut Case, trial: &Trial, rival: &str) -> io::Result<()> 
 }
 
 /// What comes of the last act where a rival acts before a call of the host.
-fn met(trial: &Trial, rival: &str, call: u64) -> io::Result<String> {
+fn met(trial: &Trial, rival: &str, call: u64) -> Result<String, HostError> {
     let world = trial.world()?;
     let mut case = Case::new(trial.alloc);
     say_met(&mut case, trial, &world, rival, call)?;
-    world.try_borrow_mut()?.end_watched();
+    held(&world)?.end_watched();
     case.say(" ");
     case.say(shows(trial, &world)?.as_str());
     drop(world);
@@ -270,19 +269,19 @@ fn say_met(
     world: &RefCell<World>,
     rival: &str,
     call: u64,
-) -> io::Result<()> {
+) -> Result<(), HostError> {
     let seat = Seat { world };
     let mut store = open_store(trial.alloc, Watched { seat, rival })?;
     let mut left = trial.count();
     for act in trial.acts.split(';') {
         left = left.saturating_sub(1);
         start(world, Plan::healthy())?;
-        world.try_borrow_mut()?.meets_at = if left == 0 { call } else { 0 };
+        held(world)?.meets_at = if left == 0 { call } else { 0 };
         let answer = said_of(world, &mut store, act)?;
         if left == 0 {
             case.say(answer.as_str());
             case.say(" / ");
-            case.say(world.try_borrow()?.met.as_str());
+            case.say(lent(world)?.met.as_str());
         }
     }
     drop(store);

@@ -5,13 +5,13 @@
 //!
 //! What is on the disk, and when:
 //!
-//! - A file's bytes are there before its name is.
+//! - A file's bytes are there before its name is, but for what is owed.
 //! - A folder has its name there before anything is put into it, and the table's own folder before anything is put into
 //!   the first folder on a path's way. So a folder that isn't empty has its name there.
 //! - Files of `manifest` and of a bucket are reached only by their names in files of other folders. A change there only
-//!   *owes* its folder, and each change elsewhere first has the folders that are owed on the disk, before it names a
-//!   file of theirs. A power loss may so take away what nothing names yet, or bring back what was taken away: as if the
-//!   call hadn't come.
+//!   *owes* its file and that one's folder, and each change elsewhere first has all of these on the disk, before it names
+//!   a file of theirs. A power loss may so take away what nothing names yet, leave any part of its bytes, or bring back
+//!   what was taken away: as if the call hadn't come, or had been cut short.
 //! - A change elsewhere is on the disk before it is answered.
 //! - A look into a folder whose files are named elsewhere syncs nothing: what names a file came to the disk after it. A
 //!   look elsewhere is on the disk before it is answered: the folder is synced where it changed since this process last
@@ -27,7 +27,7 @@ ghost use Rattle.std.specs.List.Sorted.{IsStrictlySortedBy};
 ghost use Rattle.std.specs.Ordering.{nat_cmp};
 ghost use Rattle.pm_folder_store.specs.Disk.{Judges, IsReplaced};
 
-use crate::host::{Host, Kind};
+use crate::host::{Host, HostError, Kind};
 use crate::listing::shown_names;
 use crate::lock::locked;
 use crate::look::{is_absent, kind_at, make_folder, read_at};
@@ -42,7 +42,6 @@ use pm_base::{Blob, Txt};
 use pm_store::{StoreFail, is_expected, listed};
 use std::alloc::{AllocError, Global};
 use std::collections::BTreeSet;
-use std::io::ErrorKind;
 
 /// When a file is written.
 #[derive(Clone, Copy)]
@@ -185,7 +184,9 @@ impl<H: Host + Drop> Disk<H> {
             self.settle_look(alloc, path, false)?;
             return Ok(false);
         }
-        self.settle_owed(alloc, path)?;
+        if !is_named_elsewhere(store_folder_of(path)) {
+            self.settle_owed(alloc)?;
+        }
         let lock = self.locked(alloc, true)?;
         let answer = self.remove_locked(alloc, path, full.as_str());
         self.host.close(lock);
@@ -198,7 +199,7 @@ impl<H: Host + Drop> Disk<H> {
             self.settle_look(alloc, path, false)?;
             return Ok(false);
         }
-        let is_owed = self.owe(alloc, path, full)?;
+        let is_owed = self.owe_folder(alloc, path, full)?;
         self.host.remove_file(full)?;
         let mut folder = folder_of(full);
         for _ in 0..path.len() {
@@ -223,7 +224,7 @@ impl<H: Host + Drop> Disk<H> {
         match self.host.look_through(self.root.as_str()) {
             Ok(found) if matches!(found.kind, Kind::Folder) => Ok(true),
             Ok(_) => Err(StoreFail::Failed),
-            Err(e) if e.kind() == ErrorKind::NotFound => Ok(false),
+            Err(HostError::NotFound) => Ok(false),
             Err(e) => Err(StoreFail::from(e)),
         }
     }
@@ -367,8 +368,10 @@ impl<H: Host + Drop> Disk<H> {
             self.copy_mode(full, &begun.file)?;
         }
         self.host.write(&mut begun.file, bytes)?;
-        self.host.sync(&begun.file)?;
-        self.settle_owed(alloc, path)?;
+        if !is_named_elsewhere(store_folder_of(path)) {
+            self.host.sync(&begun.file)?;
+            self.settle_owed(alloc)?;
+        }
         let lock = self.locked(alloc, true)?;
         let answer = self.put_locked(alloc, path, full, condition, begun);
         self.host.close(lock);
@@ -406,7 +409,7 @@ impl<H: Host + Drop> Disk<H> {
     /// Gives a file the mode of the one that it is to replace.
     fn copy_mode(&mut self, full: &str, file: &H::File) -> Result<(), StoreFail> {
         match self.host.copy_mode(full, file) {
-            Err(e) if !is_absent(&e) => Err(StoreFail::from(e)),
+            Err(e) if !is_absent(e) => Err(StoreFail::from(e)),
             _ => Ok(()),
         }
     }
@@ -454,21 +457,27 @@ impl<H: Host + Drop> Disk<H> {
         self.settle_look(alloc, after, false)
     }
 
-    /// Owes the folder of a path where its files are named elsewhere, and answers whether they are.
+    /// Owes a file and its folder where the files of that are named elsewhere, and answers whether they are.
     fn owe(&mut self, alloc: Global, path: &str, full: &str) -> Result<bool, AllocError> {
+        let is_owed = self.owe_folder(alloc, path, full)?;
+        if is_owed {
+            self.owed.add_file(alloc, full)?;
+        }
+        Ok(is_owed)
+    }
+
+    /// Owes the folder of a path where its files are named elsewhere, and answers whether they are.
+    fn owe_folder(&mut self, alloc: Global, path: &str, full: &str) -> Result<bool, AllocError> {
         if !is_named_elsewhere(store_folder_of(path)) {
             return Ok(false);
         }
-        self.owed.add(alloc, folder_of(full))?;
+        self.owed.add_folder(alloc, folder_of(full))?;
         Ok(true)
     }
 
-    /// Has the folders that are owed on the disk, before a change that may name a file of theirs: one in a folder whose
-    /// own files aren't named elsewhere.
-    fn settle_owed(&mut self, alloc: Global, path: &str) -> Result<(), StoreFail> {
-        if is_named_elsewhere(store_folder_of(path)) {
-            return Ok(());
-        }
+    /// Has what is owed on the disk, before a change that may name a file of it: one in a folder whose own files aren't
+    /// named elsewhere.
+    fn settle_owed(&mut self, alloc: Global) -> Result<(), StoreFail> {
         let root = self.root.as_str();
         self.owed
             .settle(alloc, &mut self.synced, &mut self.host, root)
@@ -482,7 +491,7 @@ impl<H: Host + Drop> Disk<H> {
                 self.is_root_synced = false;
                 Ok(())
             }
-            Err(e) if e.kind() == ErrorKind::AlreadyExists => Ok(()),
+            Err(HostError::AlreadyExists) => Ok(()),
             Err(e) => Err(StoreFail::from(e)),
         }
     }
@@ -500,7 +509,7 @@ impl<H: Host + Drop> Disk<H> {
             .sync_names(alloc, &mut self.host, around.as_str())
         {
             Ok(()) => {}
-            Err(e) if !self.is_root_new && e.kind() == ErrorKind::PermissionDenied => {}
+            Err(HostError::PermissionDenied) if !self.is_root_new => {}
             Err(e) => return Err(StoreFail::from(e)),
         }
         self.is_root_new = false;
@@ -613,7 +622,7 @@ fn judge_root<H: Host>(alloc: Global, host: &mut H, root: &str) -> Result<(), St
             Ok(())
         }
         Ok(_) => Err(StoreFail::Failed),
-        Err(e) if e.kind() == ErrorKind::NotFound => can_be_made(host, root),
+        Err(HostError::NotFound) => can_be_made(host, root),
         Err(e) => Err(StoreFail::from(e)),
     }
 }

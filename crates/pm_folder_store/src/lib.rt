@@ -21,5 +21,5 @@ mod system;
 mod temporary;
 
 pub use folder::FolderStore;
-pub use host::{Found, Host, Kind};
+pub use host::{Found, Host, HostError, Kind};
 pub use system::System;

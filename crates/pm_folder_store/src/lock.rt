@@ -1,11 +1,10 @@
 //! The lock of the table: a file that is locked as long as it is open. Who asks for it holds another lock meanwhile, so
 //! that readers who come and go don't keep a writer waiting.
 
-use crate::host::{Host, Kind};
+use crate::host::{Host, HostError, Kind};
 use crate::look::{kind_at, open_file};
 use pm_store::StoreFail;
-use std::io::ErrorKind;
-use std::{hint, io};
+use std::hint;
 
 /// How often the lock is asked for.
 const LOCK_TRIES: u32 = 100_000;
@@ -44,7 +43,7 @@ pub(crate) fn locked<H: Host>(
 pub(crate) fn kept<H: Host>(
     host: &mut H,
     file: H::File,
-    given: io::Result<bool>,
+    given: Result<bool, HostError>,
 ) -> Result<H::File, StoreFail> {
     match given {
         Ok(true) => Ok(file),
@@ -60,7 +59,7 @@ pub(crate) fn kept<H: Host>(
 }
 
 /// Asks for the lock of a file or a folder that is open so often, and answers whether it was given.
-fn tried<H: Host>(host: &mut H, file: &H::File, is_alone: bool) -> io::Result<bool> {
+fn tried<H: Host>(host: &mut H, file: &H::File, is_alone: bool) -> Result<bool, HostError> {
     for _ in 0..LOCK_TRIES {
         if host.try_lock(file, is_alone)? {
             return Ok(true);
@@ -97,7 +96,7 @@ fn lock_file<H: Host>(host: &mut H, path: &str) -> Result<H::File, StoreFail> {
         }
         match host.make(path) {
             Ok(file) => return Ok(file),
-            Err(e) if e.kind() == ErrorKind::AlreadyExists => {}
+            Err(HostError::AlreadyExists) => {}
             Err(e) => return Err(StoreFail::from(e)),
         }
     }

@@ -1,11 +1,9 @@
 //! What stands at a path in the file system. Nothing is followed: a link is neither a file nor a folder.
 
-use crate::host::{Found, Host, Kind};
+use crate::host::{Found, Host, HostError, Kind};
 use pm_base::Blob;
 use pm_store::StoreFail;
 use std::alloc::Global;
-use std::io;
-use std::io::ErrorKind;
 
 /// How often a file is looked at anew that others replace meanwhile.
 const LOOKS: u32 = 1000;
@@ -14,16 +12,16 @@ const LOOKS: u32 = 1000;
 pub(crate) fn kind_at<H: Host>(host: &mut H, path: &str) -> Result<Option<Kind>, StoreFail> {
     match host.look(path) {
         Ok(found) => Ok(Some(found.kind)),
-        Err(e) if is_absent(&e) => Ok(None),
+        Err(e) if is_absent(e) => Ok(None),
         Err(e) => Err(StoreFail::from(e)),
     }
 }
 
 /// Whether an error says that there is no such file, or that the file system has no such name.
-pub(crate) fn is_absent(error: &io::Error) -> bool {
+pub(crate) fn is_absent(error: HostError) -> bool {
     matches!(
-        error.kind(),
-        ErrorKind::NotFound | ErrorKind::NotADirectory | ErrorKind::InvalidFilename
+        error,
+        HostError::NotFound | HostError::NotADirectory | HostError::InvalidFilename
     )
 }
 
@@ -51,7 +49,7 @@ pub(crate) fn open_file<H: Host>(host: &mut H, path: &str) -> Result<Option<H::F
     for _ in 0..LOOKS {
         let looked = match host.look(path) {
             Ok(looked) => looked,
-            Err(e) if is_absent(&e) => return Ok(None),
+            Err(e) if is_absent(e) => return Ok(None),
             Err(e) => return Err(StoreFail::from(e)),
         };
         match looked.kind {
@@ -67,10 +65,10 @@ pub(crate) fn open_file<H: Host>(host: &mut H, path: &str) -> Result<Option<H::F
 }
 
 /// A file, opened for reading, where it is the one that was looked at.
-fn open_looked<H: Host>(host: &mut H, path: &str, looked: Found) -> io::Result<Option<H::File>> {
+fn open_looked<H: Host>(host: &mut H, path: &str, looked: Found) -> Result<Option<H::File>, HostError> {
     let file = match host.open(path) {
         Ok(file) => file,
-        Err(e) if is_absent(&e) => return Ok(None),
+        Err(e) if is_absent(e) => return Ok(None),
         Err(e) => return Err(e),
     };
     match host.look_at(&file) {
@@ -95,7 +93,7 @@ fn is_same(one: Found, other: Found) -> bool {
 pub(crate) fn make_folder<H: Host>(host: &mut H, folder: &str) -> Result<bool, StoreFail> {
     match host.create_dir(folder) {
         Ok(()) => Ok(true),
-        Err(e) if e.kind() == ErrorKind::AlreadyExists => match kind_at(host, folder)? {
+        Err(HostError::AlreadyExists) => match kind_at(host, folder)? {
             Some(Kind::Folder) => Ok(false),
             _ => Err(StoreFail::Failed),
         },

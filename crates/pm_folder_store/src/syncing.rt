@@ -2,14 +2,12 @@
 
 ghost use Rattle.std.specs.Prelude.{◌≡◌, IfErr};
 
-use crate::host::Host;
+use crate::host::{Host, HostError};
 use crate::look::is_absent;
 use crate::paths::folder_of;
 use pm_store::StoreFail;
 use std::alloc::Global;
 use std::collections::BTreeMap;
-use std::io;
-use std::io::ErrorKind;
 use std::time::Duration;
 
 /// How old a folder's last change has to be, in milliseconds, before its time tells it from a later one.
@@ -56,7 +54,7 @@ impl Synced {
         alloc: Global,
         host: &mut H,
         folder: &str,
-    ) -> io::Result<()> {
+    ) -> Result<(), HostError> {
         let now = host.since_1970();
         let changed = host.look_through(folder)?.changed;
         sync_folder(host, folder)?;
@@ -79,10 +77,10 @@ impl Synced {
         for _ in 0..folder.len() {
             match self.settle_names(alloc, host, nearest) {
                 Ok(()) => return Ok(()),
-                Err(e) if is_absent(&e) && nearest.len() > root.len() => {
+                Err(e) if is_absent(e) && nearest.len() > root.len() => {
                     nearest = folder_of(nearest);
                 }
-                Err(e) if is_absent(&e) => return Ok(()),
+                Err(e) if is_absent(e) => return Ok(()),
                 Err(e) => return Err(StoreFail::from(e)),
             }
         }
@@ -95,7 +93,7 @@ impl Synced {
         alloc: Global,
         host: &mut H,
         folder: &str,
-    ) -> io::Result<()> {
+    ) -> Result<(), HostError> {
         let changed = host.look_through(folder)?.changed;
         if self.times.get(folder) == Some(&changed) {
             return Ok(());
@@ -105,21 +103,21 @@ impl Synced {
 }
 
 /// Syncs a folder. Where the file system can't sync one, or can't be written, nothing is pending in it.
-fn sync_folder<H: Host>(host: &mut H, folder: &str) -> io::Result<()> {
+fn sync_folder<H: Host>(host: &mut H, folder: &str) -> Result<(), HostError> {
     let file = host.open(folder)?;
     let synced = host.sync(&file);
     host.close(file);
     match synced {
-        Err(e) if !is_never_pending(&e) => Err(e),
+        Err(e) if !is_never_pending(e) => Err(e),
         _ => Ok(()),
     }
 }
 
 /// Whether a sync's error says that nothing can be pending: EINVAL or EROFS.
-fn is_never_pending(error: &io::Error) -> bool {
+fn is_never_pending(error: HostError) -> bool {
     matches!(
-        error.kind(),
-        ErrorKind::InvalidInput | ErrorKind::ReadOnlyFilesystem
+        error,
+        HostError::InvalidInput | HostError::ReadOnlyFilesystem
     )
 }
 

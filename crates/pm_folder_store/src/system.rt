@@ -1,7 +1,7 @@
 //! The operating system as a host. It is believed without a case: each function is one call of the kit, and decides
 //! nothing.
 
-use crate::host::{Found, Host, Kind};
+use crate::host::{Found, Host, HostError, Kind};
 use std::alloc::Global;
 use std::fs::{File, Metadata, TryLockError};
 use std::io::{ErrorKind, Read, Write};
@@ -31,22 +31,38 @@ impl<R: Files<File = File> + AllocGlobal + Clock + Clone + Drop> System<R> {
     }
 }
 
+impl From<io::Error> for HostError {
+    fn from(error: io::Error) -> HostError {
+        match error.kind() {
+            ErrorKind::NotFound => HostError::NotFound,
+            ErrorKind::NotADirectory => HostError::NotADirectory,
+            ErrorKind::InvalidFilename => HostError::InvalidFilename,
+            ErrorKind::AlreadyExists => HostError::AlreadyExists,
+            ErrorKind::PermissionDenied => HostError::PermissionDenied,
+            ErrorKind::InvalidInput => HostError::InvalidInput,
+            ErrorKind::ReadOnlyFilesystem => HostError::ReadOnlyFilesystem,
+            ErrorKind::OutOfMemory => HostError::OutOfMemory,
+            _ => HostError::Other,
+        }
+    }
+}
+
 impl<R: Files<File = File> + AllocGlobal + Clock + Clone + Drop> Host for System<R> {
     type File = File;
 
-    fn look(&mut self, path: &str) -> io::Result<Found> {
+    fn look(&mut self, path: &str) -> Result<Found, HostError> {
         Ok(found(&self.rt.symlink_metadata(path)?))
     }
 
-    fn look_through(&mut self, path: &str) -> io::Result<Found> {
+    fn look_through(&mut self, path: &str) -> Result<Found, HostError> {
         Ok(found(&self.rt.metadata(path)?))
     }
 
-    fn look_at(&mut self, file: &File) -> io::Result<Found> {
+    fn look_at(&mut self, file: &File) -> Result<Found, HostError> {
         Ok(found(&file.metadata()?))
     }
 
-    fn names(&mut self, alloc: Global, folder: &str) -> io::Result<Vec<String>> {
+    fn names(&mut self, alloc: Global, folder: &str) -> Result<Vec<String>, HostError> {
         let mut names = Vec::new(alloc);
         for entry in fs::read_dir(&self.rt, folder)? {
             let name = match entry {
@@ -54,44 +70,44 @@ impl<R: Files<File = File> + AllocGlobal + Clock + Clone + Drop> Host for System
                 Err(e) if e.kind() == ErrorKind::InvalidFilename => {
                     String::from_str(alloc, UNREADABLE)?
                 }
-                Err(e) => return Err(e),
+                Err(e) => return Err(HostError::from(e)),
             };
             names.push(name)?;
         }
         Ok(names)
     }
 
-    fn is_empty(&mut self, folder: &str) -> io::Result<bool> {
+    fn is_empty(&mut self, folder: &str) -> Result<bool, HostError> {
         Ok(fs::read_dir(&self.rt, folder)?.next().is_none())
     }
 
-    fn open(&mut self, path: &str) -> io::Result<File> {
-        File::open(&self.rt, path)
+    fn open(&mut self, path: &str) -> Result<File, HostError> {
+        Ok(File::open(&self.rt, path)?)
     }
 
-    fn make(&mut self, path: &str) -> io::Result<File> {
-        File::create_new(&self.rt, path)
+    fn make(&mut self, path: &str) -> Result<File, HostError> {
+        Ok(File::create_new(&self.rt, path)?)
     }
 
-    fn read(&mut self, file: &mut File, into: &mut Vec<u8>) -> io::Result<()> {
+    fn read(&mut self, file: &mut File, into: &mut Vec<u8>) -> Result<(), HostError> {
         file.read_to_end(into)?;
         Ok(())
     }
 
-    fn write(&mut self, file: &mut File, bytes: &[u8]) -> io::Result<()> {
-        file.write_all(bytes)
+    fn write(&mut self, file: &mut File, bytes: &[u8]) -> Result<(), HostError> {
+        Ok(file.write_all(bytes)?)
     }
 
-    fn copy_mode(&mut self, from: &str, file: &File) -> io::Result<()> {
+    fn copy_mode(&mut self, from: &str, file: &File) -> Result<(), HostError> {
         let looked = self.rt.symlink_metadata(from)?;
-        file.set_permissions(looked.permissions())
+        Ok(file.set_permissions(looked.permissions())?)
     }
 
-    fn sync(&mut self, file: &File) -> io::Result<()> {
-        file.sync_all()
+    fn sync(&mut self, file: &File) -> Result<(), HostError> {
+        Ok(file.sync_all()?)
     }
 
-    fn try_lock(&mut self, file: &File, is_alone: bool) -> io::Result<bool> {
+    fn try_lock(&mut self, file: &File, is_alone: bool) -> Result<bool, HostError> {
         let locked = if is_alone {
             file.try_lock()
         } else {
@@ -100,7 +116,7 @@ impl<R: Files<File = File> + AllocGlobal + Clock + Clone + Drop> Host for System
         match locked {
             Ok(()) => Ok(true),
             Err(TryLockError::WouldBlock) => Ok(false),
-            Err(TryLockError::Error(e)) => Err(e),
+            Err(TryLockError::Error(e)) => Err(HostError::from(e)),
         }
     }
 
@@ -108,28 +124,28 @@ impl<R: Files<File = File> + AllocGlobal + Clock + Clone + Drop> Host for System
         drop(file);
     }
 
-    fn rename(&mut self, from: &str, to: &str) -> io::Result<()> {
-        self.rt.rename(from, to)
+    fn rename(&mut self, from: &str, to: &str) -> Result<(), HostError> {
+        Ok(self.rt.rename(from, to)?)
     }
 
-    fn remove_file(&mut self, path: &str) -> io::Result<()> {
-        self.rt.remove_file(path)
+    fn remove_file(&mut self, path: &str) -> Result<(), HostError> {
+        Ok(self.rt.remove_file(path)?)
     }
 
-    fn create_dir(&mut self, path: &str) -> io::Result<()> {
-        self.rt.create_dir(path)
+    fn create_dir(&mut self, path: &str) -> Result<(), HostError> {
+        Ok(self.rt.create_dir(path)?)
     }
 
-    fn remove_dir(&mut self, path: &str) -> io::Result<()> {
-        self.rt.remove_dir(path)
+    fn remove_dir(&mut self, path: &str) -> Result<(), HostError> {
+        Ok(self.rt.remove_dir(path)?)
     }
 
-    fn since_1970(&mut self) -> io::Result<Duration> {
-        self.rt.since_1970()
+    fn since_1970(&mut self) -> Result<Duration, HostError> {
+        Ok(self.rt.since_1970()?)
     }
 
-    fn monotonic(&mut self) -> io::Result<Duration> {
-        self.rt.monotonic()
+    fn monotonic(&mut self) -> Result<Duration, HostError> {
+        Ok(self.rt.monotonic()?)
     }
 }
 

@@ -3,12 +3,11 @@
 ghost use Rattle.std.specs.Prelude.{◌≡◌, ◌↔◌, IfOk, IsTrue, decimal, string_bytes};
 ghost use Rattle.pm_folder_store.specs.Temporary.{IsTemporary};
 
-use crate::host::{Host, Kind};
+use crate::host::{Host, HostError, Kind};
 use crate::lock::kept;
 use crate::look::{kind_at, make_folder, open_file};
 use pm_store::StoreFail;
 use std::alloc::{AllocError, Global};
-use std::io::ErrorKind;
 
 /// How many files may be written at once.
 const TEMPORARY_NAMES: u32 = 100_000;
@@ -35,7 +34,7 @@ pub(crate) fn begin_file<H: Host>(
         let path = format!(in alloc; "{folder}/{n}")?;
         match host.make(path.as_str()) {
             Ok(file) => return lock_file(host, file, path),
-            Err(e) if e.kind() == ErrorKind::AlreadyExists => {}
+            Err(HostError::AlreadyExists) => {}
             Err(e) => return Err(StoreFail::from(e)),
         }
     }
@@ -97,8 +96,8 @@ fn take_left<H: Host>(host: &mut H, path: &str) -> Result<(), StoreFail> {
     };
     host.close(file);
     match taken {
-        Err(e) if e.kind() != ErrorKind::NotFound => Err(StoreFail::from(e)),
-        _ => Ok(()),
+        Ok(()) | Err(HostError::NotFound) => Ok(()),
+        Err(e) => Err(StoreFail::from(e)),
     }
 }
 

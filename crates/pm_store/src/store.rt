@@ -1,9 +1,7 @@
 //! The trait of a store.
 
 ghost use Rattle.std.specs.Prelude.{◌≡◌, ◌↔◌, IsTrue};
-ghost use Rattle.std.specs.IoError.{error_kind};
 ghost use Rattle.std.specs.Option.{option_copied};
-ghost use Rattle.std.specs.declared.io.ErrorKind.TheVariants.{OutOfMemory};
 ghost use Rattle.pm_store.specs.declared.call.Call.TheVariants as calls;
 ghost use Rattle.pm_store.specs.declared.answer.Answer.TheVariants as answers;
 ghost use Rattle.pm_store.specs.declared.store.StoreFail.TheVariants.{Memory};
@@ -11,8 +9,6 @@ ghost use Rattle.pm_store.specs.declared.store.StoreFail.TheVariants.{Memory};
 use crate::{Made, Published, Removed, Swapped};
 use pm_base::{Blob, Txt};
 use std::alloc::{AllocError, AllocFailed, Global};
-use std::io;
-use std::io::ErrorKind;
 
 /// Why a call of a store gave no answer: out of memory, which changes nothing, or a fault.
 #[derive(Clone, Copy)]
@@ -34,17 +30,6 @@ impl<T: Drop> From<AllocFailed<T>> for StoreFail {
 
     fn from(_: AllocFailed<T>) -> Self {
         StoreFail::Memory
-    }
-}
-
-impl From<io::Error> for StoreFail {
-    ghost from_gives = { λ e fail. (fail ≡ Memory) ↔ (error_kind e ≡ OutOfMemory) };
-
-    fn from(error: io::Error) -> Self {
-        match error.kind() {
-            ErrorKind::OutOfMemory => StoreFail::Memory,
-            _ => StoreFail::Failed,
-        }
     }
 }
 

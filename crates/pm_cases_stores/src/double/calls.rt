@@ -2,11 +2,9 @@
 
 use crate::double::parts::{Bytes, Held, Lock, Name, Owner, Thing};
 use crate::double::steps::{Act, Step};
-use crate::double::world::{World, fault, there};
-use pm_folder_store::{Found, Kind};
+use crate::double::world::{World, there};
+use pm_folder_store::{Found, HostError, Kind};
 use std::alloc::Global;
-use std::io;
-use std::io::ErrorKind;
 use std::time::Duration;
 
 /// How many bytes a name has at most.
@@ -14,7 +12,7 @@ const LONGEST_NAME: usize = 255;
 
 impl World {
     /// What stands at a path.
-    pub fn look(&mut self, path: &str) -> io::Result<Found> {
+    pub fn look(&mut self, path: &str) -> Result<Found, HostError> {
         self.begin(Act::Look, path, "")?;
         let thing = self.thing(path)?;
         let found = self.found(thing)?;
@@ -23,7 +21,7 @@ impl World {
     }
 
     /// What a path leads to.
-    pub fn look_through(&mut self, path: &str) -> io::Result<Found> {
+    pub fn look_through(&mut self, path: &str) -> Result<Found, HostError> {
         self.begin(Act::Look, path, "")?;
         let thing = self.end(path)?;
         let found = self.found(thing)?;
@@ -32,7 +30,7 @@ impl World {
     }
 
     /// What a handle has open.
-    pub fn look_at(&mut self, handle: usize) -> io::Result<Found> {
+    pub fn look_at(&mut self, handle: usize) -> Result<Found, HostError> {
         let thing = self.begin_at(Act::Look, handle)?;
         let found = self.found(thing)?;
         self.done();
@@ -40,7 +38,7 @@ impl World {
     }
 
     /// The names in a folder, the last one first.
-    pub fn names(&mut self, alloc: Global, folder: &str) -> io::Result<Vec<String>> {
+    pub fn names(&mut self, alloc: Global, folder: &str) -> Result<Vec<String>, HostError> {
         self.begin(Act::Names, folder, "")?;
         let mut names = Vec::new(alloc);
         let thing = self.end(folder)?;
@@ -54,7 +52,7 @@ impl World {
     }
 
     /// Whether nothing stands in a folder.
-    pub fn is_empty(&mut self, folder: &str) -> io::Result<bool> {
+    pub fn is_empty(&mut self, folder: &str) -> Result<bool, HostError> {
         self.begin(Act::Names, folder, "")?;
         let thing = self.end(folder)?;
         let is_used = is_used(self.names_of(thing)?);
@@ -63,7 +61,7 @@ impl World {
     }
 
     /// Opens a file or a folder.
-    pub fn open(&mut self, path: &str) -> io::Result<usize> {
+    pub fn open(&mut self, path: &str) -> Result<usize, HostError> {
         self.begin(Act::Open, path, "")?;
         let thing = self.end(path)?;
         let handle = self.hold(thing, path)?;
@@ -72,7 +70,7 @@ impl World {
     }
 
     /// Makes a file where nothing stands, and opens it.
-    pub fn make(&mut self, path: &str) -> io::Result<usize> {
+    pub fn make(&mut self, path: &str) -> Result<usize, HostError> {
         self.begin(Act::Make, path, "")?;
         let bytes = Bytes {
             now: Vec::new(self.alloc),
@@ -85,7 +83,7 @@ impl World {
     }
 
     /// Reads a file.
-    pub fn read(&mut self, handle: usize, into: &mut Vec<u8>) -> io::Result<()> {
+    pub fn read(&mut self, handle: usize, into: &mut Vec<u8>) -> Result<(), HostError> {
         let begun = self.begin_at(Act::Read, handle);
         let is_half = begun.is_err() && !self.plan.is_stopped;
         if begun.is_ok() || is_half {
@@ -99,7 +97,7 @@ impl World {
     }
 
     /// Writes bytes to the end of a file.
-    pub fn write(&mut self, handle: usize, bytes: &[u8]) -> io::Result<()> {
+    pub fn write(&mut self, handle: usize, bytes: &[u8]) -> Result<(), HostError> {
         let begun = self.begin_at(Act::Write, handle);
         let is_half = begun.is_err() && !self.plan.is_stopped;
         if begun.is_ok() || is_half {
@@ -112,7 +110,7 @@ impl World {
     }
 
     /// Gives a file the mode of another.
-    pub fn copy_mode(&mut self, from: &str, handle: usize) -> io::Result<()> {
+    pub fn copy_mode(&mut self, from: &str, handle: usize) -> Result<(), HostError> {
         let _thing = self.begin_at(Act::CopyMode, handle)?;
         let _from = self.thing(from)?;
         self.done();
@@ -120,7 +118,7 @@ impl World {
     }
 
     /// Has what is open on the disk.
-    pub fn sync(&mut self, handle: usize) -> io::Result<()> {
+    pub fn sync(&mut self, handle: usize) -> Result<(), HostError> {
         let thing = self.begin_at(Act::Sync, handle)?;
         self.settle(thing);
         self.done();
@@ -128,12 +126,12 @@ impl World {
     }
 
     /// Asks for a lock, and answers whether it was given. Who acts aside doesn't ask again: that is an error.
-    pub fn try_lock(&mut self, handle: usize, is_alone: bool) -> io::Result<bool> {
+    pub fn try_lock(&mut self, handle: usize, is_alone: bool) -> Result<bool, HostError> {
         let act = if is_alone { Act::Lock } else { Act::Share };
         let thing = self.begin_at(act, handle)?;
         if self.is_barred(thing, handle, is_alone) {
             if self.is_aside {
-                return Err(fault(ErrorKind::WouldBlock));
+                return Err(HostError::Other);
             }
             return Ok(false);
         }
@@ -155,7 +153,7 @@ impl World {
     }
 
     /// Gives a file another path.
-    pub fn rename(&mut self, from: &str, to: &str) -> io::Result<()> {
+    pub fn rename(&mut self, from: &str, to: &str) -> Result<(), HostError> {
         self.begin(Act::Rename, from, to)?;
         let old = self.spot(from)?;
         let new = self.spot(to)?;
@@ -169,11 +167,11 @@ impl World {
     }
 
     /// Takes a file away.
-    pub fn remove_file(&mut self, path: &str) -> io::Result<()> {
+    pub fn remove_file(&mut self, path: &str) -> Result<(), HostError> {
         self.begin(Act::RemoveFile, path, "")?;
         let spot = self.spot(path)?;
         if let Thing::Folder(_) = &self.node(there(spot)?)?.thing {
-            return Err(fault(ErrorKind::IsADirectory));
+            return Err(HostError::Other);
         }
         self.lead(spot.folder, spot.name, None)?;
         self.done();
@@ -181,7 +179,7 @@ impl World {
     }
 
     /// Makes a folder.
-    pub fn create_dir(&mut self, path: &str) -> io::Result<()> {
+    pub fn create_dir(&mut self, path: &str) -> Result<(), HostError> {
         self.begin(Act::CreateDir, path, "")?;
         let _folder = self.stand(path, Thing::Folder(Vec::new(self.alloc)))?;
         self.done();
@@ -189,11 +187,11 @@ impl World {
     }
 
     /// Takes an empty folder away.
-    pub fn remove_dir(&mut self, path: &str) -> io::Result<()> {
+    pub fn remove_dir(&mut self, path: &str) -> Result<(), HostError> {
         self.begin(Act::RemoveDir, path, "")?;
         let spot = self.spot(path)?;
         if is_used(self.names_of(there(spot)?)?) {
-            return Err(fault(ErrorKind::DirectoryNotEmpty));
+            return Err(HostError::Other);
         }
         self.lead(spot.folder, spot.name, None)?;
         self.done();
@@ -201,13 +199,13 @@ impl World {
     }
 
     /// The time since 1970, or since some moment.
-    pub fn time(&mut self) -> io::Result<Duration> {
+    pub fn time(&mut self) -> Result<Duration, HostError> {
         self.begin(Act::Clock, "", "")?;
         Ok(Duration::from_micros(self.glance()))
     }
 
     /// What a look finds of a thing.
-    fn found(&self, thing: usize) -> io::Result<Found> {
+    fn found(&self, thing: usize) -> Result<Found, HostError> {
         let node = self.node(thing)?;
         let kind = match &node.thing {
             Thing::File(_) => Kind::File,
@@ -223,11 +221,11 @@ impl World {
     }
 
     /// Puts a new thing at a path where nothing stands.
-    fn stand(&mut self, path: &str, thing: Thing) -> io::Result<usize> {
+    fn stand(&mut self, path: &str, thing: Thing) -> Result<usize, HostError> {
         let spot = self.spot(path)?;
         if spot.thing.is_some() {
             drop(thing);
-            return Err(fault(ErrorKind::AlreadyExists));
+            return Err(HostError::AlreadyExists);
         }
         self.fits(spot.name)?;
         let number = self.add(thing, spot.folder)?;
@@ -236,15 +234,15 @@ impl World {
     }
 
     /// A name that is too long is an error.
-    fn fits(&self, name: &str) -> io::Result<()> {
+    fn fits(&self, name: &str) -> Result<(), HostError> {
         if name.is_empty() || name.len() > LONGEST_NAME {
-            return Err(fault(ErrorKind::InvalidFilename));
+            return Err(HostError::InvalidFilename);
         }
         Ok(())
     }
 
     /// Opens a thing.
-    fn hold(&mut self, thing: usize, path: &str) -> io::Result<usize> {
+    fn hold(&mut self, thing: usize, path: &str) -> Result<usize, HostError> {
         let owner = if self.is_aside {
             Owner::Aside
         } else {
@@ -260,7 +258,7 @@ impl World {
         thing: usize,
         path: &str,
         lock: Lock,
-    ) -> io::Result<usize> {
+    ) -> Result<usize, HostError> {
         let handle = self.handles.len();
         let held = Held {
             owner,
@@ -273,15 +271,15 @@ impl World {
     }
 
     /// What a handle has open.
-    fn held(&self, handle: usize) -> io::Result<&Held> {
+    fn held(&self, handle: usize) -> Result<&Held, HostError> {
         match self.handles.get(handle) {
             Some(Some(held)) => Ok(held),
-            _ => Err(fault(ErrorKind::InvalidInput)),
+            _ => Err(HostError::InvalidInput),
         }
     }
 
     /// Counts a call on a handle, and answers what is open.
-    fn begin_at(&mut self, act: Act, handle: usize) -> io::Result<usize> {
+    fn begin_at(&mut self, act: Act, handle: usize) -> Result<usize, HostError> {
         let held = self.held(handle)?;
         let thing = held.thing;
         let path = String::from_str(self.alloc, held.path.as_str())?;
@@ -290,18 +288,18 @@ impl World {
     }
 
     /// The bytes of a file.
-    pub fn bytes(&self, file: usize) -> io::Result<&[u8]> {
+    pub fn bytes(&self, file: usize) -> Result<&[u8], HostError> {
         match &self.node(file)?.thing {
             Thing::File(bytes) => Ok(bytes.now.as_slice()),
-            _ => Err(fault(ErrorKind::IsADirectory)),
+            _ => Err(HostError::Other),
         }
     }
 
     /// Adds bytes to a file.
-    fn append(&mut self, file: usize, more: &[u8]) -> io::Result<()> {
+    fn append(&mut self, file: usize, more: &[u8]) -> Result<(), HostError> {
         let tick = self.tick();
         let Some(node) = self.nodes.get_mut(file) else {
-            return Err(fault(ErrorKind::NotFound));
+            return Err(HostError::NotFound);
         };
         node.changed = tick;
         match &mut node.thing {
@@ -309,7 +307,7 @@ impl World {
                 bytes.is_synced = false;
                 Ok(bytes.now.extend_from_slice(more)?)
             }
-            _ => Err(fault(ErrorKind::IsADirectory)),
+            _ => Err(HostError::Other),
         }
     }
 
@@ -332,7 +330,7 @@ impl World {
     }
 
     /// Notes that a lock ends.
-    fn note_end(&mut self, handle: usize) -> io::Result<()> {
+    fn note_end(&mut self, handle: usize) -> Result<(), HostError> {
         let path = self.held(handle)?.path.as_str();
         let step = Step::new(self.alloc, 0, Act::Unlock, path, "")?;
         self.steps.push(step)?;

@@ -2,8 +2,8 @@
 
 use crate::double::parts::{Name, Node, Thing};
 use crate::double::world::World;
+use pm_folder_store::HostError;
 use std::alloc::Global;
-use std::io;
 
 /// A number from which choices are taken, digit by digit.
 struct Digits(u64);
@@ -38,7 +38,7 @@ impl World {
 
     /// What a power loss leaves, in one of these ways; the first one is what stands there now. Nobody has anything
     /// open.
-    pub fn image(&self, number: u64) -> io::Result<World> {
+    pub fn image(&self, number: u64) -> Result<World, HostError> {
         let mut digits = Digits(number);
         let mut nodes = Vec::new(self.alloc);
         for node in &self.nodes {
@@ -68,7 +68,7 @@ fn ways_of(names: &[Name]) -> u64 {
 }
 
 /// What a power loss leaves of a thing.
-fn choice(alloc: Global, node: &Node, digits: &mut Digits) -> io::Result<Node> {
+fn choice(alloc: Global, node: &Node, digits: &mut Digits) -> Result<Node, HostError> {
     let thing = match &node.thing {
         Thing::File(bytes) => Thing::File(bytes.choice(alloc, digits.take(bytes.ways()))?),
         Thing::Folder(names) => Thing::Folder(choices(alloc, names, digits)?),
@@ -82,7 +82,7 @@ fn choice(alloc: Global, node: &Node, digits: &mut Digits) -> io::Result<Node> {
 }
 
 /// What a power loss leaves of names.
-fn choices(alloc: Global, names: &[Name], digits: &mut Digits) -> io::Result<Vec<Name>> {
+fn choices(alloc: Global, names: &[Name], digits: &mut Digits) -> Result<Vec<Name>, HostError> {
     let mut left = Vec::new(alloc);
     for name in names {
         let thing = name.choice(digits.take(name.ways()));

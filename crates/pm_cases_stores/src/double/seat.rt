@@ -1,10 +1,9 @@
 //! A process on a double: each call of its host is one of the double.
 
-use crate::double::world::World;
-use pm_folder_store::{Found, Host};
+use crate::double::world::{World, held};
+use pm_folder_store::{Found, Host, HostError};
 use std::alloc::Global;
 use std::cell::RefCell;
-use std::io;
 use std::time::Duration;
 
 /// What a process on a double has open.
@@ -22,54 +21,54 @@ pub struct Seat<'a> {
 impl Host for Seat<'_> {
     type File = Handle;
 
-    fn look(&mut self, path: &str) -> io::Result<Found> {
-        self.world.try_borrow_mut()?.look(path)
+    fn look(&mut self, path: &str) -> Result<Found, HostError> {
+        held(self.world)?.look(path)
     }
 
-    fn look_through(&mut self, path: &str) -> io::Result<Found> {
-        self.world.try_borrow_mut()?.look_through(path)
+    fn look_through(&mut self, path: &str) -> Result<Found, HostError> {
+        held(self.world)?.look_through(path)
     }
 
-    fn look_at(&mut self, file: &Handle) -> io::Result<Found> {
-        self.world.try_borrow_mut()?.look_at(file.number)
+    fn look_at(&mut self, file: &Handle) -> Result<Found, HostError> {
+        held(self.world)?.look_at(file.number)
     }
 
-    fn names(&mut self, alloc: Global, folder: &str) -> io::Result<Vec<String>> {
-        self.world.try_borrow_mut()?.names(alloc, folder)
+    fn names(&mut self, alloc: Global, folder: &str) -> Result<Vec<String>, HostError> {
+        held(self.world)?.names(alloc, folder)
     }
 
-    fn is_empty(&mut self, folder: &str) -> io::Result<bool> {
-        self.world.try_borrow_mut()?.is_empty(folder)
+    fn is_empty(&mut self, folder: &str) -> Result<bool, HostError> {
+        held(self.world)?.is_empty(folder)
     }
 
-    fn open(&mut self, path: &str) -> io::Result<Handle> {
-        let number = self.world.try_borrow_mut()?.open(path)?;
+    fn open(&mut self, path: &str) -> Result<Handle, HostError> {
+        let number = held(self.world)?.open(path)?;
         Ok(Handle { number })
     }
 
-    fn make(&mut self, path: &str) -> io::Result<Handle> {
-        let number = self.world.try_borrow_mut()?.make(path)?;
+    fn make(&mut self, path: &str) -> Result<Handle, HostError> {
+        let number = held(self.world)?.make(path)?;
         Ok(Handle { number })
     }
 
-    fn read(&mut self, file: &mut Handle, into: &mut Vec<u8>) -> io::Result<()> {
-        self.world.try_borrow_mut()?.read(file.number, into)
+    fn read(&mut self, file: &mut Handle, into: &mut Vec<u8>) -> Result<(), HostError> {
+        held(self.world)?.read(file.number, into)
     }
 
-    fn write(&mut self, file: &mut Handle, bytes: &[u8]) -> io::Result<()> {
-        self.world.try_borrow_mut()?.write(file.number, bytes)
+    fn write(&mut self, file: &mut Handle, bytes: &[u8]) -> Result<(), HostError> {
+        held(self.world)?.write(file.number, bytes)
     }
 
-    fn copy_mode(&mut self, from: &str, file: &Handle) -> io::Result<()> {
-        self.world.try_borrow_mut()?.copy_mode(from, file.number)
+    fn copy_mode(&mut self, from: &str, file: &Handle) -> Result<(), HostError> {
+        held(self.world)?.copy_mode(from, file.number)
     }
 
-    fn sync(&mut self, file: &Handle) -> io::Result<()> {
-        self.world.try_borrow_mut()?.sync(file.number)
+    fn sync(&mut self, file: &Handle) -> Result<(), HostError> {
+        held(self.world)?.sync(file.number)
     }
 
-    fn try_lock(&mut self, file: &Handle, is_alone: bool) -> io::Result<bool> {
-        self.world.try_borrow_mut()?.try_lock(file.number, is_alone)
+    fn try_lock(&mut self, file: &Handle, is_alone: bool) -> Result<bool, HostError> {
+        held(self.world)?.try_lock(file.number, is_alone)
     }
 
     fn close(&mut self, file: Handle) {
@@ -78,27 +77,27 @@ impl Host for Seat<'_> {
         }
     }
 
-    fn rename(&mut self, from: &str, to: &str) -> io::Result<()> {
-        self.world.try_borrow_mut()?.rename(from, to)
+    fn rename(&mut self, from: &str, to: &str) -> Result<(), HostError> {
+        held(self.world)?.rename(from, to)
     }
 
-    fn remove_file(&mut self, path: &str) -> io::Result<()> {
-        self.world.try_borrow_mut()?.remove_file(path)
+    fn remove_file(&mut self, path: &str) -> Result<(), HostError> {
+        held(self.world)?.remove_file(path)
     }
 
-    fn create_dir(&mut self, path: &str) -> io::Result<()> {
-        self.world.try_borrow_mut()?.create_dir(path)
+    fn create_dir(&mut self, path: &str) -> Result<(), HostError> {
+        held(self.world)?.create_dir(path)
     }
 
-    fn remove_dir(&mut self, path: &str) -> io::Result<()> {
-        self.world.try_borrow_mut()?.remove_dir(path)
+    fn remove_dir(&mut self, path: &str) -> Result<(), HostError> {
+        held(self.world)?.remove_dir(path)
     }
 
-    fn since_1970(&mut self) -> io::Result<Duration> {
-        self.world.try_borrow_mut()?.time()
+    fn since_1970(&mut self) -> Result<Duration, HostError> {
+        held(self.world)?.time()
     }
 
-    fn monotonic(&mut self) -> io::Result<Duration> {
-        self.world.try_borrow_mut()?.time()
+    fn monotonic(&mut self) -> Result<Duration, HostError> {
+        held(self.world)?.time()
     }
 }

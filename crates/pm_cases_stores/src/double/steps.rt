@@ -1,7 +1,7 @@
 //! The calls that a double was asked for, and which of them are to fail.
 
+use pm_folder_store::HostError;
 use std::alloc::{AllocError, Global};
-use std::io::ErrorKind;
 
 /// A call of the host.
 #[derive(Clone, Copy)]
@@ -157,7 +157,7 @@ fn below_table(path: &str) -> &str {
 pub struct Plan {
     pub first: u64,
     pub last: u64,
-    pub kind: ErrorKind,
+    pub error: HostError,
     pub is_stopped: bool,
 }
 
@@ -167,7 +167,7 @@ impl Plan {
         Plan {
             first: u64::MAX,
             last: 0,
-            kind: ErrorKind::Other,
+            error: HostError::Other,
             is_stopped: false,
         }
     }
@@ -177,27 +177,27 @@ impl Plan {
         Plan {
             first: calls.saturating_add(1),
             last: u64::MAX,
-            kind: ErrorKind::Other,
+            error: HostError::Other,
             is_stopped: true,
         }
     }
 
     /// One call fails.
-    pub fn once(call: u64, kind: ErrorKind) -> Plan {
+    pub fn once(call: u64, error: HostError) -> Plan {
         Plan {
             first: call,
             last: call,
-            kind,
+            error,
             is_stopped: false,
         }
     }
 
     /// One call and all later ones fail.
-    pub fn from(call: u64, kind: ErrorKind) -> Plan {
+    pub fn from(call: u64, error: HostError) -> Plan {
         Plan {
             first: call,
             last: u64::MAX,
-            kind,
+            error,
             is_stopped: false,
         }
     }

@@ -2,9 +2,9 @@
 
 use crate::double::parts::{Held, Name, Node, Owner, Thing};
 use crate::double::steps::{Act, End, Plan, Step};
+use pm_folder_store::HostError;
 use std::alloc::Global;
-use std::io;
-use std::io::ErrorKind;
+use std::cell::{Ref, RefCell, RefMut};
 
 /// The folder in which the program runs.
 pub const TOP: usize = 0;
@@ -47,6 +47,22 @@ impl Drop for World {
     }
 }
 
+/// A world that is shared, to look at it.
+pub fn lent(world: &RefCell<World>) -> Result<Ref<'_, World>, HostError> {
+    match world.try_borrow() {
+        Ok(world) => Ok(world),
+        Err(_) => Err(HostError::Other),
+    }
+}
+
+/// A world that is shared, to change it.
+pub fn held(world: &RefCell<World>) -> Result<RefMut<'_, World>, HostError> {
+    match world.try_borrow_mut() {
+        Ok(world) => Ok(world),
+        Err(_) => Err(HostError::Other),
+    }
+}
+
 /// Where a path leads: the folder that it stands in, its name there, and what stands there.
 #[derive(Clone, Copy)]
 pub struct Spot<'a> {
@@ -55,14 +71,9 @@ pub struct Spot<'a> {
     pub thing: Option<usize>,
 }
 
-/// An error of a kind.
-pub fn fault(kind: ErrorKind) -> io::Error {
-    io::Error::new(kind, "the double's")
-}
-
 impl World {
     /// A world with nothing in it, long after 1970.
-    pub fn new(alloc: Global) -> io::Result<World> {
+    pub fn new(alloc: Global) -> Result<World, HostError> {
         let mut nodes = Vec::new(alloc);
         nodes.push(Node {
             thing: Thing::Folder(Vec::new(alloc)),
@@ -127,7 +138,7 @@ impl World {
     }
 
     /// Counts and notes a call, and fails it if it is to fail.
-    pub fn begin(&mut self, act: Act, path: &str, to: &str) -> io::Result<()> {
+    pub fn begin(&mut self, act: Act, path: &str, to: &str) -> Result<(), HostError> {
         if self.is_aside {
             return Ok(());
         }
@@ -139,7 +150,7 @@ impl World {
         }
         if is_failed {
             self.end_step(End::Failed);
-            return Err(fault(self.plan.kind));
+            return Err(self.plan.error);
         }
         Ok(())
     }
@@ -194,37 +205,37 @@ impl World {
     }
 
     /// What stands somewhere.
-    pub fn node(&self, thing: usize) -> io::Result<&Node> {
+    pub fn node(&self, thing: usize) -> Result<&Node, HostError> {
         match self.nodes.get(thing) {
             Some(node) => Ok(node),
-            None => Err(fault(ErrorKind::NotFound)),
+            None => Err(HostError::NotFound),
         }
     }
 
     /// The names in a folder.
-    pub fn names_of(&self, folder: usize) -> io::Result<&[Name]> {
+    pub fn names_of(&self, folder: usize) -> Result<&[Name], HostError> {
         match &self.node(folder)?.thing {
             Thing::Folder(names) => Ok(names.as_slice()),
-            _ => Err(fault(ErrorKind::NotADirectory)),
+            _ => Err(HostError::NotADirectory),
         }
     }
 
     /// What a name in a folder leads to now.
-    pub fn led(&self, folder: usize, name: &str) -> io::Result<Option<usize>> {
+    pub fn led(&self, folder: usize, name: &str) -> Result<Option<usize>, HostError> {
         Ok(led(self.names_of(folder)?, name))
     }
 
     /// What a link leads to; anything else itself.
-    pub fn end_of(&self, thing: usize) -> io::Result<usize> {
+    pub fn end_of(&self, thing: usize) -> Result<usize, HostError> {
         match &self.node(thing)?.thing {
             Thing::Link(Some(end)) => Ok(*end),
-            Thing::Link(None) => Err(fault(ErrorKind::NotFound)),
+            Thing::Link(None) => Err(HostError::NotFound),
             _ => Ok(thing),
         }
     }
 
     /// Where a path leads. A link at its end isn't followed, and those on its way are.
-    pub fn spot<'a>(&self, path: &'a str) -> io::Result<Spot<'a>> {
+    pub fn spot<'a>(&self, path: &'a str) -> Result<Spot<'a>, HostError> {
         let mut spot = Spot {
             folder: TOP,
             name: "",
@@ -239,7 +250,7 @@ impl World {
     }
 
     /// Where one comes from a spot by a name.
-    fn next_spot<'a>(&self, spot: Spot<'a>, name: &'a str) -> io::Result<Spot<'a>> {
+    fn next_spot<'a>(&self, spot: Spot<'a>, name: &'a str) -> Result<Spot<'a>, HostError> {
         let folder = self.end_of(there(spot)?)?;
         let names = self.names_of(folder)?;
         let around = self.node(folder)?.around;
@@ -255,31 +266,31 @@ impl World {
     }
 
     /// What stands at a path.
-    pub fn thing(&self, path: &str) -> io::Result<usize> {
+    pub fn thing(&self, path: &str) -> Result<usize, HostError> {
         there(self.spot(path)?)
     }
 
     /// What a path leads to.
-    pub fn end(&self, path: &str) -> io::Result<usize> {
+    pub fn end(&self, path: &str) -> Result<usize, HostError> {
         self.end_of(self.thing(path)?)
     }
 
     /// Has a name in a folder lead to something else.
-    pub fn lead(&mut self, folder: usize, name: &str, thing: Option<usize>) -> io::Result<()> {
+    pub fn lead(&mut self, folder: usize, name: &str, thing: Option<usize>) -> Result<(), HostError> {
         let tick = self.tick();
         let alloc = self.alloc;
         let Some(node) = self.nodes.get_mut(folder) else {
-            return Err(fault(ErrorKind::NotFound));
+            return Err(HostError::NotFound);
         };
         node.changed = tick;
         let Thing::Folder(names) = &mut node.thing else {
-            return Err(fault(ErrorKind::NotADirectory));
+            return Err(HostError::NotADirectory);
         };
         lead_name(alloc, names, name, thing)
     }
 
     /// Adds a thing that has no name yet, and answers its number.
-    pub fn add(&mut self, thing: Thing, around: usize) -> io::Result<usize> {
+    pub fn add(&mut self, thing: Thing, around: usize) -> Result<usize, HostError> {
         let number = self.nodes.len();
         let node = Node {
             thing,
@@ -313,10 +324,10 @@ fn spot_of<'a>(folder: usize) -> Spot<'a> {
 }
 
 /// What stands at a spot.
-pub fn there(spot: Spot) -> io::Result<usize> {
+pub fn there(spot: Spot) -> Result<usize, HostError> {
     match spot.thing {
         Some(thing) => Ok(thing),
-        None => Err(fault(ErrorKind::NotFound)),
+        None => Err(HostError::NotFound),
     }
 }
 
@@ -336,7 +347,7 @@ fn lead_name(
     names: &mut Vec<Name>,
     name: &str,
     thing: Option<usize>,
-) -> io::Result<()> {
+) -> Result<(), HostError> {
     let at = names.iter().position(|other| other.text.as_str() == name);
     let at = at.unwrap_or(names.len());
     if at == names.len() {

@@ -1,7 +1,6 @@
-//! Sources and sinks, in memory and of a reader or a writer that fails; and the lines of an input.
+//! Sources and sinks, in memory and of a reader or a writer that fails.
 
 use pm_cases::Case;
-use pm_input::{InputFault, InputLine, Limits, read_lines};
 use pm_io::{
     Line, LineFault, Lines, MemSink, MemSource, Sink, Source, StdSink, StdSource, write_all,
 };
@@ -10,13 +9,6 @@ use std::io::{ErrorKind, Read, Write};
 
 /// At most this many calls are made of one source.
 const MOST_CALLS: usize = 20;
-
-/// Limits that a short text exceeds.
-const SMALL: Limits = Limits {
-    line: 4,
-    rows: 2,
-    bytes: 12,
-};
 
 /// A reader of one byte a call. After so many bytes as many calls all fail with an error of this kind.
 #[derive(Drop)]
@@ -217,35 +209,4 @@ fn write_text<W: Sink>(sink: &mut W, text: &str) -> bool {
 fn say_taken(case: &mut Case, is_whole: bool, bytes: &[u8]) {
     case.say(if is_whole { "whole " } else { "failed " });
     case.say_quoted_bytes(bytes);
-}
-
-/// The lines that aren't blank of an input whose read of that number fails, none for 0; or the limit that it exceeds
-/// first, or `source failed`.
-pub fn lines_answer(case: &mut Case, arguments: &str) {
-    let (number, text) = case.split(arguments);
-    let number = case.number(number);
-    let bytes = case.bytes(text);
-    let mut fails = Vec::new(case.alloc());
-    case.push(&mut fails, number);
-    let mut source = MemSource::new(bytes, fails);
-    match read_lines(case.alloc(), &mut source, &SMALL) {
-        Ok(lines) => say_input(case, lines),
-        Err(InputFault::Memory) => case.run_out(),
-        Err(InputFault::Read) => case.say("source failed"),
-        Err(InputFault::Limit(kind)) => {
-            case.say("limit ");
-            case.say(kind.text());
-        }
-    }
-    drop(source);
-}
-
-/// Says how many lines there are, and each with its number.
-fn say_input(case: &mut Case, lines: Vec<InputLine>) {
-    case.say_made(format!(in case.alloc(); "{} lines", lines.len()));
-    for line in &lines {
-        case.say_made(format!(in case.alloc(); " {}:", line.number));
-        case.say_quoted_bytes(&line.bytes);
-    }
-    drop(lines);
 }

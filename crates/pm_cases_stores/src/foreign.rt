@@ -1,6 +1,6 @@
 //! What somebody else makes in a real folder, past its store.
 
-use crate::store::split;
+use crate::calls::split;
 use pm_cases::Case;
 use std::os::unix::fs::symlink;
 use std::{fs, io};

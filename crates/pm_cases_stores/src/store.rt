@@ -1,14 +1,12 @@
 //! Calls of a store, one after another: of one in memory, of one that fails, and of two on one folder.
 
+use crate::calls::{say_call, split};
 use crate::foreign::say_foreign;
-use pm_base::{Blob, Txt};
+use pm_base::Blob;
 use pm_cases::{Case, say_between};
-use pm_store::{
-    Answer, Call, Effect, FailStore, FileStore, Made, MemStore, Planned, Published, Removed,
-    StoreFail, Swapped, perform,
-};
+use pm_store::{Effect, FailStore, FileStore, MemStore, Planned};
 use std::alloc::{AllocError, Global};
-use std::{fs, io, str};
+use std::{fs, io};
 
 /// The answers of calls on a store in memory, and how many operations it has.
 pub fn memory_answer(case: &mut Case, calls: &str) {
@@ -25,11 +23,6 @@ pub fn failing_answer(case: &mut Case, plan: &str, calls: &str) {
     make_calls(case, &mut store, calls);
     case.say_made(format!(in case.alloc(); " | {} operations", store.ops().len()));
     drop(store);
-}
-
-/// A text up to its first blank, and what follows that.
-pub fn split(text: &str) -> (&str, &str) {
-    text.split_once(' ').unwrap_or((text, ""))
 }
 
 /// The calls that fail, as `NUMBER=EFFECT` with blanks between them.
@@ -68,7 +61,7 @@ fn make_calls<F: FileStore>(case: &mut Case, store: &mut F, calls: &str) {
     let mut is_later = false;
     for call in calls.split(';') {
         say_between(case, is_later, "; ");
-        make_call(case, store, call);
+        say_call(case, store, call);
         is_later = true;
     }
 }
@@ -90,8 +83,8 @@ pub fn folder_answer<F: FileStore>(
         match split(call) {
             ("hidden", _) => say_hidden(rt, case, folder),
             ("foreign", act) => say_foreign(rt, case, act),
-            ("other", call) => make_call(case, other, call),
-            _ => make_call(case, store, call),
+            ("other", call) => say_call(case, other, call),
+            _ => say_call(case, store, call),
         }
         is_later = true;
     }
@@ -125,83 +118,4 @@ fn hidden(rt: &HostRuntime, alloc: Global, folder: &str) -> io::Result<Option<(u
     }
     let begun = fs::read_dir(rt, format!(in alloc; "{folder}/.new")?.as_str())?.count();
     Ok(Some((count, begun)))
-}
-
-/// Says the answer of a call: its word, its paths, and its bytes, with blanks between them; `-` is no content.
-fn make_call<F: FileStore>(case: &mut Case, store: &mut F, call: &str) {
-    match read_call(case.alloc(), call) {
-        Ok(Some(call)) => perform_call(case, store, call),
-        Ok(None) => case.say("no such call"),
-        Err(_) => case.run_out(),
-    }
-}
-
-/// Says the answer of a call.
-fn perform_call<F: FileStore>(case: &mut Case, store: &mut F, call: Call) {
-    match perform(case.alloc(), store, &call) {
-        Ok(answer) => say_answer(case, answer),
-        Err(StoreFail::Memory) => case.say("memory"),
-        Err(StoreFail::Failed) => case.say("failed"),
-    }
-    drop(call);
-}
-
-/// The call of a text.
-fn read_call(alloc: Global, text: &str) -> Result<Option<Call>, AllocError> {
-    let (word, rest) = split(text);
-    let (path, rest) = split(rest);
-    let (middle, last) = split(rest);
-    let call = match word {
-        "list" => Call::list(alloc, path),
-        "read" => Call::read(alloc, path),
-        "create" => Call::create(alloc, path, rest.as_bytes()),
-        "publish" => Call::publish(alloc, path, middle, last.as_bytes()),
-        "swap" if middle == "-" => Call::swap(alloc, path, None, last.as_bytes()),
-        "swap" => Call::swap(alloc, path, Some(middle.as_bytes()), last.as_bytes()),
-        "remove" => Call::remove(alloc, path),
-        _ => return Ok(None),
-    };
-    match call {
-        Ok(call) => Ok(Some(call)),
-        Err(error) => Err(error),
-    }
-}
-
-/// Says an answer.
-fn say_answer(case: &mut Case, answer: Answer) {
-    match &answer {
-        Answer::Listed(names) => say_names(case, names),
-        Answer::Found(found) => say_content(case, found),
-        Answer::Swapped(Swapped::Differs(found)) => {
-            case.say("differs ");
-            say_content(case, found);
-        }
-        Answer::Made(Made::Created) | Answer::Published(Published::Created) => case.say("created"),
-        Answer::Made(Made::Exists) | Answer::Published(Published::Exists) => case.say("exists"),
-        Answer::Published(Published::AfterGone) => case.say("after gone"),
-        Answer::Swapped(Swapped::Swapped) => case.say("swapped"),
-        Answer::Removed(Removed::Removed) => case.say("removed"),
-        Answer::Removed(Removed::Absent) => case.say("absent"),
-    }
-    drop(answer);
-}
-
-/// Says a content as text, `-` for none.
-fn say_content(case: &mut Case, content: &Option<Blob>) {
-    case.say(match content {
-        Some(bytes) => str::from_utf8(bytes.as_bytes()).unwrap_or("?"),
-        None => "-",
-    });
-}
-
-/// Says names in brackets.
-fn say_names(case: &mut Case, names: &[Txt]) {
-    let mut is_later = false;
-    case.say("[");
-    for name in names {
-        say_between(case, is_later, " ");
-        case.say(name.as_str());
-        is_later = true;
-    }
-    case.say("]");
 }
