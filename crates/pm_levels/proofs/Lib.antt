@@ -3,4 +3,6 @@ mod NewestLemmas
 mod OrderLemmas
 mod OverlapLemmas
 mod PairLemmas
+mod PickingLemmas
+mod PickLemmas
 mod RunLemmas

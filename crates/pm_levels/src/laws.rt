@@ -1,11 +1,17 @@
 //! What holds of the runs of any files.
 
-ghost use Rattle.std.specs.Prelude.{◌≡◌, ◌≢◌, ◌⊎◌, List, ◌∷◌, Contains};
+ghost use Rattle.std.specs.Prelude.{◌≡◌, ◌≢◌, ◌⊎◌, ℕ, ◌≤◌, List, ◌∷◌, map, Some, Contains};
 ghost use Rattle.std.specs.List.{AllByRecursion};
 ghost use Rattle.std.specs.List.Sorted.{IsPermutation};
 ghost use Rattle.pm_values.specs.declared.file_meta.FileMeta.{FileMeta};
+ghost use Rattle.pm_levels.specs.declared.choice.Asked.{Asked};
+ghost use Rattle.pm_levels.specs.declared.choice.Pick.{Pick};
+ghost use Rattle.pm_levels.specs.declared.choice.PickRule.{PickRule};
 ghost use Rattle.pm_levels.specs.Overlap.{AreDisjoint, IsFirstOverlap, IsOverlap, RangesRise};
-ghost use Rattle.pm_levels.specs.Runs.{AreNamedApart, AreRuns, AreTwoOf, IsNewerThan, RunView, lone};
+ghost use Rattle.pm_levels.specs.Picking.{IsChoice, picked, top_of};
+ghost use Rattle.pm_levels.specs.Runs.{AreNamedApart, AreRuns, AreTwoOf, IsNewerThan, LevelsRise};
+ghost use Rattle.pm_levels.specs.Runs.{RunView, lone};
+ghost use Rattle.pm_levels.specs.Sizes.{size_of};
 
 /// Where no two files of one level have one name, the same files have the same runs, in whichever order they come.
 pub fn runs_law()
@@ -39,4 +45,12 @@ pub fn newest_law()
         ((a ≡ file) × Contains files b) ⊎ ((b ≡ file) × Contains files a) ⊎ AreTwoOf a b files }
     ensures disjoint { (file : FileMeta) (files : List FileMeta) → file.level ≡ 0 → AreDisjoint files →
         AreDisjoint (file ∷ files) }
+{}
+
+/// What is chosen of a group's runs are the newest ones. None of them is above the level that they go to, each of the
+/// others is, and they are all runs exactly where that is the highest level.
+pub fn pick_law()
+    ensures { (rule : PickRule) (asked : Asked) (runs : List RunView) (pick : Pick) → 1 ≤ rule.trigger →
+        1 ≤ top_of rule → LevelsRise runs → AllByRecursion (λ (run : RunView). run.level ≤ top_of rule) runs →
+        picked (map size_of runs) asked rule ≡ Some pick → IsChoice (top_of rule) runs pick }
 {}
