@@ -5,4 +5,5 @@ mod OverlapLemmas
 mod PairLemmas
 mod PickingLemmas
 mod PickLemmas
+mod ReplacedLemmas
 mod RunLemmas

@@ -1,5 +1,5 @@
 -- The runs of a group's files, newest first.
-use Rattle.std.specs.Prelude.{◌≡◌, ◌≢◌, ℕ, ◌<◌, ◌⊎◌, Bool, ◌&&◌, ◌==◌, nat_lt, None, IfSome}
+use Rattle.std.specs.Prelude.{◌≡◌, ◌≢◌, ℕ, ◌<◌, ◌≤◌, ◌⊎◌, Bool, ◌&&◌, ◌==◌, nat_lt, None, IfSome}
 use Rattle.std.specs.Prelude.{List, [], ◌∷◌, ◌++◌, length, Contains}
 use Rattle.std.specs.List.{AllByRecursion, flat_map, last_or}
 use Rattle.std.specs.List.Sorted.{IsPermutation, IsSorted}
@@ -39,6 +39,20 @@ pub record AreRuns (files : List FileMeta) (runs : List RunView) : Type 0 where
   pub order : IsSorted file_cmp (files_of runs)
   pub each : AllByRecursion IsRun runs
   pub levels : LevelsRise runs
+
+-- at most one run, at that level, with its files in their order
+pub record AreMadeAt (out : ℕ) (made : List RunView) : Type 0 where
+  pub one : length made ≤ 1
+  pub each : AllByRecursion (λ (run : RunView). IsRun run × (run.level ≡ out)) made
+  pub order : IsSorted file_cmp (files_of made)
+
+-- Of the runs of the files some that stand together make place for those made at a level. What is newer than these is
+-- below the level, and what is older is above it.
+pub record MakePlace (files : List FileMeta) (later taken made older : List RunView) (out : ℕ) : Type 0 where
+  pub were : AreRuns files (later ++ (taken ++ older))
+  pub are_made : AreMadeAt out made
+  pub below : AllByRecursion (λ (run : RunView). run.level < out) later
+  pub above : AllByRecursion (λ (run : RunView). out < run.level) older
 
 -- two of the items of a list, at whatever indices
 abbrev pub AreTwoOf : {X : Type 0} → X → X → List X → Type 0

@@ -1,6 +1,6 @@
 //! What holds of the runs of any files.
 
-ghost use Rattle.std.specs.Prelude.{◌≡◌, ◌≢◌, ◌⊎◌, ℕ, ◌≤◌, List, ◌∷◌, map, Some, Contains};
+ghost use Rattle.std.specs.Prelude.{◌≡◌, ◌≢◌, ◌⊎◌, ℕ, ◌≤◌, List, ◌∷◌, ◌++◌, map, Some, Contains};
 ghost use Rattle.std.specs.List.{AllByRecursion};
 ghost use Rattle.std.specs.List.Sorted.{IsPermutation};
 ghost use Rattle.pm_values.specs.declared.file_meta.FileMeta.{FileMeta};
@@ -9,8 +9,8 @@ ghost use Rattle.pm_levels.specs.declared.choice.Pick.{Pick};
 ghost use Rattle.pm_levels.specs.declared.choice.PickRule.{PickRule};
 ghost use Rattle.pm_levels.specs.Overlap.{AreDisjoint, IsFirstOverlap, IsOverlap, RangesRise};
 ghost use Rattle.pm_levels.specs.Picking.{IsChoice, picked, top_of};
-ghost use Rattle.pm_levels.specs.Runs.{AreNamedApart, AreRuns, AreTwoOf, IsNewerThan, LevelsRise};
-ghost use Rattle.pm_levels.specs.Runs.{RunView, lone};
+ghost use Rattle.pm_levels.specs.Runs.{AreNamedApart, AreRuns, AreTwoOf, IsNewerThan, LevelsRise, MakePlace};
+ghost use Rattle.pm_levels.specs.Runs.{RunView, files_of, lone};
 ghost use Rattle.pm_levels.specs.Sizes.{size_of};
 
 /// Where no two files of one level have one name, the same files have the same runs, in whichever order they come.
@@ -53,4 +53,19 @@ pub fn pick_law()
     ensures { (rule : PickRule) (asked : Asked) (runs : List RunView) (pick : Pick) → 1 ≤ rule.trigger →
         1 ≤ top_of rule → LevelsRise runs → AllByRecursion (λ (run : RunView). run.level ≤ top_of rule) runs →
         picked (map size_of runs) asked rule ≡ Some pick → IsChoice (top_of rule) runs pick }
+{}
+
+/// Where runs that stand together make place for at most one, at a level that is above those of the newer runs and below
+/// those of the older ones, the files then are these newer runs, that one and these older ones. They share keys and names
+/// no more than before.
+pub fn replaced_law()
+    ensures runs { (files after : List FileMeta) (later taken made older : List RunView) (out : ℕ) →
+        MakePlace files later taken made older out → IsPermutation after (files_of (later ++ (made ++ older))) →
+        AreRuns after (later ++ (made ++ older)) }
+    ensures disjoint { (files after : List FileMeta) (later taken made older : List RunView) (out : ℕ) →
+        MakePlace files later taken made older out → IsPermutation after (files_of (later ++ (made ++ older))) →
+        AreDisjoint files → AreDisjoint (files_of made) → AreDisjoint after }
+    ensures named { (files after : List FileMeta) (later taken made older : List RunView) (out : ℕ) →
+        MakePlace files later taken made older out → IsPermutation after (files_of (later ++ (made ++ older))) →
+        AreNamedApart files → AreNamedApart (files_of made) → AreNamedApart after }
 {}

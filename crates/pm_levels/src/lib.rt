@@ -9,7 +9,8 @@
 //! `pick` chooses which runs a compaction takes and to which level, by their sizes (`Levels::sizes`, `specs/Sizes.antt`)
 //! and a table's options (`specs/Picking.antt`). It answers as defined whatever the numbers are, since its sums stop at
 //! the greatest number of 128 bits, which no size that they are compared with reaches. What it chooses are the newest
-//! runs, to a level that lies between them and the others (`pick_law`).
+//! runs, to a level that lies between them and the others (`pick_law`); so a run made of them can stand in their place
+//! (`replaced_law`).
 #![tactic(auto)]
 
 mod choice;
@@ -22,7 +23,7 @@ mod runs;
 
 pub use choice::{Asked, Pick, PickRule};
 pub use fault::LevelFault;
-pub use laws::{newest_law, overlap_law, pick_law, ranges_law, runs_law};
+pub use laws::{newest_law, overlap_law, pick_law, ranges_law, replaced_law, runs_law};
 pub use levels::Levels;
 pub use picking::pick;
 pub use pm_values::FileMeta;
