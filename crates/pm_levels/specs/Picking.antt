@@ -1,5 +1,6 @@
 -- Which runs of a group a compaction takes, and what they become. Runs are given by their sizes, newest first.
-use Rattle.std.specs.Prelude.{◌≡◌, ℕ, ◌+◌, ◌-◌, ◌*◌, ◌<◌, ◌≤◌, ◌⊎◌, min, Bool, ◌&&◌, ◌||◌, ◌==◌, nat_le, nat_lt, if◌then◌else◌}
+use Rattle.std.specs.Prelude.{◌≡◌, ℕ, ◌+◌, ◌-◌, ◌*◌, ◌<◌, ◌≤◌, ◌⊎◌, min, nat_le, nat_lt}
+use Rattle.std.specs.Prelude.{Bool, ◌&&◌, ◌||◌, ◌==◌, if◌then◌else◌}
 use Rattle.std.specs.Prelude.{Option, Some, None, List, length, take, drop, slice_index_or}
 use Rattle.std.specs.List.{AllByRecursion, count_by, position_or_len, range_with_len, sum_by}
 use Rattle.std.specs.Option.{option_or}

@@ -55,9 +55,9 @@ pub fn pick_law()
         picked (map size_of runs) asked rule ≡ Some pick → IsChoice (top_of rule) runs pick }
 {}
 
-/// Where runs that stand together make place for at most one, at a level that is above those of the newer runs and below
-/// those of the older ones, the files then are these newer runs, that one and these older ones. They share keys and names
-/// no more than before.
+/// Where runs that stand together make place for at most one, at a level above those of the newer runs and below those
+/// of the older ones, the files then are these newer runs, that one and these older ones. They share keys and names no
+/// more than before.
 pub fn replaced_law()
     ensures runs { (files after : List FileMeta) (later taken made older : List RunView) (out : ℕ) →
         MakePlace files later taken made older out → IsPermutation after (files_of (later ++ (made ++ older))) →

@@ -6,11 +6,11 @@
 //! (`specs/Overlap.antt`), and only then (`overlap_law`); else the ranges of a run rise (`ranges_law`). It sorts the
 //! files in place, in about n log n comparisons, and moves each into its run.
 //!
-//! `pick` chooses which runs a compaction takes and to which level, by their sizes (`Levels::sizes`, `specs/Sizes.antt`)
-//! and a table's options (`specs/Picking.antt`). It answers as defined whatever the numbers are, since its sums stop at
-//! the greatest number of 128 bits, which no size that they are compared with reaches. What it chooses are the newest
-//! runs, to a level that lies between them and the others (`pick_law`); so a run made of them can stand in their place
-//! (`replaced_law`).
+//! `pick` chooses which runs a compaction takes and to which level, by their sizes (`Levels::sizes`,
+//! `specs/Sizes.antt`) and a table's options (`specs/Picking.antt`). It answers as defined whatever the numbers are,
+//! since its sums stop at the greatest number of 128 bits, which no size that they are compared with reaches. What it
+//! chooses are the newest runs, to a level that lies between them and the others (`pick_law`); so a run made of them
+//! can stand in their place (`replaced_law`).
 #![tactic(auto)]
 
 mod choice;
