@@ -31,6 +31,7 @@
 //! | `consumer-text` | a text | the text that is written for this consumer |
 //! | `live` | see below | the live files, each with the number of the entry that added it; after a refusal, if any |
 //! | `levels` | words | the runs, newest first, and their sizes; `nothing`, or the file that overlaps another |
+//! | `picked` | what is asked and four numbers, sizes | the choice of a compaction; or `none` |
 //! | `folder` | a bucket, a draft without partition columns | the path of the group's folder |
 //! | `manifest-list` | a draft, a path, digits | the manifests, and what is written for them; or the refusal |
 //! | `manifest` | a draft, a path, digits | the entries, and what is written for them; or the refusal |
@@ -48,6 +49,10 @@
 //!
 //! A word of `levels` is a file, `NAME@LEVEL/LEAST-GREATEST/SEQUENCE/SIZE`, with numbers as keys and the greatest
 //! sequence number. A run is printed as `LEVEL:NAMES`, its size as `LEVEL:BYTES`.
+//!
+//! What is asked of `picked` is `full`, `level-zero` or `no`, and the numbers are the trigger, the amplification, the
+//! ratio and the number of levels, with a blank between each two. A size is `LEVEL:BYTES`; that of the newest run comes
+//! first.
 //!
 //! A file of manifests is that of the draft's table. A manifest of a list is printed as
 //! `["NAME",SIZE,ADDS,DELETES,SCHEMA]`, and an entry as
@@ -89,6 +94,7 @@ mod levels;
 mod live;
 mod manifest;
 mod manifest_blocks;
+mod picked;
 mod record_text;
 mod refusal;
 mod row;
@@ -156,6 +162,7 @@ fn answer_file(rt: &HostRuntime, case: &mut Case, codec: &str, arguments: &str) 
         "consumer" | "consumer-text" => snapshot::consumer_answer(case, codec, arguments),
         "live" => live::answer(case, arguments),
         "levels" => levels::answer(case, arguments),
+        "picked" => picked::answer(case, arguments),
         _ => answer_table(rt, case, codec, arguments),
     }
 }
