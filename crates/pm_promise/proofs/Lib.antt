@@ -1,0 +1,9 @@
+mod Common
+mod Create
+mod First
+mod InTurn
+mod Origin
+mod Resting
+mod Scan
+mod Snapshots
+mod Write

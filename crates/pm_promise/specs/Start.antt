@@ -1,0 +1,34 @@
+-- Where a command may start, and what it reads.
+use Rattle.std.specs.Prelude.{◌≡◌, ◌≢◌, ℕ, List, Option, Some}
+use Rattle.pm_store.specs.Files.{Files}
+use Rattle.pm_model_history.specs.History.{History}
+use Rattle.pm_model_folder.specs.Changes.{Actor, IsNoOrigin, origin_name}
+use Rattle.pm_model_folder.specs.Folder.{Folder}
+use Rattle.pm_create.specs.Creator.{own_origin}
+use Rattle.pm_create.specs.Making as making
+use Rattle.pm_commit.specs.AllCalls as commit
+use Rattle.pm_words.specs.declared.command.Command.{Command}
+use Rattle.pm_words.specs.declared.command.Command.TheVariants as commands
+
+-- files that stand for the history, in which a command of this actor may start
+abbrev pub MayStart : Command → Actor → History → Files → Type 0
+MayStart commands.Create me h f = making.MayStart me h f
+MayStart (commands.Write user identifier) me h f = commit.MayStart me h f
+MayStart other me h f = Folder f h
+
+-- These are the bytes of the input, where the command reads it.
+abbrev pub HasInput : Command → List ℕ → Option (List ℕ) → Type 0
+HasInput (commands.Scan at) bytes left = Unit {0}
+HasInput commands.Snapshots bytes left = Unit {0}
+HasInput other bytes left = left ≡ Some bytes
+
+-- Files that stand for the history, to which the actor is new: neither the origin of the table nor a file that a
+-- snapshot names bears its name.
+pub record IsNew (me : Actor) (h : History) (f : Files) : Type 0 where
+  pub folder : Folder f h
+  pub origin : IsNoOrigin h (own_origin me)
+  pub names : commit.NamesNone me h f
+
+-- two actors give their files other names
+abbrev pub HaveOtherNames : Actor → Actor → Type 0
+HaveOtherNames me other = origin_name other ≢ origin_name me
