@@ -1,15 +1,18 @@
 -- Of files that a store leaves, and of what is known of an execution.
-use Rattle.std.proofs.Common.{◌≡◌, ◌≤◌, List, ◌++◌, length, Option, None, Some, IsSomeAnd, inl, inr, refl, sym, subst, ap, length-append, take_all, arith}
+use Rattle.std.proofs.Common.{◌≡◌, ◌≤◌, List, ◌++◌, length, Option, None, Some, IsSomeAnd, inl, refl, sym, subst, ap, ◌∙◌, length-append, take_all, arith}
 use Rattle.pm_values.specs.declared.refusal.Refusal.{Refusal}
 use Rattle.pm_values.specs.declared.refusal.Refusal.TheVariants as refusals
 use Rattle.pm_store.specs.declared.call.Op.{Op}
 use Rattle.pm_store.specs.Files.{Files, files_after}
-use Rattle.pm_store.specs.Images.{Extends}
+use Rattle.pm_store.specs.Images.{AllImages, Extends}
 use Rattle.pm_store.specs.Store.{StoreView}
 use Rattle.pm_model_history.specs.History.{History}
+use Rattle.pm_model_folder.specs.Changes.{Actor}
 use Rattle.pm_create.specs.Making.{LeavesFiles}
 use Rattle.pm_words.specs.declared.command.Command.{Command}
-use Rattle.pm_promise.specs.Promise.{Execution, Makes, MayMake}
+use Rattle.pm_command.specs.Outside.{actor}
+use Rattle.pm_promise.specs.Promise.{Execution, Makes, MayMake, StandsFreely}
+use Rattle.pm_promise.specs.Start.{HaveOtherNames, IsNew}
 
 -- the execution with this command in its place
 abbrev pub with_command : Command → Execution → Execution
@@ -70,12 +73,62 @@ extends_end P first now = by first.ops now.ops
         longer : (ops more : List Op) → length ops ≤ length (ops ++ more)
         longer ops more = omega (arith, length-append ops more)
 
--- what it made is what it may make
-pub may_make : (e : Execution) (h later : History) (refusal : Option Refusal) → Makes e h refusal later → MayMake e h later
-may_make e h later None (text, does, taken) = inr (text, does)
-may_make e h later (Some (refusals.SinkFault snapshot)) (text, does, took) = inr (text, does)
-may_make e h later (Some (refusals.StoreFault path)) (may, out) = may
-may_make e h later (Some other) made = inl made.0
+same_ops : (ops others : List Op) → Some ops ≡ Some others → ops ≡ others
+same_ops ops others is = cc
+
+-- images have something, and each of many things that they have
+pub extends_each : {X : Type 0} (P : Files → Type 0) (C : X → Type 0) (Q : X → Files → Type 0) (first now : Option (List Op)) → Extends P first now
+    → ((x : X) → C x → Extends (Q x) first now) → Extends (λ f. P f × ((x : X) → C x → Q x f)) first now
+extends_each {X} P C Q None now is each = is
+extends_each {X} P C Q (Some old) now (more, is, images) each = (more, is, λ i f from image. (images i f from image, λ x c. its x c i f from image))
+  where
+    its : (x : X) → C x → AllImages (Q x) (length old) (old ++ more)
+    its x c =
+        let other = each x c in
+        subst (AllImages (Q x) (length old)) (same_ops (old ++ other.0) (old ++ more) (sym other.1 ∙ is)) other.2
+
+pub leaves_each : {X : Type 0} (P : Files → Type 0) (C : X → Type 0) (Q : X → Files → Type 0) (store : StoreView) → LeavesFiles P store
+    → ((x : X) → C x → LeavesFiles (Q x) store) → LeavesFiles (λ f. P f × ((x : X) → C x → Q x f)) store
+leaves_each {X} P C Q store = at_ops store.ops
+  where
+    at_ops : (ops : Option (List Op)) → IsSomeAnd ops (λ ops. P (files_after ops)) → ((x : X) → C x → IsSomeAnd ops (λ ops. Q x (files_after ops)))
+        → IsSomeAnd ops (λ ops. P (files_after ops) × ((x : X) → C x → Q x (files_after ops)))
+    at_ops None is each = is
+    at_ops (Some ops) is each = (is, each)
+
+-- what is so of the files of two stores
+pub leaves_turned : (R : Files → Files → Type 0) (one other : StoreView) → LeavesFiles (λ f. LeavesFiles (R f) other) one
+    → LeavesFiles (λ g. LeavesFiles (λ f. R f g) one) other
+leaves_turned R one other = at_ops one.ops other.ops
+  where
+    at_ops : (known now : Option (List Op)) → IsSomeAnd known (λ ops. IsSomeAnd now (λ more. R (files_after ops) (files_after more)))
+        → IsSomeAnd now (λ more. IsSomeAnd known (λ ops. R (files_after ops) (files_after more)))
+    at_ops None now is = absurd is
+    at_ops (Some ops) None is = is
+    at_ops (Some ops) (Some more) is = is
+
+-- whatever is so of these files the store leaves
+pub any_here : (P : Files → Type 0) (R : Type 0) (store : StoreView) → ((f : Files) → P f → ((T : Files → Type 0) → T f → LeavesFiles T store) → R)
+    → LeavesFiles P store → R
+any_here P R store join = by store.ops refl
+  where
+    by : (ops : Option (List Op)) → store.ops ≡ ops → IsSomeAnd store.ops (λ ops. P (files_after ops)) → R
+    by None same is = absurd (subst (λ (ops : Option (List Op)). IsSomeAnd ops (λ ops. P (files_after ops))) same is)
+    by (Some ops) same is =
+        join (files_after ops) (subst (λ (ops : Option (List Op)). IsSomeAnd ops (λ ops. P (files_after ops))) same is)
+        (λ T here. subst (λ (ops : Option (List Op)). IsSomeAnd ops (λ ops. T (files_after ops))) (sym same) here)
+
+-- files stand so for what it may make
+abbrev pub StandsForSome : (History → Files → Type 0) → Execution → History → Files → Type 0
+StandsForSome Stands e h f = (later : History) × MayMake e h later × Stands later f
+
+-- and freely
+abbrev pub StandsForSomeFreely : Execution → History → StoreView → Files → Type 0
+StandsForSomeFreely e h first f = (later : History) × MayMake e h later × StandsFreely e h first later f
+
+-- another actor, which was new at first
+abbrev pub WasNew : Execution → History → StoreView → Actor → Type 0
+WasNew e h first other = HaveOtherNames (actor e.start) other × LeavesFiles (IsNew other h) first
 
 -- ---- refusals but that of the sink
 

@@ -34,9 +34,9 @@ use Rattle.pm_command.specs.Outside.{Outside, Prints, Start, actor}
 use Rattle.pm_command_create.specs.Create as create
 use Rattle.pm_command_create.specs.Create.{ActsCreate, CreatesTable, IsDraftOf, LeavesTable, StandsForDraft, StandsForEither, created_text, creator}
 use Rattle.pm_promise.specs.InTurn.{IsExecuted}
-use Rattle.pm_promise.specs.Promise.{Does, Execution, Keeps, KeepsIt, Makes, MayMake, StandsForSome, creates}
+use Rattle.pm_promise.specs.Promise.{Does, Execution, Keeps, KeepsIt, Makes, MayMake, StandsFreely, creates}
 use Rattle.pm_promise.specs.Start.{HaveOtherNames, IsNew}
-use Rattle.pm_promise.proofs.Common.{NotSink, any_files, with_command, leaves_both, leaves_some, leaves_weaker, makes_nothing, may_make}
+use Rattle.pm_promise.proofs.Common.{NotSink, StandsForSomeFreely, WasNew, any_files, extends_each, leaves_both, leaves_each, leaves_some, leaves_weaker, makes_nothing, with_command}
 use Rattle.pm_promise.proofs.Origin.{FolderKept, IsKept, all_kept, create_calls}
 use Rattle.pm_promise.proofs.Resting.{unprinted}
 
@@ -77,7 +77,7 @@ module _ (e : Execution) (h : History) where
   does s none draft = subst (λ (h : History). Does e.start e.input commands.Create h (table s []) created_text) (sym none) (creates s draft)
 
   abbrev IsEnd : Option Refusal → Files → Type 0
-  IsEnd answer f = (later : History) × Makes it h answer later × Folder f later
+  IsEnd answer f = (later : History) × (Makes it h answer later × MayMake it h later) × Folder f later
 
   may_stand : (f : Files) → StandsForEither e.start e.input h f → (later : History) × MayMake it h later × Folder f later
   may_stand f (inl folder) = (h, inl refl, folder)
@@ -90,20 +90,24 @@ module _ (e : Execution) (h : History) where
   ended : (answer : Option Refusal) → ActsCreate e.start e.before e.after answer → (first : StoreView)
       → CreatesTable e.start h e.input first e.before e.after answer → LeavesFiles (IsEnd answer) e.after.store
   ended None acts first was = leaves_weaker (LeavesTable e.start e.input None h) (IsEnd None) e.after.store
-      (λ f (none, (s, draft, folder)). (table s [], (created_text, does s none draft, (was.done refl).1), folder)) was.leaves
+      (λ f (none, (s, draft, folder)).
+      let done = does s none draft in
+      (table s [], ((created_text, done, (was.done refl).1), inr (created_text, done)), folder)) was.leaves
   ended (Some (refusals.SinkFault snapshot)) acts first was =
       leaves_weaker (LeavesTable e.start e.input (Some (refusals.SinkFault snapshot)) h) (IsEnd (Some (refusals.SinkFault snapshot))) e.after.store
-      (λ f (none, (s, draft, folder)). (table s [], (created_text, does s none draft, took_prefix e.start e.before e.after snapshot acts), folder))
+      (λ f (none, (s, draft, folder)).
+      let done = does s none draft in
+      (table s [], ((created_text, done, took_prefix e.start e.before e.after snapshot acts), inr (created_text, done)), folder))
       was.leaves
   ended (Some (refusals.StoreFault path)) acts first was =
       leaves_weaker (LeavesTable e.start e.input (Some (refusals.StoreFault path)) h) (IsEnd (Some (refusals.StoreFault path))) e.after.store
       (λ f is.
       let stands = may_stand f (after_fault path f is) in
-      (stands.0, (stands.1, nothing_printed e.start e.before e.after (refusals.StoreFault path) tt acts), stands.2))
+      (stands.0, ((stands.1, nothing_printed e.start e.before e.after (refusals.StoreFault path) tt acts), stands.1), stands.2))
       was.leaves
   ended (Some refusal) acts first was =
       leaves_weaker (λ f. Folder f h) (IsEnd (Some refusal)) e.after.store
-      (λ f folder. (h, makes_nothing it h refusal tt (nothing_printed e.start e.before e.after refusal tt acts), folder)) was.leaves
+      (λ f folder. (h, (makes_nothing it h refusal tt (nothing_printed e.start e.before e.after refusal tt acts), inl refl), folder)) was.leaves
 
 -- ---- what the draft's table is to others
 
@@ -171,45 +175,68 @@ module _ (kept : FolderKept) (stay : ContentsStay) (one : OneContents) (law : Dr
   abbrev after : StoreView
   after = e.after.store
 
-  abbrev ItsFree : Actor → History → History → Type 0
-  ItsFree other h later = LeavesFiles (IsNew other later) after × Extends (StandsForSome (IsNew other) (with_command commands.Create e) h) first.ops after.ops
+  abbrev it_is : Execution
+  it_is = with_command commands.Create e
 
-  free : (h later : History) (other : Actor) → HaveOtherNames (actor e.start) other → IsAlone first after → LeavesFiles (making.MayStart (actor e.start) h) first
-      → LeavesFiles (IsNew other h) first → MayMake (with_command commands.Create e) h later → LeavesFiles (λ f. Folder f later) after
-      → Extends (StandsForEither e.start e.input h) first.ops after.ops → ItsFree other h later
-  free no_table later other names alone may new make ends images = (
-    leaves_weaker (λ f. Folder f later) (IsNew other later) after (λ f folder. new_made law e other later f names make folder) ends,
-    Extends-weaker (StandsForEither e.start e.input no_table) (StandsForSome (IsNew other) (with_command commands.Create e) no_table) first.ops after.ops
-        (λ f is.
-        let stands = may_stand e no_table f is in
-        (stands.0, stands.1, new_made law e other stands.0 f names stands.1 stands.2))
-        images,
-  )
-  free (table s es) later other names alone may new make ends images =
+  -- where there was no table
+  of_none : (f : Files) (later : History) → MayMake it_is no_table later → Folder f later → StandsFreely it_is no_table first later f
+  of_none f later make folder = record { folder = folder; free = λ other names new. new_made law e other later f names make folder }
+
+  -- where there was one
+  abbrev AllKept : TableSchema → List Entry → Files → Type 0
+  AllKept s es f = (other : Actor) → WasNew it_is (table s es) first other → IsKept kept stay one (actor e.start) other s es f
+
+  of_table : (s : TableSchema) (es : List Entry) (f : Files) (later : History) → MayMake it_is (table s es) later → Folder f later → AllKept s es f
+      → StandsFreely it_is (table s es) first later f
+  of_table s es f later make folder all = record {
+    folder = folder;
+    free = λ other names new.
+        let so = all other (names, new) in
+        let origin : IsNoOrigin (table s es) (own_origin other) =
+        any_files (IsNew other (table s es)) (IsNoOrigin (table s es) (own_origin other)) first (λ f is. is.origin) new in
+        let is : IsNew other (table s es) f = record { folder = so.0; origin = origin; names = so.1 } in
+        subst (λ (h : History). IsNew other h f) (sym (nothing_made e s es later make)) is;
+  }
+
+  kept_at : (s : TableSchema) (es : List Entry) → IsAlone first after → LeavesFiles (making.MayStart (actor e.start) (table s es)) first → (other : Actor)
+      → WasNew it_is (table s es) first other
+      → LeavesFiles (IsKept kept stay one (actor e.start) other s es) after × Extends (IsKept kept stay one (actor e.start) other s es) first.ops after.ops
+  kept_at s es alone may other (names, new) =
       let calls = create_calls e.start e.before e.after e.refusal acts in
-      let was : LeavesFiles (IsKept kept stay one (actor e.start) other s es) first =
-      leaves_both (making.MayStart (actor e.start) (table s es)) (IsNew other (table s es)) (IsKept kept stay one (actor e.start) other s es) first
-      (λ f may is. (may.0, is.names, may.1)) may new in
-      let origin : IsNoOrigin (table s es) (own_origin other) = any_files (IsNew other (table s es)) (IsNoOrigin (table s es) (own_origin other)) first (λ f is. is.origin) new in
-      let is = all_kept kept stay one (actor e.start) other s es calls.0 first after calls.1 calls.2 alone was in
-      let new_at : (f : Files) → IsKept kept stay one (actor e.start) other s es f → IsNew other (table s es) f = λ f so. record { folder = so.0; origin = origin; names = so.1 } in (
-        leaves_weaker (IsKept kept stay one (actor e.start) other s es) (IsNew other later) after
-            (λ f so. subst (λ (h : History). IsNew other h f) (sym (nothing_made e s es later make)) (new_at f so)) is.0,
-        Extends-weaker (IsKept kept stay one (actor e.start) other s es) (StandsForSome (IsNew other) (with_command commands.Create e) (table s es)) first.ops after.ops
-            (λ f so. (table s es, inl refl, new_at f so)) is.1,
-      )
+      all_kept kept stay one (actor e.start) other s es calls.0 first after calls.1 calls.2 alone
+      (leaves_both (making.MayStart (actor e.start) (table s es)) (IsNew other (table s es)) (IsKept kept stay one (actor e.start) other s es) first
+      (λ f may is. (may.0, is.names, may.1)) may new)
+
+  ends_freely : (h later : History) → IsAlone first after → LeavesFiles (making.MayStart (actor e.start) h) first → MayMake it_is h later
+      → LeavesFiles (λ f. Folder f later) after → LeavesFiles (StandsFreely it_is h first later) after
+  ends_freely no_table later alone may make ends =
+      leaves_weaker (λ f. Folder f later) (StandsFreely it_is no_table first later) after (λ f folder. of_none f later make folder) ends
+  ends_freely (table s es) later alone may make ends =
+      leaves_weaker (λ f. Folder f later × AllKept s es f) (StandsFreely it_is (table s es) first later) after
+      (λ f both. of_table s es f later make both.0 both.1)
+      (leaves_each (λ f. Folder f later) (WasNew it_is (table s es) first) (λ other f. IsKept kept stay one (actor e.start) other s es f) after ends
+      (λ other was. (kept_at s es alone may other was).0))
+
+  images_freely : (h : History) → IsAlone first after → LeavesFiles (making.MayStart (actor e.start) h) first
+      → Extends (StandsForEither e.start e.input h) first.ops after.ops → Extends (StandsForSomeFreely it_is h first) first.ops after.ops
+  images_freely no_table alone may images =
+      Extends-weaker (StandsForEither e.start e.input no_table) (StandsForSomeFreely it_is no_table first) first.ops after.ops
+      (λ f is. let stands = may_stand e no_table f is in (stands.0, stands.1, of_none f stands.0 stands.1 stands.2)) images
+  images_freely (table s es) alone may images =
+      Extends-weaker (λ f. StandsForEither e.start e.input (table s es) f × AllKept s es f) (StandsForSomeFreely it_is (table s es) first) first.ops after.ops
+      (λ f both. let stands = may_stand e (table s es) f both.0 in (stands.0, stands.1, of_table s es f stands.0 stands.1 stands.2 both.1))
+      (extends_each (StandsForEither e.start e.input (table s es)) (WasNew it_is (table s es) first)
+      (λ other f. IsKept kept stay one (actor e.start) other s es f) first.ops after.ops images (λ other was. (kept_at s es alone may other was).1))
 
   keeps_it : (h : History) → IsAlone first after → LeavesFiles (making.MayStart (actor e.start) h) first
-      → CreatesTable e.start h e.input first e.before e.after e.refusal → KeepsIt (with_command commands.Create e) h first
+      → CreatesTable e.start h e.input first e.before e.after e.refusal → KeepsIt it_is h first
   keeps_it h alone may was =
-      let end = leaves_some (Makes (with_command commands.Create e) h e.refusal) (λ later f. Folder f later) after (ended e h e.refusal acts first was) in record {
+      let end = leaves_some (λ later. Makes it_is h e.refusal later × MayMake it_is h later) (λ later f. Folder f later) after (ended e h e.refusal acts first was) in
+      record {
         later = end.0;
-        makes = end.1;
-        ends = end.2;
-        images = Extends-weaker (StandsForEither e.start e.input h) (StandsForSome (λ h f. Folder f h) (with_command commands.Create e) h) first.ops after.ops
-            (λ f is. may_stand e h f is) was.images;
-        free = λ other names new.
-            free h end.0 other names alone may new (may_make (with_command commands.Create e) h end.0 e.refusal end.1) end.2 was.images;
+        makes = end.1.0;
+        ends = ends_freely h end.0 alone may end.1.1 end.2;
+        images = images_freely h alone may was.images;
       }
 
 pub keeps : FolderKept → ContentsStay → OneContents → DraftLaw → (e : Execution) → IsExecuted (with_command commands.Create e) → Keeps (with_command commands.Create e)

@@ -34,10 +34,14 @@ first_known P (Some ops) now (more, is, x) alone here =
     ∙ ap (λ (more : List Op). Some (ops ++ more)) (none_other more few)
     ∙ ap Some (append-nil ops)
 
+pub first_same : (P : Files → Type 0) (before after : StoreView) → GoesOn before after → IsAlone before after → LeavesFiles P before
+    → (at_first_own before after).ops ≡ before.ops
+first_same P before after goes alone here = first_known (λ ops. P (files_after ops)) before.ops after.ops goes alone here
+
 pub from_before : (P : Files → Type 0) (before after : StoreView) → GoesOn before after → IsAlone before after → LeavesFiles P before
     → LeavesFiles P (at_first_own before after) × IsAlone (at_first_own before after) after
 from_before P before after goes alone here =
-    let same = first_known (λ ops. P (files_after ops)) before.ops after.ops goes alone here in
+    let same = first_same P before after goes alone here in
     (subst (λ (ops : Option (List Op)). IsSomeAnd ops (λ ops. P (files_after ops))) (sym same) here, alone ∙ ap others_told (sym same))
 
 -- what a command does not touch goes on as it is

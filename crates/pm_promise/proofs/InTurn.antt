@@ -1,11 +1,12 @@
 -- Commands that are executed one after another.
-use Rattle.std.proofs.Common.{◌≡◌, ℕ, List, [], ◌∷◌, length, slice_get, append-nil, Option, None, Some, IsSomeAnd, Ok, refl, sym, subst, ap, ◌∙◌}
+use Rattle.std.proofs.Common.{◌≡◌, ◌≤◌, ℕ, List, [], ◌∷◌, length, slice_get, append-nil, Option, None, Some, IsSomeAnd, Ok, refl, sym, subst, ap, ◌∙◌}
 use Rattle.std.specs.FinMap as map
 use Rattle.std.specs.List.{AllByRecursion}
 use Rattle.pm_base.specs.Known.{and_then}
 use Rattle.pm_values.specs.declared.refusal.Refusal.{Refusal}
 use Rattle.pm_store.specs.declared.call.Op.{Op}
 use Rattle.pm_store.specs.Files.{Files, files_after}
+use Rattle.pm_store.specs.Images.{CrashImage, Extends}
 use Rattle.pm_store.specs.Store.{StoreView, IsAlone, at_first_own}
 use Rattle.pm_input.specs.Lines.{row_lines}
 use Rattle.pm_schema.specs.declared.schema.TableSchema.{TableSchema}
@@ -19,13 +20,14 @@ use Rattle.pm_write.specs.Taken.{all_taken}
 use Rattle.pm_words.specs.declared.command.Command.{Command}
 use Rattle.pm_words.specs.declared.command.Command.TheVariants as commands
 use Rattle.pm_command.specs.Outside.{Start, actor}
+use Rattle.pm_command.proofs.Uncalled.{next_stands}
 use Rattle.pm_command_create.specs.Create.{IsDraftOf}
 use Rattle.pm_command_write.specs.Write.{entry_by, writer_of}
-use Rattle.pm_promise.specs.InTurn.{AreInTurn, HaveOwnNames, IsExecuted, MakeInTurn, store_after}
-use Rattle.pm_promise.specs.Promise.{Does, Execution, Keeps, KeepsIt, Makes, commits, creates, has_already, scans, takes_none}
+use Rattle.pm_promise.specs.InTurn.{AreInTurn, Ending, HaveOwnNames, IsExecuted, Leaves, MakeInTurn, MakesBy, Turn, ended, stopped, to_its_end}
+use Rattle.pm_promise.specs.Promise.{Does, Execution, Keeps, KeepsIt, Makes, MayMake, StandsFreely, commits, creates, has_already, scans, takes_none}
 use Rattle.pm_promise.specs.Start.{HaveOtherNames, IsNew, MayStart}
-use Rattle.pm_promise.proofs.Common.{leaves_both, leaves_weaker}
-use Rattle.pm_promise.proofs.First.{acts_goes_on, from_before}
+use Rattle.pm_promise.proofs.Common.{StandsForSomeFreely, leaves_some, leaves_weaker}
+use Rattle.pm_promise.proofs.First.{acts_goes_on, first_same, from_before}
 
 -- what the law of every command says, and that of actors that are new
 abbrev pub KeepsEach : Type 0
@@ -34,43 +36,71 @@ KeepsEach = (e : Execution) → IsExecuted e → Keeps e
 abbrev pub NewMayStart : Type 0
 NewMayStart = (command : Command) (me : Actor) (h : History) (f : Files) → IsNew me h f → MayStart command me h f
 
-abbrev AreNew : List Execution → History → Files → Type 0
-AreNew es h f = AllByRecursion (λ (e : Execution). IsNew (actor e.start) h f) es
+abbrev AreNew : List Turn → History → Files → Type 0
+AreNew turns h f = AllByRecursion (λ (t : Turn). IsNew (actor t.execution.start) h f) turns
+
+abbrev HaveOthers : Execution → List Turn → Type 0
+HaveOthers e turns = AllByRecursion (λ (next : Turn). HaveOtherNames (actor e.start) (actor next.execution.start)) turns
+
+abbrev StandsWith : List Turn → History → Files → Type 0
+StandsWith turns h f = Folder f h × AreNew turns h f
 
 -- the actors of those that follow are new to what a command made
-still_new : (e : Execution) (h : History) (first : StoreView) (kept : KeepsIt e h first) (es : List Execution)
-    → AllByRecursion (λ (next : Execution). HaveOtherNames (actor e.start) (actor next.start)) es → LeavesFiles (AreNew es h) first
-    → LeavesFiles (AreNew es kept.later) e.after.store
-still_new e h first kept [] names new = leaves_weaker (λ f. Folder f kept.later) (AreNew [] kept.later) e.after.store (λ f folder. tt) kept.ends
-still_new e h first kept (next ∷ es) (name, names) new =
-    leaves_both (IsNew (actor next.start) kept.later) (AreNew es kept.later) (AreNew (next ∷ es) kept.later) e.after.store (λ f one all. (one, all))
-    (kept.free (actor next.start) name (leaves_weaker (AreNew (next ∷ es) h) (IsNew (actor next.start) h) first (λ f both. both.0) new)).0
-    (still_new e h first kept es names (leaves_weaker (AreNew (next ∷ es) h) (AreNew es h) first (λ f both. both.1) new))
+still_new : (e : Execution) (h : History) (first : StoreView) (later : History) (f : Files) → StandsFreely e h first later f → (turns : List Turn)
+    → HaveOthers e turns → LeavesFiles (AreNew turns h) first → AreNew turns later f
+still_new e h first later f stands [] names new = tt
+still_new e h first later f stands (t ∷ turns) (name, names) new = (
+  stands.free (actor t.execution.start) name
+      (leaves_weaker (AreNew (t ∷ turns) h) (IsNew (actor t.execution.start) h) first (λ f both. both.0) new),
+  still_new e h first later f stands turns names (leaves_weaker (AreNew (t ∷ turns) h) (AreNew turns h) first (λ f both. both.1) new),
+)
 
-abbrev StandsWith : List Execution → History → Files → Type 0
-StandsWith es h f = Folder f h × AreNew es h f
+-- what images have the next store has
+image_stands : (P : Files → Type 0) (before after next : Option (List Op)) → Extends P before after
+    → IsSomeAnd before (λ before. IsSomeAnd after (λ after. IsSomeAnd next (λ ops. (i : ℕ) × (length before ≤ i) × CrashImage after i (files_after ops))))
+    → IsSomeAnd next (λ ops. P (files_after ops))
+image_stands P None after next images has = absurd has
+image_stands P (Some before) None next images has = absurd has
+image_stands P (Some before) (Some after) None images has = absurd has
+image_stands P (Some before) (Some after) (Some ops) images (i, from, image) =
+    next_stands P before after i (files_after ops) images from image ops (record { ops = Some ops; faults = 0 }) refl refl
 
-pub in_turn : KeepsEach → NewMayStart → (es : List Execution) (store : StoreView) (h : History) → AreInTurn store es → HaveOwnNames es
-    → LeavesFiles (StandsWith es h) store → (last : History) × MakeInTurn es h last × LeavesFiles (λ f. Folder f last) (store_after store es)
-in_turn keeps starts [] store h turns names stands = (h, refl, leaves_weaker (StandsWith [] h) (λ f. Folder f h) store (λ f both. both.0) stands)
-in_turn keeps starts (e ∷ es) store h (same, is, alone, input, turns) (names, others) stands =
+-- the next store stands for what the command made
+next_store : (ending : Ending) (e : Execution) (h : History) (first next : StoreView) → first.ops ≡ e.before.store.ops → KeepsIt e h first
+    → Leaves ending e next → (later : History) × MakesBy ending e h later × LeavesFiles (StandsFreely e h first later) next
+next_store ended e h first next same kept is =
+    (kept.later, kept.makes, subst (λ (store : StoreView). LeavesFiles (StandsFreely e h first kept.later) store) (sym is) kept.ends)
+next_store stopped e h first next same kept has =
+    leaves_some (MayMake e h) (StandsFreely e h first) next
+    (image_stands (StandsForSomeFreely e h first) e.before.store.ops e.after.store.ops next.ops
+    (subst (λ (known : Option (List Op)). Extends (StandsForSomeFreely e h first) known e.after.store.ops) same kept.images) has)
+
+pub in_turn : KeepsEach → NewMayStart → (turns : List Turn) (store last : StoreView) (h : History) → AreInTurn store turns last → HaveOwnNames turns
+    → LeavesFiles (StandsWith turns h) store → (later : History) × MakeInTurn turns h later × LeavesFiles (λ f. Folder f later) last
+in_turn keeps starts [] store last h is names stands =
+    (h, refl, subst (λ (store : StoreView). LeavesFiles (λ f. Folder f h) store) (sym is) (leaves_weaker (StandsWith [] h) (λ f. Folder f h) store (λ f both. both.0) stands))
+in_turn keeps starts (t ∷ turns) store last h (same, is, alone, input, (next, leaves, rest)) (names, others) stands =
+    let e = t.execution in
     let first = at_first_own e.before.store e.after.store in
-    let found = from_before (StandsWith (e ∷ es) h) e.before.store e.after.store (acts_goes_on e.command e.start e.before e.after e.refusal is.acts)
-    (subst (λ (store : StoreView). IsAlone store e.after.store) (sym same) alone)
-    (subst (λ (store : StoreView). LeavesFiles (StandsWith (e ∷ es) h) store) (sym same) stands) in
-    let may = leaves_weaker (StandsWith (e ∷ es) h) (MayStart e.command (actor e.start) h) first
+    let goes = acts_goes_on e.command e.start e.before e.after e.refusal is.acts in
+    let only : IsAlone e.before.store e.after.store = subst (λ (store : StoreView). IsAlone store e.after.store) (sym same) alone in
+    let here : LeavesFiles (StandsWith (t ∷ turns) h) e.before.store = subst (λ (store : StoreView). LeavesFiles (StandsWith (t ∷ turns) h) store) (sym same) stands in
+    let found = from_before (StandsWith (t ∷ turns) h) e.before.store e.after.store goes only here in
+    let may = leaves_weaker (StandsWith (t ∷ turns) h) (MayStart e.command (actor e.start) h) first
     (λ f both. starts e.command (actor e.start) h f both.1.0) found.0 in
     let kept : KeepsIt e h first = keeps e is found.1 h may input in
-    let new = still_new e h first kept es names (leaves_weaker (StandsWith (e ∷ es) h) (AreNew es h) first (λ f both. both.1.1) found.0) in
-    let rest = in_turn keeps starts es e.after.store kept.later turns others
-    (leaves_both (λ f. Folder f kept.later) (AreNew es kept.later) (StandsWith es kept.later) e.after.store (λ f one all. (one, all)) kept.ends new) in
-    (rest.0, (kept.later, kept.makes, rest.1), rest.2)
+    let new : LeavesFiles (AreNew turns h) first = leaves_weaker (StandsWith (t ∷ turns) h) (AreNew turns h) first (λ f both. both.1.1) found.0 in
+    let left = next_store t.ending e h first next (first_same (StandsWith (t ∷ turns) h) e.before.store e.after.store goes only here) kept leaves in
+    let made = in_turn keeps starts turns next last left.0 rest others
+    (leaves_weaker (StandsFreely e h first left.0) (StandsWith turns left.0) next
+    (λ f free. (free.folder, still_new e h first left.0 f free turns names new)) left.2) in
+    (made.0, (left.0, left.1, made.1), made.2)
 
 -- ---- from nothing
 
-pub all_new : ((me : Actor) → IsNew me no_table map.empty) → (es : List Execution) → AreNew es no_table map.empty
+pub all_new : ((me : Actor) → IsNew me no_table map.empty) → (turns : List Turn) → AreNew turns no_table map.empty
 all_new new [] = tt
-all_new new (e ∷ es) = (new (actor e.start), all_new new es)
+all_new new (t ∷ turns) = (new (actor t.execution.start), all_new new turns)
 
 pub at_nothing : (P : Files → Type 0) (store : StoreView) → store.ops ≡ Some [] → P map.empty → LeavesFiles P store
 at_nothing P store is here = subst (λ (ops : Option (List Op)). IsSomeAnd ops (λ ops. P (files_after ops))) (sym is) here
@@ -120,7 +150,7 @@ FirstSteps create write scan = (s : TableSchema) × (rows : List HistoryRow) × 
 
 pub first_steps : (create write scan : Execution) (user : Option (List ℕ)) (number : Option ℕ) → create.command ≡ commands.Create → create.refusal ≡ None
     → write.command ≡ commands.Write user number → write.refusal ≡ None → scan.command ≡ commands.Scan None → scan.refusal ≡ None
-    → (last : History) → MakeInTurn (create ∷ write ∷ scan ∷ []) no_table last → FirstSteps create write scan
+    → (last : History) → MakeInTurn (to_its_end create ∷ to_its_end write ∷ to_its_end scan ∷ []) no_table last → FirstSteps create write scan
 first_steps create write scan user number is_create created_it is_write wrote_it is_scan scanned_it last (one, makes_one, (two, makes_two, (three, makes_three, end))) =
     let first = does_at create no_table one commands.Create is_create created_it makes_one in
     let made = created create.start create.input first.0 one first.1 in

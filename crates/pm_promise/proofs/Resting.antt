@@ -13,9 +13,9 @@ use Rattle.pm_model_folder.specs.Folder.{Folder}
 use Rattle.pm_create.specs.Making.{LeavesFiles}
 use Rattle.pm_commit.specs.AllCalls as commit
 use Rattle.pm_command.specs.Outside.{HaveSame, ImagesRest, Prints, Rests}
-use Rattle.pm_promise.specs.Promise.{Execution, KeepsIt, Makes, StandsForSome}
+use Rattle.pm_promise.specs.Promise.{Execution, KeepsIt, Makes, StandsFreely}
 use Rattle.pm_promise.specs.Start.{IsNew}
-use Rattle.pm_promise.proofs.Common.{NotSink, any_both, any_files, leaves_both}
+use Rattle.pm_promise.proofs.Common.{NotSink, StandsForSomeFreely, any_both, any_here, leaves_both, leaves_turned}
 
 -- what the law of the next command says of files that are the same
 abbrev pub SameStarts : Type 0
@@ -29,29 +29,23 @@ module _ (law : SameStarts) (e : Execution) (h : History) (first : StoreView) wh
   abbrev after : StoreView
   after = e.after.store
 
-  rest_images : (Stands : History → Files → Type 0) (f : Files) → ((g : Files) → Folder g h → HaveSame f g → Stands h g)
-      → Extends (λ g. Folder g h × HaveSame f g) first.ops after.ops → Extends (StandsForSome Stands e h) first.ops after.ops
-  rest_images Stands f stands images =
-      Extends-weaker (λ g. Folder g h × HaveSame f g) (StandsForSome Stands e h) first.ops after.ops (λ g is. (h, inl refl, stands g is.0 is.1)) images
-
-  rest_free : Rests h first after → ImagesRest h first after → (other : Actor) → LeavesFiles (IsNew other h) first
-      → LeavesFiles (IsNew other h) after × Extends (StandsForSome (IsNew other) e h) first.ops after.ops
-  rest_free rests images other new = (
-    any_both (IsNew other h) (λ f. LeavesFiles (HaveSame f) after) (LeavesFiles (IsNew other h) after) first
-        (λ f is same. leaves_both (HaveSame f) (λ g. Folder g h) (IsNew other h) after (λ g s folder. new_same law other h f g is s folder) same rests.folder)
-        new rests.same,
-    any_both (IsNew other h) (λ f. Extends (λ g. Folder g h × HaveSame f g) first.ops after.ops) (Extends (StandsForSome (IsNew other) e h) first.ops after.ops) first
-        (λ f is images. rest_images (IsNew other) f (λ g folder s. new_same law other h f g is s folder) images) new images,
-  )
+  freely : (g : Files) → Folder g h → LeavesFiles (λ f. HaveSame f g) first → StandsFreely e h first h g
+  freely g folder same = record {
+    folder = folder;
+    free = λ other names new.
+        any_both (λ f. HaveSame f g) (IsNew other h) (IsNew other h g) first (λ f s is. new_same law other h f g is s folder) same new;
+  }
 
   pub resting : Makes e h e.refusal h → Rests h first after → ImagesRest h first after → KeepsIt e h first
   resting makes rests images = record {
     later = h;
     makes = makes;
-    ends = rests.folder;
-    images = any_files (λ f. Extends (λ g. Folder g h × HaveSame f g) first.ops after.ops) (Extends (StandsForSome (λ h f. Folder f h) e h) first.ops after.ops) first
-        (λ f images. rest_images (λ h f. Folder f h) f (λ g folder s. folder) images) images;
-    free = λ other names new. rest_free rests images other new;
+    ends = leaves_both (λ g. Folder g h) (λ g. LeavesFiles (λ f. HaveSame f g) first) (StandsFreely e h first h) after freely rests.folder
+        (leaves_turned HaveSame first after rests.same);
+    images = any_here (λ f. Extends (λ g. Folder g h × HaveSame f g) first.ops after.ops) (Extends (StandsForSomeFreely e h first) first.ops after.ops) first
+        (λ f images here. Extends-weaker (λ g. Folder g h × HaveSame f g) (StandsForSomeFreely e h first) first.ops after.ops
+        (λ g is. (h, inl refl, freely g is.0 (here (λ f. HaveSame f g) is.1))) images)
+        images;
   }
 
 -- ---- what a refusal printed

@@ -4,6 +4,7 @@ use Rattle.std.proofs.lemmas.Slice.Eq.{bytes_eq-Decides}
 use Rattle.pm_values.specs.declared.refusal.Refusal.{Refusal}
 use Rattle.pm_values.specs.declared.refusal.Refusal.TheVariants as refusals
 use Rattle.pm_store.specs.Files.{Files}
+use Rattle.pm_store.specs.Images.{Extends}
 use Rattle.pm_store.specs.Store.{StoreView, at_first_own}
 use Rattle.pm_store.proofs.ImageLaws.{Extends-weaker}
 use Rattle.pm_model_history.specs.History.{Entry, append, compaction, fence, History, no_table, table}
@@ -32,9 +33,9 @@ use Rattle.pm_command_write.specs.declared.write.Written.{Written}
 use Rattle.pm_command_write.specs.declared.write.Written.TheVariants as written
 use Rattle.pm_io.specs.Source.{SourceView}
 use Rattle.pm_promise.specs.InTurn.{IsExecuted}
-use Rattle.pm_promise.specs.Promise.{Does, Execution, HasReached, Keeps, KeepsIt, Makes, MayMake, StandsForSome, commits, has_already, takes_none}
+use Rattle.pm_promise.specs.Promise.{Does, Execution, HasReached, Keeps, KeepsIt, Makes, MayMake, StandsFreely, commits, has_already, takes_none}
 use Rattle.pm_promise.specs.Start.{HaveOtherNames, IsNew}
-use Rattle.pm_promise.proofs.Common.{NotSink, any_both, any_files, with_command, extends_end, leaves_both, leaves_some, leaves_weaker, makes_nothing, may_make}
+use Rattle.pm_promise.proofs.Common.{NotSink, StandsForSome, StandsForSomeFreely, WasNew, any_both, any_files, extends_each, extends_end, leaves_each, leaves_some, leaves_weaker, makes_nothing, with_command}
 use Rattle.pm_promise.proofs.Snapshots.{bears_entry, from_there}
 
 -- ---- an earlier commit of the user
@@ -203,7 +204,7 @@ module _ (user : Option (List ℕ)) (number : Option ℕ) (e : Execution) (h : H
       (λ f has. rows_done user number e (λ h f. Folder f h) h id f becomes.0 has) becomes.2)
 
   abbrev IsEnd : Option Refusal → Type 0
-  IsEnd answer = (later : History) × Makes (it user number e) h answer later × LeavesFiles (λ f. Folder f later) after
+  IsEnd answer = (later : History) × (Makes (it user number e) h answer later × MayMake (it user number e) h later) × LeavesFiles (λ f. Folder f later) after
 
   after_fault : (path : List ℕ) (f : Files) → StandsAfterFault e.start (w user number e) (lines user number e) h path f
       → StandsForSome (λ h f. Folder f h) (it user number e) h f
@@ -211,34 +212,25 @@ module _ (user : Option (List ℕ)) (number : Option ℕ) (e : Execution) (h : H
   after_fault path f (inr (at, has)) = either user number e (λ h f. Folder f h) h f (inr has)
 
   ended_lines : (answer : Option Refusal) → AnswersLines e.start (w user number e) (lines user number e) h first e.before e.after answer → IsEnd answer
-  ended_lines None (done, becomes, taken) = let all = did done becomes in (all.0, (text_of (Ok done), all.1, taken), all.2)
+  ended_lines None (done, becomes, taken) = let all = did done becomes in (all.0, ((text_of (Ok done), all.1, taken), inr (text_of (Ok done), all.1)), all.2)
   ended_lines (Some (refusals.SinkFault snapshot)) (done, becomes, is, failed, took) =
       let all = did done becomes in
-      (all.0, (text_of (Ok done), all.1, took), all.2)
+      (all.0, ((text_of (Ok done), all.1, took), inr (text_of (Ok done), all.1)), all.2)
   ended_lines (Some (refusals.StoreFault path)) ((rose, left), out) =
       let all = leaves_some (MayMake (it user number e) h) (λ later f. Folder f later) after
       (leaves_weaker (StandsAfterFault e.start (w user number e) (lines user number e) h path) (StandsForSome (λ h f. Folder f h) (it user number e) h) after
       (λ f is. after_fault path f is) left) in
-      (all.0, (all.1, out), all.2)
+      (all.0, ((all.1, out), all.1), all.2)
   ended_lines (Some refusal) answers =
-      (h, makes_nothing (it user number e) h refusal tt answers.1, stays e.start (w user number e) (lines user number e) h first after refusal tt answers.0)
+      (h, (makes_nothing (it user number e) h refusal tt answers.1, inl refl), stays e.start (w user number e) (lines user number e) h first after refusal tt answers.0)
 
   ended : (answer : Option Refusal) → AnswersHistory e.start (w user number e) e.input h first e.before e.after answer → IsEnd answer
   ended answer (inl ((refusal, is, refuses, untouched), rests)) =
       subst IsEnd (sym is)
-      (h, makes_nothing (it user number e) h refusal (not_sink_input e.input e.before.input e.after.input refusal refuses) untouched.out, rests)
+      (h, (makes_nothing (it user number e) h refusal (not_sink_input e.input e.before.input e.after.input refusal refuses) untouched.out, inl refl), rests)
   ended answer (inr (within, left, answers)) = ended_lines answer answers
 
 -- ---- whoever was new is new
-
--- the history keeps its origin
-new_image : (user : Option (List ℕ)) (number : Option ℕ) (e : Execution) (h : History) (other : Actor) (f : Files) → IsNoOrigin h (own_origin other)
-    → MayStartAfter other e.start (writer_of user number) (row_lines e.input) h f → StandsForSome (IsNew other) (with_command (commands.Write user number) e) h f
-new_image user number e h other f origin (inl may) = (h, inl refl, record { folder = may.0; origin = origin; names = may.1 })
-new_image user number e no_table other f origin (inr has) = absurd has.takes.1
-new_image user number e (table t es) other f origin (inr has) =
-    may_have user number e (IsNew other) (table t es) f
-    (record { rows = has.rows; takes = has.takes; some = has.some; stands = record { folder = has.stands.0; origin = origin; names = has.stands.1 } })
 
 -- Files that stand for what it made, and in which the other may start on something that it may make.
 abbrev MayNow : Option (List ℕ) → Option ℕ → Execution → History → Actor → Files → Type 0
@@ -293,27 +285,37 @@ another : (me other : Actor) → HaveOtherNames me other → other ≢ me
 another me other names same = names (ap origin_name same)
 
 keeps_it : (user : Option (List ℕ)) (number : Option ℕ) (e : Execution) (h : History) (first : StoreView) → LeavesFiles (λ f. Folder f h) first
-    → WritesTable e.start (writer_of user number) e.input h first e.before e.after e.refusal → KeepsIt (with_command (commands.Write user number) e) h first
+    → WritesTable e.start (writer_of user number) e.input h first e.before e.after e.refusal
+    → KeepsIt (with_command (commands.Write user number) e) h first
 keeps_it user number e h first stands was =
     let after = e.after.store in
     let own : Execution = with_command (commands.Write user number) e in
     let end = ended user number e h first stands e.refusal was.answers in
-    let known : LeavesFiles (λ f. Unit {0}) first = leaves_weaker (λ f. Folder f h) (λ f. Unit {0}) first (λ f folder. tt) stands in record {
-      later = end.0;
-      makes = end.1;
-      ends = end.2;
-      images = Extends-weaker (IsImage e.start (writer_of user number) (row_lines e.input) h) (StandsForSome (λ h f. Folder f h) own h) first.ops after.ops
-          (λ f is. either user number e (λ h f. Folder f h) h f is.either) was.images;
+    let known : LeavesFiles (λ f. Unit {0}) first = leaves_weaker (λ f. Folder f h) (λ f. Unit {0}) first (λ f folder. tt) stands in
+    let AfterIt : Actor → Files → Type 0 = λ other. MayStartAfter other e.start (writer_of user number) (row_lines e.input) h in
+    let starts : (other : Actor) → WasNew own h first other → Extends (AfterIt other) first.ops after.ops = λ other (names, new).
+    was.free other (another (actor e.start) other names)
+    (leaves_weaker (IsNew other h) (commit.MayStart other h) first (λ f is. (is.folder, is.names)) new) in
+    let freely : (later : History) (f : Files) → MayMake own h later → Folder f later → ((other : Actor) → WasNew own h first other → AfterIt other f)
+    → StandsFreely own h first later f = λ later f make folder others. record {
+      folder = folder;
       free = λ other names new.
           let origin : IsNoOrigin h (own_origin other) = any_files (IsNew other h) (IsNoOrigin h (own_origin other)) first (λ f is. is.origin) new in
-          let may : LeavesFiles (commit.MayStart other h) first = leaves_weaker (IsNew other h) (commit.MayStart other h) first (λ f is. (is.folder, is.names)) new in
-          let AfterIt : Files → Type 0 = MayStartAfter other e.start (writer_of user number) (row_lines e.input) h in
-          let images = was.free other (another (actor e.start) other names) may in (
-            leaves_both (λ f. Folder f end.0) AfterIt (IsNew other end.0) after
-                (λ f folder starts. new_end user number e h end.0 other f origin (may_make own h end.0 e.refusal end.1) folder starts)
-                end.2 (extends_end AfterIt first after known images),
-            Extends-weaker AfterIt (StandsForSome (IsNew other) own h) first.ops after.ops (λ f starts. new_image user number e h other f origin starts) images,
-          );
+          new_end user number e h later other f origin make folder (others other (names, new));
+    } in record {
+      later = end.0;
+      makes = end.1.0;
+      ends = leaves_weaker (λ f. Folder f end.0 × ((other : Actor) → WasNew own h first other → AfterIt other f)) (StandsFreely own h first end.0) after
+          (λ f both. freely end.0 f end.1.1 both.0 both.1)
+          (leaves_each (λ f. Folder f end.0) (WasNew own h first) AfterIt after end.2
+          (λ other was. extends_end (AfterIt other) first after known (starts other was)));
+      images = Extends-weaker
+          (λ f. IsImage e.start (writer_of user number) (row_lines e.input) h f × ((other : Actor) → WasNew own h first other → AfterIt other f))
+          (StandsForSomeFreely own h first) first.ops after.ops
+          (λ f both.
+          let stands = either user number e (λ h f. Folder f h) h f both.0.either in
+          (stands.0, stands.1, freely stands.0 f stands.1 stands.2 both.1))
+          (extends_each (IsImage e.start (writer_of user number) (row_lines e.input) h) (WasNew own h first) AfterIt first.ops after.ops was.images starts);
     }
 
 pub keeps : (user : Option (List ℕ)) (number : Option ℕ) (e : Execution) → IsExecuted (with_command (commands.Write user number) e)

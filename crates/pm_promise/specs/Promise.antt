@@ -99,20 +99,20 @@ Makes e h (Some (refusals.SinkFault snapshot)) later = (text : List ℕ)
 Makes e h (Some (refusals.StoreFault path)) later = MayMake e h later × (e.after.out ≡ e.before.out)
 Makes e h (Some other) later = (later ≡ h) × (e.after.out ≡ e.before.out)
 
--- files stand so for what it may make
-abbrev pub StandsForSome : (History → Files → Type 0) → Execution → History → Files → Type 0
-StandsForSome Stands e h f = (later : History) × MayMake e h later × Stands later f
+-- Files stand for the history, and each other actor that was new to the one at first is new to it.
+pub record StandsFreely (e : Execution) (h : History) (first : StoreView) (later : History) (f : Files) : Type 0 where
+  pub folder : Folder f later
+  pub free : (other : Actor) → HaveOtherNames (actor e.start) other → LeavesFiles (IsNew other h) first
+      → IsNew other later f
 
--- of a history that stands at its first call: what it made stands at the end; each image of a crash stands for what it
--- may make; and each other actor that was new to the history is new there
+-- Of a history that stands at its first call: what it made stands at the end, and in each image of a crash what it may
+-- make; and others are free to go on there.
 pub record KeepsIt (e : Execution) (h : History) (first : StoreView) : Type 0 where
   pub later : History
   pub makes : Makes e h e.refusal later
-  pub ends : LeavesFiles (λ f. Folder f later) e.after.store
-  pub images : Extends (StandsForSome (λ h f. Folder f h) e h) first.ops e.after.store.ops
-  pub free : (other : Actor) → HaveOtherNames (actor e.start) other → LeavesFiles (IsNew other h) first
-      → LeavesFiles (IsNew other later) e.after.store
-      × Extends (StandsForSome (IsNew other) e h) first.ops e.after.store.ops
+  pub ends : LeavesFiles (StandsFreely e h first later) e.after.store
+  pub images : Extends (λ f. (later : History) × MayMake e h later × StandsFreely e h first later f)
+      first.ops e.after.store.ops
 
 -- the promise: so it is where nobody else acts from the first call on
 abbrev pub Keeps : Execution → Type 0

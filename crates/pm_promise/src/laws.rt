@@ -20,8 +20,8 @@ ghost use Rattle.pm_words.specs.declared.command.Command.{Command};
 ghost use Rattle.pm_words.specs.declared.command.Command.TheVariants as commands;
 ghost use Rattle.pm_command.specs.Outside.{actor};
 ghost use Rattle.pm_command_create.specs.Create.{IsDraftOf};
-ghost use Rattle.pm_promise.specs.InTurn.{AreInTurn, HaveOwnNames, IsExecuted, MakeInTurn, store_after};
-ghost use Rattle.pm_promise.specs.Promise.{Execution, Keeps, KeepsIt, StandsForSome};
+ghost use Rattle.pm_promise.specs.InTurn.{AreInTurn, HaveOwnNames, IsExecuted, MakeInTurn, Turn, to_its_end};
+ghost use Rattle.pm_promise.specs.Promise.{Execution, Keeps, KeepsIt, MayMake};
 ghost use Rattle.pm_promise.specs.Start.{HaveOtherNames, IsNew, MayStart};
 
 use pm_cli::next_command_law;
@@ -109,34 +109,37 @@ pub fn free_law()
     ensures { (e : Execution) (h : History) (first : StoreView) (other : Actor) (command : Command)
         → (kept : KeepsIt e h first) → HaveOtherNames (actor e.start) other → LeavesFiles (IsNew other h) first
         → LeavesFiles (MayStart command other kept.later) e.after.store
-        × Extends (StandsForSome (MayStart command other) e h) first.ops e.after.store.ops }
+        × Extends (λ f. (later : History) × MayMake e h later × MayStart command other later f)
+        first.ops e.after.store.ops }
 {
     base_law();
 }
 
 /// Whatever commands are executed one after another on one store to which nobody else has access, however each of them
-/// ends: the store stands for a history that they made in turn. So it keeps every commit that was acknowledged, whole
-/// and in order, and each text that was printed is that of the history as it was then.
+/// ends and wherever a crash stops any: the store stands for a history that they made in turn. So it keeps every commit
+/// that was acknowledged, whole and in order, and each text that was printed is that of the history as it was then.
 pub fn in_turn_law()
-    ensures from { (es : List Execution) (store : StoreView) (h : History) → AreInTurn store es → HaveOwnNames es
-        → LeavesFiles (λ f. Folder f h × AllByRecursion (λ (e : Execution). IsNew (actor e.start) h f) es) store
-        → (last : History) × MakeInTurn es h last × LeavesFiles (λ f. Folder f last) (store_after store es) }
-    ensures empty { (es : List Execution) (store : StoreView) → store.ops ≡ Some [] → AreInTurn store es
-        → HaveOwnNames es
-        → (last : History) × MakeInTurn es no_table last × LeavesFiles (λ f. Folder f last) (store_after store es) }
+    ensures from { (turns : List Turn) (store last : StoreView) (h : History) → AreInTurn store turns last
+        → HaveOwnNames turns
+        → LeavesFiles (λ f. Folder f h × AllByRecursion (λ (t : Turn). IsNew (actor t.execution.start) h f) turns) store
+        → (later : History) × MakeInTurn turns h later × LeavesFiles (λ f. Folder f later) last }
+    ensures empty { (turns : List Turn) (store last : StoreView) → store.ops ≡ Some [] → AreInTurn store turns last
+        → HaveOwnNames turns
+        → (later : History) × MakeInTurn turns no_table later × LeavesFiles (λ f. Folder f later) last }
 {
     base_law();
     keeps_law();
 }
 
-/// From an empty store: after a `create`, a `write` and a `scan` with status 0 the scan printed exactly the merged table
-/// of the rows that the draft's table takes of the input of `write`.
+/// From an empty store: after a `create`, a `write` and a `scan` with status 0 the scan printed exactly the merged
+/// table of the rows that the draft's table takes of the input of `write`.
 pub fn first_steps_law()
-    ensures { (create write scan : Execution) (user : Option (List ℕ)) (number : Option ℕ) (store : StoreView)
+    ensures { (create write scan : Execution) (user : Option (List ℕ)) (number : Option ℕ) (store last : StoreView)
         → create.command ≡ commands.Create → create.refusal ≡ None
         → write.command ≡ commands.Write user number → write.refusal ≡ None
         → scan.command ≡ commands.Scan None → scan.refusal ≡ None → store.ops ≡ Some []
-        → AreInTurn store (create ∷ write ∷ scan ∷ []) → HaveOwnNames (create ∷ write ∷ scan ∷ [])
+        → AreInTurn store (to_its_end create ∷ to_its_end write ∷ to_its_end scan ∷ []) last
+        → HaveOwnNames (to_its_end create ∷ to_its_end write ∷ to_its_end scan ∷ [])
         → (s : TableSchema) × (rows : List HistoryRow) × IsDraftOf create.start create.input s
         × (all_taken s (row_lines write.input) ≡ Ok rows)
         × (scan.after.out.taken ≡ and_then scan.before.out.taken (scan_text s rows)) }
