@@ -11,7 +11,7 @@ use Rattle.pm_model_folder.specs.Changes.{Actor}
 use Rattle.pm_create.specs.Making.{LeavesFiles}
 use Rattle.pm_words.specs.declared.command.Command.{Command}
 use Rattle.pm_command.specs.Outside.{actor}
-use Rattle.pm_promise.specs.Promise.{Execution, Makes, MayMake, StandsFreely}
+use Rattle.pm_promise.specs.Promise.{Execution, HasMade, MayMake, StandsForOthers}
 use Rattle.pm_promise.specs.Start.{HaveOtherNames, IsNew}
 
 -- the execution with this command in its place
@@ -124,7 +124,7 @@ StandsForSome Stands e h f = (later : History) × MayMake e h later × Stands la
 
 -- and freely
 abbrev pub StandsForSomeFreely : Execution → History → StoreView → Files → Type 0
-StandsForSomeFreely e h first f = (later : History) × MayMake e h later × StandsFreely e h first later f
+StandsForSomeFreely e h first f = (later : History) × MayMake e h later × StandsForOthers e h first later f
 
 -- another actor, which was new at first
 abbrev pub WasNew : Execution → History → StoreView → Actor → Type 0
@@ -137,7 +137,7 @@ NotSink (refusals.SinkFault snapshot) = ⊥
 NotSink other = Unit {0}
 
 -- where it was refused, but by the sink, and nothing was printed, it may have made nothing
-pub makes_nothing : (e : Execution) (h : History) (refusal : Refusal) → NotSink refusal → e.after.out ≡ e.before.out → Makes e h (Some refusal) h
+pub makes_nothing : (e : Execution) (h : History) (refusal : Refusal) → NotSink refusal → e.after.out ≡ e.before.out → HasMade e h (Some refusal) h
 makes_nothing e h (refusals.SinkFault snapshot) not out = absurd not
 makes_nothing e h (refusals.StoreFault path) not out = (inl refl, out)
 makes_nothing e h other not out = (refl, out)

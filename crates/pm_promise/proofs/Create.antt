@@ -34,7 +34,7 @@ use Rattle.pm_command.specs.Outside.{Outside, Prints, Start, actor}
 use Rattle.pm_command_create.specs.Create as create
 use Rattle.pm_command_create.specs.Create.{ActsCreate, CreatesTable, IsDraftOf, LeavesTable, StandsForDraft, StandsForEither, created_text, creator}
 use Rattle.pm_promise.specs.InTurn.{IsExecuted}
-use Rattle.pm_promise.specs.Promise.{Does, Execution, Keeps, KeepsIt, Makes, MayMake, StandsFreely, creates}
+use Rattle.pm_promise.specs.Promise.{Does, Execution, Keeps, KeepsIt, HasMade, MayMake, StandsForOthers, creates}
 use Rattle.pm_promise.specs.Start.{HaveOtherNames, IsNew}
 use Rattle.pm_promise.proofs.Common.{NotSink, StandsForSomeFreely, WasNew, any_files, extends_each, leaves_both, leaves_each, leaves_some, leaves_weaker, makes_nothing, with_command}
 use Rattle.pm_promise.proofs.Origin.{FolderKept, IsKept, all_kept, create_calls}
@@ -77,7 +77,7 @@ module _ (e : Execution) (h : History) where
   does s none draft = subst (λ (h : History). Does e.start e.input commands.Create h (table s []) created_text) (sym none) (creates s draft)
 
   abbrev IsEnd : Option Refusal → Files → Type 0
-  IsEnd answer f = (later : History) × (Makes it h answer later × MayMake it h later) × Folder f later
+  IsEnd answer f = (later : History) × (HasMade it h answer later × MayMake it h later) × Folder f later
 
   may_stand : (f : Files) → StandsForEither e.start e.input h f → (later : History) × MayMake it h later × Folder f later
   may_stand f (inl folder) = (h, inl refl, folder)
@@ -179,7 +179,7 @@ module _ (kept : FolderKept) (stay : ContentsStay) (one : OneContents) (law : Dr
   it_is = with_command commands.Create e
 
   -- where there was no table
-  of_none : (f : Files) (later : History) → MayMake it_is no_table later → Folder f later → StandsFreely it_is no_table first later f
+  of_none : (f : Files) (later : History) → MayMake it_is no_table later → Folder f later → StandsForOthers it_is no_table first later f
   of_none f later make folder = record { folder = folder; free = λ other names new. new_made law e other later f names make folder }
 
   -- where there was one
@@ -187,7 +187,7 @@ module _ (kept : FolderKept) (stay : ContentsStay) (one : OneContents) (law : Dr
   AllKept s es f = (other : Actor) → WasNew it_is (table s es) first other → IsKept kept stay one (actor e.start) other s es f
 
   of_table : (s : TableSchema) (es : List Entry) (f : Files) (later : History) → MayMake it_is (table s es) later → Folder f later → AllKept s es f
-      → StandsFreely it_is (table s es) first later f
+      → StandsForOthers it_is (table s es) first later f
   of_table s es f later make folder all = record {
     folder = folder;
     free = λ other names new.
@@ -208,11 +208,11 @@ module _ (kept : FolderKept) (stay : ContentsStay) (one : OneContents) (law : Dr
       (λ f may is. (may.0, is.names, may.1)) may new)
 
   ends_freely : (h later : History) → IsAlone first after → LeavesFiles (making.MayStart (actor e.start) h) first → MayMake it_is h later
-      → LeavesFiles (λ f. Folder f later) after → LeavesFiles (StandsFreely it_is h first later) after
+      → LeavesFiles (λ f. Folder f later) after → LeavesFiles (StandsForOthers it_is h first later) after
   ends_freely no_table later alone may make ends =
-      leaves_weaker (λ f. Folder f later) (StandsFreely it_is no_table first later) after (λ f folder. of_none f later make folder) ends
+      leaves_weaker (λ f. Folder f later) (StandsForOthers it_is no_table first later) after (λ f folder. of_none f later make folder) ends
   ends_freely (table s es) later alone may make ends =
-      leaves_weaker (λ f. Folder f later × AllKept s es f) (StandsFreely it_is (table s es) first later) after
+      leaves_weaker (λ f. Folder f later × AllKept s es f) (StandsForOthers it_is (table s es) first later) after
       (λ f both. of_table s es f later make both.0 both.1)
       (leaves_each (λ f. Folder f later) (WasNew it_is (table s es) first) (λ other f. IsKept kept stay one (actor e.start) other s es f) after ends
       (λ other was. (kept_at s es alone may other was).0))
@@ -231,7 +231,7 @@ module _ (kept : FolderKept) (stay : ContentsStay) (one : OneContents) (law : Dr
   keeps_it : (h : History) → IsAlone first after → LeavesFiles (making.MayStart (actor e.start) h) first
       → CreatesTable e.start h e.input first e.before e.after e.refusal → KeepsIt it_is h first
   keeps_it h alone may was =
-      let end = leaves_some (λ later. Makes it_is h e.refusal later × MayMake it_is h later) (λ later f. Folder f later) after (ended e h e.refusal acts first was) in
+      let end = leaves_some (λ later. HasMade it_is h e.refusal later × MayMake it_is h later) (λ later f. Folder f later) after (ended e h e.refusal acts first was) in
       record {
         later = end.0;
         makes = end.1.0;

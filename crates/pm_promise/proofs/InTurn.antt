@@ -23,8 +23,8 @@ use Rattle.pm_command.specs.Outside.{Start, actor}
 use Rattle.pm_command.proofs.Uncalled.{next_stands}
 use Rattle.pm_command_create.specs.Create.{IsDraftOf}
 use Rattle.pm_command_write.specs.Write.{entry_by, writer_of}
-use Rattle.pm_promise.specs.InTurn.{AreInTurn, Ending, HaveOwnNames, IsExecuted, Leaves, MakeInTurn, MakesBy, Turn, ended, stopped, to_its_end}
-use Rattle.pm_promise.specs.Promise.{Does, Execution, Keeps, KeepsIt, Makes, MayMake, StandsFreely, commits, creates, has_already, scans, takes_none}
+use Rattle.pm_promise.specs.InTurn.{AreInTurn, Ending, HaveOwnNames, IsExecuted, HandsOn, MakeInTurn, MakesBy, Turn, ended, stopped, to_its_end}
+use Rattle.pm_promise.specs.Promise.{Does, Execution, Keeps, KeepsIt, HasMade, MayMake, StandsForOthers, commits, creates, has_already, scans, takes_none}
 use Rattle.pm_promise.specs.Start.{HaveOtherNames, IsNew, MayStart}
 use Rattle.pm_promise.proofs.Common.{StandsForSomeFreely, leaves_some, leaves_weaker}
 use Rattle.pm_promise.proofs.First.{acts_goes_on, first_same, from_before}
@@ -46,7 +46,7 @@ abbrev StandsWith : List Turn → History → Files → Type 0
 StandsWith turns h f = Folder f h × AreNew turns h f
 
 -- the actors of those that follow are new to what a command made
-still_new : (e : Execution) (h : History) (first : StoreView) (later : History) (f : Files) → StandsFreely e h first later f → (turns : List Turn)
+still_new : (e : Execution) (h : History) (first : StoreView) (later : History) (f : Files) → StandsForOthers e h first later f → (turns : List Turn)
     → HaveOthers e turns → LeavesFiles (AreNew turns h) first → AreNew turns later f
 still_new e h first later f stands [] names new = tt
 still_new e h first later f stands (t ∷ turns) (name, names) new = (
@@ -67,11 +67,11 @@ image_stands P (Some before) (Some after) (Some ops) images (i, from, image) =
 
 -- the next store stands for what the command made
 next_store : (ending : Ending) (e : Execution) (h : History) (first next : StoreView) → first.ops ≡ e.before.store.ops → KeepsIt e h first
-    → Leaves ending e next → (later : History) × MakesBy ending e h later × LeavesFiles (StandsFreely e h first later) next
+    → HandsOn ending e next → (later : History) × MakesBy ending e h later × LeavesFiles (StandsForOthers e h first later) next
 next_store ended e h first next same kept is =
-    (kept.later, kept.makes, subst (λ (store : StoreView). LeavesFiles (StandsFreely e h first kept.later) store) (sym is) kept.ends)
+    (kept.later, kept.makes, subst (λ (store : StoreView). LeavesFiles (StandsForOthers e h first kept.later) store) (sym is) kept.ends)
 next_store stopped e h first next same kept has =
-    leaves_some (MayMake e h) (StandsFreely e h first) next
+    leaves_some (MayMake e h) (StandsForOthers e h first) next
     (image_stands (StandsForSomeFreely e h first) e.before.store.ops e.after.store.ops next.ops
     (subst (λ (known : Option (List Op)). Extends (StandsForSomeFreely e h first) known e.after.store.ops) same kept.images) has)
 
@@ -92,7 +92,7 @@ in_turn keeps starts (t ∷ turns) store last h (same, is, alone, input, (next, 
     let new : LeavesFiles (AreNew turns h) first = leaves_weaker (StandsWith (t ∷ turns) h) (AreNew turns h) first (λ f both. both.1.1) found.0 in
     let left = next_store t.ending e h first next (first_same (StandsWith (t ∷ turns) h) e.before.store e.after.store goes only here) kept leaves in
     let made = in_turn keeps starts turns next last left.0 rest others
-    (leaves_weaker (StandsFreely e h first left.0) (StandsWith turns left.0) next
+    (leaves_weaker (StandsForOthers e h first left.0) (StandsWith turns left.0) next
     (λ f free. (free.folder, still_new e h first left.0 f free turns names new)) left.2) in
     (made.0, (left.0, left.1, made.1), made.2)
 
@@ -132,10 +132,10 @@ scanned : (start : Start) (bytes : List ℕ) (s : TableSchema) (es : List Entry)
 scanned start bytes s es later text (scans at t entries within) = refl
 
 -- what a command did that succeeded
-pub does_at : (e : Execution) (h later : History) (command : Command) → e.command ≡ command → e.refusal ≡ None → Makes e h e.refusal later
+pub does_at : (e : Execution) (h later : History) (command : Command) → e.command ≡ command → e.refusal ≡ None → HasMade e h e.refusal later
     → (text : List ℕ) × Does e.start e.input command h later text × (e.after.out.taken ≡ and_then e.before.out.taken text)
 does_at e h later command is done makes =
-    let made = subst (λ (refusal : Option Refusal). Makes e h refusal later) done makes in
+    let made = subst (λ (refusal : Option Refusal). HasMade e h refusal later) done makes in
     (made.0, subst (λ (command : Command). Does e.start e.input command h later made.0) is made.1, made.2)
 
 -- it stood on this history

@@ -13,7 +13,7 @@ use Rattle.pm_model_folder.specs.Folder.{Folder}
 use Rattle.pm_create.specs.Making.{LeavesFiles}
 use Rattle.pm_commit.specs.AllCalls as commit
 use Rattle.pm_command.specs.Outside.{HaveSame, ImagesRest, Prints, Rests}
-use Rattle.pm_promise.specs.Promise.{Execution, KeepsIt, Makes, StandsFreely}
+use Rattle.pm_promise.specs.Promise.{Execution, KeepsIt, HasMade, StandsForOthers}
 use Rattle.pm_promise.specs.Start.{IsNew}
 use Rattle.pm_promise.proofs.Common.{NotSink, StandsForSomeFreely, any_both, any_here, leaves_both, leaves_turned}
 
@@ -29,18 +29,18 @@ module _ (law : SameStarts) (e : Execution) (h : History) (first : StoreView) wh
   abbrev after : StoreView
   after = e.after.store
 
-  freely : (g : Files) → Folder g h → LeavesFiles (λ f. HaveSame f g) first → StandsFreely e h first h g
+  freely : (g : Files) → Folder g h → LeavesFiles (λ f. HaveSame f g) first → StandsForOthers e h first h g
   freely g folder same = record {
     folder = folder;
     free = λ other names new.
         any_both (λ f. HaveSame f g) (IsNew other h) (IsNew other h g) first (λ f s is. new_same law other h f g is s folder) same new;
   }
 
-  pub resting : Makes e h e.refusal h → Rests h first after → ImagesRest h first after → KeepsIt e h first
+  pub resting : HasMade e h e.refusal h → Rests h first after → ImagesRest h first after → KeepsIt e h first
   resting makes rests images = record {
     later = h;
     makes = makes;
-    ends = leaves_both (λ g. Folder g h) (λ g. LeavesFiles (λ f. HaveSame f g) first) (StandsFreely e h first h) after freely rests.folder
+    ends = leaves_both (λ g. Folder g h) (λ g. LeavesFiles (λ f. HaveSame f g) first) (StandsForOthers e h first h) after freely rests.folder
         (leaves_turned HaveSame first after rests.same);
     images = any_here (λ f. Extends (λ g. Folder g h × HaveSame f g) first.ops after.ops) (Extends (StandsForSomeFreely e h first) first.ops after.ops) first
         (λ f images here. Extends-weaker (λ g. Folder g h × HaveSame f g) (StandsForSomeFreely e h first) first.ops after.ops

@@ -12,7 +12,7 @@ use Rattle.pm_scan.specs.AllCalls.{id_of}
 use Rattle.pm_words.specs.declared.command.Command.TheVariants as commands
 use Rattle.pm_command_scan.specs.Scan.{AnswersHistory, IsThere, PrintsPrefix, PrintsTable, Scans, text_of}
 use Rattle.pm_promise.specs.InTurn.{IsExecuted}
-use Rattle.pm_promise.specs.Promise.{Execution, Keeps, Makes, scans}
+use Rattle.pm_promise.specs.Promise.{Execution, Keeps, HasMade, scans}
 use Rattle.pm_promise.proofs.Common.{with_command, makes_nothing}
 use Rattle.pm_promise.proofs.Resting.{SameStarts, resting, unprinted}
 
@@ -22,17 +22,17 @@ text_at at s es = scan_text s (rows_up_to es (id_of at (length es)))
 
 module _ (at : Option ℕ) (e : Execution) where
   served : (h : History) (first : StoreView) → IsThere h (id_of at (count_of h)) first → PrintsTable h at e.before.out e.after.out
-      → Makes (with_command (commands.Scan at) e) h None h
+      → HasMade (with_command (commands.Scan at) e) h None h
   served no_table first there prints = absurd prints
   served (table s es) first there prints = (text_at at s es, scans at s es there.0, prints)
 
   in_part : (h : History) (first : StoreView) (snapshot : Option ℕ) → IsThere h (id_of at (count_of h)) first
-      → PrintsPrefix h at e.before.out e.after.out → Makes (with_command (commands.Scan at) e) h (Some (refusals.SinkFault snapshot)) h
+      → PrintsPrefix h at e.before.out e.after.out → HasMade (with_command (commands.Scan at) e) h (Some (refusals.SinkFault snapshot)) h
   in_part no_table first snapshot there prints = absurd prints
   in_part (table s es) first snapshot there prints = (text_at at s es, scans at s es there.0, prints)
 
   makes : (h : History) (first : StoreView) (answer : Option Refusal) → Scans at e.before e.after answer
-      → AnswersHistory h at first e.before e.after answer → Makes (with_command (commands.Scan at) e) h answer h
+      → AnswersHistory h at first e.before e.after answer → HasMade (with_command (commands.Scan at) e) h answer h
   makes h first None acts (there, prints) = served h first there prints
   makes h first (Some (refusals.SinkFault snapshot)) acts (failed, there, prints) = in_part h first snapshot there prints
   makes h first (Some refusal) (made, trace, prints) may =

@@ -26,7 +26,7 @@ use Rattle.pm_snapshots.specs.declared.line.SnapshotLine.{SnapshotLine}
 use Rattle.pm_words.specs.declared.command.Command.TheVariants as commands
 use Rattle.pm_command_snapshots.specs.Snapshots.{AnswersHistory, ListsSnapshots, text_of}
 use Rattle.pm_promise.specs.InTurn.{IsExecuted}
-use Rattle.pm_promise.specs.Promise.{AreLines, Does, Execution, Keeps, LineBears, Makes, lists}
+use Rattle.pm_promise.specs.Promise.{AreLines, Does, Execution, Keeps, LineBears, HasMade, lists}
 use Rattle.pm_promise.proofs.Common.{any_both, with_command, makes_nothing}
 use Rattle.pm_promise.proofs.Resting.{SameStarts, resting, unprinted}
 
@@ -118,7 +118,7 @@ does e (table s es) lines first some are stands =
     (any_both (λ f. Folder f (table s es)) (λ f. AreLinesOf f lines) (AreLines es lines) first (λ f folder are. lines_are f s es lines folder are) stands are)
 
 makes : (e : Execution) (h : History) (first : StoreView) (answer : Option Refusal) → ListsSnapshots e.before e.after answer
-    → LeavesFiles (λ f. Folder f h) first → AnswersHistory h first e.before e.after answer → Makes (with_command commands.Snapshots e) h answer h
+    → LeavesFiles (λ f. Folder f h) first → AnswersHistory h first e.before e.after answer → HasMade (with_command commands.Snapshots e) h answer h
 makes e h first None acts stands (some, (lines, are, taken)) = (snapshots_text lines, does e h lines first some are stands, taken)
 makes e h first (Some (refusals.SinkFault snapshot)) acts stands (failed, some, (lines, are, taken)) =
     (snapshots_text lines, does e h lines first some are stands, taken)

@@ -33,7 +33,7 @@ use Rattle.pm_command_write.specs.declared.write.Written.{Written}
 use Rattle.pm_command_write.specs.declared.write.Written.TheVariants as written
 use Rattle.pm_io.specs.Source.{SourceView}
 use Rattle.pm_promise.specs.InTurn.{IsExecuted}
-use Rattle.pm_promise.specs.Promise.{Does, Execution, HasReached, Keeps, KeepsIt, Makes, MayMake, StandsFreely, commits, has_already, takes_none}
+use Rattle.pm_promise.specs.Promise.{Does, Execution, HasReached, Keeps, KeepsIt, HasMade, MayMake, StandsForOthers, commits, has_already, takes_none}
 use Rattle.pm_promise.specs.Start.{HaveOtherNames, IsNew}
 use Rattle.pm_promise.proofs.Common.{NotSink, StandsForSome, StandsForSomeFreely, WasNew, any_both, any_files, extends_each, extends_end, leaves_each, leaves_some, leaves_weaker, makes_nothing, with_command}
 use Rattle.pm_promise.proofs.Snapshots.{bears_entry, from_there}
@@ -204,7 +204,7 @@ module _ (user : Option (List ℕ)) (number : Option ℕ) (e : Execution) (h : H
       (λ f has. rows_done user number e (λ h f. Folder f h) h id f becomes.0 has) becomes.2)
 
   abbrev IsEnd : Option Refusal → Type 0
-  IsEnd answer = (later : History) × (Makes (it user number e) h answer later × MayMake (it user number e) h later) × LeavesFiles (λ f. Folder f later) after
+  IsEnd answer = (later : History) × (HasMade (it user number e) h answer later × MayMake (it user number e) h later) × LeavesFiles (λ f. Folder f later) after
 
   after_fault : (path : List ℕ) (f : Files) → StandsAfterFault e.start (w user number e) (lines user number e) h path f
       → StandsForSome (λ h f. Folder f h) (it user number e) h f
@@ -297,7 +297,7 @@ keeps_it user number e h first stands was =
     was.free other (another (actor e.start) other names)
     (leaves_weaker (IsNew other h) (commit.MayStart other h) first (λ f is. (is.folder, is.names)) new) in
     let freely : (later : History) (f : Files) → MayMake own h later → Folder f later → ((other : Actor) → WasNew own h first other → AfterIt other f)
-    → StandsFreely own h first later f = λ later f make folder others. record {
+    → StandsForOthers own h first later f = λ later f make folder others. record {
       folder = folder;
       free = λ other names new.
           let origin : IsNoOrigin h (own_origin other) = any_files (IsNew other h) (IsNoOrigin h (own_origin other)) first (λ f is. is.origin) new in
@@ -305,7 +305,7 @@ keeps_it user number e h first stands was =
     } in record {
       later = end.0;
       makes = end.1.0;
-      ends = leaves_weaker (λ f. Folder f end.0 × ((other : Actor) → WasNew own h first other → AfterIt other f)) (StandsFreely own h first end.0) after
+      ends = leaves_weaker (λ f. Folder f end.0 × ((other : Actor) → WasNew own h first other → AfterIt other f)) (StandsForOthers own h first end.0) after
           (λ f both. freely end.0 f end.1.1 both.0 both.1)
           (leaves_each (λ f. Folder f end.0) (WasNew own h first) AfterIt after end.2
           (λ other was. extends_end (AfterIt other) first after known (starts other was)));

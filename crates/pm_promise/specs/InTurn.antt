@@ -8,7 +8,7 @@ use Rattle.pm_store.specs.Store.{StoreView, IsAlone}
 use Rattle.pm_model_history.specs.History.{History}
 use Rattle.pm_command.specs.Outside.{actor}
 use Rattle.pm_cli.specs.Run.{Acts, ServesHistories}
-use Rattle.pm_promise.specs.Promise.{Execution, Makes, MayMake}
+use Rattle.pm_promise.specs.Promise.{Execution, HasMade, MayMake}
 use Rattle.pm_promise.specs.Start.{HasInput, HaveOtherNames}
 
 -- it is one by `run`, whose clauses `acts` and `history` say this of the command that its words give
@@ -36,18 +36,18 @@ HasImage e next =
     (i : ℕ) × (length before ≤ i) × CrashImage after i (files_after ops))))
 
 -- the store that the next execution finds
-abbrev pub Leaves : Ending → Execution → StoreView → Type 0
-Leaves ended e next = next ≡ e.after.store
-Leaves stopped e next = HasImage e next
+abbrev pub HandsOn : Ending → Execution → StoreView → Type 0
+HandsOn ended e next = next ≡ e.after.store
+HandsOn stopped e next = HasImage e next
 
--- Each finds the store that the one before left, the first one this, and the last leaves that. Nobody else acts, and the
--- inputs are known.
+-- Each finds the store that the one before handed on, the first one this, and the last hands on that. Nobody else acts,
+-- and the inputs are known.
 abbrev pub AreInTurn : StoreView → List Turn → StoreView → Type 0
 AreInTurn store [] last = last ≡ store
 AreInTurn store (t ∷ turns) last = (t.execution.before.store ≡ store) × IsExecuted t.execution
     × IsAlone store t.execution.after.store
     × HasInput t.execution.command t.execution.input t.execution.before.input.left
-    × ((next : StoreView) × Leaves t.ending t.execution next × AreInTurn next turns last)
+    × ((next : StoreView) × HandsOn t.ending t.execution next × AreInTurn next turns last)
 
 -- no two of their actors give files the same names
 abbrev pub HaveOwnNames : List Turn → Type 0
@@ -58,7 +58,7 @@ HaveOwnNames (t ∷ turns) =
 
 -- what one made of a history: what its answer says, or where it was stopped what it may make
 abbrev pub MakesBy : Ending → Execution → History → History → Type 0
-MakesBy ended e h later = Makes e h e.refusal later
+MakesBy ended e h later = HasMade e h e.refusal later
 MakesBy stopped e h later = MayMake e h later
 
 -- each goes on from the history that the one before made

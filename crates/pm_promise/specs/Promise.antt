@@ -91,16 +91,16 @@ MayMake e h later = (later ≡ h) ⊎ ((text : List ℕ) × Does e.start e.input
 -- What it made, by its answer. After success it did it, and the text was printed whole; where the sink failed it did
 -- it, and a prefix was; where the store failed it did it or nothing, after any other refusal nothing; and then nothing
 -- was printed.
-abbrev pub Makes : Execution → History → Option Refusal → History → Type 0
-Makes e h None later = (text : List ℕ) × Does e.start e.input e.command h later text
+abbrev pub HasMade : Execution → History → Option Refusal → History → Type 0
+HasMade e h None later = (text : List ℕ) × Does e.start e.input e.command h later text
     × (e.after.out.taken ≡ and_then e.before.out.taken text)
-Makes e h (Some (refusals.SinkFault snapshot)) later = (text : List ℕ)
+HasMade e h (Some (refusals.SinkFault snapshot)) later = (text : List ℕ)
     × Does e.start e.input e.command h later text × TookPrefix e.before.out.taken e.after.out.taken text
-Makes e h (Some (refusals.StoreFault path)) later = MayMake e h later × (e.after.out ≡ e.before.out)
-Makes e h (Some other) later = (later ≡ h) × (e.after.out ≡ e.before.out)
+HasMade e h (Some (refusals.StoreFault path)) later = MayMake e h later × (e.after.out ≡ e.before.out)
+HasMade e h (Some other) later = (later ≡ h) × (e.after.out ≡ e.before.out)
 
 -- Files stand for the history, and each other actor that was new to the one at first is new to it.
-pub record StandsFreely (e : Execution) (h : History) (first : StoreView) (later : History) (f : Files) : Type 0 where
+pub record StandsForOthers (e : Execution) (h : History) (first : StoreView) (later : History) (f : Files) : Type 0 where
   pub folder : Folder f later
   pub free : (other : Actor) → HaveOtherNames (actor e.start) other → LeavesFiles (IsNew other h) first
       → IsNew other later f
@@ -109,9 +109,9 @@ pub record StandsFreely (e : Execution) (h : History) (first : StoreView) (later
 -- make; and others are free to go on there.
 pub record KeepsIt (e : Execution) (h : History) (first : StoreView) : Type 0 where
   pub later : History
-  pub makes : Makes e h e.refusal later
-  pub ends : LeavesFiles (StandsFreely e h first later) e.after.store
-  pub images : Extends (λ f. (later : History) × MayMake e h later × StandsFreely e h first later f)
+  pub makes : HasMade e h e.refusal later
+  pub ends : LeavesFiles (StandsForOthers e h first later) e.after.store
+  pub images : Extends (λ f. (later : History) × MayMake e h later × StandsForOthers e h first later f)
       first.ops e.after.store.ops
 
 -- the promise: so it is where nobody else acts from the first call on

@@ -2,7 +2,7 @@ use Rattle.std.proofs.Common.{[], subst}
 use Rattle.pm_model_history.specs.History.{History, no_table, table}
 use Rattle.pm_model_folder.specs.Folder.{Folder}
 use Rattle.pm_words.specs.declared.command.Command.TheVariants as commands
-use Rattle.pm_promise.specs.Promise.{StandsFreely}
+use Rattle.pm_promise.specs.Promise.{StandsForOthers}
 use Rattle.pm_promise.specs.Start.{MayStart}
 use Rattle.pm_promise.proofs.Common.{leaves_weaker}
 use Rattle.pm_promise.proofs.InTurn.{created, does_at}
@@ -16,6 +16,6 @@ returns c = λ e first is done kept.
       s,
       made.1,
       λ command me.
-          leaves_weaker (StandsFreely e no_table first kept.later) (MayStart command me (table s [])) e.after.store
+          leaves_weaker (StandsForOthers e no_table first kept.later) (MayStart command me (table s [])) e.after.store
           (λ f stands. c.base_law.ensures.created command me s f (subst (λ (h : History). Folder f h) made.2 stands.folder)) kept.ends,
     )
