@@ -55,16 +55,18 @@ def checksum(data):
 
 
 class Case:
-    """One case: its folder, and the answers that are left of it."""
+    """One case: its folder, the answers that are left of it, and the files that earlier ones ended with, by name."""
 
-    def __init__(self, answers):
-        self.folder, self.answers = Memory(), answers
+    def __init__(self, answers, ended):
+        self.folder, self.answers, self.ended = Memory(), answers, ended
         self.table, self.is_own = Table(), True
 
     def follow(self, line):
         """Does a line; gives what it has to print and what it prints."""
         if line[0] == "put":
             self.folder.files[line[1]] = bytes.fromhex(text_of(line[2]))
+        elif line[0] == "as" and line[1] in self.ended:
+            self.folder.files |= self.ended[line[1]]
         elif line[0] == "take":
             self.folder.files.pop(line[1], None)
         elif line[0] == "run" and set(line[5] if len(line) > 5 else {}) <= FOLLOWED:
@@ -118,14 +120,18 @@ class Case:
 
 
 def main():
-    tally, case, name, at = Tally(), None, "", 0
+    tally, case, name, at, ended = Tally(), None, "", 0, {}
     answers = (CASES / "stdout").read_text().split("\n")
     for text in (CASES / "stdin").read_text().split("\n"):
         line = json.loads(text) if text.startswith("[") else []
         if line[:1] == ["case"]:
+            if case:
+                ended[name] = case.folder.files
             name = line[1]
             at = answers.index(f"== {name}", at) + 1
-            case = Case(answers[at:])
+            case = Case(answers[at:], ended)
+        elif line[:1] == ["note"]:
+            continue
         elif line and case is None:
             tally.add("lines left out")
         elif line:

@@ -52,7 +52,7 @@ fn run_silently(alloc: Global, files: &mut MemStore, command: &Command) -> Resul
 }
 
 /// Puts a file in place, or replaces it.
-fn put_file(
+pub fn put_file(
     alloc: Global,
     files: &mut MemStore,
     path: &str,

@@ -9,6 +9,8 @@ use std::alloc::{AllocError, AllocFailed};
 pub enum Line {
     Case { name: String },
     Store { plan: Vec<Planned> },
+    As { name: String },
+    Note,
     Do(Deed),
     Before(Act),
     Calls,

@@ -4,7 +4,9 @@
 //! | Line | Does | Prints |
 //! |---|---|---|
 //! | `["case",NAME]` | begins with a store without files | `== NAME` |
+//! | `["note",TEXT]` | nothing: says what comes and whose answers it has | |
 //! | `["store",[[CALL,EFFECT],..]]` | right after a case: its store fails these calls | |
+//! | `["as",CASE]` | right after a case or its store: begins with the files that this earlier case ended with | |
 //! | `["put",PATH,HEX]` | puts a file with these bytes in place, or replaces it | |
 //! | `["take",PATH]` | takes a file away | |
 //! | `["run",SESSION,NOW,[WORD,..],[LINE,..]]` | runs a command | what `out` and `err` took, then `-- STATUS` |
@@ -31,6 +33,7 @@
 #![tactic(auto)]
 
 mod act;
+mod cases;
 mod command;
 mod files;
 mod line;
@@ -38,11 +41,11 @@ mod read;
 mod store;
 
 use crate::act::Deed;
+use crate::cases::Cases;
 use crate::files::{files_text, list_text, sum_text};
 use crate::line::{Line, LineFault};
 use crate::read::read_line;
 use crate::store::CaseStore;
-use pm_store::Planned;
 use std::alloc::{AllocError, Global};
 use std::io;
 use std::io::{BufRead, BufReader};
@@ -50,44 +53,52 @@ use std::io::{BufRead, BufReader};
 /// Does what each line of standard input says, and prints what is to be printed for it.
 fn main(rt: HostRuntime) -> io::Result<()> {
     let alloc = rt.alloc();
-    let mut store = CaseStore::new(alloc, Vec::new(alloc));
+    let mut cases = Cases::new(alloc);
     for line in BufReader::new(alloc, rt.reader())?.lines(alloc) {
-        let answer = answer(alloc, &mut store, line?.as_str())?;
+        let answer = answer(alloc, &mut cases, line?.as_str())?;
         print!(rt; "{answer}")?;
     }
     Ok(())
 }
 
 /// What is printed for a line, after it is done.
-fn answer(alloc: Global, store: &mut CaseStore, text: &str) -> Result<String, AllocError> {
+fn answer(alloc: Global, cases: &mut Cases, text: &str) -> Result<String, AllocError> {
     match read_line(alloc, text) {
-        Ok(line) => follow(alloc, store, line),
+        Ok(line) => follow(alloc, cases, line),
         Err(LineFault::Memory) => Err(AllocError),
-        Err(LineFault::Unknown) => String::from_str(alloc, "unknown case line\n"),
+        Err(LineFault::Unknown) => unknown(alloc),
     }
 }
 
+/// What is printed for a line that is none.
+fn unknown(alloc: Global) -> Result<String, AllocError> {
+    String::from_str(alloc, "unknown case line\n")
+}
+
 /// Does what a line says, and gives what is printed for it.
-fn follow(alloc: Global, store: &mut CaseStore, line: Line) -> Result<String, AllocError> {
+fn follow(alloc: Global, cases: &mut Cases, line: Line) -> Result<String, AllocError> {
     match line {
-        Line::Case { name } => {
-            begin(alloc, store, Vec::new(alloc));
-            return format!(in alloc; "== {name}\n");
-        }
-        Line::Store { plan } => begin(alloc, store, plan),
-        Line::Do(deed) => return perform(alloc, store, &deed),
-        Line::Before(act) => store.add_act(act)?,
-        Line::Calls => return format!(in alloc; "{} calls\n", store.command_calls()),
-        Line::List { folder } => return list_text(alloc, store, folder.as_str()),
-        Line::Files => return files_text(alloc, store),
-        Line::Sum => return sum_text(alloc, store),
+        Line::Case { name } => return cases.begin(alloc, name),
+        Line::Store { plan } => cases.plan(alloc, plan),
+        Line::As { name } => return continue_from(alloc, cases, name.as_str()),
+        Line::Note => {}
+        Line::Do(deed) => return perform(alloc, cases.store(), &deed),
+        Line::Before(act) => cases.store().add_act(act)?,
+        Line::Calls => return format!(in alloc; "{} calls\n", cases.store().command_calls()),
+        Line::List { folder } => return list_text(alloc, cases.store(), folder.as_str()),
+        Line::Files => return files_text(alloc, cases.store()),
+        Line::Sum => return sum_text(alloc, cases.store()),
     }
     Ok(String::new(alloc))
 }
 
-/// Begins with a store without files, whose calls fail as planned.
-fn begin(alloc: Global, store: &mut CaseStore, plan: Vec<Planned>) {
-    *store = CaseStore::new(alloc, plan);
+/// Begins with the files that an earlier case ended with.
+fn continue_from(alloc: Global, cases: &mut Cases, name: &str) -> Result<String, AllocError> {
+    if cases.copy_files(alloc, name)? {
+        Ok(String::new(alloc))
+    } else {
+        unknown(alloc)
+    }
 }
 
 /// Does what a line says with files, and gives what is printed for it.

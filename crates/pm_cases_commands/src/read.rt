@@ -31,6 +31,10 @@ fn line_of(alloc: Global, kind: &str, parts: &[Value]) -> Result<Line, LineFault
         ("store", [plan]) => Ok(Line::Store {
             plan: read_plan(alloc, plan)?,
         }),
+        ("as", [name]) => Ok(Line::As {
+            name: read_text(alloc, name)?,
+        }),
+        ("note", [text]) if text.as_str().is_some() => Ok(Line::Note),
         ("before", [call, line]) => Ok(Line::Before(read_act(alloc, call, line)?)),
         ("calls", []) => Ok(Line::Calls),
         ("list", [folder]) => Ok(Line::List {

@@ -4,7 +4,7 @@ ghost use Rattle.std.specs.Prelude.{◌≡◌, OnOk, IfErr};
 ghost use Rattle.pm_store.specs.Store.{IsLater};
 ghost use Rattle.pm_cases_commands.specs.Store.{case_seen, Refuses};
 
-use crate::act::{Act, Deed, act_before};
+use crate::act::{Act, Deed, act_before, put_file};
 use pm_base::{Blob, Txt};
 use pm_store::{
     Call, Effect, FileStore, Made, MemStore, Planned, Published, Removed, StoreFail, Swapped,
@@ -52,6 +52,16 @@ impl CaseStore {
     /// Does something to the files between commands.
     pub fn apply(&mut self, alloc: Global, deed: &Deed) -> Result<(), AllocError> {
         deed.carry_out(alloc, &mut self.files)
+    }
+
+    /// Puts the files of another store in place.
+    pub fn copy_files(&mut self, alloc: Global, other: &mut CaseStore) -> Result<(), AllocError> {
+        for path in other.paths(alloc)? {
+            if let Some(bytes) = other.find(alloc, path.as_str())? {
+                put_file(alloc, &mut self.files, path.as_str(), bytes.as_bytes())?;
+            }
+        }
+        Ok(())
     }
 
     /// Others act before a call of the next command.
