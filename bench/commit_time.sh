@@ -3,7 +3,7 @@
 # columns in a database with a write-ahead log (WAL, synchronous=FULL). First as fast as it goes, so that the folder
 # changed within the last second; then after a second's pause each. It prints the median time of each and the ratio, and
 # with strace how many syncs one more commit of each makes. At most 1.5 times sqlite3's time is wanted. The gate never
-# runs it. It wants sqlite3, and the program to be built by ./paimon. docs/BEHAVIOUR.md has what it printed.
+# runs it. It wants sqlite3, and the program to be built by ./paimon. docs/COST.md has what it printed.
 #
 # usage: bench/commit_time.sh [PROGRAM [COMMITS [PAUSED [FOLDER]]]]     the tables are made in FOLDER, else in TMPDIR
 set -eu

@@ -1,7 +1,7 @@
 #!/usr/bin/env bash
 # Commits one row a thousand times to one table, on a real folder, and tells of commits 1, 200 and 1000: the least time of
 # five, each on a copy of the folder as it stood before; with strace also how many syncs and how many system calls one
-# takes there; and how many calls of the store, live files and manifests that is by the rules of docs/BEHAVIOUR.md, which it
+# takes there; and how many calls of the store, live files and manifests that is by the rules of docs/COST.md, which it
 # computes and doesn't count. Then it loads 1,000,000 rows into another table, in batches of 100,000, and prints the time, the rows a second and
 # the most memory of one write; where sqlite3 is there, beside as many imports of the same rows into its table. The gate
 # never runs it. It wants GNU time, and the program to be built by ./paimon.

@@ -6,7 +6,7 @@
 #   - none ended with 5 (the store failed), nor with anything else;
 #   - no snapshot's id was printed twice, the ids that were printed are those from 1 on, without a gap, and `snapshots`
 #     lists just these.
-# It ends with 1 where a promise fails. The gate never runs it. docs/BEHAVIOUR.md has what it printed.
+# It ends with 1 where a promise fails. The gate never runs it. docs/DEVELOPING.md has what it printed.
 #
 # usage: bench/many_writers.sh [PROGRAM [SECONDS [WRITERS]]]     without a program: the one that ./paimon builds
 set -u

@@ -2,7 +2,7 @@
 # Writes 1,000,000 rows of a BIGINT and a short STRING as files of a run, in memory, and reads them again, beside avro-c on
 # the same records, written to one file in memory, in the same run: five times each in turn. It prints the least time of
 # each, the rows a second, and the most memory that ours took, with the rows that it was given. The gate never runs it. It
-# wants avro-c (in Debian libavro-dev), a C compiler and GNU time. docs/BEHAVIOUR.md has what it printed.
+# wants avro-c (in Debian libavro-dev), a C compiler and GNU time. docs/COST.md has what it printed.
 #
 # usage: bench/run_files.sh
 set -eu

@@ -3,7 +3,7 @@
 # that were just read. Each run is one `write`; the keys are dealt to the runs in turn, so each reaches over all keys. A
 # write takes at most 100,000 rows. sqlite3 prints them once as the lines of a scan, which have to be the same, and once in
 # its own form. It prints the least time of each and the most memory of each. The gate never runs it. It wants sqlite3 and
-# GNU time, and the program to be built by ./paimon. docs/BEHAVIOUR.md has what it printed.
+# GNU time, and the program to be built by ./paimon. docs/COST.md has what it printed.
 #
 # usage: bench/scan.sh [ROWS [RUNS [PROGRAM]]]
 set -eu
