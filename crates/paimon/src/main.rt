@@ -2,7 +2,7 @@
 //! error. It ends with 0, or with the number of the refusal.
 #![tactic(auto)]
 
-use pm_cli::{Start, run};
+use pm_cli::run;
 use pm_folder_store::{FolderStore, System};
 use pm_io::{StdSink, StdSource};
 use pm_store::StoreFail;
@@ -62,10 +62,8 @@ fn run_command(rt: &HostRuntime, folder: &Txt, words: &[Txt]) -> u8 {
         &mut out,
         &mut err,
         &mut store,
-        Start {
-            session,
-            now_millis,
-        },
+        now_millis,
+        session,
     );
     status.code
 }

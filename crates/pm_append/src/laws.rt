@@ -13,10 +13,10 @@ ghost use Rattle.pm_append.specs.Files.{IsAppendOf};
 ghost use Rattle.pm_append.specs.declared.newest.CommitFile.{CommitFile as FileView};
 ghost use Rattle.pm_append.specs.Commit.{Attempt, HasAppended, IsAsMade, IsBuilt, IsReady, MakesNames};
 
-use pm_model_contents::{kept_law, one_contents_law, one_runs_law};
 use pm_engine::added_law;
 use pm_levels::newest_law;
 use pm_manifest::{id_law, joined_law, last_law, live_law, read_entry_law};
+use pm_model_contents::{kept_law, one_contents_law, one_runs_law};
 use pm_run::order_law;
 use pm_snapshot::{path_law, snapshot_law};
 use pm_write::{batch_law, written_law};

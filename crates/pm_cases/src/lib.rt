@@ -1,5 +1,5 @@
-//! What the cases of `pm_cases_codecs` and of `pm_cases_folder` have in common: a case, arguments that spell bytes, columns,
-//! and refusals as answers.
+//! What the cases of `pm_cases_codecs`, `pm_cases_stores` and `pm_cases_folder` have in common: a case, arguments that
+//! spell bytes, columns, and refusals as answers.
 #![tactic(auto)]
 
 mod argument;

@@ -1,7 +1,7 @@
 //! The cases of what no command shows by itself, a line in and a line out: each line of standard input names a codec,
 //! or what else is tried, and its arguments, with a TAB between them, and the line that is printed for it is the
 //! answer. Blank lines and lines that begin with `#` are printed as they are, so that both texts can be read side by
-//! side. `pm_cases_folder` has the cases of streams and stores, `pm_cases_commands` those of commands.
+//! side. `pm_cases_stores` has the cases of streams and stores, `pm_cases_commands` those of commands.
 //!
 //! | Codec | Arguments | Answer |
 //! |---|---|---|

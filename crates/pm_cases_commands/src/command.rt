@@ -2,7 +2,7 @@
 
 use crate::files::checksum;
 use pm_base::Txt;
-use pm_cli::{Start, run};
+use pm_cli::run;
 use pm_io::{MemSink, MemSource};
 use pm_store::FileStore;
 use std::alloc::{AllocError, Global};
@@ -87,10 +87,8 @@ impl Command {
             out,
             err,
             store,
-            Start {
-                session,
-                now_millis: self.now,
-            },
+            self.now,
+            session,
         );
         let code = status.code;
         drop(status);

@@ -1,6 +1,7 @@
-//! The cases of commands on a real folder, and of the lines of an input, a line in and a line out: each line of standard
-//! input names what is tried, and its arguments, with a TAB between them, and the line that is printed for it is the
-//! answer. Blank lines and lines that begin with `#` are printed as they are, so that both texts can be read side by side.
+//! The cases of commands on a real folder, and of the lines of an input, a line in and a line out: each line of
+//! standard input names what is tried, and its arguments, with a TAB between them, and the line that is printed for it
+//! is the answer. Blank lines and lines that begin with `#` are printed as they are, so that both texts can be read
+//! side by side.
 //!
 //! | What is tried | Arguments | Answer |
 //! |---|---|---|

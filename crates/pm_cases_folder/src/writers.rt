@@ -16,10 +16,10 @@ use pm_draft::{built_law, judge_built};
 use pm_engines::{TableEngine, declared_law};
 use pm_input::{InputLine, LIMITS, read_lines, refusal_of};
 use pm_io::MemSource;
+use pm_read_schema::read_table_schema;
 use pm_schema::TableSchema;
 use pm_store::FileStore;
 use pm_values::{Names, Refusal};
-use pm_read_schema::read_table_schema;
 use pm_write::Batch;
 use std::alloc::Global;
 

@@ -6,7 +6,7 @@
 //! |---|---|---|
 //! | `source` | see `stream.rt` | the lines of a source that fails |
 //! | `sink` | see `stream.rt` | what a sink takes, and whether that is all |
-//! | `store` | `memory`, `fails` and a plan, or `folder` and a name; calls | their answers, of a folder through two stores |
+//! | `store` | `memory`, `fails` and a plan, or `folder` and a name; calls | their answers, on a folder of two stores |
 //!
 //! The others are of the store on a folder over a double of the operating system:
 //!

@@ -4,6 +4,7 @@
 //! |---|---|
 //! | `PATH/` | a folder; the folders on the way are made too |
 //! | `PATH=BYTES` | a file; with `!` at the end somebody has locked it alone, and never closes it |
+//! | `PATH/\..` | any of these, under a name that isn't UTF-8 |
 //! | `PATH->OTHER` | a link to what stands at the other path, or to nothing |
 //! | `~PATH` | nothing: what stands there is taken away |
 //! | `?WORD` | the same, but a power loss may undo the name |

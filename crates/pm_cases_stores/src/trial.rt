@@ -56,7 +56,12 @@ fn play(trial: &Trial, count: usize, plan: Plan) -> Result<Played, HostError> {
 }
 
 /// Has a process act so often, and answers what it was answered at last.
-fn acted(trial: &Trial, world: &RefCell<World>, count: usize, plan: Plan) -> Result<String, HostError> {
+fn acted(
+    trial: &Trial,
+    world: &RefCell<World>,
+    count: usize,
+    plan: Plan,
+) -> Result<String, HostError> {
     let mut store = open_store(trial.alloc, Seat { world })?;
     let mut answer = String::new(trial.alloc);
     let mut left = count;
@@ -108,7 +113,12 @@ pub fn say_images(case: &mut Case, trial: &Trial) -> Result<(), HostError> {
 }
 
 /// The same of the last of so many acts.
-fn say_images_of(case: &mut Case, trial: &Trial, count: usize, is_call: bool) -> Result<(), HostError> {
+fn say_images_of(
+    case: &mut Case,
+    trial: &Trial,
+    count: usize,
+    is_call: bool,
+) -> Result<(), HostError> {
     let whole = play(trial, count, Plan::healthy())?;
     case.say(whole.answer.as_str());
     if is_call {

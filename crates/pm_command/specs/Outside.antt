@@ -14,8 +14,15 @@ use Rattle.pm_model_history.specs.History.{History}
 use Rattle.pm_model_folder.specs.Changes.{Actor}
 use Rattle.pm_model_folder.specs.Folder.{Folder}
 use Rattle.pm_create.specs.Making.{LeavesFiles}
-use Rattle.pm_command.specs.declared.start.Start.{Start}
 use Rattle.pm_report.specs.Report.{code_of, report_text}
+
+-- what a command is given beside its words: the bytes of its session, and the moment
+pub record Start : Type 0 where
+  pub session : List ℕ
+  pub now : ℤ
+
+abbrev pub start_of : List ℕ → ℤ → Start
+start_of session now = record { session = session; now = now }
 
 -- a single command is actor 0 of its session
 abbrev pub actor : Start → Actor

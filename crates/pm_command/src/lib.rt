@@ -4,8 +4,6 @@
 
 mod judging;
 mod printing;
-mod start;
 
 pub use judging::judge;
 pub use printing::print;
-pub use start::Start;

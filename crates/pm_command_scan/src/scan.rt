@@ -10,10 +10,10 @@ ghost use Rattle.pm_command_scan.specs.Scan.{DidScan, IsScanned, KeepsHistories}
 use pm_command::{judge, print};
 use pm_engines::declared_law;
 use pm_io::Sink;
+use pm_read_schema::read_table_schema;
 use pm_scan::scan_table;
 use pm_store::FileStore;
 use pm_values::Refusal;
-use pm_read_schema::read_table_schema;
 use std::alloc::Global;
 
 /// Prints the scan of a table at its newest snapshot, or at the one with that id.

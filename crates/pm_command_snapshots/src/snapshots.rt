@@ -10,10 +10,10 @@ ghost use Rattle.pm_command_snapshots.specs.Snapshots.{made_of, DidSnapshots, Is
 
 use pm_command::{judge, print};
 use pm_io::Sink;
+use pm_read_schema::read_table_schema;
 use pm_snapshots::{Lister, list_snapshots};
 use pm_store::FileStore;
 use pm_values::Refusal;
-use pm_read_schema::read_table_schema;
 use std::alloc::Global;
 
 /// Lists the snapshots of a table, and prints a line for each.

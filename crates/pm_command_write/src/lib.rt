@@ -6,7 +6,5 @@
 
 mod input;
 mod write;
-mod writer;
 
 pub use write::{Written, run_write};
-pub use writer::Writer;

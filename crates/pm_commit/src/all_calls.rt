@@ -14,8 +14,8 @@ ghost use Rattle.pm_commit.specs.declared.phase.Phase.TheVariants as phases;
 use crate::committer::{CommitStep, Committer};
 use pm_model_contents::same_law;
 use pm_model_folder::{past_law, unnamed_law};
-use pm_store::FileStore;
 use pm_read_table::entries_law;
+use pm_store::FileStore;
 use pm_values::Refusal;
 use std::alloc::Global;
 

@@ -22,12 +22,12 @@ ghost use Rattle.pm_commit.specs.Trace.{Did, Shows};
 ghost use Rattle.pm_commit.specs.declared.phase.Phase.{Phase};
 
 use pm_append::{append_law, own_files_law};
+use pm_manifest::{ManifestMeta, joined_law, read_entry_law};
 use pm_model_contents::{one_contents_law, same_law};
 use pm_model_folder::{newest_law, unnamed_law};
-use pm_manifest::{ManifestMeta, joined_law, read_entry_law};
+use pm_read_table::{entries_law, named_law};
 use pm_record::one_reading_law;
 use pm_snapshot::path_law;
-use pm_read_table::{entries_law, named_law};
 
 /// A committer keeps the laws of machines.
 pub(crate) fn machine_law()

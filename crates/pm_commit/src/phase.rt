@@ -4,8 +4,8 @@ use crate::making::{Making, Publishing};
 use crate::own::Own;
 use crate::search::Searching;
 use pm_append::Author;
-use pm_schema::TableSchema;
 use pm_read_table::ViewReader;
+use pm_schema::TableSchema;
 
 /// How far a commit has come: the next call lists the manifests; or is one of the newest view; or reads an older
 /// snapshot in search of the user's last commit; or creates a file; or publishes the snapshot. Or the snapshot with

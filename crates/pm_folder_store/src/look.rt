@@ -65,7 +65,11 @@ pub(crate) fn open_file<H: Host>(host: &mut H, path: &str) -> Result<Option<H::F
 }
 
 /// A file, opened for reading, where it is the one that was looked at.
-fn open_looked<H: Host>(host: &mut H, path: &str, looked: Found) -> Result<Option<H::File>, HostError> {
+fn open_looked<H: Host>(
+    host: &mut H,
+    path: &str,
+    looked: Found,
+) -> Result<Option<H::File>, HostError> {
     let file = match host.open(path) {
         Ok(file) => file,
         Err(e) if is_absent(e) => return Ok(None),

@@ -8,7 +8,8 @@
 //! halved.
 //!
 //! Rows come from a `RowSource` and go from place to place (`RowPlace`), and no run is made on the way. A `RowSlot` of
-//! `pm_row_slots` is such a place: a row that lies in bytes stays there, and is copied only where it is combined or taken.
+//! `pm_row_slots` is such a place: a row that lies in bytes stays there, and is copied only where it is combined or
+//! taken.
 #![tactic(auto)]
 
 mod drops;

@@ -18,7 +18,7 @@ use Rattle.pm_model_folder.specs.Meaning.{SnapshotAt}
 use Rattle.pm_model_folder.specs.Paths.{snapshot_path}
 use Rattle.pm_model_folder.proofs.HoldLemmas.{one-snapshot}
 use Rattle.pm_create.specs.Making.{LeavesFiles}
-use Rattle.pm_read_schema.proofs.ListLemmas.{here, more}
+use Rattle.pm_paths.proofs.ListLemmas.{here, more}
 use Rattle.pm_snapshots.specs.AllCalls.{AreLinesOf}
 use Rattle.pm_snapshots.specs.Lines.{line_of, snapshots_text}
 use Rattle.pm_snapshots.specs.Meaning.{IsLineAt}

@@ -26,13 +26,12 @@ use Rattle.pm_snapshots.specs.Lines.{snapshots_text}
 use Rattle.pm_snapshots.specs.declared.line.SnapshotLine.{SnapshotLine}
 use Rattle.pm_words.specs.declared.command.Command.{Command}
 use Rattle.pm_words.specs.declared.command.Command.TheVariants as commands
-use Rattle.pm_command.specs.Outside.{Start, actor, Outside}
+use Rattle.pm_command.specs.Outside.{Outside, Start, actor}
 use Rattle.pm_command_create.specs.Create.{IsDraftOf}
 use Rattle.pm_command_write.specs.Write.{entry_by, identifier_of, writer_of}
 use Rattle.pm_promise.specs.Start.{HasInput, HaveOtherNames, IsNew, MayStart}
 
 -- ---- what a command does
-
 -- a line of a snapshot bears the user and the identifier of its entry, where that is one of rows
 abbrev pub LineBears : Option Entry → SnapshotLine → Type 0
 LineBears (Some (append user identifier rows)) l = (l.user ≡ user) × (l.ident ≡ identifier)
@@ -74,7 +73,6 @@ pub data Does (start : Start) (bytes : List ℕ) : Command → History → Histo
       (line (codes "snapshot " ++ decimal (suc (length es))))
 
 -- ---- what is so of all commands
-
 -- a command that was executed: what it was given, what was outside before and after, and why it was refused, if it was
 pub record Execution : Type 0 where
   pub command : Command
@@ -88,9 +86,8 @@ pub record Execution : Type 0 where
 abbrev pub MayMake : Execution → History → History → Type 0
 MayMake e h later = (later ≡ h) ⊎ ((text : List ℕ) × Does e.start e.input e.command h later text)
 
--- What it made, by its answer. After success it did it, and the text was printed whole; where the sink failed it did
--- it, and a prefix was; where the store failed it did it or nothing, after any other refusal nothing; and then nothing
--- was printed.
+-- What it made, by its answer. After success or a fault of the sink it did it, and the text was printed or a prefix of
+-- it; after a fault of the store it did it or nothing, after any other refusal nothing, and nothing was printed.
 abbrev pub HasMade : Execution → History → Option Refusal → History → Type 0
 HasMade e h None later = (text : List ℕ) × Does e.start e.input e.command h later text
     × (e.after.out.taken ≡ and_then e.before.out.taken text)
@@ -100,7 +97,8 @@ HasMade e h (Some (refusals.StoreFault path)) later = MayMake e h later × (e.af
 HasMade e h (Some other) later = (later ≡ h) × (e.after.out ≡ e.before.out)
 
 -- Files stand for the history, and each other actor that was new to the one at first is new to it.
-pub record StandsForOthers (e : Execution) (h : History) (first : StoreView) (later : History) (f : Files) : Type 0 where
+pub record StandsForOthers (e : Execution) (h : History) (first : StoreView) (later : History) (f : Files)
+    : Type 0 where
   pub folder : Folder f later
   pub free : (other : Actor) → HaveOtherNames (actor e.start) other → LeavesFiles (IsNew other h) first
       → IsNew other later f

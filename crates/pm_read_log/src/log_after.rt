@@ -14,12 +14,12 @@ ghost use Rattle.pm_values.specs.declared.refusal.Refusal.TheVariants as refusal
 use crate::log::{Log, LogAsked, LogReading};
 use crate::log_phase::LogPhase;
 use pm_base::{Blob, Txt};
-use pm_model_contents::folder_law;
 use pm_manifest::{Entry, ManifestMeta, read_entry_law};
 use pm_manifest_reader::{read_list, read_manifest};
+use pm_model_contents::folder_law;
 use pm_paths::manifest_path;
-use pm_snapshot::{SnapFault, Snapshot, read_snapshot};
 use pm_read_table::{damaged_schema, damaged_snapshot};
+use pm_snapshot::{SnapFault, Snapshot, read_snapshot};
 use pm_values::Refusal;
 use std::alloc::{AllocError, Global};
 use std::collections::VecDeque;

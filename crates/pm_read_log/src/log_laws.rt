@@ -22,8 +22,8 @@ ghost use Rattle.pm_read_table.specs.declared.view.View.{View as ViewView};
 ghost use Rattle.pm_read_log.specs.declared.log_phase.LogPhase.{LogPhase};
 ghost use Rattle.pm_values.specs.declared.refusal.Refusal.{Refusal};
 
-use pm_model_contents::one_contents_law;
 use pm_manifest::{Entry, ManifestMeta};
+use pm_model_contents::one_contents_law;
 use pm_record::one_reading_law;
 
 /// What a reader of a changelog knows stays true through each kind of change of every actor.

@@ -8,12 +8,12 @@ ghost use Rattle.pm_read_table.specs.Named.{file_paths, log_list_path, meta_path
 
 use crate::log::Log;
 use pm_base::Txt;
-use pm_model_contents::data_path;
 use pm_manifest::{Entry, ManifestMeta};
+use pm_model_contents::data_path;
 use pm_paths::manifest_path;
+use pm_read_table::View;
 use pm_schema::TableSchema;
 use pm_snapshot::Snapshot;
-use pm_read_table::View;
 use std::alloc::{AllocError, Global};
 
 /// The paths that a snapshot names, by a view of it that has the entries of its live files, and by its changelog: of

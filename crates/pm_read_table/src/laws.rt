@@ -32,8 +32,8 @@ ghost use Rattle.pm_read_table.specs.View.{live_entries};
 ghost use Rattle.pm_read_table.specs.declared.phase.Phase.{Phase};
 ghost use Rattle.pm_read_table.specs.declared.phase.Phase.TheVariants as phases;
 
-use pm_model_contents::one_contents_law;
 use pm_manifest::{Entry, ManifestMeta, joined_law};
+use pm_model_contents::one_contents_law;
 use pm_record::one_reading_law;
 
 /// What a reader knows stays true through each kind of change of every actor.

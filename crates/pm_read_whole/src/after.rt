@@ -16,10 +16,10 @@ ghost use Rattle.pm_read_whole.specs.declared.phase.Phase.TheVariants as phases;
 
 use crate::copy::copied;
 use crate::phase::Phase;
-use pm_read_log::LogReader;
 use pm_machine::Machine;
-use pm_store::Answer;
+use pm_read_log::LogReader;
 use pm_read_table::{View, ViewReader};
+use pm_store::Answer;
 use pm_values::Refusal;
 use std::alloc::{AllocError, Global};
 

@@ -16,13 +16,13 @@ ghost use Rattle.pm_row_slots.specs.Seen.{seen_value};
 use crate::judge::judge_rows;
 use crate::same::is_written;
 use pm_avro_file::FileReader;
+use pm_row_slots::{Seen, copied};
 use pm_run::Field;
 use pm_run_form::{
     MOST_SEQUENCE, RowsRead, TableForm, agree, keeps_kind, last_key, may_follow, own_key,
 };
 use pm_run_scalars::{read_int, read_long, read_size, see_scalar};
 use pm_schema::EngineKind;
-use pm_row_slots::{Seen, copied};
 use pm_values::{Key, Kind, Row, Stamped, Value};
 use std::alloc::{AllocError, Global};
 

@@ -14,9 +14,9 @@ ghost use Rattle.pm_run_bytes.specs.Seen.{seen_key};
 ghost use Rattle.pm_row_slots.specs.Seen.{seen_row, seen_value};
 
 use crate::direct::{read_kind, read_sequence, see_value};
+use pm_row_slots::{Seen, SeenRow, order_of, seen_of, values_of};
 use pm_run::Field;
 use pm_run_form::TableForm;
-use pm_row_slots::{Seen, SeenRow, order_of, seen_of, values_of};
 use pm_values::{Key, Kind, Value};
 use std::alloc::{AllocError, Global};
 use std::cmp::Ordering;

@@ -7,8 +7,8 @@ ghost use Rattle.pm_run_bytes.specs.Lying.{LieFirst, LieIn, StillLie, lying_left
 
 use crate::direct::Direct;
 use crate::judge::see_row;
-use pm_run_form::TableForm;
 use pm_row_slots::RowSlot;
+use pm_run_form::TableForm;
 use std::alloc::{AllocError, Global};
 
 /// Rows of a judged file that are given one after another, where they lie.

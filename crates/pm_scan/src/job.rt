@@ -10,8 +10,8 @@ ghost use Rattle.pm_read_table.specs.Reader.{most};
 ghost use Rattle.pm_scan.specs.Jobs.{all_jobs, file_jobs, job_of, run_jobs};
 
 use pm_base::Txt;
-use pm_model_contents::data_path;
 use pm_levels::{Levels, RunFiles};
+use pm_model_contents::data_path;
 use pm_schema::TableSchema;
 use pm_values::{FileMeta, Group};
 use std::alloc::{AllocError, Global};

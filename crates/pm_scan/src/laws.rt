@@ -30,8 +30,8 @@ ghost use Rattle.pm_scan.specs.Scanner.{next_call, Shown};
 ghost use Rattle.pm_scan.specs.declared.job.Job.{Job};
 ghost use Rattle.pm_scan.specs.declared.phase.Phase.{Phase};
 
-use pm_model_contents::{one_contents_law, one_runs_law};
 use pm_manifest::{Entry, ManifestMeta, joined_law};
+use pm_model_contents::{one_contents_law, one_runs_law};
 use pm_record::one_reading_law;
 use pm_run::{one_list_law, order_law};
 use pm_schema::{declared_law, schema_law};

@@ -14,10 +14,10 @@ ghost use Rattle.pm_read_schema.specs.declared.phase.Phase.TheVariants as reader
 use crate::line::print_lines;
 use crate::phase::Phase;
 use pm_machine::{Running, make_step};
+use pm_read_schema::Phase as SchemaPhase;
 use pm_schema::TableSchema;
 use pm_store::FileStore;
 use pm_values::Refusal;
-use pm_read_schema::Phase as SchemaPhase;
 use std::alloc::{AllocError, Global};
 use std::marker::Model;
 

@@ -16,11 +16,11 @@ use crate::reading::Reading;
 use pm_base::{Blob, Txt};
 use pm_machine::{Machine, PhaseMeaning, Running};
 use pm_paths::{ids_of, snapshot_path};
+use pm_read_schema::Phase as SchemaPhase;
 use pm_schema::TableSchema;
 use pm_snapshot::{SnapFault, read_snapshot};
 use pm_store::{Answer, Call};
 use pm_values::Refusal;
-use pm_read_schema::Phase as SchemaPhase;
 use std::alloc::{AllocError, Global};
 
 impl pm_machine::Phase for Phase {

@@ -8,9 +8,9 @@ ghost use Rattle.pm_run.specs.Reader.{StopsAfter};
 ghost use Rattle.pm_run.specs.Rows.{Follow};
 ghost use Rattle.pm_stored.specs.Stored.{FileGives, left_in_file, rows_of};
 
+use pm_row_slots::RowSlot;
 use pm_run_bytes::FileRows;
 use pm_run_reader::{JudgedFile, RunReader};
-use pm_row_slots::RowSlot;
 use pm_values::{Key, Refusal, Stamped};
 use std::alloc::{AllocError, Global};
 

@@ -13,8 +13,8 @@ ghost use Rattle.pm_write.specs.Taken.{all_taken, no_room, taken_by, taken_of};
 ghost use Rattle.pm_write.specs.Taken.{IsTakenRow, stamped, with_taken};
 
 use pm_engines::{TableEngine, Verdict};
-use pm_model_history::{key_of, primary_of};
 use pm_input::{InputLine, LIMITS, LimitKind, row_at};
+use pm_model_history::{key_of, primary_of};
 use pm_schema::TableSchema;
 use pm_values::{Kind, Refusal, Row, Stamped, Txt};
 use std::alloc::{AllocError, Global};

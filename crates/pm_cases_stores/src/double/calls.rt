@@ -37,14 +37,14 @@ impl World {
         Ok(found)
     }
 
-    /// The names in a folder, the last one first.
+    /// The names in a folder, the last one first. One that begins with a backslash isn't UTF-8.
     pub fn names(&mut self, alloc: Global, folder: &str) -> Result<Vec<String>, HostError> {
         self.begin(Act::Names, folder, "")?;
         let mut names = Vec::new(alloc);
         let thing = self.end(folder)?;
         for name in self.names_of(thing)?.iter().rev() {
             if name.now.is_some() {
-                names.push(String::from_str(alloc, name.text.as_str())?)?;
+                names.push(String::from_str(alloc, told(name.text.as_str()))?)?;
             }
         }
         self.done();
@@ -350,6 +350,15 @@ fn bars(held: &Option<Held>, thing: usize, is_alone: bool) -> bool {
             Lock::Shared => is_alone,
             Lock::Alone => true,
         }
+}
+
+/// What a host tells of a name.
+fn told(name: &str) -> &str {
+    if name.starts_with('\\') {
+        "\u{FFFD}"
+    } else {
+        name
+    }
 }
 
 /// Whether any of these names leads to something.

@@ -276,7 +276,12 @@ impl World {
     }
 
     /// Has a name in a folder lead to something else.
-    pub fn lead(&mut self, folder: usize, name: &str, thing: Option<usize>) -> Result<(), HostError> {
+    pub fn lead(
+        &mut self,
+        folder: usize,
+        name: &str,
+        thing: Option<usize>,
+    ) -> Result<(), HostError> {
         let tick = self.tick();
         let alloc = self.alloc;
         let Some(node) = self.nodes.get_mut(folder) else {

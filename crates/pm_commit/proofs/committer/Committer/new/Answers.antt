@@ -4,8 +4,8 @@ use Rattle.pm_commit.specs.Own.{IsOwn, new_author}
 use Rattle.pm_commit.proofs.BatchLemmas.{BatchLaw, new-is-own}
 use Rattle.pm_commit.proofs.committer.Committer.new.Goals as goal
 
-pub invariant_of-result : goal.invariant_of-result
-invariant_of-result c =
+pub new-requires-2 : goal.new-requires-2
+new-requires-2 c =
     let law : BatchLaw = record { held = c.batch_law.ensures.held; folders = c.batch_law.ensures.folders } in
     subst (IsOwn c.args.schema) (sym c.new.ensures)
     (rw (to_z-of_z c.ranges.identifier, to_z-of_z c.ranges.now_millis)
