@@ -55,6 +55,6 @@ impl<'b> RowPlace for RowSlot<'b> {
 
     #[inline]
     fn put(&mut self, stamped: Stamped) {
-        self.own = Some(stamped);
+        self.set(Some(stamped));
     }
 }

@@ -48,7 +48,7 @@ impl<'b> RowSource<RowSlot<'b>> for RunRows {
     ghost left = { rows_in };
 
     fn fill(&mut self, _alloc: Global, slot: &mut RowSlot<'b>) -> Result<(), AllocError> {
-        slot.own = self.rows.next();
+        slot.set(self.rows.next());
         Ok(())
     }
 }

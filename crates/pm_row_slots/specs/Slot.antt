@@ -5,12 +5,19 @@ use Rattle.std.specs.declared.cmp.Ordering.TheVariants.{Less, Greater}
 use Rattle.pm_values.specs.Order.{key_cmp}
 use Rattle.pm_values.specs.declared.record.Stamped.{Stamped}
 use Rattle.pm_row_slots.specs.Seen.{seen_row}
+use Rattle.pm_row_slots.specs.declared.slot.PlacedRow.{PlacedRow}
+use Rattle.pm_row_slots.specs.declared.slot.PlacedRow.TheVariants as placed
 use Rattle.pm_row_slots.specs.declared.slot.SeenRow.{SeenRow}
 
--- the row of a place, by whether it lies in bytes
+-- Private: the row of a place, by whether it lies in bytes
 abbrev pub row_in : Bool → SeenRow → Option Stamped → Option Stamped
 row_in true seen own = Some (seen_row seen)
 row_in false seen own = own
+
+-- the row of a place, where it stands
+abbrev pub placed_row : PlacedRow → Stamped
+placed_row (placed.Lying row) = seen_row row.now
+placed_row (placed.Own row) = row.now
 
 -- the order of two rows by their keys, where one that isn't there is as if above all
 abbrev pub OrdersFirst : Option Stamped → Option Stamped → Option Ordering → Type 0

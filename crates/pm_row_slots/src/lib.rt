@@ -12,4 +12,4 @@ mod slot;
 
 pub use order::order_of;
 pub use seen::{Seen, copied, lend_values, seen_of, values_of};
-pub use slot::{RowSlot, SeenRow};
+pub use slot::{PlacedRow, RowSlot, SeenRow};

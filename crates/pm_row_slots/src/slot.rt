@@ -1,9 +1,9 @@
 //! Places for rows.
 
-ghost use Rattle.std.specs.Prelude.{◌≡◌, None, Some, IfOk, OnOk, is_none, map};
+ghost use Rattle.std.specs.Prelude.{◌≡◌, [], None, Some, IfOk, OnErr, OnOk, is_none, map, option_map};
 ghost use Rattle.pm_values.specs.declared.record.Stamped.{Stamped as StampedView};
 ghost use Rattle.pm_row_slots.specs.Seen.{seen_row, seen_value};
-ghost use Rattle.pm_row_slots.specs.Slot.{OrdersFirst};
+ghost use Rattle.pm_row_slots.specs.Slot.{OrdersFirst, placed_row};
 
 use crate::order::{order_before, order_of, order_with};
 use crate::seen::{Seen, lend_values, values_of};
@@ -11,6 +11,7 @@ use pm_values::{Key, Kind, Row, Stamped};
 use std::alloc::{AllocError, Global};
 use std::cmp::Ordering;
 use std::marker::Model;
+use std::mem;
 
 /// A row that lies in bytes or is lent, with its key, its number and its kind.
 pub struct SeenRow<'b> {
@@ -32,6 +33,19 @@ impl Drop for SeenRow<'_> {
 }
 
 impl<'b> SeenRow<'b> {
+    /// Room for a row, which has no values yet.
+    pub fn new(alloc: Global) -> SeenRow<'b>
+        ensures key { result.key.items ≡ [] }
+        ensures row { result.row.items ≡ [] }
+    {
+        SeenRow {
+            key: Vec::new(alloc),
+            seq: 0,
+            kind: Kind::Insert,
+            row: Vec::new(alloc),
+        }
+    }
+
     /// This row, lent.
     pub fn lend(&mut self, row: &'b Stamped) -> Result<(), AllocError>
         ensures { OnOk result (seen_row self.new ≡ row.now) }
@@ -43,12 +57,19 @@ impl<'b> SeenRow<'b> {
     }
 }
 
+/// The row of a place, where it stands: it lies in bytes or is lent, or is one of the place's own.
+#[derive(Clone, Copy)]
+pub enum PlacedRow<'s, 'b> {
+    Lying(&'s SeenRow<'b>),
+    Own(&'s Stamped),
+}
+
 /// A place for a row: none, one that lies in bytes or is lent, which is in `seen` where `lies` says so, or one of its
 /// own.
 pub struct RowSlot<'b> {
-    pub lies: bool,
-    pub seen: SeenRow<'b>,
-    pub own: Option<Stamped>,
+    lies: bool,
+    seen: SeenRow<'b>,
+    own: Option<Stamped>,
 }
 
 impl Drop for RowSlot<'_> {
@@ -74,13 +95,64 @@ impl<'b> RowSlot<'b> {
     {
         RowSlot {
             lies: false,
-            seen: SeenRow {
-                key: Vec::new(alloc),
-                seq: 0,
-                kind: Kind::Insert,
-                row: Vec::new(alloc),
-            },
+            seen: SeenRow::new(alloc),
             own: None,
+        }
+    }
+
+    /// Puts a row of its own into the place, or none, whatever stood there.
+    #[inline]
+    pub fn set(&mut self, row: Option<Stamped>)
+        ensures { self.new ≡ row }
+    {
+        self.lies = false;
+        self.own = row;
+    }
+
+    /// Puts a row into the place, lent, whatever stood there. It takes memory only where the place had no row of as
+    /// many values yet.
+    pub fn lend(&mut self, row: &'b Stamped) -> Result<(), AllocError>
+        ensures lent { OnOk result (self.new ≡ Some row.now) }
+        ensures none { OnErr result (self.new ≡ None) }
+    {
+        self.lies = false;
+        self.own = None;
+        self.seen.lend(row)?;
+        self.lies = true;
+        Ok(())
+    }
+
+    /// The place's room for a row that lies in bytes, with the memory that it has, for `put_lying`. No row stands in
+    /// the place any more.
+    #[inline]
+    pub fn take_room(&mut self, alloc: Global) -> SeenRow<'b>
+        ensures { self.new ≡ None }
+    {
+        self.lies = false;
+        self.own = None;
+        mem::replace(&mut self.seen, SeenRow::new(alloc))
+    }
+
+    /// Puts a row that lies in bytes into the place, whatever stood there. Its memory is now the place's room.
+    #[inline]
+    pub fn put_lying(&mut self, row: SeenRow<'b>)
+        ensures { self.new ≡ Some (seen_row row.entry) }
+    {
+        self.seen = row;
+        self.lies = true;
+    }
+
+    /// The row, where it stands.
+    #[inline]
+    pub fn row(&self) -> Option<PlacedRow<'_, 'b>>
+        ensures { option_map placed_row result ≡ self.now }
+    {
+        if self.lies {
+            return Some(PlacedRow::Lying(&self.seen));
+        }
+        match &self.own {
+            Some(own) => Some(PlacedRow::Own(own)),
+            None => None,
         }
     }
 

@@ -17,7 +17,7 @@ use crate::direct::{read_kind, read_sequence, see_value};
 use pm_row_slots::{Seen, SeenRow, order_of, seen_of, values_of};
 use pm_run::Field;
 use pm_run_form::TableForm;
-use pm_values::{Key, Kind, Value};
+use pm_values::{Key, Value};
 use std::alloc::{AllocError, Global};
 use std::cmp::Ordering;
 use std::mem;
@@ -35,12 +35,7 @@ pub(crate) fn judge_rows(
     ensures { IfSome result (λ last. (rows : List Stamped) × AreRows form.now changes before.now rows bytes.now []
         × (length rows ≡ count) × (last ≡ last_key before.now rows)) }
 {
-    let mut seen = SeenRow {
-        key: Vec::new(alloc),
-        seq: 0,
-        kind: Kind::Insert,
-        row: Vec::new(alloc),
-    };
+    let mut seen = SeenRow::new(alloc);
     let mut last = lent(alloc, before).ok()?;
     let mut some = before.is_some();
     let mut rest = bytes;

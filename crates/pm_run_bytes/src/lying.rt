@@ -118,10 +118,11 @@ impl<'b> FileRows<'b> {
         if self.count == 0 {
             return Err(AllocError);
         }
-        let Some(rest) = see_row(alloc, self.form, self.changes, self.rest, &mut slot.seen) else {
+        let mut row = slot.take_room(alloc);
+        let Some(rest) = see_row(alloc, self.form, self.changes, self.rest, &mut row) else {
             return Err(AllocError);
         };
-        slot.lies = true;
+        slot.put_lying(row);
         self.rest = rest;
         self.left -= 1;
         self.count -= 1;

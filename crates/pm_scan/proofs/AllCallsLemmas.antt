@@ -17,7 +17,7 @@ use Rattle.pm_model_history.specs.Merged.{scan_text}
 use Rattle.pm_schema.specs.Again.{IsDeclared}
 use Rattle.pm_schema.specs.declared.schema.TableSchema.{TableSchema}
 use Rattle.pm_engine.specs.OfSchema.{meaning_of}
-use Rattle.pm_shown.specs.Shown.{PrintsGroups}
+use Rattle.pm_scan_rows.specs.Shown.{PrintsGroups}
 use Rattle.pm_model_contents.specs.Groups.{GroupRuns}
 use Rattle.pm_model_contents.specs.Runs.{data_path}
 use Rattle.pm_model_folder.specs.Folder.{Folder, HasTable}

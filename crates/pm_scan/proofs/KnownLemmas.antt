@@ -17,7 +17,7 @@ use Rattle.pm_model_history.specs.History.{Entry, History, IsTableOf, no_table, 
 use Rattle.pm_model_history.specs.Merged.{scan_text}
 use Rattle.pm_engine.specs.Covers.{Run}
 use Rattle.pm_engine.specs.OfSchema.{meaning_of}
-use Rattle.pm_shown.specs.Shown.{PrintsGroups}
+use Rattle.pm_scan_rows.specs.Shown.{PrintsGroups}
 use Rattle.pm_snapshot.specs.declared.snapshot.Snapshot.{Snapshot}
 use Rattle.pm_levels.specs.Runs.{RunView}
 use Rattle.pm_manifest.specs.Live.{Leaves, Live}

@@ -15,7 +15,7 @@ use Rattle.pm_values.specs.declared.record.Stamped.{Stamped}
 use Rattle.pm_engine.specs.Covers.{IsRising, Run}
 use Rattle.pm_run.specs.Order.{are_in_order, keys_of, last_key, may_follow}
 use Rattle.pm_schema.specs.declared.schema.TableSchema.{TableSchema}
-use Rattle.pm_shown.specs.Shown.{groups_of}
+use Rattle.pm_scan_rows.specs.Shown.{groups_of}
 use Rattle.pm_scan.specs.Collected.{Closes, Collected, HasMore, Takes, collected_of}
 use Rattle.pm_scan.specs.declared.job.Ends.TheVariants as ends
 use Rattle.pm_scan.specs.declared.job.Job.{Job}

@@ -21,7 +21,7 @@ use Rattle.pm_model_history.specs.Merged.{scan_text}
 use Rattle.pm_engine.specs.Covers.{Covers, Run}
 use Rattle.pm_engine.specs.OfSchema.{meaning_of}
 use Rattle.pm_model_following.specs.Groups.{rows_in}
-use Rattle.pm_shown.specs.Shown.{GroupRuns as Covered, GroupsCover, PrintsGroups}
+use Rattle.pm_scan_rows.specs.Shown.{GroupRuns as Covered, GroupsCover, PrintsGroups}
 use Rattle.pm_levels.specs.Runs.{IsRun, RunView, files_of}
 use Rattle.pm_manifest.specs.Live.{Live}
 use Rattle.pm_manifest.specs.declared.entry.Entry as files

@@ -18,7 +18,7 @@ use Rattle.pm_model_history.specs.Merge.{HistoryRow}
 use Rattle.pm_model_history.specs.Merged.{scan_text}
 use Rattle.pm_engine.specs.Covers.{Run}
 use Rattle.pm_engine.specs.OfSchema.{meaning_of}
-use Rattle.pm_shown.specs.Shown.{GroupRuns as Covered, GroupsCover, PrintsGroups}
+use Rattle.pm_scan_rows.specs.Shown.{GroupRuns as Covered, GroupsCover, PrintsGroups}
 use Rattle.pm_levels.specs.Runs.{IsRun, RunView}
 use Rattle.pm_manifest.specs.Live.{Live}
 use Rattle.pm_model_contents.specs.Runs.{AreRunsOf, data_path}

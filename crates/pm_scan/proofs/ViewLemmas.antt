@@ -19,7 +19,7 @@ use Rattle.pm_model_history.specs.Merged.{scan_text}
 use Rattle.pm_snapshot.specs.Snapshot.{snapshot_in}
 use Rattle.pm_snapshot.specs.declared.snapshot.Snapshot.{Snapshot}
 use Rattle.pm_engine.specs.OfSchema.{meaning_of}
-use Rattle.pm_shown.specs.Shown.{GroupsCover, PrintsGroups}
+use Rattle.pm_scan_rows.specs.Shown.{GroupsCover, PrintsGroups}
 use Rattle.pm_levels.specs.Runs.{RunView, files_of}
 use Rattle.pm_manifest.specs.Live.{Leaves, Live, live_after}
 use Rattle.pm_manifest.specs.declared.entry.Entry as files

@@ -11,7 +11,7 @@ use Rattle.pm_store.specs.declared.call.Call.{Call}
 use Rattle.pm_store.specs.declared.call.Call.TheVariants as calls
 use Rattle.pm_engine.specs.OfSchema.{meaning_of}
 use Rattle.pm_engines.specs.TableEngine.{HasEngine}
-use Rattle.pm_shown.specs.Shown.{PrintsGroups}
+use Rattle.pm_scan_rows.specs.Shown.{PrintsGroups}
 use Rattle.pm_model_folder.specs.Paths.{snapshot_path}
 use Rattle.pm_read_table.specs.Reader as reader
 use Rattle.pm_read_table.specs.Reader.{most}

@@ -7,7 +7,7 @@ use Rattle.pm_store.specs.declared.answer.Answer.TheVariants as answers
 use Rattle.pm_store.specs.Store.{StoreView}
 use Rattle.pm_machine.specs.Trace.{Acts, Event, IsFailed, MayEnd}
 use Rattle.pm_engine.specs.OfSchema.{meaning_of}
-use Rattle.pm_shown.specs.Shown.{PrintsGroups}
+use Rattle.pm_scan_rows.specs.Shown.{PrintsGroups}
 use Rattle.pm_model_folder.specs.Paths.{snapshot_path}
 use Rattle.pm_read_table.specs.Asked.{Asked}
 use Rattle.pm_read_table.specs.Reader as reader_machine

@@ -4,7 +4,7 @@ ghost use Rattle.std.specs.Prelude.{◌≡◌, ◌⊎◌, ◌++◌, List, IfErr,
 ghost use Rattle.pm_engine.specs.Covers.{IsRising};
 ghost use Rattle.pm_engine.specs.OfSchema.{meaning_of};
 ghost use Rattle.pm_engines.specs.TableEngine.{HasEngine};
-ghost use Rattle.pm_shown.specs.Shown.{PrintsGroups};
+ghost use Rattle.pm_scan_rows.specs.Shown.{PrintsGroups};
 ghost use Rattle.pm_values.specs.declared.record.Stamped.{Stamped as StampedView};
 ghost use Rattle.pm_values.specs.declared.refusal.Refusal.TheVariants as refusals;
 ghost use Rattle.pm_scan.specs.Collected.{Closes, HasMore, RefusesFile, Takes, nothing_of};
@@ -15,9 +15,8 @@ use pm_base::Blob;
 use pm_engines::TableEngine;
 use pm_run::order_law;
 use pm_run_reader::RunReader;
+use pm_scan_rows::{StoredRun, print_groups, shows_by_kind_law};
 use pm_schema::TableSchema;
-use pm_shown::{print_groups, shows_by_kind_law};
-use pm_stored::StoredRun;
 use pm_values::Refusal;
 use std::alloc::{AllocError, Global};
 use std::marker::Model;
@@ -45,7 +44,7 @@ impl Drop for Collected {
 
 impl Model for Collected {
     ghost use Rattle.pm_engines.specs.TableEngine.{schema_of};
-    ghost use Rattle.pm_shown.specs.Shown.{groups_of};
+    ghost use Rattle.pm_scan_rows.specs.Shown.{groups_of};
     ghost use Rattle.pm_scan.specs.Collected as specs;
     ghost use Rattle.pm_scan.specs.Collected.{collected_of, AreRisingIn};
 

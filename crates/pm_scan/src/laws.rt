@@ -7,7 +7,7 @@ ghost use Rattle.pm_values.specs.GroupOrder.{group_cmp};
 ghost use Rattle.pm_engine.specs.OfSchema.{meaning_of};
 ghost use Rattle.pm_model_history.specs.History.{IsTableOf};
 ghost use Rattle.pm_schema.specs.declared.schema.TableSchema.{TableSchema};
-ghost use Rattle.pm_shown.specs.Shown.{PrintsGroups};
+ghost use Rattle.pm_scan_rows.specs.Shown.{PrintsGroups};
 ghost use Rattle.pm_model_folder.specs.Changes.{Actor};
 ghost use Rattle.pm_model_folder.specs.Ledger.{Advances, Past, Stands};
 ghost use Rattle.pm_store.specs.Answers.{Answers};
@@ -34,8 +34,8 @@ use pm_manifest::{Entry, ManifestMeta, joined_law};
 use pm_model_contents::{one_contents_law, one_runs_law};
 use pm_record::one_reading_law;
 use pm_run::{one_list_law, order_law};
+use pm_scan_rows::scan_law;
 use pm_schema::{declared_law, schema_law};
-use pm_shown::scan_law;
 
 /// What a scanner knows stays true through each kind of change of every actor.
 pub fn known_law()

@@ -2,9 +2,9 @@
 //!
 //! A `Scanner` reads the view of a table whose schema was read, by the reader of `pm_read_table`, and then the view's
 //! data files, each once: by group, the newest run first, by rising key. It changes nothing. It keeps the runs of all
-//! groups until the last file is read, and merges none before. At its end it has the text of the scan, which `pm_shown`
-//! prints of them. A data file that is absent makes it read the snapshot again: where that is absent too it is expired,
-//! else the folder is damaged.
+//! groups until the last file is read, and merges none before. At its end it has the text of the scan, which
+//! `pm_scan_rows` prints of them. A data file that is absent makes it read the snapshot again: where that is absent too
+//! it is expired, else the folder is damaged.
 //!
 //! `specs/Jobs.antt` has the order of the files, `specs/Collected.antt` what one file more makes of what was collected,
 //! and `specs/Scanner.antt` the phases, the calls and what each answer leads to; `specs/Meaning.antt` what a scanner

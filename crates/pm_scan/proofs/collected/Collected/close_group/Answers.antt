@@ -3,7 +3,7 @@ use Rattle.std.specs.Global.{Global}
 use Rattle.std.specs.List.{All}
 use Rattle.pm_engine.specs.Covers.{IsRising, Run}
 use Rattle.pm_engines.specs.TableEngine.{schema_of}
-use Rattle.pm_shown.specs.Shown.{groups_of}
+use Rattle.pm_scan_rows.specs.Shown.{groups_of}
 use Rattle.pm_scan.proofs.RowLemmas.{Groups, all_rising_push, group_closed, none_rising, rising_reversed}
 use Rattle.pm_scan.proofs.collected.Collected.close_group.Goals as goal
 

@@ -1,7 +1,7 @@
 use Rattle.std.proofs.Common.{sym, subst, ◌∙◌}
 use Rattle.pm_engine.specs.Covers.{IsRising}
 use Rattle.pm_engines.specs.TableEngine.{schema_of}
-use Rattle.pm_shown.specs.Shown.{groups_of}
+use Rattle.pm_scan_rows.specs.Shown.{groups_of}
 use Rattle.pm_scan.proofs.RowLemmas.{rising_none, takes_from}
 use Rattle.pm_scan.proofs.collected.Collected.take.Goals as goal
 

@@ -1,0 +1,8 @@
+mod StoredLemmas
+mod GroupLemmas
+mod ShownLemmas
+mod ScanLemmas
+mod TextLemmas
+mod PlainLemmas
+mod GivenLemmas
+mod SeveralLemmas

@@ -1,0 +1,7 @@
+use Rattle.std.proofs.Common.{take}
+use Rattle.pm_scan_rows.specs.Plain.{IsUnescaped}
+use Rattle.pm_scan_rows.proofs.line.is_unescaped.Given as goal
+
+-- nothing so far is escaped
+abbrev pub invariant-loop-byte : goal.invariant-loop-byte
+invariant-loop-byte l = IsUnescaped (take l.byte-index l.content)

@@ -1,0 +1,4 @@
+pub mod Stored
+pub mod Shown
+pub mod Plain
+pub mod Next

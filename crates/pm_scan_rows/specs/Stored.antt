@@ -1,0 +1,43 @@
+-- What a run that was read takes of a file, and what it gives.
+use Rattle.std.specs.Prelude.{◌≡◌, ℕ, ◌+◌, List, ◌++◌, length, None}
+use Rattle.std.specs.List.{flat_map}
+use Rattle.pm_values.specs.declared.refusal.Refusal.{Refusal}
+use Rattle.pm_engine.specs.Covers.{Run}
+use Rattle.pm_run_bytes.specs.Lying.{StillLie, lying_left}
+use Rattle.pm_run.specs.Order.{last_key}
+use Rattle.pm_run.specs.Reader.{StopsAfter}
+use Rattle.pm_run.specs.Rows.{Opened}
+use Rattle.pm_scan_rows.specs.declared.file.ReadFile.{ReadFile}
+use Rattle.pm_scan_rows.specs.declared.file.ReadFile.TheVariants as files
+use Rattle.pm_scan_rows.specs.declared.file.RowsLeft.{RowsLeft}
+use Rattle.pm_scan_rows.specs.declared.file.RowsLeft.TheVariants as left
+use Rattle.pm_scan_rows.specs.declared.rows.StoredRows.{StoredRows}
+
+-- why not all rows of an opened file follow those before them in a run: this refusal comes after some of them
+abbrev pub RefusesRows : Opened → Run → Refusal → Type 0
+RefusesRows o before e = StopsAfter o (last_key None before) e
+
+-- Private: the rows of a file that was read
+abbrev pub rows_of : ReadFile → Run
+rows_of (files.Lying file) = file
+rows_of (files.Decoded rows) = rows.items
+
+-- Private: those of files, one file after another
+abbrev pub all_of : List ReadFile → Run
+all_of read = flat_map rows_of read
+
+-- Private: what a file still gives, and how many rows these are at most
+abbrev pub FileGives : RowsLeft → Run → Type 0
+FileGives (left.Lying rows) run = StillLie rows run
+FileGives (left.Decoded rest) run = run ≡ rest.now
+
+abbrev pub left_in_file : RowsLeft → ℕ
+left_in_file (left.Lying rows) = lying_left rows
+left_in_file (left.Decoded rest) = length rest.now
+
+-- the rows that a run still gives, and how many these are at most
+abbrev pub StillGives : StoredRows → Run → Type 0
+StillGives r run = (own : Run) × FileGives r.own own × (run ≡ own ++ all_of r.files.now)
+
+abbrev pub rows_left : StoredRows → ℕ
+rows_left r = left_in_file r.own + length (all_of r.files.now)

@@ -1,0 +1,112 @@
+//! The rows of a file that was read.
+
+ghost use Rattle.std.specs.Prelude.{◌≡◌, ◌+◌, ◌≤◌, None, IfErr, IfOk, OnOk, length, option_to_list};
+ghost use Rattle.pm_engine.specs.Covers.{Run};
+ghost use Rattle.pm_merge.specs.Source.{BeginsWith};
+ghost use Rattle.pm_run.specs.Order.{last_key};
+ghost use Rattle.pm_run.specs.Reader.{StopsAfter};
+ghost use Rattle.pm_run.specs.Rows.{Follow};
+ghost use Rattle.pm_scan_rows.specs.Stored.{FileGives, left_in_file, rows_of};
+
+use pm_row_slots::RowSlot;
+use pm_run_bytes::FileRows;
+use pm_run_reader::{JudgedFile, RunReader};
+use pm_values::{Key, Refusal, Stamped};
+use std::alloc::{AllocError, Global};
+
+/// A file whose rows lie in its bytes, or the rows of another.
+pub(crate) enum ReadFile {
+    Lying(JudgedFile),
+    Decoded(Vec<Stamped>),
+}
+
+impl Drop for ReadFile {
+    fn drop(self) {
+        match self {
+            ReadFile::Lying(_a) => {}
+            ReadFile::Decoded(_a) => {}
+        }
+    }
+}
+
+/// The rows of a file that are still to be given.
+pub(crate) enum RowsLeft<'b> {
+    Lying(FileRows<'b>),
+    Decoded(&'b [Stamped]),
+}
+
+impl Drop for RowsLeft<'_> {
+    fn drop(self) {
+        match self {
+            RowsLeft::Lying(_a) => {}
+            RowsLeft::Decoded(_a) => {}
+        }
+    }
+}
+
+impl ReadFile {
+    /// The rows of a file, of which the first has to follow one with the key before, and the key of the last of them,
+    /// or that one. Refusals are those of `RunReader::next`.
+    pub(crate) fn of(
+        alloc: Global,
+        reader: RunReader,
+        before: &Option<Key>,
+    ) -> Result<(ReadFile, Option<Key>), Refusal>
+        ensures follow { IfOk result (λ read.
+            Follow reader.opened reader.opened.file.first before.now (rows_of read.0) None) }
+        ensures last { IfOk result (λ read. read.1 ≡ last_key before.now (rows_of read.0)) }
+        ensures refuses { IfErr result (StopsAfter reader.opened before.now) }
+    {
+        match reader.judged(alloc, before) {
+            Ok((file, last)) => Ok((ReadFile::Lying(file), last)),
+            Err(reader) => {
+                let read = reader.rows_after(alloc, before);
+                drop(reader);
+                let (rows, last) = read?;
+                Ok((ReadFile::Decoded(rows), last))
+            }
+        }
+    }
+
+    /// Its rows, one after another.
+    pub(crate) fn rows(&self) -> RowsLeft<'_>
+        ensures gives { (run : Run) → FileGives result run → run ≡ rows_of self.now }
+        ensures many { left_in_file result ≡ length (rows_of self.now) }
+    {
+        match self {
+            ReadFile::Lying(file) => RowsLeft::Lying(file.rows()),
+            ReadFile::Decoded(rows) => RowsLeft::Decoded(rows.as_slice()),
+        }
+    }
+}
+
+impl<'b> RowsLeft<'b> {
+    /// Puts the next row into an empty place, or none at the end.
+    pub(crate) fn fill(&mut self, alloc: Global, slot: &mut RowSlot<'b>) -> Result<(), AllocError>
+        requires { slot.old ≡ None }
+        ensures gives { OnOk result
+            ((run : Run) → BeginsWith slot.new (FileGives self.new) run → FileGives self.old run) }
+        ensures fewer { OnOk result
+            (length (option_to_list slot.new) + left_in_file self.new ≤ left_in_file self.old) }
+    {
+        match self {
+            RowsLeft::Lying(rows) => rows.fill(alloc, slot),
+            RowsLeft::Decoded(rest) => Ok(lend_first(rest, slot)?),
+        }
+    }
+}
+
+/// Puts the first of the rows into an empty place, lent, or none; those after it are left.
+fn lend_first<'b>(rest: &mut &'b [Stamped], slot: &mut RowSlot<'b>) -> Result<(), AllocError>
+    requires { slot.old ≡ None }
+    ensures gives { OnOk result
+        ((run : Run) → BeginsWith slot.new (λ more. more ≡ rest.new.now) run → run ≡ rest.old.now) }
+    ensures fewer { OnOk result (length (option_to_list slot.new) + length rest.new.now ≤ length rest.old.now) }
+{
+    let Some((first, others)) = rest.split_first() else {
+        return Ok(());
+    };
+    slot.lend(first)?;
+    *rest = others;
+    Ok(())
+}

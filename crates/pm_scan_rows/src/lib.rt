@@ -1,0 +1,29 @@
+//! The rows of a scan: runs that were read, and what is printed of the runs of all groups, the rows that show by rising
+//! key.
+//!
+//! A `StoredRun` has the rows of the files that were read of a run, one file after another, and is seen as them. Of a
+//! file whose rows lie in its bytes as they are written only the bytes are kept, once its rows were judged; of any
+//! other the rows. They are given one after another as a source of a merge (`StoredRows`), each where it lies or lent,
+//! so that none is copied. `specs/Stored.antt` says what a run takes of a file, and what is still given of it.
+//!
+//! `print_groups` merges the runs of each group and prints the rows that show, each as a line that inserts it. The rows
+//! of an only group are printed where they lie, as they are merged, but where they are combined or aren't plain; those
+//! of several groups are copied, and merged once more. `scan_law` says that this is the text of a scan: where the runs
+//! of each group cover the rows that lie in it, what is printed are the rows of the merged table (`specs/Shown.antt`).
+//! It rests on what covering means alone: a group's rows are worth what its runs have of each key, and a row's group
+//! depends on its key, so that a key shows in one group at most. Whether a row shows depends on its kind alone
+//! (`shows_by_kind_law`), so it is judged without a copy.
+#![tactic(auto)]
+
+mod file;
+mod laws;
+mod line;
+mod print;
+mod rows;
+mod shown;
+mod stored_run;
+
+pub use laws::{scan_law, shows_by_kind_law};
+pub use print::print_groups;
+pub use rows::StoredRows;
+pub use stored_run::StoredRun;

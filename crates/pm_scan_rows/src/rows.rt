@@ -1,0 +1,59 @@
+//! The rows of a run that was read, one after another.
+
+ghost use Rattle.std.specs.Prelude.{◌≡◌, ◌+◌, ◌≤◌, None, OnOk, length, option_to_list};
+ghost use Rattle.pm_engine.specs.Covers.{Run};
+ghost use Rattle.pm_merge.specs.Source.{BeginsWith};
+ghost use Rattle.pm_scan_rows.specs.Stored.{StillGives, all_of, rows_left};
+
+use crate::file::{ReadFile, RowsLeft};
+use pm_merge::RowSource;
+use pm_row_slots::RowSlot;
+use std::alloc::{AllocError, Global};
+
+/// The rows of a run that are still to be given: those of a file in hand, and of the files after it.
+pub struct StoredRows<'b> {
+    pub(crate) own: RowsLeft<'b>,
+    pub(crate) files: &'b [ReadFile],
+}
+
+impl Drop for StoredRows<'_> {
+    fn drop(self) {
+        let StoredRows { own, files } = self;
+    }
+}
+
+impl<'b> RowSource<RowSlot<'b>> for StoredRows<'b> {
+    ghost use Rattle.pm_scan_rows.specs.Stored.{StillGives, rows_left};
+
+    ghost gives = { StillGives };
+
+    ghost left = { rows_left };
+
+    fn fill(&mut self, alloc: Global, slot: &mut RowSlot<'b>) -> Result<(), AllocError> {
+        self.own.fill(alloc, slot)?;
+        if slot.is_none() {
+            self.fill_later(alloc, slot)?;
+        }
+        Ok(())
+    }
+}
+
+impl<'b> StoredRows<'b> {
+    /// The same where the file in hand has no row more: the first row of the next file that has one.
+    fn fill_later(&mut self, alloc: Global, slot: &mut RowSlot<'b>) -> Result<(), AllocError>
+        requires { slot.old ≡ None }
+        ensures gives { OnOk result
+            ((run : Run) → BeginsWith slot.new (StillGives self.new) run → run ≡ all_of self.old.files.now) }
+        ensures fewer { OnOk result (length (option_to_list slot.new) + rows_left self.new ≤ rows_left self.old) }
+    {
+        while let Some((file, files)) = self.files.split_first() {
+            self.own = file.rows();
+            self.files = files;
+            self.own.fill(alloc, slot)?;
+            if !slot.is_none() {
+                return Ok(());
+            }
+        }
+        Ok(())
+    }
+}

@@ -1,7 +1,0 @@
-mod GroupLemmas
-mod ShownLemmas
-mod ScanLemmas
-mod TextLemmas
-mod PlainLemmas
-mod GivenLemmas
-mod SeveralLemmas

@@ -1,5 +1,0 @@
-use Rattle.pm_shown.proofs.TextLemmas.{printed-scan}
-use Rattle.pm_shown.proofs.laws.scan_law.Goals as goal
-
-pub returns : goal.returns
-returns c = printed-scan c.covers_law.ensures.worth c.covers_law.ensures.hidden c.merged_table_law.ensures

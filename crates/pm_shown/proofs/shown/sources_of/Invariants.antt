@@ -1,8 +1,0 @@
-use Rattle.std.proofs.Common.{take}
-use Rattle.pm_merge.specs.Merging.{HaveRuns}
-use Rattle.pm_stored.specs.Stored.{StillGives}
-use Rattle.pm_shown.proofs.shown.sources_of.Given as goal
-
--- the sources of the runs so far
-abbrev pub invariant-loop-run : goal.invariant-loop-run
-invariant-loop-run l = HaveRuns StillGives l.sources.items (take l.run-index l.runs)
