@@ -4,11 +4,12 @@
 //! integer in a TINYINT, SMALLINT, INT, BIGINT or TIMESTAMP(3) one (the last in milliseconds), a
 //! string in a STRING one, one of hexadecimal digits in a BYTES one, one of `YYYY-MM-DD` in a DATE
 //! one. The definitions stand in `specs/Reading.antt` (what a line reads as) and
-//! `specs/RowText.antt` (what a row prints as).
+//! `specs/RowText.antt` (what a row prints as). A row is printed from its values where they lie.
 #![tactic(auto)]
 
 mod fault;
 mod laws;
+mod plain;
 mod print;
 mod read;
 

@@ -3,6 +3,5 @@ mod GroupLemmas
 mod ShownLemmas
 mod ScanLemmas
 mod TextLemmas
-mod PlainLemmas
 mod GivenLemmas
 mod SeveralLemmas

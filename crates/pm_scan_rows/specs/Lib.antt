@@ -1,4 +1,3 @@
 pub mod Stored
 pub mod Shown
-pub mod Plain
 pub mod Next

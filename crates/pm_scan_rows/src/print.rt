@@ -9,9 +9,8 @@ ghost use Rattle.pm_scan_rows.specs.Stored as stored;
 ghost use Rattle.pm_scan_rows.specs.Next.{held, PrintsNext};
 ghost use Rattle.pm_scan_rows.specs.Shown.{IsShown, PrintsGroups, PrintsShown, ShowsByKind, groups_of, lines_of};
 
-use crate::line::push_line;
 use crate::rows::StoredRows;
-use crate::shown::{push_shown, shown_rows, sources_of};
+use crate::shown::{push_line, push_shown, shown_rows, sources_of};
 use crate::stored_run::StoredRun;
 use pm_engine::MergeEngine;
 use pm_merge::{Merging, merge_runs, one_run_law};

@@ -1,23 +1,27 @@
 //! The rows of a group that show.
 
-ghost use Rattle.std.specs.Prelude.{◌≡◌, ◌+◌, ◌≤◌, [], ◌∷◌, ◌++◌, All, IfOk, OnOk, Some, length, option_to_list};
+ghost use Rattle.std.specs.Prelude.{◌≡◌, ◌+◌, ◌≤◌, [], ◌∷◌, ◌++◌, All, IfOk, OnOk, Some, length};
+ghost use Rattle.std.specs.Prelude.{map, option_to_list};
+ghost use Rattle.pm_base.specs.Newline.{line};
 ghost use Rattle.pm_engine.specs.Covers.{IsRising};
 ghost use Rattle.pm_merge.specs.Merging.{rows_left, GivesNext, HaveRuns};
-ghost use Rattle.pm_row_slots.specs.Seen.{seen_row};
+ghost use Rattle.pm_row_slots.specs.Seen.{seen_row, seen_value};
 ghost use Rattle.pm_row_slots.specs.Slot.{placed_row};
+ghost use Rattle.pm_rows.specs.RowText.{row_text};
 ghost use Rattle.pm_scan_rows.specs.Stored as stored;
 ghost use Rattle.pm_scan_rows.specs.Stored.{StillGives};
 ghost use Rattle.pm_values.specs.Order.{Values};
+ghost use Rattle.pm_values.specs.declared.kind.Kind.TheVariants.{Insert};
 ghost use Rattle.pm_values.specs.declared.record.Stamped.{Stamped as StampedView};
 ghost use Rattle.pm_scan_rows.specs.Next.{held};
 ghost use Rattle.pm_scan_rows.specs.Shown.{IsShown, ShowsByKind, lines_of, only_shown};
 
-use crate::line::push_line;
 use crate::rows::StoredRows;
 use crate::stored_run::StoredRun;
 use pm_engine::{MergeEngine, Stored};
 use pm_merge::Merging;
-use pm_row_slots::{PlacedRow, RowSlot, SeenRow, lend_values};
+use pm_row_slots::{PlacedRow, RowSlot, Seen, SeenRow, lend_values};
+use pm_rows::push_row;
 use pm_values::{Kind, Row, Stamped};
 use std::alloc::{AllocError, Global};
 
@@ -169,6 +173,15 @@ fn push_own<E: MergeEngine>(
     } else {
         Ok(())
     }
+}
+
+/// Adds the line that inserts the row to the text.
+pub(crate) fn push_line(alloc: Global, text: &mut Vec<u8>, row: &[Seen]) -> Result<(), AllocError>
+    ensures { OnOk result (text.new.items ≡ text.old.items ++ line (row_text Insert (map seen_value row.now))) }
+{
+    push_row(alloc, text, Kind::Insert, row)?;
+    text.push(b'\n')?;
+    Ok(())
 }
 
 /// Whether a stored row of the kind shows.

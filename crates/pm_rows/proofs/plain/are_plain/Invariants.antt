@@ -1,8 +1,8 @@
 use Rattle.std.proofs.Common.{map, take}
 use Rattle.std.specs.List.{AllByRecursion}
 use Rattle.pm_row_slots.specs.Seen.{seen_value}
-use Rattle.pm_scan_rows.specs.Plain.{IsPlain}
-use Rattle.pm_scan_rows.proofs.line.are_plain.Given as goal
+use Rattle.pm_rows.specs.Plain.{IsPlain}
+use Rattle.pm_rows.proofs.plain.are_plain.Given as goal
 
 -- those so far are plain
 abbrev pub invariant-loop-value : goal.invariant-loop-value

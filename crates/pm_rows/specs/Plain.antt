@@ -1,11 +1,18 @@
--- Private: lines that are printed without looking for escapes again.
-use Rattle.std.specs.Prelude.{◌≡◌, ℕ, List, ◌∷◌, flat_map}
+-- Private: row lines that are printed without looking for escapes again.
+use Rattle.std.specs.Prelude.{◌≡◌, ℕ, List, ◌∷◌, ◌++◌, codes, flat_map}
 use Rattle.json.specs.Print.{escape}
 use Rattle.serde_json.specs.Written.{compact_text}
 use Rattle.pm_rows.specs.RowText.{item_data}
 use Rattle.pm_values.specs.Order.{Values}
+use Rattle.pm_values.specs.declared.kind.Kind.{Kind}
+use Rattle.pm_values.specs.declared.kind.Kind.TheVariants.{Insert, UpdateBefore, UpdateAfter, Delete}
 use Rattle.pm_values.specs.declared.value.Value.{Value}
 use Rattle.pm_values.specs.declared.value.Value.TheVariants.{Null, Bool, Int, Text, Bytes, Day, Millis}
+
+-- Private: the text is what it was, with these bytes added at its end
+pub record AddsTo (old new : List ℕ) : Type 0 where
+  pub more : List ℕ
+  pub joined : new ≡ old ++ more
 
 -- Private: nothing of the text is escaped
 abbrev pub IsUnescaped : List ℕ → Type 0
@@ -28,3 +35,10 @@ item_text value = 44 ∷ compact_text (item_data value)
 -- Private: so of values
 abbrev pub items_text : Values → List ℕ
 items_text values = flat_map item_text values
+
+-- Private: what the line of a row of the kind begins with
+abbrev pub kind_head : Kind → List ℕ
+kind_head Insert = codes "[\"+I\""
+kind_head UpdateBefore = codes "[\"-U\""
+kind_head UpdateAfter = codes "[\"+U\""
+kind_head Delete = codes "[\"-D\""

@@ -1,23 +1,38 @@
 -- Lines whose texts need no escape.
 use Rattle.std.proofs.Common.{◌≡◌, ◌≢◌, ℕ, zero, suc, ◌+◌, ◌<◌, ◌≤◌, ℤ, pos, negsuc, List, [], ◌∷◌, ◌++◌, length, get_or, map, take, true, false, refl, sym, ap, ◌∙◌, append_assoc, append-nil, arith}
-use Rattle.std.specs.Prelude.{◌==◌, codes}
+use Rattle.std.specs.Prelude.{◌==◌}
 use Rattle.std.specs.List.{AllByRecursion}
 use Rattle.std.specs.Fmt.{signed_decimal}
 use Rattle.std.proofs.lemmas.Bool.{le-ltb, ne_eqb}
-use Rattle.std.proofs.lemmas.List.{map-append, take_more}
+use Rattle.std.proofs.lemmas.List.{map-append, take_at, take_more}
 use Rattle.json.specs.Print.{escape, escape_byte, quoted}
 use Rattle.serde_json.specs.Data.{number}
 use Rattle.serde_json.specs.Find.{of_integer}
 use Rattle.serde_json.specs.View.{items_of}
 use Rattle.serde_json.specs.Written as json
 use Rattle.serde_json.specs.Written.{compact_text}
-use Rattle.pm_base.specs.Newline.{line}
-use Rattle.pm_rows.specs.RowText.{item_data, row_text}
+use Rattle.pm_rows.specs.RowText.{item_data, kind_text, row_text}
 use Rattle.pm_values.specs.Order.{Values}
-use Rattle.pm_values.specs.declared.kind.Kind.TheVariants.{Insert}
+use Rattle.pm_values.specs.declared.kind.Kind.{Kind}
+use Rattle.pm_values.specs.declared.kind.Kind.TheVariants.{Insert, UpdateBefore, UpdateAfter, Delete}
 use Rattle.pm_row_slots.specs.Seen.{seen_value}
 use Rattle.pm_row_slots.specs.declared.seen.Seen.{Seen}
-use Rattle.pm_scan_rows.specs.Plain.{IsPlain, IsUnescaped, item_text, items_text}
+use Rattle.pm_rows.specs.Plain.{AddsTo, IsPlain, IsUnescaped, item_text, items_text, kind_head}
+
+-- ---- texts that are added to
+
+pub adds_none : {old new : List ℕ} → new ≡ old → AddsTo old new
+adds_none {old} is = record { more = []; joined = is ∙ sym (append-nil old) }
+
+pub adds_further : {old middle new : List ℕ} → AddsTo old middle → AddsTo middle new → AddsTo old new
+adds_further {old} first then = record {
+  more = first.more ++ then.more;
+  joined = then.joined ∙ ap (λ (bs : List ℕ). bs ++ then.more) first.joined ∙ append_assoc old first.more then.more;
+}
+
+-- what was there is cut out again
+pub added_taken : (old new : List ℕ) → AddsTo old new → take (length old) new ≡ old
+added_taken old new adds = ap (take (length old)) adds.joined ∙ take_at old adds.more (length old) refl
 
 -- ---- escapes
 
@@ -88,15 +103,16 @@ later_items : (values : Values) → json.items_text true (items_of (map item_dat
 later_items [] = refl
 later_items (value ∷ values) = ap (λ (bs : List ℕ). 44 ∷ (compact_text (item_data value) ++ bs)) (later_items values) ∙ sym (append_assoc (item_text value) (items_text values) (93 ∷ []))
 
-first_item : quoted (codes "+I") ≡ codes "\"+I\""
+head_is : (kind : Kind) → 91 ∷ quoted (kind_text kind) ≡ kind_head kind
 unfolding escape_byte
-first_item = refl
+head_is Insert = refl
+head_is UpdateBefore = refl
+head_is UpdateAfter = refl
+head_is Delete = refl
 
-pub line_is : (values : Values) → line (row_text Insert values) ≡ codes "[\"+I\"" ++ (items_text values ++ codes "]\n")
+pub text_is : (kind : Kind) (values : Values) → row_text kind values ≡ kind_head kind ++ (items_text values ++ 93 ∷ [])
 unfolding row_text
-line_is values =
-    let rest : List ℕ = json.items_text true (items_of (map item_data values)) in
-    let head : List ℕ → List ℕ = λ bs. line (91 ∷ (bs ++ rest)) in
-    let tail : List ℕ → List ℕ = λ bs. line (91 ∷ (codes "\"+I\"" ++ bs)) in
-    let last : List ℕ → List ℕ = λ bs. codes "[\"+I\"" ++ bs in
-    ap head first_item ∙ ap tail (later_items values) ∙ ap last (append_assoc (items_text values) (93 ∷ []) (10 ∷ []))
+text_is kind values =
+    let first : List ℕ → List ℕ = λ bs. (91 ∷ quoted (kind_text kind)) ++ bs in
+    let last : List ℕ → List ℕ = λ bs. bs ++ (items_text values ++ 93 ∷ []) in
+    ap first (later_items values) ∙ ap last (head_is kind)

@@ -1,5 +1,5 @@
-use Rattle.pm_scan_rows.proofs.PlainLemmas.{unescaped_next}
-use Rattle.pm_scan_rows.proofs.line.is_unescaped.Goals as goal
+use Rattle.pm_rows.proofs.PlainLemmas.{unescaped_next}
+use Rattle.pm_rows.proofs.plain.is_unescaped.Goals as goal
 
 pub loop-byte-preserved : goal.loop-byte-preserved
 loop-byte-preserved c =
