@@ -21,7 +21,7 @@ use Rattle.pm_model_history.specs.Merged.{shows, shows_by}
 use Rattle.pm_model_history.specs.Taken.{is_key, stores, stores_by, verdict, verdict_by}
 use Rattle.pm_model_history.specs.declared.verdict.Verdict.TheVariants.{Take, Ignore, RefuseAll}
 use Rattle.pm_engine.specs.Meaning.{AreTaken, IsTaken, SameWorth, SpeaksFor}
-use Rattle.pm_engine.specs.OfSchema.{meaning_of, drops_by}
+use Rattle.pm_engine.specs.OfSchema.{drops_by, first_kind, kind_by, meaning_of}
 use Rattle.pm_engine.proofs.Facts.{AreTaken-append, SameWorth-same, SameWorth-trans, some_after, value_past}
 
 -- ---- the columns of the key
@@ -179,6 +179,19 @@ adds s kind is taken =
 
 stored : (s : TableSchema) (kind : Kind) → s.options.engine ≡ FirstRow → verdict s kind ≡ Take → IsTrue (stores s kind)
 stored s kind is taken = ap (λ k. stores_by k kind) is ∙ ap not (adds s kind is taken)
+
+-- a row's kind is kept
+pub lifts-kind : (s : TableSchema) (kind : Kind) (row : Values) → s.options.engine ≡ FirstRow → kind ≡ (meaning_of s).kind ((kind, row) ∷ [])
+lifts-kind s kind row is = sym (ap (λ k. kind_by k ((kind, row) ∷ [])) is)
+
+first_kind-append : (x y : List HistoryRow) → x ≢ [] → first_kind x ≡ first_kind (x ++ y)
+first_kind-append [] y some = absurd (some refl)
+first_kind-append (r ∷ x) y some = refl
+
+-- the older rows' kind is that of both
+pub combines-kind : (s : TableSchema) (kind : Kind) (x y : List HistoryRow) → s.options.engine ≡ FirstRow → x ≢ [] → kind ≡ (meaning_of s).kind x → kind ≡ (meaning_of s).kind (x ++ y)
+combines-kind s kind x y is some own =
+    own ∙ ap (λ k. kind_by k x) is ∙ first_kind-append x y some ∙ sym (ap (λ k. kind_by k (x ++ y)) is)
 
 -- a taken row speaks for itself
 pub lifts : (s : TableSchema) (kind : Kind) (row : Values) → s.options.engine ≡ FirstRow → differ (names_of s.columns) ≡ true → verdict s kind ≡ Take → Fits s.columns row

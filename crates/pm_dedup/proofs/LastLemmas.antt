@@ -9,6 +9,7 @@ use Rattle.pm_values.specs.Order.{Values}
 use Rattle.pm_values.specs.Fits.{Fits}
 use Rattle.pm_values.specs.declared.column.Column.{Column}
 use Rattle.pm_values.specs.declared.kind.Kind.{Kind}
+use Rattle.pm_values.specs.declared.kind.Kind.TheVariants.{Insert}
 use Rattle.pm_values.specs.declared.value.Value.TheVariants.{Null}
 use Rattle.pm_model_history.specs.ColumnValue as worth
 use Rattle.pm_model_history.specs.ColumnValue.{column_value, last_value, value_by, value_in, values_at}
@@ -17,7 +18,7 @@ use Rattle.pm_model_history.specs.Merged.{shows, shows_by}
 use Rattle.pm_model_history.specs.Taken.{is_key, stores, stores_by, verdict}
 use Rattle.pm_model_history.specs.declared.verdict.Verdict.TheVariants.{Take}
 use Rattle.pm_engine.specs.Meaning.{HasNoEffect, IsTaken, SameWorth, SpeaksFor}
-use Rattle.pm_engine.specs.OfSchema.{meaning_of}
+use Rattle.pm_engine.specs.OfSchema.{kind_by, meaning_of}
 use Rattle.pm_engine.proofs.Facts.{AreTaken-append, SameWorth-same, SameWorth-sym, SameWorth-trans, some_after, value_past}
 
 last_of-some : {A : Type 0} (o : Option A) (xs : List A) → xs ≢ [] → last_or o xs ≡ last_or None xs
@@ -73,6 +74,17 @@ alone s r index is fits =
 -- with deduplication a stored row may have any kind
 any_kind : (s : TableSchema) (kind : Kind) → s.options.engine ≡ Deduplicate → IsTrue (stores s kind)
 any_kind s kind is = ap (λ k. stores_by k kind) is
+
+-- a row's kind is kept
+pub lifts-kind : (s : TableSchema) (kind : Kind) (row : Values) → s.options.engine ≡ Deduplicate → kind ≡ (meaning_of s).kind ((kind, row) ∷ [])
+lifts-kind s kind row is = sym (ap (λ k. kind_by k ((kind, row) ∷ [])) is)
+
+-- the newer rows' kind is that of both
+pub combines-kind : (s : TableSchema) (kind : Kind) (x y : List HistoryRow) → s.options.engine ≡ Deduplicate → y ≢ [] → kind ≡ (meaning_of s).kind y → kind ≡ (meaning_of s).kind (x ++ y)
+combines-kind s kind x y is some own =
+    own ∙ ap (λ k. kind_by k y) is
+    ∙ ap (λ o. option_map_or (λ (r : HistoryRow). r.0) o Insert) (sym (last_of-append None x y some))
+    ∙ sym (ap (λ k. kind_by k (x ++ y)) is)
 
 -- a taken row speaks for itself
 pub lifts : (s : TableSchema) (kind : Kind) (row : Values) → s.options.engine ≡ Deduplicate → verdict s kind ≡ Take → Fits s.columns row

@@ -2,3 +2,4 @@ mod CoverLemmas
 pub mod Facts
 mod ReduceLemmas
 pub mod Rising
+mod StoredLemmas

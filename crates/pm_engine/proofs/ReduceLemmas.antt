@@ -14,7 +14,7 @@ use Rattle.pm_values.specs.declared.record.Stamped.{Stamped}
 use Rattle.pm_model_history.specs.Merge.{HistoryRow, rows_of}
 use Rattle.pm_engine.specs.Covers.{CoversAll, Holds, IsKeyed, IsRising, Run, of_key, row_of}
 use Rattle.pm_engine.specs.Meaning.{Meaning}
-use Rattle.pm_engine.specs.Reducing.{EndsApart, HasGreatestNumbers, IsCombined, IsLifted, Puts, begins, joins, greatest_number}
+use Rattle.pm_engine.specs.Reducing.{EndsApart, HasGreatestNumbers, HasKindOf, HasKinds, IsCombined, IsLifted, Puts, begins, joins, greatest_number}
 use Rattle.pm_engine.proofs.Rising.{AllBelow, all-below, apart, below_from, ends-below, greatest-push, of_key-below, of_key-no, of_key-push, of_key-sorted, of_key-yes, rising-front, rising-push, tied, ties_itself}
 
 -- ---- lists
@@ -31,7 +31,7 @@ both_of : {A : Type 0} (P Q R : A → Type 0) → ((x : A) → P x → Q x → R
 both_of P Q R f [] p q = tt
 both_of P Q R f (x ∷ xs) p q = (f x p.0 q.0, both_of P Q R f xs p.1 q.1)
 
-by_recursion : {A : Type 0} (P : A → Type 0) (xs : List A) → All P xs → AllByRecursion P xs
+pub by_recursion : {A : Type 0} (P : A → Type 0) (xs : List A) → All P xs → AllByRecursion P xs
 by_recursion P [] all = tt
 by_recursion P (x ∷ xs) all = (all zero x (omega arith), by_recursion P xs (All-tail P x xs all))
 
@@ -51,6 +51,7 @@ pub record Gathers (m : Meaning) (run rows : Run) : Type 0 where
   pub ends : option_map (λ (s : Stamped). s.key) (last_or None run) ≡ option_map (λ (s : Stamped). s.key) (last_or None rows)
   pub known : (key : Values) → of_key key run ≡ [] → of_key key rows ≡ []
   pub numbers : HasGreatestNumbers run rows
+  pub kinds : HasKinds m run rows
   pub holds : AllByRecursion (IsKeyed m) rows → (key : Values) → Holds m key (of_key key run) (map row_of (of_key key rows))
 
 same_holds : (m : Meaning) (key : Values) (own own' : Run) (part part' : List HistoryRow) → own ≡ own' → part ≡ part' → Holds m key own part → Holds m key own' part'
@@ -69,6 +70,12 @@ kept_numbers : (run rows : Run) (row : Stamped) → AllBelow row.key run → Has
 kept_numbers run rows row below numbers =
     both_of (λ (s : Stamped). key_cmp s.key row.key ≡ Less) (λ (s : Stamped). s.seq ≡ greatest_number (of_key s.key rows)) (λ (s : Stamped). s.seq ≡ greatest_number (of_key s.key (rows ++ row ∷ [])))
     (λ s less number. number ∙ ap greatest_number (sym (of_key-no s.key rows row (apart s.key row.key less)))) run below numbers
+
+-- and the kinds
+kept_kinds : (m : Meaning) (run rows : Run) (row : Stamped) → AllBelow row.key run → HasKinds m run rows → HasKinds m run (rows ++ row ∷ [])
+kept_kinds m run rows row below kinds =
+    both_of (λ (s : Stamped). key_cmp s.key row.key ≡ Less) (λ (s : Stamped). HasKindOf m s (of_key s.key rows)) (λ (s : Stamped). HasKindOf m s (of_key s.key (rows ++ row ∷ [])))
+    (λ s less kind. subst (HasKindOf m s) (sym (of_key-no s.key rows row (apart s.key row.key less))) kind) run below kinds
 
 -- ---- the first row of a key
 
@@ -95,11 +102,14 @@ gathers-begins m old rows row stored is ends_apart ends_below so_far =
     let own : of_key row.key (rows ++ row ∷ []) ≡ row ∷ [] = of_key-yes row.key rows row (ties_itself row.key) ∙ ap (λ xs. xs ++ row ∷ []) none_before in
     let alone : of_key row.key (old ++ stored ∷ []) ≡ stored ∷ [] = of_key-yes row.key old stored (ap (eq_by_cmp key_cmp row.key) is.same_key ∙ ties_itself row.key) ∙ ap (λ xs. xs ++ stored ∷ []) none_stored in
     let number : stored.seq ≡ greatest_number (of_key stored.key (rows ++ row ∷ [])) = is.number ∙ only row.seq ∙ ap greatest_number (sym own) ∙ ap (λ k. greatest_number (of_key k (rows ++ row ∷ []))) (sym is.same_key) in
+    let first : HasKindOf m stored (row ∷ []) = record { some = none_pushed [] row; kind = is.kind } in
+    let kind : HasKindOf m stored (of_key stored.key (rows ++ row ∷ [])) = subst (λ k. HasKindOf m stored (of_key k (rows ++ row ∷ []))) (sym is.same_key) (subst (HasKindOf m stored) (sym own) first) in
     record {
       rising = rising-push old stored so_far.rising (subst (λ k. AllBelow k old) (sym is.same_key) below);
       ends = ap (option_map (λ (s : Stamped). s.key)) (last_or-push None old stored) ∙ ap Some is.same_key ∙ sym (ap (option_map (λ (s : Stamped). s.key)) (last_or-push None rows row));
       known = λ key none. still_none key old rows stored row is.same_key none (so_far.known key (no_front (of_key key old) _ (sym (pushed key) ∙ none)));
       numbers = AllByRecursion-append (λ (s : Stamped). s.seq ≡ greatest_number (of_key s.key (rows ++ row ∷ []))) old (stored ∷ []) (kept_numbers old rows row below so_far.numbers) (number, tt);
+      kinds = AllByRecursion-append (λ (s : Stamped). HasKindOf m s (of_key s.key (rows ++ row ∷ []))) old (stored ∷ []) (kept_kinds m old rows row below so_far.kinds) (kind, tt);
       holds = λ keyed key.
           let parts = AllByRecursion-parts (IsKeyed m) rows (row ∷ []) keyed in
           elim (eq_by_cmp key_cmp key row.key) as (λ b. eq_by_cmp key_cmp key row.key ≡ b → Holds m key (of_key key (old ++ stored ∷ [])) (map row_of (of_key key (rows ++ row ∷ [])))) [
@@ -122,6 +132,17 @@ last_of : {A : Type 0} (P : A → Type 0) (xs : List A) (x : A) → AllByRecursi
 last_of P [] x all = (tt, all.0)
 last_of P (y ∷ ys) x all = let rest = last_of P ys x all.1 in ((all.0, rest.0), rest.1)
 
+-- it has the kind of the key's rows with the further one
+kind_joined : (m : Meaning) (last lifted stored row : Stamped) (rows : Run) → IsCombined m last lifted stored → IsLifted m row lifted → HasKindOf m last rows → HasKindOf m stored (rows ++ row ∷ [])
+kind_joined m last lifted stored row rows both is before = record {
+  some = none_pushed rows row;
+  kind = both.kind (map row_of rows) (row_of row ∷ []) (some_mapped rows before.some) (none_pushed [] (row_of row)) before.kind is.kind ∙ ap m.kind (sym (map-append row_of rows (row ∷ [])));
+}
+  where
+    some_mapped : (rs : Run) → rs ≢ [] → map row_of rs ≢ []
+    some_mapped [] some = absurd (some refl)
+    some_mapped (r ∷ rs) some = λ e. cc
+
 gathers-joins : (m : Meaning) (front rows : Run) (last lifted stored row : Stamped) → last.key ≡ row.key → IsLifted m row lifted → IsCombined m last lifted stored
     → Gathers m (front ++ last ∷ []) rows → Gathers m (front ++ stored ∷ []) (rows ++ row ∷ [])
 gathers-joins m front rows last lifted stored row same is both so_far =
@@ -136,11 +157,16 @@ gathers-joins m front rows last lifted stored row same is both so_far =
     let number : stored.seq ≡ greatest_number (of_key stored.key (rows ++ row ∷ [])) =
     both.number ∙ ap (λ n. max n lifted.seq) (numbers.1 ∙ ap (λ k. greatest_number (of_key k rows)) same) ∙ ap (max (greatest_number (of_key row.key rows))) is.number
     ∙ sym (greatest-push (of_key row.key rows) row) ∙ ap greatest_number (sym own) ∙ ap (λ k. greatest_number (of_key k (rows ++ row ∷ []))) (sym key_is) in
+    let kinds = last_of (λ (s : Stamped). HasKindOf m s (of_key s.key rows)) front last so_far.kinds in
+    let kind_before : HasKindOf m last (of_key row.key rows) = subst (λ k. HasKindOf m last (of_key k rows)) same kinds.1 in
+    let kind : HasKindOf m stored (of_key stored.key (rows ++ row ∷ [])) =
+    subst (λ k. HasKindOf m stored (of_key k (rows ++ row ∷ []))) (sym key_is) (subst (HasKindOf m stored) (sym own) (kind_joined m last lifted stored row (of_key row.key rows) both is kind_before)) in
     record {
       rising = rising-push front stored older.0 (subst (λ k. AllBelow k front) (sym key_is) below);
       ends = ap (option_map (λ (s : Stamped). s.key)) (last_or-push None front stored) ∙ ap Some key_is ∙ sym (ap (option_map (λ (s : Stamped). s.key)) (last_or-push None rows row));
       known = λ key none. still_none key front rows stored row key_is none (so_far.known key (swapped key none));
       numbers = AllByRecursion-append (λ (s : Stamped). s.seq ≡ greatest_number (of_key s.key (rows ++ row ∷ []))) front (stored ∷ []) (kept_numbers front rows row below numbers.0) (number, tt);
+      kinds = AllByRecursion-append (λ (s : Stamped). HasKindOf m s (of_key s.key (rows ++ row ∷ []))) front (stored ∷ []) (kept_kinds m front rows row below kinds.0) (kind, tt);
       holds = λ keyed key.
           let parts = AllByRecursion-parts (IsKeyed m) rows (row ∷ []) keyed in
           elim (eq_by_cmp key_cmp key row.key) as (λ b. eq_by_cmp key_cmp key row.key ≡ b → Holds m key (of_key key (front ++ stored ∷ [])) (map row_of (of_key key (rows ++ row ∷ [])))) [
@@ -180,7 +206,7 @@ gathers-folds m done (row ∷ rows) old new sorted so_far folds =
 
 gathers-none : (m : Meaning) → Gathers m [] []
 unfolding IsStrictlySortedBy
-gathers-none m = record { rising = tt; ends = refl; known = λ key none. refl; numbers = tt; holds = λ keyed key. refl }
+gathers-none m = record { rising = tt; ends = refl; known = λ key none. refl; numbers = tt; kinds = tt; holds = λ keyed key. refl }
 
 pub gathers-all : (m : Meaning) (rows run : Run) → IsSortedByKey (λ (s : Stamped). s.key) key_cmp rows → FoldsTo (Puts m) [] rows run → Gathers m run rows
 gathers-all m rows run sorted folds = gathers-folds m [] rows [] run sorted (gathers-none m) folds
@@ -191,7 +217,7 @@ FoldsTo-push R p q r (y ∷ ys) x folds step = (folds.0, folds.1, FoldsTo-push R
 
 -- ---- what that says of the rows as they were given
 
-keyed_rows : (m : Meaning) (key : Values) (rows : Run) → AllByRecursion (IsKeyed m) rows → rows_of m.primary key (map row_of rows) ≡ map row_of (of_key key rows)
+pub keyed_rows : (m : Meaning) (key : Values) (rows : Run) → AllByRecursion (IsKeyed m) rows → rows_of m.primary key (map row_of rows) ≡ map row_of (of_key key rows)
 keyed_rows m key [] keyed = refl
 keyed_rows m key (s ∷ ss) keyed =
     ap (λ k. cond (eq_by_cmp key_cmp key k) (row_of s ∷ rows_of m.primary key (map row_of ss)) (rows_of m.primary key (map row_of ss))) keyed.0.own
@@ -216,3 +242,11 @@ numbers_all m rows sorted run gathers stable =
     moved : (ss : Run) → HasGreatestNumbers ss sorted → HasGreatestNumbers ss rows
     moved [] numbers = tt
     moved (s ∷ ss) numbers = (numbers.0 ∙ ap greatest_number (of_key-sorted rows sorted s.key stable), moved ss numbers.1)
+
+pub kinds_all : (m : Meaning) (rows sorted run : Run) → Gathers m run sorted → IsStableByKey (λ (s : Stamped). s.key) key_cmp rows sorted → HasKinds m run rows
+kinds_all m rows sorted run gathers stable =
+    moved run gathers.kinds
+  where
+    moved : (ss : Run) → HasKinds m ss sorted → HasKinds m ss rows
+    moved [] kinds = tt
+    moved (s ∷ ss) kinds = (subst (HasKindOf m s) (of_key-sorted rows sorted s.key stable) kinds.0, moved ss kinds.1)

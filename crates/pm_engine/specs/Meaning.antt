@@ -1,6 +1,6 @@
 -- What an engine means, and when a stored row speaks for rows of its key.
-use Rattle.std.specs.Prelude.{◌≡◌, ◌≢◌, ℕ, List, [], ◌∷◌, ◌++◌, Bool, false, IsTrue}
-use Rattle.std.specs.List.{AllByRecursion}
+use Rattle.std.specs.Prelude.{◌≡◌, ◌≢◌, ℕ, List, [], ◌∷◌, ◌++◌, length, map, Bool, false, IsTrue}
+use Rattle.std.specs.List.{AllByRecursion, range_with_len}
 use Rattle.pm_values.specs.Fits.{Fits}
 use Rattle.pm_values.specs.Order.{Values}
 use Rattle.pm_values.specs.declared.column.Column.{Column}
@@ -11,13 +11,14 @@ use Rattle.pm_model_history.specs.declared.verdict.Verdict.{Verdict}
 use Rattle.pm_model_history.specs.declared.verdict.Verdict.TheVariants.{Take}
 
 -- What an engine means: the columns that rows fit, and the indexes of those of the key; the verdict on a row by its
--- kind; which kinds a stored row may have; what a column is worth over the rows of one key, and whether a key with
--- these rows shows; which stored rows are left out where nothing older is left.
+-- kind; which kinds a stored row may have, and which one the stored row of rows of a key has; what a column is worth
+-- over these rows, and whether a key with them shows; which stored rows are left out where nothing older is left.
 pub record Meaning : Type 0 where
   pub columns : List Column
   pub primary : List ℕ
   pub verdict : Kind → Verdict
   pub stores : Kind → Bool
+  pub kind : List HistoryRow → Kind
   pub value : ℕ → List HistoryRow → Value
   pub shows : List HistoryRow → Bool
   pub drops : HistoryRow → Bool
@@ -52,3 +53,15 @@ pub record SpeaksFor (m : Meaning) (key : Values) (stored : HistoryRow) (rows : 
 pub record HasNoEffect (m : Meaning) (key : Values) (rows : List HistoryRow) : Type 0 where
   pub hidden : m.shows rows ≡ false
   pub worth : (after : List HistoryRow) → after ≢ [] → AreTaken m key after → SameWorth m (rows ++ after) after
+
+-- what each column is worth over rows of a key
+abbrev pub values_over : Meaning → List HistoryRow → Values
+values_over m rows = map (λ index. m.value index rows) (range_with_len 0 (length m.columns))
+
+-- the stored row of rows of a key: it has their kind, and in each column what they are worth
+abbrev pub stored_of : Meaning → List HistoryRow → HistoryRow
+stored_of m rows = (m.kind rows, values_over m rows)
+
+-- each kind that a stored row may have is its own: that of the row alone
+abbrev pub KindsAreOwn : Meaning → Type 0
+KindsAreOwn m = (r : HistoryRow) → IsTrue (m.stores r.0) → m.kind (r ∷ []) ≡ r.0

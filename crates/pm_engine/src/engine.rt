@@ -1,6 +1,6 @@
 //! The trait of a merge engine, with its four laws.
 
-ghost use Rattle.std.specs.Prelude.{◌≡◌, ◌∷◌, [], ◌++◌, true, List, IfOk};
+ghost use Rattle.std.specs.Prelude.{◌≡◌, ◌≢◌, ◌∷◌, [], ◌++◌, true, List, IfOk};
 ghost use Rattle.pm_values.specs.Fits.{Fits};
 ghost use Rattle.pm_values.specs.Order.{Values};
 ghost use Rattle.pm_model_history.specs.Merge.{HistoryRow, key_of};
@@ -22,14 +22,19 @@ pub trait MergeEngine {
     fn accepts(&self, kind: Kind) -> Verdict
         ensures { result ≡ (meaning self.now).verdict kind };
 
-    /// The stored row of one row: it speaks for it.
+    /// The stored row of one row: it has the row's kind, as the engine keeps it, and speaks for it.
     fn lift(&self, alloc: Global, kind: Kind, row: Row) -> Result<Stored, AllocError>
         requires taken { (meaning self.now).verdict kind ≡ Take }
+        ensures kind { IfOk result (λ stored. stored.kind ≡ (meaning self.now).kind ((kind, row) ∷ [])) }
         ensures lifts { Fits (meaning self.now).columns row → IfOk result (λ stored.
             SpeaksFor (meaning self.now) (key_of (meaning self.now).primary row) (as_row stored) ((kind, row) ∷ [])) };
 
-    /// The stored row of two: it speaks for what both speak for, joined.
+    /// The stored row of two: it speaks for what both speak for, joined, and has the kind of these rows where each has
+    /// the kind of its own.
     fn combine(&self, alloc: Global, older: Stored, newer: Stored) -> Result<Stored, AllocError>
+        ensures kind { (before after : List HistoryRow) → before ≢ [] → after ≢ [] →
+            older.kind ≡ (meaning self.now).kind before → newer.kind ≡ (meaning self.now).kind after →
+            IfOk result (λ stored. stored.kind ≡ (meaning self.now).kind (before ++ after)) }
         ensures combines { (key : Values) (before after : List HistoryRow) →
             SpeaksFor (meaning self.now) key (as_row older) before →
             SpeaksFor (meaning self.now) key (as_row newer) after → IfOk result (λ stored.

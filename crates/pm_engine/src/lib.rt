@@ -6,10 +6,15 @@
 //! words: a lifted row speaks for itself, a combined one for what both spoke for, a stored row shows where its rows do,
 //! and a droppable one has no effect. The layers above rest on them alone, and no engine is named there.
 //!
+//! What is made here has the kind of its rows, too, and so it is the stored row of these rows: there is one
+//! (`stored_law`). A file that was found may have another kind beside the same values: its row speaks for the rows all
+//! the same, and what is made of it has a kind that follows from the kinds of the rows found.
+//!
 //! Runs cover rows (`specs/Covers.antt`) where each run has one stored row for its part of each key's rows, and at most
 //! the first rows of a key are missing, which then have no effect: the rows are worth what the runs have
-//! (`covers_law`), and a run may be put after others (`added_law`). `reduce` makes one such run of rows, and none is
-//! missing; `combined` makes one stored row of two. What the engine of a schema means is in `specs/OfSchema.antt`.
+//! (`covers_law`, `worth_law`), and a run may be put after others (`added_law`). `reduce` makes one such run of rows,
+//! and none is missing; `combined` makes one stored row of two. What the engine of a schema means is in
+//! `specs/OfSchema.antt`.
 #![tactic(auto)]
 
 mod engine;
@@ -18,7 +23,7 @@ mod reducing;
 mod stored;
 
 pub use engine::MergeEngine;
-pub use laws::{added_law, covers_law};
+pub use laws::{added_law, covers_law, own_kind_law, stored_law, worth_law};
 pub use pm_model_history::Verdict;
 pub use reducing::{combined, reduce};
 pub use stored::Stored;

@@ -7,14 +7,15 @@ ghost use Rattle.pm_values.specs.Order.{key_cmp};
 ghost use Rattle.pm_values.specs.declared.record.Stamped.{Stamped};
 ghost use Rattle.pm_model_history.specs.declared.verdict.Verdict.TheVariants.{Take};
 ghost use Rattle.pm_engine.specs.Covers.{CoversAll, IsKeyed, IsRising, row_of};
-ghost use Rattle.pm_engine.specs.Reducing.{HasGreatestNumbers, IsLifted, IsCombined, Puts};
+ghost use Rattle.pm_engine.specs.Reducing.{HasGreatestNumbers, HasKinds, IsLifted, IsCombined, Puts};
 
 use crate::engine::MergeEngine;
 use crate::stored::Stored;
 use pm_values::Stamped;
 use std::alloc::{AllocError, Global};
 
-/// One stored row for each key, by rising key. A stored row has the greatest number of its rows.
+/// One stored row for each key, by rising key. A stored row has the greatest number of its rows, and their kind, so
+/// that there is one such run (`stored_law`).
 pub fn reduce<E: MergeEngine>(
     alloc: Global,
     engine: &E,
@@ -23,6 +24,7 @@ pub fn reduce<E: MergeEngine>(
     requires { All (λ s. (E.meaning engine.now).verdict s.kind ≡ Take) rows.items }
     ensures rising { IfOk result (λ run. IsRising run.items) }
     ensures numbers { IfOk result (λ run. HasGreatestNumbers run.items rows.items) }
+    ensures kinds { IfOk result (λ run. HasKinds (E.meaning engine.now) run.items rows.items) }
     ensures covers { IfOk result (λ run. All (IsKeyed (E.meaning engine.now)) rows.items →
         CoversAll (E.meaning engine.now) (run.items ∷ []) (map row_of rows.items)) }
 {
@@ -96,7 +98,7 @@ fn lifted<E: MergeEngine>(alloc: Global, engine: &E, row: Stamped) -> Result<Sta
     })
 }
 
-/// Two stored rows of a key as one, with the greater number. It speaks for what both speak for.
+/// Two stored rows of a key as one, with the greater number. It speaks for what both speak for, and has the kind of it.
 pub fn combined<E: MergeEngine>(
     alloc: Global,
     engine: &E,

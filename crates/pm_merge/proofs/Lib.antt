@@ -1,3 +1,4 @@
 mod MergeLemmas
 mod MergingLemmas
+mod OneLemmas
 mod PairLemmas

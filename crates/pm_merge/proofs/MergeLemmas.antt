@@ -12,17 +12,18 @@ use Rattle.pm_values.specs.declared.record.Stamped.{Stamped}
 use Rattle.pm_model_history.specs.Merge.{HistoryRow, rows_of}
 use Rattle.pm_engine.specs.Covers.{Covers, CoversAll, CoversKey, Holds, IsRising, MayBeMissing, Run, of_key, row_of}
 use Rattle.pm_engine.specs.Meaning.{AreTaken, HasNoEffect, Meaning, SameWorth, SpeaksFor}
-use Rattle.pm_engine.specs.Reducing.{HasGreatestNumbers, greatest_number}
+use Rattle.pm_engine.specs.Reducing.{HasGreatestNumbers, HasKindOf, HasKinds, greatest_number}
 use Rattle.pm_engine.proofs.Facts.{SameWorth-same, SameWorth-trans, AreTaken-append, shows_for, some_after}
+use Rattle.pm_base.proofs.Laws.{AllByRecursion-parts}
 use Rattle.pm_engine.proofs.Rising.{apart_back, ties_itself}
-use Rattle.pm_merge.specs.Merge.{CoversTheSame, IsMerge, Replaces, ReplacesOldest, all_rows, runs_of, without_droppable}
-use Rattle.pm_merge.specs.Pairs.{DropsNoEffect, HasNumber, Joins, Merges}
-use Rattle.pm_merge.proofs.PairLemmas.{at-holds, at-kept, at-number, merges-at, merges-rising, of_key-first, of_key-other, rising-cons, rising-nil, rising-parts}
+use Rattle.pm_merge.specs.Merge.{CoversTheSame, HaveOwnKinds, IsMerge, Replaces, ReplacesOldest, all_rows, runs_of, without_droppable}
+use Rattle.pm_merge.specs.Pairs.{DropsNoEffect, HasKind, HasNumber, Joins, Merges}
+use Rattle.pm_merge.proofs.PairLemmas.{at-holds, at-kept, at-kind, at-number, merges-at, merges-rising, of_key-first, of_key-other, rising-cons, rising-nil, rising-parts}
 
 -- ---- runs that are made of runs
 
 pub joins-none : (m : Meaning) → Joins m [] []
-joins-none m = record { rising = rising-nil; numbers = λ key. refl; kept = λ key s e. e; holds = none }
+joins-none m = record { rising = rising-nil; numbers = λ key. refl; kinds = λ own key. refl; kept = λ key s e. e; holds = none }
   where
     none : (key : Values) (parts : List (List HistoryRow)) → AllZip (λ (run : Run) (part : List HistoryRow). Holds m key (of_key key run) part) [] parts → flat_map (λ part. part) parts ≡ []
     none key [] holds = refl
@@ -44,10 +45,24 @@ own-number key (s ∷ run) rising =
     only : (n : ℕ) → n ≡ max n 0
     only n = omega arith
 
+-- the stored row of a run has its own kind
+own-kind : (m : Meaning) (key : Values) (run : Run) → IsRising run → AllByRecursion (λ (s : Stamped). s.kind ≡ m.kind (row_of s ∷ [])) run → HasKind m (of_key key run) (of_key key run)
+own-kind m key [] rising own = refl
+own-kind m key (s ∷ run) rising own =
+    let parts = rising-parts s run rising in
+    let alone : HasKindOf m s (s ∷ []) = record { some = λ none. cc; kind = own.0 } in
+    elim (eq_by_cmp key_cmp key s.key) as (λ t. eq_by_cmp key_cmp key s.key ≡ t → HasKind m (of_key key (s ∷ run)) (of_key key (s ∷ run))) [
+      | true ↦ λ e. subst (λ rows. HasKind m rows rows) (sym (of_key-first key s run e parts.0)) alone
+      | false ↦ λ e. subst (λ rows. HasKind m rows rows) (sym (of_key-other key s run e)) (own-kind m key run parts.1 own.1)
+    ] refl
+
 pub joins-one : (m : Meaning) (run : Run) → IsRising run → Joins m (run ∷ []) run
 joins-one m run rising = record {
   rising = rising;
   numbers = λ key. subst (λ rows. HasNumber (of_key key run) (of_key key rows)) (sym (append-nil run)) (own-number key run rising);
+  kinds = λ own key.
+      subst (λ rows. HasKind m (of_key key run) (of_key key rows)) (sym (append-nil run))
+      (own-kind m key run rising (subst (AllByRecursion (λ (s : Stamped). s.kind ≡ m.kind (row_of s ∷ []))) (append-nil run) own));
   kept = λ key s e. ap (of_key key) (sym (append-nil run)) ∙ e;
   holds = λ key parts holds. one key parts holds;
 }
@@ -68,11 +83,21 @@ AllZip-parts R (x ∷ xs) us (z ∷ zs) all =
 of_key-rows : (key : Values) (older newer : List Run) → of_key key (all_rows (older ++ newer)) ≡ of_key key (all_rows older) ++ of_key key (all_rows newer)
 of_key-rows key older newer = ap (of_key key) (flat_map-append (λ (run : Run). run) older newer) ∙ filter-append (λ (s : Stamped). eq_by_cmp key_cmp key s.key) (all_rows older) (all_rows newer)
 
+-- the rows of the older and of the newer runs have their own kinds
+own_parts : (m : Meaning) (olders newers : List Run) → HaveOwnKinds m (olders ++ newers) → HaveOwnKinds m olders × HaveOwnKinds m newers
+own_parts m olders newers own =
+    AllByRecursion-parts (λ (s : Stamped). s.kind ≡ m.kind (row_of s ∷ [])) (all_rows olders) (all_rows newers)
+    (subst (AllByRecursion (λ (s : Stamped). s.kind ≡ m.kind (row_of s ∷ []))) (flat_map-append (λ (run : Run). run) olders newers) own)
+
 pub joins-two : (m : Meaning) (olders newers : List Run) (older newer run : Run) → Joins m olders older → Joins m newers newer → Merges m older newer run → Joins m (olders ++ newers) run
 joins-two m olders newers older newer run one two made = record {
   rising = merges-rising m older newer run made one.rising two.rising;
   numbers = λ key. subst (HasNumber (of_key key run)) (sym (of_key-rows key olders newers))
       (at-number m (of_key key older) (of_key key newer) (of_key key run) _ _ (merges-at m older newer run made one.rising two.rising key) (one.numbers key) (two.numbers key));
+  kinds = λ own key.
+      let parts = own_parts m olders newers own in
+      subst (HasKind m (of_key key run)) (sym (of_key-rows key olders newers))
+      (at-kind m (of_key key older) (of_key key newer) (of_key key run) _ _ (merges-at m older newer run made one.rising two.rising key) (one.kinds parts.0 key) (two.kinds parts.1 key));
   kept = λ key s e.
       at-kept m (of_key key older) (of_key key newer) (of_key key run) (of_key key (all_rows olders)) (of_key key (all_rows newers)) s (merges-at m older newer run made one.rising two.rising key)
       (one.numbers key) (two.numbers key) (one.kept key s) (two.kept key s) (sym (of_key-rows key olders newers) ∙ e);
@@ -114,7 +139,7 @@ each_of P Q f [] p = tt
 each_of P Q f (x ∷ xs) p = (f x p.0, each_of P Q f xs p.1)
 
 -- each row of a rising run is the only one of its key
-alone : (run : Run) → IsRising run → AllByRecursion (λ (s : Stamped). of_key s.key run ≡ s ∷ []) run
+pub alone : (run : Run) → IsRising run → AllByRecursion (λ (s : Stamped). of_key s.key run ≡ s ∷ []) run
 alone [] rising = tt
 alone (x ∷ xs) rising =
     let parts = rising-parts x xs rising in (
@@ -127,6 +152,11 @@ greatest_numbers : (run rows : Run) → IsRising run → ((key : Values) → Has
 greatest_numbers run rows rising numbers =
     each_of (λ (s : Stamped). of_key s.key run ≡ s ∷ []) (λ (s : Stamped). s.seq ≡ greatest_number (of_key s.key rows))
     (λ s is. let number : HasNumber (s ∷ []) (of_key s.key rows) = subst (λ own. HasNumber own (of_key s.key rows)) is (numbers s.key) in number.1) run (alone run rising)
+
+has_kinds : (m : Meaning) (run rows : Run) → IsRising run → ((key : Values) → HasKind m (of_key key run) (of_key key rows)) → HasKinds m run rows
+has_kinds m run rows rising kinds =
+    each_of (λ (s : Stamped). of_key s.key run ≡ s ∷ []) (λ (s : Stamped). HasKindOf m s (of_key s.key rows))
+    (λ s is. let kind : HasKind m (s ∷ []) (of_key s.key rows) = subst (λ own. HasKind m own (of_key s.key rows)) is (kinds s.key) in kind) run (alone run rising)
 
 same_keys : (own rows : Run) → HasNumber own rows → (own ≡ []) ↔ (rows ≡ [])
 same_keys [] rows number = ((λ e. number), (λ e. refl))
@@ -145,6 +175,7 @@ is_merge m runs run joins = record {
   rising = joins.rising;
   keys = λ key. same_keys (of_key key run) (of_key key (all_rows runs)) (joins.numbers key);
   numbers = greatest_numbers run (all_rows runs) joins.rising joins.numbers;
+  kinds = λ own. has_kinds m run (all_rows runs) joins.rising (joins.kinds own);
   kept = joins.kept;
   covers = covers_same m runs run joins;
 }

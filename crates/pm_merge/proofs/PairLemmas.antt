@@ -4,14 +4,15 @@ use Rattle.std.specs.List.{AllByRecursion}
 use Rattle.std.specs.List.Sorted.{IsStrictlySortedBy}
 use Rattle.std.specs.Ordering.{eq_by_cmp}
 use Rattle.std.specs.declared.cmp.Ordering.TheVariants.{Less}
+use Rattle.std.proofs.lemmas.List.{map-append}
 use Rattle.pm_values.specs.Order.{Values, key_cmp, key_total}
 use Rattle.pm_values.specs.declared.record.Stamped.{Stamped}
 use Rattle.pm_model_history.specs.Merge.{HistoryRow}
-use Rattle.pm_engine.specs.Covers.{Holds, IsRising, Run, of_key}
+use Rattle.pm_engine.specs.Covers.{Holds, IsRising, Run, of_key, row_of}
 use Rattle.pm_engine.specs.Meaning.{Meaning}
-use Rattle.pm_engine.specs.Reducing.{IsCombined, greatest_number}
+use Rattle.pm_engine.specs.Reducing.{HasKindOf, IsCombined, greatest_number}
 use Rattle.pm_engine.proofs.Rising.{apart, tied}
-use Rattle.pm_merge.specs.Pairs.{HasNumber, IsBefore, Merges, ends, older_first, newer_first, both_first}
+use Rattle.pm_merge.specs.Pairs.{HasKind, HasNumber, IsBefore, Merges, ends, older_first, newer_first, both_first}
 
 -- ---- rising keys
 
@@ -67,7 +68,7 @@ of_key-other key s run test = ap (λ b. cond b (s ∷ of_key key run) (of_key ke
 pub of_key-first : (key : Values) (s : Stamped) (run : Run) → eq_by_cmp key_cmp key s.key ≡ true → AllAbove s.key run → of_key key (s ∷ run) ≡ s ∷ []
 of_key-first key s run test above = of_key-here key s run test ∙ ap (λ rest. s ∷ rest) (subst (λ k. of_key k run ≡ []) (sym (tied key s.key test)) (of_key-above s.key run above))
 
-none_above : (key : Values) (s : Stamped) (run : Run) → eq_by_cmp key_cmp key s.key ≡ true → AllAbove s.key run → of_key key run ≡ []
+pub none_above : (key : Values) (s : Stamped) (run : Run) → eq_by_cmp key_cmp key s.key ≡ true → AllAbove s.key run → of_key key run ≡ []
 none_above key s run test above = subst (λ k. of_key k run ≡ []) (sym (tied key s.key test)) (of_key-above s.key run above)
 
 -- ---- the made run rises
@@ -175,6 +176,25 @@ at-number m (a ∷ []) (b ∷ []) own older newer at one two =
     (some_before older newer one.0, at.2.number ∙ ap (λ n. max n b.seq) one.1 ∙ ap (max (greatest_number older)) two.1 ∙ sym (greatest-append older newer))
 at-number m (a ∷ []) (b ∷ c ∷ more) own older newer at one two = absurd at
 at-number m (a ∷ c ∷ more) (b ∷ new) own older newer at one two = absurd at
+
+-- it has the kind of both
+some_mapped : (xs : Run) → xs ≢ [] → map row_of xs ≢ []
+some_mapped [] some = absurd (some refl)
+some_mapped (x ∷ xs) some = λ e. cc
+
+both_kind : (m : Meaning) (a b s : Stamped) (older newer : Run) → IsCombined m a b s → HasKindOf m a older → HasKindOf m b newer → HasKindOf m s (older ++ newer)
+both_kind m a b s older newer both one two = record {
+  some = some_before older newer one.some;
+  kind = both.kind (map row_of older) (map row_of newer) (some_mapped older one.some) (some_mapped newer two.some) one.kind two.kind ∙ ap m.kind (sym (map-append row_of older newer));
+}
+
+pub at-kind : (m : Meaning) (old new own older newer : Run) → AtKey m old new own → HasKind m old older → HasKind m new newer → HasKind m own (older ++ newer)
+at-kind m [] new own older newer at one two = subst (λ o. HasKind m o (older ++ newer)) (sym at) (subst (λ p. HasKind m new (p ++ newer)) (sym one) two)
+at-kind m (a ∷ old) [] own older newer at one two =
+    subst (λ o. HasKind m o (older ++ newer)) (sym at) (subst (λ p. HasKind m (a ∷ old) p) (sym (append-nil older) ∙ ap (λ p. older ++ p) (sym two)) one)
+at-kind m (a ∷ []) (b ∷ []) own older newer at one two = subst (λ o. HasKind m o (older ++ newer)) (sym at.1) (both_kind m a b at.0 older newer at.2 one two)
+at-kind m (a ∷ []) (b ∷ c ∷ more) own older newer at one two = absurd at
+at-kind m (a ∷ c ∷ more) (b ∷ new) own older newer at one two = absurd at
 
 -- a row that is alone of its key stays as it is
 no_row : (own : Run) → HasNumber own [] → own ≡ []

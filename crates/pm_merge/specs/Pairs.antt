@@ -7,8 +7,8 @@ use Rattle.pm_values.specs.declared.record.Stamped.{Stamped}
 use Rattle.pm_model_history.specs.Merge.{HistoryRow}
 use Rattle.pm_engine.specs.Covers.{Holds, IsRising, Run, of_key, row_of}
 use Rattle.pm_engine.specs.Meaning.{HasNoEffect, IsTaken, Meaning}
-use Rattle.pm_engine.specs.Reducing.{IsCombined, greatest_number}
-use Rattle.pm_merge.specs.Merge.{all_rows}
+use Rattle.pm_engine.specs.Reducing.{HasKindOf, IsCombined, greatest_number}
+use Rattle.pm_merge.specs.Merge.{HaveOwnKinds, all_rows}
 
 -- Private: the key is below the first one of the run, if there is one
 abbrev pub IsBefore : Values → Run → Type 0
@@ -35,10 +35,17 @@ HasNumber [] rows = rows ≡ []
 HasNumber (s ∷ []) rows = (rows ≢ []) × (s.seq ≡ greatest_number rows)
 HasNumber own rows = ⊥
 
+-- Private: what a run has of a key has the kind of the rows of the key, of which there are some
+abbrev pub HasKind : Meaning → Run → Run → Type 0
+HasKind m [] rows = rows ≡ []
+HasKind m (s ∷ []) rows = HasKindOf m s rows
+HasKind m own rows = ⊥
+
 -- Private: the run is made of the runs
 pub record Joins (m : Meaning) (runs : List Run) (run : Run) : Type 0 where
   pub rising : IsRising run
   pub numbers : (key : Values) → HasNumber (of_key key run) (of_key key (all_rows runs))
+  pub kinds : HaveOwnKinds m runs → (key : Values) → HasKind m (of_key key run) (of_key key (all_rows runs))
   pub kept : (key : Values) (s : Stamped) → of_key key (all_rows runs) ≡ s ∷ [] → of_key key run ≡ s ∷ []
   pub holds : (key : Values) (parts : List (List HistoryRow))
       → AllZip (λ (run : Run) (part : List HistoryRow). Holds m key (of_key key run) part) runs parts

@@ -1,11 +1,37 @@
 //! What holds of runs that are merged, whatever the engine.
 
-ghost use Rattle.std.specs.Prelude.{[], ◌∷◌};
-ghost use Rattle.pm_engine.specs.Covers.{Run, IsRising};
-ghost use Rattle.pm_engine.specs.Meaning.{Meaning};
-ghost use Rattle.pm_merge.specs.Merge.{IsMerge};
+ghost use Rattle.std.specs.Prelude.{◌≡◌, [], ◌∷◌, List, All};
+ghost use Rattle.pm_model_history.specs.Merge.{HistoryRow};
+ghost use Rattle.pm_engine.specs.Covers.{Run, Covers, CoversAll, IsRising};
+ghost use Rattle.pm_engine.specs.Meaning.{Meaning, KindsAreOwn};
+ghost use Rattle.pm_engine.specs.Reducing.{AreStoredRows};
+ghost use Rattle.pm_merge.specs.Merge.{all_rows, AreStored, IsMerge, Replaces};
+
+use pm_engine::stored_law;
 
 /// One run is made into itself.
 pub fn one_run_law()
     ensures { (m : Meaning) (run : Run) → IsRising run → IsMerge m (run ∷ []) run }
+{}
+
+/// Runs that cover rows are of stored rows, where kinds are their own, as in each table (`own_kind_law`). What such
+/// runs are merged into has of each key the stored row of their rows, and so there is one such run.
+pub fn merged_law()
+    ensures found { (m : Meaning) (runs : List Run) (rows : List HistoryRow) → KindsAreOwn m → All IsRising runs →
+        Covers m runs rows → AreStored m runs }
+    ensures stored { (m : Meaning) (runs : List Run) (run : Run) → AreStored m runs → IsMerge m runs run →
+        AreStoredRows m run (all_rows runs) }
+    ensures one { (m : Meaning) (runs : List Run) (one other : Run) → AreStored m runs → IsMerge m runs one →
+        IsMerge m runs other → one ≡ other }
+{
+    stored_law();
+}
+
+/// What runs are merged into covers the rows that they cover, also in their place between other runs.
+pub fn replaces_law()
+    ensures replaces { (m : Meaning) (runs : List Run) (run : Run) → IsMerge m runs run → Replaces m runs run }
+    ensures covers { (m : Meaning) (runs : List Run) (run : Run) (rows : List HistoryRow) → IsMerge m runs run →
+        Covers m runs rows → Covers m (run ∷ []) rows }
+    ensures covers_all { (m : Meaning) (runs : List Run) (run : Run) (rows : List HistoryRow) → IsMerge m runs run →
+        CoversAll m runs rows → CoversAll m (run ∷ []) rows }
 {}

@@ -1,11 +1,11 @@
 //! Runs made into one run.
 //!
 //! `merge_runs` makes one run of several, the oldest first: it covers the rows that they cover, also in their place
-//! between other runs (`specs/Merge.antt`), and may leave out the stored rows that have no effect where nothing older
-//! is left. `Merging` gives the rows of that run one after another, for those who need no run (`specs/Merging.antt`).
-//! One run is made into itself (`one_run_law`). All of this rests on the laws of `MergeEngine` alone. Runs are merged
-//! in pairs, and these again, so that each row takes part in about as many comparisons as the number of runs can be
-//! halved.
+//! between other runs (`specs/Merge.antt`, `replaces_law`), and may leave out the stored rows that have no effect where
+//! nothing older is left. `Merging` gives the rows of that run one after another, for those who need no run
+//! (`specs/Merging.antt`). Of runs of stored rows there is one such run (`merged_law`), and one run is made into itself
+//! (`one_run_law`). All of this rests on the laws of `MergeEngine` alone. Runs are merged in pairs, and these again, so
+//! that each row takes part in about as many comparisons as the number of runs can be halved.
 //!
 //! Rows come from a `RowSource` and go from place to place (`RowPlace`), and no run is made on the way. A `RowSlot` of
 //! `pm_row_slots` is such a place: a row that lies in bytes stays there, and is copied only where it is combined or
@@ -19,7 +19,7 @@ mod merging;
 mod place;
 mod source;
 
-pub use laws::one_run_law;
+pub use laws::{merged_law, one_run_law, replaces_law};
 pub use merge::merge_runs;
 pub use merging::Merging;
 pub use place::RowPlace;

@@ -3,7 +3,7 @@ use Rattle.std.proofs.lemmas.List.Sorted.{All-permutation}
 use Rattle.std.proofs.lemmas.Result.{IfOk-weaker}
 use Rattle.pm_model_history.specs.declared.verdict.Verdict.TheVariants.{Take}
 use Rattle.pm_engine.specs.Covers.{IsKeyed}
-use Rattle.pm_engine.proofs.ReduceLemmas.{covers_all, gathers-all, numbers_all}
+use Rattle.pm_engine.proofs.ReduceLemmas.{covers_all, gathers-all, kinds_all, numbers_all}
 use Rattle.pm_engine.proofs.reducing.reduce.Goals as goal
 
 -- the kind of each row is taken, in whichever order
@@ -21,6 +21,12 @@ returns-clause-numbers g c =
     let m = g.E.MergeEngine.meaning c.args.engine.now in
     let sorted = c.in_ok-rows.rows.items in
     IfOk-weaker c.gathered.result _ _ (λ run folds. numbers_all m c.args.rows.items sorted run.items (gathers-all m sorted run.items c.in_ok-rows.ensures.sorted folds) c.in_ok-rows.ensures.stable) c.gathered.ensures
+
+pub returns-clause-kinds : goal.returns-clause-kinds
+returns-clause-kinds g c =
+    let m = g.E.MergeEngine.meaning c.args.engine.now in
+    let sorted = c.in_ok-rows.rows.items in
+    IfOk-weaker c.gathered.result _ _ (λ run folds. kinds_all m c.args.rows.items sorted run.items (gathers-all m sorted run.items c.in_ok-rows.ensures.sorted folds) c.in_ok-rows.ensures.stable) c.gathered.ensures
 
 pub returns-clause-covers : goal.returns-clause-covers
 returns-clause-covers g c =

@@ -1,4 +1,5 @@
-use Rattle.std.proofs.Common.{◌∙◌}
+use Rattle.std.proofs.Common.{ap, sym, ◌∙◌, [], ◌∷◌}
+use Rattle.pm_engine.specs.OfSchema.{kind_by}
 use Rattle.pm_aggregate.proofs.AggregationLemmas.{lifts, takes-all}
 use Rattle.pm_aggregate.proofs.aggregation.AggregationMergeEngine.lift.Goals as goal
 
@@ -13,6 +14,7 @@ pub returns : goal.returns
 returns c =
     let engine = c.args.self.now in
     record {
+      kind = sym (ap (λ k. kind_by k ((c.args.kind, c.args.row) ∷ [])) engine.aggregates);
       lifts = λ fits.
           lifts engine.schema engine.aggregates engine.can c.as_slice.result.now c.args.kind c.args.row c.in_ok-stored.field-0 (c.as_slice.ensures.value ∙ engine.are) c.requires.taken fits c.in_ok-stored.ensures;
     }

@@ -3,13 +3,25 @@ use Rattle.pm_engines.proofs.table_engine.TableEngineMergeEngine.combine.Goals a
 
 -- the engine that it is combines them
 pub returns-in-Deduplicate : goal.returns-in-Deduplicate
-returns-in-Deduplicate c = record { combines = λ key before after. search (rules, c.combine.ensures.combines key before after) }
+returns-in-Deduplicate c = record {
+  kind = λ before after. search (rules, c.combine.ensures.kind before after);
+  combines = λ key before after. search (rules, c.combine.ensures.combines key before after);
+}
 
 pub returns-in-PartialUpdate : goal.returns-in-PartialUpdate
-returns-in-PartialUpdate c = record { combines = λ key before after. search (rules, c.combine-in-PartialUpdate.ensures.combines key before after) }
+returns-in-PartialUpdate c = record {
+  kind = λ before after. search (rules, c.combine-in-PartialUpdate.ensures.kind before after);
+  combines = λ key before after. search (rules, c.combine-in-PartialUpdate.ensures.combines key before after);
+}
 
 pub returns-in-Aggregation : goal.returns-in-Aggregation
-returns-in-Aggregation c = record { combines = λ key before after. search (rules, c.combine-in-Aggregation.ensures.combines key before after) }
+returns-in-Aggregation c = record {
+  kind = λ before after. search (rules, c.combine-in-Aggregation.ensures.kind before after);
+  combines = λ key before after. search (rules, c.combine-in-Aggregation.ensures.combines key before after);
+}
 
 pub returns-in-FirstRow : goal.returns-in-FirstRow
-returns-in-FirstRow c = record { combines = λ key before after. search (rules, c.combine-in-FirstRow.ensures.combines key before after) }
+returns-in-FirstRow c = record {
+  kind = λ before after. search (rules, c.combine-in-FirstRow.ensures.kind before after);
+  combines = λ key before after. search (rules, c.combine-in-FirstRow.ensures.combines key before after);
+}

@@ -1,4 +1,5 @@
-use Rattle.std.proofs.Common.{◌∙◌}
+use Rattle.std.proofs.Common.{ap, sym, ◌∙◌, ◌++◌}
+use Rattle.pm_engine.specs.OfSchema.{kind_by}
 use Rattle.pm_partial.proofs.PartialLemmas.{combines}
 use Rattle.pm_partial.proofs.partial_update.PartialUpdateMergeEngine.combine.Goals as goal
 
@@ -7,6 +8,7 @@ pub returns : goal.returns
 returns c =
     let engine = c.args.self.now in
     record {
+      kind = λ before after _ _ _ _. sym (ap (λ k. kind_by k (before ++ after)) engine.in_part);
       combines = λ key before after one two.
           combines engine.schema engine.in_part engine.can key c.as_slice.result.now (c.args.older.kind, c.args.older.row) (c.args.newer.kind, c.args.newer.row) before after c.in_ok-stored.field-0
           (c.as_slice.ensures.value ∙ engine.are) c.in_ok-stored.ensures one two;
