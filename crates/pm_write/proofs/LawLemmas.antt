@@ -21,7 +21,7 @@ use Rattle.pm_engine.specs.OfSchema.{meaning_of}
 use Rattle.pm_model_following.specs.Groups.{group_of, rows_in}
 use Rattle.pm_run.specs.Row.{most_sequence}
 use Rattle.pm_run.specs.Writing.{IsMetaOf, first_key}
-use Rattle.pm_write.specs.Batch.{AreRowsOf, GroupRows, Groups, HoldsRows, IsBatchOf, held_of, numbered}
+use Rattle.pm_write.specs.Batch.{AreRowsOf, AreStoredOf, GroupRows, Groups, HoldsRows, IsBatchOf, held_of, numbered}
 use Rattle.pm_write.specs.Files.{AreNewFiles, AreWritten, IsNewFile, IsWritten, exceeds, exceeds_at, next_of}
 use Rattle.pm_write.specs.declared.files.NewFile.{NewFile}
 use Rattle.pm_write.proofs.FileLemmas.{neither, not_above}
@@ -61,6 +61,15 @@ empty_batch s rows batch is =
 pub covers_held : (s : TableSchema) (rows : List HistoryRow) (batch : Groups) (g : Group) (x : GroupRows) (n : ℕ) → IsBatchOf s rows batch → held_of g batch ≡ Some x
     → CoversAll (meaning_of s) (numbered n x.run ∷ []) (rows_in s g rows)
 covers_held s rows batch g x n is found = covers_numbered (meaning_of s) n x.run (rows_in s g rows) (held_rows s rows batch g x is found).covers
+
+-- a row's number is no part of what is stored
+stored_numbered : (s : TableSchema) (n : ℕ) (rows : List HistoryRow) (run : Run) → AreStoredOf s rows run → AreStoredOf s rows (numbered n run)
+stored_numbered s n rows [] stored = tt
+stored_numbered s n rows (x ∷ xs) stored = (stored.0, stored_numbered s n rows xs stored.1)
+
+pub stored_held : (s : TableSchema) (rows : List HistoryRow) (batch : Groups) (g : Group) (x : GroupRows) (n : ℕ) → IsBatchOf s rows batch → held_of g batch ≡ Some x
+    → AreStoredOf s (rows_in s g rows) (numbered n x.run)
+stored_held s rows batch g x n is found = stored_numbered s n (rows_in s g rows) x.run (held_rows s rows batch g x is found).stored
 
 -- the rows of a file have a first one
 some_run : (n : ℕ) (run : Run) (key : List _) → first_key (numbered n run) ≡ Some key → 1 ≤ length run

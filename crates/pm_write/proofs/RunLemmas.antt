@@ -12,12 +12,12 @@ use Rattle.pm_schema.specs.declared.schema.TableSchema.{TableSchema}
 use Rattle.pm_model_history.specs.Merge.{HistoryRow, rows_of}
 use Rattle.pm_model_history.specs.Merged.{primary_of}
 use Rattle.pm_engine.specs.Covers.{CoversAll, CoversKey, Holds, IsKeyed, IsRising, Run, of_key, row_of}
-use Rattle.pm_engine.specs.Meaning.{Meaning, SpeaksFor}
+use Rattle.pm_engine.specs.Meaning.{Meaning, SpeaksFor, stored_of}
 use Rattle.pm_engine.specs.OfSchema.{meaning_of}
-use Rattle.pm_engine.specs.Reducing.{HasGreatestNumbers, greatest_number}
+use Rattle.pm_engine.specs.Reducing.{AreStoredRows, HasGreatestNumbers, greatest_number}
 use Rattle.pm_engine.proofs.Rising.{apart, apart_back, tied, ties_itself}
 use Rattle.pm_run.specs.Writing.{CountFrom}
-use Rattle.pm_write.specs.Batch.{AreRowsOf, IsStoredRow, all_stamped}
+use Rattle.pm_write.specs.Batch.{AreRowsOf, AreStoredOf, IsStoredRow, all_stamped}
 use Rattle.pm_write.specs.Held.{IsNumberedWithin, all_moved, moved}
 use Rattle.pm_write.specs.Taken.{IsTakenRow, stamped}
 use Rattle.pm_write.proofs.ListLemmas.{both_of, from_map, none_mapped, weaker}
@@ -200,13 +200,20 @@ module _ (s : TableSchema) (run rows : Run) (rising : IsRising run) (numbers : H
           let no : x ∷ of_key x.key xs ≡ [] = sym own ∙ ap (of_key x.key) (sym f) ∙ none_mapped row_of (of_key x.key rows) none in
           cc
 
-  pub rows_reduced : (count : ℕ) → count ≡ length rows → AreRowsOf s (map row_of rows) (record { count = count; run = all_moved 0 0 run })
-  rows_reduced count is =
+  -- each is the stored row of its key's rows
+  stored_of_rows : AreStoredRows (meaning_of s) run rows → AreStoredOf s (map row_of rows) run
+  stored_of_rows stored =
+      weaker (λ (x : Stamped). row_of x ≡ stored_of (meaning_of s) (map row_of (of_key x.key rows))) (λ (x : Stamped). row_of x ≡ stored_of (meaning_of s) (rows_of (primary_of s) x.key (map row_of rows)))
+      (λ x own. own ∙ ap (stored_of (meaning_of s)) (sym (keyed_rows (meaning_of s) x.key rows keyed))) run stored
+
+  pub rows_reduced : AreStoredRows (meaning_of s) run rows → (count : ℕ) → count ≡ length rows → AreRowsOf s (map row_of rows) (record { count = count; run = all_moved 0 0 run })
+  rows_reduced stored count is =
       let whole : AreRowsOf s (map row_of rows) (record { count = length rows; run = run }) =
       record {
         count = sym (length-map rows row_of);
         rising = rising;
         covers = covers;
+        stored = stored_of_rows stored;
         each = stored_rows;
         numbers = subst (HasGreatestNumbers run) (sym (stamped_again s 0 rows keyed counts)) numbers;
         last = last_number;

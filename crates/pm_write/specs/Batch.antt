@@ -11,10 +11,11 @@ use Rattle.pm_values.specs.declared.group.Group.{Group}
 use Rattle.pm_values.specs.declared.record.Stamped.{Stamped}
 use Rattle.pm_values.specs.declared.refusal.Refusal.{Refusal}
 use Rattle.pm_schema.specs.declared.schema.TableSchema.{TableSchema}
-use Rattle.pm_model_history.specs.Merge.{HistoryRow}
+use Rattle.pm_model_history.specs.Merge.{HistoryRow, rows_of}
 use Rattle.pm_model_history.specs.Merged.{primary_of}
 use Rattle.pm_model_history.specs.Taken.{stores}
-use Rattle.pm_engine.specs.Covers.{CoversAll, IsKeyed, IsRising, Run}
+use Rattle.pm_engine.specs.Covers.{CoversAll, IsKeyed, IsRising, Run, row_of}
+use Rattle.pm_engine.specs.Meaning.{stored_of}
 use Rattle.pm_engine.specs.OfSchema.{meaning_of}
 use Rattle.pm_engine.specs.Reducing.{HasGreatestNumbers, greatest_number}
 use Rattle.pm_model_following.specs.Groups.{rows_in}
@@ -42,12 +43,18 @@ abbrev pub all_stamped : List ℕ → ℕ → List HistoryRow → Run
 all_stamped primary n [] = []
 all_stamped primary n (row ∷ rows) = stamped primary n row ∷ all_stamped primary (n + 1) rows
 
--- What rows of a group become: one stored row for each key, by rising key, which cover the rows. Each has the number of
--- its key's last row, so that the greatest is that of the last row of all.
+-- each row of a run is the stored row of the rows of its key
+abbrev pub AreStoredOf : TableSchema → List HistoryRow → Run → Type 0
+AreStoredOf s rows run =
+    AllByRecursion (λ (x : Stamped). row_of x ≡ stored_of (meaning_of s) (rows_of (primary_of s) x.key rows)) run
+
+-- What rows of a group become: the stored row of each key's rows, by rising key, which cover the rows. Each has the
+-- number of its key's last row, so that the greatest is that of the last row of all.
 pub record AreRowsOf (s : TableSchema) (rows : List HistoryRow) (x : GroupRows) : Type 0 where
   pub count : x.count ≡ length rows
   pub rising : IsRising x.run
   pub covers : CoversAll (meaning_of s) (x.run ∷ []) rows
+  pub stored : AreStoredOf s rows x.run
   pub each : AllByRecursion (IsStoredRow s x.count) x.run
   pub numbers : HasGreatestNumbers x.run (all_stamped (primary_of s) 0 rows)
   pub last : greatest_number x.run + 1 ≡ x.count

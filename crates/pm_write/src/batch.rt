@@ -16,7 +16,7 @@ ghost use Rattle.pm_write.specs.Taken.{all_taken, IsTakenRow};
 use crate::files::{NewFile, exceeds, no_sequence, write_groups};
 use crate::held::HeldRows;
 use crate::taken::taken_rows;
-use pm_engine::reduce;
+use pm_engine::{reduce, stored_law};
 use pm_engines::TableEngine;
 use pm_input::InputLine;
 use pm_schema::TableSchema;
@@ -139,6 +139,7 @@ fn held_rows(
         AreRowsOf (schema_of engine.now) (map row_of rows.items) (group_rows held).1) }
     ensures held { IfOk result IsHeld }
 {
+    stored_law();
     let count = rows.len() as u64;
     let run = reduce(alloc, engine, rows)?;
     Ok(HeldRows {

@@ -12,13 +12,13 @@ ghost use Rattle.pm_engine.specs.Covers.{CoversAll};
 ghost use Rattle.pm_engine.specs.OfSchema.{meaning_of};
 ghost use Rattle.pm_model_following.specs.Groups.{rows_in};
 ghost use Rattle.pm_run.specs.Row.{most_sequence};
-ghost use Rattle.pm_write.specs.Batch.{GroupRows, Groups, IsBatchOf, held_of, numbered};
+ghost use Rattle.pm_write.specs.Batch.{AreStoredOf, GroupRows, Groups, IsBatchOf, held_of, numbered};
 ghost use Rattle.pm_write.specs.Files.{exceeds, AreNewFiles, AreWritten, IsNewFile, IsWritten};
 ghost use Rattle.pm_write.specs.declared.files.NewFile.{NewFile as FileView};
 
 /// No rows have the batch without groups, and only they. The run of a group covers the group's rows, whatever number
-/// they are counted from. A batch holds each of its groups once, and where the table has no partition columns each has
-/// a folder.
+/// they are counted from, and has of each key the stored row of its rows. A batch holds each of its groups once, and
+/// where the table has no partition columns each has a folder.
 pub fn batch_law()
     ensures none { (s : TableSchema) → IsBatchOf s [] [] }
     ensures empty { (s : TableSchema) (rows : List HistoryRow) (batch : Groups) → IsBatchOf s rows batch →
@@ -26,6 +26,8 @@ pub fn batch_law()
     ensures covers { (s : TableSchema) (rows : List HistoryRow) (batch : Groups) (g : Group) (x : GroupRows) (n : ℕ) →
         IsBatchOf s rows batch → held_of g batch ≡ Some x →
         CoversAll (meaning_of s) (numbered n x.run ∷ []) (rows_in s g rows) }
+    ensures stored { (s : TableSchema) (rows : List HistoryRow) (batch : Groups) (g : Group) (x : GroupRows) (n : ℕ) →
+        IsBatchOf s rows batch → held_of g batch ≡ Some x → AreStoredOf s (rows_in s g rows) (numbered n x.run) }
     ensures held { (s : TableSchema) (rows : List HistoryRow) (batch : Groups) → IsBatchOf s rows batch →
         AllByRecursion (λ (e : Group × GroupRows). held_of e.0 batch ≡ Some e.1) batch }
     ensures folders { (s : TableSchema) (rows : List HistoryRow) (batch : Groups) → s.partition ≡ [] →

@@ -1,4 +1,5 @@
 use Rattle.std.proofs.Common.{◌≡◌, length, arith}
+use Rattle.pm_engine.specs.OfSchema.{meaning_of}
 use Rattle.pm_engines.specs.TableEngine.{schema_of}
 use Rattle.pm_write.proofs.RunLemmas.{all_keyed, rows_reduced, some_stored, within_reduced}
 use Rattle.pm_write.proofs.batch.held_rows.Goals as goal
@@ -7,9 +8,12 @@ pub returns-clause-rows : goal.returns-clause-rows
 returns-clause-rows c =
     let s = schema_of c.args.engine.now in
     let rows = c.args.rows.items in
+    let run = c.in_ok-run.run'.items in
+    let keyed = all_keyed s rows c.requires.taken in
+    let covers = c.in_ok-run.ensures.covers keyed in
     let count : c.len-count.result ≡ length rows = omega (arith, c.args.rows.ok) in
-    rows_reduced s c.in_ok-run.run'.items rows c.in_ok-run.ensures.rising c.in_ok-run.ensures.numbers (c.in_ok-run.ensures.covers (all_keyed s rows c.requires.taken))
-    c.requires.taken c.requires.numbers c.requires.some c.len-count.result count
+    rows_reduced s run rows c.in_ok-run.ensures.rising c.in_ok-run.ensures.numbers covers c.requires.taken c.requires.numbers c.requires.some
+    (c.stored_law.ensures.run (meaning_of s) run rows c.in_ok-run.ensures.rising keyed covers c.in_ok-run.ensures.kinds) c.len-count.result count
 
 pub returns-clause-held : goal.returns-clause-held
 returns-clause-held c =
