@@ -93,6 +93,8 @@ impl MergeEngine for Aggregation {
     fn droppable(&self, _stored: &Stored) -> bool {
         false
     }
+
+    fn droppable_law() {}
 }
 
 /// The stored row of one row.

@@ -56,4 +56,6 @@ impl MergeEngine for Deduplicate {
     fn droppable(&self, stored: &Stored) -> bool {
         stored.kind.retracts()
     }
+
+    fn droppable_law() {}
 }

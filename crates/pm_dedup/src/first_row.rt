@@ -61,4 +61,6 @@ impl MergeEngine for FirstRow {
     fn droppable(&self, _stored: &Stored) -> bool {
         false
     }
+
+    fn droppable_law() {}
 }

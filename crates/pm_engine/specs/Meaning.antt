@@ -1,5 +1,5 @@
 -- What an engine means, and when a stored row speaks for rows of its key.
-use Rattle.std.specs.Prelude.{◌≡◌, ◌≢◌, ℕ, List, [], ◌∷◌, ◌++◌, length, map, Bool, false, IsTrue}
+use Rattle.std.specs.Prelude.{◌≡◌, ◌≢◌, ℕ, List, [], ◌∷◌, ◌++◌, length, map, Bool, true, false, IsTrue}
 use Rattle.std.specs.List.{AllByRecursion, range_with_len}
 use Rattle.pm_values.specs.Fits.{Fits}
 use Rattle.pm_values.specs.Order.{Values}
@@ -65,3 +65,8 @@ stored_of m rows = (m.kind rows, values_over m rows)
 -- each kind that a stored row may have is its own: that of the row alone
 abbrev pub KindsAreOwn : Meaning → Type 0
 KindsAreOwn m = (r : HistoryRow) → IsTrue (m.stores r.0) → m.kind (r ∷ []) ≡ r.0
+
+-- the stored rows that are left out have no effect
+abbrev pub DropsNoEffect : Meaning → Type 0
+DropsNoEffect m =
+    (key : Values) (r : HistoryRow) → IsTaken m key r → m.drops r ≡ true → HasNoEffect m key (r ∷ [])

@@ -1,11 +1,11 @@
 //! The trait of a merge engine, with its four laws.
 
-ghost use Rattle.std.specs.Prelude.{◌≡◌, ◌≢◌, ◌∷◌, [], ◌++◌, true, List, IfOk};
+ghost use Rattle.std.specs.Prelude.{◌≡◌, ◌≢◌, ◌∷◌, [], ◌++◌, List, IfOk};
 ghost use Rattle.pm_values.specs.Fits.{Fits};
 ghost use Rattle.pm_values.specs.Order.{Values};
 ghost use Rattle.pm_model_history.specs.Merge.{HistoryRow, key_of};
 ghost use Rattle.pm_model_history.specs.declared.verdict.Verdict.TheVariants.{Take};
-ghost use Rattle.pm_engine.specs.Meaning.{Meaning, IsTaken, SpeaksFor, HasNoEffect};
+ghost use Rattle.pm_engine.specs.Meaning.{Meaning, DropsNoEffect, SpeaksFor};
 ghost use Rattle.pm_engine.specs.Stored.{as_row};
 
 use crate::stored::Stored;
@@ -48,7 +48,9 @@ pub trait MergeEngine {
 
     /// Whether the stored row is left out where nothing older is left.
     fn droppable(&self, stored: &Stored) -> bool
-        ensures drops { result ≡ (meaning self.now).drops (as_row stored.now) }
-        ensures no_effect { (key : Values) → IsTaken (meaning self.now) key (as_row stored.now) → result ≡ true →
-            HasNoEffect (meaning self.now) key (as_row stored.now ∷ []) };
+        ensures { result ≡ (meaning self.now).drops (as_row stored.now) };
+
+    /// Whatever the engine, what is left out has no effect.
+    fn droppable_law()
+        ensures { (engine : Self) → DropsNoEffect (meaning engine) };
 }

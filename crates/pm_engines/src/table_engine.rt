@@ -124,4 +124,11 @@ impl MergeEngine for TableEngine {
             TableEngine::FirstRow(engine) => engine.droppable(stored),
         }
     }
+
+    fn droppable_law() {
+        Deduplicate::droppable_law();
+        PartialUpdate::droppable_law();
+        Aggregation::droppable_law();
+        FirstRow::droppable_law();
+    }
 }

@@ -1,5 +1,5 @@
 -- A run that is made of runs covers what they cover.
-use Rattle.std.proofs.Common.{Result, Ok, Err, IfOk, ◌≡◌, ◌≢◌, ◌↔◌, ℕ, zero, List, [], ◌∷◌, ◌++◌, take, drop, max, All, Vec, Bool, true, false, not, cond, refl, sym, ap, subst, ◌∙◌, arith, append_assoc, append-nil, inl, inr}
+use Rattle.std.proofs.Common.{◌≡◌, ◌≢◌, ◌↔◌, ℕ, zero, List, [], ◌∷◌, ◌++◌, take, drop, max, All, Vec, Bool, true, false, not, cond, refl, sym, ap, subst, ◌∙◌, arith, append_assoc, append-nil, inl, inr}
 use Rattle.std.specs.List.{AllByRecursion, AllZip, flat_map, filter}
 use Rattle.std.specs.Ordering.{eq_by_cmp}
 use Rattle.std.specs.declared.cmp.Ordering.TheVariants.{Less}
@@ -11,13 +11,13 @@ use Rattle.pm_values.specs.Order.{Values, key_cmp}
 use Rattle.pm_values.specs.declared.record.Stamped.{Stamped}
 use Rattle.pm_model_history.specs.Merge.{HistoryRow, rows_of}
 use Rattle.pm_engine.specs.Covers.{Covers, CoversAll, CoversKey, Holds, IsRising, MayBeMissing, Run, of_key, row_of}
-use Rattle.pm_engine.specs.Meaning.{AreTaken, HasNoEffect, Meaning, SameWorth, SpeaksFor}
+use Rattle.pm_engine.specs.Meaning.{AreTaken, DropsNoEffect, HasNoEffect, Meaning, SameWorth, SpeaksFor}
 use Rattle.pm_engine.specs.Reducing.{HasGreatestNumbers, HasKindOf, HasKinds, greatest_number}
 use Rattle.pm_engine.proofs.Facts.{SameWorth-same, SameWorth-trans, AreTaken-append, shows_for, some_after}
 use Rattle.pm_base.proofs.Laws.{AllByRecursion-parts}
 use Rattle.pm_engine.proofs.Rising.{apart_back, ties_itself}
 use Rattle.pm_merge.specs.Merge.{CoversTheSame, HaveOwnKinds, IsMerge, Replaces, ReplacesOldest, all_rows, runs_of, without_droppable}
-use Rattle.pm_merge.specs.Pairs.{DropsNoEffect, HasKind, HasNumber, Joins, Merges}
+use Rattle.pm_merge.specs.Pairs.{HasKind, HasNumber, Joins, Merges}
 use Rattle.pm_merge.proofs.PairLemmas.{at-holds, at-kept, at-kind, at-number, merges-at, merges-rising, of_key-first, of_key-other, rising-cons, rising-nil, rising-parts}
 
 -- ---- runs that are made of runs
@@ -236,6 +236,16 @@ merge-replaces m runs run is = record {
 
 -- ---- without the droppable rows
 
+-- what one run has of a key is for all rows of the key
+pub whole_part : (m : Meaning) (key : Values) (run : Run) (rows : List HistoryRow) → CoversKey m key (run ∷ []) [] rows → Holds m key (of_key key run) rows
+whole_part m key run rows covers = by_parts covers.parts covers.split covers.holds
+  where
+    by_parts : (parts : List (List HistoryRow)) → rows ≡ flat_map (λ (part : List HistoryRow). part) parts → AllZip (λ (run : Run) (part : List HistoryRow). Holds m key (of_key key run) part) (run ∷ []) parts
+        → Holds m key (of_key key run) rows
+    by_parts [] split holds = absurd holds
+    by_parts (p ∷ []) split holds = subst (Holds m key (of_key key run)) (sym (split ∙ append-nil p)) holds.0
+    by_parts (p ∷ q ∷ ps) split holds = absurd holds.1
+
 all-filter : {A : Type 0} (P : A → Type 0) (p : A → Bool) (xs : List A) → AllByRecursion P xs → AllByRecursion P (filter p xs)
 all-filter P p [] all = tt
 all-filter P p (x ∷ xs) all =
@@ -289,40 +299,35 @@ no_effect m key missing part stored may speaks none = record {
     before rest some taken (inr effect) = effect.worth rest some taken
 
 -- of a key the run without them covers what the run does, but more may be missing
-kept-key : (m : Meaning) (key : Values) (own : Run) (missing part : List HistoryRow) → MayBeMissing m key missing → Holds m key own part → AllByRecursion (DropsNoEffect m) own
+kept-key : (m : Meaning) (key : Values) (own : Run) (missing part : List HistoryRow) → MayBeMissing m key missing → Holds m key own part → DropsNoEffect m
     → (more : List HistoryRow) × (rest : List HistoryRow) × (missing ++ part ≡ more ++ rest) × MayBeMissing m key more × Holds m key (without_droppable m own) rest
 kept-key m key [] missing part may holds drops = (missing, part, refl, may, holds)
 kept-key m key (s ∷ []) missing part may holds drops =
     elim (m.drops (row_of s)) as (λ b. m.drops (row_of s) ≡ b → (more : List HistoryRow) × (rest : List HistoryRow) × (missing ++ part ≡ more ++ rest) × MayBeMissing m key more × Holds m key (cond (not b) (s ∷ []) []) rest) [
-      | true ↦ λ e. (missing ++ part, [], sym (append-nil (missing ++ part)), inr (no_effect m key missing part (row_of s) may holds (drops.0 e key holds.taken)), refl)
+      | true ↦ λ e. (missing ++ part, [], sym (append-nil (missing ++ part)), inr (no_effect m key missing part (row_of s) may holds (drops key (row_of s) holds.taken e)), refl)
       | false ↦ λ e. (missing, part, refl, may, holds)
     ] refl
 kept-key m key (s ∷ t ∷ more) missing part may holds drops = absurd holds
 
-pub kept-replaces : (m : Meaning) (runs : List Run) (run : Run) → Joins m runs run → AllByRecursion (DropsNoEffect m) run → ReplacesOldest m runs (without_droppable m run)
-kept-replaces m runs run joins drops newer rows covers key =
+pub kept-replaces : (m : Meaning) (runs : List Run) (run : Run) → DropsNoEffect m → IsMerge m runs run → ReplacesOldest m runs (without_droppable m run)
+kept-replaces m runs run drops is newer rows covers key =
     let at = covers key in
     let two = AllZip-parts (λ (run : Run) (part : List HistoryRow). Holds m key (of_key key run) part) runs newer at.2.parts at.2.holds in
     let part : List HistoryRow = joined two.0 in
     let own : Run = of_key key run in
-    let kept = kept-key m key own at.0 part at.1 (joins.holds key two.0 two.3) (all-filter (DropsNoEffect m) (λ (s : Stamped). eq_by_cmp key_cmp key s.key) run drops) in
-    let is : of_key key (without_droppable m run) ≡ without_droppable m own = filter-swap (λ (s : Stamped). eq_by_cmp key_cmp key s.key) (λ (s : Stamped). not (m.drops (row_of s))) run in (
+    let holds = whole_part m key run part (is.covers key [] part (record { parts = two.0; split = refl; holds = two.3 })) in
+    let kept = kept-key m key own at.0 part at.1 holds drops in
+    let same : of_key key (without_droppable m run) ≡ without_droppable m own = filter-swap (λ (s : Stamped). eq_by_cmp key_cmp key s.key) (λ (s : Stamped). not (m.drops (row_of s))) run in (
       kept.0,
       kept.3,
       record {
         parts = kept.1 ∷ two.1;
         split = at.2.split ∙ ap (λ xs. at.0 ++ xs) (ap joined two.2 ∙ joined-append two.0 two.1) ∙ sym (append_assoc at.0 part (joined two.1)) ∙ ap (λ xs. xs ++ joined two.1) kept.2
             ∙ append_assoc kept.0 kept.1 (joined two.1);
-        holds = (subst (λ o. Holds m key o kept.1) (sym is) kept.4, two.4);
+        holds = (subst (λ o. Holds m key o kept.1) (sym same) kept.4, two.4);
       },
     )
 
 -- the same with no newer run
 pub oldest-covers : (m : Meaning) (runs : List Run) (run : Run) (rows : List HistoryRow) → ReplacesOldest m runs run → Covers m runs rows → Covers m (run ∷ []) rows
 oldest-covers m runs run rows replaces covers = replaces [] rows (subst (λ rs. Covers m rs rows) (sym (append-nil runs)) covers)
-
--- what an answer without the droppable rows replaces
-pub answer-replaces : (m : Meaning) (runs : List Run) (run : Run) {E : Type 0} (r : Result (Vec Stamped Global) E) → Joins m runs run → IfOk r (λ new. new.items ≡ without_droppable m run)
-    → IfOk r (λ new. AllByRecursion (DropsNoEffect m) run) → IfOk r (λ new. ReplacesOldest m runs new.items)
-answer-replaces m runs run (Ok new) joins items drops = subst (ReplacesOldest m runs) (sym items) (kept-replaces m runs run joins drops)
-answer-replaces m runs run (Err e) joins items drops = tt

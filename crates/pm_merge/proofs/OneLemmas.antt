@@ -14,7 +14,7 @@ use Rattle.pm_engine.specs.Meaning.{KindsAreOwn, Meaning, SpeaksFor, stored_of}
 use Rattle.pm_engine.specs.Reducing.{AreStoredRows, HasKindOf, greatest_number}
 use Rattle.pm_engine.proofs.Rising.{apart_back, tied, ties_itself}
 use Rattle.pm_merge.specs.Merge.{AreStored, IsMerge, all_rows}
-use Rattle.pm_merge.proofs.MergeLemmas.{alone}
+use Rattle.pm_merge.proofs.MergeLemmas.{alone, whole_part}
 use Rattle.pm_merge.proofs.PairLemmas.{above-rest, none_above, of_key-above, of_key-first, of_key-here, of_key-other, rising-parts}
 
 -- ---- the row of a key
@@ -42,16 +42,6 @@ all_hold m key [] rising speak = tt
 all_hold m key (run ∷ runs) rising speak =
     let parts = AllByRecursion-parts (λ (s : Stamped). SpeaksFor m s.key (row_of s) (row_of s ∷ [])) run (all_rows runs) speak in
     (holds_own m key run (rising zero run (omega arith)) parts.0, all_hold m key runs (All-tail IsRising run runs rising) parts.1)
-
--- what one run has of a key is for all rows of the key
-whole_part : (m : Meaning) (key : Values) (run : Run) (rows : List HistoryRow) → CoversKey m key (run ∷ []) [] rows → Holds m key (of_key key run) rows
-whole_part m key run rows covers = by_parts covers.parts covers.split covers.holds
-  where
-    by_parts : (parts : List (List HistoryRow)) → rows ≡ flat_map (λ (part : List HistoryRow). part) parts → AllZip (λ (run : Run) (part : List HistoryRow). Holds m key (of_key key run) part) (run ∷ []) parts
-        → Holds m key (of_key key run) rows
-    by_parts [] split holds = absurd holds
-    by_parts (p ∷ []) split holds = subst (Holds m key (of_key key run)) (sym (split ∙ append-nil p)) holds.0
-    by_parts (p ∷ q ∷ ps) split holds = absurd holds.1
 
 abbrev IsOne : Type 0
 IsOne = (m : Meaning) (key : Values) (stored : HistoryRow) (rows : List HistoryRow) → SpeaksFor m key stored rows → stored.0 ≡ m.kind rows → stored ≡ stored_of m rows

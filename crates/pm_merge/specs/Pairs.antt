@@ -1,12 +1,12 @@
 -- Private: the single steps of merging.
-use Rattle.std.specs.Prelude.{◌≡◌, ◌≢◌, List, [], ◌∷◌, ⊤, true}
+use Rattle.std.specs.Prelude.{◌≡◌, ◌≢◌, List, [], ◌∷◌, ⊤}
 use Rattle.std.specs.List.{AllZip, flat_map}
 use Rattle.std.specs.declared.cmp.Ordering.TheVariants.{Less}
 use Rattle.pm_values.specs.Order.{Values, key_cmp}
 use Rattle.pm_values.specs.declared.record.Stamped.{Stamped}
 use Rattle.pm_model_history.specs.Merge.{HistoryRow}
 use Rattle.pm_engine.specs.Covers.{Holds, IsRising, Run, of_key, row_of}
-use Rattle.pm_engine.specs.Meaning.{HasNoEffect, IsTaken, Meaning}
+use Rattle.pm_engine.specs.Meaning.{Meaning}
 use Rattle.pm_engine.specs.Reducing.{HasKindOf, IsCombined, greatest_number}
 use Rattle.pm_merge.specs.Merge.{HaveOwnKinds, all_rows}
 
@@ -50,8 +50,3 @@ pub record Joins (m : Meaning) (runs : List Run) (run : Run) : Type 0 where
   pub holds : (key : Values) (parts : List (List HistoryRow))
       → AllZip (λ (run : Run) (part : List HistoryRow). Holds m key (of_key key run) part) runs parts
       → Holds m key (of_key key run) (flat_map (λ part. part) parts)
-
--- Private: where the stored row is droppable, it has no effect
-abbrev pub DropsNoEffect : Meaning → Stamped → Type 0
-DropsNoEffect m s =
-    m.drops (row_of s) ≡ true → (key : Values) → IsTaken m key (row_of s) → HasNoEffect m key (row_of s ∷ [])

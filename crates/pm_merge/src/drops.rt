@@ -1,9 +1,7 @@
 //! A run without the rows that have no effect.
 
 ghost use Rattle.std.specs.Prelude.{◌≡◌, ◌∷◌, [], ◌++◌, IfOk, OnOk};
-ghost use Rattle.std.specs.List.{AllByRecursion};
 ghost use Rattle.pm_merge.specs.Merge.{without_droppable};
-ghost use Rattle.pm_merge.specs.Pairs.{DropsNoEffect};
 
 use pm_engine::{MergeEngine, Stored};
 use pm_values::Stamped;
@@ -15,8 +13,7 @@ pub(crate) fn without_droppable<E: MergeEngine>(
     engine: &E,
     run: Vec<Stamped>,
 ) -> Result<Vec<Stamped>, AllocError>
-    ensures items { IfOk result (λ new. new.items ≡ without_droppable (E.meaning engine.now) run.items) }
-    ensures no_effect { IfOk result (λ new. AllByRecursion (DropsNoEffect (E.meaning engine.now)) run.items) }
+    ensures { IfOk result (λ new. new.items ≡ without_droppable (E.meaning engine.now) run.items) }
 {
     let mut kept = Vec::with_capacity(alloc, run.len())?;
     for row in run {
@@ -31,9 +28,8 @@ fn keep<E: MergeEngine>(
     kept: &mut Vec<Stamped>,
     stamped: Stamped,
 ) -> Result<(), AllocError>
-    ensures items { OnOk result
+    ensures { OnOk result
         (kept.new.items ≡ kept.old.items ++ without_droppable (E.meaning engine.now) (stamped ∷ [])) }
-    ensures no_effect { DropsNoEffect (E.meaning engine.now) stamped }
 {
     let Stamped {
         key,

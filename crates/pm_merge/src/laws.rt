@@ -3,9 +3,9 @@
 ghost use Rattle.std.specs.Prelude.{◌≡◌, [], ◌∷◌, List, All};
 ghost use Rattle.pm_model_history.specs.Merge.{HistoryRow};
 ghost use Rattle.pm_engine.specs.Covers.{Run, Covers, CoversAll, IsRising};
-ghost use Rattle.pm_engine.specs.Meaning.{Meaning, KindsAreOwn};
-ghost use Rattle.pm_engine.specs.Reducing.{AreStoredRows};
-ghost use Rattle.pm_merge.specs.Merge.{all_rows, AreStored, IsMerge, Replaces};
+ghost use Rattle.pm_engine.specs.Meaning.{Meaning, DropsNoEffect, KindsAreOwn};
+ghost use Rattle.pm_engine.specs.Reducing.{AreStoredRows, HasGreatestNumbers};
+ghost use Rattle.pm_merge.specs.Merge.{all_rows, without_droppable, AreStored, IsMerge, Replaces, ReplacesOldest};
 
 use pm_engine::stored_law;
 
@@ -34,4 +34,16 @@ pub fn replaces_law()
         Covers m runs rows → Covers m (run ∷ []) rows }
     ensures covers_all { (m : Meaning) (runs : List Run) (run : Run) (rows : List HistoryRow) → IsMerge m runs run →
         CoversAll m runs rows → CoversAll m (run ∷ []) rows }
+{}
+
+/// Without the droppable rows a run rises still, and has the same numbers. In the place of the runs that it is merged
+/// of, where none is older, it covers with the newer ones the rows that were covered.
+pub fn oldest_law()
+    ensures rising { (m : Meaning) (run : Run) → IsRising run → IsRising (without_droppable m run) }
+    ensures numbers { (m : Meaning) (run rows : Run) → HasGreatestNumbers run rows →
+        HasGreatestNumbers (without_droppable m run) rows }
+    ensures replaces { (m : Meaning) (runs : List Run) (run : Run) → DropsNoEffect m → IsMerge m runs run →
+        ReplacesOldest m runs (without_droppable m run) }
+    ensures covers { (m : Meaning) (runs : List Run) (run : Run) (rows : List HistoryRow) → ReplacesOldest m runs run →
+        Covers m runs rows → Covers m (run ∷ []) rows }
 {}

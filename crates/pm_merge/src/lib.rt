@@ -2,7 +2,7 @@
 //!
 //! `merge_runs` makes one run of several, the oldest first: it covers the rows that they cover, also in their place
 //! between other runs (`specs/Merge.antt`, `replaces_law`), and may leave out the stored rows that have no effect where
-//! nothing older is left. `Merging` gives the rows of that run one after another, for those who need no run
+//! nothing older is left (`oldest_law`). `Merging` gives the rows of that run one after another, for those who need no run
 //! (`specs/Merging.antt`). Of runs of stored rows there is one such run (`merged_law`), and one run is made into itself
 //! (`one_run_law`). All of this rests on the laws of `MergeEngine` alone. Runs are merged in pairs, and these again, so
 //! that each row takes part in about as many comparisons as the number of runs can be halved.
@@ -19,7 +19,7 @@ mod merging;
 mod place;
 mod source;
 
-pub use laws::{merged_law, one_run_law, replaces_law};
+pub use laws::{merged_law, oldest_law, one_run_law, replaces_law};
 pub use merge::merge_runs;
 pub use merging::Merging;
 pub use place::RowPlace;

@@ -1,10 +1,8 @@
 //! Several runs made into one.
 
-ghost use Rattle.std.specs.Prelude.{◌≡◌, ◌≤◌, ◌∷◌, [], List, All, IfOk, true, false};
-ghost use Rattle.pm_model_history.specs.Merge.{HistoryRow};
-ghost use Rattle.pm_engine.specs.Covers.{Run, IsRising, Covers, CoversAll};
-ghost use Rattle.pm_engine.specs.Reducing.{HasGreatestNumbers};
-ghost use Rattle.pm_merge.specs.Merge.{runs_of, all_rows, IsMerge, Replaces, ReplacesOldest, without_droppable};
+ghost use Rattle.std.specs.Prelude.{◌≡◌, ◌≤◌, List, All, IfOk, true, false};
+ghost use Rattle.pm_engine.specs.Covers.{Run, IsRising};
+ghost use Rattle.pm_merge.specs.Merge.{runs_of, IsMerge, without_droppable};
 ghost use Rattle.pm_merge.specs.Merging.{HaveRuns};
 ghost use Rattle.pm_merge.specs.Pairs.{Joins};
 ghost use Rattle.pm_merge.specs.Source.{gives_rows};
@@ -17,8 +15,8 @@ use pm_row_slots::RowSlot;
 use pm_values::Stamped;
 use std::alloc::{AllocError, Global};
 
-/// One run of several, the oldest first. With `drop` it lacks the droppable rows, which is right where no older run is
-/// left.
+/// One run of several, the oldest first, which may stand in their place (`replaces_law`). With `drop` it lacks the
+/// droppable rows, which is right where no older run is left (`oldest_law`).
 pub fn merge_runs<E: MergeEngine>(
     alloc: Global,
     engine: &E,
@@ -26,18 +24,6 @@ pub fn merge_runs<E: MergeEngine>(
     drop: bool,
 ) -> Result<Vec<Stamped>, AllocError>
     requires { All IsRising (runs_of older_first.items) }
-    ensures rising { IfOk result (λ run. IsRising run.items) }
-    ensures numbers { IfOk result (λ run. HasGreatestNumbers run.items (all_rows (runs_of older_first.items))) }
-    ensures covers { IfOk result (λ run. (rows : List HistoryRow) →
-        Covers (E.meaning engine.now) (runs_of older_first.items) rows →
-        Covers (E.meaning engine.now) (run.items ∷ []) rows) }
-    ensures covers_all { IfOk result (λ run. (rows : List HistoryRow) → drop ≡ false →
-        CoversAll (E.meaning engine.now) (runs_of older_first.items) rows →
-        CoversAll (E.meaning engine.now) (run.items ∷ []) rows) }
-    ensures replaces { IfOk result (λ run. drop ≡ false →
-        Replaces (E.meaning engine.now) (runs_of older_first.items) run.items) }
-    ensures replaces_oldest { IfOk result (λ run.
-        ReplacesOldest (E.meaning engine.now) (runs_of older_first.items) run.items) }
     ensures keeps { IfOk result (λ run. drop ≡ false →
         IsMerge (E.meaning engine.now) (runs_of older_first.items) run.items) }
     ensures drops { IfOk result (λ run. drop ≡ true → (merged : Run)

@@ -94,6 +94,8 @@ impl MergeEngine for PartialUpdate {
     fn droppable(&self, _stored: &Stored) -> bool {
         false
     }
+
+    fn droppable_law() {}
 }
 
 /// The stored row of one row.
