@@ -2,10 +2,10 @@
 //!
 //! `merge_runs` makes one run of several, the oldest first: it covers the rows that they cover, also in their place
 //! between other runs (`specs/Merge.antt`, `replaces_law`), and may leave out the stored rows that have no effect where
-//! nothing older is left (`oldest_law`). `Merging` gives the rows of that run one after another, for those who need no run
-//! (`specs/Merging.antt`). Of runs of stored rows there is one such run (`merged_law`), and one run is made into itself
-//! (`one_run_law`). All of this rests on the laws of `MergeEngine` alone. Runs are merged in pairs, and these again, so
-//! that each row takes part in about as many comparisons as the number of runs can be halved.
+//! nothing older is left (`oldest_law`). `Merging` gives the rows of that run one after another, for those who need no
+//! run (`specs/Merging.antt`). Of runs of stored rows there is one such run (`merged_law`), and one run is made into
+//! itself (`one_run_law`). All of this rests on the laws of `MergeEngine` alone. Runs are merged in pairs, and these
+//! again, so that each row takes part in about as many comparisons as the number of runs can be halved.
 //!
 //! Rows come from a `RowSource` and go from place to place (`RowPlace`), and no run is made on the way. A `RowSlot` of
 //! `pm_row_slots` is such a place: a row that lies in bytes stays there, and is copied only where it is combined or
