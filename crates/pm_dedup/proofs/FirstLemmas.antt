@@ -180,10 +180,6 @@ adds s kind is taken =
 stored : (s : TableSchema) (kind : Kind) → s.options.engine ≡ FirstRow → verdict s kind ≡ Take → IsTrue (stores s kind)
 stored s kind is taken = ap (λ k. stores_by k kind) is ∙ ap not (adds s kind is taken)
 
--- a row's kind is kept
-pub lifts-kind : (s : TableSchema) (kind : Kind) (row : Values) → s.options.engine ≡ FirstRow → kind ≡ (meaning_of s).kind ((kind, row) ∷ [])
-lifts-kind s kind row is = sym (ap (λ k. kind_by k ((kind, row) ∷ [])) is)
-
 first_kind-append : (x y : List HistoryRow) → x ≢ [] → first_kind x ≡ first_kind (x ++ y)
 first_kind-append [] y some = absurd (some refl)
 first_kind-append (r ∷ x) y some = refl

@@ -75,10 +75,6 @@ alone s r index is fits =
 any_kind : (s : TableSchema) (kind : Kind) → s.options.engine ≡ Deduplicate → IsTrue (stores s kind)
 any_kind s kind is = ap (λ k. stores_by k kind) is
 
--- a row's kind is kept
-pub lifts-kind : (s : TableSchema) (kind : Kind) (row : Values) → s.options.engine ≡ Deduplicate → kind ≡ (meaning_of s).kind ((kind, row) ∷ [])
-lifts-kind s kind row is = sym (ap (λ k. kind_by k ((kind, row) ∷ [])) is)
-
 -- the newer rows' kind is that of both
 pub combines-kind : (s : TableSchema) (kind : Kind) (x y : List HistoryRow) → s.options.engine ≡ Deduplicate → y ≢ [] → kind ≡ (meaning_of s).kind y → kind ≡ (meaning_of s).kind (x ++ y)
 combines-kind s kind x y is some own =
