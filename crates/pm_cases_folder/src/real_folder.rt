@@ -3,62 +3,28 @@
 use crate::command::run_command;
 use crate::writers;
 use pm_cases::Case;
-use pm_folder_store::{FolderStore, System};
+use pm_cases_calls::TwoStores;
 use pm_store::{FileStore, Made};
 
 /// What is answered of a folder, of which two stores are opened before any call.
 pub fn answer(rt: &HostRuntime, case: &mut Case, tried: &str, folder: &str, rest: &str) {
-    match open(rt, case, folder) {
-        Some(store) => open_other(rt, case, tried, folder, rest, store),
+    match TwoStores::open(rt, case.alloc(), folder) {
+        Some(stores) => {
+            let mut stores = stores;
+            answer_of(case, tried, &mut stores.one, &mut stores.other, rest);
+            drop(stores);
+        }
         None => case.say("no store"),
     }
 }
 
-/// A store of the folder; none where it can't be opened.
-fn open(
-    rt: &HostRuntime,
-    case: &mut Case,
-    folder: &str,
-) -> Option<FolderStore<System<HostRuntime>>> {
-    let alloc = case.alloc();
-    match rt.clone() {
-        Ok(runtime) => FolderStore::open(alloc, System::new(runtime), folder).ok(),
-        Err(_) => None,
-    }
-}
-
-/// The same with one store.
-fn open_other(
-    rt: &HostRuntime,
-    case: &mut Case,
-    tried: &str,
-    folder: &str,
-    rest: &str,
-    store: FolderStore<System<HostRuntime>>,
-) {
-    let mut store = store;
-    match open(rt, case, folder) {
-        Some(other) => answer_of(case, tried, rest, &mut store, other),
-        None => case.say("no store"),
-    }
-    drop(store);
-}
-
-/// The same with both stores.
-fn answer_of(
-    case: &mut Case,
-    tried: &str,
-    rest: &str,
-    store: &mut FolderStore<System<HostRuntime>>,
-    other: FolderStore<System<HostRuntime>>,
-) {
-    let mut other = other;
+/// The same of the stores.
+fn answer_of<F: FileStore>(case: &mut Case, tried: &str, store: &mut F, other: &mut F, rest: &str) {
     match tried {
-        "created" => say_created(case, store, &mut other, rest),
-        "scanned" => say_scanned(case, store, &mut other, rest),
-        _ => writers::answer(case, store, &mut other, rest),
+        "created" => say_created(case, store, other, rest),
+        "scanned" => say_scanned(case, store, other, rest),
+        _ => writers::answer(case, store, other, rest),
     }
-    drop(other);
 }
 
 /// Says what `create` answers through one store and then through the other, and then `snapshots` through the first.

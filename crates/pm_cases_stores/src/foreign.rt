@@ -1,7 +1,7 @@
 //! What somebody else makes in a real folder, past its store.
 
-use crate::calls::split;
 use pm_cases::Case;
+use pm_cases_calls::split_at_blank;
 use std::os::unix::fs::symlink;
 use std::{fs, io};
 
@@ -18,8 +18,8 @@ pub fn say_foreign(rt: &HostRuntime, case: &mut Case, act: &str) {
 
 /// Makes what `link PATH TEXT`, `folder PATH` or `file PATH BYTES` says.
 fn make(rt: &HostRuntime, act: &str) -> io::Result<()> {
-    let (word, rest) = split(act);
-    let (path, text) = split(rest);
+    let (word, rest) = split_at_blank(act);
+    let (path, text) = split_at_blank(rest);
     match word {
         "link" => symlink(rt, text, path),
         "folder" => fs::create_dir(rt, path),

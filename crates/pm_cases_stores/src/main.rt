@@ -1,6 +1,6 @@
-//! The cases of streams, of stores and of the store on a folder, a line in and a line out: each line of standard input
-//! names what is tried, and its arguments, with a TAB between them, and the line that is printed for it is the answer.
-//! Blank lines and lines that begin with `#` are printed as they are, so that both texts can be read side by side.
+//! The cases of streams and of stores, a line in and a line out: each line of standard input names what is tried, and
+//! its arguments, with a TAB between them, and the line that is printed for it is the answer. Blank lines and lines
+//! that begin with `#` are printed as they are, so that both texts can be read side by side.
 //!
 //! | What is tried | Arguments | Answer |
 //! |---|---|---|
@@ -8,37 +8,15 @@
 //! | `sink` | see `stream.rt` | what a sink takes, and whether that is all |
 //! | `store` | `memory`, `fails` and a plan, or `folder` and a name; calls | their answers, on a folder of two stores |
 //!
-//! The others are of the store on a folder over a double of the operating system:
-//!
-//! | What is tried | Arguments | Answer |
-//! |---|---|---|
-//! | `calls` | what stands there, acts | each act's answer, and what it asked the host for |
-//! | `images` | paths, what stands there, acts | what each act's images show before and after it answers |
-//! | `fails` | a kind of error, paths, what stands there, acts | what comes of each call of the host that fails |
-//! | `rival` | paths, what stands there, acts, an act | what comes of a rival's act before each call of the last act |
-//!
-//! What stands there is said in the words of `state.rt`. Acts stand with semicolons between them: the calls of the
-//! store, as in `calls.rt`, on the folder `t`, and those of `process.rt`. Paths that are asked for are the store's, and
-//! the double's where they begin with a slash.
+//! Calls stand with semicolons between them, in the words of `calls.rt` of `pm_cases_calls`.
 #![tactic(auto)]
 
-mod calls;
-mod double;
 mod foreign;
-mod outcomes;
-mod process;
-mod real_folder;
-mod rival;
-mod shown;
-mod state;
 mod store;
 mod stream;
-mod trial;
 
-use crate::calls::split;
-use crate::trial::{Trial, say_calls, say_fails, say_images, say_rival};
 use pm_cases::Case;
-use pm_folder_store::HostError;
+use pm_cases_calls::split_at_blank;
 use std::alloc::AllocError;
 use std::io;
 
@@ -69,84 +47,17 @@ fn answer_line(rt: &HostRuntime, case: &mut Case, line: &str) {
         "source" => stream::source_answer(case, rest),
         "sink" => stream::sink_answer(case, rest),
         "store" => answer_store(rt, case, rest),
-        _ => {
-            if answer_double(case, tried, rest).is_err() {
-                case.reject();
-            }
-        }
+        _ => case.reject(),
     }
 }
 
 /// Says what a store of a kind answers to calls.
 fn answer_store(rt: &HostRuntime, case: &mut Case, rest: &str) {
     let (kind, calls) = case.split(rest);
-    match split(kind) {
+    match split_at_blank(kind) {
         ("memory", _) => store::memory_answer(case, calls),
         ("fails", plan) => store::failing_answer(case, plan, calls),
-        ("folder", folder) => real_folder::answer(rt, case, folder, calls),
+        ("folder", folder) => store::folder_answer(rt, case, folder, calls),
         _ => case.reject(),
-    }
-}
-
-/// Says what comes of a line on a double.
-fn answer_double(case: &mut Case, tried: &str, rest: &str) -> Result<(), HostError> {
-    match tried {
-        "calls" => {
-            let trial = trial_of(case, "", rest);
-            say_calls(case, &trial)
-        }
-        "images" => {
-            let (asked, rest) = case.split(rest);
-            let trial = trial_of(case, asked, rest);
-            say_images(case, &trial)
-        }
-        "fails" => answer_fails(case, rest),
-        "rival" => answer_rival(case, rest),
-        _ => Err(HostError::Other),
-    }
-}
-
-/// What is tried: what stands there, and the acts.
-fn trial_of<'a>(case: &mut Case, asked: &'a str, rest: &'a str) -> Trial<'a> {
-    let (state, acts) = case.split(rest);
-    Trial {
-        alloc: case.alloc(),
-        asked,
-        state,
-        acts,
-    }
-}
-
-/// Says what comes of failures.
-fn answer_fails(case: &mut Case, rest: &str) -> Result<(), HostError> {
-    let (kind, rest) = case.split(rest);
-    let (asked, rest) = case.split(rest);
-    let trial = trial_of(case, asked, rest);
-    say_fails(case, &trial, kind_of(kind))
-}
-
-/// Says what comes of a rival.
-fn answer_rival(case: &mut Case, rest: &str) -> Result<(), HostError> {
-    let (asked, rest) = case.split(rest);
-    let (state, rest) = case.split(rest);
-    let (acts, rival) = case.split(rest);
-    let trial = Trial {
-        alloc: case.alloc(),
-        asked,
-        state,
-        acts,
-    };
-    say_rival(case, &trial, rival)
-}
-
-/// The kind of error of a word.
-fn kind_of(word: &str) -> HostError {
-    match word {
-        "memory" => HostError::OutOfMemory,
-        "absent" => HostError::NotFound,
-        "denied" => HostError::PermissionDenied,
-        "invalid" => HostError::InvalidInput,
-        "readonly" => HostError::ReadOnlyFilesystem,
-        _ => HostError::Other,
     }
 }

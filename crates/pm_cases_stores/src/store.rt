@@ -1,9 +1,9 @@
 //! Calls of a store, one after another: of one in memory, of one that fails, and of two on one folder.
 
-use crate::calls::{say_call, split};
 use crate::foreign::say_foreign;
 use pm_base::Blob;
 use pm_cases::{Case, say_between};
+use pm_cases_calls::{TwoStores, say_call, split_at_blank};
 use pm_store::{Effect, FailStore, FileStore, MemStore, Planned};
 use std::alloc::{AllocError, Global};
 use std::{fs, io};
@@ -66,10 +66,21 @@ fn make_calls<F: FileStore>(case: &mut Case, store: &mut F, calls: &str) {
     }
 }
 
-/// Says the answers of calls on a store on the folder, and on another where `other` stands before the call. Both were
-/// opened before the first call. `hidden` counts the names with a dot in the folder, and the files that were begun;
-/// `foreign` makes something past the store.
-pub fn folder_answer<F: FileStore>(
+/// The answers of calls on two stores on a folder. Both are opened before the first call.
+pub fn folder_answer(rt: &HostRuntime, case: &mut Case, folder: &str, calls: &str) {
+    match TwoStores::open(rt, case.alloc(), folder) {
+        Some(stores) => {
+            let mut stores = stores;
+            make_calls_in(rt, case, &mut stores.one, &mut stores.other, folder, calls);
+            drop(stores);
+        }
+        None => case.say("no store"),
+    }
+}
+
+/// Says the answers of calls on a store on the folder, and on another where `other` stands before the call. `hidden`
+/// counts the names with a dot in the folder, and the files that were begun; `foreign` makes something past the store.
+fn make_calls_in<F: FileStore>(
     rt: &HostRuntime,
     case: &mut Case,
     store: &mut F,
@@ -80,7 +91,7 @@ pub fn folder_answer<F: FileStore>(
     let mut is_later = false;
     for call in calls.split(';') {
         say_between(case, is_later, "; ");
-        match split(call) {
+        match split_at_blank(call) {
             ("hidden", _) => say_hidden(rt, case, folder),
             ("foreign", act) => say_foreign(rt, case, act),
             ("other", call) => say_call(case, other, call),

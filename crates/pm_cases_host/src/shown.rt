@@ -1,12 +1,11 @@
 //! What a folder shows of paths, after a power loss too.
 
-use crate::calls::say_content;
-use crate::double::seat::Seat;
-use crate::double::world::{World, held, lent};
 use crate::outcomes::Outcomes;
 use crate::process::open_store;
 use crate::trial::Trial;
 use pm_cases::{Case, say_between};
+use pm_cases_calls::say_content;
+use pm_cases_double::{Nobody, Seat, World, held, lent};
 use pm_folder_store::{FolderStore, HostError};
 use pm_store::FileStore;
 use std::alloc::Global;
@@ -45,7 +44,7 @@ pub fn add_shows(
 
 /// What the paths show in an image, and whether anything else that stood there isn't as it was.
 fn shown(trial: &Trial, world: RefCell<World>) -> Result<String, HostError> {
-    held(&world)?.is_aside = true;
+    held(&world)?.begin_aside();
     let mut case = Case::new(trial.alloc);
     say_asked(&mut case, trial, &world)?;
     if is_harmed(trial, &*lent(&world)?)? {
@@ -57,7 +56,7 @@ fn shown(trial: &Trial, world: RefCell<World>) -> Result<String, HostError> {
 
 /// Says what the paths show.
 fn say_asked(case: &mut Case, trial: &Trial, world: &RefCell<World>) -> Result<(), HostError> {
-    let mut store = open_store(trial.alloc, Seat { world })?;
+    let mut store = open_store(trial.alloc, Seat::new(world, Nobody))?;
     let mut is_later = false;
     for path in trial.asked.split(' ') {
         say_between(case, is_later, " ");
@@ -80,7 +79,7 @@ fn say_place(case: &mut Case, world: &World, path: &str) {
 }
 
 /// Says what a store reads at a path, and whether its listing shows another thing.
-fn say_path(case: &mut Case, store: &mut FolderStore<Seat<'_>>, path: &str) {
+fn say_path(case: &mut Case, store: &mut FolderStore<Seat<'_, Nobody>>, path: &str) {
     let alloc = case.alloc();
     let is_listed = is_listed(alloc, store, path);
     match store.read(alloc, path) {
@@ -102,7 +101,7 @@ fn say_listed(case: &mut Case, is_listed: Option<bool>, is_there: bool) {
 }
 
 /// Whether a listing of the folder around a path shows it; none where it failed.
-fn is_listed(alloc: Global, store: &mut FolderStore<Seat<'_>>, path: &str) -> Option<bool> {
+fn is_listed(alloc: Global, store: &mut FolderStore<Seat<'_, Nobody>>, path: &str) -> Option<bool> {
     let (folder, name) = path.rsplit_once('/').unwrap_or(("", path));
     match store.list(alloc, folder) {
         Ok(names) => Some(names.iter().any(|listed| listed.as_str() == name)),

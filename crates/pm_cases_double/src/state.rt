@@ -10,8 +10,8 @@
 //! | `?WORD` | the same, but a power loss may undo the name |
 //! | `-` | nothing |
 
-use crate::double::parts::{Bytes, Lock, Owner, Thing};
-use crate::double::world::{TOP, World, there};
+use crate::parts::{Bytes, Lock, Owner, Thing};
+use crate::world::{TOP, World, there};
 use pm_folder_store::HostError;
 use std::alloc::Global;
 

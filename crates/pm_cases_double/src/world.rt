@@ -1,13 +1,13 @@
 //! The double of an operating system: folders, files and links in memory, with what a power loss may undo.
 
-use crate::double::parts::{Held, Name, Node, Owner, Thing};
-use crate::double::steps::{Act, End, Plan, Step};
+use crate::parts::{Held, Name, Node, Owner, Thing};
+use crate::steps::{Act, End, Plan, Step};
 use pm_folder_store::HostError;
 use std::alloc::Global;
 use std::cell::{Ref, RefCell, RefMut};
 
 /// The folder in which the program runs.
-pub const TOP: usize = 0;
+pub(crate) const TOP: usize = 0;
 
 /// How many microseconds times of change are apart: two changes within them have the same time.
 const TICK: u64 = 4_000;
@@ -15,19 +15,18 @@ const TICK: u64 = 4_000;
 /// How many microseconds each look at the clock takes.
 const GLANCE: u64 = 20;
 
-/// What stands there and who has it open, the time, the calls of the process that is watched, before which of them a
-/// rival acts, and what that one was answered.
+/// What stands there and who has it open, the time, the calls of the process that is watched, what is planned for them,
+/// and what a rival was answered.
 pub struct World {
-    pub alloc: Global,
-    pub nodes: Vec<Node>,
-    pub handles: Vec<Option<Held>>,
-    pub clock: u64,
-    pub calls: u64,
-    pub plan: Plan,
-    pub steps: Vec<Step>,
-    pub is_aside: bool,
-    pub meets_at: u64,
-    pub met: String,
+    pub(crate) alloc: Global,
+    pub(crate) nodes: Vec<Node>,
+    pub(crate) handles: Vec<Option<Held>>,
+    pub(crate) clock: u64,
+    pub(crate) calls: u64,
+    pub(crate) plan: Plan,
+    pub(crate) steps: Vec<Step>,
+    pub(crate) is_aside: bool,
+    pub(crate) met: String,
 }
 
 impl Drop for World {
@@ -41,7 +40,6 @@ impl Drop for World {
             plan,
             steps,
             is_aside,
-            meets_at,
             met,
         } = self;
     }
@@ -65,15 +63,15 @@ pub fn held(world: &RefCell<World>) -> Result<RefMut<'_, World>, HostError> {
 
 /// Where a path leads: the folder that it stands in, its name there, and what stands there.
 #[derive(Clone, Copy)]
-pub struct Spot<'a> {
-    pub folder: usize,
-    pub name: &'a str,
-    pub thing: Option<usize>,
+pub(crate) struct Spot<'a> {
+    pub(crate) folder: usize,
+    pub(crate) name: &'a str,
+    pub(crate) thing: Option<usize>,
 }
 
 impl World {
     /// A world with nothing in it, long after 1970.
-    pub fn new(alloc: Global) -> Result<World, HostError> {
+    pub(crate) fn new(alloc: Global) -> Result<World, HostError> {
         let mut nodes = Vec::new(alloc);
         nodes.push(Node {
             thing: Thing::Folder(Vec::new(alloc)),
@@ -84,7 +82,7 @@ impl World {
     }
 
     /// A world in which this stands, and nobody has anything open.
-    pub fn of(alloc: Global, nodes: Vec<Node>) -> World {
+    pub(crate) fn of(alloc: Global, nodes: Vec<Node>) -> World {
         World {
             alloc,
             nodes,
@@ -94,9 +92,23 @@ impl World {
             plan: Plan::healthy(),
             steps: Vec::new(alloc),
             is_aside: false,
-            meets_at: 0,
             met: String::new(alloc),
         }
+    }
+
+    /// The allocator.
+    pub fn alloc(&self) -> Global {
+        self.alloc
+    }
+
+    /// How many calls were counted.
+    pub fn calls(&self) -> u64 {
+        self.calls
+    }
+
+    /// The calls that were noted.
+    pub fn steps(&self) -> &[Step] {
+        self.steps.as_slice()
     }
 
     /// Begins to count calls anew, of which these fail.
@@ -106,6 +118,11 @@ impl World {
         self.steps.clear();
     }
 
+    /// No call fails any more.
+    pub fn heal(&mut self) {
+        self.plan = Plan::healthy();
+    }
+
     /// Has two seconds pass.
     pub fn wait(&mut self) {
         self.clock = self.clock.saturating_add(2_000_000);
@@ -113,17 +130,32 @@ impl World {
 
     /// Whether the rival acts before the next call. It does so once.
     pub fn meets(&mut self) -> bool {
-        let is_met = !self.is_aside && self.calls.saturating_add(1) == self.meets_at;
+        let is_met = !self.is_aside && self.calls.saturating_add(1) == self.plan.meets_at;
         if is_met {
-            self.meets_at = 0;
+            self.plan.meets_at = 0;
         }
         is_met
+    }
+
+    /// Keeps what the rival was answered.
+    pub fn keep_met(&mut self, answer: String) {
+        self.met = answer;
+    }
+
+    /// What the rival was answered.
+    pub fn met(&self) -> &str {
+        self.met.as_str()
     }
 
     /// Ends the process that is watched: what it has open is closed.
     pub fn end_watched(&mut self) {
         close_all(&mut self.handles, false);
-        self.plan = Plan::healthy();
+        self.heal();
+    }
+
+    /// Begins a process that acts beside the one that is watched.
+    pub fn begin_aside(&mut self) {
+        self.is_aside = true;
     }
 
     /// Ends the one that acts beside it.
@@ -138,7 +170,7 @@ impl World {
     }
 
     /// Counts and notes a call, and fails it if it is to fail.
-    pub fn begin(&mut self, act: Act, path: &str, to: &str) -> Result<(), HostError> {
+    pub(crate) fn begin(&mut self, act: Act, path: &str, to: &str) -> Result<(), HostError> {
         if self.is_aside {
             return Ok(());
         }
@@ -172,7 +204,7 @@ impl World {
     }
 
     /// Notes that the last call was done.
-    pub fn done(&mut self) {
+    pub(crate) fn done(&mut self) {
         if !self.is_aside {
             self.end_step(End::Done);
         }
@@ -187,25 +219,25 @@ impl World {
     }
 
     /// Has everything on the disk.
-    pub fn settle_all(&mut self) {
+    pub(crate) fn settle_all(&mut self) {
         for thing in 0..self.nodes.len() {
             self.settle(thing);
         }
     }
 
     /// The time of a change that is made now.
-    pub fn tick(&self) -> u64 {
+    pub(crate) fn tick(&self) -> u64 {
         self.clock.saturating_sub(self.clock % TICK)
     }
 
     /// The time, at a look at the clock.
-    pub fn glance(&mut self) -> u64 {
+    pub(crate) fn glance(&mut self) -> u64 {
         self.clock = self.clock.saturating_add(GLANCE);
         self.clock
     }
 
     /// What stands somewhere.
-    pub fn node(&self, thing: usize) -> Result<&Node, HostError> {
+    pub(crate) fn node(&self, thing: usize) -> Result<&Node, HostError> {
         match self.nodes.get(thing) {
             Some(node) => Ok(node),
             None => Err(HostError::NotFound),
@@ -213,7 +245,7 @@ impl World {
     }
 
     /// The names in a folder.
-    pub fn names_of(&self, folder: usize) -> Result<&[Name], HostError> {
+    pub(crate) fn names_of(&self, folder: usize) -> Result<&[Name], HostError> {
         match &self.node(folder)?.thing {
             Thing::Folder(names) => Ok(names.as_slice()),
             _ => Err(HostError::NotADirectory),
@@ -221,12 +253,12 @@ impl World {
     }
 
     /// What a name in a folder leads to now.
-    pub fn led(&self, folder: usize, name: &str) -> Result<Option<usize>, HostError> {
+    pub(crate) fn led(&self, folder: usize, name: &str) -> Result<Option<usize>, HostError> {
         Ok(led(self.names_of(folder)?, name))
     }
 
     /// What a link leads to; anything else itself.
-    pub fn end_of(&self, thing: usize) -> Result<usize, HostError> {
+    pub(crate) fn end_of(&self, thing: usize) -> Result<usize, HostError> {
         match &self.node(thing)?.thing {
             Thing::Link(Some(end)) => Ok(*end),
             Thing::Link(None) => Err(HostError::NotFound),
@@ -235,7 +267,7 @@ impl World {
     }
 
     /// Where a path leads. A link at its end isn't followed, and those on its way are.
-    pub fn spot<'a>(&self, path: &'a str) -> Result<Spot<'a>, HostError> {
+    pub(crate) fn spot<'a>(&self, path: &'a str) -> Result<Spot<'a>, HostError> {
         let mut spot = Spot {
             folder: TOP,
             name: "",
@@ -266,17 +298,17 @@ impl World {
     }
 
     /// What stands at a path.
-    pub fn thing(&self, path: &str) -> Result<usize, HostError> {
+    pub(crate) fn thing(&self, path: &str) -> Result<usize, HostError> {
         there(self.spot(path)?)
     }
 
     /// What a path leads to.
-    pub fn end(&self, path: &str) -> Result<usize, HostError> {
+    pub(crate) fn end(&self, path: &str) -> Result<usize, HostError> {
         self.end_of(self.thing(path)?)
     }
 
     /// Has a name in a folder lead to something else.
-    pub fn lead(
+    pub(crate) fn lead(
         &mut self,
         folder: usize,
         name: &str,
@@ -295,7 +327,7 @@ impl World {
     }
 
     /// Adds a thing that has no name yet, and answers its number.
-    pub fn add(&mut self, thing: Thing, around: usize) -> Result<usize, HostError> {
+    pub(crate) fn add(&mut self, thing: Thing, around: usize) -> Result<usize, HostError> {
         let number = self.nodes.len();
         let node = Node {
             thing,
@@ -307,7 +339,7 @@ impl World {
     }
 
     /// Has a folder's names or a file's bytes on the disk.
-    pub fn settle(&mut self, thing: usize) {
+    pub(crate) fn settle(&mut self, thing: usize) {
         let Some(node) = self.nodes.get_mut(thing) else {
             return;
         };
@@ -329,7 +361,7 @@ fn spot_of<'a>(folder: usize) -> Spot<'a> {
 }
 
 /// What stands at a spot.
-pub fn there(spot: Spot) -> Result<usize, HostError> {
+pub(crate) fn there(spot: Spot) -> Result<usize, HostError> {
     match spot.thing {
         Some(thing) => Ok(thing),
         None => Err(HostError::NotFound),

@@ -1,10 +1,7 @@
 //! Processes on a double, each with a store of its own on the folder `t`.
 
-use crate::calls::{said, split};
-use crate::double::seat::Seat;
-use crate::double::steps::Plan;
-use crate::double::world::{World, held, lent};
-use crate::state::put_word;
+use pm_cases_calls::{said, split_at_blank};
+use pm_cases_double::{Nobody, Seat, World, held, lent, put_word};
 use pm_folder_store::{FolderStore, Host, HostError};
 use std::alloc::Global;
 use std::cell::RefCell;
@@ -27,8 +24,8 @@ pub fn said_of<H: Host + Drop>(
     store: &mut FolderStore<H>,
     act: &str,
 ) -> Result<String, HostError> {
-    let alloc = lent(world)?.alloc;
-    let (word, _rest) = split(act);
+    let alloc = lent(world)?.alloc();
+    let (word, _rest) = split_at_blank(act);
     match word {
         "wait" => {
             held(world)?.wait();
@@ -41,19 +38,19 @@ pub fn said_of<H: Host + Drop>(
 
 /// Whether an act is a call of the process's own store.
 pub fn is_own_call(act: &str) -> bool {
-    !matches!(split(act).0, "wait" | "other" | "foreign")
+    !matches!(split_at_blank(act).0, "wait" | "other" | "foreign")
 }
 
 /// What others do beside a process: `foreign WORD`, which puts what a word of a state says past any store, or
 /// `other CALL`, a call of another process's store. Answers what that one was answered.
 pub fn said_beside(world: &RefCell<World>, act: &str) -> Result<String, HostError> {
-    let (word, rest) = split(act);
-    let alloc = lent(world)?.alloc;
+    let (word, rest) = split_at_blank(act);
+    let alloc = lent(world)?.alloc();
     if word == "foreign" {
         put_word(&mut *held(world)?, rest)?;
         return Ok(String::from_str(alloc, "made")?);
     }
-    held(world)?.is_aside = true;
+    held(world)?.begin_aside();
     let answer = said_by_another(alloc, world, rest);
     held(world)?.end_aside();
     answer
@@ -61,14 +58,8 @@ pub fn said_beside(world: &RefCell<World>, act: &str) -> Result<String, HostErro
 
 /// What another process's store answers to a call.
 fn said_by_another(alloc: Global, world: &RefCell<World>, call: &str) -> Result<String, HostError> {
-    let mut store = open_store(alloc, Seat { world })?;
+    let mut store = open_store(alloc, Seat::new(world, Nobody))?;
     let answer = said(alloc, &mut store, call);
     drop(store);
     Ok(answer?)
-}
-
-/// Begins to count a process's calls of its host anew, of which these fail.
-pub fn start(world: &RefCell<World>, plan: Plan) -> Result<(), HostError> {
-    held(world)?.start(plan);
-    Ok(())
 }

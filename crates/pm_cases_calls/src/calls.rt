@@ -6,7 +6,7 @@ use pm_store::{FileStore, Made, Published, Removed, StoreFail, Swapped};
 use std::alloc::{AllocError, Global};
 
 /// A text up to its first blank, and what follows that.
-pub fn split(text: &str) -> (&str, &str) {
+pub fn split_at_blank(text: &str) -> (&str, &str) {
     text.split_once(' ').unwrap_or((text, ""))
 }
 
@@ -19,8 +19,8 @@ pub fn said<F: FileStore>(alloc: Global, store: &mut F, call: &str) -> Result<St
 
 /// Says what a store answers to a call.
 pub fn say_call<F: FileStore>(case: &mut Case, store: &mut F, call: &str) {
-    let (word, rest) = split(call);
-    let (path, bytes) = split(rest);
+    let (word, rest) = split_at_blank(call);
+    let (path, bytes) = split_at_blank(rest);
     match word {
         "list" => say_list(case, store, path),
         "read" => say_read(case, store, path),
@@ -59,7 +59,7 @@ fn say_create<F: FileStore>(case: &mut Case, store: &mut F, path: &str, bytes: &
 
 /// Says what a publish answers; its path and its bytes stand in one text.
 fn say_publish<F: FileStore>(case: &mut Case, store: &mut F, after: &str, rest: &str) {
-    let (path, bytes) = split(rest);
+    let (path, bytes) = split_at_blank(rest);
     match store.publish(case.alloc(), after, path, bytes.as_bytes()) {
         Ok(Published::Created) => case.say("created"),
         Ok(Published::Exists) => case.say("exists"),
@@ -70,7 +70,7 @@ fn say_publish<F: FileStore>(case: &mut Case, store: &mut F, after: &str, rest: 
 
 /// Says what a swap answers; what is expected and the bytes stand in one text.
 fn say_swap<F: FileStore>(case: &mut Case, store: &mut F, path: &str, rest: &str) {
-    let (expected, bytes) = split(rest);
+    let (expected, bytes) = split_at_blank(rest);
     let expected = match expected {
         "-" => None,
         _ => Some(expected.as_bytes()),

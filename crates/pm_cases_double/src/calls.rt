@@ -1,8 +1,8 @@
 //! The calls of the double, each as one of an operating system.
 
-use crate::double::parts::{Bytes, Held, Lock, Name, Owner, Thing};
-use crate::double::steps::{Act, Step};
-use crate::double::world::{World, there};
+use crate::parts::{Bytes, Held, Lock, Name, Owner, Thing};
+use crate::steps::{Act, Step};
+use crate::world::{World, there};
 use pm_folder_store::{Found, HostError, Kind};
 use std::alloc::Global;
 use std::time::Duration;
@@ -12,7 +12,7 @@ const LONGEST_NAME: usize = 255;
 
 impl World {
     /// What stands at a path.
-    pub fn look(&mut self, path: &str) -> Result<Found, HostError> {
+    pub(crate) fn look(&mut self, path: &str) -> Result<Found, HostError> {
         self.begin(Act::Look, path, "")?;
         let thing = self.thing(path)?;
         let found = self.found(thing)?;
@@ -21,7 +21,7 @@ impl World {
     }
 
     /// What a path leads to.
-    pub fn look_through(&mut self, path: &str) -> Result<Found, HostError> {
+    pub(crate) fn look_through(&mut self, path: &str) -> Result<Found, HostError> {
         self.begin(Act::Look, path, "")?;
         let thing = self.end(path)?;
         let found = self.found(thing)?;
@@ -30,7 +30,7 @@ impl World {
     }
 
     /// What a handle has open.
-    pub fn look_at(&mut self, handle: usize) -> Result<Found, HostError> {
+    pub(crate) fn look_at(&mut self, handle: usize) -> Result<Found, HostError> {
         let thing = self.begin_at(Act::Look, handle)?;
         let found = self.found(thing)?;
         self.done();
@@ -38,21 +38,16 @@ impl World {
     }
 
     /// The names in a folder, the last one first. One that begins with a backslash isn't UTF-8.
-    pub fn names(&mut self, alloc: Global, folder: &str) -> Result<Vec<String>, HostError> {
+    pub(crate) fn names(&mut self, alloc: Global, folder: &str) -> Result<Vec<String>, HostError> {
         self.begin(Act::Names, folder, "")?;
-        let mut names = Vec::new(alloc);
         let thing = self.end(folder)?;
-        for name in self.names_of(thing)?.iter().rev() {
-            if name.now.is_some() {
-                names.push(String::from_str(alloc, told(name.text.as_str()))?)?;
-            }
-        }
+        let names = told_names(alloc, self.names_of(thing)?)?;
         self.done();
         Ok(names)
     }
 
     /// Whether nothing stands in a folder.
-    pub fn is_empty(&mut self, folder: &str) -> Result<bool, HostError> {
+    pub(crate) fn is_empty(&mut self, folder: &str) -> Result<bool, HostError> {
         self.begin(Act::Names, folder, "")?;
         let thing = self.end(folder)?;
         let is_used = is_used(self.names_of(thing)?);
@@ -61,7 +56,7 @@ impl World {
     }
 
     /// Opens a file or a folder.
-    pub fn open(&mut self, path: &str) -> Result<usize, HostError> {
+    pub(crate) fn open(&mut self, path: &str) -> Result<usize, HostError> {
         self.begin(Act::Open, path, "")?;
         let thing = self.end(path)?;
         let handle = self.hold(thing, path)?;
@@ -70,7 +65,7 @@ impl World {
     }
 
     /// Makes a file where nothing stands, and opens it.
-    pub fn make(&mut self, path: &str) -> Result<usize, HostError> {
+    pub(crate) fn make(&mut self, path: &str) -> Result<usize, HostError> {
         self.begin(Act::Make, path, "")?;
         let bytes = Bytes {
             now: Vec::new(self.alloc),
@@ -83,7 +78,7 @@ impl World {
     }
 
     /// Reads a file.
-    pub fn read(&mut self, handle: usize, into: &mut Vec<u8>) -> Result<(), HostError> {
+    pub(crate) fn read(&mut self, handle: usize, into: &mut Vec<u8>) -> Result<(), HostError> {
         let begun = self.begin_at(Act::Read, handle);
         let is_half = begun.is_err() && !self.plan.is_stopped;
         if begun.is_ok() || is_half {
@@ -97,7 +92,7 @@ impl World {
     }
 
     /// Writes bytes to the end of a file.
-    pub fn write(&mut self, handle: usize, bytes: &[u8]) -> Result<(), HostError> {
+    pub(crate) fn write(&mut self, handle: usize, bytes: &[u8]) -> Result<(), HostError> {
         let begun = self.begin_at(Act::Write, handle);
         let is_half = begun.is_err() && !self.plan.is_stopped;
         if begun.is_ok() || is_half {
@@ -110,7 +105,7 @@ impl World {
     }
 
     /// Gives a file the mode of another.
-    pub fn copy_mode(&mut self, from: &str, handle: usize) -> Result<(), HostError> {
+    pub(crate) fn copy_mode(&mut self, from: &str, handle: usize) -> Result<(), HostError> {
         let _thing = self.begin_at(Act::CopyMode, handle)?;
         let _from = self.thing(from)?;
         self.done();
@@ -118,7 +113,7 @@ impl World {
     }
 
     /// Has what is open on the disk.
-    pub fn sync(&mut self, handle: usize) -> Result<(), HostError> {
+    pub(crate) fn sync(&mut self, handle: usize) -> Result<(), HostError> {
         let thing = self.begin_at(Act::Sync, handle)?;
         self.settle(thing);
         self.done();
@@ -126,7 +121,7 @@ impl World {
     }
 
     /// Asks for a lock, and answers whether it was given. Who acts aside doesn't ask again: that is an error.
-    pub fn try_lock(&mut self, handle: usize, is_alone: bool) -> Result<bool, HostError> {
+    pub(crate) fn try_lock(&mut self, handle: usize, is_alone: bool) -> Result<bool, HostError> {
         let act = if is_alone { Act::Lock } else { Act::Share };
         let thing = self.begin_at(act, handle)?;
         if self.is_barred(thing, handle, is_alone) {
@@ -143,7 +138,7 @@ impl World {
     }
 
     /// Closes a handle, which ends its lock.
-    pub fn close(&mut self, handle: usize) {
+    pub(crate) fn close(&mut self, handle: usize) {
         if self.is_locked(handle) && !self.is_aside {
             let _ = self.note_end(handle);
         }
@@ -153,7 +148,7 @@ impl World {
     }
 
     /// Gives a file another path.
-    pub fn rename(&mut self, from: &str, to: &str) -> Result<(), HostError> {
+    pub(crate) fn rename(&mut self, from: &str, to: &str) -> Result<(), HostError> {
         self.begin(Act::Rename, from, to)?;
         let old = self.spot(from)?;
         let new = self.spot(to)?;
@@ -167,7 +162,7 @@ impl World {
     }
 
     /// Takes a file away.
-    pub fn remove_file(&mut self, path: &str) -> Result<(), HostError> {
+    pub(crate) fn remove_file(&mut self, path: &str) -> Result<(), HostError> {
         self.begin(Act::RemoveFile, path, "")?;
         let spot = self.spot(path)?;
         if let Thing::Folder(_) = &self.node(there(spot)?)?.thing {
@@ -179,7 +174,7 @@ impl World {
     }
 
     /// Makes a folder.
-    pub fn create_dir(&mut self, path: &str) -> Result<(), HostError> {
+    pub(crate) fn create_dir(&mut self, path: &str) -> Result<(), HostError> {
         self.begin(Act::CreateDir, path, "")?;
         let _folder = self.stand(path, Thing::Folder(Vec::new(self.alloc)))?;
         self.done();
@@ -187,7 +182,7 @@ impl World {
     }
 
     /// Takes an empty folder away.
-    pub fn remove_dir(&mut self, path: &str) -> Result<(), HostError> {
+    pub(crate) fn remove_dir(&mut self, path: &str) -> Result<(), HostError> {
         self.begin(Act::RemoveDir, path, "")?;
         let spot = self.spot(path)?;
         if is_used(self.names_of(there(spot)?)?) {
@@ -199,7 +194,7 @@ impl World {
     }
 
     /// The time since 1970, or since some moment.
-    pub fn time(&mut self) -> Result<Duration, HostError> {
+    pub(crate) fn time(&mut self) -> Result<Duration, HostError> {
         self.begin(Act::Clock, "", "")?;
         Ok(Duration::from_micros(self.glance()))
     }
@@ -252,7 +247,7 @@ impl World {
     }
 
     /// Opens a thing for somebody, with a lock.
-    pub fn hold_by(
+    pub(crate) fn hold_by(
         &mut self,
         owner: Owner,
         thing: usize,
@@ -288,7 +283,7 @@ impl World {
     }
 
     /// The bytes of a file.
-    pub fn bytes(&self, file: usize) -> Result<&[u8], HostError> {
+    pub(crate) fn bytes(&self, file: usize) -> Result<&[u8], HostError> {
         match &self.node(file)?.thing {
             Thing::File(bytes) => Ok(bytes.now.as_slice()),
             _ => Err(HostError::Other),
@@ -350,6 +345,17 @@ fn bars(held: &Option<Held>, thing: usize, is_alone: bool) -> bool {
             Lock::Shared => is_alone,
             Lock::Alone => true,
         }
+}
+
+/// What a host tells of names that lead to something, the last one first.
+fn told_names(alloc: Global, names: &[Name]) -> Result<Vec<String>, HostError> {
+    let mut listed = Vec::new(alloc);
+    for name in names.iter().rev() {
+        if name.now.is_some() {
+            listed.push(String::from_str(alloc, told(name.text.as_str()))?)?;
+        }
+    }
+    Ok(listed)
 }
 
 /// What a host tells of a name.

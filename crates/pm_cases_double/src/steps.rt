@@ -26,7 +26,7 @@ pub enum Act {
 
 impl Act {
     /// The word for a call.
-    pub fn word(self) -> &'static str {
+    fn word(self) -> &'static str {
         match self {
             Act::Look => "look",
             Act::Names => "names",
@@ -48,7 +48,7 @@ impl Act {
     }
 
     /// Whether a power loss may leave something else after the call than before it.
-    pub fn is_change(self) -> bool {
+    fn is_change(self) -> bool {
         matches!(
             self,
             Act::Make
@@ -62,7 +62,7 @@ impl Act {
     }
 
     /// Whether the call is one that changes something, has it on the disk, or concerns a lock.
-    pub fn is_told(self) -> bool {
+    fn is_told(self) -> bool {
         self.is_change() || matches!(self, Act::CopyMode | Act::Lock | Act::Share | Act::Unlock)
     }
 }
@@ -77,11 +77,11 @@ pub enum End {
 
 /// A call with its number, its path, of a rename both, and what came of it.
 pub struct Step {
-    pub number: u64,
-    pub act: Act,
-    pub path: String,
-    pub to: String,
-    pub end: End,
+    number: u64,
+    act: Act,
+    path: String,
+    to: String,
+    pub(crate) end: End,
 }
 
 impl Drop for Step {
@@ -98,7 +98,7 @@ impl Drop for Step {
 
 impl Step {
     /// A call that was refused so far.
-    pub fn new(
+    pub(crate) fn new(
         alloc: Global,
         number: u64,
         act: Act,
@@ -114,8 +114,23 @@ impl Step {
         })
     }
 
+    /// The number of the call.
+    pub fn number(&self) -> u64 {
+        self.number
+    }
+
+    /// Whether the call was done, and a power loss may leave something else after it than before it.
+    pub fn is_change(&self) -> bool {
+        self.is_done() && self.act.is_change()
+    }
+
+    /// Whether the call was done, and changes something, has it on the disk, or concerns a lock.
+    pub fn is_told(&self) -> bool {
+        self.is_done() && self.act.is_told()
+    }
+
     /// Whether the call was done.
-    pub fn is_done(&self) -> bool {
+    fn is_done(&self) -> bool {
         matches!(self.end, End::Done)
     }
 
@@ -125,7 +140,7 @@ impl Step {
     }
 
     /// Whether the call asked for the lock of what is at a path, and it wasn't given.
-    pub fn is_refused_lock(&self, path: &str) -> bool {
+    pub(crate) fn is_refused_lock(&self, path: &str) -> bool {
         matches!(self.act, Act::Lock | Act::Share)
             && matches!(self.end, End::Refused)
             && self.path.as_str() == path
@@ -151,14 +166,16 @@ fn below_table(path: &str) -> &str {
     path.strip_prefix("t/").unwrap_or(path)
 }
 
-/// Which calls fail, by their numbers, with which kind of error. A failed write leaves half of what it was given, and a
-/// failed read gives half of what is there, unless the process was stopped: then no call does anything any more.
+/// Which calls fail, by their numbers, with which kind of error, and before which one a rival acts, if not 0. A failed
+/// write leaves half of what it was given, and a failed read gives half of what is there, unless the process was
+/// stopped: then no call does anything any more.
 #[derive(Clone, Copy)]
 pub struct Plan {
-    pub first: u64,
-    pub last: u64,
-    pub error: HostError,
-    pub is_stopped: bool,
+    first: u64,
+    last: u64,
+    pub(crate) error: HostError,
+    pub(crate) is_stopped: bool,
+    pub(crate) meets_at: u64,
 }
 
 impl Plan {
@@ -169,6 +186,7 @@ impl Plan {
             last: 0,
             error: HostError::Other,
             is_stopped: false,
+            meets_at: 0,
         }
     }
 
@@ -179,6 +197,7 @@ impl Plan {
             last: u64::MAX,
             error: HostError::Other,
             is_stopped: true,
+            meets_at: 0,
         }
     }
 
@@ -189,6 +208,7 @@ impl Plan {
             last: call,
             error,
             is_stopped: false,
+            meets_at: 0,
         }
     }
 
@@ -199,11 +219,19 @@ impl Plan {
             last: u64::MAX,
             error,
             is_stopped: false,
+            meets_at: 0,
         }
     }
 
+    /// A rival acts before a call.
+    pub fn met_at(call: u64) -> Plan {
+        let mut plan = Plan::healthy();
+        plan.meets_at = call;
+        plan
+    }
+
     /// Whether the call of a number fails.
-    pub fn fails(&self, call: u64) -> bool {
+    pub(crate) fn fails(&self, call: u64) -> bool {
         self.first <= call && call <= self.last
     }
 }

@@ -1,7 +1,7 @@
 //! What a power loss may leave: each name and each file's bytes as the disk may have them, in every combination.
 
-use crate::double::parts::{Name, Node, Thing};
-use crate::double::world::World;
+use crate::parts::{Name, Node, Thing};
+use crate::world::World;
 use pm_folder_store::HostError;
 use std::alloc::Global;
 

@@ -111,11 +111,20 @@ impl Bytes {
 }
 
 /// What stands somewhere. A link leads to a thing or to nothing.
-#[derive(Drop)]
 pub enum Thing {
     File(Bytes),
     Folder(Vec<Name>),
     Link(Option<usize>),
+}
+
+impl Drop for Thing {
+    fn drop(self) {
+        match self {
+            Thing::File(bytes) => {}
+            Thing::Folder(names) => {}
+            Thing::Link(_) => {}
+        }
+    }
 }
 
 /// A thing, when its content changed last, in microseconds since 1970, and the folder around it, if it is a folder.

@@ -1,8 +1,0 @@
-//! A double of an operating system, in memory.
-
-pub mod calls;
-pub mod images;
-pub mod parts;
-pub mod seat;
-pub mod steps;
-pub mod world;
