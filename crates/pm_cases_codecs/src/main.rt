@@ -82,12 +82,7 @@
 //! Digits are hexadecimal. Any other argument is the text itself, or `0x` and the digits of its bytes.
 #![tactic(auto)]
 
-mod avro;
-mod avro_datum;
-mod avro_file;
-mod avro_record;
 mod binary_row;
-mod datum;
 mod file;
 mod folder;
 mod levels;
@@ -104,6 +99,7 @@ mod table;
 mod text;
 
 use pm_cases::Case;
+use pm_cases_avro::{avro_answer, avro_file_answer};
 use pm_cases_runs::DRAFT;
 use std::alloc::AllocError;
 use std::io;
@@ -151,10 +147,8 @@ fn answer_text(rt: &HostRuntime, case: &mut Case, codec: &str, arguments: &str) 
 /// What is answered of a file, or else of what is tried.
 fn answer_file(rt: &HostRuntime, case: &mut Case, codec: &str, arguments: &str) {
     match codec {
-        "avro-type" | "avro-datum" | "avro-write" | "record" => avro::answer(
-            case, codec, arguments,
-        ),
-        "avro-file" => avro_file::answer(case, arguments),
+        "avro-type" | "avro-datum" | "avro-write" | "record" => avro_answer(case, codec, arguments),
+        "avro-file" => avro_file_answer(case, arguments),
         "draft" => schema::draft_answer(case, arguments),
         "schema" => schema::answer(case, arguments),
         "snapshot" | "snapshot-text" => snapshot::answer(case, codec, arguments),

@@ -1,9 +1,9 @@
 //! Manifest lists and manifests of so many records as are asked for, written.
 
-use crate::avro_file::say_counts;
 use crate::file::{file_of, keys_of};
 use crate::live::entry_of;
 use pm_cases::{Case, say_sum};
+use pm_cases_avro::say_counts;
 use pm_manifest::{Entry, ManifestMeta};
 use pm_manifest_writer::{write_list, write_manifest};
 use pm_schema::TableSchema;

@@ -11,7 +11,7 @@ use pm_values::Blob;
 const MOST_BLOCKS: usize = 64;
 
 /// The offset of the first block, and the blocks.
-pub fn answer(case: &mut Case, digits: &str) {
+pub fn avro_file_answer(case: &mut Case, digits: &str) {
     let bytes = case.digits(digits);
     match FileReader::open(case.alloc(), Blob::new(bytes)) {
         Ok(reader) => answer_of(case, reader),

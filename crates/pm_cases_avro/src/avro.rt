@@ -8,7 +8,7 @@ use pm_avro_schema::{AvroFault, AvroType, parse, print};
 use pm_cases::Case;
 
 /// What a codec answers of the type that a text declares, or the text's fault. After a TAB stands what else it takes.
-pub fn answer(case: &mut Case, codec: &str, arguments: &str) {
+pub fn avro_answer(case: &mut Case, codec: &str, arguments: &str) {
     let (schema, rest) = arguments.split_once('\t').unwrap_or((arguments, ""));
     let schema = case.bytes(schema);
     match parse(case.alloc(), &schema) {
