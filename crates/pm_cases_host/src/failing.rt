@@ -3,10 +3,10 @@
 use crate::outcomes::Outcomes;
 use crate::process::{open_store, said_of};
 use crate::shown::shows;
-use crate::trial::{Trial, play_acts};
+use crate::trial::{Trial, play_acts, told};
 use pm_cases::Case;
 use pm_cases_double::{Nobody, Plan, Seat, Step, World, held, lent};
-use pm_folder_store::HostError;
+use pm_folder_store::{FolderStore, HostError};
 use std::alloc::Global;
 use std::cell::RefCell;
 
@@ -29,26 +29,50 @@ fn say_fails_by(
     is_lasting: bool,
 ) -> Result<(), HostError> {
     let mut outcomes = Outcomes::new(trial.alloc);
+    let added = add_fails(&mut outcomes, trial, calls, error, is_lasting);
+    outcomes.say_counts(case);
+    drop(outcomes);
+    added
+}
+
+/// Adds what comes of each failure.
+fn add_fails(
+    outcomes: &mut Outcomes,
+    trial: &Trial,
+    calls: u64,
+    error: HostError,
+    is_lasting: bool,
+) -> Result<(), HostError> {
     for call in 1..calls.saturating_add(1) {
         let plan = if is_lasting {
             Plan::from(call, error)
         } else {
             Plan::once(call, error)
         };
-        add_failed(&mut outcomes, trial, plan)?;
+        add_failed(outcomes, trial, plan)?;
     }
-    outcomes.say_counts(case);
-    drop(outcomes);
     Ok(())
 }
 
 /// Adds what comes of the last act where calls of the host fail, and of the same act once more when none fails.
 fn add_failed(outcomes: &mut Outcomes, trial: &Trial, plan: Plan) -> Result<(), HostError> {
     let world = trial.world()?;
+    let added = add_failed_in(outcomes, trial, &world, plan);
+    drop(world);
+    added
+}
+
+/// The same in a world.
+fn add_failed_in(
+    outcomes: &mut Outcomes,
+    trial: &Trial,
+    world: &RefCell<World>,
+    plan: Plan,
+) -> Result<(), HostError> {
     let mut case = Case::new(trial.alloc);
-    say_failed(&mut case, trial, &world, plan)?;
-    let text = case.into_answer()?;
-    let call = first_failed(trial.alloc, lent(&world)?.steps())?;
+    let said = say_failed(&mut case, trial, world, plan);
+    let text = told(case, said)?;
+    let call = first_failed(trial.alloc, lent(world)?.steps())?;
     outcomes.add_after(text.as_str(), call.as_str())
 }
 
@@ -61,20 +85,42 @@ fn say_failed(
     plan: Plan,
 ) -> Result<(), HostError> {
     let mut store = open_store(trial.alloc, Seat::new(world, Nobody))?;
-    let answer = play_acts(trial, world, &mut store, trial.count(), plan)?;
-    case.say(answer.as_str());
-    say_left(case, trial, world)?;
-    held(world)?.heal();
-    let answer = said_of(world, &mut store, trial.last())?;
-    case.say(" then ");
-    case.say(answer.as_str());
-    say_left(case, trial, world)?;
+    let said = say_twice(case, trial, world, &mut store, plan);
     drop(store);
+    said
+}
+
+/// The same with the process's store.
+fn say_twice(
+    case: &mut Case,
+    trial: &Trial,
+    world: &RefCell<World>,
+    store: &mut FolderStore<Seat<'_, Nobody>>,
+    plan: Plan,
+) -> Result<(), HostError> {
+    let answer = play_acts(trial, world, store, trial.count(), plan)?;
+    say_left(case, trial, world, answer)?;
+    heal(world)?;
+    case.say(" then ");
+    let answer = said_of(world, store, trial.last())?;
+    say_left(case, trial, world, answer)
+}
+
+/// Has no call of the host fail any more.
+fn heal(world: &RefCell<World>) -> Result<(), HostError> {
+    held(world)?.heal();
     Ok(())
 }
 
-/// Says what the folder shows, and whether the process has left anything open.
-fn say_left(case: &mut Case, trial: &Trial, world: &RefCell<World>) -> Result<(), HostError> {
+/// Says an answer, what the folder shows, and whether the process has left anything open.
+fn say_left(
+    case: &mut Case,
+    trial: &Trial,
+    world: &RefCell<World>,
+    answer: String,
+) -> Result<(), HostError> {
+    case.say(answer.as_str());
+    drop(answer);
     case.say(" ");
     case.say(shows(trial, world)?.as_str());
     if lent(world)?.is_open() {

@@ -24,16 +24,26 @@ pub fn said_of<H: Host + Drop>(
     store: &mut FolderStore<H>,
     act: &str,
 ) -> Result<String, HostError> {
-    let alloc = lent(world)?.alloc();
-    let (word, _rest) = split_at_blank(act);
-    match word {
+    let alloc = alloc_of(world)?;
+    match split_at_blank(act).0 {
         "wait" => {
-            held(world)?.wait();
+            wait(world)?;
             Ok(String::from_str(alloc, "later")?)
         }
         "other" | "foreign" => said_beside(world, act),
         _ => Ok(said(alloc, store, act)?),
     }
+}
+
+/// The allocator of a world.
+fn alloc_of(world: &RefCell<World>) -> Result<Global, HostError> {
+    Ok(lent(world)?.alloc())
+}
+
+/// Has two seconds pass.
+fn wait(world: &RefCell<World>) -> Result<(), HostError> {
+    held(world)?.wait();
+    Ok(())
 }
 
 /// Whether an act is a call of the process's own store.
@@ -45,15 +55,26 @@ pub fn is_own_call(act: &str) -> bool {
 /// `other CALL`, a call of another process's store. Answers what that one was answered.
 pub fn said_beside(world: &RefCell<World>, act: &str) -> Result<String, HostError> {
     let (word, rest) = split_at_blank(act);
-    let alloc = lent(world)?.alloc();
+    let alloc = alloc_of(world)?;
     if word == "foreign" {
-        put_word(&mut *held(world)?, rest)?;
+        put(world, rest)?;
         return Ok(String::from_str(alloc, "made")?);
     }
     held(world)?.begin_aside();
     let answer = said_by_another(alloc, world, rest);
-    held(world)?.end_aside();
+    end_aside(world)?;
     answer
+}
+
+/// Ends the process that acts beside.
+fn end_aside(world: &RefCell<World>) -> Result<(), HostError> {
+    held(world)?.end_aside();
+    Ok(())
+}
+
+/// Puts what a word of a state says.
+fn put(world: &RefCell<World>, word: &str) -> Result<(), HostError> {
+    put_word(&mut *held(world)?, word)
 }
 
 /// What another process's store answers to a call.

@@ -2,7 +2,7 @@
 
 use crate::outcomes::Outcomes;
 use crate::process::open_store;
-use crate::trial::Trial;
+use crate::trial::{Trial, told};
 use pm_cases::{Case, say_between};
 use pm_cases_calls::say_content;
 use pm_cases_double::{Nobody, Seat, World, held, lent};
@@ -17,11 +17,11 @@ const MOST_IMAGES: u64 = 4096;
 /// What the paths show that a trial asks for: in the folder as it is, and then whatever else in its images.
 pub fn shows(trial: &Trial, world: &RefCell<World>) -> Result<String, HostError> {
     let mut outcomes = Outcomes::new(trial.alloc);
-    add_shows(&mut outcomes, trial, world)?;
+    let added = add_shows(&mut outcomes, trial, world);
     let mut case = Case::new(trial.alloc);
     outcomes.say(&mut case, " or ");
     drop(outcomes);
-    Ok(case.into_answer()?)
+    told(case, added)
 }
 
 /// Adds what the images of a world show, and answers how many there are.
@@ -35,38 +35,55 @@ pub fn add_shows(
         return Err(HostError::Other);
     }
     for number in 0..count {
-        let image = lent(world)?.image(number)?;
-        let text = shown(trial, RefCell::new(image))?;
+        let text = shown_in(trial, world, number)?;
         outcomes.add(text.as_str())?;
     }
     Ok(count)
 }
 
-/// What the paths show in an image, and whether anything else that stood there isn't as it was.
-fn shown(trial: &Trial, world: RefCell<World>) -> Result<String, HostError> {
-    held(&world)?.begin_aside();
+/// What the paths show in the image of a number.
+fn shown_in(trial: &Trial, world: &RefCell<World>, number: u64) -> Result<String, HostError> {
+    let image = RefCell::new(lent(world)?.image(number)?);
     let mut case = Case::new(trial.alloc);
-    say_asked(&mut case, trial, &world)?;
-    if is_harmed(trial, &*lent(&world)?)? {
+    let said = say_shown(&mut case, trial, &image);
+    drop(image);
+    told(case, said)
+}
+
+/// Says what the paths show in an image, and whether anything else that stood there isn't as it was.
+fn say_shown(case: &mut Case, trial: &Trial, image: &RefCell<World>) -> Result<(), HostError> {
+    held(image)?.begin_aside();
+    say_asked(case, trial, image)?;
+    if is_harmed(trial, &*lent(image)?)? {
         case.say(" harmed");
     }
-    drop(world);
-    Ok(case.into_answer()?)
+    Ok(())
 }
 
 /// Says what the paths show.
-fn say_asked(case: &mut Case, trial: &Trial, world: &RefCell<World>) -> Result<(), HostError> {
-    let mut store = open_store(trial.alloc, Seat::new(world, Nobody))?;
+fn say_asked(case: &mut Case, trial: &Trial, image: &RefCell<World>) -> Result<(), HostError> {
+    let mut store = open_store(trial.alloc, Seat::new(image, Nobody))?;
+    let said = say_paths(case, trial, image, &mut store);
+    drop(store);
+    said
+}
+
+/// The same through a store.
+fn say_paths(
+    case: &mut Case,
+    trial: &Trial,
+    image: &RefCell<World>,
+    store: &mut FolderStore<Seat<'_, Nobody>>,
+) -> Result<(), HostError> {
     let mut is_later = false;
     for path in trial.asked.split(' ') {
         say_between(case, is_later, " ");
         match path.strip_prefix('/') {
-            Some(place) => say_place(case, &*lent(world)?, place),
-            None => say_path(case, &mut store, path),
+            Some(place) => say_place(case, &*lent(image)?, place),
+            None => say_path(case, store, path),
         }
         is_later = true;
     }
-    drop(store);
     Ok(())
 }
 

@@ -5,9 +5,10 @@ use crate::process::is_own_call;
 use crate::shown::{add_shows, shows};
 use crate::trial::{Played, Trial, play};
 use pm_cases::{Case, say_between};
-use pm_cases_double::{Plan, Step, lent};
+use pm_cases_double::{Plan, Step, World, lent};
 use pm_folder_store::HostError;
 use std::alloc::Global;
+use std::cell::RefCell;
 
 /// Says the answer of each act, with the changes, the syncs and the locks that it asked the host for, in their order.
 pub fn say_calls(case: &mut Case, trial: &Trial) -> Result<(), HostError> {
@@ -58,20 +59,44 @@ fn say_images_of(
     played: &Played,
 ) -> Result<(), HostError> {
     case.say(":");
-    let ends = stops(trial.alloc, lent(&played.world)?.steps())?;
     let mut during = Outcomes::new(trial.alloc);
-    for end in &ends {
-        let stopped = play(trial, count, Plan::stop(*end))?;
-        let images = add_shows(&mut during, trial, &stopped.world)?;
-        case.say_made(format!(in case.alloc(); " {images}"));
-        drop(stopped);
-    }
+    let added = add_stopped(case, &mut during, trial, count, &played.world);
     case.say(", until then ");
     during.say(case, " or ");
     drop(during);
+    added?;
     case.say(", then ");
     case.say(shows(trial, &played.world)?.as_str());
     Ok(())
+}
+
+/// Adds what the folder shows in each image where the last of so many acts is stopped, and says how many there are.
+fn add_stopped(
+    case: &mut Case,
+    during: &mut Outcomes,
+    trial: &Trial,
+    count: usize,
+    world: &RefCell<World>,
+) -> Result<(), HostError> {
+    let ends = stops(trial.alloc, lent(world)?.steps())?;
+    for end in &ends {
+        let images = add_images(during, trial, count, *end)?;
+        case.say_made(format!(in case.alloc(); " {images}"));
+    }
+    Ok(())
+}
+
+/// The same where it is stopped after so many calls of the host. Answers how many images there are.
+fn add_images(
+    during: &mut Outcomes,
+    trial: &Trial,
+    count: usize,
+    end: u64,
+) -> Result<u64, HostError> {
+    let stopped = play(trial, count, Plan::stop(end))?;
+    let images = add_shows(during, trial, &stopped.world);
+    drop(stopped);
+    images
 }
 
 /// After how many calls of the host to stop: before the first one, and after each that changed something.

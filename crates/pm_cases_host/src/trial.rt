@@ -1,6 +1,7 @@
 //! What is tried on a double: acts of a process, one after another.
 
 use crate::process::{open_store, said_of};
+use pm_cases::Case;
 use pm_cases_double::{Nobody, Plan, Seat, World, held, lent, world_of};
 use pm_folder_store::{FolderStore, Host, HostError};
 use std::alloc::Global;
@@ -63,9 +64,25 @@ impl Drop for Played {
 /// Plays so many acts of a process, and ends it. In the last of them calls of the host fail as planned.
 pub fn play(trial: &Trial, count: usize, plan: Plan) -> Result<Played, HostError> {
     let world = trial.world()?;
-    let answer = acted(trial, &world, count, plan)?;
-    held(&world)?.end_watched();
-    Ok(Played { world, answer })
+    match ended(trial, &world, count, plan) {
+        Ok(answer) => Ok(Played { world, answer }),
+        Err(error) => {
+            drop(world);
+            Err(error)
+        }
+    }
+}
+
+/// The same in a world. Answers what the last act was answered.
+fn ended(
+    trial: &Trial,
+    world: &RefCell<World>,
+    count: usize,
+    plan: Plan,
+) -> Result<String, HostError> {
+    let answer = acted(trial, world, count, plan)?;
+    held(world)?.end_watched();
+    Ok(answer)
 }
 
 /// Has a process act so often, and answers what it was answered at last.
@@ -93,8 +110,20 @@ pub fn play_acts<H: Host + Drop>(
     let mut left = count;
     for act in trial.acts.split(';').take(count) {
         left = left.saturating_sub(1);
-        held(world)?.start(if left == 0 { plan } else { Plan::healthy() });
+        start(world, if left == 0 { plan } else { Plan::healthy() })?;
         answer = said_of(world, store, act)?;
     }
     Ok(answer)
+}
+
+/// Begins to count calls of the host anew, with a plan for them.
+fn start(world: &RefCell<World>, plan: Plan) -> Result<(), HostError> {
+    held(world)?.start(plan);
+    Ok(())
+}
+
+/// What was said to a case, where nothing failed.
+pub fn told<T: Drop>(case: Case, said: Result<T, HostError>) -> Result<String, HostError> {
+    let _said = said?;
+    Ok(case.into_answer()?)
 }
