@@ -10,6 +10,7 @@ usage: bench/check_cases.py
 
 import json
 import pathlib
+import re
 
 import reference_files
 from reference_commands import Table, read_words
@@ -18,6 +19,7 @@ from trials import TOP, Tally
 
 CASES = TOP / "crates/pm_cases_commands"
 FOLLOWED = {"open"}  # the options of a run that it follows
+READERS = [["scan"], ["snapshots"]]  # the commands whose session isn't asked for
 
 
 class NotFollowed(Exception):
@@ -37,14 +39,74 @@ class Memory(reference_files.Folder):
         return {path[len(folder) + 1 :].split("/")[0] for path in self.files if path.startswith(f"{folder}/")}
 
 
-def text_of(value):
-    """A text of a case, which may be a list of texts, each with how often it stands or with its numbers."""
-    if isinstance(value, str):
-        return value
-    parts = []
-    for text, times in zip(value[::2], value[1::2]):
-        parts += [text] * times if isinstance(times, int) else [text.replace("#", str(at)) for at in range(*times)]
-    return "".join(parts)
+KINDS = {"+I", "-U", "+U", "-D"}
+
+
+def part_of(names, part, is_digits):
+    """The bytes that a part of a line stands for: a name, a text or digits, JSON, or a list of texts."""
+    if isinstance(part, str):
+        if part in names:
+            return names[part]
+        if is_digits:
+            return part[1:].encode() if part.startswith("'") else bytes.fromhex(part)
+        return part.encode()
+    if isinstance(part, dict) or part and isinstance(part[0], str) and part[0] in KINDS:
+        return json.dumps(part, ensure_ascii=False, separators=(",", ":"), sort_keys=True).encode()
+    found = []
+    for item in part:
+        if isinstance(item, str):
+            found.append(part_of(names, item, is_digits))
+            last = item.removeprefix("'") if is_digits else item
+        elif isinstance(item, int):
+            found[-1] *= item
+        else:
+            numbers = range(*item) if item[0] <= item[1] else range(*item[::-1])[::-1]
+            found[-1] = b"".join(last.replace("#", str(at)).encode() for at in numbers)
+    return b"".join(found)
+
+
+def in_full(names, line):
+    """A line whose parts are bytes, so that a `run` has its input and an `edit` is a `put`."""
+    kind = line[0]
+    if kind == "put":
+        return ["put", line[1], part_of(names, line[2], True)]
+    if kind == "edit":
+        return ["put", line[1], names[line[2]].replace(line[3].encode(), line[4].encode(), 1)]
+    if kind == "run":
+        options = line[5] if len(line) > 5 else {}
+        data = b"".join(part_of(names, part, False) + b"\n" for part in line[4])
+        return ["run", *line[1:4], data[:-1] if "open" in options else data, options]
+    if kind == "before":
+        return ["before", line[1], in_full(names, line[2])]
+    return line
+
+
+def cut(line, most):
+    """A line, where a command runs once for so many lines of its input."""
+    if line[0] != "run":
+        return [line]
+    texts = re.findall(rb"[^\n]*\n|[^\n]+", line[4])
+    pieces = [b"".join(texts[at : at + most]) for at in range(0, len(texts), most)] or [b""]
+    return [["run", line[1] + at, *line[2:4], piece, line[5]] for at, piece in enumerate(pieces)]
+
+
+def lines_in_full(text):
+    """The lines of a case file in full: without names and notes, and `again` as the lines that it stands for."""
+    names, own, is_new = {}, [], True
+    for line in map(json.loads, text.rstrip("\n").split("\n")):
+        if line[0] == "case":
+            is_new = True
+            yield line
+        elif line[0] == "name":
+            names[line[1]] = part_of(names, line[2], True)
+        elif line[0] == "again":
+            for kept in own:
+                yield from cut(kept, line[1])
+        elif line[0] != "note":
+            own = [] if is_new else own
+            is_new = False
+            own.append(in_full(names, line))
+            yield own[-1]
 
 
 def checksum(data):
@@ -64,13 +126,13 @@ class Case:
     def follow(self, line):
         """Does a line; gives what it has to print and what it prints."""
         if line[0] == "put":
-            self.folder.files[line[1]] = bytes.fromhex(text_of(line[2]))
+            self.folder.files[line[1]] = line[2]
         elif line[0] == "as" and line[1] in self.ended:
             self.folder.files |= self.ended[line[1]]
         elif line[0] == "take":
             self.folder.files.pop(line[1], None)
-        elif line[0] == "run" and set(line[5] if len(line) > 5 else {}) <= FOLLOWED:
-            return self.run(*line[1:])
+        elif line[0] == "run" and set(line[5]) <= FOLLOWED:
+            return self.run(*line[1:5])
         elif line[0] == "files":
             return self.list_files(line[1:] == ["sum"])
         else:
@@ -78,11 +140,9 @@ class Case:
         self.is_own = False
         return [], []
 
-    def run(self, number, now, words, lines, options=()):
-        data = "".join(text_of(line) + "\n" for line in lines)
-        data = (data[:-1] if "open" in options else data).encode()
+    def run(self, number, now, words, data):
         session = f"00000000-0000-0000-0000-{number:012x}"
-        if any(session in path for path in self.folder.files):
+        if words[:1] not in READERS and any(session in path for path in self.folder.files):
             raise NotFollowed
         try:
             printed, status = self.answer(words, data, session, now), 0
@@ -122,19 +182,16 @@ class Case:
 def main():
     tally, case, name, at, ended = Tally(), None, "", 0, {}
     answers = (CASES / "stdout").read_text().split("\n")
-    for text in (CASES / "stdin").read_text().split("\n"):
-        line = json.loads(text) if text.startswith("[") else []
-        if line[:1] == ["case"]:
+    for line in lines_in_full((CASES / "stdin").read_text()):
+        if line[0] == "case":
             if case:
                 ended[name] = case.folder.files
             name = line[1]
             at = answers.index(f"== {name}", at) + 1
             case = Case(answers[at:], ended)
-        elif line[:1] == ["note"]:
-            continue
-        elif line and case is None:
+        elif case is None:
             tally.add("lines left out")
-        elif line:
+        else:
             try:
                 wanted, found = case.follow(line)
                 case.answers = case.answers[len(found) :]
@@ -144,7 +201,7 @@ def main():
                 tally.add("lines left out")
                 continue
             if wanted != found:
-                tally.breaks(f"{name}, {text[:300]}", f"{found[:5]} in the place of {wanted[:5]}")
+                tally.breaks(f"{name}, {str(line)[:300]}", f"{found[:5]} in the place of {wanted[:5]}")
                 case = None
     tally.end()
 

@@ -1,5 +1,6 @@
 //! The cases of a case file, one after another.
 
+use crate::names::Names;
 use crate::store::CaseStore;
 use pm_store::Planned;
 use std::alloc::{AllocError, Global};
@@ -17,15 +18,25 @@ impl Drop for Case {
     }
 }
 
-/// The case under way, and those before it with the stores that they ended with.
+/// The case under way, those before it with the stores that they ended with, all names, and the lines of the last case
+/// that has its own.
 pub struct Cases {
     last: Case,
     earlier: Vec<Case>,
+    names: Names,
+    lines: Vec<String>,
+    is_new: bool,
 }
 
 impl Drop for Cases {
     fn drop(self) {
-        let Cases { last, earlier } = self;
+        let Cases {
+            last,
+            earlier,
+            names,
+            lines,
+            is_new,
+        } = self;
     }
 }
 
@@ -35,7 +46,40 @@ impl Cases {
         Cases {
             last: new_case(alloc, String::new(alloc)),
             earlier: Vec::new(alloc),
+            names: Names::new(alloc),
+            lines: Vec::new(alloc),
+            is_new: true,
         }
+    }
+
+    /// All names so far.
+    pub fn names(&self) -> &Names {
+        &self.names
+    }
+
+    /// Gives a name to bytes.
+    pub fn add_name(&mut self, name: String, bytes: Vec<u8>) -> Result<(), AllocError> {
+        self.names.add(name, bytes)
+    }
+
+    /// Keeps a line of the case under way, and those of an earlier case no longer.
+    pub fn keep_line(&mut self, alloc: Global, line: &str) -> Result<(), AllocError> {
+        if self.is_new {
+            self.lines.clear();
+            self.is_new = false;
+        }
+        self.lines.push(String::from_str(alloc, line)?)?;
+        Ok(())
+    }
+
+    /// Takes out the lines of the last case that has its own.
+    pub fn take_lines(&mut self, alloc: Global) -> Vec<String> {
+        mem::replace(&mut self.lines, Vec::new(alloc))
+    }
+
+    /// Gives these lines back.
+    pub fn give_lines(&mut self, lines: Vec<String>) {
+        drop(mem::replace(&mut self.lines, lines));
     }
 
     /// The store of the case under way.
@@ -47,6 +91,7 @@ impl Cases {
     pub fn begin(&mut self, alloc: Global, name: String) -> Result<String, AllocError> {
         let ended = mem::replace(&mut self.last, new_case(alloc, name));
         self.earlier.push(ended)?;
+        self.is_new = true;
         format!(in alloc; "== {}\n", self.last.name.as_str())
     }
 

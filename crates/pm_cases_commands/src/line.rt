@@ -8,9 +8,17 @@ use std::alloc::{AllocError, AllocFailed};
 #[derive(Drop)]
 pub enum Line {
     Case { name: String },
+    Again { most: u64 },
+    Name { name: String, bytes: Vec<u8> },
+    Note,
+    Step(Step),
+}
+
+/// What a line of a case says.
+#[derive(Drop)]
+pub enum Step {
     Store { plan: Vec<Planned> },
     As { name: String },
-    Note,
     Do(Deed),
     Before(Act),
     Calls,
