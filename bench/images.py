@@ -27,7 +27,8 @@ from kills import MERGING, batch, quiet
 from trials import DRAFT, Ended, Tally, random_of, read_arguments, run, work_folder
 
 CALLS = "openat open creat write pwrite64 fsync fdatasync rename renameat renameat2 unlink unlinkat mkdir mkdirat rmdir"
-OTHERS = "ftruncate link linkat symlink symlinkat truncate writev"  # none of these is known below
+CALLS += " ftruncate"
+OTHERS = "link linkat symlink symlinkat truncate writev"  # none of these is known below
 FEW = 6  # so many pending names are tried in every combination
 CHOICES = 24  # of more, so many combinations are chosen beside those with one name and with all but one
 CONTENTS = 3  # so often the bytes of files that aren't synced are chosen for each combination
@@ -110,6 +111,8 @@ class Disk:
             return self.follow_open(texts[0], rest, (process, answer))
         if call in ("write", "pwrite64", "fsync", "fdatasync"):
             return self.follow_file(call, texts, (process, int(re.match(r"\d+", rest)[0])))
+        if call == "ftruncate":
+            return self.follow_cut(process, rest)
         if call.startswith("rename"):
             (folder, name), (to, new) = self.place(texts[0]), self.place(texts[1])
             to.put(new, folder.names[name])
@@ -129,6 +132,14 @@ class Disk:
             folder.put(name, File())
         self.open[number] = self.find(path)
         return is_made
+
+    def follow_cut(self, process, rest):
+        """A file that is cut to nothing has to be empty: then nothing changes."""
+        number, size = re.match(r"(\d+), (\d+)", rest).groups()
+        what = self.open.get((process, int(number)))
+        if what is not None and (int(size) or what.data):
+            raise ValueError("a file with bytes is cut")
+        return False
 
     def follow_file(self, call, texts, number):
         what = self.open.get(number)

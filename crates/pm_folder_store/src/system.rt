@@ -1,5 +1,5 @@
-//! The operating system as a host. It is believed without a case: each function is one call of the kit, and decides
-//! nothing.
+//! The operating system as a host. It is believed without a case: each function is one call of the kit, `make` two,
+//! and decides nothing.
 
 use crate::host::{Found, Host, HostError, Kind};
 use std::alloc::Global;
@@ -85,8 +85,11 @@ impl<R: Files<File = File> + AllocGlobal + Clock + Clone + Drop> Host for System
         Ok(File::open(&self.rt, path)?)
     }
 
+    /// It is cut to nothing, so that ext4 has its bytes on their way to the disk once it is closed.
     fn make(&mut self, path: &str) -> Result<File, HostError> {
-        Ok(File::create_new(&self.rt, path)?)
+        let file = File::create_new(&self.rt, path)?;
+        let _ = file.set_len(0);
+        Ok(file)
     }
 
     fn read(&mut self, file: &mut File, into: &mut Vec<u8>) -> Result<(), HostError> {
