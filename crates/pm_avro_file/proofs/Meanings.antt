@@ -1,5 +1,5 @@
 -- The metadata's type, and the header that has it.
-use Rattle.std.proofs.Common.{◌≡◌, ℕ, List, Option, Some, None, Bool, true, false, ◌⊎◌, inl, inr, refl, ap, ◌∙◌}
+use Rattle.std.proofs.Common.{◌≡◌, ℕ, List, Option, Some, None, Bool, true, false, ◌⊎◌, inl, inr, refl, ap, ap₂, ◌∙◌}
 use Rattle.std.specs.Prelude.{Result, Ok, Err, codes}
 use Rattle.std.specs.Str.{bytes_eq, is_utf8, IsUtf8}
 use Rattle.std.proofs.lemmas.Bool.{false_from_ne_true}
@@ -72,3 +72,9 @@ pub codec_nameless : (name : List ℕ) → (IsUtf8 name → ⊥) → codec_fault
 codec_nameless name other =
     let no : is_utf8 name ≡ false = false_from_ne_true (is_utf8 name) (λ yes. other (IsUtf8-from_is_utf8 name yes)) in
     rw no refl
+
+-- ---- the same text
+
+-- metadata with one codec and one text give one type
+pub kind_same : (pairs others : Pairs) → schema_in pairs ≡ schema_in others → codec_in pairs ≡ codec_in others → kind_in pairs ≡ kind_in others
+kind_same pairs others schema codec = ap₂ unpacked codec (ap declared_by schema)

@@ -74,7 +74,7 @@ fn entries_in(datum: Datum) -> Option<Vec<(Txt, Datum)>>
 }
 
 /// The value of a key: where it stands more than once its last one.
-fn last_value<'a>(entries: &'a [(Txt, Datum)], key: &str) -> Option<&'a [u8]>
+pub(crate) fn last_value<'a>(entries: &'a [(Txt, Datum)], key: &str) -> Option<&'a [u8]>
     ensures { option_map (λ b. b.now) result ≡ last_value key.now (pairs_view entries.now) }
 {
     let mut found = None;

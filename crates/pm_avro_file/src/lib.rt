@@ -6,18 +6,23 @@
 //! `specs/Header.antt`, and the bytes that are written in `specs/Writing.antt`. The laws speak of the relations alone,
 //! and of what the calls answer.
 //!
+//! The type of a file can be known from another one (`KnownType`): where both headers have the same text of it, that is
+//! read as a type once.
+//!
 //! Reading goes on in the slice that is left, takes time linear in the bytes, and holds one decoded block, which takes
 //! no more memory than the block's bytes allow (`Room` of `pm_avro_data`).
 #![tactic(auto)]
 
 mod block;
 mod header;
+mod known;
 mod laws;
 mod part;
 mod reader;
 mod stop;
 mod writing;
 
+pub use known::KnownType;
 pub use laws::{
     damaged_file_law, one_answer_law, one_block_law, one_file_law, one_opening_law, reread_law,
     unread_file_law, whole_file_law,

@@ -9,17 +9,19 @@ ghost use Rattle.pm_avro_data.specs.HasType.{HasType};
 ghost use Rattle.pm_avro_file.specs.Reader.{Reader, Opens, AnswersAt, Advances};
 
 use crate::block::answer_at;
-use crate::header::{kind_in, read_preamble};
+use crate::header::{Preamble, read_preamble};
+use crate::known::{KnownType, kind_by};
 use crate::stop::Stop;
 use pm_avro_data::Datum;
 use pm_avro_schema::{AvroFault, AvroType};
-use pm_base::Blob;
+use pm_base::{Blob, Txt};
 use std::alloc::Global;
 use std::marker::Model;
 
 /// A file that is read block by block, from the first on or at offsets that were answered. Offsets are in bytes.
 pub struct FileReader {
     bytes: Blob,
+    entries: Vec<(Txt, Datum)>,
     kind: AvroType,
     marker: [u8; 16],
     first: usize,
@@ -31,6 +33,7 @@ impl Drop for FileReader {
     fn drop(self) {
         let FileReader {
             bytes,
+            entries,
             kind,
             marker,
             first,
@@ -41,12 +44,14 @@ impl Drop for FileReader {
 }
 
 impl Model for FileReader {
-    ghost use Rattle.std.specs.Prelude.{◌≤◌, length, option_map};
+    ghost use Rattle.std.specs.Prelude.{◌≡◌, ◌≤◌, length, option_map, Ok};
     ghost use Rattle.pm_avro_schema.specs.View as types;
     ghost use Rattle.std.specs.Coded.{codes};
     ghost use Rattle.pm_avro_schema.specs.Coded.{avro_code};
     ghost use Rattle.pm_avro_schema.specs.Readable.{IsReadable};
+    ghost use Rattle.pm_avro_file.specs.Header.{kind_in};
     ghost use Rattle.pm_avro_file.specs.Reader.{Reader, stop_fault};
+    ghost use Rattle.pm_avro_file.specs.Views.{pairs_view};
 
     ghost Value = { Reader };
 
@@ -62,7 +67,7 @@ impl Model for FileReader {
     } };
 
     ghost invariant = { λ r. (r.first ≤ length r.bytes) × (r.offset ≤ length r.bytes)
-        × IsReadable (types.view r.kind) };
+        × IsReadable (types.view r.kind) × (kind_in (pairs_view r.entries.items) ≡ Ok (types.view r.kind)) };
 }
 
 impl FileReader {
@@ -71,18 +76,52 @@ impl FileReader {
     pub fn open(alloc: Global, bytes: Blob) -> Result<FileReader, AvroFault>
         ensures { Opens bytes result }
     {
+        FileReader::open_by(alloc, bytes, None)
+    }
+
+    /// The same. A type that is known from another file isn't read again where the text of this one's is the same.
+    pub fn open_by(
+        alloc: Global,
+        bytes: Blob,
+        known: Option<&KnownType>,
+    ) -> Result<FileReader, AvroFault>
+        ensures { Opens bytes result }
+    {
         let Some(preamble) = read_preamble(alloc, bytes.as_bytes())? else {
             return Err(AvroFault::Bad(0));
         };
-        let kind = kind_in(alloc, &preamble.entries)?;
+        let kind = kind_by(alloc, &preamble.entries, known)?;
+        let Preamble {
+            entries,
+            marker,
+            size,
+        } = preamble;
         Ok(FileReader {
             bytes,
+            entries,
             kind,
-            marker: preamble.marker,
-            first: preamble.size,
-            offset: preamble.size,
+            marker,
+            first: size,
+            offset: size,
             stop: None,
         })
+    }
+
+    /// The type of the data, as the reader of another file may know it.
+    pub fn into_known(self) -> KnownType
+        ensures { result ≡ self.kind }
+    {
+        let FileReader {
+            bytes,
+            entries,
+            kind,
+            marker,
+            first,
+            offset,
+            stop,
+        } = self;
+        drop(bytes);
+        KnownType { entries, kind }
     }
 
     /// The type of the data, of which more may be written.

@@ -6,4 +6,4 @@ mod list_reader;
 mod manifest_reader;
 
 pub use list_reader::read_list;
-pub use manifest_reader::read_manifest;
+pub use manifest_reader::{read_manifest, read_manifest_by};

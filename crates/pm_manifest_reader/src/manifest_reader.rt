@@ -23,14 +23,14 @@ ghost use Rattle.pm_manifest_reader.specs.Taken.{name_found, row_found, time_fou
 
 use crate::field_values::FieldValues;
 use pm_avro_data::Datum;
-use pm_avro_file::FileReader;
+use pm_avro_file::{FileReader, KnownType};
 use pm_avro_schema::AvroType;
 use pm_base::{Blob, Txt};
 use pm_binrow::{BinFault, from_binary};
 use pm_manifest::Entry;
 use pm_manifest_shape::{MOST_COUNTED, MOST_ID, MOST_SEQUENCE, TableShape, read_natural};
 use pm_record::{
-    Misfit, ReadRecord, Selection, damaged, field_kind, open_file, present, read_int, read_long,
+    Misfit, ReadRecord, Selection, damaged, field_kind, open_file_by, present, read_int, read_long,
     read_records, take_bytes, take_text,
 };
 use pm_schema::TableSchema;
@@ -67,8 +67,35 @@ pub fn read_manifest(
     ensures { ReadsFile has_entry_fields (entry_in (shape_of schema.now)) path.now bytes
         (seen (λ v. v.items) result) }
 {
-    let file = open_file(alloc, path, bytes)?;
-    read_entries(alloc, path, schema, &file)
+    match read_manifest_by(alloc, path, schema, bytes, None) {
+        Ok((entries, known)) => {
+            drop(known);
+            Ok(entries)
+        }
+        Err(refusal) => Err(refusal),
+    }
+}
+
+/// The same, and the type of its records, by which the next manifest is read. A type that is known from another one
+/// isn't read again where the text of this one's is the same.
+pub fn read_manifest_by(
+    alloc: Global,
+    path: &str,
+    schema: &TableSchema,
+    bytes: Blob,
+    known: Option<&KnownType>,
+) -> Result<(Vec<Entry>, KnownType), Refusal>
+    ensures { ReadsFile has_entry_fields (entry_in (shape_of schema.now)) path.now bytes
+        (seen (λ x. x.0.items) result) }
+{
+    let file = open_file_by(alloc, path, bytes, known)?;
+    match read_entries(alloc, path, schema, &file) {
+        Ok(entries) => Ok((entries, file.into_known())),
+        Err(refusal) => {
+            drop(file);
+            Err(refusal)
+        }
+    }
 }
 
 /// The entries that the opened file at a path of a table has.

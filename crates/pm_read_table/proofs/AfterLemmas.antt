@@ -1,5 +1,5 @@
 -- What a reader goes on with after an answer, and what it refuses, by what the parts of the code say.
-use Rattle.std.proofs.Common.{◌≡◌, ◌⊎◌, inl, inr, ℕ, ◌≤◌, Bool, true, false, not, ◌&&◌, if◌then◌else◌, List, [], ◌∷◌, ◌++◌, length, Option, None, Some, Result, Ok, Err, IfOk, IfErr, Vec, refl, sym, ap, ◌∙◌, subst}
+use Rattle.std.proofs.Common.{◌≡◌, ◌⊎◌, inl, inr, ℕ, ◌≤◌, Bool, true, false, not, ◌&&◌, if◌then◌else◌, List, [], ◌∷◌, ◌++◌, length, Option, None, Some, Result, Ok, Err, IfOk, IfErr, Vec, drop, refl, sym, ap, ◌∙◌, subst, arith}
 use Rattle.std.specs.Global.{Global}
 use Rattle.std.specs.List.{AllByRecursion}
 use Rattle.pm_base.proofs.Laws.{AllByRecursion-append}
@@ -126,6 +126,11 @@ lists_refuse s left files refusal none (ended, over) = no_overlap s refusal (sub
 pub next_on : (q : SoughtView) (x : Snapshot) (done left : List ManifestMeta) (meta : ManifestMeta) (rest : List ManifestMeta) (files : Filed) (kept : List Entry)
     (later : Phase) → left ≡ meta ∷ rest → GoesOn q x done (meta ∷ rest) files kept later → GoesOn q x done left files kept later
 next_on q x done left meta rest files kept later is on = subst (λ (left : List ManifestMeta). GoesOn q x done left files kept later) (sym is) on
+
+-- a list that is what is left of it without its first has nothing
+pub nothing_left : {X : Type 0} (xs rest : List X) → xs ≡ rest → rest ≡ drop 1 xs → xs ≡ []
+nothing_left [] rest all more = refl
+nothing_left (x ∷ xs) rest all more = absurd (omega (arith, ap length all, ap length more))
 
 pub ready_on : (q : SoughtView) (x : Snapshot) (done left : List ManifestMeta) (files : Filed) (kept : List Entry) (v : View) → left ≡ []
     → IsViewOf q.asked.schema x done kept (live_of files) v → IsSoughtBy q v → GoesOn q x done left files kept (phases.Ready v)

@@ -27,10 +27,11 @@ use crate::phase::Phase;
 use crate::reading::Reading;
 use crate::view::View;
 use indexmap::IndexMap;
+use pm_avro_file::KnownType;
 use pm_base::{Blob, Txt};
 use pm_levels::Levels;
 use pm_manifest::{Entry, FileId, ManifestMeta, fold_entries, read_entry_law};
-use pm_manifest_reader::{read_list, read_manifest};
+use pm_manifest_reader::{read_list, read_manifest_by};
 use pm_model_contents::{folder_law, group_levels, live_law};
 use pm_paths::{ids_of, latest_of, manifest_path, schema_path, snapshot_path};
 use pm_snapshot::{SnapFault, Snapshot, read_snapshot};
@@ -315,6 +316,7 @@ fn after_lists(
             VecDeque::from(manifests),
             IndexMap::new(alloc),
             Vec::new(alloc),
+            None,
         ),
         Err(_) => {
             drop(sought);
@@ -344,7 +346,8 @@ fn joined(
     }
 }
 
-/// The phase with these manifests read and those left, these live files and the entries that were kept.
+/// The phase with these manifests read and those left, these live files, the entries that were kept, and the type of
+/// the last manifest's records.
 fn go_on(
     alloc: Global,
     sought: Sought,
@@ -353,6 +356,7 @@ fn go_on(
     left: VecDeque<ManifestMeta>,
     live: IndexMap<FileId, Entry>,
     kept: Vec<Entry>,
+    known: Option<KnownType>,
 ) -> Result<Phase, Refusal>
     requires named { AreNamed (get id_eq live) }
     requires folders { HaveFolders sought.asked.schema (get id_eq live) }
@@ -373,10 +377,12 @@ fn go_on(
                 rest,
                 live,
                 kept,
+                known,
             },
         }),
         None => {
             drop(rest);
+            drop(known);
             match view_of(alloc, sought, snapshot, done, live, kept) {
                 Ok(view) => Ok(Phase::Ready { view }),
                 Err(refusal) => Err(refusal),
@@ -486,6 +492,7 @@ fn again(reading: Reading, path: Txt) -> Phase
         rest,
         live,
         kept,
+        known,
     } = reading;
     let id = snapshot.id;
     drop(snapshot);
@@ -494,6 +501,7 @@ fn again(reading: Reading, path: Txt) -> Phase
     drop(rest);
     drop(live);
     drop(kept);
+    drop(known);
     Phase::Again {
         asked: sought.into_asked(),
         id,
@@ -510,8 +518,9 @@ fn after_file(alloc: Global, reading: Reading, path: Txt, bytes: Blob) -> Result
 {
     read_entry_law();
     folder_law();
-    match read_manifest(alloc, path.as_str(), reading.sought.schema(), bytes) {
-        Ok(entries) => after_entries(alloc, reading, path, entries),
+    let schema = reading.sought.schema();
+    match read_manifest_by(alloc, path.as_str(), schema, bytes, reading.known.as_ref()) {
+        Ok((entries, known)) => after_entries(alloc, reading, path, entries, known),
         Err(refusal) => {
             drop(reading);
             Err(refusal)
@@ -519,12 +528,13 @@ fn after_file(alloc: Global, reading: Reading, path: Txt, bytes: Blob) -> Result
     }
 }
 
-/// The phase once these entries of the next manifest, which is at this path, were read.
+/// The phase once these entries of the next manifest, which is at this path, were read, as records of this type.
 fn after_entries(
     alloc: Global,
     reading: Reading,
     path: Txt,
     entries: Vec<Entry>,
+    own: KnownType,
 ) -> Result<Phase, Refusal>
     requires fit { HaveGroups reading.sought.asked.schema entries.items }
     ensures goes { IfOk result (Takes reading entries.items) }
@@ -540,7 +550,9 @@ fn after_entries(
         rest,
         live,
         kept,
+        known,
     } = reading;
+    drop(known);
     let (mut done, mut live, mut kept) = (done, live, kept);
     live_law();
     let wanted = sought.wanted();
@@ -552,6 +564,7 @@ fn after_entries(
         drop(rest);
         drop(live);
         drop(kept);
+        drop(own);
         return Err(refusal);
     }
     if done.push(next).is_err() {
@@ -561,9 +574,10 @@ fn after_entries(
         drop(rest);
         drop(live);
         drop(kept);
+        drop(own);
         return Err(Refusal::Memory);
     }
-    go_on(alloc, sought, snapshot, done, rest, live, kept)
+    go_on(alloc, sought, snapshot, done, rest, live, kept, Some(own))
 }
 
 /// Takes the entries of the manifest at a path into the live files, and into those that are kept, where they are asked

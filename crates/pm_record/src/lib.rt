@@ -30,7 +30,7 @@ mod writing;
 pub use index::all_differ;
 pub use laws::{absent_law, one_reading_law, present_law, records_law, selected_law, written_law};
 pub use misfit::Misfit;
-pub use reading::{ReadRecord, damaged, open_file, read_block, read_records};
+pub use reading::{ReadRecord, damaged, open_file, open_file_by, read_block, read_records};
 pub use record::{field_kind, present};
 pub use scalar::{read_boolean, read_int, read_long, take_bytes, take_text};
 pub use selection::Selection;

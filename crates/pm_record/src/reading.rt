@@ -12,7 +12,7 @@ ghost use Rattle.pm_record.specs.File.{OpensFile, ReadsBlock, ReadsAll, seen};
 
 use crate::misfit::Misfit;
 use pm_avro_data::Datum;
-use pm_avro_file::FileReader;
+use pm_avro_file::{FileReader, KnownType};
 use pm_avro_schema::{AvroFault, AvroType};
 use pm_base::{Blob, Txt};
 use pm_values::Refusal;
@@ -73,7 +73,19 @@ pub fn damaged(alloc: Global, path: &str, offset: usize) -> Refusal
 pub fn open_file(alloc: Global, path: &str, bytes: Blob) -> Result<FileReader, Refusal>
     ensures { OpensFile path.now bytes result }
 {
-    match FileReader::open(alloc, bytes) {
+    open_file_by(alloc, path, bytes, None)
+}
+
+/// The same. A type that is known from another file isn't read again where the text of this one's is the same.
+pub fn open_file_by(
+    alloc: Global,
+    path: &str,
+    bytes: Blob,
+    known: Option<&KnownType>,
+) -> Result<FileReader, Refusal>
+    ensures { OpensFile path.now bytes result }
+{
+    match FileReader::open_by(alloc, bytes, known) {
         Ok(file) => Ok(file),
         Err(fault) => Err(refusal(alloc, path, fault)),
     }

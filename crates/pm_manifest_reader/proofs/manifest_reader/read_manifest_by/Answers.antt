@@ -2,7 +2,7 @@ use Rattle.std.proofs.lemmas.Result.{err_from_is_err_and}
 use Rattle.pm_record.proofs.Facts.{answers_unopened}
 use Rattle.pm_manifest.specs.Entries.{entry_in, has_entry_fields}
 use Rattle.pm_manifest.specs.Shape.{shape_of}
-use Rattle.pm_manifest_reader.proofs.manifest_reader.read_manifest.Goals as goal
+use Rattle.pm_manifest_reader.proofs.manifest_reader.read_manifest_by.Goals as goal
 
 pub returns-in_err-file : goal.returns-in_err-file
 returns-in_err-file c =
