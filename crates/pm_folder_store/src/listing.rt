@@ -3,7 +3,7 @@
 
 use crate::host::{Host, Kind};
 use crate::look::kind_at;
-use crate::paths::is_name;
+use crate::paths::{is_name, place_in};
 use pm_base::Txt;
 use pm_store::StoreFail;
 use std::alloc::Global;
@@ -37,7 +37,7 @@ fn is_shown<H: Host>(
     if !is_name(name) {
         return Ok(false);
     }
-    let path = format!(in alloc; "{folder}/{name}")?;
+    let path = place_in(alloc, folder, name)?;
     match kind_at(host, path.as_str())? {
         None => Ok(false),
         Some(Kind::File) => Ok(true),
@@ -79,7 +79,7 @@ fn has_file<H: Host>(
         if !is_name(name.as_str()) {
             continue;
         }
-        let path = format!(in alloc; "{folder}/{name}")?;
+        let path = place_in(alloc, folder, name.as_str())?;
         match kind_at(host, path.as_str())? {
             None => {}
             Some(Kind::Folder) => folders.push(path)?,
