@@ -16,12 +16,11 @@ use Rattle.pm_model_history.specs.History.{History, no_table, table}
 use Rattle.pm_schema.specs.declared.schema.TableSchema.{TableSchema}
 use Rattle.pm_model_folder.specs.Changes.{Actor}
 use Rattle.pm_model_folder.specs.Folder.{Folder}
-use Rattle.pm_create.specs.Creator.{CreatorView}
-use Rattle.pm_create.specs.Trace.{before_all}
+use Rattle.pm_create.specs.Creator.{CreatorView, NewTable, new_creator, new_table}
 use Rattle.pm_create.specs.Making as making
 use Rattle.pm_create.specs.Making.{DidMake, LeavesFiles, LeavesHistory, IsThere, IsAbsent, IsCaused, IsMadeOrMemory, MakesTables}
 use Rattle.pm_draft.specs.Input.{AnswersDraft, ReadsDraft, RefusesDraft}
-use Rattle.pm_command_create.specs.Create.{created_text, creator, making as draft_making, IsMade, MakesAndPrints, IsDraftOf, StandsForDraft, LeavesTable, SettlesTable, StandsForEither, HadCause, CreatesTable, CreatesTables}
+use Rattle.pm_command_create.specs.Create.{created_text, its_table, making as draft_making, IsMade, MakesAndPrints, IsDraftOf, StandsForDraft, LeavesTable, SettlesTable, StandsForEither, HadCause, CreatesTable, CreatesTables}
 use Rattle.pm_command.specs.Outside.{Start, Outside, outside, IsServed, Prints, actor}
 use Rattle.pm_command.proofs.Uncalled.{at_known, uncalled}
 
@@ -48,35 +47,35 @@ start_stands me h store start = leaves_weaker (making.MayStart me h) (λ f. Fold
 -- ---- the making of a table
 
 -- memory ran out before the first call
-makes_nothing : (m : CreatorView) (store : StoreView) → MakesTables m store store (Err refusals.Memory)
-makes_nothing m store =
-    uncalled (λ first after. (h : History) → LeavesFiles (making.MayStart m.me h) first → making.MakesTable m h first after (Err refusals.Memory)) store
+makes_nothing : (t : NewTable) (store : StoreView) → MakesTables t store store (Err refusals.Memory)
+makes_nothing t store =
+    uncalled (λ first after. (h : History) → LeavesFiles (making.MayStart t.me h) first → making.MakesTable t h first after (Err refusals.Memory)) store
     (λ h start. record {
-      leaves = start_stands m.me h store start;
-      images = images_left (making.MayStart m.me h) (making.StandsForEither m.schema h) (λ f is. inl is.0) store start;
+      leaves = start_stands t.me h store start;
+      images = images_left (making.MayStart t.me h) (making.StandsForEither t.schema h) (λ f is. inl is.0) store start;
       settles = tt;
       cause = tt;
       complete = λ none absent no_fault. tt;
     })
 
-pub not_made : (m : CreatorView) (out : SinkView) (store : StoreView) → IsMade m out out store store (Some refusals.Memory)
-not_made m out store = (Err refusals.Memory, ([], (before_all, (m, inl refl)), Traces-none store), makes_nothing m store, (refl, refl))
+pub not_made : (t : NewTable) (out : SinkView) (store : StoreView) → IsMade t out out store store (Some refusals.Memory)
+not_made t out store = (Err refusals.Memory, ([], inl refl, Traces-none store), makes_nothing t store, (refl, refl))
 
-pub made_refused : (m c : CreatorView) (out : SinkView) (store after : StoreView) (e : Refusal) → c ≡ m → HasTrace (DidMake c (Err e)) store after
-    → MakesTables c store after (Err e) → IsMade m out out store after (Some e)
-made_refused m c out store after e is trace makes =
-    subst (λ (m : CreatorView). IsMade m out out store after (Some e)) is (Err e, trace, makes, (refl, refl))
+pub made_refused : (me : Actor) (s : TableSchema) (c : CreatorView) (out : SinkView) (store after : StoreView) (e : Refusal) → c ≡ new_creator me s
+    → HasTrace (DidMake c.table (Err e)) store after → MakesTables c.table store after (Err e) → IsMade (new_table me s) out out store after (Some e)
+made_refused me s c out store after e is trace makes =
+    subst (λ (c : CreatorView). IsMade c.table out out store after (Some e)) is (Err e, trace, makes, (refl, refl))
 
-pub made_printed : (m c : CreatorView) (out out_after : SinkView) (store after : StoreView) (answer : Option Refusal) → c ≡ m
-    → HasTrace (DidMake c (Ok tt)) store after → MakesTables c store after (Ok tt) → Prints created_text None None out out_after answer
-    → IsMade m out out_after store after answer
-made_printed m c out out_after store after answer is trace makes prints =
-    subst (λ (m : CreatorView). IsMade m out out_after store after answer) is (Ok tt, trace, makes, prints)
+pub made_printed : (me : Actor) (s : TableSchema) (c : CreatorView) (out out_after : SinkView) (store after : StoreView) (answer : Option Refusal)
+    → c ≡ new_creator me s → HasTrace (DidMake c.table (Ok tt)) store after → MakesTables c.table store after (Ok tt)
+    → Prints created_text None None out out_after answer → IsMade (new_table me s) out out_after store after answer
+made_printed me s c out out_after store after answer is trace makes prints =
+    subst (λ (c : CreatorView). IsMade c.table out out_after store after answer) is (Ok tt, trace, makes, prints)
 
 -- ---- what is answered
 
 pub made_acts : (start : Start) (s : TableSchema) (before after : Outside) (answer : Option Refusal)
-    → IsMade (creator start s) before.out after.out before.store after.store answer → MakesAndPrints (creator start s) before after answer
+    → IsMade (its_table start s) before.out after.out before.store after.store answer → MakesAndPrints (its_table start s) before after answer
 made_acts start s before after answer (made, trace, makes, prints) = (made, trace, prints)
 
 -- ---- a history
@@ -169,7 +168,7 @@ module _ (start : Start) (bytes : List ℕ) (s : TableSchema) (draft : IsDraftOf
   either f (inl folder) = inl folder
   either f (inr (none, folder)) = inr (none, draft_stands start bytes s draft f folder)
 
-  done_table : (before after : Outside) (answer : Option Refusal) → after.input.left ≡ Some [] → making.MakesTable (creator start s) h first after.store (Ok tt)
+  done_table : (before after : Outside) (answer : Option Refusal) → after.input.left ≡ Some [] → making.MakesTable (its_table start s) h first after.store (Ok tt)
       → Prints created_text None None before.out after.out answer → CreatesTable start h bytes first before after answer
   done_table before after None left makes prints = record {
     done = λ none. (left, prints);
@@ -190,18 +189,18 @@ module _ (start : Start) (bytes : List ℕ) (s : TableSchema) (draft : IsDraftOf
       })
 
   -- or it wasn't
-  not_leaves : (e : Refusal) (after : StoreView) → IsCaused (creator start s) h first after (Err e) → (f : Files) → LeavesHistory s h (Err e) f
+  not_leaves : (e : Refusal) (after : StoreView) → IsCaused (its_table start s) h first after (Err e) → (f : Files) → LeavesHistory s h (Err e) f
       → LeavesTable start bytes (Some e) h f
   not_leaves (refusals.SinkFault snapshot) after caused f leaves = absurd caused
   not_leaves (refusals.StoreFault path) after caused f (inl folder) = inl folder
   not_leaves (refusals.StoreFault path) after caused f (inr (at, none, folder)) = inr (at, none, draft_stands start bytes s draft f folder)
   not_leaves e after caused f leaves = leaves
 
-  not_settles : (e : Refusal) (after : StoreView) → IsCaused (creator start s) h first after (Err e) → SettlesTable start bytes (Some e) after
+  not_settles : (e : Refusal) (after : StoreView) → IsCaused (its_table start s) h first after (Err e) → SettlesTable start bytes (Some e) after
   not_settles (refusals.SinkFault snapshot) after caused = absurd caused
   not_settles e after caused = tt
 
-  not_cause : (e : Refusal) (after : StoreView) → IsCaused (creator start s) h first after (Err e) → HadCause start h first (Some e)
+  not_cause : (e : Refusal) (after : StoreView) → IsCaused (its_table start s) h first after (Err e) → HadCause start h first (Some e)
   not_cause refusals.TableExists after caused = caused
   not_cause (refusals.SessionUsed path) after (is, there) = (is, subst (λ (path : List ℕ). IsThere path first) is there)
   not_cause e after caused = tt
@@ -210,7 +209,7 @@ module _ (start : Start) (bytes : List ℕ) (s : TableSchema) (draft : IsDraftOf
   not_served refusals.Memory is = tt
   not_served e is = absurd is
 
-  not_table : (before after : Outside) (e : Refusal) → making.MakesTable (creator start s) h first after.store (Err e)
+  not_table : (before after : Outside) (e : Refusal) → making.MakesTable (its_table start s) h first after.store (Err e)
       → CreatesTable start h bytes first before after (Some e)
   not_table before after e makes = record {
     done = λ none. absurd (some_none e none);
@@ -222,7 +221,7 @@ module _ (start : Start) (bytes : List ℕ) (s : TableSchema) (draft : IsDraftOf
   }
 
   either_way : (before after : Outside) (made : Result (Unit {0}) Refusal) (answer : Option Refusal) → after.input.left ≡ Some []
-      → making.MakesTable (creator start s) h first after.store made → Prints created_text None (result_err made) before.out after.out answer
+      → making.MakesTable (its_table start s) h first after.store made → Prints created_text None (result_err made) before.out after.out answer
       → CreatesTable start h bytes first before after answer
   either_way before after (Ok x) answer left makes prints = done_table before after answer left makes prints
   either_way before after (Err e) answer left makes (is, untaken) =
@@ -233,7 +232,7 @@ draft_of start bytes s after answers = record { within = answers.within; read = 
 
 made_tables : (start : Start) (s : TableSchema) (before after : Outside) (answer : Option Refusal)
     → IfSome before.input.left (λ bytes. AnswersDraft (draft_making start) bytes after.input (Ok s))
-    → IsMade (creator start s) before.out after.out before.store after.store answer → CreatesTables start before after answer
+    → IsMade (its_table start s) before.out after.out before.store after.store answer → CreatesTables start before after answer
 made_tables start s before after answer read (made, trace, makes, prints) = λ alone h bytes folder is.
     let first = at_first_own before.store after.store in
     let answers = at_known (λ bytes. AnswersDraft (draft_making start) bytes after.input (Ok s)) before.input.left bytes is read in
@@ -242,7 +241,7 @@ made_tables start s before after answer read (made, trace, makes, prints) = λ a
 pub draft_made : (start : Start) (origin : List ℕ) (s : TableSchema) (before after : Outside) (answer : Option Refusal)
     → origin ≡ (draft_making start).origin
     → IfSome before.input.left (λ bytes. ReadsDraft (record { origin = origin; now = start.now }) bytes before.input after.input (Ok s))
-    → IsMade (creator start s) before.out after.out before.store after.store answer → CreatesTables start before after answer
+    → IsMade (its_table start s) before.out after.out before.store after.store answer → CreatesTables start before after answer
 draft_made start origin s before after answer is reads made =
     made_tables start s before after answer
     (subst (λ (origin : List ℕ). IfSome before.input.left (λ bytes. AnswersDraft (record { origin = origin; now = start.now }) bytes after.input (Ok s))) is reads)

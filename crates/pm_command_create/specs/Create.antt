@@ -17,7 +17,7 @@ use Rattle.pm_schema.specs.declared.schema.TableSchema.{TableSchema}
 use Rattle.pm_model_folder.specs.Changes.{origin_name}
 use Rattle.pm_model_folder.specs.Folder.{Folder}
 use Rattle.pm_model_folder.specs.Paths.{schema_path}
-use Rattle.pm_create.specs.Creator.{CreatorView, new_creator, own_origin, origin_call}
+use Rattle.pm_create.specs.Creator.{NewTable, new_table, own_origin}
 use Rattle.pm_create.specs.Making.{DidMake, LeavesFiles, IsThere, IsAbsent, MakesTables, MayStart}
 use Rattle.pm_draft.specs.Draft.{draft_in, IsFirstSchema}
 use Rattle.pm_draft.specs.Input.{Making, AnswersDraft, RefusesDraft, MayRefuseDraft}
@@ -27,31 +27,31 @@ use Rattle.pm_command.specs.Outside.{Start, actor, Outside, IsUntouched, IsServe
 abbrev pub making : Start → Making
 making start = record { origin = origin_name (actor start); now = start.now }
 
--- the maker of a table
-abbrev pub creator : Start → TableSchema → CreatorView
-creator start s = new_creator (actor start) s
+-- the table with a schema that it makes
+abbrev pub its_table : Start → TableSchema → NewTable
+its_table start s = new_table (actor start) s
 
 -- what it prints
 abbrev pub created_text : List ℕ
 created_text = line (codes "created")
 
 -- The calls of the store are those that made a table, or show why it wasn't made; and this was printed of it.
-abbrev pub MakesAndPrints : CreatorView → Outside → Outside → Option Refusal → Type 0
-MakesAndPrints m before after answer =
-    (made : Result (Unit {0}) Refusal) × HasTrace (DidMake m made) before.store after.store
+abbrev pub MakesAndPrints : NewTable → Outside → Outside → Option Refusal → Type 0
+MakesAndPrints t before after answer =
+    (made : Result (Unit {0}) Refusal) × HasTrace (DidMake t made) before.store after.store
     × Prints created_text None (result_err made) before.out after.out answer
 
 -- Private: likewise, with what they do to histories
-abbrev pub IsMade : CreatorView → SinkView → SinkView → StoreView → StoreView → Option Refusal → Type 0
-IsMade m out out_after store store_after answer =
-    (made : Result (Unit {0}) Refusal) × HasTrace (DidMake m made) store store_after
-    × MakesTables m store store_after made × Prints created_text None (result_err made) out out_after answer
+abbrev pub IsMade : NewTable → SinkView → SinkView → StoreView → StoreView → Option Refusal → Type 0
+IsMade t out out_after store store_after answer =
+    (made : Result (Unit {0}) Refusal) × HasTrace (DidMake t made) store store_after
+    × MakesTables t store store_after made × Prints created_text None (result_err made) out out_after answer
 
 -- The input was refused and nothing touched, or it is a draft of a schema and its table was made, or wasn't.
 abbrev pub Creates : (TableSchema → Type 0) → (Refusal → Type 0) → Start → Outside → Outside → Option Refusal → Type 0
 Creates IsDraft Refuses start before after answer =
     ((e : Refusal) × (answer ≡ Some e) × Refuses e × IsUntouched before after)
-    ⊎ ((s : TableSchema) × IsDraft s × MakesAndPrints (creator start s) before after answer)
+    ⊎ ((s : TableSchema) × IsDraft s × MakesAndPrints (its_table start s) before after answer)
 
 -- what `create` answers to an input of these bytes
 abbrev pub AnswersCreate : Start → List ℕ → Outside → Outside → Option Refusal → Type 0

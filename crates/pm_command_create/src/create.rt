@@ -2,7 +2,7 @@
 
 ghost use Rattle.std.specs.Prelude.{◌≡◌, ℕ, List, Some};
 ghost use Rattle.std.specs.Result.{result_err};
-ghost use Rattle.pm_create.specs.Creator.{actor_of, new_creator};
+ghost use Rattle.pm_create.specs.Creator.{actor_of, new_table};
 ghost use Rattle.pm_model_folder.specs.Changes.{origin_name};
 ghost use Rattle.pm_io.specs.Sink.{SinkLater};
 ghost use Rattle.pm_schema.specs.Again.{IsDeclared};
@@ -57,7 +57,7 @@ fn make_table<W: Sink, F: FileStore>(
     requires declared { IsDeclared schema }
     requires first { schema.id ≡ 0 }
     requires origin { schema.origin ≡ Some (origin_name (actor_of session 0)) }
-    ensures made { IsMade (new_creator (actor_of session 0) schema) (W.seen out.old) (W.seen out.new)
+    ensures made { IsMade (new_table (actor_of session 0) schema) (W.seen out.old) (W.seen out.new)
         (F.seen store.old) (F.seen store.new) (result_err result) }
     ensures out_later { SinkLater (W.seen out.old) (W.seen out.new) }
     ensures store_later { IsLater (F.seen store.old) (F.seen store.new) }

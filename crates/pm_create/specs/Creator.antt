@@ -1,5 +1,5 @@
 -- A creator: its phases, its calls, and what each answer leads to.
-use Rattle.std.specs.Prelude.{◌≡◌, ℕ, List, [], Option, None, Some, Ok}
+use Rattle.std.specs.Prelude.{◌≡◌, ℕ, ◌+◌, List, [], Option, None, Some, Ok}
 use Rattle.pm_values.specs.declared.refusal.Refusal.{Refusal}
 use Rattle.pm_values.specs.declared.refusal.Refusal.TheVariants as refusals
 use Rattle.pm_store.specs.declared.answer.Answer.{Answer}
@@ -23,40 +23,47 @@ use Rattle.pm_create.specs.declared.creator.CreateStep.TheVariants as steps
 abbrev pub actor_of : List ℕ → ℕ → Actor
 actor_of session number = record { session = session; number = number }
 
--- who makes the table, its schema and the bytes of the schema's file, and how far it has come
-pub record CreatorView : Type 0 where
+-- a table that is made: who makes it, its schema, and the bytes of the schema's file
+pub record NewTable : Type 0 where
   pub me : Actor
   pub schema : TableSchema
   pub bytes : List ℕ
+
+-- the table with a schema that an actor makes
+abbrev pub new_table : Actor → TableSchema → NewTable
+new_table me s = record { me = me; schema = s; bytes = schema_text s }
+
+-- the table that is made, and how far its making has come
+pub record CreatorView : Type 0 where
+  pub table : NewTable
   pub phase : Phase
 
-abbrev pub seen_as : Actor → TableSchema → List ℕ → Phase → CreatorView
-seen_as me schema bytes phase = record { me = me; schema = schema; bytes = bytes; phase = phase }
+abbrev pub seen_as : NewTable → Phase → CreatorView
+seen_as t phase = record { table = t; phase = phase }
 
 -- the path of the origin that an actor makes
 abbrev pub own_origin : Actor → List ℕ
 own_origin me = snapshot_file (origin_name me)
 
--- the path in a phase is that of the actor's origin
-abbrev pub IsPathOf : Actor → Phase → Type 0
-IsPathOf me (phases.Origin path) = path ≡ own_origin me
-IsPathOf me other = Unit {0}
+-- what a phase holds is the table's: the path of its origin, and the bytes of its schema's file
+abbrev pub IsOf : NewTable → Phase → Type 0
+IsOf t (phases.Origin path bytes) = (path ≡ own_origin t.me) × (bytes ≡ t.bytes)
+IsOf t (phases.Schema bytes) = bytes ≡ t.bytes
+IsOf t other = Unit {0}
 
--- what a creator is: its bytes are read as its schema, in the file of schema 0, and the schema's origin is the actor's
-pub record IsCreator (m : CreatorView) : Type 0 where
-  pub reads : schema_of (schema_path 0) m.bytes ≡ Ok m.schema
-  pub origin : m.schema.origin ≡ Some (origin_name m.me)
-  pub path : IsPathOf m.me m.phase
+-- what a table that is made is: its bytes are read as its schema, in the file of schema 0, and the schema's origin is
+-- the actor's
+pub record IsNewTable (t : NewTable) : Type 0 where
+  pub reads : schema_of (schema_path 0) t.bytes ≡ Ok t.schema
+  pub origin : t.schema.origin ≡ Some (origin_name t.me)
+
+-- what a creator is
+abbrev pub IsCreator : NewTable → Phase → Type 0
+IsCreator t p = IsNewTable t × IsOf t p
 
 -- the creator of an actor's table that has made no call yet
 abbrev pub new_creator : Actor → TableSchema → CreatorView
-new_creator me s = seen_as me s (schema_text s) (phases.Origin (own_origin me))
-
--- the same table of the same actor
-pub record IsSameTable (m new : CreatorView) : Type 0 where
-  pub me : new.me ≡ m.me
-  pub schema : new.schema ≡ m.schema
-  pub bytes : new.bytes ≡ m.bytes
+new_creator me s = seen_as (new_table me s) (phases.Origin (own_origin me) (schema_text s))
 
 -- ---- its calls
 
@@ -68,58 +75,45 @@ origin_call path = calls.Create path []
 abbrev pub schema_call : List ℕ → Call
 schema_call bytes = calls.Swap (schema_path 0) None bytes
 
-abbrev pub call_at : CreatorView → Phase → Option Call
-call_at m (phases.Origin path) = Some (origin_call path)
-call_at m phases.Schema = Some (schema_call m.bytes)
-call_at m phases.Created = None
-call_at m phases.Over = None
-
 -- its next call, or none at its end
-abbrev pub next_call : CreatorView → Option Call
-next_call m = call_at m m.phase
+abbrev pub next_call : Phase → Option Call
+next_call (phases.Origin path bytes) = Some (origin_call path)
+next_call (phases.Schema bytes) = Some (schema_call bytes)
+next_call phases.Created = None
+next_call phases.Over = None
 
 -- how many calls are left, where no refusal comes
-abbrev pub left_at : Phase → ℕ
-left_at (phases.Origin path) = 2
-left_at phases.Schema = 1
-left_at phases.Created = 0
-left_at phases.Over = 0
-
-abbrev pub calls_left : CreatorView → ℕ
-calls_left m = left_at m.phase
+abbrev pub calls_left : Phase → ℕ
+calls_left (phases.Origin path bytes) = 2
+calls_left (phases.Schema bytes) = 1
+calls_left phases.Created = 0
+calls_left phases.Over = 0
 
 -- ---- what answers lead to
 
-abbrev pub at_phase : CreatorView → Phase → CreatorView
-at_phase m phase = record m { phase = phase }
-
 -- the phase after an answer that it goes on with
-abbrev pub GoesAt : Phase → Answer → Phase → Type 0
-GoesAt (phases.Origin path) (answers.Made made.Created) later = later ≡ phases.Schema
-GoesAt phases.Schema (answers.Swapped swaps.Swapped) later = later ≡ phases.Created
-GoesAt phase other later = ⊥
+abbrev pub Goes : Phase → Answer → Phase → Type 0
+Goes (phases.Origin path bytes) (answers.Made made.Created) later = later ≡ phases.Schema bytes
+Goes (phases.Schema bytes) (answers.Swapped swaps.Swapped) later = later ≡ phases.Created
+Goes phase other later = ⊥
 
 -- the refusal that an answer shows: the name of the origin was used before, or there is a table already
-abbrev pub RefusesAt : Phase → Answer → Refusal → Type 0
-RefusesAt (phases.Origin path) (answers.Made made.Exists) refusal = refusal ≡ refusals.SessionUsed path
-RefusesAt phases.Schema (answers.Swapped (swaps.Differs found)) refusal = refusal ≡ refusals.TableExists
-RefusesAt phase other refusal = ⊥
-
-abbrev pub Goes : CreatorView → Answer → CreatorView → Type 0
-Goes m answer new = (later : Phase) × GoesAt m.phase answer later × (new ≡ at_phase m later)
-
-abbrev pub Refuses : CreatorView → Answer → Refusal → CreatorView → Type 0
-Refuses m answer refusal new = RefusesAt m.phase answer refusal × (new ≡ at_phase m phases.Over)
-
-abbrev pub Stops : CreatorView → CreatorView → Type 0
-Stops m new = new ≡ at_phase m phases.Over
+abbrev pub Shown : Phase → Answer → Refusal → Type 0
+Shown (phases.Origin path bytes) (answers.Made made.Exists) refusal = refusal ≡ refusals.SessionUsed path
+Shown (phases.Schema bytes) (answers.Swapped (swaps.Differs found)) refusal = refusal ≡ refusals.TableExists
+Shown phase other refusal = ⊥
 
 -- what a step that goes on has reached
-abbrev pub Reaches : CreateStep → CreatorView → Type 0
-Reaches steps.More new = new.phase ≡ phases.Schema
-Reaches steps.Created new = new.phase ≡ phases.Created
+abbrev pub Reaches : CreateStep → Phase → Type 0
+Reaches steps.More new = (bytes : List ℕ) × (new ≡ phases.Schema bytes)
+Reaches steps.Created new = new ≡ phases.Created
 
 -- Private: the answer of a step that went on, by the phase that it reached
 abbrev pub reached_at : Phase → CreateStep
 reached_at phases.Created = steps.Created
 reached_at other = steps.More
+
+-- one call was made, and what the phase holds is still the table's, whatever that is
+pub record GoesOnce (old new : Phase) : Type 0 where
+  pub fewer : calls_left new + 1 ≡ calls_left old
+  pub holds : (t : NewTable) → IsOf t old → IsOf t new

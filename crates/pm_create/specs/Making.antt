@@ -15,19 +15,19 @@ use Rattle.pm_schema.specs.declared.schema.TableSchema.{TableSchema}
 use Rattle.pm_model_folder.specs.Changes.{Actor}
 use Rattle.pm_model_folder.specs.Folder.{Folder}
 use Rattle.pm_model_folder.specs.Paths.{schema_path}
-use Rattle.pm_create.specs.Creator.{CreatorView, own_origin, origin_call}
+use Rattle.pm_create.specs.Creator.{NewTable, own_origin, origin_call}
 use Rattle.pm_create.specs.Meaning.{IsFreeOrigin}
-use Rattle.pm_create.specs.Trace.{made_origin, made_table, Ended, Shows}
+use Rattle.pm_create.specs.Trace.{made_origin, made_table, Shows}
 
--- The calls of the making of a table, by its answer: the origin was made and then the schema swapped in; or they are
--- calls of this creator that ended before that, and show the refusal.
-abbrev pub DidMake : CreatorView → Result (Unit {0}) Refusal → List Event → Type 0
-DidMake m (Ok x) own = own ≡ made_origin m ∷ made_table m ∷ []
-DidMake m (Err refusal) own = Ended m own × Shows refusal own
+-- The calls of the making of a table, by its answer: the origin was made and then the schema swapped in; or they show
+-- the refusal.
+abbrev pub DidMake : NewTable → Result (Unit {0}) Refusal → List Event → Type 0
+DidMake t (Ok x) own = own ≡ made_origin t ∷ made_table t ∷ []
+DidMake t (Err refusal) own = Shows t refusal own
 
 -- its first call
-abbrev pub first_call : CreatorView → Call
-first_call m = origin_call (own_origin m.me)
+abbrev pub first_call : NewTable → Call
+first_call t = origin_call (own_origin t.me)
 
 -- the store's operations are known, and leave files with P
 abbrev pub LeavesFiles : (Files → Type 0) → StoreView → Type 0
@@ -54,13 +54,13 @@ IsAbsent path store = LeavesFiles (λ f. map.get f path ≡ None) store
 
 -- What a refusal needs at the first call: its session is used only where the origin's path is there, and a table exists
 -- only where there is one. A fault of the store was counted since.
-abbrev pub IsCaused : CreatorView → History → StoreView → StoreView → Result (Unit {0}) Refusal → Type 0
-IsCaused m h first after (Ok x) = Unit {0}
-IsCaused m h first after (Err refusals.Memory) = Unit {0}
-IsCaused m h first after (Err (refusals.SessionUsed path)) = (path ≡ own_origin m.me) × IsThere path first
-IsCaused m h first after (Err refusals.TableExists) = h ≢ no_table
-IsCaused m h first after (Err (refusals.StoreFault path)) = Rose first.faults after.faults
-IsCaused m h first after (Err other) = ⊥
+abbrev pub IsCaused : NewTable → History → StoreView → StoreView → Result (Unit {0}) Refusal → Type 0
+IsCaused t h first after (Ok x) = Unit {0}
+IsCaused t h first after (Err refusals.Memory) = Unit {0}
+IsCaused t h first after (Err (refusals.SessionUsed path)) = (path ≡ own_origin t.me) × IsThere path first
+IsCaused t h first after (Err refusals.TableExists) = h ≢ no_table
+IsCaused t h first after (Err (refusals.StoreFault path)) = Rose first.faults after.faults
+IsCaused t h first after (Err other) = ⊥
 
 -- the table was made, or memory ran out
 abbrev pub IsMadeOrMemory : Result (Unit {0}) Refusal → Type 0
@@ -71,13 +71,13 @@ IsMadeOrMemory (Err other) = ⊥
 -- What the making of a table does to a history that stands at its first call, where nobody else acts from then on. Once
 -- the table is made each image stands for it, and before that each image stands for the history or for this table,
 -- where there was none. Where there is no table, the origin's path is absent and no fault is counted, it is made.
-pub record MakesTable (m : CreatorView) (h : History) (first after : StoreView) (result : Result (Unit {0}) Refusal)
+pub record MakesTable (t : NewTable) (h : History) (first after : StoreView) (result : Result (Unit {0}) Refusal)
     : Type 0 where
-  pub leaves : LeavesFiles (LeavesHistory m.schema h result) after
-  pub images : Extends (StandsForEither m.schema h) first.ops after.ops
-  pub settles : IfOk result (λ x. Extends (λ f. Folder f (table m.schema [])) after.ops after.ops)
-  pub cause : IsCaused m h first after result
-  pub complete : h ≡ no_table → IsAbsent (own_origin m.me) first → (Rose first.faults after.faults → ⊥)
+  pub leaves : LeavesFiles (LeavesHistory t.schema h result) after
+  pub images : Extends (StandsForEither t.schema h) first.ops after.ops
+  pub settles : IfOk result (λ x. Extends (λ f. Folder f (table t.schema [])) after.ops after.ops)
+  pub cause : IsCaused t h first after result
+  pub complete : h ≡ no_table → IsAbsent (own_origin t.me) first → (Rose first.faults after.faults → ⊥)
       → IsMadeOrMemory result
 
 -- The files stand for the history, and the actor's origin isn't one that went with an old snapshot of its table: no
@@ -86,7 +86,7 @@ abbrev pub MayStart : Actor → History → Files → Type 0
 MayStart me h f = Folder f h × IsFreeOrigin (own_origin me) f h
 
 -- what it promises of histories, from its first call on
-abbrev pub MakesTables : CreatorView → StoreView → StoreView → Result (Unit {0}) Refusal → Type 0
-MakesTables m before after result =
-    FromFirst (λ first after. (h : History) → LeavesFiles (MayStart m.me h) first → MakesTable m h first after result)
+abbrev pub MakesTables : NewTable → StoreView → StoreView → Result (Unit {0}) Refusal → Type 0
+MakesTables t before after result =
+    FromFirst (λ first after. (h : History) → LeavesFiles (MayStart t.me h) first → MakesTable t h first after result)
     before after

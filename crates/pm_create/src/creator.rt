@@ -1,8 +1,9 @@
 //! The maker of a table.
 
 ghost use Rattle.std.specs.Prelude.{◌≡◌, ◌+◌, ◌<◌, Some, IfOk, OnOk, OnErr};
-ghost use Rattle.pm_create.specs.Creator.{actor_of, calls_left, new_creator, reached_at};
-ghost use Rattle.pm_create.specs.Creator.{IsCreator, IsSameTable, Reaches};
+ghost use Rattle.pm_create.specs.Creator.{actor_of, calls_left, new_creator};
+ghost use Rattle.pm_create.specs.Creator.{IsCreator, Reaches};
+ghost use Rattle.pm_create.specs.declared.phase.Phase.TheVariants as phases;
 ghost use Rattle.pm_create.specs.Meaning.{CreatorMoved};
 ghost use Rattle.pm_create.specs.Trace.{CreatorActed};
 ghost use Rattle.pm_model_folder.specs.Changes.{origin_name};
@@ -12,7 +13,7 @@ ghost use Rattle.pm_store.specs.Store.{IsLater};
 use crate::names::origin_name;
 use crate::phase::Phase;
 use pm_base::Blob;
-use pm_machine::step;
+use pm_machine::{Running, make_step};
 use pm_paths::snapshot_file;
 use pm_schema::{TableSchema, schema_law};
 use pm_schema_file::write_schema;
@@ -33,8 +34,7 @@ pub struct Creator {
     session: [u8; 16],
     actor: u32,
     schema: TableSchema,
-    pub(crate) bytes: Blob,
-    pub(crate) phase: Phase,
+    running: Running<Phase>,
 }
 
 impl Drop for Creator {
@@ -43,20 +43,19 @@ impl Drop for Creator {
             session,
             actor,
             schema,
-            bytes,
-            phase,
+            running,
         } = self;
     }
 }
 
 impl Model for Creator {
-    ghost use Rattle.pm_create.specs.Creator.{actor_of, CreatorView, IsCreator, seen_as};
+    ghost use Rattle.pm_create.specs.Creator.{actor_of, new_table, seen_as, CreatorView, IsCreator};
 
     ghost Value = { CreatorView };
 
-    ghost view = { λ c. seen_as (actor_of c.session c.actor) c.schema c.bytes c.phase };
+    ghost view = { λ c. seen_as (new_table (actor_of c.session c.actor) c.schema) c.running };
 
-    ghost invariant = { λ c. IsCreator (seen_as (actor_of c.session c.actor) c.schema c.bytes c.phase) };
+    ghost invariant = { λ c. IsCreator (new_table (actor_of c.session c.actor) c.schema) c.running };
 }
 
 impl Creator {
@@ -71,7 +70,7 @@ impl Creator {
         requires first { schema.id ≡ 0 }
         requires origin { schema.origin ≡ Some (origin_name (actor_of session actor)) }
         ensures is_new { IfOk result (λ c. c ≡ new_creator (actor_of session actor) schema) }
-        ensures is_creator { IfOk result IsCreator }
+        ensures is_creator { IfOk result (λ c. IsCreator c.table c.phase) }
     {
         schema_law();
         let name = origin_name(alloc, session, actor)?;
@@ -84,15 +83,14 @@ impl Creator {
             session,
             actor,
             schema,
-            bytes,
-            phase: Phase::Origin { path },
+            running: Running::new(Phase::Origin { path, bytes }),
         })
     }
 
     /// The table's schema.
     pub fn schema(&self) -> &TableSchema
-        ensures schema { result.now ≡ self.now.schema }
-        ensures is_creator { IsCreator self.now }
+        ensures schema { result.now ≡ self.now.table.schema }
+        ensures is_creator { IsCreator self.now.table self.now.phase }
     {
         &self.schema
     }
@@ -103,28 +101,15 @@ impl Creator {
         alloc: Global,
         store: &mut F,
     ) -> Result<CreateStep, Refusal>
-        requires { 0 < calls_left self.old }
-        ensures moves { CreatorMoved self.old self.new (F.seen store.old) (F.seen store.new) }
-        ensures acts { CreatorActed self.old self.new (F.seen store.old) (F.seen store.new) result }
-        ensures same { IsSameTable self.old self.new }
-        ensures reaches { IfOk result (λ step. Reaches step self.new) }
-        ensures fewer { OnOk result (calls_left self.new + 1 ≡ calls_left self.old) }
-        ensures over { OnErr result (calls_left self.new ≡ 0) }
+        requires { 0 < calls_left self.old.phase }
+        ensures moves { CreatorMoved self.old.phase self.new.phase (F.seen store.old) (F.seen store.new) }
+        ensures acts { CreatorActed self.old.phase self.new.phase (F.seen store.old) (F.seen store.new) result }
+        ensures same { self.new.table ≡ self.old.table }
+        ensures reaches { IfOk result (λ step. Reaches step self.new.phase) }
+        ensures fewer { OnOk result (calls_left self.new.phase + 1 ≡ calls_left self.old.phase) }
+        ensures over { OnErr result (self.new.phase ≡ phases.Over) }
         ensures later { IsLater (F.seen store.old) (F.seen store.new) }
     {
-        match step(alloc, self, store) {
-            Ok(()) => Ok(self.reached()),
-            Err(refusal) => Err(refusal),
-        }
-    }
-
-    /// What a step that went on has reached.
-    fn reached(&self) -> CreateStep
-        ensures { result ≡ reached_at self.now.phase }
-    {
-        match self.phase {
-            Phase::Created => CreateStep::Created,
-            _ => CreateStep::More,
-        }
+        make_step(alloc, &mut self.running, store)
     }
 }

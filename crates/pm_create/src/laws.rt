@@ -1,9 +1,10 @@
 //! Laws of creators. Each holds with no call but of pm_model_folder's law.
 
 ghost use Rattle.std.specs.Prelude.{◌≡◌, List, Some};
-ghost use Rattle.pm_create.specs.Creator.{CreatorView, next_call};
+ghost use Rattle.pm_create.specs.Creator.{next_call, NewTable};
 ghost use Rattle.pm_create.specs.Meaning.{Begins, Knows, Makes};
 ghost use Rattle.pm_create.specs.Trace.{Shows};
+ghost use Rattle.pm_create.specs.declared.phase.Phase.{Phase};
 ghost use Rattle.pm_model_folder.specs.Changes.{Actor, Change};
 ghost use Rattle.pm_model_folder.specs.Folder.{Folder};
 ghost use Rattle.pm_model_history.specs.History.{History};
@@ -18,28 +19,30 @@ use pm_model_folder::kept_law;
 
 /// What a creator knows stays true through each kind of change of every other actor.
 pub fn known_law()
-    ensures { (m : CreatorView) (other : Actor) (f after : Files) (h later : History) → Folder f h
-        → Change other f h after later → Knows m f h → Knows m after later }
+    ensures { (t : NewTable) (m : Phase) (other : Actor) (f after : Files) (h later : History) → Folder f h
+        → Change other f h after later → Knows t m f h → Knows t m after later }
 {}
 
 /// Through a creator's own changes the files stand for the history that they stood for at first, or for this table
 /// where that was none.
 pub fn begins_law()
-    ensures { (m : CreatorView) (first : History) → Lasts Folder (Makes m) (λ f h. Begins m.schema first h) }
+    ensures { (t : NewTable) (first : History) → Lasts Folder (Makes t) (λ f h. Begins t.schema first h) }
 {
     kept_law();
 }
 
-/// Calls show one refusal at most. So each refusal comes exactly where the last call ended as it says.
+/// Calls show one refusal at most, whichever tables they make. So each refusal comes exactly where the last call ended
+/// as it says.
 pub fn causes_law()
-    ensures { (own : List Event) (one other : Refusal) → Shows one own → Shows other own → one ≡ other }
+    ensures { (t u : NewTable) (own : List Event) (one other : Refusal) → Shows t one own → Shows u other own
+        → one ≡ other }
 {}
 
 /// Whatever a crash leaves of a creator's next call stands for the history before it, or for the one with its table.
 pub fn images_law()
-    ensures { (m : CreatorView) (call : Call) (f image : Files) (h : History) → next_call m ≡ Some call
-        → Folder f h → Knows m f h → MayLeave call f image
-        → (later : History) × Makes m f h image later × Folder image later }
+    ensures { (t : NewTable) (m : Phase) (call : Call) (f image : Files) (h : History) → next_call m ≡ Some call
+        → Folder f h → Knows t m f h → MayLeave call f image
+        → (later : History) × Makes t f h image later × Folder image later }
 {
     kept_law();
 }

@@ -1,75 +1,95 @@
-//! A creator as a machine.
+//! The phases of a creator, and what they mean.
 
-use crate::creator::Creator;
+ghost use Rattle.pm_create.specs.declared.phase.Phase.TheVariants as phases;
+
+use crate::creator::CreateStep;
 use crate::phase::Phase;
-use pm_machine::{Machine, Meaning};
+use pm_machine::PhaseMeaning;
+use pm_paths::schema_path;
 use pm_store::{Answer, Call, Made, Swapped};
 use pm_values::Refusal;
 use std::alloc::{AllocError, Global};
-use std::mem;
 
-impl Machine for Creator {
-    ghost use Rattle.pm_create.specs.Creator.{next_call, Goes, Refuses, Stops};
+impl pm_machine::Phase for Phase {
+    ghost use Rattle.pm_create.specs.Creator.{next_call, Goes, Shown};
 
     ghost call_of = { next_call };
 
     ghost goes = { Goes };
 
-    ghost refuses = { Refuses };
+    ghost shown = { Shown };
 
-    ghost stops = { Stops };
+    ghost holds = { λ phase. Unit {0} };
+
+    ghost end = { phases.Over };
 
     fn call(&self, alloc: Global) -> Result<Option<Call>, AllocError> {
-        match &self.phase {
-            Phase::Origin { path } => Ok(Some(Call::create(alloc, path.as_str(), b"")?)),
-            Phase::Schema => {
-                let bytes = self.bytes.as_bytes();
-                Ok(Some(Call::swap(alloc, "schema/schema-0", None, bytes)?))
+        match self {
+            Phase::Origin { path, .. } => Ok(Some(Call::create(alloc, path.as_str(), b"")?)),
+            Phase::Schema { bytes } => {
+                let path = schema_path(alloc, 0)?;
+                Ok(Some(Call::swap(alloc, path.as_str(), None, bytes.as_bytes())?))
             }
             Phase::Created | Phase::Over => Ok(None),
         }
     }
 
-    fn take(&mut self, _alloc: Global, answer: Answer) -> Result<(), Refusal> {
-        match (mem::replace(&mut self.phase, Phase::Over), answer) {
-            (Phase::Origin { .. }, Answer::Made(Made::Created)) => {
-                self.phase = Phase::Schema;
-                Ok(())
+    fn next(self, _alloc: Global, answer: Answer) -> Result<Phase, Refusal> {
+        match (self, answer) {
+            (Phase::Origin { bytes, .. }, Answer::Made(Made::Created)) => {
+                Ok(Phase::Schema { bytes })
             }
-            (Phase::Origin { path }, Answer::Made(Made::Exists)) => {
+            (Phase::Origin { path, .. }, Answer::Made(Made::Exists)) => {
                 Err(Refusal::SessionUsed { path })
             }
-            (Phase::Schema, Answer::Swapped(Swapped::Swapped)) => {
-                self.phase = Phase::Created;
-                Ok(())
+            (Phase::Schema { .. }, Answer::Swapped(Swapped::Swapped)) => Ok(Phase::Created),
+            (Phase::Schema { .. }, Answer::Swapped(Swapped::Differs(_))) => {
+                Err(Refusal::TableExists)
             }
-            (Phase::Schema, Answer::Swapped(Swapped::Differs(_))) => Err(Refusal::TableExists),
             _ => unreachable!(),
         }
     }
 
-    fn stop(&mut self) {
-        self.phase = Phase::Over;
+    fn over() -> Phase {
+        Phase::Over
     }
 }
 
-impl Meaning for Creator {
-    ghost use Rattle.pm_create.specs.Meaning.{Anything, Knows, Makes};
+impl PhaseMeaning for Phase {
+    ghost use Rattle.pm_create.specs.Creator as creators;
+    ghost use Rattle.pm_create.specs.Creator.{calls_left, reached_at, GoesOnce, Reaches};
+    ghost use Rattle.pm_create.specs.Meaning as meaning;
+    ghost use Rattle.pm_create.specs.Meaning.{FolderBeside, KnowsBeside, MakesBeside};
     ghost use Rattle.pm_create.specs.Trace.{Did, Shows};
-    ghost use Rattle.pm_model_folder.specs.Folder as folders;
-    ghost use Rattle.pm_model_history.specs.History as histories;
 
-    ghost History = { histories.History };
+    type Step = CreateStep;
 
-    ghost Folder = { folders.Folder };
+    ghost History = { meaning.Beside };
 
-    ghost Change = { Makes };
+    ghost Folder = { FolderBeside };
 
-    ghost knows = { Knows };
+    ghost Change = { MakesBeside };
 
-    ghost others = { Anything };
+    ghost knows = { KnowsBeside };
+
+    ghost Asked = { creators.NewTable };
 
     ghost did = { Did };
 
     ghost shows = { Shows };
+
+    ghost calls_left = { calls_left };
+
+    ghost reached_at = { reached_at };
+
+    ghost reaches = { Reaches };
+
+    ghost keeps = { GoesOnce };
+
+    fn reached(&self) -> CreateStep {
+        match self {
+            Phase::Created => CreateStep::Created,
+            _ => CreateStep::More,
+        }
+    }
 }

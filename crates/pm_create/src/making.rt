@@ -18,9 +18,9 @@ pub fn create_table<F: FileStore>(
     creator: Creator,
     store: &mut F,
 ) -> Result<(), Refusal>
-    requires { calls_left creator ≡ 2 }
-    ensures trace { HasTrace (DidMake creator result) (F.seen store.old) (F.seen store.new) }
-    ensures history { MakesTables creator (F.seen store.old) (F.seen store.new) result }
+    requires { calls_left creator.phase ≡ 2 }
+    ensures trace { HasTrace (DidMake creator.table result) (F.seen store.old) (F.seen store.new) }
+    ensures history { MakesTables creator.table (F.seen store.old) (F.seen store.new) result }
     ensures later { IsLater (F.seen store.old) (F.seen store.new) }
 {
     kept_law();
@@ -34,10 +34,10 @@ fn make_calls<F: FileStore>(
     creator: &mut Creator,
     store: &mut F,
 ) -> Result<(), Refusal>
-    requires is_creator { IsCreator creator.old }
-    requires is_new { calls_left creator.old ≡ 2 }
-    ensures is_creator { IsCreator creator.old }
-    ensures trace { HasTrace (DidMake creator.old result) (F.seen store.old) (F.seen store.new) }
+    requires is_creator { IsCreator creator.old.table creator.old.phase }
+    requires is_new { calls_left creator.old.phase ≡ 2 }
+    ensures is_creator { IsCreator creator.old.table creator.old.phase }
+    ensures trace { HasTrace (DidMake creator.old.table result) (F.seen store.old) (F.seen store.new) }
     ensures later { IsLater (F.seen store.old) (F.seen store.new) }
 {
     match creator.step(alloc, store) {

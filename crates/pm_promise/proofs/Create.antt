@@ -21,7 +21,7 @@ use Rattle.pm_schema.specs.declared.schema.TableSchema.{TableSchema}
 use Rattle.pm_model_folder.specs.Changes.{Actor, IsNoOrigin, origin_name}
 use Rattle.pm_model_folder.specs.Folder.{Folder}
 use Rattle.pm_model_folder.proofs.HoldLemmas.{ContentsStay, OneContents}
-use Rattle.pm_create.specs.Creator.{CreatorView, own_origin}
+use Rattle.pm_create.specs.Creator.{NewTable, own_origin}
 use Rattle.pm_create.specs.Making as making
 use Rattle.pm_create.specs.Making.{DidMake, LeavesFiles}
 use Rattle.pm_create.specs.Trace.{Shows}
@@ -32,7 +32,7 @@ use Rattle.pm_draft.specs.Input.{MayRefuseDraft}
 use Rattle.pm_words.specs.declared.command.Command.TheVariants as commands
 use Rattle.pm_command.specs.Outside.{Outside, Prints, Start, actor}
 use Rattle.pm_command_create.specs.Create as create
-use Rattle.pm_command_create.specs.Create.{ActsCreate, CreatesTable, IsDraftOf, LeavesTable, StandsForDraft, StandsForEither, created_text, creator}
+use Rattle.pm_command_create.specs.Create.{ActsCreate, CreatesTable, IsDraftOf, LeavesTable, StandsForDraft, StandsForEither, created_text, its_table}
 use Rattle.pm_promise.specs.InTurn.{IsExecuted}
 use Rattle.pm_promise.specs.Promise.{Does, Execution, Keeps, KeepsIt, HasMade, MayMake, StandsForOthers, creates}
 use Rattle.pm_promise.specs.Start.{HaveOtherNames, IsNew}
@@ -45,23 +45,23 @@ use Rattle.pm_promise.proofs.Resting.{unprinted}
 some_same : (e other : Refusal) → Some e ≡ Some other → other ≡ e
 some_same e other is = cc
 
-not_shown : (m : CreatorView) (e : Refusal) (snapshot : Option ℕ) (before after : StoreView) → e ≡ refusals.SinkFault snapshot
-    → HasTrace (DidMake m (Err e)) before after → ⊥
-not_shown m e snapshot before after is (own, (ended, shows), traces) = subst (λ (e : Refusal). Shows e own) is shows
+not_shown : (t : NewTable) (e : Refusal) (snapshot : Option ℕ) (before after : StoreView) → e ≡ refusals.SinkFault snapshot
+    → HasTrace (DidMake t (Err e)) before after → ⊥
+not_shown t e snapshot before after is (own, shows, traces) = subst (λ (e : Refusal). Shows t e own) is shows
 
-made_prefix : (m : CreatorView) (made : Result (Unit {0}) Refusal) (before after : Outside) (snapshot : Option ℕ)
-    → HasTrace (DidMake m made) before.store after.store
+made_prefix : (t : NewTable) (made : Result (Unit {0}) Refusal) (before after : Outside) (snapshot : Option ℕ)
+    → HasTrace (DidMake t made) before.store after.store
     → Prints created_text None (result_err made) before.out after.out (Some (refusals.SinkFault snapshot))
     → TookPrefix before.out.taken after.out.taken created_text
-made_prefix m (Ok x) before after snapshot trace (is, failed, took) = took
-made_prefix m (Err e) before after snapshot trace (is, out) =
-    absurd (not_shown m e snapshot before.store after.store (some_same (refusals.SinkFault snapshot) e is) trace)
+made_prefix t (Ok x) before after snapshot trace (is, failed, took) = took
+made_prefix t (Err e) before after snapshot trace (is, out) =
+    absurd (not_shown t e snapshot before.store after.store (some_same (refusals.SinkFault snapshot) e is) trace)
 
 took_prefix : (start : Start) (before after : Outside) (snapshot : Option ℕ) → ActsCreate start before after (Some (refusals.SinkFault snapshot))
     → TookPrefix before.out.taken after.out.taken created_text
 took_prefix start before after snapshot (inl (e, is, may, untouched)) =
     absurd (subst (MayRefuseDraft (create.making start) before.input after.input) (some_same (refusals.SinkFault snapshot) e is) may)
-took_prefix start before after snapshot (inr (s, draft, (made, trace, prints))) = made_prefix (creator start s) made before after snapshot trace prints
+took_prefix start before after snapshot (inr (s, draft, (made, trace, prints))) = made_prefix (its_table start s) made before after snapshot trace prints
 
 nothing_printed : (start : Start) (before after : Outside) (e : Refusal) → NotSink e → ActsCreate start before after (Some e) → after.out ≡ before.out
 nothing_printed start before after e not (inl (other, is, may, untouched)) = untouched.out

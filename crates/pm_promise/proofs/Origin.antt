@@ -3,6 +3,7 @@ use Rattle.std.proofs.Common.{◌≡◌, ◌≢◌, ◌≤◌, ◌⊎◌, inl, i
 use Rattle.std.specs.FinMap as map
 use Rattle.std.specs.List.{AllByRecursion}
 use Rattle.pm_values.specs.declared.refusal.Refusal.{Refusal}
+use Rattle.pm_values.specs.declared.refusal.Refusal.TheVariants as refusals
 use Rattle.pm_store.specs.declared.answer.Answer.{Answer}
 use Rattle.pm_store.specs.declared.call.Call.{Call}
 use Rattle.pm_store.specs.declared.call.Op.{Op}
@@ -22,14 +23,13 @@ use Rattle.pm_model_folder.specs.Commits.{Names}
 use Rattle.pm_model_folder.specs.Folder.{Folder, HasTable}
 use Rattle.pm_model_folder.specs.Paths.{schema_path, snapshot_path}
 use Rattle.pm_model_folder.proofs.HoldLemmas.{ContentsStay, Holds, OneContents, names-were}
-use Rattle.pm_create.specs.Creator.{CreatorView, origin_call, own_origin, schema_call}
+use Rattle.pm_create.specs.Creator.{NewTable, origin_call, own_origin, schema_call}
 use Rattle.pm_create.specs.Making.{DidMake, LeavesFiles}
 use Rattle.pm_create.specs.Meaning.{IsFreeOrigin}
-use Rattle.pm_create.specs.Trace as made
-use Rattle.pm_create.specs.Trace.{before_all, before_swap, made_origin, made_table, origin_failed, session_used, table_exists, table_failed}
+use Rattle.pm_create.specs.Trace.{failed_origin, failed_table, made_origin, made_table, met_origin, met_table, Shows}
 use Rattle.pm_commit.specs.AllCalls.{NamesNone}
 use Rattle.pm_command.specs.Outside.{Outside, Start, actor}
-use Rattle.pm_command_create.specs.Create.{ActsCreate, creator}
+use Rattle.pm_command_create.specs.Create.{ActsCreate, its_table}
 use Rattle.pm_promise.proofs.Snapshots.{from_there}
 
 -- what the law of kinds of change says
@@ -145,18 +145,23 @@ module _ (kept : FolderKept) (stay : ContentsStay) (one : OneContents) (me other
 
 -- ---- the calls of `create`
 
-ended_calls : (m : CreatorView) (own : List Event) → made.Ended m own → AreMaking m.me own
-ended_calls m own before_all = tt
-ended_calls m own before_swap = (inl refl, tt)
-ended_calls m own session_used = (inl refl, tt)
-ended_calls m own origin_failed = (inl refl, tt)
-ended_calls m own (table_exists found) = (inl refl, (inr (m.bytes, refl), tt))
-ended_calls m own table_failed = (inl refl, (inr (m.bytes, refl), tt))
+of_calls : (t : NewTable) (own events : List Event) → own ≡ events → AreMaking t.me events → AreMaking t.me own
+of_calls t own events is are = subst (λ (own : List Event). AreMaking t.me own) (sym is) are
 
-did_calls : (m : CreatorView) (result : Result (Unit {0}) Refusal) (own : List Event) → DidMake m result own → AreMaking m.me own
-did_calls m (Ok x) own did =
-    subst (λ (own : List Event). AreMaking m.me own) (sym did) (inl refl, (inr (m.bytes, refl), tt))
-did_calls m (Err refusal) own (ended, shows) = ended_calls m own ended
+shown_calls : (t : NewTable) (refusal : Refusal) (own : List Event) → Shows t refusal own → AreMaking t.me own
+shown_calls t refusals.Memory own (inl is) = of_calls t own [] is tt
+shown_calls t refusals.Memory own (inr is) = of_calls t own (made_origin t ∷ []) is (inl refl, tt)
+shown_calls t (refusals.SessionUsed path) own (at, is) = of_calls t own (met_origin t ∷ []) is (inl refl, tt)
+shown_calls t refusals.TableExists own (found, is) =
+    of_calls t own (made_origin t ∷ met_table t found ∷ []) is (inl refl, (inr (t.bytes, refl), tt))
+shown_calls t (refusals.StoreFault path) own (inl (at, is)) = of_calls t own (failed_origin t ∷ []) is (inl refl, tt)
+shown_calls t (refusals.StoreFault path) own (inr (at, is)) =
+    of_calls t own (made_origin t ∷ failed_table t ∷ []) is (inl refl, (inr (t.bytes, refl), tt))
+shown_calls t refusal own shows = absurd shows
+
+did_calls : (t : NewTable) (result : Result (Unit {0}) Refusal) (own : List Event) → DidMake t result own → AreMaking t.me own
+did_calls t (Ok x) own did = of_calls t own (made_origin t ∷ made_table t ∷ []) did (inl refl, (inr (t.bytes, refl), tt))
+did_calls t (Err refusal) own shows = shown_calls t refusal own shows
 
 -- they are a creator's, each at its place
 pub create_calls : (start : Start) (before after : Outside) (answer : Option Refusal) → ActsCreate start before after answer
@@ -168,4 +173,4 @@ create_calls start before after answer (inl (e, is, refuses, rest)) =
       Traces-first [] before.store after.store (subst (λ (store : StoreView). Traces [] before.store store) (sym rest.store) none),
     )
 create_calls start before after answer (inr (s, is, (made, (own, did, traces), prints))) =
-    (own, did_calls (creator start s) made own did, Traces-first own before.store after.store traces)
+    (own, did_calls (its_table start s) made own did, Traces-first own before.store after.store traces)
