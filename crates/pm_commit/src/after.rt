@@ -27,7 +27,7 @@ use pm_base::{Blob, Txt};
 use pm_machine::Machine;
 use pm_manifest::read_entry_law;
 use pm_paths::snapshot_path;
-use pm_read_table::{View, ViewReader};
+use pm_read_table::{View, ViewReader, into_view, is_view_ready, newest_entries};
 use pm_schema::TableSchema;
 use pm_snapshot::{SnapFault, read_snapshot};
 use pm_store::{Answer, Made, Published};
@@ -69,7 +69,7 @@ fn begin(own: Own, schema: TableSchema) -> Phase
 {
     Phase::View {
         own,
-        reader: ViewReader::entries(schema),
+        reader: newest_entries(schema),
     }
 }
 
@@ -101,8 +101,8 @@ fn after_reader(alloc: Global, own: Own, reader: ViewReader) -> Result<Phase, Re
     requires { (s : SchemaView) × Reads reader s × IsOwn s own }
     ensures { AfterReader own reader result }
 {
-    if reader.is_ready() {
-        after_ready(alloc, own, reader.into_view())
+    if is_view_ready(&reader) {
+        after_ready(alloc, own, into_view(reader))
     } else {
         Ok(Phase::View { own, reader })
     }

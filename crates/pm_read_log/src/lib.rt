@@ -2,7 +2,7 @@
 //! snapshot names.
 //!
 //! A `LogReader` reads a snapshot, its changelog list and that list's manifests alone, as `pm_read_table` reads those
-//! of a table, or goes on from a snapshot that was just read (`opened`): its `Log` has their entries. `named_paths`
+//! of a table, or goes on from a snapshot that was just read (`opened_log`): its `Log` has their entries. `named_paths`
 //! lists all paths that a snapshot names, by a view of it and its changelog.
 //!
 //! `specs/LogReader.antt` has the phases, the calls and what each answer leads to, `specs/LogMeaning.antt` what a
@@ -20,5 +20,5 @@ mod named;
 pub use log::{Log, LogAsked, LogReading};
 pub use log_laws::{log_causes_law, log_images_law, log_known_law, whole_law};
 pub use log_phase::LogPhase;
-pub use log_reader::{LogReader, LogStep};
+pub use log_reader::{LogReader, LogStep, into_log, is_log_ready, log_at, opened_log, step_log};
 pub use named::named_paths;

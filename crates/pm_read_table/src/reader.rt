@@ -15,14 +15,13 @@ ghost use Rattle.pm_read_table.specs.declared.phase.Phase.TheVariants as phases;
 use crate::asked::{Asked, Sought, Wanted};
 use crate::phase::Phase;
 use crate::view::View;
-use pm_machine::{Machine, Running, make_step};
+use pm_machine::{Running, make_step};
 use pm_manifest::{ManifestMeta, joined_law};
 use pm_record::one_reading_law;
 use pm_schema::TableSchema;
-use pm_store::{Answer, Call, FileStore};
+use pm_store::FileStore;
 use pm_values::Refusal;
-use std::alloc::{AllocError, Global};
-use std::marker::Model;
+use std::alloc::Global;
 
 /// What a step of a reader reached: it goes on, or the view is ready.
 #[derive(Clone, Copy)]
@@ -31,141 +30,89 @@ pub enum ViewStep {
     Ready,
 }
 
-/// Reads the table at a snapshot, a call of the store a step.
-pub struct ViewReader {
-    running: Running<Phase>,
+/// Reads the table at a snapshot, a call of the store a step. It is a part of other machines, which make its calls.
+pub type ViewReader = Running<Phase>;
+
+/// A reader of the table with this schema, which was just read, at its latest snapshot.
+pub fn newest_view(schema: TableSchema) -> ViewReader
+    requires { IsDeclared schema }
+    ensures { result ≡ phases.List (asked_of schema wants.Newest) }
+{
+    Running::new(Phase::List {
+        asked: Asked::new(schema, Wanted::Newest),
+    })
 }
 
-impl Drop for ViewReader {
-    fn drop(self) {
-        let ViewReader { running } = self;
-    }
+/// A reader of the table with this schema, which was just read, at the snapshot with this id.
+pub fn view_at(schema: TableSchema, id: u64) -> ViewReader
+    requires { IsDeclared schema }
+    ensures { result ≡ phases.List (asked_of schema (wants.At id)) }
+{
+    Running::new(Phase::List {
+        asked: Asked::new(schema, Wanted::At { id }),
+    })
 }
 
-impl Model for ViewReader {
-    ghost use Rattle.pm_read_table.specs.declared.phase.Phase.{Phase};
-    ghost use Rattle.pm_read_table.specs.contracts.phase.Phase as phases;
-
-    ghost Value = { Phase };
-
-    ghost coded = { phases.the_row.coded };
-
-    ghost view = { λ r. r.running };
+/// A reader of the table with this schema, which was just read, at its latest snapshot, that keeps the entries of the
+/// live files.
+pub fn newest_entries(schema: TableSchema) -> ViewReader
+    requires { IsDeclared schema }
+    ensures { result ≡ phases.List (asked_of schema wants.Entries) }
+{
+    Running::new(Phase::List {
+        asked: Asked::new(schema, Wanted::Entries),
+    })
 }
 
-impl ViewReader {
-    /// A reader of the table with this schema, which was just read, at its latest snapshot.
-    pub fn newest(schema: TableSchema) -> ViewReader
-        requires { IsDeclared schema }
-        ensures { result ≡ phases.List (asked_of schema wants.Newest) }
-    {
-        ViewReader {
-            running: Running::new(Phase::List {
-                asked: Asked::new(schema, Wanted::Newest),
-            }),
-        }
-    }
+/// A reader of the table with this schema, which was just read, at the snapshot with this id, from 1, that keeps the
+/// entries of the live files. It lists nothing: its first call reads the snapshot.
+pub fn whole_view(alloc: Global, schema: TableSchema, id: u64) -> ViewReader
+    requires declared { IsDeclared schema }
+    requires after_origin { 1 ≤ id }
+    ensures { result ≡ phases.Snapshot (sought_of (asked_of schema (wants.Whole id)) []) id }
+{
+    Running::new(Phase::Snapshot {
+        sought: Sought::new(Asked::new(schema, Wanted::Whole { id }), Vec::new(alloc)),
+        id,
+    })
+}
 
-    /// A reader of the table with this schema, which was just read, at the snapshot with this id.
-    pub fn at(schema: TableSchema, id: u64) -> ViewReader
-        requires { IsDeclared schema }
-        ensures { result ≡ phases.List (asked_of schema (wants.At id)) }
-    {
-        ViewReader {
-            running: Running::new(Phase::List {
-                asked: Asked::new(schema, Wanted::At { id }),
-            }),
-        }
-    }
+/// Whether the view is ready.
+pub fn is_view_ready(reader: &ViewReader) -> bool
+    ensures { IsTrue result ↔ IsReady reader.now }
+{
+    matches!(reader.phase(), Phase::Ready { .. })
+}
 
-    /// A reader of the table with this schema, which was just read, at its latest snapshot, that keeps the entries of
-    /// the live files.
-    pub fn entries(schema: TableSchema) -> ViewReader
-        requires { IsDeclared schema }
-        ensures { result ≡ phases.List (asked_of schema wants.Entries) }
-    {
-        ViewReader {
-            running: Running::new(Phase::List {
-                asked: Asked::new(schema, Wanted::Entries),
-            }),
-        }
-    }
-
-    /// A reader of the table with this schema, which was just read, at the snapshot with this id, from 1, that keeps
-    /// the entries of the live files. It lists nothing: its first call reads the snapshot.
-    pub fn whole(alloc: Global, schema: TableSchema, id: u64) -> ViewReader
-        requires declared { IsDeclared schema }
-        requires after_origin { 1 ≤ id }
-        ensures { result ≡ phases.Snapshot (sought_of (asked_of schema (wants.Whole id)) []) id }
-    {
-        ViewReader {
-            running: Running::new(Phase::Snapshot {
-                sought: Sought::new(Asked::new(schema, Wanted::Whole { id }), Vec::new(alloc)),
-                id,
-            }),
-        }
-    }
-
-    /// Whether the view is ready.
-    pub fn is_ready(&self) -> bool
-        ensures { IsTrue result ↔ IsReady self.now }
-    {
-        matches!(self.running.phase(), Phase::Ready { .. })
-    }
-
-    /// The view, once it is ready.
-    pub fn into_view(self) -> View
-        requires { IsReady self }
-        ensures view { self ≡ phases.Ready result }
-        ensures folders { HasFolders result }
-        ensures groups { HaveGroups result.schema result.live.items }
-        ensures declared { IsDeclared result.schema }
-    {
-        let ViewReader { running } = self;
-        match running.into_phase() {
-            Phase::Ready { view } => view,
-            _ => unreachable!(),
-        }
-    }
-
-    /// Makes the next call of the store. After a refusal, and once the view is ready, no call is left.
-    pub fn step<F: FileStore>(&mut self, alloc: Global, store: &mut F) -> Result<ViewStep, Refusal>
-        requires { 0 < calls_left self.old }
-        ensures moves { ViewerMoved self.old self.new (F.seen store.old) (F.seen store.new) }
-        ensures acts { ViewerActed self.old self.new (F.seen store.old) (F.seen store.new) result }
-        ensures reaches { IfOk result (λ step. Reaches step self.new) }
-        ensures fewer { OnOk result (calls_left self.new < calls_left self.old) }
-        ensures over { OnErr result (self.new ≡ phases.Over) }
-        ensures later { IsLater (F.seen store.old) (F.seen store.new) }
-    {
-        joined_law();
-        one_reading_law::<ManifestMeta>();
-        make_step(alloc, &mut self.running, store)
+/// The view, once it is ready.
+pub fn into_view(reader: ViewReader) -> View
+    requires { IsReady reader }
+    ensures view { reader ≡ phases.Ready result }
+    ensures folders { HasFolders result }
+    ensures groups { HaveGroups result.schema result.live.items }
+    ensures declared { IsDeclared result.schema }
+{
+    match reader.into_phase() {
+        Phase::Ready { view } => view,
+        _ => unreachable!(),
     }
 }
 
-/// A part of other machines: they make its calls.
-impl Machine for ViewReader {
-    ghost use Rattle.pm_machine.specs.Running.{Refuses, Stops};
-    ghost use Rattle.pm_read_table.specs.Reader.{next_call, Goes, Shown};
-
-    ghost call_of = { next_call };
-
-    ghost goes = { Goes };
-
-    ghost refuses = { Refuses Shown phases.Over };
-
-    ghost stops = { Stops phases.Over };
-
-    fn call(&self, alloc: Global) -> Result<Option<Call>, AllocError> {
-        self.running.call(alloc)
-    }
-
-    fn take(&mut self, alloc: Global, answer: Answer) -> Result<(), Refusal> {
-        self.running.take(alloc, answer)
-    }
-
-    fn stop(&mut self) {
-        self.running.stop();
-    }
+/// Makes the next call of the store. After a refusal, and once the view is ready, no call is left.
+pub fn step_view<F: FileStore>(
+    alloc: Global,
+    reader: &mut ViewReader,
+    store: &mut F,
+) -> Result<ViewStep, Refusal>
+    requires { 0 < calls_left reader.old }
+    ensures moves { ViewerMoved reader.old reader.new (F.seen store.old) (F.seen store.new) }
+    ensures acts { ViewerActed reader.old reader.new (F.seen store.old) (F.seen store.new) result }
+    ensures reaches { IfOk result (λ step. Reaches step reader.new) }
+    ensures fewer { OnOk result (calls_left reader.new < calls_left reader.old) }
+    ensures over { OnErr result (reader.new ≡ phases.Over) }
+    ensures later { IsLater (F.seen store.old) (F.seen store.new) }
+{
+    joined_law();
+    one_reading_law::<ManifestMeta>();
+    make_step(alloc, reader, store)
 }

@@ -17,8 +17,8 @@ ghost use Rattle.pm_read_whole.specs.declared.phase.Phase.TheVariants as phases;
 use crate::copy::copied;
 use crate::phase::Phase;
 use pm_machine::Machine;
-use pm_read_log::LogReader;
-use pm_read_table::{View, ViewReader};
+use pm_read_log::{LogReader, into_log, is_log_ready, opened_log};
+use pm_read_table::{View, ViewReader, into_view, is_view_ready};
 use pm_store::Answer;
 use pm_values::Refusal;
 use std::alloc::{AllocError, Global};
@@ -53,8 +53,8 @@ fn after_reader(alloc: Global, reader: ViewReader) -> Result<Phase, Refusal>
     ensures is_whole { IfOk result IsWhole }
     ensures memory { IfErr result (λ e. (e ≡ refusals.Memory) × readers.IsReady reader) }
 {
-    if reader.is_ready() {
-        open_log(alloc, reader.into_view())
+    if is_view_ready(&reader) {
+        open_log(alloc, into_view(reader))
     } else {
         Ok(Phase::View { reader })
     }
@@ -88,7 +88,7 @@ fn log_of(alloc: Global, view: &View) -> Result<LogReader, AllocError>
         Some(snapshot) => {
             let snapshot = copied(alloc, snapshot)?;
             match view.schema.copy(alloc) {
-                Ok(schema) => LogReader::opened(alloc, schema, snapshot),
+                Ok(schema) => opened_log(alloc, schema, snapshot),
                 Err(error) => {
                     drop(snapshot);
                     Err(error)
@@ -134,10 +134,10 @@ fn after_log(view: View, reader: LogReader) -> Phase
     ensures goes { AfterLog view reader result }
     ensures is_whole { IsWhole result }
 {
-    if reader.is_ready() {
+    if is_log_ready(&reader) {
         Phase::Ready {
             view,
-            log: reader.into_log(),
+            log: into_log(reader),
         }
     } else {
         Phase::Log { view, reader }

@@ -19,7 +19,7 @@ use pm_base::Txt;
 use pm_machine::{Running, make_step};
 use pm_manifest::{ManifestMeta, joined_law};
 use pm_read_log::{Log, named_paths};
-use pm_read_table::{View, ViewReader};
+use pm_read_table::{View, whole_view};
 use pm_record::one_reading_law;
 use pm_schema::TableSchema;
 use pm_store::FileStore;
@@ -66,7 +66,7 @@ impl WholeReader {
     {
         WholeReader {
             running: Running::new(Phase::View {
-                reader: ViewReader::whole(alloc, schema, id),
+                reader: whole_view(alloc, schema, id),
             }),
         }
     }

@@ -28,7 +28,7 @@ use crate::reading::Reading;
 use pm_base::{Blob, Txt};
 use pm_levels::Levels;
 use pm_machine::Machine;
-use pm_read_table::{View, ViewReader};
+use pm_read_table::{View, ViewReader, into_view, is_view_ready};
 use pm_schema::TableSchema;
 use pm_store::Answer;
 use pm_values::{Group, Refusal};
@@ -65,8 +65,8 @@ fn after_reader(alloc: Global, reader: ViewReader) -> Result<Phase, Refusal>
     ensures is_scanner { IfOk result IsScanner }
     ensures memory { IfErr result (λ e. (e ≡ refusals.Memory) × IsReady reader) }
 {
-    if reader.is_ready() {
-        start(alloc, reader.into_view())
+    if is_view_ready(&reader) {
+        start(alloc, into_view(reader))
     } else {
         Ok(Phase::View { reader })
     }

@@ -16,7 +16,7 @@ use crate::laws::files_law;
 use crate::phase::Phase;
 use pm_machine::{Running, make_step};
 use pm_manifest::{ManifestMeta, joined_law};
-use pm_read_table::ViewReader;
+use pm_read_table::{newest_view, view_at};
 use pm_record::one_reading_law;
 use pm_schema::TableSchema;
 use pm_store::FileStore;
@@ -63,7 +63,7 @@ impl Scanner {
     {
         Scanner {
             running: Running::new(Phase::View {
-                reader: ViewReader::newest(schema),
+                reader: newest_view(schema),
             }),
         }
     }
@@ -76,7 +76,7 @@ impl Scanner {
     {
         Scanner {
             running: Running::new(Phase::View {
-                reader: ViewReader::at(schema, id),
+                reader: view_at(schema, id),
             }),
         }
     }
