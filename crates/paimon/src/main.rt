@@ -2,7 +2,7 @@
 //! error. It ends with 0, or with the number of the refusal.
 #![tactic(auto)]
 
-use pm_cli::run;
+use pm_cli::{Start, run};
 use pm_folder_store::{FolderStore, System};
 use pm_io::{StdSink, StdSource};
 use pm_store::StoreFail;
@@ -55,6 +55,10 @@ fn run_command(rt: &HostRuntime, folder: &Txt, words: &[Txt]) -> u8 {
     let mut input = StdSource::new(rt.stdin());
     let mut out = StdSink::new(rt.stdout());
     let mut err = StdSink::new(rt.stderr());
+    let start = Start {
+        session,
+        now_millis,
+    };
     let status = run(
         rt.alloc(),
         words,
@@ -62,8 +66,7 @@ fn run_command(rt: &HostRuntime, folder: &Txt, words: &[Txt]) -> u8 {
         &mut out,
         &mut err,
         &mut store,
-        now_millis,
-        session,
+        &start,
     );
     status.code
 }

@@ -2,7 +2,7 @@
 
 use crate::files::checksum;
 use pm_base::Txt;
-use pm_cli::run;
+use pm_cli::{Start, run};
 use pm_io::{MemSink, MemSource};
 use pm_store::FileStore;
 use std::alloc::{AllocError, Global};
@@ -102,8 +102,10 @@ impl Command {
             out,
             err,
             store,
-            self.now,
-            session,
+            &Start {
+                session,
+                now_millis: self.now,
+            },
         );
         let code = status.code;
         drop(status);

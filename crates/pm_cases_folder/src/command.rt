@@ -1,7 +1,7 @@
 //! A command, with what it answers.
 
 use pm_cases::{Case, ROOM};
-use pm_cli::run;
+use pm_cli::{Start, run};
 use pm_io::{MemSink, MemSource};
 use pm_store::FileStore;
 use pm_values::Txt;
@@ -81,18 +81,12 @@ fn execute<F: FileStore>(
     err: MemSink,
 ) {
     let mut err = err;
-    let mut name = [0; 16];
-    name[15] = session;
-    let status = run(
-        case.alloc(),
-        words,
-        source,
-        out,
-        &mut err,
-        store,
-        1000,
-        name,
-    );
+    let mut start = Start {
+        session: [0; 16],
+        now_millis: 1000,
+    };
+    start.session[15] = session;
+    let status = run(case.alloc(), words, source, out, &mut err, store, &start);
     case.say_made(format!(in case.alloc(); "{} ", status.code));
     case.say_quoted_bytes(out.bytes());
     case.say(" ");

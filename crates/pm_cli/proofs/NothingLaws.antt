@@ -11,7 +11,8 @@ use Rattle.pm_read_schema.specs.declared.phase.Phase.TheVariants as readers
 use Rattle.pm_read_schema.proofs.AllCallsLemmas.{read_history}
 use Rattle.pm_words.specs.declared.command.Command.{Command}
 use Rattle.pm_words.specs.declared.command.Command.TheVariants as commands
-use Rattle.pm_command.specs.Outside.{Start, outside}
+use Rattle.pm_command.specs.Outside.{outside}
+use Rattle.pm_command.specs.declared.start.Start.{Start}
 use Rattle.pm_cli.specs.Run.{Acts, Answers, ServesHistories}
 use Rattle.pm_command_scan.specs.Scan as scan
 use Rattle.pm_command_snapshots.specs.Snapshots as snapshots

@@ -2,7 +2,8 @@
 use Rattle.std.specs.Prelude.{◌≡◌, ℕ, List, Option, Some}
 use Rattle.pm_values.specs.declared.refusal.Refusal.{Refusal}
 use Rattle.pm_command_create.specs.Create.{AnswersCreate, ActsCreate, CreatesTables}
-use Rattle.pm_command.specs.Outside.{Start, Outside}
+use Rattle.pm_command.specs.Outside.{Outside}
+use Rattle.pm_command.specs.declared.start.Start.{Start}
 use Rattle.pm_command_scan.specs.Scan.{Scans, ScansTables}
 use Rattle.pm_command_snapshots.specs.Snapshots.{ListsSnapshots, ListsTables}
 use Rattle.pm_command_write.specs.Write.{AnswersWrite, ActsWrite, WritesTables, writer_of}

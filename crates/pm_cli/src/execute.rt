@@ -2,15 +2,16 @@
 
 ghost use Rattle.std.specs.Prelude.{◌≡◌, IfOk};
 ghost use Rattle.std.specs.Result.{result_err};
-ghost use Rattle.pm_command.specs.Outside.{outside, start_of, AllLater, IsUntouched};
+ghost use Rattle.pm_command.specs.Outside.{outside, AllLater, IsUntouched};
 ghost use Rattle.pm_cli.specs.Run.{Acts, Answers, ServesHistories};
 ghost use Rattle.pm_words.specs.Words.{Give, GiveNoCommand, IsNoCommand};
 ghost use Rattle.pm_words.specs.declared.command.Command.{Command};
 
+use pm_command::Start;
 use pm_command_create::run_create;
 use pm_command_scan::run_scan;
 use pm_command_snapshots::run_snapshots;
-use pm_command_write::run_write;
+use pm_command_write::{Writer, run_write};
 use pm_io::{Sink, Source};
 use pm_store::FileStore;
 use pm_values::{Refusal, Txt};
@@ -24,23 +25,22 @@ pub(crate) fn execute<S: Source, W: Sink, F: FileStore>(
     input: &mut S,
     out: &mut W,
     store: &mut F,
-    now_millis: i64,
-    session: [u8; 16],
+    start: &Start,
 ) -> Result<(), Refusal>
     ensures no_command { GiveNoCommand words.now → IsNoCommand words.now (result_err result)
         × (S.seen input.new ≡ S.seen input.old)
         × IsUntouched (outside (S.seen input.old) (W.seen out.old) (F.seen store.old))
         (outside (S.seen input.new) (W.seen out.new) (F.seen store.new)) }
     ensures command { (command : Command) → Give words.now command
-        → Answers command (start_of session now_millis)
+        → Answers command start.now
         (outside (S.seen input.old) (W.seen out.old) (F.seen store.old))
         (outside (S.seen input.new) (W.seen out.new) (F.seen store.new)) (result_err result) }
     ensures acts { (command : Command) → Give words.now command
-        → Acts command (start_of session now_millis)
+        → Acts command start.now
         (outside (S.seen input.old) (W.seen out.old) (F.seen store.old))
         (outside (S.seen input.new) (W.seen out.new) (F.seen store.new)) (result_err result) }
     ensures history { (command : Command) → Give words.now command
-        → ServesHistories command (start_of session now_millis)
+        → ServesHistories command start.now
         (outside (S.seen input.old) (W.seen out.old) (F.seen store.old))
         (outside (S.seen input.new) (W.seen out.new) (F.seen store.new)) (result_err result) }
     ensures later { AllLater (outside (S.seen input.old) (W.seen out.old) (F.seen store.old))
@@ -48,7 +48,7 @@ pub(crate) fn execute<S: Source, W: Sink, F: FileStore>(
 {
     one_command_law();
     match command_in(alloc, words)? {
-        Some(command) => execute_command(alloc, command, input, out, store, now_millis, session),
+        Some(command) => execute_command(alloc, command, input, out, store, start),
         None => Err(no_command(alloc, words)?),
     }
 }
@@ -60,27 +60,26 @@ fn execute_command<S: Source, W: Sink, F: FileStore>(
     input: &mut S,
     out: &mut W,
     store: &mut F,
-    now_millis: i64,
-    session: [u8; 16],
+    start: &Start,
 ) -> Result<(), Refusal>
-    ensures command { Answers command (start_of session now_millis)
+    ensures command { Answers command start.now
         (outside (S.seen input.old) (W.seen out.old) (F.seen store.old))
         (outside (S.seen input.new) (W.seen out.new) (F.seen store.new)) (result_err result) }
-    ensures acts { Acts command (start_of session now_millis)
+    ensures acts { Acts command start.now
         (outside (S.seen input.old) (W.seen out.old) (F.seen store.old))
         (outside (S.seen input.new) (W.seen out.new) (F.seen store.new)) (result_err result) }
-    ensures history { ServesHistories command (start_of session now_millis)
+    ensures history { ServesHistories command start.now
         (outside (S.seen input.old) (W.seen out.old) (F.seen store.old))
         (outside (S.seen input.new) (W.seen out.new) (F.seen store.new)) (result_err result) }
     ensures later { AllLater (outside (S.seen input.old) (W.seen out.old) (F.seen store.old))
         (outside (S.seen input.new) (W.seen out.new) (F.seen store.new)) }
 {
     match command {
-        Command::Create => run_create(alloc, input, out, store, now_millis, session),
+        Command::Create => run_create(alloc, input, out, store, start),
         Command::Scan { snapshot } => run_scan(alloc, snapshot, out, store),
         Command::Snapshots => run_snapshots(alloc, out, store),
-        Command::Write { user, identifier } => run_write(
-            alloc, user, identifier, input, out, store, now_millis, session,
-        ),
+        Command::Write { user, identifier } => {
+            run_write(alloc, Writer { user, identifier }, input, out, store, start)
+        }
     }
 }

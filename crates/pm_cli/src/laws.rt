@@ -11,8 +11,10 @@ ghost use Rattle.pm_store.specs.Files.{Files, files_after};
 ghost use Rattle.pm_store.specs.Images.{CrashImage, Extends};
 ghost use Rattle.pm_store.specs.Store.{StoreView};
 ghost use Rattle.pm_command_create.specs.Create.{StandsForEither};
-ghost use Rattle.pm_command.specs.Outside.{HaveSame, Start};
-ghost use Rattle.pm_command_write.specs.Write.{IsImage, Lines, MayStartAfter, Writer};
+ghost use Rattle.pm_command.specs.Outside.{HaveSame};
+ghost use Rattle.pm_command.specs.declared.start.Start.{Start};
+ghost use Rattle.pm_command_write.specs.Write.{IsImage, Lines, MayStartAfter};
+ghost use Rattle.pm_command_write.specs.declared.writer.Writer.{Writer};
 
 use pm_model_contents::same_law;
 

@@ -10,4 +10,5 @@ mod laws;
 mod running;
 
 pub use laws::next_command_law;
+pub use pm_command::Start;
 pub use running::{Status, run};

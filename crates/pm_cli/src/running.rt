@@ -3,12 +3,13 @@
 ghost use Rattle.std.specs.Prelude.{◌≡◌, Some};
 ghost use Rattle.pm_io.specs.Sink.{SinkLater};
 ghost use Rattle.pm_report.specs.Report.{code_of};
-ghost use Rattle.pm_command.specs.Outside.{outside, start_of, AllLater, IsUntouched, exit_code, Said};
+ghost use Rattle.pm_command.specs.Outside.{outside, AllLater, IsUntouched, exit_code, Said};
 ghost use Rattle.pm_cli.specs.Run.{Acts, Answers, ServesHistories};
 ghost use Rattle.pm_words.specs.Words.{Give, GiveNoCommand, IsNoCommand};
 ghost use Rattle.pm_words.specs.declared.command.Command.{Command};
 
 use crate::execute::execute;
+use pm_command::Start;
 use pm_io::{Sink, Source};
 use pm_report::{report, status};
 use pm_store::FileStore;
@@ -27,8 +28,8 @@ impl Drop for Status {
     }
 }
 
-/// Runs one command: its words, its input, where it prints, where it says why it was refused, the
-/// store, the moment in milliseconds from 1970-01-01T00:00:00, and the sixteen bytes of its session.
+/// Runs one command: its words, its input, where it prints, where it says why it was refused, the store, and whose
+/// names it makes and when it begins.
 pub fn run<S: Source, W: Sink, V: Sink, F: FileStore>(
     alloc: Global,
     words: &[Txt],
@@ -36,8 +37,7 @@ pub fn run<S: Source, W: Sink, V: Sink, F: FileStore>(
     out: &mut W,
     err: &mut V,
     store: &mut F,
-    now_millis: i64,
-    session: [u8; 16],
+    start: &Start,
 ) -> Status
     // Words that give no command are refused, and nothing is read, printed or called for them.
     ensures code { result.code ≡ exit_code result.refusal }
@@ -48,17 +48,17 @@ pub fn run<S: Source, W: Sink, V: Sink, F: FileStore>(
 
     // Each answer of a command, with its cause: where the input is known, and whatever is known.
     ensures command { (command : Command) → Give words.now command
-        → Answers command (start_of session now_millis)
+        → Answers command start.now
         (outside (S.seen input.old) (W.seen out.old) (F.seen store.old))
         (outside (S.seen input.new) (W.seen out.new) (F.seen store.new)) result.refusal }
     ensures acts { (command : Command) → Give words.now command
-        → Acts command (start_of session now_millis)
+        → Acts command start.now
         (outside (S.seen input.old) (W.seen out.old) (F.seen store.old))
         (outside (S.seen input.new) (W.seen out.new) (F.seen store.new)) result.refusal }
 
     // What stands after each answer and at each moment of the call, what is printed, and that good input is served.
     ensures history { (command : Command) → Give words.now command
-        → ServesHistories command (start_of session now_millis)
+        → ServesHistories command start.now
         (outside (S.seen input.old) (W.seen out.old) (F.seen store.old))
         (outside (S.seen input.new) (W.seen out.new) (F.seen store.new)) result.refusal }
 
@@ -68,7 +68,7 @@ pub fn run<S: Source, W: Sink, V: Sink, F: FileStore>(
         (outside (S.seen input.new) (W.seen out.new) (F.seen store.new)) }
     ensures err_later { SinkLater (V.seen err.old) (V.seen err.new) }
 {
-    match execute(alloc, words, input, out, store, now_millis, session) {
+    match execute(alloc, words, input, out, store, start) {
         Ok(()) => Status {
             code: 0,
             refusal: None,

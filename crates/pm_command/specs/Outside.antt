@@ -1,5 +1,5 @@
 -- What a command has to do with, what it prints and says there, and how it ends.
-use Rattle.std.specs.Prelude.{◌≡◌, ◌⊎◌, ℕ, ℤ, ◌≤◌, List, Option, None, Some}
+use Rattle.std.specs.Prelude.{◌≡◌, ◌⊎◌, ℕ, ◌≤◌, List, Option, None, Some}
 use Rattle.std.specs.FinMap as map
 use Rattle.pm_base.specs.Faults.{Rose}
 use Rattle.pm_base.specs.Known.{and_then}
@@ -14,15 +14,8 @@ use Rattle.pm_model_history.specs.History.{History}
 use Rattle.pm_model_folder.specs.Changes.{Actor}
 use Rattle.pm_model_folder.specs.Folder.{Folder}
 use Rattle.pm_create.specs.Making.{LeavesFiles}
+use Rattle.pm_command.specs.declared.start.Start.{Start}
 use Rattle.pm_report.specs.Report.{code_of, report_text}
-
--- what a command is given beside its words: the bytes of its session, and the moment
-pub record Start : Type 0 where
-  pub session : List ℕ
-  pub now : ℤ
-
-abbrev pub start_of : List ℕ → ℤ → Start
-start_of session now = record { session = session; now = now }
 
 -- a single command is actor 0 of its session
 abbrev pub actor : Start → Actor

@@ -4,6 +4,8 @@
 
 mod judging;
 mod printing;
+mod start;
 
 pub use judging::judge;
 pub use printing::print;
+pub use start::Start;

@@ -20,8 +20,9 @@ use Rattle.pm_create.specs.Creator.{CreatorView, NewTable, new_creator, new_tabl
 use Rattle.pm_create.specs.Making as making
 use Rattle.pm_create.specs.Making.{DidMake, LeavesFiles, LeavesHistory, IsThere, IsAbsent, IsCaused, IsMadeOrMemory, MakesTables}
 use Rattle.pm_draft.specs.Input.{AnswersDraft, ReadsDraft, RefusesDraft}
-use Rattle.pm_command_create.specs.Create.{created_text, its_table, making as draft_making, IsMade, MakesAndPrints, IsDraftOf, StandsForDraft, LeavesTable, SettlesTable, StandsForEither, HadCause, CreatesTable, CreatesTables}
-use Rattle.pm_command.specs.Outside.{Start, Outside, outside, IsServed, Prints, actor}
+use Rattle.pm_command_create.specs.Create.{CreatesTable, CreatesTables, HadCause, IsDraftOf, IsMade, LeavesTable, MakesAndPrints, SettlesTable, StandsForDraft, StandsForEither, created_text, its_table, making as draft_making}
+use Rattle.pm_command.specs.Outside.{IsServed, Outside, Prints, actor, outside}
+use Rattle.pm_command.specs.declared.start.Start.{Start}
 use Rattle.pm_command.proofs.Uncalled.{at_known, uncalled}
 
 -- what is left of files, said of more
@@ -149,11 +150,11 @@ refused_tables start before after out store e refuses =
 -- the draft was read for the name of this command's origin
 pub draft_refused : (start : Start) (origin : List ℕ) (before after : SourceView) (out : SinkView) (store : StoreView) (e : Refusal)
     → origin ≡ (draft_making start).origin
-    → IfSome before.left (λ bytes. ReadsDraft (record { origin = origin; now = start.now }) bytes before after (Err e))
+    → IfSome before.left (λ bytes. ReadsDraft (record { origin = origin; now = start.now_millis }) bytes before after (Err e))
     → CreatesTables start (outside before out store) (outside after out store) (Some e)
 draft_refused start origin before after out store e is reads =
     refused_tables start before after out store e
-    (subst (λ (origin : List ℕ). IfSome before.left (λ bytes. RefusesDraft (record { origin = origin; now = start.now }) bytes before after e)) is reads)
+    (subst (λ (origin : List ℕ). IfSome before.left (λ bytes. RefusesDraft (record { origin = origin; now = start.now_millis }) bytes before after e)) is reads)
 
 -- a draft's table
 draft_stands : (start : Start) (bytes : List ℕ) (s : TableSchema) → IsDraftOf start bytes s → (f : Files) → Folder f (table s []) → StandsForDraft start bytes f
@@ -240,9 +241,9 @@ made_tables start s before after answer read (made, trace, makes, prints) = λ a
 
 pub draft_made : (start : Start) (origin : List ℕ) (s : TableSchema) (before after : Outside) (answer : Option Refusal)
     → origin ≡ (draft_making start).origin
-    → IfSome before.input.left (λ bytes. ReadsDraft (record { origin = origin; now = start.now }) bytes before.input after.input (Ok s))
+    → IfSome before.input.left (λ bytes. ReadsDraft (record { origin = origin; now = start.now_millis }) bytes before.input after.input (Ok s))
     → IsMade (its_table start s) before.out after.out before.store after.store answer → CreatesTables start before after answer
 draft_made start origin s before after answer is reads made =
     made_tables start s before after answer
-    (subst (λ (origin : List ℕ). IfSome before.input.left (λ bytes. AnswersDraft (record { origin = origin; now = start.now }) bytes after.input (Ok s))) is reads)
+    (subst (λ (origin : List ℕ). IfSome before.input.left (λ bytes. AnswersDraft (record { origin = origin; now = start.now_millis }) bytes after.input (Ok s))) is reads)
     made

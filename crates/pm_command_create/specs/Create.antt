@@ -21,11 +21,12 @@ use Rattle.pm_create.specs.Creator.{NewTable, new_table, own_origin}
 use Rattle.pm_create.specs.Making.{DidMake, LeavesFiles, IsThere, IsAbsent, MakesTables, MayStart}
 use Rattle.pm_draft.specs.Draft.{draft_in, IsFirstSchema}
 use Rattle.pm_draft.specs.Input.{Making, AnswersDraft, RefusesDraft, MayRefuseDraft}
-use Rattle.pm_command.specs.Outside.{Start, actor, Outside, IsUntouched, IsServed, HasNoFault, Prints}
+use Rattle.pm_command.specs.Outside.{actor, Outside, IsUntouched, IsServed, HasNoFault, Prints}
+use Rattle.pm_command.specs.declared.start.Start.{Start}
 
 -- what its draft is made into: a table with an origin of the command's own name, at this moment
 abbrev pub making : Start → Making
-making start = record { origin = origin_name (actor start); now = start.now }
+making start = record { origin = origin_name (actor start); now = start.now_millis }
 
 -- the table with a schema that it makes
 abbrev pub its_table : Start → TableSchema → NewTable
@@ -62,8 +63,8 @@ AnswersCreate start bytes before after =
 -- and what it does whatever the input is
 abbrev pub ActsCreate : Start → Outside → Outside → Option Refusal → Type 0
 ActsCreate start before after =
-    Creates (IsFirstSchema (making start).origin start.now) (MayRefuseDraft (making start) before.input after.input)
-    start before after
+    Creates (IsFirstSchema (making start).origin start.now_millis)
+    (MayRefuseDraft (making start) before.input after.input) start before after
 
 -- ---- a history that stands at its first call, where nobody else acts from then on
 

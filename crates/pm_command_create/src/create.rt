@@ -8,9 +8,9 @@ ghost use Rattle.pm_io.specs.Sink.{SinkLater};
 ghost use Rattle.pm_schema.specs.Again.{IsDeclared};
 ghost use Rattle.pm_store.specs.Store.{IsLater};
 ghost use Rattle.pm_command_create.specs.Create.{AnswersCreate, ActsCreate, CreatesTables, IsMade};
-ghost use Rattle.pm_command.specs.Outside.{outside, start_of, AllLater};
+ghost use Rattle.pm_command.specs.Outside.{outside, AllLater};
 
-use pm_command::print;
+use pm_command::{Start, print};
 use pm_create::{Creator, create_table, origin_name};
 use pm_draft::read_draft_input;
 use pm_io::{Sink, Source};
@@ -25,25 +25,24 @@ pub fn run_create<S: Source, W: Sink, F: FileStore>(
     input: &mut S,
     out: &mut W,
     store: &mut F,
-    now_millis: i64,
-    session: [u8; 16],
+    start: &Start,
 ) -> Result<(), Refusal>
     ensures command { (bytes : List ℕ) → (S.seen input.old).left ≡ Some bytes
-        → AnswersCreate (start_of session now_millis) bytes
+        → AnswersCreate start.now bytes
         (outside (S.seen input.old) (W.seen out.old) (F.seen store.old))
         (outside (S.seen input.new) (W.seen out.new) (F.seen store.new)) (result_err result) }
-    ensures acts { ActsCreate (start_of session now_millis)
+    ensures acts { ActsCreate start.now
         (outside (S.seen input.old) (W.seen out.old) (F.seen store.old))
         (outside (S.seen input.new) (W.seen out.new) (F.seen store.new)) (result_err result) }
-    ensures history { CreatesTables (start_of session now_millis)
+    ensures history { CreatesTables start.now
         (outside (S.seen input.old) (W.seen out.old) (F.seen store.old))
         (outside (S.seen input.new) (W.seen out.new) (F.seen store.new)) (result_err result) }
     ensures later { AllLater (outside (S.seen input.old) (W.seen out.old) (F.seen store.old))
         (outside (S.seen input.new) (W.seen out.new) (F.seen store.new)) }
 {
-    let origin = origin_name(alloc, session, 0)?;
-    let schema = read_draft_input(alloc, input, origin, now_millis)?;
-    make_table(alloc, session, schema, out, store)
+    let origin = origin_name(alloc, start.session, 0)?;
+    let schema = read_draft_input(alloc, input, origin, start.now_millis)?;
+    make_table(alloc, start.session, schema, out, store)
 }
 
 /// Makes the table of a schema, and says so.

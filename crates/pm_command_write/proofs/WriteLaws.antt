@@ -49,9 +49,11 @@ use Rattle.pm_commit.specs.Alone.{Beginning, GivesReason, IsUnchanged, WasUsed, 
 use Rattle.pm_commit.specs.declared.all_calls.Appended.{Appended}
 use Rattle.pm_commit.specs.declared.all_calls.Appended.TheVariants as appends
 use Rattle.pm_command_write.specs.Input.{HasLines, MayRefuseInput, RefusesInput}
-use Rattle.pm_command.specs.Outside.{HaveSame, Outside, Start, outside, actor, Prints, Rests}
+use Rattle.pm_command.specs.Outside.{HaveSame, Outside, outside, actor, Prints, Rests}
+use Rattle.pm_command.specs.declared.start.Start.{Start}
 use Rattle.pm_command.specs.Table as tables
-use Rattle.pm_command_write.specs.Write.{ActsWrite, AnswersLines, AnswersWrite, BeginsWith, DidWrite, HasRows, IsCommittedTo, IsImage, IsWritten, Keeps, KeepsHistories, Lines, MakesOf, MayStartAfter, Spoils, StandsAfterFault, StandsForEither, TakesRows, Writer, WritesLines, WritesTable, WritesTables, commit_of, entry_by, next_path, snapshot_of, text_of}
+use Rattle.pm_command_write.specs.Write.{ActsWrite, AnswersLines, AnswersWrite, BeginsWith, DidWrite, HasRows, IsCommittedTo, IsImage, IsWritten, Keeps, KeepsHistories, Lines, MakesOf, MayStartAfter, Spoils, StandsAfterFault, StandsForEither, TakesRows, WritesLines, WritesTable, WritesTables, commit_of, entry_by, next_path, snapshot_of, text_of}
+use Rattle.pm_command_write.specs.declared.writer.Writer.{Writer}
 use Rattle.pm_command_write.specs.declared.write.Written.{Written}
 use Rattle.pm_command_write.specs.declared.write.Written.TheVariants as written
 use Rattle.pm_command.proofs.TableLemmas.{trace_weaker, files_of, leaves_of, rests_of, images_of, caused, judged_caused}

@@ -37,17 +37,14 @@ use Rattle.pm_commit.specs.Own.{OwnView, new_author, new_own}
 use Rattle.pm_commit.specs.declared.all_calls.Appended.{Appended}
 use Rattle.pm_commit.specs.declared.all_calls.Appended.TheVariants as appends
 use Rattle.pm_command_write.specs.Input.{MayRefuseInput, RefusesInput}
-use Rattle.pm_command.specs.Outside.{Outside, Start, actor, IsUntouched, Prints, Rests}
+use Rattle.pm_command.specs.Outside.{Outside, actor, IsUntouched, Prints, Rests}
+use Rattle.pm_command.specs.declared.start.Start.{Start}
 use Rattle.pm_command.specs.Table.{EndsAtSchema}
 use Rattle.pm_command_write.specs.declared.write.Written.{Written}
 use Rattle.pm_command_write.specs.declared.write.Written.TheVariants as written
+use Rattle.pm_command_write.specs.declared.writer.Writer.{Writer}
 
 -- ---- who writes
-
--- the user and the identifier that are asked for, or none
-pub record Writer : Type 0 where
-  pub user : Option (List ℕ)
-  pub identifier : Option ℕ
 
 abbrev pub writer_of : Option (List ℕ) → Option ℕ → Writer
 writer_of user identifier = record { user = user; identifier = identifier }
@@ -67,7 +64,7 @@ user_of me (Some name) = name
 
 -- the author of its commit, before a base is known
 abbrev pub author_of : Start → Writer → Author
-author_of start w = new_author (user_of (actor start) w.user) (identifier_of w.identifier) start.now
+author_of start w = new_author (user_of (actor start) w.user) (identifier_of w.identifier) start.now_millis
 
 -- The commit of a batch: an earlier one of the user is looked for where a user is asked for.
 abbrev pub commit_of : Start → Writer → Groups → OwnView

@@ -6,5 +6,7 @@
 
 mod input;
 mod write;
+mod writer;
 
 pub use write::{Written, run_write};
+pub use writer::Writer;

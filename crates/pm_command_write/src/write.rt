@@ -17,15 +17,16 @@ ghost use Rattle.pm_store.specs.Store.{IsLater};
 ghost use Rattle.pm_values.specs.Names.{naming};
 ghost use Rattle.pm_write.specs.Batch.{IsBatchOf, ReadsBatch};
 ghost use Rattle.pm_write.specs.Taken.{all_taken};
-ghost use Rattle.pm_command.specs.Outside.{outside, start_of, AllLater, Prints};
-ghost use Rattle.pm_command_write.specs.Write.{writer_of, AnswersWrite, ActsWrite, WritesTables};
+ghost use Rattle.pm_command.specs.Outside.{outside, AllLater, Prints};
+ghost use Rattle.pm_command_write.specs.Write.{AnswersWrite, ActsWrite, WritesTables};
 ghost use Rattle.pm_command_write.specs.Write.{commit_of, identifier_of, user_of, DidWrite, IsWritten, KeepsHistories};
 ghost use Rattle.pm_command_write.specs.Write.{snapshot_of, text_of};
 
 use crate::input::read_input;
+use crate::writer::Writer;
 use itoa::Buffer;
 use pm_base::Txt;
-use pm_command::{judge, print};
+use pm_command::{Start, judge, print};
 use pm_commit::{Appended, Committer, append_rows};
 use pm_engines::{TableEngine, declared_law};
 use pm_input::InputLine;
@@ -55,66 +56,58 @@ pub enum Written {
 /// it is the actor, and where no identifier is, the greatest.
 pub fn run_write<S: Source, W: Sink, F: FileStore>(
     alloc: Global,
-    user: Option<Txt>,
-    identifier: Option<u64>,
+    writer: Writer,
     input: &mut S,
     out: &mut W,
     store: &mut F,
-    now_millis: i64,
-    session: [u8; 16],
+    start: &Start,
 ) -> Result<(), Refusal>
     ensures command { (bytes : List ℕ) → (S.seen input.old).left ≡ Some bytes
-        → AnswersWrite (start_of session now_millis) (writer_of user identifier) bytes
+        → AnswersWrite start.now writer bytes
         (outside (S.seen input.old) (W.seen out.old) (F.seen store.old))
         (outside (S.seen input.new) (W.seen out.new) (F.seen store.new)) (result_err result) }
-    ensures acts { ActsWrite (start_of session now_millis) (writer_of user identifier)
+    ensures acts { ActsWrite start.now writer
         (outside (S.seen input.old) (W.seen out.old) (F.seen store.old))
         (outside (S.seen input.new) (W.seen out.new) (F.seen store.new)) (result_err result) }
-    ensures history { WritesTables (start_of session now_millis) (writer_of user identifier)
+    ensures history { WritesTables start.now writer
         (outside (S.seen input.old) (W.seen out.old) (F.seen store.old))
         (outside (S.seen input.new) (W.seen out.new) (F.seen store.new)) (result_err result) }
     ensures later { AllLater (outside (S.seen input.old) (W.seen out.old) (F.seen store.old))
         (outside (S.seen input.new) (W.seen out.new) (F.seen store.new)) }
 {
     let lines = read_input(alloc, input)?;
-    write_lines(
-        alloc, user, identifier, &lines, out, store, now_millis, session,
-    )
+    write_lines(alloc, writer, &lines, out, store, start)
 }
 
 /// Appends the rows of lines, and says what became of them.
 fn write_lines<W: Sink, F: FileStore>(
     alloc: Global,
-    user: Option<Txt>,
-    identifier: Option<u64>,
+    writer: Writer,
     lines: &[InputLine],
     out: &mut W,
     store: &mut F,
-    now_millis: i64,
-    session: [u8; 16],
+    start: &Start,
 ) -> Result<(), Refusal>
-    ensures written { IsWritten (start_of session now_millis) (writer_of user identifier) (map line_view lines.now)
+    ensures written { IsWritten start.now writer (map line_view lines.now)
         (W.seen out.old) (W.seen out.new) (F.seen store.old) (F.seen store.new) (result_err result) }
     ensures out_later { SinkLater (W.seen out.old) (W.seen out.new) }
     ensures store_later { IsLater (F.seen store.old) (F.seen store.new) }
 {
-    let written = append_lines(alloc, user, identifier, lines, store, now_millis, session)?;
+    let written = append_lines(alloc, writer, lines, store, start)?;
     print_written(out, written)
 }
 
 /// Appends the rows that a table takes of lines, once its schema was read.
 fn append_lines<F: FileStore>(
     alloc: Global,
-    user: Option<Txt>,
-    identifier: Option<u64>,
+    writer: Writer,
     lines: &[InputLine],
     store: &mut F,
-    now_millis: i64,
-    session: [u8; 16],
+    start: &Start,
 ) -> Result<Written, Refusal>
-    ensures trace { HasTrace (DidWrite (start_of session now_millis) (writer_of user identifier)
+    ensures trace { HasTrace (DidWrite start.now writer
         (map line_view lines.now) result) (F.seen store.old) (F.seen store.new) }
-    ensures history { KeepsHistories (start_of session now_millis) (writer_of user identifier)
+    ensures history { KeepsHistories start.now writer
         (map line_view lines.now) (F.seen store.old) (F.seen store.new) result }
     ensures later { IsLater (F.seen store.old) (F.seen store.new) }
 {
@@ -126,7 +119,7 @@ fn append_lines<F: FileStore>(
     if batch.is_empty() {
         return Ok(Written::Nothing);
     }
-    let committer = committer_of(alloc, schema, batch, user, identifier, now_millis, session)?;
+    let committer = committer_of(alloc, schema, batch, writer, start)?;
     match append_rows(alloc, committer, store) {
         Ok(Appended::Committed(id)) => Ok(Written::Committed(id)),
         Ok(Appended::Already) => Ok(Written::Already),
@@ -150,24 +143,31 @@ fn committer_of(
     alloc: Global,
     schema: TableSchema,
     batch: Batch,
-    user: Option<Txt>,
-    identifier: Option<u64>,
-    now_millis: i64,
-    session: [u8; 16],
+    writer: Writer,
+    start: &Start,
 ) -> Result<Committer, AllocError>
     requires declared { IsDeclared schema }
     requires built { IsBuilt schema }
     requires read { (rows : List HistoryRow) × IsBatchOf schema rows batch }
     requires some { batch ≢ [] }
     ensures committer { IfOk result (λ committer. committer ≡ phases.Names
-        (commit_of (start_of session now_millis) (writer_of user identifier) batch) schema) }
-    ensures may { OnOk result (MayName (naming session 0 0)) }
+        (commit_of start.now writer batch) schema) }
+    ensures may { OnOk result (MayName (naming start.now.session 0 0)) }
 {
+    let Writer { user, identifier } = writer;
     let check = user.is_some();
-    let user = user_of(alloc, session, 0, user)?;
+    let user = user_of(alloc, start.session, 0, user)?;
     let identifier = identifier_of(identifier);
-    let names = names_of(session);
-    Ok(Committer::new(schema, batch, user, identifier, check, names, now_millis))
+    let names = names_of(start.session);
+    Ok(Committer::new(
+        schema,
+        batch,
+        user,
+        identifier,
+        check,
+        names,
+        start.now_millis,
+    ))
 }
 
 /// The user that is asked for, or the actor.

@@ -30,7 +30,8 @@ use Rattle.pm_draft.specs.Built.{unbuilt}
 use Rattle.pm_draft.specs.Draft.{NumberedLine, draft_in, draft_line, form_fault, later_fault, later_line, unless_later}
 use Rattle.pm_draft.specs.Input.{MayRefuseDraft}
 use Rattle.pm_words.specs.declared.command.Command.TheVariants as commands
-use Rattle.pm_command.specs.Outside.{Outside, Prints, Start, actor}
+use Rattle.pm_command.specs.Outside.{Outside, Prints, actor}
+use Rattle.pm_command.specs.declared.start.Start.{Start}
 use Rattle.pm_command_create.specs.Create as create
 use Rattle.pm_command_create.specs.Create.{ActsCreate, CreatesTable, IsDraftOf, LeavesTable, StandsForDraft, StandsForEither, created_text, its_table}
 use Rattle.pm_promise.specs.InTurn.{IsExecuted}
@@ -134,7 +135,7 @@ names_origin : DraftLaw → (start : Start) (bytes : List ℕ) (s : TableSchema)
 names_origin law start bytes s draft =
     let origin : List ℕ = origin_name (actor start) in
     let lines = row_lines bytes in
-    let declares = (law (draft_line lines) origin start.now s).0 (drafted lines origin start.now s draft.read) in
+    let declares = (law (draft_line lines) origin start.now_millis s).0 (drafted lines origin start.now_millis s draft.read) in
     ap (λ (t : TableSchema). t.origin) declares.6.schema
 
 one_name : (o : Option (List ℕ)) (a b : List ℕ) → o ≡ Some a → o ≡ Some b → a ≡ b

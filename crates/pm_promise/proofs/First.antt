@@ -9,7 +9,8 @@ use Rattle.pm_machine.proofs.AloneLaws.{Traces-goes_on}
 use Rattle.pm_create.specs.Making.{LeavesFiles}
 use Rattle.pm_words.specs.declared.command.Command.{Command}
 use Rattle.pm_words.specs.declared.command.Command.TheVariants as commands
-use Rattle.pm_command.specs.Outside.{Outside, Start}
+use Rattle.pm_command.specs.Outside.{Outside}
+use Rattle.pm_command.specs.declared.start.Start.{Start}
 use Rattle.pm_cli.specs.Run.{Acts}
 
 drop_front : (ops more : List Op) → drop (length ops) (ops ++ more) ≡ more

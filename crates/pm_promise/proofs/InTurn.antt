@@ -19,7 +19,8 @@ use Rattle.pm_create.specs.Making.{LeavesFiles}
 use Rattle.pm_write.specs.Taken.{all_taken}
 use Rattle.pm_words.specs.declared.command.Command.{Command}
 use Rattle.pm_words.specs.declared.command.Command.TheVariants as commands
-use Rattle.pm_command.specs.Outside.{Start, actor}
+use Rattle.pm_command.specs.Outside.{actor}
+use Rattle.pm_command.specs.declared.start.Start.{Start}
 use Rattle.pm_command.proofs.Uncalled.{next_stands}
 use Rattle.pm_command_create.specs.Create.{IsDraftOf}
 use Rattle.pm_command_write.specs.Write.{entry_by, writer_of}

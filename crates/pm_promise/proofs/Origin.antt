@@ -28,8 +28,9 @@ use Rattle.pm_create.specs.Making.{DidMake, LeavesFiles}
 use Rattle.pm_create.specs.Meaning.{IsFreeOrigin}
 use Rattle.pm_create.specs.Trace.{failed_origin, failed_table, made_origin, made_table, met_origin, met_table, Shows}
 use Rattle.pm_commit.specs.AllCalls.{NamesNone}
-use Rattle.pm_command.specs.Outside.{Outside, Start, actor}
+use Rattle.pm_command.specs.Outside.{Outside, actor}
 use Rattle.pm_command_create.specs.Create.{ActsCreate, its_table}
+use Rattle.pm_command.specs.declared.start.Start.{Start}
 use Rattle.pm_promise.proofs.Snapshots.{from_there}
 
 -- what the law of kinds of change says

@@ -26,9 +26,11 @@ use Rattle.pm_commit.specs.AllCalls as commit
 use Rattle.pm_commit.specs.Search.{seen_of}
 use Rattle.pm_commit.specs.declared.search.Seen.TheVariants as seen
 use Rattle.pm_words.specs.declared.command.Command.TheVariants as commands
-use Rattle.pm_command.specs.Outside.{Start, actor}
+use Rattle.pm_command.specs.Outside.{actor}
+use Rattle.pm_command.specs.declared.start.Start.{Start}
 use Rattle.pm_command_write.specs.Input.{RefusesInput}
-use Rattle.pm_command_write.specs.Write.{AnswersHistory, AnswersLines, Becomes, BeginsWith, HasRows, HasRowsAs, IsImage, Lines, MayStartAfter, Spoils, StandsAfterFault, TakesRows, Writer, WritesTable, author_of, entry_by, text_of, writer_of}
+use Rattle.pm_command_write.specs.Write.{AnswersHistory, AnswersLines, Becomes, BeginsWith, HasRows, HasRowsAs, IsImage, Lines, MayStartAfter, Spoils, StandsAfterFault, TakesRows, WritesTable, author_of, entry_by, text_of, writer_of}
+use Rattle.pm_command_write.specs.declared.writer.Writer.{Writer}
 use Rattle.pm_command_write.specs.declared.write.Written.{Written}
 use Rattle.pm_command_write.specs.declared.write.Written.TheVariants as written
 use Rattle.pm_io.specs.Source.{SourceView}

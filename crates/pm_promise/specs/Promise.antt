@@ -26,7 +26,8 @@ use Rattle.pm_snapshots.specs.Lines.{snapshots_text}
 use Rattle.pm_snapshots.specs.declared.line.SnapshotLine.{SnapshotLine}
 use Rattle.pm_words.specs.declared.command.Command.{Command}
 use Rattle.pm_words.specs.declared.command.Command.TheVariants as commands
-use Rattle.pm_command.specs.Outside.{Outside, Start, actor}
+use Rattle.pm_command.specs.Outside.{actor, Outside}
+use Rattle.pm_command.specs.declared.start.Start.{Start}
 use Rattle.pm_command_create.specs.Create.{IsDraftOf}
 use Rattle.pm_command_write.specs.Write.{entry_by, identifier_of, writer_of}
 use Rattle.pm_promise.specs.Start.{HasInput, HaveOtherNames, IsNew, MayStart}

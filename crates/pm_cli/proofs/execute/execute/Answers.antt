@@ -1,7 +1,5 @@
 use Rattle.std.proofs.Common.{sym}
-use Rattle.std.proofs.Math.Facts.{to_z-of_z}
 use Rattle.std.proofs.lemmas.Result.{err_from_is_err_and}
-use Rattle.pm_command.specs.Outside.{start_of}
 use Rattle.pm_cli.proofs.NothingLaws.{nothing_answers, nothing_acts, nothing_serves}
 use Rattle.pm_cli.proofs.execute.execute.Goals as goal
 
@@ -10,7 +8,7 @@ returns-in_err-command-clause-command g c =
     λ command give.
     let p = err_from_is_err_and c.from_residual.result c.from_residual.ensures.1 in
     rw (p.1, p.2)
-    (nothing_answers (start_of c.args.session c.args.now_millis) (g.S.Source.seen c.args.input.now) (g.W.Sink.seen c.args.out.now)
+    (nothing_answers c.args.start.now (g.S.Source.seen c.args.input.now) (g.W.Sink.seen c.args.out.now)
     (g.F.FileStore.seen c.args.store.now) command)
 
 pub returns-in_err-command-clause-acts : goal.returns-in_err-command-clause-acts
@@ -18,7 +16,7 @@ returns-in_err-command-clause-acts g c =
     λ command give.
     let p = err_from_is_err_and c.from_residual.result c.from_residual.ensures.1 in
     rw (p.1, p.2)
-    (nothing_acts (start_of c.args.session c.args.now_millis) (g.S.Source.seen c.args.input.now) (g.W.Sink.seen c.args.out.now)
+    (nothing_acts c.args.start.now (g.S.Source.seen c.args.input.now) (g.W.Sink.seen c.args.out.now)
     (g.F.FileStore.seen c.args.store.now) command)
 
 pub returns-in_err-command-clause-history : goal.returns-in_err-command-clause-history
@@ -26,7 +24,7 @@ returns-in_err-command-clause-history g c =
     λ command give.
     let p = err_from_is_err_and c.from_residual.result c.from_residual.ensures.1 in
     rw (p.1, p.2)
-    (nothing_serves (start_of c.args.session c.args.now_millis) (g.S.Source.seen c.args.input.now) (g.W.Sink.seen c.args.out.now)
+    (nothing_serves c.args.start.now (g.S.Source.seen c.args.input.now) (g.W.Sink.seen c.args.out.now)
     (g.F.FileStore.seen c.args.store.now) command)
 
 pub returns-in_err-no_command-in-None-clause-command : goal.returns-in_err-no_command-in-None-clause-command
@@ -34,7 +32,7 @@ returns-in_err-no_command-in-None-clause-command g c =
     λ command give.
     let p = err_from_is_err_and c.from_residual-in_err-no_command-in-None.result c.from_residual-in_err-no_command-in-None.ensures.1 in
     rw (p.1, p.2)
-    (nothing_answers (start_of c.args.session c.args.now_millis) (g.S.Source.seen c.args.input.now) (g.W.Sink.seen c.args.out.now)
+    (nothing_answers c.args.start.now (g.S.Source.seen c.args.input.now) (g.W.Sink.seen c.args.out.now)
     (g.F.FileStore.seen c.args.store.now) command)
 
 pub returns-in_err-no_command-in-None-clause-acts : goal.returns-in_err-no_command-in-None-clause-acts
@@ -42,7 +40,7 @@ returns-in_err-no_command-in-None-clause-acts g c =
     λ command give.
     let p = err_from_is_err_and c.from_residual-in_err-no_command-in-None.result c.from_residual-in_err-no_command-in-None.ensures.1 in
     rw (p.1, p.2)
-    (nothing_acts (start_of c.args.session c.args.now_millis) (g.S.Source.seen c.args.input.now) (g.W.Sink.seen c.args.out.now)
+    (nothing_acts c.args.start.now (g.S.Source.seen c.args.input.now) (g.W.Sink.seen c.args.out.now)
     (g.F.FileStore.seen c.args.store.now) command)
 
 pub returns-in_err-no_command-in-None-clause-history : goal.returns-in_err-no_command-in-None-clause-history
@@ -50,7 +48,7 @@ returns-in_err-no_command-in-None-clause-history g c =
     λ command give.
     let p = err_from_is_err_and c.from_residual-in_err-no_command-in-None.result c.from_residual-in_err-no_command-in-None.ensures.1 in
     rw (p.1, p.2)
-    (nothing_serves (start_of c.args.session c.args.now_millis) (g.S.Source.seen c.args.input.now) (g.W.Sink.seen c.args.out.now)
+    (nothing_serves c.args.start.now (g.S.Source.seen c.args.input.now) (g.W.Sink.seen c.args.out.now)
     (g.F.FileStore.seen c.args.store.now) command)
 
 pub returns-in-Some-clause-command : goal.returns-in-Some-clause-command
@@ -58,21 +56,21 @@ returns-in-Some-clause-command g c =
     λ command give.
     let found = rw c.in-Some.is at c.in_ok-command.ensures.some in
     rw (sym (c.one_command_law.ensures c.args.words.now c.in-Some.command command found give))
-    (rw (to_z-of_z c.ranges.now_millis) at c.execute_command.ensures.command)
+    c.execute_command.ensures.command
 
 pub returns-in-Some-clause-acts : goal.returns-in-Some-clause-acts
 returns-in-Some-clause-acts g c =
     λ command give.
     let found = rw c.in-Some.is at c.in_ok-command.ensures.some in
     rw (sym (c.one_command_law.ensures c.args.words.now c.in-Some.command command found give))
-    (rw (to_z-of_z c.ranges.now_millis) at c.execute_command.ensures.acts)
+    c.execute_command.ensures.acts
 
 pub returns-in-Some-clause-history : goal.returns-in-Some-clause-history
 returns-in-Some-clause-history g c =
     λ command give.
     let found = rw c.in-Some.is at c.in_ok-command.ensures.some in
     rw (sym (c.one_command_law.ensures c.args.words.now c.in-Some.command command found give))
-    (rw (to_z-of_z c.ranges.now_millis) at c.execute_command.ensures.history)
+    c.execute_command.ensures.history
 
 pub returns-in_ok-no_command-in-None-clause-command : goal.returns-in_ok-no_command-in-None-clause-command
 returns-in_ok-no_command-in-None-clause-command g c = λ command give. absurd ((rw c.in-None.is at c.in_ok-command.ensures.none) command give)

@@ -1,5 +1,4 @@
 use Rattle.std.proofs.Common.{refl}
-use Rattle.std.proofs.Math.Facts.{to_z-of_z}
 use Rattle.std.specs.Result.{result_err}
 use Rattle.pm_command.specs.Outside.{outside}
 use Rattle.pm_command_scan.proofs.ScanLaws.{scanned_serves}
@@ -7,13 +6,13 @@ use Rattle.pm_command_snapshots.proofs.SnapshotLaws.{listed_answers, listed_serv
 use Rattle.pm_cli.proofs.execute.execute_command.Goals as goal
 
 pub returns-in-Create-clause-command : goal.returns-in-Create-clause-command
-returns-in-Create-clause-command g c = rw c.in-Create.is (rw (to_z-of_z c.ranges.now_millis) at c.run_create.ensures.command)
+returns-in-Create-clause-command g c = rw c.in-Create.is c.run_create.ensures.command
 
 pub returns-in-Create-clause-acts : goal.returns-in-Create-clause-acts
-returns-in-Create-clause-acts g c = rw c.in-Create.is (rw (to_z-of_z c.ranges.now_millis) at c.run_create.ensures.acts)
+returns-in-Create-clause-acts g c = rw c.in-Create.is c.run_create.ensures.acts
 
 pub returns-in-Create-clause-history : goal.returns-in-Create-clause-history
-returns-in-Create-clause-history g c = rw c.in-Create.is (rw (to_z-of_z c.ranges.now_millis) at c.run_create.ensures.history)
+returns-in-Create-clause-history g c = rw c.in-Create.is c.run_create.ensures.history
 
 pub returns-in-Scan-clause-history : goal.returns-in-Scan-clause-history
 returns-in-Scan-clause-history g c =
@@ -46,10 +45,10 @@ returns-in-Snapshots-clause-history g c =
     (result_err c.run_snapshots.result) c.run_snapshots.ensures.listed)
 
 pub returns-in-Write-clause-command : goal.returns-in-Write-clause-command
-returns-in-Write-clause-command g c = rw c.in-Write.is (rw (to_z-of_z c.ranges.now_millis) at c.run_write.ensures.command)
+returns-in-Write-clause-command g c = rw c.in-Write.is c.run_write.ensures.command
 
 pub returns-in-Write-clause-acts : goal.returns-in-Write-clause-acts
-returns-in-Write-clause-acts g c = rw c.in-Write.is (rw (to_z-of_z c.ranges.now_millis) at c.run_write.ensures.acts)
+returns-in-Write-clause-acts g c = rw c.in-Write.is c.run_write.ensures.acts
 
 pub returns-in-Write-clause-history : goal.returns-in-Write-clause-history
-returns-in-Write-clause-history g c = rw c.in-Write.is (rw (to_z-of_z c.ranges.now_millis) at c.run_write.ensures.history)
+returns-in-Write-clause-history g c = rw c.in-Write.is c.run_write.ensures.history

@@ -1,11 +1,9 @@
 use Rattle.std.proofs.Common.{map}
-use Rattle.std.proofs.Math.Facts.{to_z-of_z}
 use Rattle.std.proofs.lemmas.Result.{err_from_is_err_and}
 use Rattle.std.specs.Result.{result_err}
 use Rattle.pm_input.specs.Lines.{line_view}
 use Rattle.pm_command_write.specs.Input.{HasLines, RefusesInput}
-use Rattle.pm_command.specs.Outside.{outside, start_of}
-use Rattle.pm_command_write.specs.Write.{writer_of}
+use Rattle.pm_command.specs.Outside.{outside}
 use Rattle.pm_command.proofs.Uncalled.{at_known}
 use Rattle.pm_command_write.proofs.WriteLaws.{input_acts, input_refused, input_written, lines_acts, lines_serve, refused_serves}
 use Rattle.pm_command_write.proofs.write.run_write.Goals as goal
@@ -14,7 +12,7 @@ pub returns-in_err-lines-clause-command : goal.returns-in_err-lines-clause-comma
 returns-in_err-lines-clause-command g c =
     let p = err_from_is_err_and c.from_residual.result c.from_residual.ensures.1 in
     rw (p.1, p.2)
-    (λ bytes is. input_refused (start_of c.args.session c.args.now_millis) (writer_of c.args.user c.args.identifier) bytes (g.S.Source.seen c.args.input.now)
+    (λ bytes is. input_refused c.args.start.now c.args.writer bytes (g.S.Source.seen c.args.input.now)
     (g.S.Source.seen c.read_input.new.input) (g.W.Sink.seen c.args.out.now) (g.F.FileStore.seen c.args.store.now) c.in_err-lines.field-0.0
     (at_known (λ bytes. RefusesInput bytes (g.S.Source.seen c.args.input.now) (g.S.Source.seen c.read_input.new.input) c.in_err-lines.field-0.0)
     (g.S.Source.seen c.args.input.now).left bytes is c.in_err-lines.ensures.answer))
@@ -23,7 +21,7 @@ pub returns-in_err-lines-clause-acts : goal.returns-in_err-lines-clause-acts
 returns-in_err-lines-clause-acts g c =
     let p = err_from_is_err_and c.from_residual.result c.from_residual.ensures.1 in
     rw (p.1, p.2)
-    (input_acts (start_of c.args.session c.args.now_millis) (writer_of c.args.user c.args.identifier) (g.S.Source.seen c.args.input.now)
+    (input_acts c.args.start.now c.args.writer (g.S.Source.seen c.args.input.now)
     (g.S.Source.seen c.read_input.new.input) (g.W.Sink.seen c.args.out.now) (g.F.FileStore.seen c.args.store.now) c.in_err-lines.field-0.0
     c.in_err-lines.ensures.refusal)
 
@@ -31,31 +29,31 @@ pub returns-in_err-lines-clause-history : goal.returns-in_err-lines-clause-histo
 returns-in_err-lines-clause-history g c =
     let p = err_from_is_err_and c.from_residual.result c.from_residual.ensures.1 in
     rw (p.1, p.2)
-    (refused_serves (start_of c.args.session c.args.now_millis) (writer_of c.args.user c.args.identifier) (g.S.Source.seen c.args.input.now)
+    (refused_serves c.args.start.now c.args.writer (g.S.Source.seen c.args.input.now)
     (g.S.Source.seen c.read_input.new.input) (g.W.Sink.seen c.args.out.now) (g.F.FileStore.seen c.args.store.now) c.in_err-lines.field-0.0
     c.in_err-lines.ensures.answer)
 
 pub returns-clause-command : goal.returns-clause-command
 returns-clause-command g c = λ bytes is.
     let lines = map line_view c.in_ok-lines.lines.items in
-    input_written (start_of c.args.session c.args.now_millis) (writer_of c.args.user c.args.identifier) bytes lines
+    input_written c.args.start.now c.args.writer bytes lines
     (outside (g.S.Source.seen c.args.input.now) (g.W.Sink.seen c.args.out.now) (g.F.FileStore.seen c.args.store.now))
     (outside (g.S.Source.seen c.read_input.new.input) (g.W.Sink.seen c.write_lines.new.out) (g.F.FileStore.seen c.write_lines.new.store))
     (result_err c.write_lines.result)
     (at_known (λ bytes. HasLines bytes (g.S.Source.seen c.read_input.new.input) lines) (g.S.Source.seen c.args.input.now).left bytes is c.in_ok-lines.ensures.answer)
-    (rw (to_z-of_z c.ranges.now_millis, c.deref.ensures.value) at c.write_lines.ensures.written)
+    (rw c.deref.ensures.value at c.write_lines.ensures.written)
 
 pub returns-clause-acts : goal.returns-clause-acts
 returns-clause-acts g c =
-    lines_acts (start_of c.args.session c.args.now_millis) (writer_of c.args.user c.args.identifier) (map line_view c.in_ok-lines.lines.items)
+    lines_acts c.args.start.now c.args.writer (map line_view c.in_ok-lines.lines.items)
     (outside (g.S.Source.seen c.args.input.now) (g.W.Sink.seen c.args.out.now) (g.F.FileStore.seen c.args.store.now))
     (outside (g.S.Source.seen c.read_input.new.input) (g.W.Sink.seen c.write_lines.new.out) (g.F.FileStore.seen c.write_lines.new.store))
-    (result_err c.write_lines.result) (rw (to_z-of_z c.ranges.now_millis, c.deref.ensures.value) at c.write_lines.ensures.written)
+    (result_err c.write_lines.result) (rw c.deref.ensures.value at c.write_lines.ensures.written)
 
 pub returns-clause-history : goal.returns-clause-history
 returns-clause-history g c =
-    lines_serve (start_of c.args.session c.args.now_millis) (writer_of c.args.user c.args.identifier) (map line_view c.in_ok-lines.lines.items)
+    lines_serve c.args.start.now c.args.writer (map line_view c.in_ok-lines.lines.items)
     (outside (g.S.Source.seen c.args.input.now) (g.W.Sink.seen c.args.out.now) (g.F.FileStore.seen c.args.store.now))
     (outside (g.S.Source.seen c.read_input.new.input) (g.W.Sink.seen c.write_lines.new.out) (g.F.FileStore.seen c.write_lines.new.store))
     (result_err c.write_lines.result) c.in_ok-lines.ensures.answer
-    (rw (to_z-of_z c.ranges.now_millis, c.deref.ensures.value) at c.write_lines.ensures.written)
+    (rw c.deref.ensures.value at c.write_lines.ensures.written)
