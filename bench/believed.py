@@ -6,7 +6,7 @@ the kit's crates aren't counted, and of a type that is declared in Rust only tha
 hides counts as the definition. The gate never runs it.
 
 usage: bench/believed.py ROOT.. [--but NAME]..
-  ROOT is CRATE/FILE/NAME, a definition, as pm_promise/Promise/Does;
+  ROOT is CRATE/FILE/NAME, a definition, as pm_cli/Promise/Does;
           CRATE/FILE, all definitions of specs/FILE.antt;
           CRATE/src/FILE.rt/NAME, all that the clauses of a function name, as pm_cli/src/running.rt/run
   --but NAME: what no reader need look into: definitions of this name are counted, and nothing that they name

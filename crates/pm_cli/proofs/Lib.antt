@@ -1,1 +1,10 @@
+mod Common
+mod Create
+mod First
+mod InTurn
 mod NothingLaws
+mod Origin
+mod Resting
+mod Scan
+mod Snapshots
+mod Write

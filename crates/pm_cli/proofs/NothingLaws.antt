@@ -13,7 +13,7 @@ use Rattle.pm_words.specs.declared.command.Command.{Command}
 use Rattle.pm_words.specs.declared.command.Command.TheVariants as commands
 use Rattle.pm_command.specs.Outside.{outside}
 use Rattle.pm_command.specs.declared.start.Start.{Start}
-use Rattle.pm_cli.specs.Run.{Acts, Answers, ServesHistories}
+use Rattle.pm_cli.specs.Commands.{Acts, Answers, ServesHistories}
 use Rattle.pm_command_scan.specs.Scan as scan
 use Rattle.pm_command_snapshots.specs.Snapshots as snapshots
 use Rattle.pm_command_write.specs.Write.{writer_of}

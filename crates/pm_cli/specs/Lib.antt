@@ -1,1 +1,4 @@
-pub mod Run
+pub mod Commands
+pub mod InTurn
+pub mod Promise
+pub mod Start

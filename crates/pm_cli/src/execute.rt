@@ -3,9 +3,9 @@
 ghost use Rattle.std.specs.Prelude.{◌≡◌, IfOk};
 ghost use Rattle.std.specs.Result.{result_err};
 ghost use Rattle.pm_command.specs.Outside.{outside, AllLater, IsUntouched};
-ghost use Rattle.pm_cli.specs.Run.{Acts, Answers, ServesHistories};
 ghost use Rattle.pm_words.specs.Words.{Give, GiveNoCommand, IsNoCommand};
 ghost use Rattle.pm_words.specs.declared.command.Command.{Command};
+ghost use Rattle.pm_cli.specs.Commands.{Acts, Answers, ServesHistories};
 
 use pm_command::Start;
 use pm_command_create::run_create;

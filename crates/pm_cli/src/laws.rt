@@ -1,22 +1,38 @@
-//! What holds of what a crash leaves.
+//! The promise follows from what commands are proved to do; and histories have a beginning, from which commands go on.
 
-ghost use Rattle.std.specs.Prelude.{◌≡◌, ◌≤◌, ℕ, List, length, Some};
-ghost use Rattle.pm_create.specs.Making.{LeavesFiles};
-ghost use Rattle.pm_commit.specs.AllCalls.{MayStart};
-ghost use Rattle.pm_model_folder.specs.Changes.{Actor};
-ghost use Rattle.pm_model_folder.specs.Folder.{Folder};
-ghost use Rattle.pm_model_history.specs.History.{History};
-ghost use Rattle.pm_store.specs.declared.call.Op.{Op};
+ghost use Rattle.std.specs.Prelude.{◌≡◌, ◌≤◌, ℕ, List, [], ◌∷◌, length, Option, None, Some, Ok};
+ghost use Rattle.std.specs.FinMap as map;
+ghost use Rattle.std.specs.List.{AllByRecursion};
+ghost use Rattle.pm_base.specs.Known.{and_then};
 ghost use Rattle.pm_store.specs.Files.{Files, files_after};
 ghost use Rattle.pm_store.specs.Images.{CrashImage, Extends};
-ghost use Rattle.pm_store.specs.Store.{StoreView};
-ghost use Rattle.pm_command_create.specs.Create.{StandsForEither};
-ghost use Rattle.pm_command.specs.Outside.{HaveSame};
+ghost use Rattle.pm_store.specs.Store.{StoreView, IsAlone, at_first_own};
+ghost use Rattle.pm_store.specs.declared.call.Op.{Op};
+ghost use Rattle.pm_input.specs.Lines.{row_lines};
+ghost use Rattle.pm_schema.specs.declared.schema.TableSchema.{TableSchema};
+ghost use Rattle.pm_model_history.specs.History.{History, no_table, table};
+ghost use Rattle.pm_model_history.specs.Merge.{HistoryRow};
+ghost use Rattle.pm_model_history.specs.Merged.{scan_text};
+ghost use Rattle.pm_model_folder.specs.Changes.{Actor};
+ghost use Rattle.pm_model_folder.specs.Folder.{Folder};
+ghost use Rattle.pm_create.specs.Making.{LeavesFiles};
+ghost use Rattle.pm_write.specs.Taken.{all_taken};
+ghost use Rattle.pm_commit.specs.AllCalls as commit;
+ghost use Rattle.pm_words.specs.declared.command.Command.{Command};
+ghost use Rattle.pm_words.specs.declared.command.Command.TheVariants as commands;
+ghost use Rattle.pm_command.specs.Outside.{HaveSame, actor};
 ghost use Rattle.pm_command.specs.declared.start.Start.{Start};
+ghost use Rattle.pm_command_create.specs.Create.{IsDraftOf, StandsForEither};
 ghost use Rattle.pm_command_write.specs.Write.{IsImage, Lines, MayStartAfter};
 ghost use Rattle.pm_command_write.specs.declared.writer.Writer.{Writer};
+ghost use Rattle.pm_cli.specs.InTurn.{AreInTurn, HaveOwnNames, IsExecuted, MakeInTurn, Turn, to_its_end};
+ghost use Rattle.pm_cli.specs.Promise.{Execution, Keeps, KeepsIt, MayMake};
+ghost use Rattle.pm_cli.specs.Start.{HaveOtherNames, IsNew, MayStart};
 
-use pm_model_contents::same_law;
+use pm_model_contents::{one_contents_law, same_law};
+use pm_schema::draft_law;
+
+// ---- what a crash leaves
 
 /// A store that has what a crash within `create` left stands for the history, or for the draft's table where there was
 /// none; one that has what a crash within `write` left, for the history, or for it with the rows of the input, as once
@@ -37,12 +53,131 @@ pub fn next_command_law()
         (i : ℕ) (image : Files) → Extends (MayStartAfter other start w lines h) (Some old) (Some new) → length old ≤ i
         → CrashImage new i image → (ops : List Op) (store : StoreView) → store.ops ≡ Some ops → files_after ops ≡ image
         → LeavesFiles (MayStartAfter other start w lines h) store }
-    ensures same { (me : Actor) (h : History) (f g : Files) → MayStart me h f → HaveSame f g → Folder g h
-        → MayStart me h g }
+    ensures same { (me : Actor) (h : History) (f g : Files) → commit.MayStart me h f → HaveSame f g → Folder g h
+        → commit.MayStart me h g }
     ensures rests { (h : History) (f : Files) (old new : List Op) (i : ℕ) (image : Files)
         → Extends (λ g. Folder g h × HaveSame f g) (Some old) (Some new) → length old ≤ i → CrashImage new i image
         → (ops : List Op) (store : StoreView) → store.ops ≡ Some ops → files_after ops ≡ image
         → LeavesFiles (λ g. Folder g h × HaveSame f g) store }
 {
     same_law();
+}
+
+// ---- the promise
+
+/// The promise of `create`.
+pub fn keeps_create_law()
+    ensures { (e : Execution) → IsExecuted (record e { command = commands.Create })
+        → Keeps (record e { command = commands.Create }) }
+{
+    pm_model_folder::kept_law();
+    pm_model_contents::kept_law();
+    one_contents_law();
+    draft_law();
+}
+
+/// The promise of `scan`.
+pub fn keeps_scan_law()
+    ensures { (at : Option ℕ) (e : Execution) → IsExecuted (record e { command = commands.Scan at })
+        → Keeps (record e { command = commands.Scan at }) }
+{
+    next_command_law();
+}
+
+/// The promise of `snapshots`.
+pub fn keeps_snapshots_law()
+    ensures { (e : Execution) → IsExecuted (record e { command = commands.Snapshots })
+        → Keeps (record e { command = commands.Snapshots }) }
+{
+    next_command_law();
+}
+
+/// The promise of `write`.
+pub fn keeps_write_law()
+    ensures { (user : Option (List ℕ)) (number : Option ℕ) (e : Execution)
+        → IsExecuted (record e { command = commands.Write user number })
+        → Keeps (record e { command = commands.Write user number }) }
+{}
+
+/// The promise of every command.
+pub fn keeps_law()
+    ensures { (e : Execution) → IsExecuted e → Keeps e }
+{
+    keeps_create_law();
+    keeps_scan_law();
+    keeps_snapshots_law();
+    keeps_write_law();
+}
+
+// ---- one command after another
+
+/// No files stand for no table, and every actor is new there. Where an actor is new it may start any command; and where
+/// files stand for a table without entries, every actor may.
+pub fn base_law()
+    ensures empty { (me : Actor) → IsNew me no_table map.empty }
+    ensures new { (command : Command) (me : Actor) (h : History) (f : Files) → IsNew me h f
+        → MayStart command me h f }
+    ensures created { (command : Command) (me : Actor) (s : TableSchema) (f : Files) → Folder f (table s [])
+        → MayStart command me (table s []) f }
+{}
+
+/// Where there was no table and `create` succeeds, any actor may start any command, on the draft's table.
+pub fn chain_law()
+    ensures { (e : Execution) (first : StoreView) → e.command ≡ commands.Create → e.refusal ≡ None
+        → KeepsIt e no_table first → (s : TableSchema) × IsDraftOf e.start e.input s
+        × ((command : Command) (me : Actor) → LeavesFiles (MayStart command me (table s [])) e.after.store) }
+{
+    base_law();
+}
+
+/// Where nobody else acts from the end of a command to the end of the next one, whatever that is, this one finds at its
+/// first call what was left, and nobody else acts from there on.
+pub fn next_law()
+    ensures { (e : Execution) (h : History) → IsExecuted e → IsAlone e.before.store e.after.store
+        → LeavesFiles (MayStart e.command (actor e.start) h) e.before.store
+        → LeavesFiles (MayStart e.command (actor e.start) h) (at_first_own e.before.store e.after.store)
+        × IsAlone (at_first_own e.before.store e.after.store) e.after.store }
+{}
+
+/// Another actor that was new to the history may start any command at the end, and in each image of a crash.
+pub fn free_law()
+    ensures { (e : Execution) (h : History) (first : StoreView) (other : Actor) (command : Command)
+        → (kept : KeepsIt e h first) → HaveOtherNames (actor e.start) other → LeavesFiles (IsNew other h) first
+        → LeavesFiles (MayStart command other kept.later) e.after.store
+        × Extends (λ f. (later : History) × MayMake e h later × MayStart command other later f)
+        first.ops e.after.store.ops }
+{
+    base_law();
+}
+
+/// Whatever commands are executed one after another on one store to which nobody else has access, however each of them
+/// ends and wherever a crash stops any: the store stands for a history that they made in turn. So it keeps every commit
+/// that was acknowledged, whole and in order, and each text that was printed is that of the history as it was then.
+pub fn in_turn_law()
+    ensures from { (turns : List Turn) (store last : StoreView) (h : History) → AreInTurn store turns last
+        → HaveOwnNames turns
+        → LeavesFiles (λ f. Folder f h × AllByRecursion (λ (t : Turn). IsNew (actor t.execution.start) h f) turns) store
+        → (later : History) × MakeInTurn turns h later × LeavesFiles (λ f. Folder f later) last }
+    ensures empty { (turns : List Turn) (store last : StoreView) → store.ops ≡ Some [] → AreInTurn store turns last
+        → HaveOwnNames turns
+        → (later : History) × MakeInTurn turns no_table later × LeavesFiles (λ f. Folder f later) last }
+{
+    base_law();
+    keeps_law();
+}
+
+/// From an empty store: after a `create`, a `write` and a `scan` with status 0 the scan printed exactly the merged
+/// table of the rows that the draft's table takes of the input of `write`.
+pub fn first_steps_law()
+    ensures { (create write scan : Execution) (user : Option (List ℕ)) (number : Option ℕ) (store last : StoreView)
+        → create.command ≡ commands.Create → create.refusal ≡ None
+        → write.command ≡ commands.Write user number → write.refusal ≡ None
+        → scan.command ≡ commands.Scan None → scan.refusal ≡ None → store.ops ≡ Some []
+        → AreInTurn store (to_its_end create ∷ to_its_end write ∷ to_its_end scan ∷ []) last
+        → HaveOwnNames (to_its_end create ∷ to_its_end write ∷ to_its_end scan ∷ [])
+        → (s : TableSchema) × (rows : List HistoryRow) × IsDraftOf create.start create.input s
+        × (all_taken s (row_lines write.input) ≡ Ok rows)
+        × (scan.after.out.taken ≡ and_then scan.before.out.taken (scan_text s rows)) }
+{
+    in_turn_law();
 }

@@ -1,14 +1,16 @@
 //! The top call.
 
-ghost use Rattle.std.specs.Prelude.{◌≡◌, Some};
+ghost use Rattle.std.specs.Prelude.{◌≡◌, ℕ, List, Some};
 ghost use Rattle.pm_io.specs.Sink.{SinkLater};
 ghost use Rattle.pm_report.specs.Report.{code_of};
 ghost use Rattle.pm_command.specs.Outside.{outside, AllLater, IsUntouched, exit_code, Said};
-ghost use Rattle.pm_cli.specs.Run.{Acts, Answers, ServesHistories};
 ghost use Rattle.pm_words.specs.Words.{Give, GiveNoCommand, IsNoCommand};
 ghost use Rattle.pm_words.specs.declared.command.Command.{Command};
+ghost use Rattle.pm_cli.specs.Commands.{Acts, Answers, ServesHistories};
+ghost use Rattle.pm_cli.specs.Promise.{Keeps};
 
 use crate::execute::execute;
+use crate::laws::keeps_law;
 use pm_command::Start;
 use pm_io::{Sink, Source};
 use pm_report::{report, status};
@@ -56,6 +58,18 @@ pub fn run<S: Source, W: Sink, V: Sink, F: FileStore>(
         (outside (S.seen input.old) (W.seen out.old) (F.seen store.old))
         (outside (S.seen input.new) (W.seen out.new) (F.seen store.new)) result.refusal }
 
+    // The promise: of each history that stands at its first call of the store, what it makes of it, what stands at the
+    // end and in each image of a crash, what is printed, and that others are free to go on.
+    ensures promise { (command : Command) (bytes : List ℕ) → Give words.now command
+        → Keeps (record {
+          command = command;
+          start = start.now;
+          input = bytes;
+          before = outside (S.seen input.old) (W.seen out.old) (F.seen store.old);
+          after = outside (S.seen input.new) (W.seen out.new) (F.seen store.new);
+          refusal = result.refusal;
+        }) }
+
     // What stands after each answer and at each moment of the call, what is printed, and that good input is served.
     ensures history { (command : Command) → Give words.now command
         → ServesHistories command start.now
@@ -68,6 +82,7 @@ pub fn run<S: Source, W: Sink, V: Sink, F: FileStore>(
         (outside (S.seen input.new) (W.seen out.new) (F.seen store.new)) }
     ensures err_later { SinkLater (V.seen err.old) (V.seen err.new) }
 {
+    keeps_law();
     match execute(alloc, words, input, out, store, start) {
         Ok(()) => Status {
             code: 0,

@@ -1,14 +1,14 @@
 //! The command `create`: make a table of the draft in the input.
 
-ghost use Rattle.std.specs.Prelude.{◌≡◌, ℕ, List, Some};
+ghost use Rattle.std.specs.Prelude.{◌≡◌, ℕ, List, None, Some};
 ghost use Rattle.std.specs.Result.{result_err};
 ghost use Rattle.pm_create.specs.Creator.{actor_of, new_table};
 ghost use Rattle.pm_model_folder.specs.Changes.{origin_name};
 ghost use Rattle.pm_io.specs.Sink.{SinkLater};
 ghost use Rattle.pm_schema.specs.Again.{IsDeclared};
 ghost use Rattle.pm_store.specs.Store.{IsLater};
-ghost use Rattle.pm_command_create.specs.Create.{AnswersCreate, ActsCreate, CreatesTables, IsMade};
-ghost use Rattle.pm_command.specs.Outside.{outside, AllLater};
+ghost use Rattle.pm_command_create.specs.Create.{AnswersCreate, ActsCreate, CreatesTables, IsMade, created_text};
+ghost use Rattle.pm_command.specs.Outside.{outside, AllLater, Prints};
 
 use pm_command::{Start, print};
 use pm_create::{Creator, create_table, origin_name};
@@ -63,5 +63,13 @@ fn make_table<W: Sink, F: FileStore>(
 {
     let creator = Creator::new(alloc, session, 0, schema)?;
     create_table(alloc, creator, store)?;
+    print_created(out)
+}
+
+/// Says that the table was made.
+fn print_created<W: Sink>(out: &mut W) -> Result<(), Refusal>
+    ensures prints { Prints created_text None None (W.seen out.old) (W.seen out.new) (result_err result) }
+    ensures later { SinkLater (W.seen out.old) (W.seen out.new) }
+{
     print(out, b"created\n", None)
 }

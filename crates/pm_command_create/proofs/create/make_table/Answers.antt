@@ -21,6 +21,6 @@ returns-in_err-create_table-clause-made g c =
 pub returns-clause-made : goal.returns-clause-made
 returns-clause-made g c =
     made_printed (actor_of c.args.session 0) c.args.schema c.in_ok-creator.creator (g.W.Sink.seen c.args.out.now)
-    (g.W.Sink.seen c.print.new.out) (g.F.FileStore.seen c.args.store.now) (g.F.FileStore.seen c.create_table.new.store)
-    (result_err c.print.result) c.in_ok-creator.ensures.is_new c.in_ok-create_table.ensures.trace
-    c.in_ok-create_table.ensures.history c.print.ensures.prints
+    (g.W.Sink.seen c.print_created.new.out) (g.F.FileStore.seen c.args.store.now) (g.F.FileStore.seen c.create_table.new.store)
+    (result_err c.print_created.result) c.in_ok-creator.ensures.is_new c.in_ok-create_table.ensures.trace
+    c.in_ok-create_table.ensures.history c.print_created.ensures.prints

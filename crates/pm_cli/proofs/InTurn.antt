@@ -1,0 +1,166 @@
+-- Commands that are executed one after another.
+use Rattle.std.proofs.Common.{◌≡◌, ◌≤◌, ℕ, List, [], ◌∷◌, length, slice_get, append-nil, Option, None, Some, IsSomeAnd, Ok, refl, sym, subst, ap, ◌∙◌}
+use Rattle.std.specs.FinMap as map
+use Rattle.std.specs.List.{AllByRecursion}
+use Rattle.pm_base.specs.Known.{and_then}
+use Rattle.pm_values.specs.declared.refusal.Refusal.{Refusal}
+use Rattle.pm_store.specs.declared.call.Op.{Op}
+use Rattle.pm_store.specs.Files.{Files, files_after}
+use Rattle.pm_store.specs.Images.{CrashImage, Extends}
+use Rattle.pm_store.specs.Store.{StoreView, IsAlone, at_first_own}
+use Rattle.pm_input.specs.Lines.{row_lines}
+use Rattle.pm_schema.specs.declared.schema.TableSchema.{TableSchema}
+use Rattle.pm_model_history.specs.History.{Entry, History, no_table, rows_up_to, table}
+use Rattle.pm_model_history.specs.Merge.{HistoryRow}
+use Rattle.pm_model_history.specs.Merged.{scan_text}
+use Rattle.pm_model_folder.specs.Changes.{Actor}
+use Rattle.pm_model_folder.specs.Folder.{Folder}
+use Rattle.pm_create.specs.Making.{LeavesFiles}
+use Rattle.pm_write.specs.Taken.{all_taken}
+use Rattle.pm_words.specs.declared.command.Command.{Command}
+use Rattle.pm_words.specs.declared.command.Command.TheVariants as commands
+use Rattle.pm_command.specs.Outside.{actor}
+use Rattle.pm_command.specs.declared.start.Start.{Start}
+use Rattle.pm_command.proofs.Uncalled.{next_stands}
+use Rattle.pm_command_create.specs.Create.{IsDraftOf}
+use Rattle.pm_command_write.specs.Write.{entry_by, writer_of}
+use Rattle.pm_cli.specs.InTurn.{AreInTurn, Ending, HaveOwnNames, IsExecuted, HandsOn, MakeInTurn, MakesBy, Turn, ended, stopped, to_its_end}
+use Rattle.pm_cli.specs.Promise.{Does, Execution, Keeps, KeepsIt, HasMade, MayMake, StandsForOthers, commits, creates, has_already, scans, takes_none}
+use Rattle.pm_cli.specs.Start.{HaveOtherNames, IsNew, MayStart}
+use Rattle.pm_cli.proofs.Common.{StandsForSomeFreely, leaves_some, leaves_weaker}
+use Rattle.pm_cli.proofs.First.{acts_goes_on, first_same, from_before}
+
+-- what the law of every command says, and that of actors that are new
+abbrev pub KeepsEach : Type 0
+KeepsEach = (e : Execution) → IsExecuted e → Keeps e
+
+abbrev pub NewMayStart : Type 0
+NewMayStart = (command : Command) (me : Actor) (h : History) (f : Files) → IsNew me h f → MayStart command me h f
+
+abbrev AreNew : List Turn → History → Files → Type 0
+AreNew turns h f = AllByRecursion (λ (t : Turn). IsNew (actor t.execution.start) h f) turns
+
+abbrev HaveOthers : Execution → List Turn → Type 0
+HaveOthers e turns = AllByRecursion (λ (next : Turn). HaveOtherNames (actor e.start) (actor next.execution.start)) turns
+
+abbrev StandsWith : List Turn → History → Files → Type 0
+StandsWith turns h f = Folder f h × AreNew turns h f
+
+-- the actors of those that follow are new to what a command made
+still_new : (e : Execution) (h : History) (first : StoreView) (later : History) (f : Files) → StandsForOthers e h first later f → (turns : List Turn)
+    → HaveOthers e turns → LeavesFiles (AreNew turns h) first → AreNew turns later f
+still_new e h first later f stands [] names new = tt
+still_new e h first later f stands (t ∷ turns) (name, names) new = (
+  stands.free (actor t.execution.start) name
+      (leaves_weaker (AreNew (t ∷ turns) h) (IsNew (actor t.execution.start) h) first (λ f both. both.0) new),
+  still_new e h first later f stands turns names (leaves_weaker (AreNew (t ∷ turns) h) (AreNew turns h) first (λ f both. both.1) new),
+)
+
+-- what images have the next store has
+image_stands : (P : Files → Type 0) (before after next : Option (List Op)) → Extends P before after
+    → IsSomeAnd before (λ before. IsSomeAnd after (λ after. IsSomeAnd next (λ ops. (i : ℕ) × (length before ≤ i) × CrashImage after i (files_after ops))))
+    → IsSomeAnd next (λ ops. P (files_after ops))
+image_stands P None after next images has = absurd has
+image_stands P (Some before) None next images has = absurd has
+image_stands P (Some before) (Some after) None images has = absurd has
+image_stands P (Some before) (Some after) (Some ops) images (i, from, image) =
+    next_stands P before after i (files_after ops) images from image ops (record { ops = Some ops; faults = 0 }) refl refl
+
+-- the next store stands for what the command made
+next_store : (ending : Ending) (e : Execution) (h : History) (first next : StoreView) → first.ops ≡ e.before.store.ops → KeepsIt e h first
+    → HandsOn ending e next → (later : History) × MakesBy ending e h later × LeavesFiles (StandsForOthers e h first later) next
+next_store ended e h first next same kept is =
+    (kept.later, kept.makes, subst (λ (store : StoreView). LeavesFiles (StandsForOthers e h first kept.later) store) (sym is) kept.ends)
+next_store stopped e h first next same kept has =
+    leaves_some (MayMake e h) (StandsForOthers e h first) next
+    (image_stands (StandsForSomeFreely e h first) e.before.store.ops e.after.store.ops next.ops
+    (subst (λ (known : Option (List Op)). Extends (StandsForSomeFreely e h first) known e.after.store.ops) same kept.images) has)
+
+pub in_turn : KeepsEach → NewMayStart → (turns : List Turn) (store last : StoreView) (h : History) → AreInTurn store turns last → HaveOwnNames turns
+    → LeavesFiles (StandsWith turns h) store → (later : History) × MakeInTurn turns h later × LeavesFiles (λ f. Folder f later) last
+in_turn keeps starts [] store last h is names stands =
+    (h, refl, subst (λ (store : StoreView). LeavesFiles (λ f. Folder f h) store) (sym is) (leaves_weaker (StandsWith [] h) (λ f. Folder f h) store (λ f both. both.0) stands))
+in_turn keeps starts (t ∷ turns) store last h (same, is, alone, input, (next, leaves, rest)) (names, others) stands =
+    let e = t.execution in
+    let first = at_first_own e.before.store e.after.store in
+    let goes = acts_goes_on e.command e.start e.before e.after e.refusal is.acts in
+    let only : IsAlone e.before.store e.after.store = subst (λ (store : StoreView). IsAlone store e.after.store) (sym same) alone in
+    let here : LeavesFiles (StandsWith (t ∷ turns) h) e.before.store = subst (λ (store : StoreView). LeavesFiles (StandsWith (t ∷ turns) h) store) (sym same) stands in
+    let found = from_before (StandsWith (t ∷ turns) h) e.before.store e.after.store goes only here in
+    let may = leaves_weaker (StandsWith (t ∷ turns) h) (MayStart e.command (actor e.start) h) first
+    (λ f both. starts e.command (actor e.start) h f both.1.0) found.0 in
+    let kept : KeepsIt e h first = keeps e is found.1 h may input in
+    let new : LeavesFiles (AreNew turns h) first = leaves_weaker (StandsWith (t ∷ turns) h) (AreNew turns h) first (λ f both. both.1.1) found.0 in
+    let left = next_store t.ending e h first next (first_same (StandsWith (t ∷ turns) h) e.before.store e.after.store goes only here) kept leaves in
+    let made = in_turn keeps starts turns next last left.0 rest others
+    (leaves_weaker (StandsForOthers e h first left.0) (StandsWith turns left.0) next
+    (λ f free. (free.folder, still_new e h first left.0 f free turns names new)) left.2) in
+    (made.0, (left.0, left.1, made.1), made.2)
+
+-- ---- from nothing
+
+pub all_new : ((me : Actor) → IsNew me no_table map.empty) → (turns : List Turn) → AreNew turns no_table map.empty
+all_new new [] = tt
+all_new new (t ∷ turns) = (new (actor t.execution.start), all_new new turns)
+
+pub at_nothing : (P : Files → Type 0) (store : StoreView) → store.ops ≡ Some [] → P map.empty → LeavesFiles P store
+at_nothing P store is here = subst (λ (ops : Option (List Op)). IsSomeAnd ops (λ ops. P (files_after ops))) (sym is) here
+
+-- ---- three commands
+
+-- a table, and what it takes
+pub created : (start : Start) (bytes text : List ℕ) (later : History) → Does start bytes commands.Create no_table later text
+    → (s : TableSchema) × IsDraftOf start bytes s × (later ≡ table s [])
+created start bytes text later (creates s draft) = (s, draft, refl)
+
+none_at : (i : ℕ) (e : Entry) → slice_get [] i ≡ Some e → ⊥
+none_at i e is = let no : None ≡ Some e = is in cc
+
+-- rows are taken, and the table's entries have them
+abbrev Takes : TableSchema → List ℕ → History → Type 0
+Takes s bytes later = (rows : List HistoryRow) × (all_taken s (row_lines bytes) ≡ Ok rows)
+    × ((es : List Entry) × (later ≡ table s es) × (rows_up_to es (length es) ≡ rows))
+
+wrote : (start : Start) (bytes text : List ℕ) (user : Option (List ℕ)) (number : Option ℕ) (s : TableSchema) (later : History)
+    → Does start bytes (commands.Write user number) (table s []) later text → Takes s bytes later
+wrote start bytes text user number s later (takes_none u n t es took) = ([], took, ([], refl, refl))
+wrote start bytes text user number s later (has_already name n t es rows i e took some at reached) = absurd (none_at i e at)
+wrote start bytes text user number s later (commits u n t es rows took some) =
+    (rows, took, (entry_by start (writer_of user number) rows ∷ [], refl, append-nil rows))
+
+scanned : (start : Start) (bytes : List ℕ) (s : TableSchema) (es : List Entry) (later : History) (text : List ℕ)
+    → Does start bytes (commands.Scan None) (table s es) later text → text ≡ scan_text s (rows_up_to es (length es))
+scanned start bytes s es later text (scans at t entries within) = refl
+
+-- what a command did that succeeded
+pub does_at : (e : Execution) (h later : History) (command : Command) → e.command ≡ command → e.refusal ≡ None → HasMade e h e.refusal later
+    → (text : List ℕ) × Does e.start e.input command h later text × (e.after.out.taken ≡ and_then e.before.out.taken text)
+does_at e h later command is done makes =
+    let made = subst (λ (refusal : Option Refusal). HasMade e h refusal later) done makes in
+    (made.0, subst (λ (command : Command). Does e.start e.input command h later made.0) is made.1, made.2)
+
+-- it stood on this history
+does_on : (start : Start) (bytes text : List ℕ) (command : Command) (h at later : History) → h ≡ at → Does start bytes command h later text
+    → Does start bytes command at later text
+does_on start bytes text command h at later is = subst (λ (h : History). Does start bytes command h later text) is
+
+abbrev pub FirstSteps : Execution → Execution → Execution → Type 0
+FirstSteps create write scan = (s : TableSchema) × (rows : List HistoryRow) × IsDraftOf create.start create.input s
+    × (all_taken s (row_lines write.input) ≡ Ok rows)
+    × (scan.after.out.taken ≡ and_then scan.before.out.taken (scan_text s rows))
+
+pub first_steps : (create write scan : Execution) (user : Option (List ℕ)) (number : Option ℕ) → create.command ≡ commands.Create → create.refusal ≡ None
+    → write.command ≡ commands.Write user number → write.refusal ≡ None → scan.command ≡ commands.Scan None → scan.refusal ≡ None
+    → (last : History) → MakeInTurn (to_its_end create ∷ to_its_end write ∷ to_its_end scan ∷ []) no_table last → FirstSteps create write scan
+first_steps create write scan user number is_create created_it is_write wrote_it is_scan scanned_it last (one, makes_one, (two, makes_two, (three, makes_three, end))) =
+    let first = does_at create no_table one commands.Create is_create created_it makes_one in
+    let made = created create.start create.input first.0 one first.1 in
+    let s = made.0 in
+    let second = does_at write one two (commands.Write user number) is_write wrote_it makes_two in
+    let took = wrote write.start write.input second.0 user number s two
+    (does_on write.start write.input second.0 (commands.Write user number) one (table s []) two made.2 second.1) in
+    let es = took.2.0 in
+    let third = does_at scan two three (commands.Scan None) is_scan scanned_it makes_three in
+    let text = scanned scan.start scan.input s es three third.0
+    (does_on scan.start scan.input third.0 (commands.Scan None) two (table s es) three took.2.1 third.1) in
+    (s, took.0, made.1, took.1, third.2 ∙ ap (and_then scan.before.out.taken) (text ∙ ap (scan_text s) took.2.2))

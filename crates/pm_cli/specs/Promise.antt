@@ -1,0 +1,119 @@
+-- The promise: what each command does, in the words of histories, and what is so of all of them.
+use Rattle.std.specs.Prelude.{◌≡◌, ◌≢◌, ◌↔◌, ◌⊎◌, ℕ, suc, ◌≤◌, ℤ, int_lt, List, [], ◌∷◌, ◌++◌, codes, length, map}
+use Rattle.std.specs.Prelude.{Option, None, Some, Ok, false, Contains, decimal, slice_get}
+use Rattle.std.specs.List.{AllByRecursion}
+use Rattle.std.specs.List.Sorted.{IsStrictlyIncreasing}
+use Rattle.pm_base.specs.Known.{and_then}
+use Rattle.pm_base.specs.Newline.{line}
+use Rattle.pm_values.specs.declared.refusal.Refusal.{Refusal}
+use Rattle.pm_values.specs.declared.refusal.Refusal.TheVariants as refusals
+use Rattle.pm_io.specs.Sink.{TookPrefix}
+use Rattle.pm_store.specs.Files.{Files}
+use Rattle.pm_store.specs.Images.{Extends}
+use Rattle.pm_store.specs.Store.{StoreView, FromFirst}
+use Rattle.pm_input.specs.Lines.{row_lines}
+use Rattle.pm_schema.specs.declared.schema.TableSchema.{TableSchema}
+use Rattle.pm_model_history.specs.History.{Entry, append, History, no_table, table, rows_up_to}
+use Rattle.pm_model_history.specs.Merge.{HistoryRow}
+use Rattle.pm_model_history.specs.Merged.{scan_text}
+use Rattle.pm_model_folder.specs.Changes.{Actor}
+use Rattle.pm_model_folder.specs.Entries.{entry_at}
+use Rattle.pm_model_folder.specs.Folder.{Folder}
+use Rattle.pm_create.specs.Making.{LeavesFiles}
+use Rattle.pm_write.specs.Taken.{all_taken}
+use Rattle.pm_scan.specs.AllCalls.{id_of}
+use Rattle.pm_snapshots.specs.Lines.{snapshots_text}
+use Rattle.pm_snapshots.specs.declared.line.SnapshotLine.{SnapshotLine}
+use Rattle.pm_words.specs.declared.command.Command.{Command}
+use Rattle.pm_words.specs.declared.command.Command.TheVariants as commands
+use Rattle.pm_command.specs.Outside.{actor, Outside}
+use Rattle.pm_command.specs.declared.start.Start.{Start}
+use Rattle.pm_command_create.specs.Create.{IsDraftOf}
+use Rattle.pm_command_write.specs.Write.{entry_by, identifier_of, writer_of}
+use Rattle.pm_cli.specs.Start.{HasInput, HaveOtherNames, IsNew, MayStart}
+
+-- ---- what a command does
+-- a line of a snapshot bears the user and the identifier of its entry, where that is one of rows
+abbrev pub LineBears : Option Entry → SnapshotLine → Type 0
+LineBears (Some (append user identifier rows)) l = (l.user ≡ user) × (l.ident ≡ identifier)
+LineBears (Some other) l = Unit {0}
+LineBears None l = ⊥
+
+-- lines of snapshots, rising: of all from some id on, each of its entry
+pub record AreLines (entries : List Entry) (lines : List SnapshotLine) : Type 0 where
+  pub least : ℕ
+  pub rising : IsStrictlyIncreasing (map (λ l. l.id) lines)
+  pub exact : (id : ℕ) → Contains (map (λ l. l.id) lines) id ↔ ((1 ≤ id) × (least ≤ id) × (id ≤ length entries))
+  pub each : AllByRecursion (λ (l : SnapshotLine). LineBears (entry_at entries l.id) l) lines
+
+-- an entry of rows is the user's, and its identifier isn't smaller
+abbrev pub HasReached : List ℕ → ℤ → Entry → Type 0
+HasReached user identifier (append name number rows) = (name ≡ user) × (int_lt number identifier ≡ false)
+HasReached user identifier other = Unit {0}
+
+-- What a command does, by its start and the bytes of its input: of a history it makes a later one, and prints the text.
+pub data Does (start : Start) (bytes : List ℕ) : Command → History → History → List ℕ → Type 0 where
+  creates : (s : TableSchema) → IsDraftOf start bytes s
+      → Does start bytes commands.Create no_table (table s []) (line (codes "created"))
+  scans : (at : Option ℕ) (s : TableSchema) (es : List Entry) → id_of at (length es) ≤ length es
+      → Does start bytes (commands.Scan at) (table s es) (table s es)
+      (scan_text s (rows_up_to es (id_of at (length es))))
+  lists : (s : TableSchema) (es : List Entry) (lines : List SnapshotLine) → AreLines es lines
+      → Does start bytes commands.Snapshots (table s es) (table s es) (snapshots_text lines)
+  takes_none : (user : Option (List ℕ)) (number : Option ℕ) (s : TableSchema) (es : List Entry)
+      → all_taken s (row_lines bytes) ≡ Ok []
+      → Does start bytes (commands.Write user number) (table s es) (table s es) (line (codes "nothing to commit"))
+  has_already : (user : List ℕ) (number : Option ℕ) (s : TableSchema) (es : List Entry) (rows : List HistoryRow)
+      (i : ℕ) (e : Entry) → all_taken s (row_lines bytes) ≡ Ok rows → rows ≢ [] → slice_get es i ≡ Some e
+      → HasReached user (identifier_of number) e
+      → Does start bytes (commands.Write (Some user) number) (table s es) (table s es) (line (codes "already"))
+  commits : (user : Option (List ℕ)) (number : Option ℕ) (s : TableSchema) (es : List Entry) (rows : List HistoryRow)
+      → all_taken s (row_lines bytes) ≡ Ok rows → rows ≢ []
+      → Does start bytes (commands.Write user number) (table s es)
+      (table s (es ++ entry_by start (writer_of user number) rows ∷ []))
+      (line (codes "snapshot " ++ decimal (suc (length es))))
+
+-- ---- what is so of all commands
+-- a command that was executed: what it was given, what was outside before and after, and why it was refused, if it was
+pub record Execution : Type 0 where
+  pub command : Command
+  pub start : Start
+  pub input : List ℕ
+  pub before : Outside
+  pub after : Outside
+  pub refusal : Option Refusal
+
+-- what it may make of a history: what its command does, or nothing
+abbrev pub MayMake : Execution → History → History → Type 0
+MayMake e h later = (later ≡ h) ⊎ ((text : List ℕ) × Does e.start e.input e.command h later text)
+
+-- What it made, by its answer. After success or a fault of the sink it did it, and the text was printed or a prefix of
+-- it; after a fault of the store it did it or nothing, after any other refusal nothing, and nothing was printed.
+abbrev pub HasMade : Execution → History → Option Refusal → History → Type 0
+HasMade e h None later = (text : List ℕ) × Does e.start e.input e.command h later text
+    × (e.after.out.taken ≡ and_then e.before.out.taken text)
+HasMade e h (Some (refusals.SinkFault snapshot)) later = (text : List ℕ)
+    × Does e.start e.input e.command h later text × TookPrefix e.before.out.taken e.after.out.taken text
+HasMade e h (Some (refusals.StoreFault path)) later = MayMake e h later × (e.after.out ≡ e.before.out)
+HasMade e h (Some other) later = (later ≡ h) × (e.after.out ≡ e.before.out)
+
+-- Files stand for the history, and each other actor that was new to the one at first is new to it.
+pub record StandsForOthers (e : Execution) (h : History) (first : StoreView) (later : History) (f : Files)
+    : Type 0 where
+  pub folder : Folder f later
+  pub free : (other : Actor) → HaveOtherNames (actor e.start) other → LeavesFiles (IsNew other h) first
+      → IsNew other later f
+
+-- Of a history that stands at its first call: what it made stands at the end, and in each image of a crash what it may
+-- make; and others are free to go on there.
+pub record KeepsIt (e : Execution) (h : History) (first : StoreView) : Type 0 where
+  pub later : History
+  pub makes : HasMade e h e.refusal later
+  pub ends : LeavesFiles (StandsForOthers e h first later) e.after.store
+  pub images : Extends (λ f. (later : History) × MayMake e h later × StandsForOthers e h first later f)
+      first.ops e.after.store.ops
+
+-- the promise: so it is where nobody else acts from the first call on
+abbrev pub Keeps : Execution → Type 0
+Keeps e = FromFirst (λ first after. (h : History) → LeavesFiles (MayStart e.command (actor e.start) h) first
+    → HasInput e.command e.input e.before.input.left → KeepsIt e h first) e.before.store e.after.store

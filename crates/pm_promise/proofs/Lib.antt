@@ -1,9 +1,0 @@
-mod Common
-mod Create
-mod First
-mod InTurn
-mod Origin
-mod Resting
-mod Scan
-mod Snapshots
-mod Write

@@ -1,5 +1,0 @@
-use Rattle.pm_promise.proofs.Snapshots.{keeps}
-use Rattle.pm_promise.proofs.laws.keeps_snapshots_law.Goals as goal
-
-pub returns : goal.returns
-returns c = keeps c.next_command_law.ensures.same

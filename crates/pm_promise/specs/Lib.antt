@@ -1,3 +1,0 @@
-pub mod InTurn
-pub mod Promise
-pub mod Start
