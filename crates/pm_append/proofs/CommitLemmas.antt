@@ -50,7 +50,8 @@ use Rattle.pm_model_folder.specs.Entries.{AreLive, BearsEntry, entry_at, fence_a
 use Rattle.pm_model_folder.specs.Folder.{HasTable, IsFrom}
 use Rattle.pm_model_folder.specs.Meaning.{HasSnapshotAt, SnapshotAt}
 use Rattle.pm_model_folder.specs.Paths.{snapshot_path}
-use Rattle.pm_model_folder.specs.Stored.{HasGroup, HasRun, top_of}
+use Rattle.pm_model_folder.specs.Stored.{HasGroup, HasRun}
+use Rattle.pm_runs.specs.Stand.{top_of}
 use Rattle.pm_model_folder.proofs.Facts.{same-or-other, some-none}
 use Rattle.pm_model_folder.proofs.HoldLemmas.{ContentsStay, Holds, OneContents, commit-held, entries-held, group-held, names-held, names-were, one-commit}
 use Rattle.pm_append.specs.Commit.{AreBase, AreBaseIf, Attempt, HasAppended, IsAsMade, IsFoundAs, IsReady}

@@ -16,7 +16,7 @@ use Rattle.pm_engine.specs.Meaning.{Meaning}
 use Rattle.pm_engine.specs.OfSchema.{meaning_of}
 use Rattle.pm_model_following.specs.Following.{HaveBases, base_of, compacted, greatest, is_named}
 use Rattle.pm_model_following.specs.Groups.{group_of, rows_in}
-use Rattle.pm_model_folder.specs.Stored.{StandForRows, StoredRun, oldest_first, rows_after, top_of}
+use Rattle.pm_runs.specs.Stand.{StandForRows, StoredRun, oldest_first, rows_after, top_of}
 
 -- what the law of runs that are added says
 pub record AddedFacts : Type 0 where

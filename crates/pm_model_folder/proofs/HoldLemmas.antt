@@ -23,7 +23,8 @@ use Rattle.pm_model_folder.specs.Commits.{HasCommit, IsCommitted, Names, live_in
 use Rattle.pm_model_folder.specs.Entries.{BearsCounts}
 use Rattle.pm_model_folder.specs.Meaning.{SnapshotAt}
 use Rattle.pm_model_folder.specs.Paths.{snapshot_path}
-use Rattle.pm_model_folder.specs.Stored.{HasFile, HasGroup, HasRun, HaveFileRows, HoldChanges, HoldsChange, StoredRun}
+use Rattle.pm_model_folder.specs.Stored.{HasFile, HasGroup, HasRun, HaveFileRows, HoldChanges, HoldsChange}
+use Rattle.pm_runs.specs.Stand.{StoredRun}
 
 -- the files that are there stay as they are
 abbrev pub Holds : Files → Files → Type 0

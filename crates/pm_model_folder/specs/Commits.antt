@@ -20,7 +20,8 @@ use Rattle.pm_levels.specs.Runs.{RunView}
 use Rattle.pm_model_folder.specs.Entries.{BearsCounts, BearsEntry, entry_at, fence_at}
 use Rattle.pm_model_folder.specs.Meaning.{HasSnapshotAt, SnapshotAt}
 use Rattle.pm_model_folder.specs.Paths.{schema_path, snapshot_path}
-use Rattle.pm_model_folder.specs.Stored.{HasGroup, HasRun, HoldsChange, StoredRun}
+use Rattle.pm_model_folder.specs.Stored.{HasGroup, HasRun, HoldsChange}
+use Rattle.pm_runs.specs.Stand.{StoredRun}
 
 -- the files that are live after the entries of a snapshot's lists
 abbrev pub live_in : Contents → Live

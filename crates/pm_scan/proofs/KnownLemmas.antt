@@ -30,7 +30,8 @@ use Rattle.pm_model_folder.specs.Folder.{Folder}
 use Rattle.pm_model_folder.specs.Ledger.{IsKnown, KeepsFiles, KnowsPast, Past, Stands}
 use Rattle.pm_model_folder.specs.Meaning.{HasSnapshotAt, SnapshotAt}
 use Rattle.pm_model_folder.specs.Paths.{snapshot_path}
-use Rattle.pm_model_folder.specs.Stored.{HasGroup, HasRun, HaveFileRows, StoredRun}
+use Rattle.pm_model_folder.specs.Stored.{HasGroup, HasRun, HaveFileRows}
+use Rattle.pm_runs.specs.Stand.{StoredRun}
 use Rattle.pm_scan.specs.Collected.{Closes, Collected, Takes, collected_of, nothing_of}
 use Rattle.pm_scan.specs.Jobs.{Grouped, all_jobs, file_jobs, run_jobs}
 use Rattle.pm_scan.specs.Meaning.{HaveTaken, IsReadingOf, IsScan}

@@ -16,7 +16,8 @@ use Rattle.pm_levels.specs.Runs.{IsRun, RunView}
 use Rattle.pm_manifest.specs.Live.{Live}
 use Rattle.pm_run.specs.Order.{keys_of}
 use Rattle.pm_run.specs.Writing.{AreRising}
-use Rattle.pm_model_folder.specs.Stored.{HasFile, HasGroup, HasRun, HaveFileRows, StoredRun}
+use Rattle.pm_model_folder.specs.Stored.{HasFile, HasGroup, HasRun, HaveFileRows}
+use Rattle.pm_runs.specs.Stand.{StoredRun}
 use Rattle.pm_scan.specs.Collected.{Collected, collected_of}
 use Rattle.pm_scan.specs.Jobs.{Grouped, all_jobs, file_jobs, job_of, run_jobs}
 use Rattle.pm_scan.specs.Meaning.{HaveTaken}

@@ -27,7 +27,8 @@ use Rattle.pm_manifest.specs.Live.{Live}
 use Rattle.pm_manifest.specs.declared.entry.Entry as files
 use Rattle.pm_model_contents.specs.Groups.{GroupRuns}
 use Rattle.pm_model_contents.specs.Runs.{AreRunsOf, IsLive}
-use Rattle.pm_model_folder.specs.Stored.{HasGroup, HasRun, StoredRun, oldest_first}
+use Rattle.pm_model_folder.specs.Stored.{HasGroup, HasRun}
+use Rattle.pm_runs.specs.Stand.{StoredRun, oldest_first}
 use Rattle.pm_scan.specs.Collected.{Collected, collected_of, nothing_of}
 use Rattle.pm_scan.specs.Jobs.{Grouped, all_jobs, run_jobs}
 use Rattle.pm_scan.specs.Meaning.{HaveTaken}

@@ -26,7 +26,8 @@ use Rattle.pm_run.specs.Order.{are_in_order, keys_of, last_key, may_follow}
 use Rattle.pm_run.specs.Reader.{OpensRun, RunView as ReaderView, StillGives, before_first}
 use Rattle.pm_run.specs.Rows.{Follow, HasRows, Opened, opened_with}
 use Rattle.pm_run.specs.Writing.{AreRising}
-use Rattle.pm_model_folder.specs.Stored.{HasFile, HasRun, HaveFileRows, StoredRun}
+use Rattle.pm_model_folder.specs.Stored.{HasFile, HasRun, HaveFileRows}
+use Rattle.pm_runs.specs.Stand.{StoredRun}
 use Rattle.pm_scan.specs.Collected.{Closes, Collected, HasMore, RefusesFile, Takes, collected_of, misread, unopened}
 use Rattle.pm_scan.specs.Jobs.{file_jobs, job_of, run_jobs}
 use Rattle.pm_scan.specs.Meaning.{HaveTaken}

@@ -1,0 +1,4 @@
+mod GoesOnLemmas
+mod Life
+mod RunLemmas
+mod SuccessionLemmas
