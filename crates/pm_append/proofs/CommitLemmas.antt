@@ -45,7 +45,7 @@ use Rattle.pm_write.specs.Batch.{GroupRows, Groups, IsBatchOf, held_of, numbered
 use Rattle.pm_write.specs.Files.{AreNewFiles, AreWritten, IsWritten, exceeds, next_of, no_sequence}
 use Rattle.pm_write.specs.declared.files.NewFile.{NewFile}
 use Rattle.pm_model_folder.specs.Changes.{Actor, IsNamedBy, NamesOwn}
-use Rattle.pm_model_folder.specs.Commits.{AreRunsAt, BeginsOn, FollowsOn, HasCommit, IsAppend, IsAppended, IsCommitted, IsFresh, Names, live_in}
+use Rattle.pm_model_folder.specs.Commits.{AreRunsAt, BeginsOn, FollowsOn, HasCommit, IsAppended, IsCommit, IsCommitted, IsFresh, Names, live_in}
 use Rattle.pm_model_folder.specs.Entries.{AreLive, BearsEntry, entry_at, fence_at, raised}
 use Rattle.pm_model_folder.specs.Folder.{HasTable, IsFrom}
 use Rattle.pm_model_folder.specs.Meaning.{HasSnapshotAt, SnapshotAt}
@@ -898,7 +898,7 @@ module _ (facts : Facts) (me : Actor) (f after : Files) (s : TableSchema) (entri
       subst (λ (rs : List HistoryRow). IsAppended after s g rs before now) (sym x.none)
       (facts.one_runs (live_in contents) g now before is (same-runs live0 (live_in contents) g before x.same was))
 
-  appends : IsAppend f after s entries e
+  appends : IsCommit f after s entries e
   appends = record {
     committed = committed;
     begins = first-begins;
@@ -933,7 +933,7 @@ module _ (facts : Facts) (me : Actor) (f after : Files) (s : TableSchema) (entri
         (facts.held s t.rows t.batch ready.batch) made.numbered.are_new;
   }
 
-  pub published : IsAppend f after s entries (append t.author.user t.author.identifier t.rows) × NamesOwn me f after s (length entries)
+  pub published : IsCommit f after s entries (append t.author.user t.author.identifier t.rows) × NamesOwn me f after s (length entries)
       × IsAsMade after s (suc (length entries)) t ready.made × HasAppended after s t.newest t.author (length t.rows)
   published = (
     appends,

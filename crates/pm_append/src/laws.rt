@@ -7,7 +7,7 @@ ghost use Rattle.pm_store.specs.Files.{Files, Puts};
 ghost use Rattle.pm_model_history.specs.History.{Entry, append as append_entry};
 ghost use Rattle.pm_schema.specs.declared.schema.TableSchema.{TableSchema};
 ghost use Rattle.pm_model_folder.specs.Changes.{Actor, IsOwn, NamesOwn};
-ghost use Rattle.pm_model_folder.specs.Commits.{IsAppend};
+ghost use Rattle.pm_model_folder.specs.Commits.{IsCommit};
 ghost use Rattle.pm_model_folder.specs.Paths.{snapshot_path};
 ghost use Rattle.pm_append.specs.Files.{IsAppendOf};
 ghost use Rattle.pm_append.specs.declared.newest.CommitFile.{CommitFile as FileView};
@@ -28,7 +28,7 @@ pub fn append_law()
     ensures { (me : Actor) (f after : Files) (s : TableSchema) (entries : List Entry) (t : Attempt) →
         (ready : IsReady me f s entries t) → map.get f (snapshot_path (suc (length entries))) ≡ None →
         Puts f (snapshot_path (suc (length entries))) (Some t.made.text) after →
-        IsAppend f after s entries (append_entry t.author.user t.author.identifier t.rows)
+        IsCommit f after s entries (append_entry t.author.user t.author.identifier t.rows)
         × NamesOwn me f after s (length entries)
         × IsAsMade after s (suc (length entries)) t ready.made
         × HasAppended after s t.newest t.author (length t.rows) }

@@ -12,8 +12,8 @@ use Rattle.pm_model_history.specs.History.{Entry, IsTableOf, append, table}
 use Rattle.pm_model_history.specs.Merge.{HistoryRow}
 use Rattle.pm_schema.specs.declared.schema.TableSchema.{TableSchema}
 use Rattle.pm_snapshot.specs.Names.{greatest}
-use Rattle.pm_model_folder.specs.Changes.{Actor, IsNamedBy, NamesOwn, appended}
-use Rattle.pm_model_folder.specs.Commits.{IsAppend, Names}
+use Rattle.pm_model_folder.specs.Changes.{Actor, IsNamedBy, NamesOwn, committed as commits}
+use Rattle.pm_model_folder.specs.Commits.{IsCommit, Names}
 use Rattle.pm_model_folder.specs.Folder.{Folder, HasTable}
 use Rattle.pm_model_folder.specs.Ledger.{Advances, HasNamedNone, IsKnown, KnowsTable, Past, Stands, count_of}
 use Rattle.pm_model_folder.specs.Meaning.{HasSnapshotAt}
@@ -52,7 +52,7 @@ NamesNone = (me : Actor) (f : Files) (p : Past) (s : TableSchema) (id : ℕ) (pa
 abbrev pub AppendsTry : Type 0
 AppendsTry = (me : Actor) (f after : Files) (s : TableSchema) (entries : List Entry) (t : Attempt) → (ready : IsReady me f s entries t)
     → map.get f (snapshot_path (suc (length entries))) ≡ None → Puts f (snapshot_path (suc (length entries))) (Some t.made.text) after
-    → IsAppend f after s entries (append t.author.user t.author.identifier t.rows) × NamesOwn me f after s (length entries)
+    → IsCommit f after s entries (append t.author.user t.author.identifier t.rows) × NamesOwn me f after s (length entries)
     × IsAsMade after s (suc (length entries)) t ready.made × HasAppended after s t.newest t.author (length t.rows)
 
 -- ---- nothing changes
@@ -190,10 +190,10 @@ module _ (one : OneContents) (same : SameContents) (paths : NamedPaths) (live_la
         ap (λ (a : Author). append a.user a.identifier t.rows) is_try.same_author
         ∙ ap (λ (rs : List HistoryRow). append own.author.user own.author.identifier rs) is_try.same_rows
 
-    appends : IsAppend f after s entries e × NamesOwn (actor_of own) f after s (length entries) × HasAppended after s t.newest own.author (length rows)
+    appends : IsCommit f after s entries e × NamesOwn (actor_of own) f after s (length entries) × HasAppended after s t.newest own.author (length rows)
     appends =
         let all = append_law (actor_of own) f after s entries t ready absent-next puts in (
-          subst (λ (e : Entry). IsAppend f after s entries e) same-entry all.0,
+          subst (λ (e : Entry). IsCommit f after s entries e) same-entry all.0,
           all.1,
           subst (λ (a : Author). HasAppended after s t.newest a (length rows)) is_try.same_author
               (subst (λ (rs : List HistoryRow). HasAppended after s t.newest t.author (length rs)) is_try.same_rows all.3),
@@ -227,7 +227,7 @@ module _ (one : OneContents) (same : SameContents) (paths : NamedPaths) (live_la
     pub published-makes : (later : Past) × MakesOwn own rows f p after later × HasCommitted own.author rows x.id later × IsNext later
     published-makes =
         let q = later_past p s entries e after in
-        let change = appended s entries own.author.user own.author.identifier rows t.made.text newest-there bound absent-next puts known.fit appends.0 appends.1 in
+        let change = commits s entries e t.made.text newest-there bound absent-next puts known.fit appends.0 appends.1 in
         let advances : Advances (actor_of own) f p after q =
         append-advances one same paths (actor_of own) f after p s entries e (Some t.made.text) stands tried.built.no_partition own-table.1 known.unnamed newest-there bound
         puts appends.1 change in (

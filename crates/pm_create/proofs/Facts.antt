@@ -25,7 +25,7 @@ use Rattle.pm_machine.specs.Trace.{Event, IsFailed, MayEnd, Recounts, after_answ
 use Rattle.pm_machine.proofs.Facts.{image_changed}
 use Rattle.pm_machine.proofs.PhaseFacts.{recounts_of}
 use Rattle.pm_model_history.specs.History.{History, IsTableOf, no_table, table, GoesOn}
-use Rattle.pm_model_folder.specs.Changes.{Actor, Change, IsNoOrigin, appended, its_origin, nothing, own_file, schema}
+use Rattle.pm_model_folder.specs.Changes.{Actor, Change, IsNoOrigin, committed, its_origin, nothing, own_file, schema}
 use Rattle.pm_model_folder.specs.Folder.{Folder}
 use Rattle.pm_model_folder.specs.Meaning.{HasSnapshotAt}
 use Rattle.pm_model_folder.specs.Paths.{schema_path, snapshot_file}
@@ -363,7 +363,7 @@ free_still path other f after h later (schema s bytes there puts reads) free abs
     origin_there (Some origin) there name is at =
         let same : origin ≡ name = cc in
         some-none (map.get f (snapshot_file origin)) there (ap (λ (n : List ℕ). map.get f (snapshot_file n)) same ∙ ap (map.get f) at ∙ absent)
-free_still path other f after h later (appended s entries user identifier rows bytes newest bound none puts fit commit own) free absent = free absent
+free_still path other f after h later (committed s entries e bytes newest bound none puts fit commit own) free absent = free absent
 
 known_at : (t : NewTable) (m : Phase) (other : Actor) (f after : Files) (h later : History) → Folder f h → Change other f h after later
     → KnowsAt t m f h → KnowsAt t m after later

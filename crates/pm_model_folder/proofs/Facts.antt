@@ -1,5 +1,5 @@
 -- What the kinds of change leave of a folder, and what its listings say.
-use Rattle.std.proofs.Common.{◌≡◌, ◌≢◌, ◌↔◌, ◌⊎◌, inl, inr, ℕ, ℤ, ◌+◌, ◌<◌, ◌≤◌, ◌==◌, nat_le, zero, suc, List, [], ◌∷◌, ◌++◌, take, length, length-append, Bool, true, false, Contains, Option, Some, None, IsSome, IsSomeAnd, refl, sym, ap, subst, ◌∙◌, arith}
+use Rattle.std.proofs.Common.{◌≡◌, ◌≢◌, ◌↔◌, ◌⊎◌, inl, inr, ℕ, ℤ, ◌+◌, ◌<◌, ◌≤◌, ◌==◌, nat_le, zero, suc, List, [], ◌∷◌, ◌++◌, take, drop, get_or, length, length-append, Bool, true, false, Contains, Option, Some, None, IsSome, IsSomeAnd, refl, sym, ap, subst, ◌∙◌, arith}
 use Rattle.std.specs.FinMap as map
 use Rattle.std.specs.List.{AllByRecursion, flat_map}
 use Rattle.std.proofs.lemmas.Bool.Decides.{nat_tests}
@@ -13,9 +13,9 @@ use Rattle.pm_model_following.specs.Following.{HaveBases}
 use Rattle.pm_schema.specs.declared.schema.TableSchema.{TableSchema}
 use Rattle.pm_snapshot.specs.Names.{greatest, snapshot_name}
 use Rattle.pm_snapshot.specs.declared.snapshot.Snapshot.{Snapshot}
-use Rattle.pm_model_folder.specs.Changes.{Actor, IsNoOrigin, IsOwn, Change, nothing, own_file, schema, appended}
-use Rattle.pm_model_folder.specs.Commits.{BeginsOn, FollowsOn, IsAppend, IsCommitted, Names, NeverReturn}
-use Rattle.pm_model_folder.specs.Folder.{AreEntriesOf, Folder, HasCommits, HasFloor, HaveFiles, HasNoTable, HasTable, IsFrom, IsRowOf}
+use Rattle.pm_model_folder.specs.Changes.{Actor, IsNoOrigin, IsOwn, Change, nothing, own_file, schema, committed}
+use Rattle.pm_model_folder.specs.Commits.{BeginsOn, FollowsOn, IsCommit, IsCommitted, Names, NeverReturn}
+use Rattle.pm_model_folder.specs.Folder.{AreEntriesOf, Folder, HasCommits, HasFloor, HaveFiles, HasNoTable, HasTable, IsEntryAfter, IsFrom, IsRowOf}
 use Rattle.pm_model_folder.specs.Meaning.{SchemaAt, SnapshotAt, HasSnapshotAt, LeadsTo}
 use Rattle.pm_model_folder.specs.Paths.{schema_folder, schema_name, schema_path, snapshot_folder, snapshot_file, snapshot_path, consumer_path, tag_path, changelog_path, floor_path}
 use Rattle.pm_model_folder.proofs.HoldLemmas.{Holds, ContentsStay, OneContents, commit-was, committed-held, names-held, names-were}
@@ -165,21 +165,51 @@ led_before : (f after : Files) (folder name path : List ℕ) (content : Option (
 led_before f after folder name path content puts other (q, there, leads) =
     (q, still_there after f q (sym (puts.others q (λ e. other (ap (name_in folder) (sym e) ∙ leads)))) there, leads)
 
+-- the file that leads to the name of a schema or of a snapshot is the one of its path
+schema-file : (f : Files) → HaveFiles f → (id : ℕ) → id ≤ greatest → LeadsTo f schema_folder (schema_name id) → IsSome (map.get f (schema_path id))
+schema-file f names id within led = subst (λ q. IsSome (map.get f q)) (names.schemas id led.0 within led.1 led.2) led.1
+
+snapshot-file : (f : Files) → HaveFiles f → (id : ℕ) → id ≤ greatest → LeadsTo f snapshot_folder (snapshot_name id) → IsSome (map.get f (snapshot_path id))
+snapshot-file f names id within led = subst (λ q. IsSome (map.get f q)) (names.snapshots id led.0 within led.1 led.2) led.1
+
+-- a path that leads elsewhere than the one that appeared was there before
+there_before : (f after : Files) (folder name path : List ℕ) (content : Option (List ℕ)) → Puts f path content after
+    → name_in folder path ≢ Some name → (q : List ℕ) → IsSome (map.get after q) → name_in folder q ≡ Some name → IsSome (map.get f q)
+there_before f after folder name path content puts other q there leads =
+    still_there after f q (sym (puts.others q (λ e. other (ap (name_in folder) (sym e) ∙ leads)))) there
+
+pub same-or-other : (a b : ℕ) → (a ≡ b) ⊎ (a ≢ b)
+same-or-other a b = at (a == b) refl
+  where
+    at : (t : Bool) → (a == b) ≡ t → (a ≡ b) ⊎ (a ≢ b)
+    at true is = inl (grind (arith, nat_tests))
+    at false is = inr (λ e. grind (arith, nat_tests))
+
+same-path : (a b : List ℕ) → (a ≡ b) ⊎ (a ≢ b)
+same-path [] [] = inl refl
+same-path [] (y ∷ b) = inr (λ e. cc)
+same-path (x ∷ a) [] = inr (λ e. cc)
+same-path (x ∷ a) (y ∷ b) = elim (same-or-other x y) as (λ _. (x ∷ a ≡ y ∷ b) ⊎ (x ∷ a ≢ y ∷ b)) [
+  | inr other ↦ inr (λ e. other (ap (λ (l : List ℕ). get_or l 0 0) e))
+  | inl first ↦ elim (same-path a b) as (λ _. (x ∷ a ≡ y ∷ b) ⊎ (x ∷ a ≢ y ∷ b)) [
+    | inl rest ↦ inl (λ i. first i ∷ rest i)
+    | inr other ↦ inr (λ e. other (ap (drop 1) e))
+  ]
+]
+
 names-same : (f after : Files) → ((path : List ℕ) → map.get after path ≡ map.get f path) → HaveFiles f → HaveFiles after
 names-same f after same names = record {
-  schemas = λ id within led.
-      still_there f after (schema_path id) (same (schema_path id)) (names.schemas id within (led.0, still_there after f led.0 (sym (same led.0)) led.1, led.2));
-  snapshots = λ id within led.
-      still_there f after (snapshot_path id) (same (snapshot_path id)) (names.snapshots id within (led.0, still_there after f led.0 (sym (same led.0)) led.1, led.2));
+  schemas = λ id q within there leads. names.schemas id q within (still_there after f q (sym (same q)) there) leads;
+  snapshots = λ id q within there leads. names.snapshots id q within (still_there after f q (sym (same q)) there) leads;
 }
 
 names-own : (me : Actor) (f after : Files) (path content : List ℕ) → IsOwn me path → Puts f path (Some content) after → HaveFiles f
     → HaveFiles after
 names-own me f after path content own puts names = record {
-  schemas = λ id within led. still_there f after (schema_path id) (puts.others (schema_path id) (schema-own me path id own))
-      (names.schemas id within (led_before f after schema_folder (schema_name id) path (Some content) puts (own-no_schema me path id own) led));
-  snapshots = λ id within led. still_there f after (snapshot_path id) (puts.others (snapshot_path id) (snapshot-own me path id own))
-      (names.snapshots id within (led_before f after snapshot_folder (snapshot_name id) path (Some content) puts (own-no_snapshot me path id own) led));
+  schemas = λ id q within there leads. names.schemas id q within
+      (there_before f after schema_folder (schema_name id) path (Some content) puts (own-no_schema me path id own) q there leads) leads;
+  snapshots = λ id q within there leads. names.snapshots id q within
+      (there_before f after snapshot_folder (snapshot_name id) path (Some content) puts (own-no_snapshot me path id own) q there leads) leads;
 }
 
 -- ---- no path has another content
@@ -252,19 +282,22 @@ new-exact f after s bytes folder there puts (suc id) within = (
 )
 
 -- and its schema's file is the only one that leads to the name of a schema
-new-schema : (f after : Files) (bytes : List ℕ) → HasNoTable f → Puts f (schema_path 0) (Some bytes) after → (id : ℕ) → id ≤ greatest
-    → LeadsTo after schema_folder (schema_name id) → IsSome (map.get after (schema_path id))
-new-schema f after bytes folder puts zero within led = subst (λ (found : Option (List ℕ)). IsSome found) (sym puts.here) refl
-new-schema f after bytes folder puts (suc id) within led =
-    let before = led_before f after schema_folder (schema_name (suc id)) (schema_path 0) (Some bytes) puts (first-other (suc id) within (λ e. omega (arith, e))) led in
-    absurd (some-none (map.get f (schema_path (suc id))) (folder.names.schemas (suc id) within before) (folder.schemas (suc id) within))
+new-schema : (f after : Files) (bytes : List ℕ) → HasNoTable f → Puts f (schema_path 0) (Some bytes) after → (id : ℕ) (q : List ℕ) → id ≤ greatest
+    → IsSome (map.get after q) → name_in schema_folder q ≡ Some (schema_name id) → q ≡ schema_path id
+new-schema f after bytes folder puts zero q within there leads = elim (same-path q (schema_path 0)) as (λ _. q ≡ schema_path 0) [
+  | inl same ↦ same
+  | inr other ↦ folder.names.schemas 0 q within (still_there after f q (sym (puts.others q other)) there) leads
+]
+new-schema f after bytes folder puts (suc id) q within there leads =
+    folder.names.schemas (suc id) q within
+    (there_before f after schema_folder (schema_name (suc id)) (schema_path 0) (Some bytes) puts (first-other (suc id) within (λ e. omega (arith, e))) q there leads) leads
 
 new-names : (f after : Files) (bytes : List ℕ) → HasNoTable f → Puts f (schema_path 0) (Some bytes) after → HaveFiles after
 new-names f after bytes folder puts = record {
   schemas = new-schema f after bytes folder puts;
-  snapshots = λ id within led. still_there f after (snapshot_path id) (puts.others (snapshot_path id) (snapshot-schema _ 0))
-      (folder.names.snapshots id within (led_before f after snapshot_folder (snapshot_name id) (schema_path 0) (Some bytes) puts
-      (λ e. none-some (snapshot_name id) (sym (schema-none 0) ∙ e)) led));
+  snapshots = λ id q within there leads. folder.names.snapshots id q within
+      (there_before f after snapshot_folder (snapshot_name id) (schema_path 0) (Some bytes) puts
+      (λ e. none-some (snapshot_name id) (sym (schema-none 0) ∙ e)) q there leads) leads;
 }
 
 -- its origin has the name of no snapshot, since no snapshot was there
@@ -314,19 +347,25 @@ split-last n id within = at (nat_le id n) refl
     at true is = inl (grind (arith, nat_tests))
     at false is = inr (grind (arith, nat_tests))
 
-pub same-or-other : (a b : ℕ) → (a ≡ b) ⊎ (a ≢ b)
-same-or-other a b = at (a == b) refl
-  where
-    at : (t : Bool) → (a == b) ≡ t → (a ≡ b) ⊎ (a ≢ b)
-    at true is = inl (grind (arith, nat_tests))
-    at false is = inr (λ e. grind (arith, nat_tests))
+-- a compaction's base is below a number
+abbrev BaseBelow : ℕ → Entry → Type 0
+BaseBelow k (append user identifier rows) = Unit {0}
+BaseBelow k (compaction base groups) = base < k
+BaseBelow k (fence number) = Unit {0}
 
-bases-append : (k : ℕ) (entries : List Entry) (user : List ℕ) (identifier : ℤ) (rows : List HistoryRow) → HaveBases k entries
-    → HaveBases k (entries ++ append user identifier rows ∷ [])
-bases-append k [] user identifier rows have = tt
-bases-append k (append other number more ∷ entries) user identifier rows have = bases-append (k + 1) entries user identifier rows have
-bases-append k (fence number ∷ entries) user identifier rows have = bases-append (k + 1) entries user identifier rows have
-bases-append k (compaction base groups ∷ entries) user identifier rows have = (have.0, bases-append (k + 1) entries user identifier rows have.1)
+one-base : (k : ℕ) (e : Entry) → BaseBelow k e → HaveBases k (e ∷ [])
+one-base k (append user identifier rows) below = tt
+one-base k (compaction base groups) below = (below, tt)
+one-base k (fence number) below = tt
+
+later : (k : ℕ) (entries : List Entry) (e : Entry) → BaseBelow (k + suc (length entries)) e → BaseBelow ((k + 1) + length entries) e
+later k entries e below = subst (λ n. BaseBelow n e) (let same : k + suc (length entries) ≡ (k + 1) + length entries = omega arith in same) below
+
+bases-append : (k : ℕ) (entries : List Entry) (e : Entry) → BaseBelow (k + length entries) e → HaveBases k entries → HaveBases k (entries ++ e ∷ [])
+bases-append k [] e below have = one-base k e (subst (λ n. BaseBelow n e) (let none : k + 0 ≡ k = omega arith in none) below)
+bases-append k (append user identifier rows ∷ entries) e below have = bases-append (k + 1) entries e (later k entries e below) have
+bases-append k (fence number ∷ entries) e below have = bases-append (k + 1) entries e (later k entries e below) have
+bases-append k (compaction base groups ∷ entries) e below have = (have.0, bases-append (k + 1) entries e (later k entries e below) have.1)
 
 module _ (one : OneContents) (stay : ContentsStay) (f after : Files) (s : TableSchema) (entries : List Entry) (e : Entry) (bytes : List ℕ)
     (folder : HasTable f s entries) (within : suc (length entries) ≤ greatest) (absent : map.get f (snapshot_path (suc (length entries))) ≡ None)
@@ -374,14 +413,17 @@ module _ (one : OneContents) (stay : ContentsStay) (f after : Files) (s : TableS
 
   names-after : HaveFiles after
   names-after = record {
-    schemas = λ id bound led. still_there f after (schema_path id) (puts.others (schema_path id) (λ e. snapshot-schema _ id (sym e)))
-        (folder.names.schemas id bound (led_before f after schema_folder (schema_name id) (snapshot_path last) (Some bytes) puts
-        (λ e. none-some (schema_name id) (sym (snapshot-none (snapshot_name last)) ∙ e)) led));
-    snapshots = λ id bound led. elim (same-or-other id last) as (λ _. IsSome (map.get after (snapshot_path id))) [
-      | inl same ↦ subst (λ id. IsSome (map.get after (snapshot_path id))) (sym same) here
-      | inr other ↦ still_there f after (snapshot_path id) (puts.others (snapshot_path id) (other-snapshot id last bound within other))
-          (folder.names.snapshots id bound (led_before f after snapshot_folder (snapshot_name id) (snapshot_path last) (Some bytes) puts
-          (other-led last id within bound (λ same. other (sym same))) led))
+    schemas = λ id q bound there leads. folder.names.schemas id q bound
+        (there_before f after schema_folder (schema_name id) (snapshot_path last) (Some bytes) puts
+        (λ e. none-some (schema_name id) (sym (snapshot-none (snapshot_name last)) ∙ e)) q there leads) leads;
+    snapshots = λ id q bound there leads. elim (same-or-other id last) as (λ _. q ≡ snapshot_path id) [
+      | inl same ↦ elim (same-path q (snapshot_path last)) as (λ _. q ≡ snapshot_path id) [
+        | inl is ↦ is ∙ ap snapshot_path (sym same)
+        | inr apart ↦ folder.names.snapshots id q bound (still_there after f q (sym (puts.others q apart)) there) leads
+      ]
+      | inr other ↦ folder.names.snapshots id q bound
+          (there_before f after snapshot_folder (snapshot_name id) (snapshot_path last) (Some bytes) puts
+          (other-led last id within bound (λ same. other (sym same))) q there leads) leads
     ];
   }
 
@@ -392,7 +434,7 @@ module _ (one : OneContents) (stay : ContentsStay) (f after : Files) (s : TableS
   first-same : (id : ℕ) → id ≤ length entries → take id (entries ++ e ∷ []) ≡ take id entries
   first-same id low = take-append-le id entries (e ∷ []) low
 
-  module _ (append : IsAppend f after s entries e) where
+  module _ (append : IsCommit f after s entries e) where
     committed-after : (id : ℕ) → IsFrom folder.snapshots.least (length (entries ++ e ∷ [])) id → IsCommitted after s (take id (entries ++ e ∷ [])) id
     committed-after id from = elim (split-last (length entries) id (let to = from.to in omega (arith, to, longer))) as (λ _. IsCommitted after s (take id (entries ++ e ∷ [])) id) [
       | inl low ↦ subst (λ (es : List Entry). IsCommitted after s es id) (sym (first-same id low))
@@ -473,21 +515,30 @@ module _ (one : OneContents) (stay : ContentsStay) (f after : Files) (s : TableS
 
 -- ---- all kinds
 
-rows-append : (s : TableSchema) (entries : List Entry) (user : List ℕ) (identifier : ℤ) (rows : List HistoryRow) → AreEntriesOf s entries
-    → AllByRecursion (IsRowOf s) rows → AreEntriesOf s (entries ++ append user identifier rows ∷ [])
-rows-append s entries user identifier rows are fit = record {
-  rows = subst (AllByRecursion (IsRowOf s)) (sym (flat_map-append entry_rows entries (append user identifier rows ∷ [])))
-      (AllByRecursion-append (IsRowOf s) (flat_map entry_rows entries) (rows ++ []) are.rows
-      (subst (AllByRecursion (IsRowOf s)) (sym (append-nil rows)) fit));
-  bases = bases-append 1 entries user identifier rows are.bases;
+entry-below : (s : TableSchema) (n : ℕ) (e : Entry) → IsEntryAfter s n e → BaseBelow (1 + n) e
+entry-below s n (append user identifier rows) is = tt
+entry-below s n (compaction base groups) is = let low = is.1 in omega (arith, low)
+entry-below s n (fence number) is = tt
+
+entry-rows : (s : TableSchema) (n : ℕ) (e : Entry) → IsEntryAfter s n e → AllByRecursion (IsRowOf s) (entry_rows e)
+entry-rows s n (append user identifier rows) is = is
+entry-rows s n (compaction base groups) is = tt
+entry-rows s n (fence number) is = tt
+
+rows-append : (s : TableSchema) (entries : List Entry) (e : Entry) → AreEntriesOf s entries → IsEntryAfter s (length entries) e → AreEntriesOf s (entries ++ e ∷ [])
+rows-append s entries e are is = record {
+  rows = subst (AllByRecursion (IsRowOf s)) (sym (flat_map-append entry_rows entries (e ∷ [])))
+      (AllByRecursion-append (IsRowOf s) (flat_map entry_rows entries) (entry_rows e ++ []) are.rows
+      (subst (AllByRecursion (IsRowOf s)) (sym (append-nil (entry_rows e))) (entry-rows s (length entries) e is)));
+  bases = bases-append 1 entries e (entry-below s (length entries) e is) are.bases;
 }
 
 pub kept : OneContents → ContentsStay → (me : Actor) (f after : Files) (h later : History) → Folder f h → Change me f h after later → Folder after later
 kept one stay me f after h later folder (nothing same) = kept-same one stay f after h same folder
 kept one stay me f after h later folder (own_file path content own other absent puts) = kept-own one stay me f after h path content own other absent puts folder
 kept one stay me f after h later folder (schema s bytes there puts reads) = kept-schema f after s bytes folder there puts reads
-kept one stay me f after h later folder (appended s entries user identifier rows bytes there within absent puts fit commit own) =
-    table-after one stay f after s entries _ bytes folder within absent puts commit (rows-append s entries user identifier rows folder.history fit)
+kept one stay me f after h later folder (committed s entries e bytes there within absent puts fit commit own) =
+    table-after one stay f after s entries _ bytes folder within absent puts commit (rows-append s entries e folder.history fit)
 
 goes-itself : (h : History) → GoesOn h h
 goes-itself no_table = tt
@@ -497,7 +548,7 @@ pub goes_on : (me : Actor) (f after : Files) (h later : History) → Change me f
 goes_on me f after h later (nothing same) = goes-itself h
 goes_on me f after h later (own_file path content own other absent puts) = goes-itself h
 goes_on me f after h later (schema s bytes there puts reads) = tt
-goes_on me f after h later (appended s entries user identifier rows bytes there within absent puts fit commit own) = (refl, _, refl)
+goes_on me f after h later (committed s entries e bytes there within absent puts fit commit own) = (refl, _, refl)
 
 -- what is there stays as it is: no kind of change writes a file twice, or takes one away
 pub stays : (me : Actor) (f after : Files) (h later : History) (q : List ℕ) → Folder f h → Change me f h after later → IsSome (map.get f q)
@@ -506,7 +557,7 @@ stays me f after h later q folder (nothing same) there = same q
 stays me f after h later q folder (own_file path content own other absent puts) there = puts.others q (there-absent f q path there absent)
 stays me f after h later q folder (schema s bytes origin puts reads) there =
     puts.others q (there-absent f q (schema_path 0) there (folder.schemas 0 (omega arith)))
-stays me f after h later q folder (appended s entries user identifier rows bytes newest within absent puts fit commit own) there =
+stays me f after h later q folder (committed s entries e bytes newest within absent puts fit commit own) there =
     puts.others q (there-absent f q (snapshot_path (suc (length entries))) there absent)
 
 -- ---- what listings say
@@ -520,14 +571,14 @@ snapshot-led f id within there = (snapshot_path id, there, snapshot-leads id wit
 
 -- where there is no table, no file leads to the name of a schema
 pub no-schema : (f : Files) (id : ℕ) → Folder f no_table → id ≤ greatest → ¬ LeadsTo f schema_folder (schema_name id)
-no-schema f id folder within led = some-none (map.get f (schema_path id)) (folder.names.schemas id within led) (folder.schemas id within)
+no-schema f id folder within led = some-none (map.get f (schema_path id)) (schema-file f folder.names id within led) (folder.schemas id within)
 
 -- where there is one, the schema that a file leads to is the table's, and its id is 0
 pub only-schema : (f : Files) (s : TableSchema) (entries : List Entry) (id : ℕ) → Folder f (table s entries) → id ≤ greatest
     → LeadsTo f schema_folder (schema_name id) → (id ≡ 0) × SchemaAt f id s
 only-schema f s entries zero folder within led = (refl, folder.schema.first)
 only-schema f s entries (suc id) folder within led =
-    absurd (some-none (map.get f (schema_path (suc id))) (folder.names.schemas (suc id) within led)
+    absurd (some-none (map.get f (schema_path (suc id))) (schema-file f folder.names (suc id) within led)
     (folder.schema.only (suc id) (λ e. omega (arith, e)) within))
 
 -- and its file leads to it
@@ -538,8 +589,8 @@ first-schema f s entries folder = schema-led f 0 (omega arith) (subst (λ (found
 -- the snapshot that a file leads to is there
 pub listed-snapshot : (f : Files) (h : History) (id : ℕ) → Folder f h → id ≤ greatest → LeadsTo f snapshot_folder (snapshot_name id)
     → IsSome (map.get f (snapshot_path id))
-listed-snapshot f no_table id folder within led = folder.names.snapshots id within led
-listed-snapshot f (table s entries) id folder within led = folder.names.snapshots id within led
+listed-snapshot f no_table id folder within led = snapshot-file f folder.names id within led
+listed-snapshot f (table s entries) id folder within led = snapshot-file f folder.names id within led
 
 -- and is that of its entry, where it isn't the origin
 pub snapshot-bounds : (f : Files) (s : TableSchema) (entries : List Entry) (id : ℕ) → HasTable f s entries → 1 ≤ id → id ≤ greatest
@@ -557,9 +608,9 @@ snapshot-committed f s entries id folder least within there =
 pub read-snapshot : (f : Files) (h : History) (id : ℕ) → Folder f h → 1 ≤ id → id ≤ greatest
     → LeadsTo f snapshot_folder (snapshot_name id) → (snapshot : Snapshot) × SnapshotAt f id snapshot
 read-snapshot f no_table id folder least within led =
-    absurd (some-none (map.get f (snapshot_path id)) (folder.names.snapshots id within led) (folder.snapshots id within))
+    absurd (some-none (map.get f (snapshot_path id)) (snapshot-file f folder.names id within led) (folder.snapshots id within))
 read-snapshot f (table s entries) id folder least within led =
-    let is = snapshot-committed f s entries id folder least within (folder.names.snapshots id within led) in (is.snapshot, is.there)
+    let is = snapshot-committed f s entries id folder least within (snapshot-file f folder.names id within led) in (is.snapshot, is.there)
 
 -- the newest snapshot of a table with entries is there
 pub newest-there : (f : Files) (s : TableSchema) (entries : List Entry) → HasTable f s entries → HasSnapshotAt f s (length entries)
@@ -591,7 +642,7 @@ pub no-snapshot : (f : Files) (s : TableSchema) (id : ℕ) → Folder f (table s
     → ¬ LeadsTo f snapshot_folder (snapshot_name id)
 no-snapshot f s zero folder least within led = omega (arith, least)
 no-snapshot f s (suc id) folder least within led =
-    let bounds = (folder.snapshots.exact (suc id) within).0 (folder.names.snapshots (suc id) within led) in
+    let bounds = (folder.snapshots.exact (suc id) within).0 (snapshot-file f folder.names (suc id) within led) in
     let newest = bounds.1 in
     omega (arith, newest)
 

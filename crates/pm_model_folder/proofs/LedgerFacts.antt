@@ -9,7 +9,7 @@ use Rattle.pm_snapshot.specs.Names.{greatest}
 use Rattle.pm_snapshot.specs.Snapshot.{snapshot_in}
 use Rattle.pm_snapshot.specs.declared.snapshot.Snapshot.{Snapshot}
 use Rattle.pm_model_contents.specs.Named.{Contents, HasContents}
-use Rattle.pm_model_folder.specs.Changes.{Actor, Change, nothing, own_file, schema, appended}
+use Rattle.pm_model_folder.specs.Changes.{Actor, Change, nothing, own_file, schema, committed}
 use Rattle.pm_model_folder.specs.Commits.{IsCommitted, Names, Needs}
 use Rattle.pm_model_folder.specs.Folder.{Folder, HasTable, IsFrom}
 use Rattle.pm_model_folder.specs.Ledger.{Past, Advances, IsKnown, IsOldOrUnnamed, KeepsFiles, KnowsPast, KnowsTable, Stands, count_of}
@@ -131,7 +131,7 @@ gone-change me f after h later s id folder (nothing same) is least within absent
 gone-change me f after h later s id folder (own_file path content own other none puts) is least within absent =
     puts.others (snapshot_path id) (snapshot-own me path id own) ∙ absent
 gone-change me f after h later s id folder (schema t bytes origin puts reads) is least within absent = absurd is
-gone-change me f after h later s id folder (appended t entries user identifier rows bytes newest bound none puts fit commit own) is least within absent =
+gone-change me f after h later s id folder (committed t entries e bytes newest bound none puts fit commit own) is least within absent =
     puts.others (snapshot_path id) (other-snapshot id (suc (length entries)) (omega (arith, within, bound)) bound (λ e. omega (arith, within, e))) ∙ absent
 
 count-grows : (h later : History) → GoesOn h later → count_of h ≤ count_of later
@@ -356,7 +356,7 @@ module _ (me : Actor) (f after : Files) (p q : Past) (stands : Stands f p) (adva
   past-kept no_table later was now (own_file path content own other none puts) past = let first = advances.first in let low = past in omega (arith, first, low)
   past-kept (table s entries) later was now (own_file path content own other none puts) past = same-past s entries was now past
   past-kept h later was now (schema s bytes origin puts reads) past = new-past s now past
-  past-kept h later was now (appended s entries user identifier rows bytes newest bound none puts fit commit own) past =
+  past-kept h later was now (committed s entries e bytes newest bound none puts fit commit own) past =
       append-past s entries _ was now past commit.committed
 
 pub stands-kept : OneContents → ContentsStay → (me : Actor) (f after : Files) (p q : Past) → Stands f p → Advances me f p after q → Stands after q

@@ -3,13 +3,13 @@ use Rattle.std.proofs.Common.{◌≡◌, ◌≢◌, inl, inr, ℕ, zero, suc, �
 use Rattle.std.specs.FinMap as map
 use Rattle.std.proofs.lemmas.Bool.Decides.{nat_tests}
 use Rattle.pm_store.specs.Files.{Files}
-use Rattle.pm_model_history.specs.History.{Entry, History, IsTableOf, append, table}
+use Rattle.pm_model_history.specs.History.{Entry, History, IsTableOf, table}
 use Rattle.pm_schema.specs.declared.schema.TableSchema.{TableSchema}
 use Rattle.pm_snapshot.specs.Names.{greatest}
 use Rattle.pm_snapshot.specs.Snapshot.{IsConsistent, snapshot_in}
 use Rattle.pm_snapshot.specs.declared.snapshot.Snapshot.{Snapshot}
 use Rattle.pm_model_contents.specs.Named.{Contents, HasContents, IsNamed}
-use Rattle.pm_model_folder.specs.Changes.{Actor, Change, IsNamedBy, NamesOwn, appended, nothing, own_file, schema}
+use Rattle.pm_model_folder.specs.Changes.{Actor, Change, IsNamedBy, NamesOwn, committed, nothing, own_file, schema}
 use Rattle.pm_model_folder.specs.Commits.{Names}
 use Rattle.pm_model_folder.specs.Folder.{HasTable}
 use Rattle.pm_model_folder.specs.Ledger.{Advances, HasNamedNone, IsKnown, IsOldOrUnnamed, KnowsTable, Past, Stands, count_of}
@@ -184,8 +184,8 @@ module _ (one : OneContents) (same : SameContents) (namer : OneNamer) (bears : B
       at h later was now (own_file path content own no_origin absent puts) = same-none h was now
       at h later was now (schema s bytes origin puts reads) = λ t id path is known named by.
           (let low = known.after_origin in let high = known.to in let many = count-is q s [] now in absurd (omega (arith, low, high, many)))
-      at h later was now (appended s entries user identifier rows bytes newest bound absent puts fit commit own) =
-          appended-none s entries (append user identifier rows) apart was now newest bound own
+      at h later was now (committed s entries e bytes newest bound absent puts fit commit own) =
+          appended-none s entries e apart was now newest bound own
 
   -- a step that commits nothing
   pub own-none : count_of q.history ≡ count_of p.history → HasNamedNone me q
@@ -196,8 +196,8 @@ module _ (one : OneContents) (same : SameContents) (namer : OneNamer) (bears : B
       at h later was now (own_file path content own no_origin absent puts) = same-none h was now
       at h later was now (schema s bytes origin puts reads) = λ t id path is known named by.
           (let low = known.after_origin in let high = known.to in let none = count-is q s [] now in absurd (omega (arith, low, high, none)))
-      at h later was now (appended s entries user identifier rows bytes newest bound absent puts fit commit own) =
+      at h later was now (committed s entries e bytes newest bound absent puts fit commit own) =
           let before = count-is p s entries was in
-          let longer = count-is q s (entries ++ append user identifier rows ∷ []) now in
-          let size = length-append entries (append user identifier rows ∷ []) in
+          let longer = count-is q s (entries ++ e ∷ []) now in
+          let size = length-append entries (e ∷ []) in
           absurd (omega (arith, many, before, longer, size))

@@ -7,11 +7,11 @@ use Rattle.uuid.specs.Text.{hyphenated_text, hyphen, lower}
 use Rattle.pm_values.specs.Names.{Naming, name_of}
 use Rattle.pm_values.specs.declared.group.Group.{Group}
 use Rattle.pm_store.specs.Files.{Files, Puts}
-use Rattle.pm_model_history.specs.History.{Entry, History, append, no_table, table}
+use Rattle.pm_model_history.specs.History.{Entry, History, no_table, table}
 use Rattle.pm_model_history.specs.Merge.{HistoryRow}
 use Rattle.pm_snapshot.specs.Names.{BasedFile, MayName, greatest, prefix_of, suffix_of}
-use Rattle.pm_model_folder.specs.Commits.{IsAppend, Names}
-use Rattle.pm_model_folder.specs.Folder.{IsRowOf}
+use Rattle.pm_model_folder.specs.Commits.{IsCommit, Names}
+use Rattle.pm_model_folder.specs.Folder.{IsEntryAfter}
 use Rattle.pm_model_folder.specs.Meaning.{SchemaAt, HasSnapshotAt}
 use Rattle.pm_model_folder.specs.Paths.{schema_path, snapshot_file, snapshot_path}
 use Rattle.pm_schema.specs.Folder.{folder_text}
@@ -80,11 +80,11 @@ pub data Change (me : Actor) (f : Files) : History → Files → History → Typ
   schema : {after : Files} (s : TableSchema) (bytes : List ℕ) → HasSnapshotAt f s 0
       → Puts f (schema_path 0) (Some bytes) after → SchemaAt after 0 s
       → Change me f no_table after (table s [])
-  -- the snapshot after the newest appears, whole, while that stands, and appends rows to the history; its new files are
-  -- the actor's own
-  appended : {after : Files} (s : TableSchema) (entries : List Entry) (user : List ℕ) (identifier : ℤ)
-      (rows : List HistoryRow) (bytes : List ℕ) → HasSnapshotAt f s (length entries) → suc (length entries) ≤ greatest
+  -- the snapshot after the newest appears, whole, while that stands, and its entry comes after those of the history,
+  -- whatever it is; its new files are the actor's own
+  committed : {after : Files} (s : TableSchema) (entries : List Entry) (e : Entry) (bytes : List ℕ)
+      → HasSnapshotAt f s (length entries) → suc (length entries) ≤ greatest
       → map.get f (snapshot_path (suc (length entries))) ≡ None
-      → Puts f (snapshot_path (suc (length entries))) (Some bytes) after → AllByRecursion (IsRowOf s) rows
-      → IsAppend f after s entries (append user identifier rows) → NamesOwn me f after s (length entries)
-      → Change me f (table s entries) after (table s (entries ++ append user identifier rows ∷ []))
+      → Puts f (snapshot_path (suc (length entries))) (Some bytes) after → IsEntryAfter s (length entries) e
+      → IsCommit f after s entries e → NamesOwn me f after s (length entries)
+      → Change me f (table s entries) after (table s (entries ++ e ∷ []))

@@ -1,10 +1,11 @@
 -- What a live snapshot is, and how the next one follows it.
-use Rattle.std.specs.Prelude.{◌≡◌, ◌⊎◌, ℕ, zero, suc, ◌+◌, ◌<◌, ◌≤◌, ℤ, pos, negsuc, int_lt, true, List, [], ◌++◌, ◌∷◌}
-use Rattle.std.specs.Prelude.{length}
+use Rattle.std.specs.Prelude.{◌≡◌, ◌≢◌, ◌↔◌, ◌⊎◌, ℕ, zero, suc, ◌+◌, ◌<◌, ◌≤◌, ℤ, pos, negsuc, int_lt}
+use Rattle.std.specs.Prelude.{Bool, true, false, List, [], ◌++◌, ◌∷◌, length}
+use Rattle.std.specs.List.{AllByRecursion}
 use Rattle.pm_store.specs.Files.{Files}
 use Rattle.pm_values.specs.Names.{Naming, name_of}
 use Rattle.pm_values.specs.declared.group.Group.{Group}
-use Rattle.pm_model_history.specs.History.{Entry, entry_rows}
+use Rattle.pm_model_history.specs.History.{Entry, append, compaction, fence}
 use Rattle.pm_model_history.specs.Merge.{HistoryRow}
 use Rattle.pm_schema.specs.declared.schema.TableSchema.{TableSchema}
 use Rattle.pm_snapshot.specs.Names.{BasedFile, MayName, prefix_of, suffix_of}
@@ -13,15 +14,16 @@ use Rattle.pm_manifest.specs.Live.{Live, live_after}
 use Rattle.pm_model_contents.specs.Lists.{none_live}
 use Rattle.pm_model_contents.specs.Named.{Contents, HasContents, IsNamed}
 use Rattle.pm_model_contents.specs.Runs.{AreRunsOf}
+use Rattle.pm_model_following.specs.Following.{is_named}
 use Rattle.pm_model_following.specs.Groups.{rows_in}
 use Rattle.pm_engine.specs.Covers.{CoversAll}
 use Rattle.pm_engine.specs.OfSchema.{meaning_of}
-use Rattle.pm_levels.specs.Runs.{RunView}
+use Rattle.pm_levels.specs.Runs.{AreMadeAt, RunView}
 use Rattle.pm_model_folder.specs.Entries.{BearsCounts, BearsEntry, entry_at, fence_at}
 use Rattle.pm_model_folder.specs.Meaning.{HasSnapshotAt, SnapshotAt}
 use Rattle.pm_model_folder.specs.Paths.{schema_path, snapshot_path}
 use Rattle.pm_model_folder.specs.Stored.{HasGroup, HasRun, HoldsChange}
-use Rattle.pm_runs.specs.Stand.{StoredRun}
+use Rattle.pm_runs.specs.Stand.{StoredRun, top_of}
 
 -- the files that are live after the entries of a snapshot's lists
 abbrev pub live_in : Contents → Live
@@ -71,9 +73,9 @@ pub record Maker : Type 0 where
 -- a path whose name is one that makers of names give was made by this one, and its base is above a fence; other names
 -- bear no base
 abbrev pub IsFresh : Maker → ℤ → List ℕ → Type 0
-IsFresh maker fence path = (folder : List ℕ) (file : BasedFile) (n : Naming) → MayName n
+IsFresh maker below path = (folder : List ℕ) (file : BasedFile) (n : Naming) → MayName n
     → path ≡ folder ++ 47 ∷ name_of (prefix_of file) (suffix_of file) n
-    → (n.session ≡ maker.session) × (n.actor ≡ maker.actor) × (int_lt fence (pos n.base) ≡ true)
+    → (n.session ≡ maker.session) × (n.actor ≡ maker.actor) × (int_lt below (pos n.base) ≡ true)
 
 -- what the next snapshot names and this one doesn't was made by one actor, from a base above this one's fence
 pub record IsNext (s : TableSchema) (x : Snapshot) (c : Contents) (y : Snapshot) (d : Contents) : Type 0 where
@@ -96,7 +98,7 @@ abbrev pub NeverReturn : Files → TableSchema → ℕ → ℕ → Type 0
 NeverReturn f s first last = (early middle late : ℕ) (path : List ℕ) → first ≤ early → early < middle → middle < late
     → late ≤ last → Names f s early path → Names f s late path → Names f s middle path
 
--- ---- rows are appended
+-- ---- an entry comes
 
 -- a group's runs at a snapshot, newest first; at the origin there are none
 abbrev pub AreRunsAt : Files → TableSchema → ℕ → Group → List RunView → Type 0
@@ -112,9 +114,38 @@ IsAppended f s g (row ∷ rows) old new =
     (run : RunView) × (stored : StoredRun) × (new ≡ run ∷ old) × (run.level ≡ 0) × HasRun f s g run stored
     × CoversAll (meaning_of s) (stored.rows ∷ []) (row ∷ rows)
 
--- What the snapshot after the newest meets once rows were appended: it is that of its entry, what it names and the
--- newest didn't is new, a path that left doesn't return with it, and each group's runs go on so.
-pub record IsAppend (f after : Files) (s : TableSchema) (entries : List Entry) (e : Entry) : Type 0 where
+-- A group's runs once it was compacted: of those that it had some that stood together made place for at most one run,
+-- at a level not below theirs and below those of the runs after them. The group is named as whole exactly where that
+-- level is the highest.
+pub record IsCompacted (s : TableSchema) (g : Group) (groups : List (Group × Bool)) (old new : List RunView) : Type 0
+  where
+    pub later : List RunView
+    pub taken : List RunView
+    pub made : List RunView
+    pub older : List RunView
+    pub was : old ≡ later ++ (taken ++ older)
+    pub is : new ≡ later ++ (made ++ older)
+    pub some : taken ≢ []
+    pub out : ℕ
+    pub above_zero : 1 ≤ out
+    pub within : out ≤ top_of s
+    pub low : AllByRecursion (λ (run : RunView). run.level ≤ out) taken
+    pub high : AllByRecursion (λ (run : RunView). out < run.level) older
+    pub are_made : AreMadeAt out made
+    pub whole : (is_named true g groups ≡ true) ↔ (out ≡ top_of s)
+
+-- a group's runs once an entry came: with rows of the group there is one more, a compaction of it replaces some, and
+-- all else leaves them
+abbrev pub GoOn : Files → TableSchema → Group → Entry → List RunView → List RunView → Type 0
+GoOn f s g (append user identifier rows) old new = IsAppended f s g (rows_in s g rows) old new
+GoOn f s g (compaction base groups) old new =
+    ((is_named false g groups ≡ true) × IsCompacted s g groups old new)
+    ⊎ ((is_named false g groups ≡ false) × (new ≡ old))
+GoOn f s g (fence number) old new = new ≡ old
+
+-- What the snapshot after the newest meets: it is that of its entry, what it names and the newest didn't is new, a path
+-- that left doesn't return with it, and each group's runs go on with the entry.
+pub record IsCommit (f after : Files) (s : TableSchema) (entries : List Entry) (e : Entry) : Type 0 where
   pub committed : IsCommitted after s (entries ++ e ∷ []) (suc (length entries))
   pub begins : length entries ≡ 0 → BeginsOn after s
   pub next : 1 ≤ length entries → FollowsOn after s (length entries)
@@ -122,4 +153,4 @@ pub record IsAppend (f after : Files) (s : TableSchema) (entries : List Entry) (
       → middle ≤ length entries → Names after s early path → Names after s (suc (length entries)) path
       → Names after s middle path
   pub groups : (g : Group) (old new : List RunView) → AreRunsAt f s (length entries) g old
-      → AreRunsAt after s (suc (length entries)) g new → IsAppended after s g (rows_in s g (entry_rows e)) old new
+      → AreRunsAt after s (suc (length entries)) g new → GoOn after s g e old new

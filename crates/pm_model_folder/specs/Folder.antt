@@ -1,11 +1,14 @@
 -- What a folder stands for, sentence by sentence. Ids are those that may stand in a name.
-use Rattle.std.specs.Prelude.{◌≡◌, ◌≢◌, ◌↔◌, ◌⊎◌, ℕ, ◌<◌, ◌≤◌, List, length, take, false, Some, None, IsSome}
-use Rattle.std.specs.Prelude.{Contains}
+use Rattle.std.specs.Prelude.{◌≡◌, ◌≢◌, ◌↔◌, ◌⊎◌, ℕ, suc, ◌<◌, ◌≤◌, pos, int_lt, Bool, true, false, Some, None, IsSome}
+use Rattle.std.specs.Prelude.{List, Contains, length, take, map as each_of}
 use Rattle.std.specs.FinMap as map
 use Rattle.std.specs.List.{AllByRecursion, flat_map}
-use Rattle.pm_store.specs.Files.{Files}
+use Rattle.std.specs.List.Sorted.{IsStrictlySortedBy}
+use Rattle.pm_store.specs.Files.{Files, name_in}
 use Rattle.pm_values.specs.Fits.{Fits}
-use Rattle.pm_model_history.specs.History.{Entry, History, no_table, table, entry_rows}
+use Rattle.pm_values.specs.GroupOrder.{group_cmp}
+use Rattle.pm_values.specs.declared.group.Group.{Group}
+use Rattle.pm_model_history.specs.History.{Entry, History, append, compaction, fence, no_table, table, entry_rows}
 use Rattle.pm_model_history.specs.Merge.{HistoryRow}
 use Rattle.pm_model_history.specs.Taken.{verdict}
 use Rattle.pm_model_history.specs.declared.verdict.Verdict.TheVariants.{Take}
@@ -14,19 +17,19 @@ use Rattle.pm_schema.specs.declared.schema.TableSchema.{TableSchema}
 use Rattle.pm_snapshot.specs.Names.{greatest, snapshot_name}
 use Rattle.pm_snapshot.specs.declared.consumer.Consumer.{Consumer}
 use Rattle.pm_model_folder.specs.Commits.{BeginsOn, FollowsOn, IsCommitted, NeverReturn}
-use Rattle.pm_model_folder.specs.Meaning.{SchemaAt, ConsumerAt, HasSnapshotAt, LeadsTo}
+use Rattle.pm_model_folder.specs.Meaning.{SchemaAt, ConsumerAt, HasSnapshotAt}
 use Rattle.pm_model_folder.specs.Paths.{schema_folder, schema_name, schema_path, snapshot_folder, snapshot_path}
 use Rattle.pm_model_folder.specs.Paths.{consumer_path, tag_path, changelog_path, floor_path}
 
 -- ---- what a listing has
 
--- Where a file leads to the name of a schema or of a snapshot, the file of that name is there: nothing else stands in
--- its place, as a folder would.
+-- Only the file itself leads to the name of a schema or of a snapshot: nothing else stands in its place, as a folder
+-- would.
 pub record HaveFiles (f : Files) : Type 0 where
-  pub schemas : (id : ℕ) → id ≤ greatest → LeadsTo f schema_folder (schema_name id) →
-      IsSome (map.get f (schema_path id))
-  pub snapshots : (id : ℕ) → id ≤ greatest → LeadsTo f snapshot_folder (snapshot_name id) →
-      IsSome (map.get f (snapshot_path id))
+  pub schemas : (id : ℕ) (path : List ℕ) → id ≤ greatest → IsSome (map.get f path)
+      → name_in schema_folder path ≡ Some (schema_name id) → path ≡ schema_path id
+  pub snapshots : (id : ℕ) (path : List ℕ) → id ≤ greatest → IsSome (map.get f path)
+      → name_in snapshot_folder path ≡ Some (snapshot_name id) → path ≡ snapshot_path id
 
 -- ---- no table
 
@@ -52,6 +55,14 @@ pub record HasSchema (f : Files) (s : TableSchema) : Type 0 where
 pub record IsRowOf (s : TableSchema) (r : HistoryRow) : Type 0 where
   pub fits : Fits s.columns r.1
   pub taken : verdict s r.0 ≡ Take
+
+-- An entry that may come after so many: its rows are rows of the table; or its base is the snapshot of one of them, and
+-- the groups that it names rise; or the fence that it raises is below its own number.
+abbrev pub IsEntryAfter : TableSchema → ℕ → Entry → Type 0
+IsEntryAfter s n (append user identifier rows) = AllByRecursion (IsRowOf s) rows
+IsEntryAfter s n (compaction base groups) =
+    (1 ≤ base) × (base ≤ n) × IsStrictlySortedBy group_cmp (each_of (λ (p : Group × Bool). p.0) groups)
+IsEntryAfter s n (fence number) = int_lt number (pos (suc n)) ≡ true
 
 -- entries that a table may have: their rows are rows of the table, and a compaction's base is an earlier snapshot
 pub record AreEntriesOf (s : TableSchema) (entries : List Entry) : Type 0 where

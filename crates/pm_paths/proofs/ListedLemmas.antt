@@ -2,7 +2,7 @@
 use Rattle.std.proofs.Common.{◌≡◌, ◌↔◌, ℕ, zero, suc, ◌≤◌, List, Contains, length, IsSome, arith}
 use Rattle.std.specs.FinMap as map
 use Rattle.pm_store.specs.Files.{Files, IsListing}
-use Rattle.pm_model_history.specs.History.{Entry, History}
+use Rattle.pm_model_history.specs.History.{Entry, History, table}
 use Rattle.pm_schema.specs.declared.schema.TableSchema.{TableSchema}
 use Rattle.pm_snapshot.specs.Names.{greatest, snapshot_name}
 use Rattle.pm_model_folder.specs.Folder.{Folder, HasTable}
@@ -21,7 +21,7 @@ module _ (f : Files) (s : TableSchema) (entries : List Entry) (folder : HasTable
   latest_there zero names is listing = omega arith
   latest_there (suc n) names is listing =
       let led = (listing.exact (snapshot_name (suc n))).0 (is.listed (omega arith)) in
-      ((folder.snapshots.exact (suc n) is.within).0 (folder.names.snapshots (suc n) is.within led)).1
+      ((folder.snapshots.exact (suc n) is.within).0 (listed-snapshot f (table s entries) (suc n) folder is.within led)).1
 
   -- the latest that is listed is the newest
   pub latest_is : (latest : ℕ) (names : List (List ℕ)) → IsLatest names latest → IsListing snapshot_folder names f → latest ≡ length entries

@@ -25,8 +25,8 @@ nothing o is there = cc
 
 names : HaveFiles no_file
 names = record {
-  schemas = λ id within led. absurd (nothing (map.get no_file led.0) (absent led.0) led.1);
-  snapshots = λ id within led. absurd (nothing (map.get no_file led.0) (absent led.0) led.1);
+  schemas = λ id path within there leads. absurd (nothing (map.get no_file path) (absent path) there);
+  snapshots = λ id path within there leads. absurd (nothing (map.get no_file path) (absent path) there);
 }
 
 folder : Folder no_file no_table
