@@ -1,0 +1,7 @@
+mod ChangeLemmas
+mod GroupLemmas
+mod KeyLemmas
+mod LogLemmas
+mod OrderLemmas
+mod PartsLemmas
+mod PassingLemmas
