@@ -5,3 +5,4 @@ mod LogLemmas
 mod OrderLemmas
 mod PartsLemmas
 mod PassingLemmas
+mod StandingLemmas

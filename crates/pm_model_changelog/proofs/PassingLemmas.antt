@@ -45,7 +45,7 @@ parted (x ∷ xs) (suc a) zero low = absurd (omega (arith, low))
 parted (x ∷ xs) (suc a) (suc b) low = ap (λ es. x ∷ es) (parted xs a b (omega (arith, low)))
 
 -- of more entries the greatest base is no less
-compacted-more : (wholly : Bool) (es : List Entry) (g : Group) (a b : ℕ) → a ≤ b → compacted wholly es a g ≤ compacted wholly es b g
+pub compacted-more : (wholly : Bool) (es : List Entry) (g : Group) (a b : ℕ) → a ≤ b → compacted wholly es a g ≤ compacted wholly es b g
 compacted-more wholly es g a b low =
     let bases : List Entry → List ℕ = filter_map (base_of wholly g) in
     subst (λ n. fold max 0 (bases (take a es)) ≤ n)

@@ -1,8 +1,9 @@
 //! Laws of the changelog of a group.
 
-ghost use Rattle.std.specs.Prelude.{◌≡◌, ◌↔◌, ℕ, suc, Bool, true, List, [], ◌∷◌, ◌++◌, length, map};
+ghost use Rattle.std.specs.Prelude.{◌≡◌, ◌↔◌, ℕ, suc, nat_lt, ◌==◌, Bool, true, false};
+ghost use Rattle.std.specs.Prelude.{List, [], ◌∷◌, ◌++◌, length, map, Some};
 ghost use Rattle.std.specs.List.{AllByRecursion, flat_map};
-ghost use Rattle.pm_options.specs.declared.kinds.Producer.TheVariants.{Input};
+ghost use Rattle.pm_options.specs.declared.kinds.Producer.TheVariants.{FullCompaction, Input, Lookup};
 ghost use Rattle.pm_schema.specs.Rules.{partition_holds};
 ghost use Rattle.pm_schema.specs.declared.schema.TableSchema.{TableSchema};
 ghost use Rattle.pm_values.specs.Order.{Values};
@@ -11,15 +12,18 @@ ghost use Rattle.pm_values.specs.declared.record.Stamped.{Stamped};
 ghost use Rattle.pm_model_history.specs.History.{Entry, entry_rows};
 ghost use Rattle.pm_model_history.specs.Merge.{AllFit, HistoryRow, key_of};
 ghost use Rattle.pm_model_history.specs.Merged.{primary_of};
-ghost use Rattle.pm_model_following.specs.Following.{by_key, change, told_at};
+ghost use Rattle.pm_model_following.specs.Following.{base_of, by_key, change, told_at};
 ghost use Rattle.pm_model_following.specs.Groups.{rows_in};
 ghost use Rattle.pm_engine.specs.Covers.{Covers, CoversAll, IsRising, Run, of_key};
 ghost use Rattle.pm_engine.specs.OfSchema.{meaning_of};
+ghost use Rattle.pm_runs.specs.Stand.{oldest_first, top_of};
+ghost use Rattle.pm_runs.specs.Succession.{IsSuccession, IsTaken, KnownRun, StillStands, Taking, without_files};
 ghost use Rattle.pm_model_changelog.specs.Log.{AreByKey, Compares, IsKeyOf, Passing, PassesNothing, PassesOn};
 ghost use Rattle.pm_model_changelog.specs.Log.{rising_keys, log_of, told_by};
 
 use pm_engine::covers_law;
 use pm_model_history::merged_table_law;
+use pm_runs::rows_law;
 
 /// What is told of a key are rows that have it.
 pub fn told_keys_law()
@@ -93,4 +97,38 @@ pub fn parts_law()
         → ((g : Group) → rows_in s g rows ≡ rows_in s g (change s entries n)) → rows ≡ change s entries n }
 {
     told_keys_law();
+}
+
+/// Where runs that a compaction took still stand, its log with the producer of look-ups is that of the runs at level 0
+/// of its base upon those above: also where others passed these rows on, since there is none at level 0 then.
+pub fn lookup_log_law()
+    ensures { (s : TableSchema) (g : Group) (entries : List Entry) (since : ℕ) (runs : ℕ → List KnownRun)
+        (t : Taking) (e : Entry)
+        → partition_holds s ≡ true → AllFit s.columns (flat_map entry_rows (entries ++ e ∷ []))
+        → s.options.producer ≡ Lookup → IsSuccession s g entries since runs
+        → IsTaken s since runs (length entries) t → StillStands s g entries runs t → base_of false g e ≡ Some t.base
+        → rows_in s g (change s (entries ++ e ∷ []) (suc (length entries)))
+        ≡ log_of s (oldest_first (λ level. nat_lt 0 level) (map without_files (runs t.base)))
+        (oldest_first (λ level. level == 0) (map without_files (runs t.base))) }
+{
+    keys_law();
+    log_law();
+    quiet_law();
+    rows_law();
+}
+
+/// With the producer of full compactions, where it took all runs of the group, it is that of the others upon the run at
+/// the top level.
+pub fn full_log_law()
+    ensures { (s : TableSchema) (g : Group) (entries : List Entry) (since : ℕ) (runs : ℕ → List KnownRun)
+        (t : Taking) (e : Entry)
+        → partition_holds s ≡ true → AllFit s.columns (flat_map entry_rows (entries ++ e ∷ []))
+        → s.options.producer ≡ FullCompaction → IsSuccession s g entries since runs
+        → IsTaken s since runs (length entries) t → StillStands s g entries runs t → t.rest ≡ []
+        → base_of true g e ≡ Some t.base
+        → rows_in s g (change s (entries ++ e ∷ []) (suc (length entries)))
+        ≡ log_of s (oldest_first (λ level. level == top_of s) (map without_files (runs t.base)))
+        (oldest_first (λ level. nat_lt level (top_of s)) (map without_files (runs t.base))) }
+{
+    log_law();
 }

@@ -6,10 +6,14 @@
 //! rows of the group were passed on meanwhile (`log_law`). Where an entry passes nothing of a group on, nothing is told
 //! of it (`quiet_law`), and with the producer of inputs the group's rows of the entry are (`input_law`). The parts of
 //! all groups, merged by key, are the change (`parts_law`).
+//!
+//! Which runs these are for each producer, and that nothing which may come after the base changes the log, follows from
+//! what `pm_runs` says of a compaction whose runs still stand (`lookup_log_law`, `full_log_law`).
 #![tactic(auto)]
 
 mod laws;
 
 pub use laws::{
-    input_law, keys_law, log_law, merged_log_law, parts_law, quiet_law, told_keys_law, told_law,
+    full_log_law, input_law, keys_law, log_law, lookup_log_law, merged_log_law, parts_law,
+    quiet_law, told_keys_law, told_law,
 };
