@@ -1,0 +1,2 @@
+mod ExpiryLemmas
+mod NeededLemmas
