@@ -1,11 +1,11 @@
 -- Commands that are executed one after another.
-use Rattle.std.proofs.Common.{◌≡◌, ◌≤◌, ℕ, List, [], ◌∷◌, length, slice_get, append-nil, Option, None, Some, IsSomeAnd, Ok, refl, sym, subst, ap, ◌∙◌}
+use Rattle.std.proofs.Common.{◌≡◌, ◌≤◌, ℕ, List, [], ◌∷◌, length, map as each_of, slice_get, append-nil, Option, None, Some, IsSomeAnd, Ok, refl, sym, subst, ap, ◌∙◌}
 use Rattle.std.specs.FinMap as map
 use Rattle.std.specs.List.{AllByRecursion}
 use Rattle.pm_base.specs.Known.{and_then}
 use Rattle.pm_values.specs.declared.refusal.Refusal.{Refusal}
 use Rattle.pm_store.specs.declared.call.Op.{Op}
-use Rattle.pm_store.specs.Files.{Files, files_after}
+use Rattle.pm_store.specs.Files.{Files, after_from, after_op, files_after}
 use Rattle.pm_store.specs.Images.{CrashImage, Extends}
 use Rattle.pm_store.specs.Store.{StoreView, IsAlone, at_first_own}
 use Rattle.pm_input.specs.Lines.{row_lines}
@@ -24,7 +24,7 @@ use Rattle.pm_command.specs.declared.start.Start.{Start}
 use Rattle.pm_command.proofs.Uncalled.{next_stands}
 use Rattle.pm_command_create.specs.Create.{IsDraftOf}
 use Rattle.pm_command_write.specs.Write.{entry_by, writer_of}
-use Rattle.pm_cli.specs.InTurn.{AreInTurn, Ending, HaveOwnNames, IsExecuted, HandsOn, MakeInTurn, MakesBy, Turn, ended, stopped, to_its_end}
+use Rattle.pm_cli.specs.InTurn.{AreInTurn, Ending, HaveOwnNames, IsExecuted, HandsOn, MakeInTurn, MakesBy, Turn, ended, others_op, seen_by_another, stopped, to_its_end}
 use Rattle.pm_cli.specs.Promise.{Does, Execution, Keeps, KeepsIt, HasMade, MayMake, StandsForOthers, commits, creates, has_already, scans, takes_none}
 use Rattle.pm_cli.specs.Start.{HaveOtherNames, IsNew, MayStart}
 use Rattle.pm_cli.proofs.Common.{StandsForSomeFreely, leaves_some, leaves_weaker}
@@ -56,7 +56,14 @@ still_new e h first later f stands (t ∷ turns) (name, names) new = (
   still_new e h first later f stands turns names (leaves_weaker (AreNew (t ∷ turns) h) (AreNew turns h) first (λ f both. both.1) new),
 )
 
--- what images have the next store has
+-- what the files at the end have the next store has
+end_stands : (P : Files → Type 0) (after next : Option (List Op)) → IsSomeAnd after (λ ops. P (files_after ops))
+    → IsSomeAnd after (λ after. IsSomeAnd next (λ ops. files_after ops ≡ files_after after)) → IsSomeAnd next (λ ops. P (files_after ops))
+end_stands P None next ends has = absurd has
+end_stands P (Some after) None ends has = absurd has
+end_stands P (Some after) (Some ops) ends has = subst P (sym has) ends
+
+-- what images have it has
 image_stands : (P : Files → Type 0) (before after next : Option (List Op)) → Extends P before after
     → IsSomeAnd before (λ before. IsSomeAnd after (λ after. IsSomeAnd next (λ ops. (i : ℕ) × (length before ≤ i) × CrashImage after i (files_after ops))))
     → IsSomeAnd next (λ ops. P (files_after ops))
@@ -69,8 +76,8 @@ image_stands P (Some before) (Some after) (Some ops) images (i, from, image) =
 -- the next store stands for what the command made
 next_store : (ending : Ending) (e : Execution) (h : History) (first next : StoreView) → first.ops ≡ e.before.store.ops → KeepsIt e h first
     → HandsOn ending e next → (later : History) × MakesBy ending e h later × LeavesFiles (StandsForOthers e h first later) next
-next_store ended e h first next same kept is =
-    (kept.later, kept.makes, subst (λ (store : StoreView). LeavesFiles (StandsForOthers e h first kept.later) store) (sym is) kept.ends)
+next_store ended e h first next same kept has =
+    (kept.later, kept.makes, end_stands (StandsForOthers e h first kept.later) e.after.store.ops next.ops kept.ends has)
 next_store stopped e h first next same kept has =
     leaves_some (MayMake e h) (StandsForOthers e h first) next
     (image_stands (StandsForSomeFreely e h first) e.before.store.ops e.after.store.ops next.ops
@@ -96,6 +103,16 @@ in_turn keeps starts (t ∷ turns) store last h (same, is, alone, input, (next, 
     (leaves_weaker (StandsForOthers e h first left.0) (StandsWith turns left.0) next
     (λ f free. (free.folder, still_new e h first left.0 f free turns names new)) left.2) in
     (made.0, (left.0, left.1, made.1), made.2)
+
+-- ---- another handle
+
+same_after : (files : Files) (ops : List Op) → after_from files (each_of others_op ops) ≡ after_from files ops
+same_after files [] = refl
+same_after files (op ∷ ops) = same_after (after_op op files) ops
+
+pub to_another : (e : Execution) (ops : List Op) (faults : ℕ) → e.after.store.ops ≡ Some ops → HandsOn ended e (seen_by_another ops faults)
+to_another e ops faults is =
+    subst (λ (known : Option (List Op)). IsSomeAnd known (λ after. files_after (each_of others_op ops) ≡ files_after after)) (sym is) (same_after map.empty ops)
 
 -- ---- from nothing
 

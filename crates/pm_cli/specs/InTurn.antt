@@ -1,7 +1,9 @@
 -- Commands that are executed one after another on one store, some of which a crash stops, and what they make of a
--- history.
-use Rattle.std.specs.Prelude.{◌≡◌, ℕ, ◌≤◌, List, [], ◌∷◌, length, IsSomeAnd}
+-- history. Each may have a handle of its own, as each process has: to it the calls of those before are others', and
+-- faults count from 0. So what one hands on to the next are files.
+use Rattle.std.specs.Prelude.{◌≡◌, ℕ, ◌≤◌, List, [], ◌∷◌, length, map, Some, IsSomeAnd, false}
 use Rattle.std.specs.List.{AllByRecursion}
+use Rattle.pm_store.specs.declared.call.Op.{Op}
 use Rattle.pm_store.specs.Files.{files_after}
 use Rattle.pm_store.specs.Images.{CrashImage}
 use Rattle.pm_store.specs.Store.{StoreView, IsAlone}
@@ -29,7 +31,12 @@ pub record Turn : Type 0 where
 abbrev pub to_its_end : Execution → Turn
 to_its_end e = record { execution = e; ending = ended }
 
--- the next store has the files of an image of the execution, of its first call or a later moment
+-- the next store has the files that the execution left
+abbrev pub HasItsFiles : Execution → StoreView → Type 0
+HasItsFiles e next =
+    IsSomeAnd e.after.store.ops (λ after. IsSomeAnd next.ops (λ ops. files_after ops ≡ files_after after))
+
+-- it has those of an image of the execution, of its first call or a later moment
 abbrev pub HasImage : Execution → StoreView → Type 0
 HasImage e next =
     IsSomeAnd e.before.store.ops (λ before. IsSomeAnd e.after.store.ops (λ after. IsSomeAnd next.ops (λ ops.
@@ -37,8 +44,16 @@ HasImage e next =
 
 -- the store that the next execution finds
 abbrev pub HandsOn : Ending → Execution → StoreView → Type 0
-HandsOn ended e next = next ≡ e.after.store
+HandsOn ended e next = HasItsFiles e next
 HandsOn stopped e next = HasImage e next
+
+-- an operation as another handle sees it
+abbrev pub others_op : Op → Op
+others_op op = record op { is_own = false }
+
+-- the store after operations, as another handle sees it, of whose calls so many failed
+abbrev pub seen_by_another : List Op → ℕ → StoreView
+seen_by_another ops faults = record { ops = Some (map others_op ops); faults = faults }
 
 -- Each finds the store that the one before handed on, the first one this, and the last hands on that. Nobody else acts,
 -- and the inputs are known.

@@ -25,7 +25,8 @@ ghost use Rattle.pm_command.specs.declared.start.Start.{Start};
 ghost use Rattle.pm_command_create.specs.Create.{IsDraftOf, StandsForEither};
 ghost use Rattle.pm_command_write.specs.Write.{IsImage, Lines, MayStartAfter};
 ghost use Rattle.pm_command_write.specs.declared.writer.Writer.{Writer};
-ghost use Rattle.pm_cli.specs.InTurn.{AreInTurn, HaveOwnNames, IsExecuted, MakeInTurn, Turn, to_its_end};
+ghost use Rattle.pm_cli.specs.InTurn.{AreInTurn, HandsOn, HaveOwnNames, IsExecuted, MakeInTurn, Turn, ended};
+ghost use Rattle.pm_cli.specs.InTurn.{seen_by_another, to_its_end};
 ghost use Rattle.pm_cli.specs.Promise.{Execution, Keeps, KeepsIt, MayMake};
 ghost use Rattle.pm_cli.specs.Start.{HaveOtherNames, IsNew, MayStart};
 
@@ -153,6 +154,7 @@ pub fn free_law()
 /// Whatever commands are executed one after another on one store to which nobody else has access, however each of them
 /// ends and wherever a crash stops any: the store stands for a history that they made in turn. So it keeps every commit
 /// that was acknowledged, whole and in order, and each text that was printed is that of the history as it was then.
+/// Each may have its own handle of the store, as each process has: the next one may find what another handle sees.
 pub fn in_turn_law()
     ensures from { (turns : List Turn) (store last : StoreView) (h : History) → AreInTurn store turns last
         → HaveOwnNames turns
@@ -161,6 +163,8 @@ pub fn in_turn_law()
     ensures empty { (turns : List Turn) (store last : StoreView) → store.ops ≡ Some [] → AreInTurn store turns last
         → HaveOwnNames turns
         → (later : History) × MakeInTurn turns no_table later × LeavesFiles (λ f. Folder f later) last }
+    ensures another { (e : Execution) (ops : List Op) (faults : ℕ) → e.after.store.ops ≡ Some ops
+        → HandsOn ended e (seen_by_another ops faults) }
 {
     base_law();
     keeps_law();
