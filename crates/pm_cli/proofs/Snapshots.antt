@@ -97,6 +97,7 @@ each_line f s es stands (l ∷ lines) all (is, are) = (
 lines_are : (f : Files) (s : TableSchema) (es : List Entry) (lines : List SnapshotLine) → HasTable f s es → AreLinesOf f lines → AreLines es lines
 lines_are f s es lines stands are = record {
   least = stands.snapshots.least;
+  some = stands.snapshots.some;
   rising = are.ids.rising;
   exact = λ id. (
     λ c. let at = all id c in (at.after_origin, at.from, at.to),

@@ -39,9 +39,10 @@ LineBears (Some (append user identifier rows)) l = (l.user ≡ user) × (l.ident
 LineBears (Some other) l = Unit {0}
 LineBears None l = ⊥
 
--- lines of snapshots, rising: of all from some id on, each of its entry
+-- lines of snapshots, rising: of all from some id on, the newest among them, each of its entry
 pub record AreLines (entries : List Entry) (lines : List SnapshotLine) : Type 0 where
   pub least : ℕ
+  pub some : least ≤ length entries
   pub rising : IsStrictlyIncreasing (map (λ l. l.id) lines)
   pub exact : (id : ℕ) → Contains (map (λ l. l.id) lines) id ↔ ((1 ≤ id) × (least ≤ id) × (id ≤ length entries))
   pub each : AllByRecursion (λ (l : SnapshotLine). LineBears (entry_at entries l.id) l) lines
