@@ -13,14 +13,16 @@ use Rattle.pm_words.specs.declared.command.Command.TheVariants as commands
 -- files that stand for the history, in which a command of this actor may start
 abbrev pub MayStart : Command → Actor → History → Files → Type 0
 MayStart commands.Create me h f = making.MayStart me h f
+MayStart (commands.Scan at) me h f = Folder f h
+MayStart commands.Snapshots me h f = Folder f h
 MayStart (commands.Write user identifier) me h f = commit.MayStart me h f
-MayStart other me h f = Folder f h
 
 -- These are the bytes of the input, where the command reads it.
 abbrev pub HasInput : Command → List ℕ → Option (List ℕ) → Type 0
+HasInput commands.Create bytes left = left ≡ Some bytes
 HasInput (commands.Scan at) bytes left = Unit {0}
 HasInput commands.Snapshots bytes left = Unit {0}
-HasInput other bytes left = left ≡ Some bytes
+HasInput (commands.Write user identifier) bytes left = left ≡ Some bytes
 
 -- Files that stand for the history, to which the actor is new: neither the origin of the table nor a file that a
 -- snapshot names bears its name.
