@@ -1,32 +1,16 @@
-//! What is done to the files of a case, by a line or by others between the calls of a command.
+//! The doing of what is done to the files of a case.
 
-use crate::command::Command;
+use crate::running::run_on;
+use pm_cases_lines::{Act, Command, Deed};
 use pm_store::{FileStore, MemStore};
 use std::alloc::{AllocError, Global};
 
-/// What is done to files: one is put in place or replaced, one is taken away where it is there, or a command runs.
-#[derive(Drop)]
-pub enum Deed {
-    Put { path: String, bytes: Vec<u8> },
-    Take { path: String },
-    Run(Command),
-}
-
-/// What others do before a call of the next command, whose calls are counted from 1.
-#[derive(Drop)]
-pub struct Act {
-    pub call: u64,
-    pub deed: Deed,
-}
-
-impl Deed {
-    /// Does it, and prints nothing of it.
-    pub fn carry_out(&self, alloc: Global, files: &mut MemStore) -> Result<(), AllocError> {
-        match self {
-            Deed::Put { path, bytes } => put_file(alloc, files, path.as_str(), bytes.as_slice()),
-            Deed::Take { path } => take_file(alloc, files, path.as_str()),
-            Deed::Run(command) => run_silently(alloc, files, command),
-        }
+/// Does what is to be done to files, and prints nothing of it.
+pub fn apply_deed(alloc: Global, files: &mut MemStore, deed: &Deed) -> Result<(), AllocError> {
+    match deed {
+        Deed::Put { path, bytes } => put_file(alloc, files, path.as_str(), bytes.as_slice()),
+        Deed::Take { path } => take_file(alloc, files, path.as_str()),
+        Deed::Run(command) => run_silently(alloc, files, command),
     }
 }
 
@@ -39,7 +23,7 @@ pub fn act_before(
 ) -> Result<(), AllocError> {
     for act in acts.iter() {
         if act.call == call {
-            act.deed.carry_out(alloc, files)?;
+            apply_deed(alloc, files, &act.deed)?;
         }
     }
     Ok(())
@@ -47,7 +31,7 @@ pub fn act_before(
 
 /// Runs a command, whatever it prints.
 fn run_silently(alloc: Global, files: &mut MemStore, command: &Command) -> Result<(), AllocError> {
-    command.run(alloc, files)?;
+    run_on(alloc, command, files)?;
     Ok(())
 }
 

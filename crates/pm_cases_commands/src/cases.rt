@@ -1,7 +1,7 @@
 //! The cases of a case file, one after another.
 
-use crate::names::Names;
 use crate::store::CaseStore;
+use pm_cases_lines::Names;
 use pm_store::Planned;
 use std::alloc::{AllocError, Global};
 use std::mem;

@@ -49,22 +49,16 @@
 #![tactic(auto)]
 
 mod act;
-mod bytes;
 mod cases;
-mod command;
 mod files;
-mod line;
-mod names;
-mod read;
+mod running;
 mod store;
 
-use crate::act::Deed;
 use crate::cases::Cases;
-use crate::command::{Command, cut_lines};
 use crate::files::{files_text, list_text, sum_text};
-use crate::line::{Line, LineFault, Step};
-use crate::read::read_line;
+use crate::running::run_on;
 use crate::store::CaseStore;
+use pm_cases_lines::{Command, Deed, Line, LineFault, Step, cut_lines, read_line};
 use std::alloc::{AllocError, Global};
 use std::io::{BufRead, BufReader};
 use std::{io, mem};
@@ -191,7 +185,7 @@ fn run_command(
     command: &Command,
 ) -> Result<String, AllocError> {
     store.begin_command();
-    let text = command.run(alloc, store)?;
+    let text = run_on(alloc, command, store)?;
     store.end_command();
     Ok(text)
 }

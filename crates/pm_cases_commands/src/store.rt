@@ -4,8 +4,9 @@ ghost use Rattle.std.specs.Prelude.{◌≡◌, OnOk, IfErr};
 ghost use Rattle.pm_store.specs.Store.{IsLater};
 ghost use Rattle.pm_cases_commands.specs.Store.{case_seen, Refuses};
 
-use crate::act::{Act, Deed, act_before, put_file};
+use crate::act::{act_before, apply_deed, put_file};
 use pm_base::{Blob, Txt};
+use pm_cases_lines::{Act, Deed};
 use pm_store::{
     Call, Effect, FileStore, Made, MemStore, Planned, Published, Removed, StoreFail, Swapped,
     perform,
@@ -51,7 +52,7 @@ impl CaseStore {
 
     /// Does something to the files between commands.
     pub fn apply(&mut self, alloc: Global, deed: &Deed) -> Result<(), AllocError> {
-        deed.carry_out(alloc, &mut self.files)
+        apply_deed(alloc, &mut self.files, deed)
     }
 
     /// Puts the files of another store in place.
