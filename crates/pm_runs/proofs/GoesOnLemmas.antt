@@ -12,7 +12,7 @@ use Rattle.pm_engine.specs.OfSchema.{meaning_of}
 use Rattle.pm_model_following.specs.Following.{HaveBases, base_of, compacted, greatest}
 use Rattle.pm_model_following.specs.Groups.{rows_in}
 use Rattle.pm_runs.specs.Stand.{StandForRows, StoredRun, oldest_first, rows_after, top_of}
-use Rattle.pm_runs.specs.Succession.{AreKnownAt, Compacts, FilesTellRuns, Follows, IsNew, IsReplaced, IsSuccession, IsTaken, KnownRun, StandOnce, StillStands, Taking, without_files, unchanged, grown, replaced}
+use Rattle.pm_runs.specs.Succession.{AreKnownAt, Compacts, FilesTellRuns, Follows, HasNewestOf, IsNew, IsReplaced, IsSuccession, IsTaken, KnownRun, StandOnce, StillStands, Taking, without_files, unchanged, grown, replaced}
 use Rattle.pm_runs.proofs.Life.{AddedAll, AddedSome, IsIn, Stand, State}
 use Rattle.pm_runs.proofs.RunLemmas.{all-in, all-of, in-cons, in-left, in-none, in-or, in-right, once-put, one-place, stand-grown, stand-stays}
 use Rattle.pm_runs.proofs.SuccessionLemmas.{compacted-below, compacted-more, from-stand, group_rows, last-entry, no-base, none-whole, since-one, stands-longer, state-same, state_at, still, to-stand, with_base}
@@ -40,6 +40,67 @@ made-one (x ∷ []) r few there = elim (in-cons r x [] there) as (λ _. r ≡ x)
   | inr none ↦ absurd (in-none r none)
 ]
 made-one (x ∷ y ∷ made) r few there = absurd (omega (arith, few))
+
+has-within : (xs : List Entry) (k : ℕ) (x : Entry) → slice_get xs k ≡ Some x → k < length xs
+has-within [] zero x has = cc
+has-within [] (suc k) x has = cc
+has-within (y ∷ xs) zero x has = omega arith
+has-within (y ∷ xs) (suc k) x has = (let below = has-within xs k x has in omega (arith, below))
+
+-- ---- runs that are the same up to a snapshot
+
+module _ (s : TableSchema) (g : Group) (since size : ℕ) (runs later : ℕ → List KnownRun) (same : (k : ℕ) → k ≤ size → later k ≡ runs k) where
+  -- runs that are new among the earlier ones are new among these
+  new-moved : (k : ℕ) (r : KnownRun) → k ≤ size → IsNew since runs k r → IsNew since later k r
+  new-moved k r low new = record {
+    some = new.some;
+    names = λ j t a b from within there in_r in_t. new.names j t a b from within (subst (IsIn t) (same j (omega (arith, within, low))) there) in_r in_t;
+  }
+
+  all-moved : (k : ℕ) (rs : List KnownRun) → k ≤ size → AllByRecursion (IsNew since runs k) rs → AllByRecursion (IsNew since later k) rs
+  all-moved k [] low all = tt
+  all-moved k (r ∷ rs) low all = (new-moved k r low all.0, all-moved k rs low all.1)
+
+  took-moved : (k : ℕ) (t : Taking) → k ≤ size → IsTaken s since runs k t → IsTaken s since later k t
+  took-moved k t low took = record {
+    from = took.from;
+    after_origin = took.after_origin;
+    to = took.to;
+    was = same t.base (let early = took.to in omega (arith, early, low)) ∙ took.was;
+    some = took.some;
+    positive = took.positive;
+    within = took.within;
+    low = took.low;
+    high = took.high;
+  }
+
+  follows-moved : (k : ℕ) (x : Entry) (new : List KnownRun) → k ≤ size → Follows s g since runs k x new → Follows s g since later k x new
+  follows-moved k x new low (unchanged is_same base none) = unchanged (is_same ∙ sym (same k low)) base none
+  follows-moved k x new low (grown run is_new level newest fresh some covers) =
+      grown run (is_new ∙ ap (λ rs. run ∷ rs) (sym (same k low))) level newest (new-moved k run low fresh) some covers
+  follows-moved k x new low (replaced c) = replaced (record {
+    taking = c.taking;
+    took = took-moved k c.taking low c.took;
+    later = c.later;
+    older = c.older;
+    made = c.made;
+    was = same k low ∙ c.was;
+    put = c.put;
+    newest = c.newest;
+    fresh = all-moved k c.made low c.fresh;
+  })
+
+-- so a succession is one of the runs up to the newest snapshot alone
+pub moved : (s : TableSchema) (g : Group) (entries : List Entry) (since : ℕ) (runs later : ℕ → List KnownRun) → IsSuccession s g entries since runs
+    → ((k : ℕ) → k ≤ length entries → later k ≡ runs k) → IsSuccession s g entries since later
+moved s g entries since runs later is same = record {
+  bases = is.bases;
+  known = λ k low high. subst (AreKnownAt s g entries k) (sym (same k high)) (is.known k low high);
+  follows = λ k x low has.
+      let within = has-within entries k x has in
+      subst (Follows s g since later k x) (sym (same (suc k) (omega (arith, within))))
+      (follows-moved s g since (length entries) runs later same k x (runs (suc k)) (omega (arith, within)) (is.follows k x low has));
+}
 
 -- ---- one entry more
 
@@ -85,46 +146,6 @@ module _ (s : TableSchema) (g : Group) (entries : List Entry) (since : ℕ) (run
 
   module _ (later : ℕ → List KnownRun) (same : (k : ℕ) → k ≤ length entries → later k ≡ runs k)
       (follows : Follows s g since runs (length entries) e (later (suc (length entries)))) where
-    -- runs that are new among the earlier ones are new among these
-    new-moved : (k : ℕ) (r : KnownRun) → k ≤ size_ → IsNew since runs k r → IsNew since later k r
-    new-moved k r low new = record {
-      some = new.some;
-      names = λ j t a b from within there in_r in_t. new.names j t a b from within (subst (IsIn t) (same j (omega (arith, within, low))) there) in_r in_t;
-    }
-
-    all-moved : (k : ℕ) (rs : List KnownRun) → k ≤ size_ → AllByRecursion (IsNew since runs k) rs → AllByRecursion (IsNew since later k) rs
-    all-moved k [] low all = tt
-    all-moved k (r ∷ rs) low all = (new-moved k r low all.0, all-moved k rs low all.1)
-
-    took-moved : (k : ℕ) (t : Taking) → k ≤ size_ → IsTaken s since runs k t → IsTaken s since later k t
-    took-moved k t low took = record {
-      from = took.from;
-      after_origin = took.after_origin;
-      to = took.to;
-      was = same t.base (let early = took.to in omega (arith, early, low)) ∙ took.was;
-      some = took.some;
-      positive = took.positive;
-      within = took.within;
-      low = took.low;
-      high = took.high;
-    }
-
-    follows-moved : (k : ℕ) (x : Entry) (new : List KnownRun) → k ≤ size_ → Follows s g since runs k x new → Follows s g since later k x new
-    follows-moved k x new low (unchanged is_same base none) = unchanged (is_same ∙ sym (same k low)) base none
-    follows-moved k x new low (grown run is_new level newest fresh some covers) =
-        grown run (is_new ∙ ap (λ rs. run ∷ rs) (sym (same k low))) level newest (new-moved k run low fresh) some covers
-    follows-moved k x new low (replaced c) = replaced (record {
-      taking = c.taking;
-      took = took-moved k c.taking low c.took;
-      later = c.later;
-      older = c.older;
-      made = c.made;
-      was = same k low ∙ c.was;
-      put = c.put;
-      newest = c.newest;
-      fresh = all-moved k c.made low c.fresh;
-    })
-
     at-most-or : (k : ℕ) → k ≤ suc size_ → (k ≤ size_) ⊎ (k ≡ suc size_)
     at-most-or k within = elim (nat_le k size_) as (λ t. nat_le k size_ ≡ t → (k ≤ size_) ⊎ (k ≡ suc size_)) [
       | true ↦ λ is_low. inl (grind (arith, nat_tests))
@@ -147,17 +168,11 @@ module _ (s : TableSchema) (g : Group) (entries : List Entry) (since : ℕ) (run
     get-first (x ∷ xs) zero below = refl
     get-first (x ∷ xs) (suc k) below = get-first xs k (omega (arith, below))
 
-    has-within : (xs : List Entry) (k : ℕ) (x : Entry) → slice_get xs k ≡ Some x → k < length xs
-    has-within [] zero x has = cc
-    has-within [] (suc k) x has = cc
-    has-within (y ∷ xs) zero x has = omega arith
-    has-within (y ∷ xs) (suc k) x has = (let below = has-within xs k x has in omega (arith, below))
-
     follows-all : (k : ℕ) (x : Entry) → since ≤ k → slice_get grown_list k ≡ Some x → Follows s g since later k x (later (suc k))
     follows-all k x low has = elim (at-most-or (suc k) (let below = has-within grown_list k x has in omega (arith, below, long))) as (λ _. Follows s g since later k x (later (suc k))) [
       | inl first_one ↦
           let entry = sym (get-first entries k (omega (arith, first_one))) ∙ has in
-          let moved = follows-moved k x (runs (suc k)) (omega (arith, first_one)) (is.follows k x low entry) in
+          let moved = follows-moved s g since size_ runs later same k x (runs (suc k)) (omega (arith, first_one)) (is.follows k x low entry) in
           subst (Follows s g since later k x) (sym (same (suc k) first_one)) moved
       | inr is_last ↦ last-follows k x (omega (arith, is_last)) has
     ]
@@ -165,7 +180,7 @@ module _ (s : TableSchema) (g : Group) (entries : List Entry) (since : ℕ) (run
         last-follows : (k : ℕ) (x : Entry) → k ≡ size_ → slice_get grown_list k ≡ Some x → Follows s g since later k x (later (suc k))
         last-follows k x is_last has =
             let one : x ≡ e = some-is x e (sym has ∙ ap (slice_get grown_list) is_last ∙ last-entry entries e) in
-            let here = follows-moved size_ e (later (suc size_)) (omega arith) follows in
+            let here = follows-moved s g since size_ runs later same size_ e (later (suc size_)) (omega arith) follows in
             subst (λ (y : Entry). Follows s g since later k y (later (suc k))) (sym one)
             (subst (λ j. Follows s g since later j e (later (suc j))) (sym is_last) here)
 
@@ -180,7 +195,7 @@ module _ (s : TableSchema) (g : Group) (entries : List Entry) (since : ℕ) (run
 
       made-next : (c : Compacts s g since runs size_ e next_runs) (r : KnownRun) → IsIn r c.made → IsNext s since runs size_ (first_of c.made) r
       made-next c r there =
-          let t = all-in (λ (x : KnownRun). (other : KnownRun) × IsIn other c.taking.taken × (x.newest ≡ other.newest)) r c.made c.newest there in
+          let t = (all-in (HasNewestOf c.taking.taken) r c.made c.newest there).one in
           let was : IsIn t.0 (runs size_) = subst (IsIn t.0) (sym c.was) (in-right t.0 c.later (c.taking.taken ++ c.older) (in-left t.0 c.taking.taken c.older t.1)) in
           let low = all-in (λ (x : KnownRun). x.newest ≤ size_) t.0 (runs size_) here.newest was in
           let one = t.2 in

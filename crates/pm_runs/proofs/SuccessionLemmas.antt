@@ -18,7 +18,7 @@ use Rattle.pm_engine.specs.OfSchema.{meaning_of}
 use Rattle.pm_model_following.specs.Following.{HaveBases, base_of, compacted, greatest, is_named}
 use Rattle.pm_model_following.specs.Groups.{group_of, rows_in}
 use Rattle.pm_runs.specs.Stand.{StandForRows, StoredRun, oldest_first, rows_after, top_of}
-use Rattle.pm_runs.specs.Succession.{Follows, HaveFilesIn, IsNew, IsReplaced, IsSuccession, IsTaken, KnownRun, StillStands, Taking, from_oldest, without_files, unchanged, grown, replaced}
+use Rattle.pm_runs.specs.Succession.{Follows, HasNewestOf, HaveFilesIn, IsNew, IsReplaced, IsSuccession, IsTaken, KnownRun, StillStands, Taking, from_oldest, without_files, unchanged, grown, replaced}
 use Rattle.pm_runs.proofs.Life as life
 use Rattle.pm_runs.proofs.Life.{AddedAll, CaughtUp, IsIn, IsLife, Rows, Stand, State, Step, Took, oldest_such}
 use Rattle.pm_runs.proofs.RunLemmas.{caught-up, all-in, in-cons, in-left, in-or, in-right, in-same, stand-now}
@@ -295,6 +295,11 @@ module _ (s : TableSchema) (g : Group) (entries : List Entry) (since : ℕ) (run
   new-not : (n : ℕ) (r : KnownRun) → IsNew since runs n r → (k : ℕ) → since ≤ k → k ≤ n → IsIn r (runs k) → ⊥
   new-not n r new k from low there = let m = first-file r.files new.some in new.names k r m.0 m.0 from low there m.1 m.1 refl
 
+  newest-one : (taken rs : List KnownRun) → AllByRecursion (HasNewestOf taken) rs
+      → AllByRecursion (λ (r : KnownRun). (t : KnownRun) × IsIn t taken × (r.newest ≡ t.newest)) rs
+  newest-one taken [] all = tt
+  newest-one taken (r ∷ rs) all = (all.0.one, newest-one taken rs all.1)
+
   all-new : (n : ℕ) (rs : List KnownRun) → AllByRecursion (IsNew since runs n) rs
       → AllByRecursion (λ (r : KnownRun). (k : ℕ) → since ≤ k → k ≤ n → IsIn r (runs k) → ⊥) rs
   all-new n [] all = tt
@@ -325,7 +330,7 @@ module _ (s : TableSchema) (g : Group) (entries : List Entry) (since : ℕ) (run
     was = c.was;
     is = c.put.is;
     new = c.put.levels;
-    newest = c.newest;
+    newest = newest-one c.taking.taken c.made c.newest;
     fresh = all-new n c.made c.fresh;
     replaces = c.put.place;
     zero = more-is false n e (Some c.taking.base) entry c.put.named;

@@ -112,8 +112,13 @@ pub record IsReplaced (s : TableSchema) (g : Group) (e : Entry) (t : Taking) (la
   pub whole : ((t.out ≡ top_of s) × (base_of true g e ≡ Some t.base))
       ⊎ ((t.out < top_of s) × (base_of true g e ≡ None))
 
+-- a run has rows of entries up to the newest of which one of these has rows
+pub record HasNewestOf (taken : List KnownRun) (run : KnownRun) : Type 0 where
+  pub one : (other : KnownRun) × Contains taken other × (run.newest ≡ other.newest)
+  pub greatest : AllByRecursion (λ (other : KnownRun). other.newest ≤ run.newest) taken
+
 -- A compaction of the group: what it took at its base still stands, together, and at most one new run takes its place,
--- which has no row of an entry that those that were taken haven't.
+-- which has rows of the same entries.
 pub record Compacts (s : TableSchema) (g : Group) (since : ℕ) (runs : ℕ → List KnownRun) (n : ℕ) (e : Entry)
     (new : List KnownRun) : Type 0 where
   pub taking : Taking
@@ -123,8 +128,7 @@ pub record Compacts (s : TableSchema) (g : Group) (since : ℕ) (runs : ℕ → 
   pub made : List KnownRun
   pub was : runs n ≡ later ++ (taking.taken ++ older)
   pub put : IsReplaced s g e taking later older made new
-  pub newest : AllByRecursion (λ (run : KnownRun).
-      (other : KnownRun) × Contains taking.taken other × (run.newest ≡ other.newest)) made
+  pub newest : AllByRecursion (HasNewestOf taking.taken) made
   pub fresh : AllByRecursion (IsNew since runs n) made
 
 -- ---- from snapshot to snapshot

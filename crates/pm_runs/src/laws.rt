@@ -25,6 +25,13 @@ pub fn found_law()
         AreKnownAt s g entries (length entries) runs → IsSuccession s g entries (length entries) (λ n. runs) }
 {}
 
+/// A succession is one of the runs up to the newest snapshot alone.
+pub fn same_law()
+    ensures { (s : TableSchema) (g : Group) (entries : List Entry) (since : ℕ) (runs later : ℕ → List KnownRun) →
+        IsSuccession s g entries since runs → ((n : ℕ) → n ≤ length entries → later n ≡ runs n) →
+        IsSuccession s g entries since later }
+{}
+
 /// A succession goes on by whatever follows: the runs stand for the rows of the next snapshot, too.
 pub fn goes_on_law()
     ensures { (s : TableSchema) (g : Group) (entries : List Entry) (since : ℕ) (runs later : ℕ → List KnownRun)

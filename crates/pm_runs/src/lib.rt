@@ -14,4 +14,4 @@
 
 mod laws;
 
-pub use laws::{found_law, goes_on_law, replaced_law, rows_law, still_law, there_law};
+pub use laws::{found_law, goes_on_law, replaced_law, rows_law, same_law, still_law, there_law};
