@@ -45,16 +45,19 @@ use Rattle.pm_write.specs.Batch.{GroupRows, Groups, IsBatchOf, held_of, numbered
 use Rattle.pm_write.specs.Files.{AreNewFiles, AreWritten, IsWritten, exceeds, next_of, no_sequence}
 use Rattle.pm_write.specs.declared.files.NewFile.{NewFile}
 use Rattle.pm_model_folder.specs.Changes.{Actor, IsNamedBy, NamesOwn}
-use Rattle.pm_model_folder.specs.Commits.{AreRunsAt, BeginsOn, FollowsOn, HasCommit, IsAppended, IsCommit, IsCommitted, IsFresh, Names, live_in}
+use Rattle.pm_model_folder.specs.Commits.{BeginsOn, FollowsOn, HasCommit, IsCommit, IsCommitted, IsFresh, Names, live_in}
 use Rattle.pm_model_folder.specs.Entries.{AreLive, BearsEntry, entry_at, fence_at, raised}
 use Rattle.pm_model_folder.specs.Folder.{HasTable, IsFrom}
 use Rattle.pm_model_folder.specs.Meaning.{HasSnapshotAt, SnapshotAt}
 use Rattle.pm_model_folder.specs.Paths.{snapshot_path}
+use Rattle.pm_model_folder.specs.Runs.{AreRunsAt}
 use Rattle.pm_model_folder.specs.Stored.{HasGroup, HasRun}
 use Rattle.pm_runs.specs.Stand.{top_of}
+use Rattle.pm_runs.specs.Succession.{KnownRun}
 use Rattle.pm_model_folder.proofs.Facts.{same-or-other, some-none}
 use Rattle.pm_model_folder.proofs.HoldLemmas.{ContentsStay, Holds, OneContents, commit-held, entries-held, group-held, names-held, names-were, one-commit}
-use Rattle.pm_append.specs.Commit.{AreBase, AreBaseIf, Attempt, HasAppended, IsAsMade, IsFoundAs, IsReady}
+use Rattle.pm_model_folder.proofs.RunFacts.{none-stand}
+use Rattle.pm_append.specs.Commit.{AreBase, AreBaseIf, Attempt, Grows, HasAppended, IsAsMade, IsFoundAs, IsReady, grows, stays}
 use Rattle.pm_append.specs.Files.{AreLists, AreManifests, HasBase, IsAppendOf, IsNewList, IsNewManifest, after_names, data_file, empty, kept, merged}
 use Rattle.pm_append.specs.Refusals.{above_files, above_id, above_numbers, fence_of, is_fenced, no_files, no_id, passed, refusal_of}
 use Rattle.pm_append.specs.Snapshot.{added_entry, appends_of, full_of, new_snapshot}
@@ -68,7 +71,7 @@ use Rattle.pm_append.proofs.LiveLemmas.{AreAdds, AreNew, ManifestFacts, adds-fol
 use Rattle.pm_append.proofs.MadeLemmas.{IsMade, IsMaker, PathFacts, later-maker, made-data, made-fresh, made-list, made-manifest, maker_of, next-maker}
 use Rattle.pm_append.proofs.NumberLemmas.{same-exceeds}
 use Rattle.pm_append.proofs.RowCountLemmas.{adds-at-zero, files-few}
-use Rattle.pm_append.proofs.RowLemmas.{AddedFacts, longer, stand-added, stand-none, stand-same}
+use Rattle.pm_append.proofs.RowLemmas.{AddedFacts, longer, stand-added, stand-same}
 
 -- ---- what the laws of lower crates say
 
@@ -91,7 +94,6 @@ pub record Facts : Type 0 where
   pub paths : PathFacts
   pub one_contents : OneContents
   pub contents_stay : ContentsStay
-  pub one_runs : (live : Live) (g : Group) (runs others : List RunView) → AreRunsOf live g runs → AreRunsOf live g others → runs ≡ others
   pub consistent : (id : ℕ) (text : List ℕ) (x : Snapshot) → snapshot_in id text ≡ Ok x → IsConsistent x
   pub bears : (id : ℕ) (text : List ℕ) (x : Snapshot) → snapshot_in id text ≡ Ok x → x.id ≡ id
   pub rising : (s : TableSchema) (bytes : List ℕ) (rows : List Stamped) → HasRows s false bytes rows → AreRising rows
@@ -264,7 +266,7 @@ module _ (facts : Facts) (f : Files) (s : TableSchema) (entries : List Entry) (f
       numbered = λ a b two low high. absurd (two-none a b two);
       stored = [];
       read = tt;
-      stand = stand-none s g;
+      stand = none-stand s g;
     });
     manifest_named = λ meta h. absurd (none-in meta (subst (λ (metas : List ManifestMeta). Contains metas meta) no_manifests h));
     data_named = λ e is. absurd (some-no e is);
@@ -632,6 +634,7 @@ module _ (facts : Facts) (me : Actor) (f after : Files) (s : TableSchema) (entri
     pub run : HasRun after s g (lone entry.file) (record { level = 0; rows = rows })
     pub covers : CoversAll (meaning_of s) (rows ∷ []) (rows_in s g t.rows)
     pub some : rows_in s g t.rows ≢ []
+    pub made_by : IsMade me t.author.base (data_path s g entry.file.name)
 
   -- or it has none
   record Unchanged (g : Group) : Type 0 where
@@ -694,6 +697,7 @@ module _ (facts : Facts) (me : Actor) (f after : Files) (s : TableSchema) (entri
           is.read (facts.rising s x.bytes (numbered start r.run) is.read) is.tells;
       covers = facts.covers s t.rows t.batch g r start ready.batch found;
       some = (some-count s t.rows t.batch g r ready.batch found).1;
+      made_by = subst (λ (h : Group). IsMade me t.author.base (data_path s h x.meta.name)) of_g (data-made x there);
     }
 
   group-change : (g : Group) → Added g ⊎ Unchanged g
@@ -874,29 +878,28 @@ module _ (facts : Facts) (me : Actor) (f after : Files) (s : TableSchema) (entri
 
   -- ---- runs go on
 
-  runs-after : (g : Group) (runs : List RunView) → AreRunsAt after s (suc k) g runs → AreRunsOf (live_in contents) g runs
-  runs-after g runs (x, c, commit, are) =
-      let both = one-commit facts.one_contents after s (suc k) x y c contents commit has-commit in
-      subst (λ (c : Contents). AreRunsOf (live_in c) g runs) both.1 are
+  abbrev known_run : (g : Group) → Added g → KnownRun
+  known_run g x = record { level = x.entry.file.level; files = x.entry.file ∷ []; newest = suc k; rows = x.rows }
 
-  appended-by : (g : Group) (before now : List RunView) (x : Added g) → AreRunsOf live0 g before → AreRunsOf (live_in contents) g now
-      → (own : List HistoryRow) → own ≡ rows_in s g t.rows → IsAppended after s g own before now
-  appended-by g before now x was is [] none = absurd (x.some (sym none))
-  appended-by g before now x was is (row ∷ more) same = (
-    lone x.entry.file,
-    record { level = 0; rows = x.rows },
-    facts.one_runs (live_in contents) g now (lone x.entry.file ∷ before) is
-        (more-runs facts.newest live0 (live_in contents) g x.entry x.newest_file x.grown_by before was),
-    x.newest_file.low,
-    x.run,
-    subst (λ (rs : List HistoryRow). CoversAll (meaning_of s) (x.rows ∷ []) rs) (sym same) x.covers,
-  )
+  one-file : (g : Group) (x : Added g) (file : FileMeta) → Contains (x.entry.file ∷ []) file → IsNamedBy me (data_path s g file.name)
+  one-file g x file there = elim (in-or x.entry.file [] file there) as (λ _. IsNamedBy me (data_path s g file.name)) [
+    | inl is ↦ subst (λ (m : FileMeta). IsNamedBy me (data_path s g m.name)) is x.made_by.by
+    | inr none ↦ absurd (none-in file none)
+  ]
 
-  same-by : (g : Group) (before now : List RunView) (x : Unchanged g) → AreRunsOf live0 g before → AreRunsOf (live_in contents) g now
-      → IsAppended after s g (rows_in s g t.rows) before now
-  same-by g before now x was is =
-      subst (λ (rs : List HistoryRow). IsAppended after s g rs before now) (sym x.none)
-      (facts.one_runs (live_in contents) g now before is (same-runs live0 (live_in contents) g before x.same was))
+  some-file : (m : FileMeta) → m ∷ [] ≢ []
+  some-file m is = cc
+
+  grows-by : (g : Group) → Added g → Grows me f after s k g t.rows
+  grows-by g x = grows (known_run g x) x.newest_file.low refl (some-file x.entry.file) (one-file g x)
+      (record { level = refl; files = x.run.files; rising = x.run.rising }) x.some x.covers
+      (λ runs are. (y, contents, has-commit, more-runs facts.newest live0 (live_in contents) g x.entry x.newest_file x.grown_by runs (old.runs_at g runs are)))
+
+  group-grows : (g : Group) → Grows me f after s k g t.rows
+  group-grows g = elim (group-change g) as (λ _. Grows me f after s k g t.rows) [
+    | inl x ↦ grows-by g x
+    | inr x ↦ stays x.none (λ runs are. (y, contents, has-commit, same-runs live0 (live_in contents) g runs x.same (old.runs_at g runs are)))
+  ]
 
   appends : IsCommit f after s entries e
   appends = record {
@@ -904,10 +907,6 @@ module _ (facts : Facts) (me : Actor) (f after : Files) (s : TableSchema) (entri
     begins = first-begins;
     next = follows;
     gone = never-returns;
-    groups = λ g before now at_k at_next. elim (group-change g) as (λ _. IsAppended after s g (rows_in s g t.rows) before now) [
-      | inl x ↦ appended-by g before now x (old.runs_at g before at_k) (runs-after g now at_next) (rows_in s g t.rows) refl
-      | inr x ↦ same-by g before now x (old.runs_at g before at_k) (runs-after g now at_next)
-    ];
   }
 
   as-made : IsAsMade after s (suc k) t ready.made
@@ -935,6 +934,7 @@ module _ (facts : Facts) (me : Actor) (f after : Files) (s : TableSchema) (entri
 
   pub published : IsCommit f after s entries (append t.author.user t.author.identifier t.rows) × NamesOwn me f after s (length entries)
       × IsAsMade after s (suc (length entries)) t ready.made × HasAppended after s t.newest t.author (length t.rows)
+      × ((g : Group) → Grows me f after s (length entries) g t.rows)
   published = (
     appends,
     λ path now other. elim (names-or path now) as (λ _. IsNamedBy me path) [
@@ -943,4 +943,5 @@ module _ (facts : Facts) (me : Actor) (f after : Files) (s : TableSchema) (entri
     ],
     as-made,
     has-appended,
+    group-grows,
   )

@@ -1,5 +1,5 @@
 -- The rows of a history that has one more entry, which appends rows.
-use Rattle.std.proofs.Common.{◌≡◌, ◌≢◌, ℕ, ℤ, suc, ◌+◌, ◌≤◌, ◌==◌, nat_lt, max, Bool, true, false, cond, List, [], ◌∷◌, ◌++◌, take, drop, map, filter, length, length-append, reverse, Option, Some, None, inl, refl, sym, ap, subst, ◌∙◌, append-nil, arith}
+use Rattle.std.proofs.Common.{◌≡◌, ◌≢◌, ℕ, ℤ, suc, ◌+◌, ◌≤◌, ◌==◌, nat_lt, max, Bool, true, false, cond, List, [], ◌∷◌, ◌++◌, take, drop, map, filter, length, length-append, reverse, Option, Some, None, refl, sym, ap, subst, ◌∙◌, append-nil, arith}
 use Rattle.std.specs.List.{AllByRecursion, cons_option, filter_map, flat_map, fold}
 use Rattle.std.specs.Ordering.{eq_by_cmp}
 use Rattle.std.proofs.lemmas.Bool.Decides.{nat_tests}
@@ -230,21 +230,3 @@ module _ (entries : List Entry) (user : List ℕ) (identifier : ℤ) (rows : Lis
       where
         no-more : (before : List HistoryRow) → before ++ own ≡ before
         no-more before = ap (λ (more : List HistoryRow). before ++ more) none ∙ append-nil before
-
--- ---- before any entry
-
--- nothing covers no rows
-none-covers : (m : Meaning) → Covers m [] []
-none-covers m key = ([], inl refl, record { parts = []; split = refl; holds = tt })
-
-none-covers_all : (m : Meaning) → CoversAll m [] []
-none-covers_all m key = record { parts = []; split = refl; holds = tt }
-
-pub stand-none : (s : TableSchema) (g : Group) → StandForRows s [] 0 g []
-stand-none s g = record {
-  all = none-covers (meaning_of s);
-  above_zero = none-covers (meaning_of s);
-  at_zero = none-covers_all (meaning_of s);
-  at_top = none-covers (meaning_of s);
-  below_top = none-covers_all (meaning_of s);
-}

@@ -1,24 +1,35 @@
 -- When what was made of a batch adds its entry to the history, once it is published.
-use Rattle.std.specs.Prelude.{◌≡◌, ◌≢◌, ℕ, ◌+◌, ◌<◌, ◌≤◌, ◌^◌, List, [], ◌∷◌, ◌++◌, length, map, Bool, true, false, Option, Some, None}
+use Rattle.std.specs.Prelude.{◌≡◌, ◌≢◌, ℕ, suc, ◌+◌, ◌<◌, ◌≤◌, ◌^◌, List, [], ◌∷◌, ◌++◌, length, map, Contains}
+use Rattle.std.specs.Prelude.{Bool, true, false, Option, Some, None}
 use Rattle.std.specs.FinMap as paths
 use Rattle.std.specs.List.{AllByRecursion}
 use Rattle.pm_store.specs.Files.{Files}
 use Rattle.pm_values.specs.Names.{Naming}
+use Rattle.pm_values.specs.declared.file_meta.FileMeta.{FileMeta}
+use Rattle.pm_values.specs.declared.group.Group.{Group}
 use Rattle.pm_model_history.specs.History.{Entry}
 use Rattle.pm_model_history.specs.Merge.{HistoryRow}
+use Rattle.pm_engine.specs.Covers.{CoversAll}
+use Rattle.pm_engine.specs.OfSchema.{meaning_of}
 use Rattle.pm_options.specs.declared.kinds.Producer.TheVariants as producers
 use Rattle.pm_schema.specs.Again.{IsDeclared}
 use Rattle.pm_schema.specs.declared.schema.TableSchema.{TableSchema}
+use Rattle.pm_model_following.specs.Groups.{rows_in}
 use Rattle.pm_snapshot.specs.Names.{MayName}
 use Rattle.pm_snapshot.specs.declared.snapshot.Snapshot.{Snapshot}
+use Rattle.pm_levels.specs.Runs.{RunView}
 use Rattle.pm_manifest.specs.declared.entry.Entry as files
 use Rattle.pm_manifest.specs.declared.entry.ManifestMeta.{ManifestMeta}
 use Rattle.pm_model_contents.specs.Lists.{HaveEntries, IsManifest}
 use Rattle.pm_model_contents.specs.Named.{Contents}
+use Rattle.pm_model_contents.specs.Runs.{data_path}
 use Rattle.pm_model_folder.specs.Changes.{Actor, IsNamedBy}
 use Rattle.pm_model_folder.specs.Commits.{HasCommit, Names, live_in}
 use Rattle.pm_model_folder.specs.Entries.{AreLive, rows_in_files}
 use Rattle.pm_model_folder.specs.Folder.{HasTable}
+use Rattle.pm_model_folder.specs.Runs.{AreRunsAt, view_of}
+use Rattle.pm_model_folder.specs.Stored.{HasRun}
+use Rattle.pm_runs.specs.Succession.{KnownRun, without_files}
 use Rattle.pm_write.specs.Batch.{Groups, IsBatchOf}
 use Rattle.pm_append.specs.Files.{IsAppendOf, merges}
 use Rattle.pm_append.specs.Refusals.{refusal_of}
@@ -127,3 +138,19 @@ pub record HasAppended (f : Files) (s : TableSchema) (newest : Newest) (author :
   pub delta : HaveEntries f s contents.delta added
   pub adds : AllByRecursion AddsAtZero added
   pub few : rows_in_files added ≤ count
+
+-- ---- what becomes of a group's runs
+
+-- What a commit that appends rows makes of a group's runs. They stay where it has no row of the group. Else one run
+-- comes before them, at level 0 and of files that the actor named, and covers these rows.
+pub data Grows (me : Actor) (f after : Files) (s : TableSchema) (n : ℕ) (g : Group) (rows : List HistoryRow) : Type 0
+  where
+    stays : rows_in s g rows ≡ []
+        → ((runs : List RunView) → AreRunsAt f s n g runs → AreRunsAt after s (suc n) g runs)
+        → Grows me f after s n g rows
+    grows : (run : KnownRun) → run.level ≡ 0 → run.newest ≡ suc n → run.files ≢ []
+        → ((file : FileMeta) → Contains run.files file → IsNamedBy me (data_path s g file.name))
+        → HasRun after s g (view_of run) (without_files run) → rows_in s g rows ≢ []
+        → CoversAll (meaning_of s) (run.rows ∷ []) (rows_in s g rows)
+        → ((runs : List RunView) → AreRunsAt f s n g runs → AreRunsAt after s (suc n) g (view_of run ∷ runs))
+        → Grows me f after s n g rows

@@ -4,6 +4,7 @@ use Rattle.std.specs.FinMap as map
 use Rattle.std.proofs.lemmas.Bool.{eq-eqb}
 use Rattle.pm_store.specs.Files.{Files, Puts}
 use Rattle.pm_model_history.specs.History.{Entry, History, IsTableOf, no_table, table}
+use Rattle.pm_values.specs.declared.group.Group.{Group}
 use Rattle.pm_schema.specs.declared.schema.TableSchema.{TableSchema}
 use Rattle.pm_snapshot.specs.Names.{greatest, snapshot_name}
 use Rattle.pm_snapshot.specs.declared.snapshot.Snapshot.{Snapshot}
@@ -11,12 +12,14 @@ use Rattle.pm_model_contents.specs.Named.{Contents, HasContents, IsNamed}
 use Rattle.pm_model_folder.specs.Changes.{Actor, Change, IsNamedBy, IsNoOrigin, IsOwn, NamesOwn, nothing, own_file}
 use Rattle.pm_model_folder.specs.Commits.{IsCommitted, Names, Needs}
 use Rattle.pm_model_folder.specs.Folder.{HasTable}
-use Rattle.pm_model_folder.specs.Ledger.{Advances, HasNamedNone, IsKnown, IsOldOrUnnamed, IsUnnamed, KnowsTable, Past, Stands, count_of}
+use Rattle.pm_model_folder.specs.Ledger.{Advances, HasNamedNone, IsKnown, IsOldOrUnnamed, IsUnnamed, KnowsTable, Past, RunsFollow, Stands, count_of}
 use Rattle.pm_model_folder.specs.Meaning.{HasSnapshotAt, SnapshotAt}
 use Rattle.pm_model_folder.specs.Paths.{snapshot_path}
+use Rattle.pm_model_folder.specs.Runs.{AreInFiles}
 use Rattle.pm_model_folder.proofs.Facts.{same-or-other, some-none, split-last}
-use Rattle.pm_model_folder.proofs.HoldLemmas.{OneContents, one-commit}
-use Rattle.pm_model_folder.proofs.LedgerFacts.{at-table, count-is, is-table}
+use Rattle.pm_model_folder.proofs.HoldLemmas.{OneContents, SameContents, one-commit}
+use Rattle.pm_model_folder.proofs.LedgerFacts.{at-table, beside, count-is, is-table, one-entry}
+use Rattle.pm_runs.specs.Succession.{Follows, KnownRun}
 use Rattle.pm_paths.proofs.ListLemmas.{cases, here, more, nowhere}
 use Rattle.pm_read_table.specs.Named.{named_paths, parts_of}
 use Rattle.pm_read_table.specs.View.{live_entries}
@@ -63,22 +66,11 @@ abbrev pub NamedPaths : Type 0
 NamedPaths = (s : TableSchema) (x : Snapshot) (c : Contents) (path : List ℕ)
     → Contains (named_paths s x (parts_of (c.base ++ c.delta) (live_entries c.entries) c.changelog c.changes)) path ↔ IsNamed s x c path
 
--- files that a snapshot names and that are the same have the same contents
-abbrev pub SameContents : Type 0
-SameContents = (f g : Files) (s : TableSchema) (x : Snapshot) (c : Contents)
-    → ((path : List ℕ) → IsNamed s x c path → map.get g path ≡ map.get f path) → HasContents f s x c → HasContents g s x c
-
 -- ---- nothing changes
 
 pub same-advances : (me : Actor) (f after : Files) (p : Past) → ((path : List ℕ) → map.get after path ≡ map.get f path) → Advances me f p after p
-same-advances me f after p same = record {
-  change = nothing same;
-  fresh = λ s path is none here. absurd (some-none (map.get after path) here (same path ∙ none));
-  first = refl;
-  same = λ id known. refl;
-  stood = λ id known unknown. absurd (unknown known);
-  new = λ s id path is known unknown named. absurd (unknown known);
-}
+same-advances me f after p same =
+    beside me f after p p.history (nothing same) refl (λ s path is none here. absurd (some-none (map.get after path) here (same path ∙ none)))
 
 -- ---- a path that no known snapshot needs appears
 
@@ -114,14 +106,9 @@ fresh-at f after p s path content is unnamed puts t q same none here id known ne
 pub own-advances : (me : Actor) (f after : Files) (p : Past) (s : TableSchema) (path content : List ℕ) → IsTableOf s p.history → HasNamedNone me p
     → IsOwn me path → InTable path → IsNamedBy me path → IsNoOrigin p.history path → map.get f path ≡ None → Puts f path (Some content) after
     → Advances me f p after p
-own-advances me f after p s path content is none own at by apart absent puts = record {
-  change = own_file path content own apart absent puts;
-  fresh = fresh-at f after p s path (Some content) is (own-unnamed me p s path is none at by) puts;
-  first = refl;
-  same = λ id known. refl;
-  stood = λ id known unknown. absurd (unknown known);
-  new = λ s id path is known unknown named. absurd (unknown known);
-}
+own-advances me f after p s path content is none own at by apart absent puts =
+    beside me f after p p.history (own_file path content own apart absent puts) refl
+    (fresh-at f after p s path (Some content) is (own-unnamed me p s path is none at by) puts)
 
 -- ---- rows are appended
 
@@ -138,37 +125,44 @@ named-stood one same f p s entries id path past known there commit (x, c, has, n
     let both = one-commit one f s id x y c d has (at, held) in
     subst (λ (d : Contents). IsNamed s y d path) both.1 (subst (λ (y : Snapshot). IsNamed s y c path) both.0 named)
 
--- the past once rows were appended
-abbrev pub later_past : Past → TableSchema → List Entry → Entry → Files → Past
-later_past p s entries e after = record {
+-- the past once rows were appended, and the groups have these runs
+abbrev pub later_past : Past → TableSchema → List Entry → Entry → Files → (Group → List KnownRun) → Past
+later_past p s entries e after new = record {
   history = table s (entries ++ e ∷ []);
   first = p.first;
   stood = λ id. if id == suc (length entries) then after else p.stood id;
+  since = p.since;
+  runs = λ id g. if id == suc (length entries) then new g else p.runs id g;
 }
 
-at-other : (f g : Files) (id n : ℕ) → id ≢ n → (if id == n then f else g) ≡ g
+at-other : {A : Type 0} (f g : A) (id n : ℕ) → id ≢ n → (if id == n then f else g) ≡ g
 at-other f g id n other = by_test (id == n) refl
   where
     by_test : (b : Bool) → (id == n) ≡ b → (if b then f else g) ≡ g
     by_test true same = absurd (other (eqb-true id n same))
     by_test false differ = refl
 
-at-same : (f g : Files) (id n : ℕ) → id ≡ n → (if id == n then f else g) ≡ f
+at-same : {A : Type 0} (f g : A) (id n : ℕ) → id ≡ n → (if id == n then f else g) ≡ f
 at-same f g id n is = by_test (id == n) refl
   where
     by_test : (b : Bool) → (id == n) ≡ b → (if b then f else g) ≡ f
     by_test true same = refl
     by_test false differ = absurd (true≢false (sym (eq-eqb id n is) ∙ differ))
 
+-- a group's runs at the new snapshot are those of its files, and follow
+abbrev pub GoesWith : Files → Past → TableSchema → List Entry → Entry → Group → List KnownRun → Type 0
+GoesWith after p s entries e g new =
+    AreInFiles after s (suc (length entries)) g new × Follows s g p.since (λ n. p.runs n g) (length entries) e new
+
 module _ (one : OneContents) (same : SameContents) (paths : NamedPaths) (me : Actor) (f after : Files) (p : Past) (s : TableSchema) (entries : List Entry) (e : Entry)
     (content : Option (List ℕ)) (stands : Stands f p) (flat : s.partition ≡ []) (was : p.history ≡ table s entries) (none : HasNamedNone me p)
     (newest : HasSnapshotAt f s (length entries)) (bound : suc (length entries) ≤ greatest) (puts : Puts f (snapshot_path (suc (length entries))) content after)
-    (own : NamesOwn me f after s (length entries)) where
+    (own : NamesOwn me f after s (length entries)) (new : Group → List KnownRun) (goes : (g : Group) → GoesWith after p s entries e g (new g)) where
   abbrev n : ℕ
   n = length entries
 
   abbrev q : Past
-  q = later_past p s entries e after
+  q = later_past p s entries e after new
 
   is : IsTableOf s p.history
   is = is-table p s entries was
@@ -228,6 +222,14 @@ module _ (one : OneContents) (same : SameContents) (paths : NamedPaths) (me : Ac
       subst (λ (u : TableSchema). IsOldOrUnnamed p u id path) is_t
       (subst (λ (k : ℕ). (IsKnown p k × Names (p.stood k) s k path) ⊎ IsUnnamed p s path) (sym before) (old-or-unnamed path here))
 
+  -- the runs of the new snapshot
+  runs-follow : (g : Group) → RunsFollow after s entries e g p q
+  runs-follow g =
+      let is : q.runs (suc n) g ≡ new g = at-same (new g) (p.runs (suc n) g) (suc n) (suc n) refl in record {
+        are = subst (AreInFiles after s (suc n) g) (sym is) (goes g).0;
+        follow = subst (Follows s g p.since (λ k. p.runs k g) n e) (sym is) (goes g).1;
+      }
+
   pub append-advances : Change me f (table s entries) after q.history → Advances me f p after q
   append-advances change = record {
     change = subst (λ (h : History). Change me f h after q.history) (sym was) change;
@@ -236,4 +238,8 @@ module _ (one : OneContents) (same : SameContents) (paths : NamedPaths) (me : Ac
     same = λ id known. at-other after (p.stood id) id (suc n) (old-known id known);
     stood = λ id known unknown. at-same after (p.stood id) id (suc n) (last-known id known unknown);
     new = new-advances;
+    since = refl;
+    runs = λ id g within. at-other (new g) (p.runs id g) id (suc n) (λ last. omega (arith, within, many, last));
+    follows = λ t es d g before now.
+        one-entry (λ (t : TableSchema) (es : List Entry) (d : Entry). RunsFollow after t es d g p q) s t entries es e d (sym was ∙ before) now (runs-follow g);
   }

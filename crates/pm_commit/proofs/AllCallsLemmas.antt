@@ -21,6 +21,7 @@ use Rattle.pm_model_folder.specs.Commits.{Names}
 use Rattle.pm_model_folder.specs.Folder.{Folder}
 use Rattle.pm_model_folder.specs.Ledger.{Advances, HasNamedNone, IsKnown, Past, Stands, count_of}
 use Rattle.pm_model_folder.specs.Meaning.{SnapshotAt}
+use Rattle.pm_model_folder.proofs.HoldLemmas.{SameContents}
 use Rattle.pm_read_schema.proofs.AllCallsLemmas as schema_calls
 use Rattle.pm_read_schema.proofs.StillLemmas.{stayed}
 use Rattle.pm_append.specs.declared.newest.Author.{Author}
@@ -37,13 +38,11 @@ use Rattle.pm_commit.specs.declared.committer.CommitStep.{CommitStep}
 use Rattle.pm_commit.specs.declared.making.Publishing.{Publishing}
 use Rattle.pm_commit.specs.declared.phase.Phase.{Phase}
 use Rattle.pm_commit.specs.declared.phase.Phase.TheVariants as phases
-use Rattle.pm_commit.proofs.AdvanceLemmas.{SameContents}
 use Rattle.pm_commit.proofs.AloneCauseLemmas.{begun-actor}
 use Rattle.pm_commit.proofs.CommittedLemmas.{bears-commit}
 use Rattle.pm_commit.proofs.FoundLemmas.{LiveEntries}
 use Rattle.pm_commit.proofs.FailLemmas.{after-failed, shows-failed}
 use Rattle.pm_commit.proofs.KnownLemmas.{count-bound}
-use Rattle.pm_commit.proofs.PastLemmas.{found}
 use Rattle.pm_commit.proofs.PublishLemmas as publish
 use Rattle.pm_commit.proofs.StillLemmas.{OthersNone}
 
@@ -331,26 +330,30 @@ pub went_on : (s : TableSchema) (own : OwnView) (result : Result Appended Refusa
 went_on s own result first middle after (earlier, has, trace) (later, does, rest) =
     (earlier ++ later, (earlier, later, has, refl, does), Traces-join earlier later first middle after trace rest)
 
+-- what the law of a folder that is found says
+abbrev pub FoundPast : Type 0
+FoundPast = (f : Files) (h : History) → Folder f h → (p : Past) × (p.history ≡ h) × Stands f p × ((id : ℕ) → p.stood id ≡ f)
+
 -- at first the committer knows its rows, and that no snapshot names a file of its actor
-first-known : (s : TableSchema) (b : Beginning) (f : Files) → f ≡ b.files → IsCommitter (phases.Names b.own s) → MayBegin s b
+first-known : FoundPast → (s : TableSchema) (b : Beginning) (f : Files) → f ≡ b.files → IsCommitter (phases.Names b.own s) → MayBegin s b
     → IsTableOf s b.history → KnewFiles b (phases.Names b.own s) f
-first-known s b f same is begin table_is =
-    let was = found b.files b.history begin.start.0 in
-    let named : (who : Actor) → NamesNone who b.history b.files → HasNamedNone who was.past = λ who none t id path at known names by.
-    none t id path (subst (IsTableOf t) was.history at) known.after_origin (subst (λ (h : History). id ≤ count_of h) was.history known.to)
-    (subst (λ (f : Files). Names f t id path) (was.stood id) names) by in
-    let knows : KnowsOwn b.own b.rows s was.past = record {
-      is_table = subst (IsTableOf s) (sym was.history) table_is;
+first-known found s b f same is begin table_is =
+    let (past, history, stands, stood) = found b.files b.history begin.start.0 in
+    let named : (who : Actor) → NamesNone who b.history b.files → HasNamedNone who past = λ who none t id path at known names by.
+    none t id path (subst (IsTableOf t) history at) known.after_origin (subst (λ (h : History). id ≤ count_of h) history known.to)
+    (subst (λ (f : Files). Names f t id path) (stood id) names) by in
+    let knows : KnowsOwn b.own b.rows s past = record {
+      is_table = subst (IsTableOf s) (sym history) table_is;
       fit = begin.fit;
       batch = begin.batch;
       may = begin.may;
       unnamed = named (actor_of b.own) begin.start.1;
-      from = subst (λ (n : ℕ). n ≤ count_of was.past.history) (sym begin.no_base) (omega arith);
+      from = subst (λ (n : ℕ). n ≤ count_of past.history) (sym begin.no_base) (omega arith);
     } in (
-      was.past,
-      subst (λ (f : Files). Stands f was.past) (sym same) was.stands,
-      record { stood = λ id known within. was.stood id; others = λ other apart none. named other none },
-      ((is, knows), (was.history, ((λ path. ap (λ (f : Files). map.get f path) same), refl))),
+      past,
+      subst (λ (f : Files). Stands f past) (sym same) stands,
+      record { stood = λ id known within. stood id; others = λ other apart none. named other none },
+      ((is, knows), (history, ((λ path. ap (λ (f : Files). map.get f path) same), refl))),
     )
 
 leaves-of : (b : Beginning) (result : Result Appended Refusal) (known : Option (List Op))
@@ -374,10 +377,10 @@ counted s own (Err (refusals.StoreFault path)) earlier later first middle after 
     (subst (λ (events : List Event). Traces events first after) last.2 (Traces-join earlier later first middle after trace rest))
 counted s own (Err other) earlier later first middle after trace rest ends = tt
 
-pub appended-history : (s : TableSchema) (own : OwnView) (m : Phase) (result : Result Appended Refusal) (before middle after : StoreView) → m ≡ phases.Names own s
+pub appended-history : FoundPast → (s : TableSchema) (own : OwnView) (m : Phase) (result : Result Appended Refusal) (before middle after : StoreView) → m ≡ phases.Names own s
     → IsCommitter m → HasTrace (Has s) before middle → HasTrace (Ends s own result) middle after → IsLater middle after
     → ((b : Beginning) → AppendsAlone b m middle after result) → AppendsTables s own before after result
-appended-history s own m result before middle after is committer (earlier, has, trace) (later, ends, rest) late leaves =
+appended-history found s own m result before middle after is committer (earlier, has, trace) (later, ends, rest) late leaves =
     by earlier has trace
   where
     by : (earlier : List Event) → Has s earlier → Traces earlier before middle → AppendsTables s own before after result
@@ -391,7 +394,7 @@ appended-history s own m result before middle after is committer (earlier, has, 
         let table_is = schema_calls.ready_at b.files b.history begin.start.0 s (event ∷ events) has stay.1 in
         let at_names : m ≡ phases.Names b.own s = is ∙ ap (λ (own : OwnView). phases.Names own s) (sym is_own) in
         let knew = files-known (KnewFiles b m) b.files middle.ops (λ f same. subst (λ (m : Phase). KnewFiles b m f) (sym at_names)
-        (first-known s b f same (subst IsCommitter at_names committer) begin table_is)) stay.0.here in
+        (first-known found s b f same (subst IsCommitter at_names committer) begin table_is)) stay.0.here in
         let left = leaves b parts.1 knew in
         let says = leaves-of b result after.ops left.0 in record {
           schema = table_is;

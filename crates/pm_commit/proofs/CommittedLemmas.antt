@@ -17,6 +17,7 @@ use Rattle.pm_model_folder.specs.Ledger.{Past, Stands, count_of}
 use Rattle.pm_model_folder.specs.Meaning.{HasSnapshotAt}
 use Rattle.pm_model_folder.specs.Paths.{snapshot_path}
 use Rattle.pm_model_folder.proofs.LedgerFacts.{at-table}
+use Rattle.pm_model_folder.proofs.HoldLemmas.{SameContents}
 use Rattle.pm_append.specs.Commit.{AreBaseIf, HasAppended}
 use Rattle.pm_append.specs.Files.{merges}
 use Rattle.pm_append.specs.Snapshot.{new_snapshot}
@@ -25,7 +26,6 @@ use Rattle.pm_append.specs.declared.newest.Newest.{Newest}
 use Rattle.pm_commit.specs.AllCalls.{BearsCommit, StoodSo}
 use Rattle.pm_commit.specs.Alone.{Beginning, SeesNewest, begun_at, newest_id, own_entry, with_entry}
 use Rattle.pm_commit.specs.Meaning.{HasCommitted}
-use Rattle.pm_commit.proofs.AdvanceLemmas.{SameContents}
 use Rattle.pm_commit.proofs.FoundLemmas.{LiveEntries, found-stood}
 use Rattle.pm_commit.proofs.NewestLemmas.{newest-at}
 

@@ -19,7 +19,7 @@ use Rattle.pm_model_history.specs.Merge.{HistoryRow}
 use Rattle.pm_schema.specs.declared.schema.TableSchema.{TableSchema}
 use Rattle.pm_model_folder.specs.Ledger.{Past, Stands, count_of}
 use Rattle.pm_model_folder.specs.Paths.{snapshot_path}
-use Rattle.pm_model_folder.proofs.HoldLemmas.{OneContents}
+use Rattle.pm_model_folder.proofs.HoldLemmas.{OneContents, SameContents}
 use Rattle.pm_model_folder.proofs.LedgerFacts.{stood-read}
 use Rattle.pm_read_schema.proofs.Facts.{list_effect, read_effect}
 use Rattle.pm_read_table.specs.Asked.{Asked, asked_of}
@@ -41,7 +41,7 @@ use Rattle.pm_commit.specs.Trace.{IsLost}
 use Rattle.pm_commit.specs.declared.making.Publishing.{Publishing}
 use Rattle.pm_commit.specs.declared.phase.Phase.{Phase}
 use Rattle.pm_commit.specs.declared.phase.Phase.TheVariants as phases
-use Rattle.pm_commit.proofs.AdvanceLemmas.{NamedPaths, SameContents}
+use Rattle.pm_commit.proofs.AdvanceLemmas.{NamedPaths}
 use Rattle.pm_commit.proofs.CommitterLemmas.{asked-same, begun-own, ok-err, ok-same, ready-schema, still-committer}
 use Rattle.pm_commit.proofs.CreateLemmas.{OwnFiles, create-keeps, created-absent, created-try, put-makes}
 use Rattle.pm_commit.proofs.FoundLemmas.{LiveEntries}

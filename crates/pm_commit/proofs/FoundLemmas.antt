@@ -14,6 +14,7 @@ use Rattle.pm_model_folder.specs.Ledger.{IsKnown, Past, Stands}
 use Rattle.pm_model_folder.specs.Meaning.{HasSnapshotAt}
 use Rattle.pm_model_folder.specs.Paths.{snapshot_path}
 use Rattle.pm_model_folder.proofs.LedgerFacts.{at-table}
+use Rattle.pm_model_folder.proofs.HoldLemmas.{SameContents}
 use Rattle.pm_read_table.specs.Meaning.{IsViewIn, Stood, view_origin, view_snapshot}
 use Rattle.pm_read_table.specs.View.{kept_for, live_entries}
 use Rattle.pm_read_table.specs.declared.asked.Wanted.{Wanted}
@@ -24,7 +25,6 @@ use Rattle.pm_append.specs.declared.newest.Newest.{Newest}
 use Rattle.pm_commit.specs.Committer.{newest_in}
 use Rattle.pm_commit.specs.Meaning.{IsFoundIn}
 use Rattle.pm_commit.specs.declared.found.Found.{Found}
-use Rattle.pm_commit.proofs.AdvanceLemmas.{SameContents}
 
 -- what the law of live entries says
 abbrev pub LiveEntries : Type 0

@@ -12,12 +12,12 @@ mod CreateLemmas
 mod Facts
 mod FailLemmas
 mod FoundLemmas
+mod GrowLemmas
 mod KnownLemmas
 mod MadeLemmas
 mod MarkLemmas
 mod NewestLemmas
 mod OriginLemmas
-mod PastLemmas
 mod PathLemmas
 mod PublishLemmas
 mod ReadsLemmas

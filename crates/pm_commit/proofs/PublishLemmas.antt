@@ -8,6 +8,7 @@ use Rattle.pm_store.specs.Files.{Files, Puts}
 use Rattle.pm_store.specs.Answers.{published_at}
 use Rattle.pm_store.specs.declared.answer.Published.TheVariants as published
 use Rattle.pm_store.proofs.ChangeLaws.{Puts-insert}
+use Rattle.pm_values.specs.declared.group.Group.{Group}
 use Rattle.pm_model_history.specs.History.{Entry, IsTableOf, append, table}
 use Rattle.pm_model_history.specs.Merge.{HistoryRow}
 use Rattle.pm_schema.specs.declared.schema.TableSchema.{TableSchema}
@@ -18,11 +19,13 @@ use Rattle.pm_model_folder.specs.Folder.{Folder, HasTable}
 use Rattle.pm_model_folder.specs.Ledger.{Advances, HasNamedNone, IsKnown, KnowsTable, Past, Stands, count_of}
 use Rattle.pm_model_folder.specs.Meaning.{HasSnapshotAt}
 use Rattle.pm_model_folder.specs.Paths.{named_origin, origin_path, snapshot_file, snapshot_path}
-use Rattle.pm_model_folder.proofs.HoldLemmas.{OneContents}
+use Rattle.pm_model_folder.proofs.Facts.{some-none}
+use Rattle.pm_model_folder.proofs.HoldLemmas.{Holds, OneContents, SameContents}
 use Rattle.pm_model_folder.proofs.LedgerFacts.{at-table, count-is}
 use Rattle.pm_read_table.specs.declared.view.View.{View}
 use Rattle.pm_write.specs.Batch.{Groups, IsBatchOf}
-use Rattle.pm_append.specs.Commit.{Attempt, HasAppended, IsAsMade, IsFoundAs, IsReady}
+use Rattle.pm_runs.specs.Succession.{KnownRun}
+use Rattle.pm_append.specs.Commit.{Attempt, Grows, HasAppended, IsAsMade, IsFoundAs, IsReady}
 use Rattle.pm_append.specs.declared.newest.Author.{Author}
 use Rattle.pm_append.specs.declared.newest.Newest.{Newest}
 use Rattle.pm_commit.specs.Alone.{with_entry}
@@ -31,8 +34,9 @@ use Rattle.pm_commit.specs.Meaning.{HasCommitted, HasEntry, IsPut, KnowsOwn, Kno
 use Rattle.pm_commit.specs.Own.{IsTried, OwnView, actor_of}
 use Rattle.pm_commit.specs.declared.found.Found.{Found}
 use Rattle.pm_commit.specs.declared.making.Publishing.{Publishing}
-use Rattle.pm_commit.proofs.AdvanceLemmas.{NamedPaths, SameContents, append-advances, later_past, same-advances}
+use Rattle.pm_commit.proofs.AdvanceLemmas.{NamedPaths, append-advances, later_past, same-advances}
 use Rattle.pm_commit.proofs.FoundLemmas.{LiveEntries, found-there}
+use Rattle.pm_commit.proofs.GrowLemmas.{goes-with, new_runs}
 use Rattle.pm_commit.proofs.MadeLemmas.{allowed-id}
 use Rattle.pm_commit.proofs.StillLemmas.{found-still}
 
@@ -54,6 +58,7 @@ AppendsTry = (me : Actor) (f after : Files) (s : TableSchema) (entries : List En
     → map.get f (snapshot_path (suc (length entries))) ≡ None → Puts f (snapshot_path (suc (length entries))) (Some t.made.text) after
     → IsCommit f after s entries (append t.author.user t.author.identifier t.rows) × NamesOwn me f after s (length entries)
     × IsAsMade after s (suc (length entries)) t ready.made × HasAppended after s t.newest t.author (length t.rows)
+    × ((g : Group) → Grows me f after s (length entries) g t.rows)
 
 -- ---- nothing changes
 
@@ -191,13 +196,23 @@ module _ (one : OneContents) (same : SameContents) (paths : NamedPaths) (live_la
         ∙ ap (λ (rs : List HistoryRow). append own.author.user own.author.identifier rs) is_try.same_rows
 
     appends : IsCommit f after s entries e × NamesOwn (actor_of own) f after s (length entries) × HasAppended after s t.newest own.author (length rows)
+        × ((g : Group) → Grows (actor_of own) f after s (length entries) g rows)
     appends =
         let all = append_law (actor_of own) f after s entries t ready absent-next puts in (
           subst (λ (e : Entry). IsCommit f after s entries e) same-entry all.0,
           all.1,
           subst (λ (a : Author). HasAppended after s t.newest a (length rows)) is_try.same_author
               (subst (λ (rs : List HistoryRow). HasAppended after s t.newest t.author (length rs)) is_try.same_rows all.3),
+          λ g. subst (Grows (actor_of own) f after s (length entries) g) is_try.same_rows (all.4 g),
         )
+
+    holds : Holds f after
+    holds q there = puts.others q (λ is. some-none (map.get f q) there (ap (map.get f) is ∙ absent-next))
+
+    -- the groups' runs once it is published
+    abbrev runs_now : Group → List KnownRun
+    runs_now g = new_runs same (actor_of own) f after p s entries own.author.user own.author.identifier rows stands own-table.1 known.unnamed newest-there holds g
+        (appends.3 g)
 
     bound : suc (length entries) ≤ greatest
     bound = let last = newest-is in let low = below in omega (arith, last, low)
@@ -226,11 +241,13 @@ module _ (one : OneContents) (same : SameContents) (paths : NamedPaths) (live_la
 
     pub published-makes : (later : Past) × MakesOwn own rows f p after later × HasCommitted own.author rows x.id later × IsNext later
     published-makes =
-        let q = later_past p s entries e after in
+        let q = later_past p s entries e after runs_now in
         let change = commits s entries e t.made.text newest-there bound absent-next puts known.fit appends.0 appends.1 in
         let advances : Advances (actor_of own) f p after q =
         append-advances one same paths (actor_of own) f after p s entries e (Some t.made.text) stands tried.built.no_partition own-table.1 known.unnamed newest-there bound
-        puts appends.1 change in (
+        puts appends.1 runs_now
+        (λ g. goes-with same (actor_of own) f after p s entries own.author.user own.author.identifier rows stands own-table.1 known.unnamed newest-there holds g (appends.3 g))
+        change in (
           q,
           record { advances = advances; appends = inr (s, entries, own-table.1, refl) },
           committed q advances refl (s, entries, [], refl, (let next = next-is in omega (arith, next))),

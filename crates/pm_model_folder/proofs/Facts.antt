@@ -1,5 +1,5 @@
 -- What the kinds of change leave of a folder, and what its listings say.
-use Rattle.std.proofs.Common.{◌≡◌, ◌≢◌, ◌↔◌, ◌⊎◌, inl, inr, ℕ, ℤ, ◌+◌, ◌<◌, ◌≤◌, ◌==◌, nat_le, zero, suc, List, [], ◌∷◌, ◌++◌, take, drop, get_or, length, length-append, Bool, true, false, Contains, Option, Some, None, IsSome, IsSomeAnd, refl, sym, ap, subst, ◌∙◌, arith}
+use Rattle.std.proofs.Common.{◌≡◌, ◌≢◌, ◌↔◌, ◌⊎◌, inl, inr, ℕ, ◌+◌, ◌<◌, ◌≤◌, ◌==◌, nat_le, zero, suc, List, [], ◌∷◌, ◌++◌, take, drop, get_or, length, length-append, Bool, true, false, Contains, Option, Some, None, IsSome, IsSomeAnd, refl, sym, ap, subst, ◌∙◌, arith}
 use Rattle.std.specs.FinMap as map
 use Rattle.std.specs.List.{AllByRecursion, flat_map}
 use Rattle.std.proofs.lemmas.Bool.Decides.{nat_tests}
@@ -8,7 +8,6 @@ use Rattle.std.proofs.lemmas.List.{append-nil, take_all, take-append-le}
 use Rattle.pm_base.proofs.Laws.{AllByRecursion-append}
 use Rattle.pm_store.specs.Files.{Files, Puts, IsListing, name_in}
 use Rattle.pm_model_history.specs.History.{Entry, History, append, compaction, fence, entry_rows, no_table, table, GoesOn}
-use Rattle.pm_model_history.specs.Merge.{HistoryRow}
 use Rattle.pm_model_following.specs.Following.{HaveBases}
 use Rattle.pm_schema.specs.declared.schema.TableSchema.{TableSchema}
 use Rattle.pm_snapshot.specs.Names.{greatest, snapshot_name}
@@ -515,22 +514,22 @@ module _ (one : OneContents) (stay : ContentsStay) (f after : Files) (s : TableS
 
 -- ---- all kinds
 
-entry-below : (s : TableSchema) (n : ℕ) (e : Entry) → IsEntryAfter s n e → BaseBelow (1 + n) e
-entry-below s n (append user identifier rows) is = tt
-entry-below s n (compaction base groups) is = let low = is.1 in omega (arith, low)
-entry-below s n (fence number) is = tt
+entry-below : (s : TableSchema) (entries : List Entry) (e : Entry) → IsEntryAfter s entries e → BaseBelow (1 + length entries) e
+entry-below s entries (append user identifier rows) is = tt
+entry-below s entries (compaction base groups) is = let low = is.1 in omega (arith, low)
+entry-below s entries (fence number) is = tt
 
-entry-rows : (s : TableSchema) (n : ℕ) (e : Entry) → IsEntryAfter s n e → AllByRecursion (IsRowOf s) (entry_rows e)
-entry-rows s n (append user identifier rows) is = is
-entry-rows s n (compaction base groups) is = tt
-entry-rows s n (fence number) is = tt
+entry-rows : (s : TableSchema) (entries : List Entry) (e : Entry) → IsEntryAfter s entries e → AllByRecursion (IsRowOf s) (entry_rows e)
+entry-rows s entries (append user identifier rows) is = is
+entry-rows s entries (compaction base groups) is = tt
+entry-rows s entries (fence number) is = tt
 
-rows-append : (s : TableSchema) (entries : List Entry) (e : Entry) → AreEntriesOf s entries → IsEntryAfter s (length entries) e → AreEntriesOf s (entries ++ e ∷ [])
+pub rows-append : (s : TableSchema) (entries : List Entry) (e : Entry) → AreEntriesOf s entries → IsEntryAfter s entries e → AreEntriesOf s (entries ++ e ∷ [])
 rows-append s entries e are is = record {
   rows = subst (AllByRecursion (IsRowOf s)) (sym (flat_map-append entry_rows entries (e ∷ [])))
       (AllByRecursion-append (IsRowOf s) (flat_map entry_rows entries) (entry_rows e ++ []) are.rows
-      (subst (AllByRecursion (IsRowOf s)) (sym (append-nil (entry_rows e))) (entry-rows s (length entries) e is)));
-  bases = bases-append 1 entries e (entry-below s (length entries) e is) are.bases;
+      (subst (AllByRecursion (IsRowOf s)) (sym (append-nil (entry_rows e))) (entry-rows s entries e is)));
+  bases = bases-append 1 entries e (entry-below s entries e is) are.bases;
 }
 
 pub kept : OneContents → ContentsStay → (me : Actor) (f after : Files) (h later : History) → Folder f h → Change me f h after later → Folder after later

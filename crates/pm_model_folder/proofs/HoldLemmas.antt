@@ -17,7 +17,7 @@ use Rattle.pm_manifest.specs.Live.{Live}
 use Rattle.pm_manifest.specs.declared.entry.Entry as files
 use Rattle.pm_manifest.specs.declared.entry.ManifestMeta.{ManifestMeta}
 use Rattle.pm_model_contents.specs.Lists.{HaveEntries, IsManifest, manifest_path}
-use Rattle.pm_model_contents.specs.Named.{Contents, HasContents}
+use Rattle.pm_model_contents.specs.Named.{Contents, HasContents, IsNamed}
 use Rattle.pm_model_contents.specs.Runs.{data_path}
 use Rattle.pm_model_folder.specs.Commits.{HasCommit, IsCommitted, Names, live_in}
 use Rattle.pm_model_folder.specs.Entries.{BearsCounts}
@@ -34,6 +34,11 @@ Holds f after = (path : List ℕ) → IsSome (map.get f path) → map.get after 
 abbrev pub ContentsStay : Type 0
 ContentsStay = (f g : Files) (s : TableSchema) (x : Snapshot) (c : Contents)
     → ((path : List ℕ) → IsSome (map.get f path) → map.get g path ≡ map.get f path) → HasContents f s x c → HasContents g s x c
+
+-- of files that a snapshot names and that are the same
+abbrev pub SameContents : Type 0
+SameContents = (f g : Files) (s : TableSchema) (x : Snapshot) (c : Contents)
+    → ((path : List ℕ) → IsNamed s x c path → map.get g path ≡ map.get f path) → HasContents f s x c → HasContents g s x c
 
 -- and the law of one content
 abbrev pub OneContents : Type 0
@@ -60,7 +65,7 @@ module _ (f after : Files) (holds : Holds f after) where
     rows-held g [] rows have = have
     rows-held g (m ∷ ms) rows (own, later, split, has, have) = (own, later, split, file-held false g m own has, rows-held g ms later have)
 
-    run-held : (g : Group) (run : RunView) (stored : StoredRun) → HasRun f s g run stored → HasRun after s g run stored
+    pub run-held : (g : Group) (run : RunView) (stored : StoredRun) → HasRun f s g run stored → HasRun after s g run stored
     run-held g run stored has = record { level = has.level; files = rows-held g run.files stored.rows has.files; rising = has.rising }
 
     runs-held : (g : Group) (runs : List RunView) (stored : List StoredRun) → AllZip (HasRun f s g) runs stored → AllZip (HasRun after s g) runs stored

@@ -1,29 +1,53 @@
 -- What is known of snapshots: that a folder which is found has a past, that each change keeps it, and what reading shows.
-use Rattle.std.proofs.Common.{◌≡◌, ◌⊎◌, inl, inr, ℕ, zero, suc, ◌+◌, ◌-◌, ◌<◌, ◌≤◌, List, [], ◌∷◌, ◌++◌, take, length, length-append, Option, Some, None, IsSome, Ok, refl, sym, ap, subst, ◌∙◌, arith}
+use Rattle.std.proofs.Common.{◌≡◌, ◌⊎◌, inl, inr, ℕ, zero, suc, ◌+◌, ◌-◌, ◌<◌, ◌≤◌, List, [], ◌∷◌, ◌++◌, take, length, length-append, slice_get, Contains, Option, Some, None, IsSome, Ok, refl, sym, ap, subst, ◌∙◌, arith}
 use Rattle.std.specs.FinMap as map
 use Rattle.std.proofs.lemmas.List.{append-nil, take_all, take-append-le}
 use Rattle.pm_store.specs.Files.{Files}
+use Rattle.pm_values.specs.declared.group.Group.{Group}
 use Rattle.pm_model_history.specs.History.{Entry, History, IsTableOf, GoesOn, no_table, table}
+use Rattle.pm_model_following.specs.Following.{HaveBases}
+use Rattle.pm_schema.specs.Reading.{schema_of}
 use Rattle.pm_schema.specs.declared.schema.TableSchema.{TableSchema}
 use Rattle.pm_snapshot.specs.Names.{greatest}
 use Rattle.pm_snapshot.specs.Snapshot.{snapshot_in}
 use Rattle.pm_snapshot.specs.declared.snapshot.Snapshot.{Snapshot}
 use Rattle.pm_model_contents.specs.Named.{Contents, HasContents}
 use Rattle.pm_model_folder.specs.Changes.{Actor, Change, nothing, own_file, schema, committed}
-use Rattle.pm_model_folder.specs.Commits.{IsCommitted, Names, Needs}
-use Rattle.pm_model_folder.specs.Folder.{Folder, HasTable, IsFrom}
-use Rattle.pm_model_folder.specs.Ledger.{Past, Advances, IsKnown, IsOldOrUnnamed, KeepsFiles, KnowsPast, KnowsTable, Stands, count_of}
+use Rattle.pm_model_folder.specs.Commits.{HasCommit, IsCommitted, Names, Needs, live_in}
+use Rattle.pm_model_folder.specs.Folder.{Folder, HasTable, IsEntryAfter, IsFrom}
+use Rattle.pm_model_folder.specs.Ledger.{Past, Advances, IsKnown, IsOldOrUnnamed, IsUnnamed, KeepsFiles, KnowsNone, KnowsPast, KnowsRuns, KnowsTable, Stands, count_of}
 use Rattle.pm_model_folder.specs.Meaning.{HasSnapshotAt, SnapshotAt}
-use Rattle.pm_model_folder.specs.Paths.{snapshot_path}
-use Rattle.pm_model_folder.proofs.Facts.{kept, goes_on, stays, same-or-other, some-none, split-last}
+use Rattle.pm_model_folder.specs.Paths.{schema_path, snapshot_path}
+use Rattle.pm_model_folder.specs.Runs.{AreInFiles, HaveLiveFiles}
+use Rattle.pm_model_folder.proofs.Facts.{kept, goes_on, rows-append, stays, same-or-other, some-none, split-last}
 use Rattle.pm_model_folder.proofs.HoldLemmas.{ContentsStay, OneContents, one-snapshot}
 use Rattle.pm_model_folder.proofs.PathLemmas.{other-snapshot, snapshot-own}
+use Rattle.pm_model_folder.proofs.RunFacts.{found-runs, live-shows, none-known, origin-none, origin-runs}
+use Rattle.pm_runs.specs.Stand.{top_of}
+use Rattle.pm_runs.specs.Succession.{AreKnownAt, Follows, HaveFilesIn, IsSuccession, IsTaken, KnownRun, StillStands, Taking}
+
+-- ---- what the laws of runs say
+
+abbrev pub RunsFound : Type 0
+RunsFound = (s : TableSchema) (g : Group) (entries : List Entry) (runs : List KnownRun) → HaveBases 1 entries → AreKnownAt s g entries (length entries) runs
+    → IsSuccession s g entries (length entries) (λ n. runs)
+
+pub record RunLaws : Type 0 where
+  pub found : RunsFound
+  pub same : (s : TableSchema) (g : Group) (entries : List Entry) (since : ℕ) (runs later : ℕ → List KnownRun) → IsSuccession s g entries since runs
+      → ((n : ℕ) → n ≤ length entries → later n ≡ runs n) → IsSuccession s g entries since later
+  pub goes_on : (s : TableSchema) (g : Group) (entries : List Entry) (since : ℕ) (runs later : ℕ → List KnownRun) (e : Entry)
+      → IsSuccession s g entries since runs → since ≤ length entries → 1 ≤ top_of s → HaveBases 1 (entries ++ e ∷ [])
+      → ((n : ℕ) → n ≤ length entries → later n ≡ runs n) → Follows s g since runs (length entries) e (later (suc (length entries)))
+      → IsSuccession s g (entries ++ e ∷ []) since later
+  -- a schema that is read has a level above 0
+  pub high : (path text : List ℕ) (s : TableSchema) → schema_of path text ≡ Ok s → 1 ≤ top_of s
 
 -- ---- a folder that is found
 
--- from its least snapshot on, each stands as it is
-abbrev found_past : Files → History → ℕ → Past
-found_past f h first = record { history = h; first = first; stood = λ id. f }
+-- from its least snapshot on, each stands as it is; at the newest it has these runs
+abbrev found_past : Files → History → ℕ → (Group → List KnownRun) → Past
+found_past f h first runs = record { history = h; first = first; stood = λ id. f; since = count_of h; runs = λ id g. runs g }
 
 was-from : (least n id : ℕ) → 1 ≤ id → least ≤ id → id ≤ n → IsFrom least n id
 was-from least n id after low high = record { after_origin = after; from = low; to = high }
@@ -31,25 +55,46 @@ was-from least n id after low high = record { after_origin = after; from = low; 
 found-kept : (f : Files) (s : TableSchema) (id : ℕ) → KeepsFiles f s f id
 found-kept f s id = record { same = λ path needs. inr refl; there = λ here path needs. refl }
 
-found-table : (f : Files) (s : TableSchema) (entries : List Entry) → (folder : HasTable f s entries)
-    → KnowsTable f s entries (found_past f (table s entries) folder.snapshots.least)
-found-table f s entries folder =
-    let least : ℕ = folder.snapshots.least in
-    let some = folder.snapshots.some in
-    let within = folder.snapshots.within in record {
-      start = omega (arith, some);
-      reaches = λ id after high here. ((folder.snapshots.exact id (omega (arith, high, within))).0 here).0;
-      committed = λ id known. folder.commits.committed id (was-from least (length entries) id known.after_origin known.from known.to);
-      kept = λ id known. found-kept f s id;
-      gone = λ early middle late path first low high last here there.
-          folder.commits.gone early (was-from least (length entries) early first.after_origin first.from first.to) early middle late path (omega arith) low high
-          last.to here there;
-    }
+one-number : (n k : ℕ) → n ≤ k → k ≤ n → n ≡ k
+one-number n k low high = omega (arith, low, high)
 
-pub found : (f : Files) (h : History) → Folder f h → (p : Past) × (p.history ≡ h) × Stands f p
-found f no_table folder = (found_past f no_table 1, refl, record { folder = folder; past = omega arith })
-found f (table s entries) folder =
-    (found_past f (table s entries) folder.snapshots.least, refl, record { folder = folder; past = found-table f s entries folder })
+module _ (law : RunsFound) (f : Files) (s : TableSchema) (entries : List Entry) (folder : HasTable f s entries) where
+  abbrev newest_past : Past
+  newest_past = found_past f (table s entries) folder.snapshots.least (λ g. (found-runs f s entries folder g).runs)
+
+  known-runs : KnowsRuns s entries newest_past
+  known-runs = record {
+    since = omega arith;
+    from = λ id after low. (let some = folder.snapshots.some in omega (arith, some, low));
+    stood = λ id g low high. subst (λ (k : ℕ). AreInFiles f s k g (found-runs f s entries folder g).runs) (one-number (length entries) id low high)
+        (found-runs f s entries folder g).in_files;
+    succession = λ g. law s g entries (found-runs f s entries folder g).runs folder.history.bases (found-runs f s entries folder g).known;
+  }
+
+  found-table : KnowsTable f s entries newest_past
+  found-table =
+      let least : ℕ = folder.snapshots.least in
+      let some = folder.snapshots.some in
+      let within = folder.snapshots.within in record {
+        start = omega (arith, some);
+        reaches = λ id after high here. ((folder.snapshots.exact id (omega (arith, high, within))).0 here).0;
+        committed = λ id known. folder.commits.committed id (was-from least (length entries) id known.after_origin known.from known.to);
+        kept = λ id known. found-kept f s id;
+        gone = λ early middle late path first low high last here there.
+            folder.commits.gone early (was-from least (length entries) early first.after_origin first.from first.to) early middle late path (omega arith) low high
+            last.to here there;
+        runs = known-runs;
+      }
+
+pub found : RunsFound → (f : Files) (h : History) → Folder f h → (p : Past) × (p.history ≡ h) × Stands f p × ((id : ℕ) → p.stood id ≡ f)
+found law f no_table folder = (
+  found_past f no_table 1 (λ g. []),
+  refl,
+  record { folder = folder; past = record { first = omega arith; since = refl; runs = λ g. refl } },
+  λ id. refl,
+)
+found law f (table s entries) folder =
+    (newest_past law f s entries folder, refl, record { folder = folder; past = found-table law f s entries folder }, λ id. refl)
 
 -- ---- the table of a past
 
@@ -212,8 +257,90 @@ module _ (me : Actor) (f after : Files) (p q : Past) (s : TableSchema) (entries 
 pub is-table : (p : Past) (s : TableSchema) (entries : List Entry) → p.history ≡ table s entries → IsTableOf s p.history
 is-table p s entries same = subst (λ (h : History). IsTableOf s h) (sym same) refl
 
+-- ---- what is known of runs stays
+
+module _ (laws : RunLaws) (me : Actor) (f after : Files) (p q : Past) (advances : Advances me f p after q) (s : TableSchema) (entries : List Entry)
+    (was : p.history ≡ table s entries) (known : KnowsRuns s entries p) where
+  runs-were : (n : ℕ) (g : Group) → n ≤ length entries → q.runs n g ≡ p.runs n g
+  runs-were n g within = advances.runs n g (let many = count-is p s entries was in omega (arith, within, many))
+
+  -- those of the snapshots that were known
+  in-files-were : (id : ℕ) (g : Group) → p.since ≤ id → id ≤ length entries → AreInFiles (q.stood id) s id g (q.runs id g)
+  in-files-were zero g low high =
+      origin-runs (q.stood 0) s g (q.runs 0 g) (runs-were 0 g high ∙ origin-none (p.runs 0 g) (known.stood 0 g low high).are)
+  in-files-were (suc k) g low high =
+      let one : IsKnown p (suc k) = record {
+        after_origin = omega arith;
+        from = known.from (suc k) (omega arith) low;
+        to = (let many = count-is p s entries was in omega (arith, high, many));
+      } in
+      subst (λ (files : Files). AreInFiles files s (suc k) g (q.runs (suc k) g)) (sym (advances.same (suc k) one))
+      (subst (AreInFiles (p.stood (suc k)) s (suc k) g) (sym (runs-were (suc k) g high)) (known.stood (suc k) g low high))
+
+  from-first : (id : ℕ) → 1 ≤ id → q.since ≤ id → q.first ≤ id
+  from-first id least low =
+      let since = advances.since in
+      let from = known.from id least (omega (arith, low, since)) in
+      let first = advances.first in
+      omega (arith, from, first)
+
+  -- where no entry comes
+  runs-same : KnowsRuns s entries q
+  runs-same = record {
+    since = (let low = known.since in let since = advances.since in omega (arith, low, since));
+    from = from-first;
+    stood = λ id g low high. in-files-were id g (let since = advances.since in omega (arith, low, since)) high;
+    succession = λ g. subst (λ (n : ℕ). IsSuccession s g entries n (λ n. q.runs n g)) (sym advances.since)
+        (laws.same s g entries p.since (λ n. p.runs n g) (λ n. q.runs n g) (known.succession g) (λ n within. runs-were n g within));
+  }
+
+  -- where one comes
+  module _ (e : Entry) (now : q.history ≡ table s (entries ++ e ∷ [])) (high : 1 ≤ top_of s) (bases : HaveBases 1 (entries ++ e ∷ []))
+      (stood : q.stood (suc (length entries)) ≡ after) where
+    one-more : length (entries ++ e ∷ []) ≡ suc (length entries)
+    one-more = length-append entries (e ∷ []) ∙ (let more : length entries + 1 ≡ suc (length entries) = omega arith in more)
+
+    in-files-now : (id : ℕ) (g : Group) → q.since ≤ id → id ≤ length (entries ++ e ∷ []) → AreInFiles (q.stood id) s id g (q.runs id g)
+    in-files-now id g low within = elim (split-last (length entries) id (omega (arith, within, one-more))) as (λ _. AreInFiles (q.stood id) s id g (q.runs id g)) [
+      | inl before ↦ in-files-were id g (let since = advances.since in omega (arith, low, since)) before
+      | inr last ↦ subst (λ (n : ℕ). AreInFiles (q.stood n) s n g (q.runs n g)) (sym last)
+          (subst (λ (files : Files). AreInFiles files s (suc (length entries)) g (q.runs (suc (length entries)) g)) (sym stood)
+          (advances.follows s entries e g was now).are)
+    ]
+
+    runs-more : KnowsRuns s (entries ++ e ∷ []) q
+    runs-more = record {
+      since = (let low = known.since in let since = advances.since in omega (arith, low, since, one-more));
+      from = from-first;
+      stood = in-files-now;
+      succession = λ g. subst (λ (n : ℕ). IsSuccession s g (entries ++ e ∷ []) n (λ n. q.runs n g)) (sym advances.since)
+          (laws.goes_on s g entries p.since (λ n. p.runs n g) (λ n. q.runs n g) e (known.succession g) known.since high bases
+          (λ n within. runs-were n g within) (advances.follows s entries e g was now).follow);
+    }
+
+-- where a table begins
+runs-begin : RunLaws → (p q : Past) (s : TableSchema) → KnowsNone p → q.since ≡ p.since → q.first ≡ p.first → ((g : Group) → q.runs 0 g ≡ p.runs 0 g) → KnowsRuns s [] q
+runs-begin laws p q s none since first same = record {
+  since = (let zero_since = none.since in omega (arith, since, zero_since));
+  from = λ id least low. (let bound = none.first in omega (arith, least, first, bound));
+  stood = at;
+  succession = λ g. subst (λ (n : ℕ). IsSuccession s g [] n (λ n. q.runs n g)) (sym (since ∙ none.since))
+      (laws.same s g [] 0 (λ n. []) (λ n. q.runs n g) (laws.found s g [] [] tt (none-known s g)) (at-zero g));
+}
+  where
+    empty : (g : Group) → q.runs 0 g ≡ []
+    empty g = same g ∙ none.runs g
+
+    at : (id : ℕ) (g : Group) → q.since ≤ id → id ≤ 0 → AreInFiles (q.stood id) s id g (q.runs id g)
+    at zero g low high = origin-runs (q.stood 0) s g (q.runs 0 g) (empty g)
+    at (suc k) g low high = absurd (omega (arith, high))
+
+    at-zero : (g : Group) (n : ℕ) → n ≤ 0 → q.runs n g ≡ []
+    at-zero g zero within = empty g
+    at-zero g (suc n) within = absurd (omega (arith, within))
+
 -- the history stays
-module _ (me : Actor) (f after : Files) (p q : Past) (stands : Stands f p) (advances : Advances me f p after q) where
+module _ (laws : RunLaws) (me : Actor) (f after : Files) (p q : Past) (stands : Stands f p) (advances : Advances me f p after q) where
   same-past : (s : TableSchema) (entries : List Entry) → p.history ≡ table s entries → q.history ≡ table s entries → KnowsTable f s entries p
       → KnowsTable after s entries q
   same-past s entries was stays past =
@@ -233,6 +360,7 @@ module _ (me : Actor) (f after : Files) (p q : Past) (stands : Stands f p) (adva
         kept = λ id known. old-kept me f after p q s entries entries stands advances is past [] whole id (before id known);
         gone = λ early middle late path first low high last here there.
             old-gone me f after p q s entries entries stands advances is past [] whole early middle late path (before early first) low high (before late last) here there;
+        runs = runs-same laws me f after p q advances s entries was past.runs;
       }
     where
       there-before : (s : TableSchema) (entries : List Entry) → p.history ≡ table s entries → (id : ℕ) → 1 ≤ id → id ≤ length entries
@@ -246,20 +374,22 @@ module _ (me : Actor) (f after : Files) (p q : Past) (stands : Stands f p) (adva
       ]
 
   -- a new table has no snapshot after its origin
-  new-past : (s : TableSchema) → q.history ≡ table s [] → p.first ≤ 1 → KnowsTable after s [] q
-  new-past s is first =
+  new-past : (s : TableSchema) → q.history ≡ table s [] → KnowsNone p → KnowsTable after s [] q
+  new-past s is past =
       let none : (P : Type 0) (id : ℕ) → IsKnown q id → P = λ P id known.
       absurd (let low = known.after_origin in let high = known.to in let many = count-is q s [] is in omega (arith, low, high, many)) in record {
-        start = (let same = advances.first in omega (arith, first, same));
+        start = (let first = past.first in let same = advances.first in omega (arith, first, same));
         reaches = λ id least high there. absurd (omega (arith, least, high));
         committed = λ id known. none (IsCommitted (q.stood id) s (take id []) id) id known;
         kept = λ id known. none (KeepsFiles after s (q.stood id) id) id known;
         gone = λ early middle late path first low high last here there. none (Names (q.stood middle) s middle path) early first;
+        runs = runs-begin laws p q s past advances.since advances.first (λ g. advances.runs 0 g (omega arith));
       }
 
-  -- rows are appended
+  -- an entry comes
   module _ (s : TableSchema) (entries : List Entry) (e : Entry) (was : p.history ≡ table s entries) (now : q.history ≡ table s (entries ++ e ∷ []))
-      (past : KnowsTable f s entries p) (committed : IsCommitted after s (entries ++ e ∷ []) (suc (length entries))) where
+      (past : KnowsTable f s entries p) (committed : IsCommitted after s (entries ++ e ∷ []) (suc (length entries))) (folder : HasTable f s entries)
+      (fit : IsEntryAfter s entries e) where
     longer : length (entries ++ e ∷ []) ≡ suc (length entries)
     longer = length-append entries (e ∷ []) ∙ (let more : length entries + 1 ≡ suc (length entries) = omega arith in more)
 
@@ -341,26 +471,125 @@ module _ (me : Actor) (f after : Files) (p q : Past) (stands : Stands f p) (adva
       | inr is ↦ (let start = past.start in let same = advances.first in omega (arith, start, same, is))
     ]
 
-    append-past : KnowsTable after s (entries ++ e ∷ []) q
-    append-past = record {
+    newest-known : IsKnown q (suc (length entries))
+    newest-known = record {
+      after_origin = omega arith;
+      from = (let start = past.start in let first = advances.first in omega (arith, start, first));
+      to = (let many = count-is q s (entries ++ e ∷ []) now in omega (arith, many, longer));
+    }
+
+    longer-past : KnowsTable after s (entries ++ e ∷ []) q
+    longer-past = record {
       start = (let start = past.start in let same = advances.first in omega (arith, start, same, longer));
       reaches = reaches-now;
       committed = committed-now;
       kept = kept-now;
       gone = gone-now;
+      runs = runs-more laws me f after p q advances s entries was past.runs e now (laws.high (schema_path 0) folder.schema.first.0 s folder.schema.first.2)
+          (rows-append s entries e folder.history fit).bases (stood-now (suc (length entries)) newest-known refl);
     }
 
-  past-kept : (h later : History) → p.history ≡ h → q.history ≡ later → Change me f h after later → KnowsPast f h p → KnowsPast after later q
-  past-kept no_table later was now (nothing same) past = let first = advances.first in let low = past in omega (arith, first, low)
-  past-kept (table s entries) later was now (nothing same) past = same-past s entries was now past
-  past-kept no_table later was now (own_file path content own other none puts) past = let first = advances.first in let low = past in omega (arith, first, low)
-  past-kept (table s entries) later was now (own_file path content own other none puts) past = same-past s entries was now past
-  past-kept h later was now (schema s bytes origin puts reads) past = new-past s now past
-  past-kept h later was now (committed s entries e bytes newest bound none puts fit commit own) past =
-      append-past s entries _ was now past commit.committed
+  none-past : p.history ≡ no_table → KnowsNone p → KnowsNone q
+  none-past was past = record {
+    first = (let first = advances.first in let low = past.first in omega (arith, first, low));
+    since = advances.since ∙ past.since;
+    runs = λ g. advances.runs 0 g (omega arith) ∙ past.runs g;
+  }
 
-pub stands-kept : OneContents → ContentsStay → (me : Actor) (f after : Files) (p q : Past) → Stands f p → Advances me f p after q → Stands after q
-stands-kept one stay me f after p q stands advances = record {
+  past-kept : (h later : History) → p.history ≡ h → q.history ≡ later → Folder f h → Change me f h after later → KnowsPast f h p → KnowsPast after later q
+  past-kept no_table later was now folder (nothing same) past = none-past was past
+  past-kept (table s entries) later was now folder (nothing same) past = same-past s entries was now past
+  past-kept no_table later was now folder (own_file path content own other none puts) past = none-past was past
+  past-kept (table s entries) later was now folder (own_file path content own other none puts) past = same-past s entries was now past
+  past-kept h later was now folder (schema s bytes origin puts reads) past = new-past s now past
+  past-kept h later was now folder (committed s entries e bytes newest bound none puts fit commit own) past =
+      longer-past s entries _ was now past commit.committed folder fit
+
+pub stands-kept : OneContents → ContentsStay → RunLaws → (me : Actor) (f after : Files) (p q : Past) → Stands f p → Advances me f p after q → Stands after q
+stands-kept one stay laws me f after p q stands advances = record {
   folder = kept one stay me f after p.history q.history stands.folder advances.change;
-  past = past-kept me f after p q stands advances p.history q.history refl refl advances.change stands.past;
+  past = past-kept laws me f after p q stands advances p.history q.history refl refl stands.folder advances.change stands.past;
 }
+
+-- ---- a change that adds no entry
+
+table-count : (h : History) (s : TableSchema) (entries : List Entry) → h ≡ table s entries → count_of h ≡ length entries
+table-count h s entries is = ap count_of is
+
+-- no history is two whose entries differ in number
+no-entry-came : (h later : History) (s : TableSchema) (entries : List Entry) (e : Entry) → count_of later ≡ count_of h → h ≡ table s entries
+    → later ≡ table s (entries ++ e ∷ []) → ⊥
+no-entry-came h later s entries e same was now =
+    let before = table-count h s entries was in
+    let after = table-count later s (entries ++ e ∷ []) now in
+    let more = length-append entries (e ∷ []) in
+    omega (arith, same, before, after, more)
+
+-- it is a step of the past
+pub beside : (me : Actor) (f after : Files) (p : Past) (later : History) → Change me f p.history after later → count_of later ≡ count_of p.history
+    → ((s : TableSchema) (path : List ℕ) → IsTableOf s p.history → map.get f path ≡ None → IsSome (map.get after path) → IsUnnamed p s path)
+    → Advances me f p after (record p { history = later })
+beside me f after p later change same fresh = record {
+  change = change;
+  fresh = fresh;
+  first = refl;
+  same = λ id known. refl;
+  stood = λ id known unknown. absurd (unknown (was-known id known));
+  new = λ s id path is known unknown named. absurd (unknown (was-known id known));
+  since = refl;
+  runs = λ id g within. refl;
+  follows = λ s entries e g was now. absurd (no-entry-came p.history later s entries e same was now);
+}
+  where
+    was-known : (id : ℕ) → IsKnown (record p { history = later }) id → IsKnown p id
+    was-known id known = record {
+      after_origin = known.after_origin;
+      from = known.from;
+      to = (let to = known.to in omega (arith, to, same));
+    }
+
+-- ---- an entry that comes is one
+
+abbrev entries_of : History → List Entry
+entries_of no_table = []
+entries_of (table s entries) = entries
+
+get-last : (entries : List Entry) (e : Entry) → slice_get (entries ++ e ∷ []) (length entries) ≡ Some e
+get-last [] e = refl
+get-last (x ∷ entries) e = get-last entries e
+
+some-entry : (a b : Entry) → Some a ≡ Some b → a ≡ b
+some-entry a b e = cc
+
+-- what holds of the entry that came to a history holds of it however it is given
+pub one-entry : (P : TableSchema → List Entry → Entry → Type 0) (s t : TableSchema) (entries es : List Entry) (e d : Entry) → table s entries ≡ table t es
+    → table s (entries ++ e ∷ []) ≡ table t (es ++ d ∷ []) → P s entries e → P t es d
+one-entry P s t entries es e d same later holds =
+    let schema_is : t ≡ s = subst (λ (h : History). IsTableOf s h) same refl in
+    let own : entries ≡ es = ap entries_of same in
+    let last : e ≡ d = some-entry e d
+    (sym (get-last entries e) ∙ ap (λ (xs : List Entry). slice_get xs (length entries)) (ap entries_of later)
+    ∙ ap (λ (xs : List Entry). slice_get (es ++ d ∷ []) (length xs)) own ∙ get-last es d) in
+    subst (λ (t : TableSchema). P t es d) (sym schema_is) (subst (λ (es : List Entry). P s es d) own (subst (P s entries) last holds))
+
+-- ---- what a compaction took
+
+pub record StillLaws : Type 0 where
+  pub there : (s : TableSchema) (g : Group) (entries : List Entry) (since : ℕ) (runs : ℕ → List KnownRun) (t : Taking) → IsSuccession s g entries since runs
+      → IsTaken s since runs (length entries) t → HaveFilesIn t.taken (runs (length entries)) → (run : KnownRun) → Contains t.taken run
+      → Contains (runs (length entries)) run
+  pub still : (s : TableSchema) (g : Group) (entries : List Entry) (since : ℕ) (runs : ℕ → List KnownRun) (t : Taking) → IsSuccession s g entries since runs
+      → IsTaken s since runs (length entries) t → ((run : KnownRun) → Contains t.taken run → Contains (runs (length entries)) run)
+      → StillStands s g entries runs t
+
+pub still-past : OneContents → StillLaws → (f : Files) (p : Past) (s : TableSchema) (entries : List Entry) (g : Group) (t : Taking) (x : Snapshot) (c : Contents)
+    → Stands f p → p.history ≡ table s entries → IsTaken s p.since (λ n. p.runs n g) (length entries) t
+    → HasCommit (p.stood (length entries)) s (length entries) x c → HaveLiveFiles (live_in c) g t.taken → StillStands s g entries (λ n. p.runs n g) t
+still-past one laws f p s entries g t x c stands was took commit have =
+    let known : KnowsRuns s entries p = (subst (λ (h : History). KnowsPast f h p) was stands.past).runs in
+    let n : ℕ = length entries in
+    let some = took.after_origin in
+    let within = took.to in
+    let here = live-shows one (p.stood n) s n x c g t.taken (p.runs n g) (omega (arith, some, within)) (known.stood n g known.since (omega arith)) commit have in
+    laws.still s g entries p.since (λ n. p.runs n g) t (known.succession g) took
+    (laws.there s g entries p.since (λ n. p.runs n g) t (known.succession g) took here)

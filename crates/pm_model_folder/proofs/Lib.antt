@@ -4,3 +4,4 @@ pub mod LedgerFacts
 mod NameLemmas
 mod OwnFacts
 mod PathLemmas
+pub mod RunFacts

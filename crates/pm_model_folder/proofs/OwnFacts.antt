@@ -16,7 +16,7 @@ use Rattle.pm_model_folder.specs.Ledger.{Advances, HasNamedNone, IsKnown, IsOldO
 use Rattle.pm_model_folder.specs.Meaning.{HasSnapshotAt, SnapshotAt}
 use Rattle.pm_model_folder.specs.Paths.{snapshot_path}
 use Rattle.pm_model_folder.proofs.Facts.{some-none}
-use Rattle.pm_model_folder.proofs.HoldLemmas.{OneContents, one-commit}
+use Rattle.pm_model_folder.proofs.HoldLemmas.{OneContents, SameContents, one-commit}
 use Rattle.pm_model_folder.proofs.LedgerFacts.{at-table, count-is, is-table}
 
 -- ---- the newest snapshot
@@ -37,11 +37,6 @@ newest-is f s entries id folder there within absent = at (nat_le (id + 1) (lengt
         absurd (some-none (map.get f (snapshot_path (suc id))) here (ap (λ n. map.get f (snapshot_path n)) next ∙ absent))
 
 -- ---- what the laws of lower crates say
-
--- files that a snapshot names and that are the same have the same contents
-abbrev pub SameContents : Type 0
-SameContents = (f g : Files) (s : TableSchema) (x : Snapshot) (c : Contents)
-    → ((path : List ℕ) → IsNamed s x c path → map.get g path ≡ map.get f path) → HasContents f s x c → HasContents g s x c
 
 -- a file is named by one actor at most
 abbrev pub OneNamer : Type 0

@@ -1,5 +1,5 @@
 -- The kinds of change that commands make, whoever makes them.
-use Rattle.std.specs.Prelude.{◌≡◌, ◌≢◌, ℕ, suc, ◌<◌, ◌≤◌, ◌^◌, ℤ, List, [], ◌∷◌, ◌++◌, All, length, codes, Some, None}
+use Rattle.std.specs.Prelude.{◌≡◌, ◌≢◌, ℕ, suc, ◌<◌, ◌≤◌, ◌^◌, List, [], ◌∷◌, ◌++◌, All, length, codes, Some, None}
 use Rattle.std.specs.Prelude.{decimal}
 use Rattle.std.specs.FinMap as map
 use Rattle.std.specs.List.{AllByRecursion}
@@ -8,7 +8,6 @@ use Rattle.pm_values.specs.Names.{Naming, name_of}
 use Rattle.pm_values.specs.declared.group.Group.{Group}
 use Rattle.pm_store.specs.Files.{Files, Puts}
 use Rattle.pm_model_history.specs.History.{Entry, History, no_table, table}
-use Rattle.pm_model_history.specs.Merge.{HistoryRow}
 use Rattle.pm_snapshot.specs.Names.{BasedFile, MayName, greatest, prefix_of, suffix_of}
 use Rattle.pm_model_folder.specs.Commits.{IsCommit, Names}
 use Rattle.pm_model_folder.specs.Folder.{IsEntryAfter}
@@ -85,6 +84,6 @@ pub data Change (me : Actor) (f : Files) : History → Files → History → Typ
   committed : {after : Files} (s : TableSchema) (entries : List Entry) (e : Entry) (bytes : List ℕ)
       → HasSnapshotAt f s (length entries) → suc (length entries) ≤ greatest
       → map.get f (snapshot_path (suc (length entries))) ≡ None
-      → Puts f (snapshot_path (suc (length entries))) (Some bytes) after → IsEntryAfter s (length entries) e
+      → Puts f (snapshot_path (suc (length entries))) (Some bytes) after → IsEntryAfter s entries e
       → IsCommit f after s entries e → NamesOwn me f after s (length entries)
       → Change me f (table s entries) after (table s (entries ++ e ∷ []))

@@ -1,29 +1,20 @@
 -- What a live snapshot is, and how the next one follows it.
-use Rattle.std.specs.Prelude.{◌≡◌, ◌≢◌, ◌↔◌, ◌⊎◌, ℕ, zero, suc, ◌+◌, ◌<◌, ◌≤◌, ℤ, pos, negsuc, int_lt}
-use Rattle.std.specs.Prelude.{Bool, true, false, List, [], ◌++◌, ◌∷◌, length}
-use Rattle.std.specs.List.{AllByRecursion}
+use Rattle.std.specs.Prelude.{◌≡◌, ◌⊎◌, ℕ, suc, ◌+◌, ◌<◌, ◌≤◌, ℤ, pos, negsuc, int_lt, true}
+use Rattle.std.specs.Prelude.{List, [], ◌++◌, ◌∷◌, length}
 use Rattle.pm_store.specs.Files.{Files}
 use Rattle.pm_values.specs.Names.{Naming, name_of}
 use Rattle.pm_values.specs.declared.group.Group.{Group}
-use Rattle.pm_model_history.specs.History.{Entry, append, compaction, fence}
-use Rattle.pm_model_history.specs.Merge.{HistoryRow}
+use Rattle.pm_model_history.specs.History.{Entry}
 use Rattle.pm_schema.specs.declared.schema.TableSchema.{TableSchema}
 use Rattle.pm_snapshot.specs.Names.{BasedFile, MayName, prefix_of, suffix_of}
 use Rattle.pm_snapshot.specs.declared.snapshot.Snapshot.{Snapshot}
 use Rattle.pm_manifest.specs.Live.{Live, live_after}
 use Rattle.pm_model_contents.specs.Lists.{none_live}
 use Rattle.pm_model_contents.specs.Named.{Contents, HasContents, IsNamed}
-use Rattle.pm_model_contents.specs.Runs.{AreRunsOf}
-use Rattle.pm_model_following.specs.Following.{is_named}
-use Rattle.pm_model_following.specs.Groups.{rows_in}
-use Rattle.pm_engine.specs.Covers.{CoversAll}
-use Rattle.pm_engine.specs.OfSchema.{meaning_of}
-use Rattle.pm_levels.specs.Runs.{AreMadeAt, RunView}
 use Rattle.pm_model_folder.specs.Entries.{BearsCounts, BearsEntry, entry_at, fence_at}
 use Rattle.pm_model_folder.specs.Meaning.{HasSnapshotAt, SnapshotAt}
 use Rattle.pm_model_folder.specs.Paths.{schema_path, snapshot_path}
-use Rattle.pm_model_folder.specs.Stored.{HasGroup, HasRun, HoldsChange}
-use Rattle.pm_runs.specs.Stand.{StoredRun, top_of}
+use Rattle.pm_model_folder.specs.Stored.{HasGroup, HoldsChange}
 
 -- the files that are live after the entries of a snapshot's lists
 abbrev pub live_in : Contents → Live
@@ -100,51 +91,8 @@ NeverReturn f s first last = (early middle late : ℕ) (path : List ℕ) → fir
 
 -- ---- an entry comes
 
--- a group's runs at a snapshot, newest first; at the origin there are none
-abbrev pub AreRunsAt : Files → TableSchema → ℕ → Group → List RunView → Type 0
-AreRunsAt f s zero g runs = runs ≡ []
-AreRunsAt f s (suc id) g runs =
-    (x : Snapshot) × (c : Contents) × HasCommit f s (suc id) x c × AreRunsOf (live_in c) g runs
-
--- a group's runs once these of its rows were appended: a run at level 0 is before the others and covers the rows, or
--- there is no row
-abbrev pub IsAppended : Files → TableSchema → Group → List HistoryRow → List RunView → List RunView → Type 0
-IsAppended f s g [] old new = new ≡ old
-IsAppended f s g (row ∷ rows) old new =
-    (run : RunView) × (stored : StoredRun) × (new ≡ run ∷ old) × (run.level ≡ 0) × HasRun f s g run stored
-    × CoversAll (meaning_of s) (stored.rows ∷ []) (row ∷ rows)
-
--- A group's runs once it was compacted: of those that it had some that stood together made place for at most one run,
--- at a level not below theirs and below those of the runs after them. The group is named as whole exactly where that
--- level is the highest.
-pub record IsCompacted (s : TableSchema) (g : Group) (groups : List (Group × Bool)) (old new : List RunView) : Type 0
-  where
-    pub later : List RunView
-    pub taken : List RunView
-    pub made : List RunView
-    pub older : List RunView
-    pub was : old ≡ later ++ (taken ++ older)
-    pub is : new ≡ later ++ (made ++ older)
-    pub some : taken ≢ []
-    pub out : ℕ
-    pub above_zero : 1 ≤ out
-    pub within : out ≤ top_of s
-    pub low : AllByRecursion (λ (run : RunView). run.level ≤ out) taken
-    pub high : AllByRecursion (λ (run : RunView). out < run.level) older
-    pub are_made : AreMadeAt out made
-    pub whole : (is_named true g groups ≡ true) ↔ (out ≡ top_of s)
-
--- a group's runs once an entry came: with rows of the group there is one more, a compaction of it replaces some, and
--- all else leaves them
-abbrev pub GoOn : Files → TableSchema → Group → Entry → List RunView → List RunView → Type 0
-GoOn f s g (append user identifier rows) old new = IsAppended f s g (rows_in s g rows) old new
-GoOn f s g (compaction base groups) old new =
-    ((is_named false g groups ≡ true) × IsCompacted s g groups old new)
-    ⊎ ((is_named false g groups ≡ false) × (new ≡ old))
-GoOn f s g (fence number) old new = new ≡ old
-
--- What the snapshot after the newest meets: it is that of its entry, what it names and the newest didn't is new, a path
--- that left doesn't return with it, and each group's runs go on with the entry.
+-- What the snapshot after the newest meets: it is that of its entry, what it names and the newest didn't is new, and a
+-- path that left doesn't return with it.
 pub record IsCommit (f after : Files) (s : TableSchema) (entries : List Entry) (e : Entry) : Type 0 where
   pub committed : IsCommitted after s (entries ++ e ∷ []) (suc (length entries))
   pub begins : length entries ≡ 0 → BeginsOn after s
@@ -152,5 +100,3 @@ pub record IsCommit (f after : Files) (s : TableSchema) (entries : List Entry) (
   pub gone : (early middle : ℕ) (path : List ℕ) → 1 ≤ early → HasSnapshotAt f s early → early < middle
       → middle ≤ length entries → Names after s early path → Names after s (suc (length entries)) path
       → Names after s middle path
-  pub groups : (g : Group) (old new : List RunView) → AreRunsAt f s (length entries) g old
-      → AreRunsAt after s (suc (length entries)) g new → GoOn after s g e old new

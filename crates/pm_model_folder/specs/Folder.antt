@@ -1,6 +1,6 @@
 -- What a folder stands for, sentence by sentence. Ids are those that may stand in a name.
 use Rattle.std.specs.Prelude.{◌≡◌, ◌≢◌, ◌↔◌, ◌⊎◌, ℕ, suc, ◌<◌, ◌≤◌, pos, int_lt, Bool, true, false, Some, None, IsSome}
-use Rattle.std.specs.Prelude.{List, Contains, length, take, map as each_of}
+use Rattle.std.specs.Prelude.{List, [], Contains, length, take, map as each_of}
 use Rattle.std.specs.FinMap as map
 use Rattle.std.specs.List.{AllByRecursion, flat_map}
 use Rattle.std.specs.List.Sorted.{IsStrictlySortedBy}
@@ -17,6 +17,7 @@ use Rattle.pm_schema.specs.declared.schema.TableSchema.{TableSchema}
 use Rattle.pm_snapshot.specs.Names.{greatest, snapshot_name}
 use Rattle.pm_snapshot.specs.declared.consumer.Consumer.{Consumer}
 use Rattle.pm_model_folder.specs.Commits.{BeginsOn, FollowsOn, IsCommitted, NeverReturn}
+use Rattle.pm_model_folder.specs.Entries.{fence_at}
 use Rattle.pm_model_folder.specs.Meaning.{SchemaAt, ConsumerAt, HasSnapshotAt}
 use Rattle.pm_model_folder.specs.Paths.{schema_folder, schema_name, schema_path, snapshot_folder, snapshot_path}
 use Rattle.pm_model_folder.specs.Paths.{consumer_path, tag_path, changelog_path, floor_path}
@@ -56,13 +57,14 @@ pub record IsRowOf (s : TableSchema) (r : HistoryRow) : Type 0 where
   pub fits : Fits s.columns r.1
   pub taken : verdict s r.0 ≡ Take
 
--- An entry that may come after so many: its rows are rows of the table; or its base is the snapshot of one of them, and
--- the groups that it names rise; or the fence that it raises is below its own number.
-abbrev pub IsEntryAfter : TableSchema → ℕ → Entry → Type 0
-IsEntryAfter s n (append user identifier rows) = AllByRecursion (IsRowOf s) rows
-IsEntryAfter s n (compaction base groups) =
-    (1 ≤ base) × (base ≤ n) × IsStrictlySortedBy group_cmp (each_of (λ (p : Group × Bool). p.0) groups)
-IsEntryAfter s n (fence number) = int_lt number (pos (suc n)) ≡ true
+-- An entry that may come after these: its rows are rows of the table; or its base is the snapshot of one of them, and
+-- it names groups, which rise; or the fence that it raises is above theirs and below its own number.
+abbrev pub IsEntryAfter : TableSchema → List Entry → Entry → Type 0
+IsEntryAfter s entries (append user identifier rows) = AllByRecursion (IsRowOf s) rows
+IsEntryAfter s entries (compaction base groups) = (1 ≤ base) × (base ≤ length entries) × (groups ≢ [])
+    × IsStrictlySortedBy group_cmp (each_of (λ (p : Group × Bool). p.0) groups)
+IsEntryAfter s entries (fence number) = (int_lt (fence_at entries (length entries)) number ≡ true)
+    × (int_lt number (pos (suc (length entries))) ≡ true)
 
 -- entries that a table may have: their rows are rows of the table, and a compaction's base is an earlier snapshot
 pub record AreEntriesOf (s : TableSchema) (entries : List Entry) : Type 0 where

@@ -1,20 +1,27 @@
--- What readers rely on while others act: which bytes each snapshot's files had when it was committed.
-use Rattle.std.specs.Prelude.{◌≡◌, ◌⊎◌, ℕ, ◌+◌, ◌-◌, ◌<◌, ◌≤◌, List, length, take, None, IsSome}
+-- What readers and compactions rely on while others act: which bytes each snapshot's files had when it was committed,
+-- and which runs each group had.
+use Rattle.std.specs.Prelude.{◌≡◌, ◌⊎◌, ℕ, suc, ◌+◌, ◌-◌, ◌<◌, ◌≤◌, List, [], ◌∷◌, ◌++◌, length, take, None, IsSome}
 use Rattle.std.specs.FinMap as map
 use Rattle.pm_store.specs.Files.{Files}
+use Rattle.pm_values.specs.declared.group.Group.{Group}
 use Rattle.pm_model_history.specs.History.{Entry, History, IsTableOf, no_table, table}
 use Rattle.pm_schema.specs.declared.schema.TableSchema.{TableSchema}
 use Rattle.pm_model_folder.specs.Changes.{Actor, Change, IsNamedBy}
 use Rattle.pm_model_folder.specs.Commits.{IsCommitted, Names, Needs}
 use Rattle.pm_model_folder.specs.Folder.{Folder}
 use Rattle.pm_model_folder.specs.Meaning.{HasSnapshotAt}
+use Rattle.pm_model_folder.specs.Runs.{AreInFiles}
+use Rattle.pm_runs.specs.Succession.{Follows, IsSuccession, KnownRun}
 
 -- A history, and from some snapshot on the files of the folder as they stood when each was committed. Nothing is known
--- of the snapshots before it, which were gone already when the folder was found.
+-- of the snapshots before it, which were gone already when the folder was found. From the one on that was the newest
+-- then, or from the origin where there was no table, it has the runs of each group, newest first.
 pub record Past : Type 0 where
   pub history : History
   pub first : ℕ
   pub stood : ℕ → Files
+  pub since : ℕ
+  pub runs : ℕ → Group → List KnownRun
 
 -- how many entries a history has
 abbrev pub count_of : History → ℕ
@@ -33,8 +40,16 @@ pub record KeepsFiles (f : Files) (s : TableSchema) (stood : Files) (id : ℕ) :
   pub same : (path : List ℕ) → Needs stood s id path → (map.get f path ≡ None) ⊎ (map.get f path ≡ map.get stood path)
   pub there : HasSnapshotAt f s id → (path : List ℕ) → Needs stood s id path → map.get f path ≡ map.get stood path
 
+-- What is known of the groups' runs: at each snapshot they are those that its files had as they stood; they stand for
+-- the group's rows, and at each next one they follow those before.
+pub record KnowsRuns (s : TableSchema) (entries : List Entry) (p : Past) : Type 0 where
+  pub since : p.since ≤ length entries
+  pub from : (id : ℕ) → 1 ≤ id → p.since ≤ id → p.first ≤ id
+  pub stood : (id : ℕ) (g : Group) → p.since ≤ id → id ≤ length entries → AreInFiles (p.stood id) s id g (p.runs id g)
+  pub succession : (g : Group) → IsSuccession s g entries p.since (λ n. p.runs n g)
+
 -- What is known of a table's snapshots: all that are there are known, each was that of its entry, its files are kept,
--- and a path that one names and a later one too is named by those between.
+-- a path that one names and a later one too is named by those between, and the groups' runs are known.
 pub record KnowsTable (f : Files) (s : TableSchema) (entries : List Entry) (p : Past) : Type 0 where
   pub start : p.first ≤ length entries + 1
   pub reaches : (id : ℕ) → 1 ≤ id → id ≤ length entries → HasSnapshotAt f s id → p.first ≤ id
@@ -43,9 +58,16 @@ pub record KnowsTable (f : Files) (s : TableSchema) (entries : List Entry) (p : 
   pub gone : (early middle late : ℕ) (path : List ℕ) → IsKnown p early → early < middle → middle < late
       → IsKnown p late → Names (p.stood early) s early path → Names (p.stood late) s late path
       → Names (p.stood middle) s middle path
+  pub runs : KnowsRuns s entries p
+
+-- where there is no table nothing is known of snapshots, and no group has a run
+pub record KnowsNone (p : Past) : Type 0 where
+  pub first : p.first ≤ 1
+  pub since : p.since ≡ 0
+  pub runs : (g : Group) → p.runs 0 g ≡ []
 
 abbrev pub KnowsPast : Files → History → Past → Type 0
-KnowsPast f no_table p = p.first ≤ 1
+KnowsPast f no_table p = KnowsNone p
 KnowsPast f (table s entries) p = KnowsTable f s entries p
 
 -- the files stand for the history, and are kept as the past has them
@@ -64,9 +86,17 @@ abbrev pub IsOldOrUnnamed : Past → TableSchema → ℕ → List ℕ → Type 0
 IsOldOrUnnamed p s id path =
     (IsKnown p (id - 1) × Names (p.stood (id - 1)) s (id - 1) path) ⊎ IsUnnamed p s path
 
+-- the runs that a group has at the snapshot of an entry which comes after these are those that the files have then, and
+-- they follow by the entry those at the snapshot before
+pub record RunsFollow (after : Files) (s : TableSchema) (entries : List Entry) (e : Entry) (g : Group) (p q : Past)
+    : Type 0 where
+  pub are : AreInFiles after s (suc (length entries)) g (q.runs (suc (length entries)) g)
+  pub follow : Follows s g p.since (λ n. p.runs n g) (length entries) e (q.runs (suc (length entries)) g)
+
 -- What an actor's step does to the files and to what they stand for, with what is known: a change of some kind. A file
 -- appears only at a path that no known snapshot needs. What is known stays. Of a new snapshot the files are known as
--- they are then; what it names and the one before it didn't is needed by no other.
+-- they are then; what it names and the one before it didn't is needed by no other; and each group's runs go on with its
+-- entry.
 pub record Advances (me : Actor) (f : Files) (p : Past) (after : Files) (q : Past) : Type 0 where
   pub change : Change me f p.history after q.history
   pub fresh : (s : TableSchema) (path : List ℕ) → IsTableOf s p.history → map.get f path ≡ None
@@ -76,6 +106,10 @@ pub record Advances (me : Actor) (f : Files) (p : Past) (after : Files) (q : Pas
   pub stood : (id : ℕ) → IsKnown q id → (IsKnown p id → ⊥) → q.stood id ≡ after
   pub new : (s : TableSchema) (id : ℕ) (path : List ℕ) → IsTableOf s q.history → IsKnown q id → (IsKnown p id → ⊥)
       → Names after s id path → IsOldOrUnnamed p s id path
+  pub since : q.since ≡ p.since
+  pub runs : (id : ℕ) (g : Group) → id ≤ count_of p.history → q.runs id g ≡ p.runs id g
+  pub follows : (s : TableSchema) (entries : List Entry) (e : Entry) (g : Group) → p.history ≡ table s entries
+      → q.history ≡ table s (entries ++ e ∷ []) → RunsFollow after s entries e g p q
 
 -- ---- an actor's names
 

@@ -5,4 +5,5 @@ pub mod Folder
 pub mod Ledger
 pub mod Meaning
 pub mod Paths
+pub mod Runs
 pub mod Stored

@@ -1,5 +1,5 @@
 -- The rows that files have, and when they stand for the rows of a history.
-use Rattle.std.specs.Prelude.{◌≡◌, ◌≢◌, ◌⊎◌, ℕ, ◌-◌, ◌<◌, ◌≤◌, List, [], ◌∷◌, ◌++◌, length, map}
+use Rattle.std.specs.Prelude.{◌≡◌, ◌≢◌, ◌⊎◌, ℕ, ◌<◌, ◌≤◌, List, [], ◌∷◌, ◌++◌, length, map}
 use Rattle.std.specs.Prelude.{filter, Bool, true, false, Some, None}
 use Rattle.std.specs.FinMap as paths
 use Rattle.std.specs.List.{AllByRecursion, AllZip}

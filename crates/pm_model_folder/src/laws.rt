@@ -3,17 +3,24 @@
 ghost use Rattle.std.specs.Prelude.{◌≡◌, ◌≢◌, ◌↔◌, ℕ, ◌+◌, ◌≤◌, List, length, Contains, None, IsSome};
 ghost use Rattle.std.specs.FinMap as map;
 ghost use Rattle.pm_store.specs.Files.{Files, IsListing};
+ghost use Rattle.pm_values.specs.declared.group.Group.{Group};
 ghost use Rattle.pm_model_history.specs.History.{Entry, History, GoesOn, IsTableOf, no_table, table};
 ghost use Rattle.pm_schema.specs.declared.schema.TableSchema.{TableSchema};
 ghost use Rattle.pm_snapshot.specs.Names.{greatest};
+ghost use Rattle.pm_snapshot.specs.declared.snapshot.Snapshot.{Snapshot};
+ghost use Rattle.pm_model_contents.specs.Named.{Contents};
 ghost use Rattle.pm_model_folder.specs.Changes.{Actor, Change, IsActor, IsNamedBy, IsOwn};
-ghost use Rattle.pm_model_folder.specs.Commits.{Names};
+ghost use Rattle.pm_model_folder.specs.Commits.{HasCommit, Names, live_in};
 ghost use Rattle.pm_model_folder.specs.Folder.{Folder};
-ghost use Rattle.pm_model_folder.specs.Ledger.{Advances, HasNamedNone, Past, Stands, count_of};
+ghost use Rattle.pm_model_folder.specs.Ledger.{Advances, HasNamedNone, IsUnnamed, Past, Stands, count_of};
 ghost use Rattle.pm_model_folder.specs.Meaning.{HasSnapshotAt};
 ghost use Rattle.pm_model_folder.specs.Paths.{schema_folder, schema_name, snapshot_path};
+ghost use Rattle.pm_model_folder.specs.Runs.{HaveLiveFiles};
+ghost use Rattle.pm_runs.specs.Succession.{IsTaken, StillStands, Taking};
 
 use pm_model_contents::{one_contents_law, same_law};
+use pm_runs::there_law;
+use pm_schema::{declared_law, schema_law};
 use pm_snapshot::{path_law, snapshot_law};
 use pm_values::names_law;
 
@@ -57,18 +64,49 @@ pub fn listed_law()
         → (id : ℕ) → id ≤ greatest → Contains names (schema_name id) ↔ (id ≡ 0) }
 {}
 
-/// A folder that is found has a past, in which each snapshot that is there stands as it is. What stands for a past
-/// stands for its history.
+/// A folder that is found has a past, in which each snapshot that is there stands as it is, and from which on the runs
+/// of the groups are known. What stands for a past stands for its history.
 pub fn found_law()
-    ensures { (f : Files) (h : History) → Folder f h → (p : Past) × (p.history ≡ h) × Stands f p }
-{}
+    ensures { (f : Files) (h : History) → Folder f h
+        → (p : Past) × (p.history ≡ h) × Stands f p × ((id : ℕ) → p.stood id ≡ f) }
+{
+    pm_runs::found_law();
+}
 
-/// Each kind of change keeps what is known of the snapshots, those that are gone among them.
+/// Each kind of change keeps what is known of the snapshots, those that are gone among them, and of the groups' runs.
 pub fn past_law()
     ensures { (me : Actor) (f after : Files) (p q : Past) → Stands f p → Advances me f p after q → Stands after q }
 {
     pm_model_contents::kept_law();
     one_contents_law();
+    schema_law();
+    declared_law();
+    pm_runs::found_law();
+    pm_runs::goes_on_law();
+    pm_runs::same_law();
+}
+
+/// A change that adds no entry, and makes files only at paths that no known snapshot needs, leaves what is known.
+pub fn beside_law()
+    ensures { (me : Actor) (f after : Files) (p : Past) (later : History) → Change me f p.history after later
+        → count_of later ≡ count_of p.history
+        → ((s : TableSchema) (path : List ℕ) → IsTableOf s p.history → map.get f path ≡ None
+        → IsSome (map.get after path) → IsUnnamed p s path)
+        → Advances me f p after (record p { history = later }) }
+{}
+
+/// Where of each run of a group that a compaction took a file is live at the newest snapshot as it stood, they stand
+/// there together, whatever came since, and what came since is before them.
+pub fn still_law()
+    ensures { (f : Files) (p : Past) (s : TableSchema) (entries : List Entry) (g : Group) (t : Taking) (x : Snapshot)
+        (c : Contents) → Stands f p → p.history ≡ table s entries
+        → IsTaken s p.since (λ n. p.runs n g) (length entries) t
+        → HasCommit (p.stood (length entries)) s (length entries) x c → HaveLiveFiles (live_in c) g t.taken
+        → StillStands s g entries (λ n. p.runs n g) t }
+{
+    one_contents_law();
+    there_law();
+    pm_runs::still_law();
 }
 
 /// Where a snapshot is there and the one after it isn't, it is the newest.

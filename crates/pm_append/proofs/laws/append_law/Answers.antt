@@ -22,7 +22,6 @@ returns c = published (record {
   paths = c.path_law.ensures;
   one_contents = c.one_contents_law.ensures;
   contents_stay = c.kept_law.ensures;
-  one_runs = c.one_runs_law.ensures;
   consistent = c.snapshot_law.ensures.consistent;
   bears = c.snapshot_law.ensures.id;
   rising = c.order_law.ensures.rising;
