@@ -1,5 +1,5 @@
 -- The create of a file of a try makes one of the actor's own.
-use Rattle.std.proofs.Common.{◌≡◌, inl, ℕ, if◌then◌else◌, List, [], ◌∷◌, ◌++◌, Option, None, Some, is_none, IsSome, refl, sym, ◌∙◌, subst, append_assoc}
+use Rattle.std.proofs.Common.{◌≡◌, ◌⊎◌, inr, inl, ℕ, if◌then◌else◌, List, [], ◌∷◌, ◌++◌, Option, None, Some, is_none, IsSome, refl, sym, ◌∙◌, subst, append_assoc}
 use Rattle.pm_base.proofs.Laws.{AllByRecursion-append}
 use Rattle.std.specs.FinMap as map
 use Rattle.std.specs.List.{AllByRecursion}
@@ -19,7 +19,7 @@ use Rattle.pm_model_folder.proofs.Facts.{there-absent}
 use Rattle.pm_append.specs.Commit.{Attempt, IsBuilt, MakesNames}
 use Rattle.pm_append.specs.Files.{IsAppendOf}
 use Rattle.pm_append.specs.declared.newest.CommitFile.{CommitFile}
-use Rattle.pm_commit.specs.Meaning.{IsPut, KnowsOwn, KnowsTry, MakesOwn}
+use Rattle.pm_commit.specs.Meaning.{IsFenced, IsPut, KnowsOwn, KnowsTry, MakesOwn}
 use Rattle.pm_commit.specs.Own.{IsTried, OwnView, actor_of}
 use Rattle.pm_commit.specs.declared.making.Publishing.{Publishing}
 use Rattle.pm_commit.proofs.AdvanceLemmas.{own-advances}
@@ -104,5 +104,8 @@ module _ (own_files : OwnFiles) (own : OwnView) (rows : List HistoryRow) (x : Pu
     is = is_try.is;
     done = is_try.done ++ file ∷ [];
     files = is_try.files ∙ sym (append_assoc is_try.done (file ∷ []) left);
-    there = AllByRecursion-append (IsPut after) is_try.done (file ∷ []) (there-more after is_try.done absent puts is_try.there) (puts.here, tt);
+    there = elim is_try.there as (λ _. IsFenced own.author.base p.history ⊎ AllByRecursion (IsPut after) (is_try.done ++ file ∷ [])) [
+      | inl fenced ↦ inl fenced
+      | inr there ↦ inr (AllByRecursion-append (IsPut after) is_try.done (file ∷ []) (there-more after is_try.done absent puts there) (puts.here, tt))
+    ];
   }

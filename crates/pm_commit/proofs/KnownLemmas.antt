@@ -1,5 +1,5 @@
 -- What a committer knows after an answer.
-use Rattle.std.proofs.Common.{◌≡◌, ℕ, ◌+◌, ◌^◌, ◌<◌, ◌≤◌, Bool, true, false, List, [], ◌∷◌, length, Ok, refl, sym, ap, ◌∙◌, subst, arith}
+use Rattle.std.proofs.Common.{◌≡◌, inr, ℕ, ◌+◌, ◌^◌, ◌<◌, ◌≤◌, Bool, true, false, List, [], ◌∷◌, length, Ok, refl, sym, ap, ◌∙◌, subst, arith}
 use Rattle.pm_store.specs.Files.{Files}
 use Rattle.pm_model_history.specs.History.{History, IsTableOf, no_table, table}
 use Rattle.pm_model_history.specs.Merge.{HistoryRow}
@@ -128,7 +128,7 @@ module _ (rows : List HistoryRow) (f : Files) (p : Past) where
         is = refl;
         done = [];
         files = refl;
-        there = tt;
+        there = inr tt;
       }))
 
   -- the newest snapshot is an earlier commit of the author's

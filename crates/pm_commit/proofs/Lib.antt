@@ -11,6 +11,7 @@ mod CommitterLemmas
 mod CreateLemmas
 mod Facts
 mod FailLemmas
+mod FenceLemmas
 mod FoundLemmas
 mod GrowLemmas
 mod KnownLemmas

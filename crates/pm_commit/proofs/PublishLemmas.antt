@@ -9,7 +9,7 @@ use Rattle.pm_store.specs.Answers.{published_at}
 use Rattle.pm_store.specs.declared.answer.Published.TheVariants as published
 use Rattle.pm_store.proofs.ChangeLaws.{Puts-insert}
 use Rattle.pm_values.specs.declared.group.Group.{Group}
-use Rattle.pm_model_history.specs.History.{Entry, IsTableOf, append, table}
+use Rattle.pm_model_history.specs.History.{Entry, History, IsTableOf, append, table}
 use Rattle.pm_model_history.specs.Merge.{HistoryRow}
 use Rattle.pm_schema.specs.declared.schema.TableSchema.{TableSchema}
 use Rattle.pm_snapshot.specs.Names.{greatest}
@@ -30,11 +30,12 @@ use Rattle.pm_append.specs.declared.newest.Author.{Author}
 use Rattle.pm_append.specs.declared.newest.Newest.{Newest}
 use Rattle.pm_commit.specs.Alone.{with_entry}
 use Rattle.pm_commit.specs.Committer.{after_path, newest_in}
-use Rattle.pm_commit.specs.Meaning.{HasCommitted, HasEntry, IsPut, KnowsOwn, KnowsTry, MakesOwn, entry_of}
+use Rattle.pm_commit.specs.Meaning.{HasCommitted, HasEntry, IsFenced, IsPut, KnowsOwn, KnowsTry, MakesOwn, entry_of}
 use Rattle.pm_commit.specs.Own.{IsTried, OwnView, actor_of}
 use Rattle.pm_commit.specs.declared.found.Found.{Found}
 use Rattle.pm_commit.specs.declared.making.Publishing.{Publishing}
 use Rattle.pm_commit.proofs.AdvanceLemmas.{NamedPaths, append-advances, later_past, same-advances}
+use Rattle.pm_commit.proofs.FenceLemmas.{newest-fence, not-fenced}
 use Rattle.pm_commit.proofs.FoundLemmas.{LiveEntries, found-there}
 use Rattle.pm_commit.proofs.GrowLemmas.{goes-with, new_runs}
 use Rattle.pm_commit.proofs.MadeLemmas.{allowed-id}
@@ -150,7 +151,13 @@ module _ (one : OneContents) (same : SameContents) (paths : NamedPaths) (live_la
     found-here = found-there same live_law f p (record { schema = s; newest = t.newest }) stands is_try.found before
 
     all-there : AllByRecursion (IsPut f) t.made.files.items
-    all-there = subst (AllByRecursion (IsPut f)) (sym (is_try.files ∙ append-nil is_try.done)) is_try.there
+    all-there = elim is_try.there as (λ _. AllByRecursion (IsPut f) t.made.files.items) [
+      | inl fenced ↦ absurd (not-fenced t.newest t.author t.batch s entries is_try.allowed
+          (newest-fence f p s entries stands own-table.1 (record { schema = s; newest = t.newest }) is_try.found newest-is)
+          (subst (λ (h : History). IsFenced t.author.base h) own-table.1
+          (subst (λ (a : Author). IsFenced a.base p.history) (sym is_try.same_author) fenced)))
+      | inr there ↦ subst (AllByRecursion (IsPut f)) (sym (is_try.files ∙ append-nil is_try.done)) there
+    ]
 
     batch-of : IsBatchOf s t.rows t.batch
     batch-of =

@@ -1,5 +1,5 @@
 -- What a committer knows stays true through the changes of others.
-use Rattle.std.proofs.Common.{◌≡◌, ◌≢◌, ℕ, ◌≤◌, List, [], ◌∷◌, ◌++◌, length, length-append, Option, IsSome, refl, sym, ap, ◌∙◌, subst, append_assoc, arith}
+use Rattle.std.proofs.Common.{◌≡◌, ◌≢◌, ◌⊎◌, inl, inr, ℕ, ◌≤◌, List, [], ◌∷◌, ◌++◌, length, length-append, Option, IsSome, refl, sym, ap, ◌∙◌, subst, append_assoc, arith}
 use Rattle.std.specs.FinMap as map
 use Rattle.std.specs.List.{AllByRecursion}
 use Rattle.pm_store.specs.Files.{Files}
@@ -18,12 +18,13 @@ use Rattle.pm_read_table.proofs.Facts as reader_facts
 use Rattle.pm_append.specs.Commit.{HasAppended}
 use Rattle.pm_append.specs.declared.newest.Author.{Author}
 use Rattle.pm_append.specs.declared.newest.CommitFile.{CommitFile}
-use Rattle.pm_commit.specs.Meaning.{HasCommitted, HasEarlier, HasEntry, IsFoundIn, IsOtherThan, IsPut, Knows, KnowsIn, KnowsOwn, KnowsTry, entry_of}
+use Rattle.pm_commit.specs.Meaning.{HasCommitted, HasEarlier, HasEntry, IsFenced, IsFoundIn, IsOtherThan, IsPut, Knows, KnowsIn, KnowsOwn, KnowsTry, entry_of}
 use Rattle.pm_commit.specs.Own.{OwnView, actor_of}
 use Rattle.pm_commit.specs.declared.found.Found.{Found}
 use Rattle.pm_commit.specs.declared.making.Publishing.{Publishing}
 use Rattle.pm_commit.specs.declared.phase.Phase.{Phase}
 use Rattle.pm_commit.specs.declared.phase.Phase.TheVariants as phases
+use Rattle.pm_commit.proofs.FenceLemmas.{fenced-later}
 
 -- what the law of others' names says
 abbrev pub OthersNone : Type 0
@@ -71,6 +72,12 @@ module _ (law : OthersNone) (rows : List HistoryRow) (other : Actor) (f after : 
       let there : IsSome (map.get f file.path) = subst (λ (o : Option (List ℕ)). IsSome o) (sym is) refl in
       (stays other f after p.history q.history file.path stands.folder advances.change there ∙ is, puts-still files rest)
 
+  there-still : (base : ℕ) (files : List CommitFile) → IsFenced base p.history ⊎ AllByRecursion (IsPut f) files
+      → IsFenced base q.history ⊎ AllByRecursion (IsPut after) files
+  there-still base files (inl fenced) =
+      inl (fenced-later base p.history q.history (goes_on other f after p.history q.history advances.change) fenced)
+  there-still base files (inr there) = inr (puts-still files there)
+
   try-still : (own : OwnView) (x : Publishing) (left : List CommitFile) → IsTableOf x.schema p.history → KnowsTry own rows x left f p → KnowsTry own rows x left after q
   try-still own x left is_table is_try = record {
     attempt = is_try.attempt;
@@ -84,7 +91,7 @@ module _ (law : OthersNone) (rows : List HistoryRow) (other : Actor) (f after : 
     is = is_try.is;
     done = is_try.done;
     files = is_try.files;
-    there = puts-still is_try.done is_try.there;
+    there = there-still own.author.base is_try.done is_try.there;
   }
 
   entry-still : (author : Author) (id : ℕ) → HasEntry author rows id p → HasEntry author rows id q

@@ -1,6 +1,6 @@
 -- What a committer knows of the table, and what its steps mean for the files.
 use Rattle.std.specs.Prelude.{◌≡◌, ◌≢◌, ◌⊎◌, ℕ, ◌≤◌, List, [], ◌∷◌, ◌++◌, ◌+◌, length, codes}
-use Rattle.std.specs.Prelude.{Option, None, Some, IfSome, IsSome}
+use Rattle.std.specs.Prelude.{Option, None, Some, IfSome, IsSome, pos, int_le, true}
 use Rattle.std.specs.FinMap as map
 use Rattle.std.specs.List.{AllByRecursion}
 use Rattle.pm_values.specs.declared.refusal.Refusal.{Refusal}
@@ -8,12 +8,13 @@ use Rattle.pm_values.specs.declared.refusal.Refusal.TheVariants as refusals
 use Rattle.pm_store.specs.Files.{Files, IsListing}
 use Rattle.pm_store.specs.Store.{StoreView}
 use Rattle.pm_machine.specs.Moves.{Moves}
-use Rattle.pm_model_history.specs.History.{Entry, History, IsTableOf, append, table}
+use Rattle.pm_model_history.specs.History.{Entry, History, IsTableOf, append, no_table, table}
 use Rattle.pm_model_history.specs.Merge.{HistoryRow}
 use Rattle.pm_schema.specs.declared.schema.TableSchema.{TableSchema}
 use Rattle.pm_snapshot.specs.Names.{MayName}
 use Rattle.pm_snapshot.specs.declared.snapshot.Snapshot.{Snapshot}
 use Rattle.pm_model_folder.specs.Changes.{Actor}
+use Rattle.pm_model_folder.specs.Entries.{fence_at}
 use Rattle.pm_model_folder.specs.Folder.{IsRowOf}
 use Rattle.pm_model_folder.specs.Ledger.{Advances, HasNamedNone, IsKnown, Past, Stands, count_of}
 use Rattle.pm_model_folder.specs.Meaning.{SnapshotAt}
@@ -109,7 +110,13 @@ HasOrigin m = Unit {0}
 abbrev pub IsPut : Files → CommitFile → Type 0
 IsPut f file = map.get f file.path ≡ Some file.bytes
 
--- Of a try, what was made of what it found: the files that are left are yet to be created, and the others are there.
+-- the base of a commit is at most the fence of the newest snapshot, so that it can't come any more
+abbrev pub IsFenced : ℕ → History → Type 0
+IsFenced base no_table = ⊥
+IsFenced base (table s entries) = int_le (pos base) (fence_at entries (length entries)) ≡ true
+
+-- Of a try, what was made of what it found: the files that are left are yet to be created, and the others are there,
+-- but where its base is fenced.
 pub record KnowsTry (own : OwnView) (rows : List HistoryRow) (x : Publishing) (left : List CommitFile) (f : Files)
     (p : Past) : Type 0 where
   pub attempt : Attempt
@@ -123,7 +130,7 @@ pub record KnowsTry (own : OwnView) (rows : List HistoryRow) (x : Publishing) (l
   pub is : x ≡ publishing_of x.schema attempt.made
   pub done : List CommitFile
   pub files : attempt.made.files.items ≡ done ++ left
-  pub there : AllByRecursion (IsPut f) done
+  pub there : IsFenced own.author.base p.history ⊎ AllByRecursion (IsPut f) done
 
 -- the entry with this id is the commit's
 abbrev pub HasEntry : Author → List HistoryRow → ℕ → Past → Type 0
