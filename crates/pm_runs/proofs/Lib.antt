@@ -1,3 +1,4 @@
+mod EmptyLemmas
 mod GoesOnLemmas
 mod Life
 mod RunLemmas

@@ -70,6 +70,11 @@ abbrev pub TakeOldestPlace : Meaning → List Run → List Run → Type 0
 TakeOldestPlace m old new =
     (newer : List Run) (rows : List HistoryRow) → Covers m (old ++ newer) rows → Covers m (new ++ newer) rows
 
+-- the run, unless it has no row
+abbrev pub unless_empty : Run → List Run
+unless_empty [] = []
+unless_empty (row ∷ rows) = (row ∷ rows) ∷ []
+
 -- Those that were made may take the place of those that were taken. Stored rows are left out only where the runs go to
 -- the highest level and none is older.
 abbrev pub MayTakePlace : TableSchema → ℕ → List KnownRun → List KnownRun → List KnownRun → Type 0

@@ -6,9 +6,12 @@ ghost use Rattle.pm_schema.specs.declared.schema.TableSchema.{TableSchema};
 ghost use Rattle.pm_model_history.specs.History.{Entry};
 ghost use Rattle.pm_model_following.specs.Following.{HaveBases};
 ghost use Rattle.pm_model_following.specs.Groups.{rows_in};
+ghost use Rattle.pm_engine.specs.Covers.{Run};
+ghost use Rattle.pm_engine.specs.Meaning.{Meaning};
 ghost use Rattle.pm_runs.specs.Stand.{StandForRows, rows_after, top_of};
 ghost use Rattle.pm_runs.specs.Succession.{AreKnownAt, Follows, HaveFilesIn, IsReplaced, IsSuccession};
-ghost use Rattle.pm_runs.specs.Succession.{IsTaken, KnownRun, StillStands, Taking, without_files};
+ghost use Rattle.pm_runs.specs.Succession.{IsTaken, KnownRun, StillStands, TakeOldestPlace, TakePlace, Taking};
+ghost use Rattle.pm_runs.specs.Succession.{unless_empty, without_files};
 
 use pm_engine::added_law;
 
@@ -62,7 +65,7 @@ pub fn still_law()
 }
 
 /// Once they are replaced, by an entry that says so, the runs stand for the rows.
-pub fn replaced_law()
+pub fn placed_law()
     ensures { (s : TableSchema) (g : Group) (entries : List Entry) (since : ℕ) (runs : ℕ → List KnownRun)
         (t : Taking) (e : Entry) (made new : List KnownRun) → IsSuccession s g entries since runs →
         IsTaken s since runs (length entries) t → (still : StillStands s g entries runs t) →
@@ -71,3 +74,11 @@ pub fn replaced_law()
 {
     added_law();
 }
+
+/// Where one run may take the place of others, and it has no row, it may be left out.
+pub fn made_law()
+    ensures place { (m : Meaning) (old : List Run) (run : Run) → TakePlace m old (run ∷ []) →
+        TakePlace m old (unless_empty run) }
+    ensures oldest { (m : Meaning) (old : List Run) (run : Run) → TakeOldestPlace m old (run ∷ []) →
+        TakeOldestPlace m old (unless_empty run) }
+{}

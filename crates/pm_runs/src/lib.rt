@@ -9,9 +9,12 @@
 //! So a compaction needs to know of its base alone, whatever appends and other compactions come after it. Where of each
 //! run that it took a file is live at the newest snapshot, each of them still stands (`there_law`). Then they stand
 //! together, what came since is before them, covers the rows after the base, and lacks nothing (`still_law`). With at
-//! most one run in their place the runs stand for the rows of the next snapshot (`replaced_law`).
+//! most one run in their place the runs stand for the rows of the next snapshot (`placed_law`); that one may be left
+//! out where it has no row (`made_law`).
 #![tactic(auto)]
 
 mod laws;
 
-pub use laws::{found_law, goes_on_law, replaced_law, rows_law, same_law, still_law, there_law};
+pub use laws::{
+    found_law, goes_on_law, made_law, placed_law, rows_law, same_law, still_law, there_law,
+};

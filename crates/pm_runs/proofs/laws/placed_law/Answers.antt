@@ -1,5 +1,5 @@
 use Rattle.pm_runs.proofs.SuccessionLemmas.{stands-longer}
-use Rattle.pm_runs.proofs.laws.replaced_law.Goals as goal
+use Rattle.pm_runs.proofs.laws.placed_law.Goals as goal
 
 pub returns : goal.returns
 returns c = λ s g entries since runs t e made new is took still put.
