@@ -1,4 +1,5 @@
+mod GivenLemmas
 mod MergeLemmas
 mod MergingLemmas
 mod OneLemmas
-mod PairLemmas
+mod RisingLemmas

@@ -1,36 +1,52 @@
 -- A run that is made of runs covers what they cover.
-use Rattle.std.proofs.Common.{◌≡◌, ◌≢◌, ◌↔◌, ℕ, zero, List, [], ◌∷◌, ◌++◌, take, drop, max, All, Vec, Bool, true, false, not, cond, refl, sym, ap, subst, ◌∙◌, arith, append_assoc, append-nil, inl, inr}
+use Rattle.std.proofs.Common.{◌≡◌, ◌≢◌, ◌↔◌, ℕ, List, [], ◌∷◌, ◌++◌, max, Bool, true, false, not, cond, refl, sym, ap, subst, ◌∙◌, arith, append_assoc, append-nil, inl, inr}
 use Rattle.std.specs.List.{AllByRecursion, AllZip, flat_map, filter}
 use Rattle.std.specs.Ordering.{eq_by_cmp}
 use Rattle.std.specs.declared.cmp.Ordering.TheVariants.{Less}
-use Rattle.std.specs.declared.alloc.Global.{Global}
 use Rattle.std.proofs.lemmas.Grind.{flat_map-append}
-use Rattle.std.proofs.lemmas.List.{drop-map, map-append, take-append-drop, take-map}
-use Rattle.std.proofs.lemmas.List.Elements.{All-drop, All-take, filter-append}
 use Rattle.pm_values.specs.Order.{Values, key_cmp}
 use Rattle.pm_values.specs.declared.record.Stamped.{Stamped}
 use Rattle.pm_model_history.specs.Merge.{HistoryRow, rows_of}
 use Rattle.pm_engine.specs.Covers.{Covers, CoversAll, CoversKey, Holds, IsRising, MayBeMissing, Run, of_key, row_of}
 use Rattle.pm_engine.specs.Meaning.{AreTaken, DropsNoEffect, HasNoEffect, Meaning, SameWorth, SpeaksFor}
-use Rattle.pm_engine.specs.Reducing.{HasGreatestNumbers, HasKindOf, HasKinds, greatest_number}
+use Rattle.pm_engine.specs.Reducing.{HasGreatestNumbers, HasKindOf, greatest_number}
 use Rattle.pm_engine.proofs.Facts.{SameWorth-same, SameWorth-trans, AreTaken-append, shows_for, some_after}
-use Rattle.pm_base.proofs.Laws.{AllByRecursion-parts}
 use Rattle.pm_engine.proofs.Rising.{apart_back, ties_itself}
-use Rattle.pm_merge.specs.Merge.{CoversTheSame, HaveOwnKinds, IsMerge, Replaces, ReplacesOldest, all_rows, runs_of, without_droppable}
-use Rattle.pm_merge.specs.Pairs.{HasKind, HasNumber, Joins, Merges}
-use Rattle.pm_merge.proofs.PairLemmas.{at-holds, at-kept, at-kind, at-number, merges-at, merges-rising, of_key-first, of_key-other, rising-cons, rising-nil, rising-parts}
+use Rattle.pm_merge.specs.Merge.{CoversTheSame, HasOwnKinds, HaveOwnKinds, IsMerge, Replaces, ReplacesOldest, all_rows, without_droppable}
+use Rattle.pm_merge.proofs.RisingLemmas.{of_key-first, of_key-other, rising-cons, rising-nil, rising-parts}
 
--- ---- runs that are made of runs
+-- ---- a run that is made of runs, key by key
 
-pub joins-none : (m : Meaning) → Joins m [] []
-joins-none m = record { rising = rising-nil; numbers = λ key. refl; kinds = λ own key. refl; kept = λ key s e. e; holds = none }
-  where
-    none : (key : Values) (parts : List (List HistoryRow)) → AllZip (λ (run : Run) (part : List HistoryRow). Holds m key (of_key key run) part) [] parts → flat_map (λ part. part) parts ≡ []
-    none key [] holds = refl
-    none key (p ∷ ps) holds = absurd holds
+-- what a run has of a key has the greatest number of the rows of the key, of which there are some
+abbrev pub HasNumber : Run → Run → Type 0
+HasNumber [] rows = rows ≡ []
+HasNumber (s ∷ []) rows = (rows ≢ []) × (s.seq ≡ greatest_number rows)
+HasNumber own rows = ⊥
 
-pub joins-empty : (m : Meaning) (runs : List (Vec Stamped Global)) (run : Run) → runs ≡ [] → run ≡ [] → Joins m (runs_of runs) run
-joins-empty m runs run none empty = subst (λ rs. Joins m (runs_of rs) run) (sym none) (subst (Joins m []) (sym empty) (joins-none m))
+-- what a run has of a key has the kind of the rows of the key, of which there are some
+abbrev pub HasKind : Meaning → Run → Run → Type 0
+HasKind m [] rows = rows ≡ []
+HasKind m (s ∷ []) rows = HasKindOf m s rows
+HasKind m own rows = ⊥
+
+-- each run has one stored row for its part of the key's rows
+abbrev pub HaveParts : Meaning → Values → List Run → List (List HistoryRow) → Type 0
+HaveParts m key runs parts = AllZip (λ (run : Run) (part : List HistoryRow). Holds m key (of_key key run) part) runs parts
+
+abbrev pub joined : List (List HistoryRow) → List HistoryRow
+joined parts = flat_map (λ part. part) parts
+
+-- these rows are what a run has of a key that is made of the runs
+pub record JoinsAt (m : Meaning) (runs : List Run) (key : Values) (own : Run) : Type 0 where
+  pub number : HasNumber own (of_key key (all_rows runs))
+  pub kind : HaveOwnKinds m (of_key key (all_rows runs)) → HasKind m own (of_key key (all_rows runs))
+  pub kept : (s : Stamped) → of_key key (all_rows runs) ≡ s ∷ [] → own ≡ s ∷ []
+  pub holds : (parts : List (List HistoryRow)) → HaveParts m key runs parts → Holds m key own (joined parts)
+
+-- the run is made of the runs
+pub record Joins (m : Meaning) (runs : List Run) (run : Run) : Type 0 where
+  pub rising : IsRising run
+  pub at : (key : Values) → JoinsAt m runs key (of_key key run)
 
 -- a rising run has each key once
 own-number : (key : Values) (run : Run) → IsRising run → HasNumber (of_key key run) (of_key key run)
@@ -46,87 +62,47 @@ own-number key (s ∷ run) rising =
     only n = omega arith
 
 -- the stored row of a run has its own kind
-own-kind : (m : Meaning) (key : Values) (run : Run) → IsRising run → AllByRecursion (λ (s : Stamped). s.kind ≡ m.kind (row_of s ∷ [])) run → HasKind m (of_key key run) (of_key key run)
+own-kind : (m : Meaning) (key : Values) (run : Run) → IsRising run → HaveOwnKinds m (of_key key run) → HasKind m (of_key key run) (of_key key run)
 own-kind m key [] rising own = refl
 own-kind m key (s ∷ run) rising own =
     let parts = rising-parts s run rising in
-    let alone : HasKindOf m s (s ∷ []) = record { some = λ none. cc; kind = own.0 } in
     elim (eq_by_cmp key_cmp key s.key) as (λ t. eq_by_cmp key_cmp key s.key ≡ t → HasKind m (of_key key (s ∷ run)) (of_key key (s ∷ run))) [
-      | true ↦ λ e. subst (λ rows. HasKind m rows rows) (sym (of_key-first key s run e parts.0)) alone
-      | false ↦ λ e. subst (λ rows. HasKind m rows rows) (sym (of_key-other key s run e)) (own-kind m key run parts.1 own.1)
+      | true ↦ λ e.
+          let is : of_key key (s ∷ run) ≡ s ∷ [] = of_key-first key s run e parts.0 in
+          let kinds : HaveOwnKinds m (s ∷ []) = subst (HaveOwnKinds m) is own in
+          subst (λ rows. HasKind m rows rows) (sym is) (alone_kind kinds.0)
+      | false ↦ λ e.
+          let is : of_key key (s ∷ run) ≡ of_key key run = of_key-other key s run e in
+          subst (λ rows. HasKind m rows rows) (sym is) (own-kind m key run parts.1 (subst (HaveOwnKinds m) is own))
     ] refl
+  where
+    alone_kind : s.kind ≡ m.kind (row_of s ∷ []) → HasKindOf m s (s ∷ [])
+    alone_kind is = record { some = λ none. cc; kind = is }
 
 pub joins-one : (m : Meaning) (run : Run) → IsRising run → Joins m (run ∷ []) run
 joins-one m run rising = record {
   rising = rising;
-  numbers = λ key. subst (λ rows. HasNumber (of_key key run) (of_key key rows)) (sym (append-nil run)) (own-number key run rising);
-  kinds = λ own key.
-      subst (λ rows. HasKind m (of_key key run) (of_key key rows)) (sym (append-nil run))
-      (own-kind m key run rising (subst (AllByRecursion (λ (s : Stamped). s.kind ≡ m.kind (row_of s ∷ []))) (append-nil run) own));
-  kept = λ key s e. ap (of_key key) (sym (append-nil run)) ∙ e;
-  holds = λ key parts holds. one key parts holds;
+  at = λ key.
+      let rows : of_key key (run ++ []) ≡ of_key key run = ap (of_key key) (append-nil run) in
+      record {
+        number = subst (HasNumber (of_key key run)) (sym rows) (own-number key run rising);
+        kind = λ own. subst (HasKind m (of_key key run)) (sym rows) (own-kind m key run rising (subst (HaveOwnKinds m) rows own));
+        kept = λ s e. sym rows ∙ e;
+        holds = λ parts holds. one key parts holds;
+      };
 }
   where
-    one : (key : Values) (parts : List (List HistoryRow)) → AllZip (λ (run : Run) (part : List HistoryRow). Holds m key (of_key key run) part) (run ∷ []) parts
-        → Holds m key (of_key key run) (flat_map (λ part. part) parts)
+    one : (key : Values) (parts : List (List HistoryRow)) → HaveParts m key (run ∷ []) parts → Holds m key (of_key key run) (joined parts)
     one key [] holds = absurd holds
     one key (p ∷ []) holds = subst (Holds m key (of_key key run)) (sym (append-nil p)) holds.0
     one key (p ∷ q ∷ ps) holds = absurd holds.1
 
-AllZip-parts : {A B : Type 0} (R : A → B → Type 0) (xs us : List A) (zs : List B) → AllZip R (xs ++ us) zs → (ys : List B) × (vs : List B) × (zs ≡ ys ++ vs) × AllZip R xs ys × AllZip R us vs
+pub AllZip-parts : {A B : Type 0} (R : A → B → Type 0) (xs us : List A) (zs : List B) → AllZip R (xs ++ us) zs → (ys : List B) × (vs : List B) × (zs ≡ ys ++ vs) × AllZip R xs ys × AllZip R us vs
 AllZip-parts R [] us zs all = ([], zs, refl, tt, all)
 AllZip-parts R (x ∷ xs) us [] all = absurd all
 AllZip-parts R (x ∷ xs) us (z ∷ zs) all =
     let rest = AllZip-parts R xs us zs all.1 in
     (z ∷ rest.0, rest.1, ap (λ ws. z ∷ ws) rest.2, (all.0, rest.3), rest.4)
-
-of_key-rows : (key : Values) (older newer : List Run) → of_key key (all_rows (older ++ newer)) ≡ of_key key (all_rows older) ++ of_key key (all_rows newer)
-of_key-rows key older newer = ap (of_key key) (flat_map-append (λ (run : Run). run) older newer) ∙ filter-append (λ (s : Stamped). eq_by_cmp key_cmp key s.key) (all_rows older) (all_rows newer)
-
--- the rows of the older and of the newer runs have their own kinds
-own_parts : (m : Meaning) (olders newers : List Run) → HaveOwnKinds m (olders ++ newers) → HaveOwnKinds m olders × HaveOwnKinds m newers
-own_parts m olders newers own =
-    AllByRecursion-parts (λ (s : Stamped). s.kind ≡ m.kind (row_of s ∷ [])) (all_rows olders) (all_rows newers)
-    (subst (AllByRecursion (λ (s : Stamped). s.kind ≡ m.kind (row_of s ∷ []))) (flat_map-append (λ (run : Run). run) olders newers) own)
-
-pub joins-two : (m : Meaning) (olders newers : List Run) (older newer run : Run) → Joins m olders older → Joins m newers newer → Merges m older newer run → Joins m (olders ++ newers) run
-joins-two m olders newers older newer run one two made = record {
-  rising = merges-rising m older newer run made one.rising two.rising;
-  numbers = λ key. subst (HasNumber (of_key key run)) (sym (of_key-rows key olders newers))
-      (at-number m (of_key key older) (of_key key newer) (of_key key run) _ _ (merges-at m older newer run made one.rising two.rising key) (one.numbers key) (two.numbers key));
-  kinds = λ own key.
-      let parts = own_parts m olders newers own in
-      subst (HasKind m (of_key key run)) (sym (of_key-rows key olders newers))
-      (at-kind m (of_key key older) (of_key key newer) (of_key key run) _ _ (merges-at m older newer run made one.rising two.rising key) (one.kinds parts.0 key) (two.kinds parts.1 key));
-  kept = λ key s e.
-      at-kept m (of_key key older) (of_key key newer) (of_key key run) (of_key key (all_rows olders)) (of_key key (all_rows newers)) s (merges-at m older newer run made one.rising two.rising key)
-      (one.numbers key) (two.numbers key) (one.kept key s) (two.kept key s) (sym (of_key-rows key olders newers) ∙ e);
-  holds = λ key parts holds.
-      let split = AllZip-parts (λ (run : Run) (part : List HistoryRow). Holds m key (of_key key run) part) olders newers parts holds in
-      subst (Holds m key (of_key key run)) (sym (ap (flat_map (λ part. part)) split.2 ∙ flat_map-append (λ part. part) split.0 split.1))
-      (at-holds m key (of_key key older) (of_key key newer) (of_key key run) _ _ (merges-at m older newer run made one.rising two.rising key) (one.holds key split.0 split.3) (two.holds key split.1 split.4));
-}
-
--- ---- halves
-
-pub rising-take : (n : ℕ) (runs half : List (Vec Stamped Global)) → half ≡ take n runs → All IsRising (runs_of runs) → All IsRising (runs_of half)
-rising-take n runs half is all = subst (All IsRising) (take-map (λ (run : Vec Stamped Global). run.items) n runs ∙ ap runs_of (sym is)) (All-take IsRising n (runs_of runs) all)
-
-pub rising-drop : (n : ℕ) (runs half : List (Vec Stamped Global)) → half ≡ drop n runs → All IsRising (runs_of runs) → All IsRising (runs_of half)
-rising-drop n runs half is all = subst (All IsRising) (drop-map (λ (run : Vec Stamped Global). run.items) n runs ∙ ap runs_of (sym is)) (All-drop IsRising n (runs_of runs) all)
-
-pub joins-halves : (m : Meaning) (n : ℕ) (runs olders newers : List (Vec Stamped Global)) (older newer run : Run) → olders ≡ take n runs → newers ≡ drop n runs
-    → Joins m (runs_of olders) older → Joins m (runs_of newers) newer → Merges m older newer run → Joins m (runs_of runs) run
-joins-halves m n runs olders newers older newer run before after one two made =
-    subst (λ rs. Joins m rs run) whole (joins-two m (runs_of olders) (runs_of newers) older newer run one two made)
-  where
-    whole : runs_of olders ++ runs_of newers ≡ runs_of runs
-    whole = sym (map-append (λ (run : Vec Stamped Global). run.items) olders newers) ∙ ap (λ rs. runs_of (rs ++ newers)) before ∙ ap (λ rs. runs_of (take n runs ++ rs)) after ∙ ap runs_of (take-append-drop n runs)
-
-pub joins-last : (m : Meaning) (runs : List (Vec Stamped Global)) (run : Vec Stamped Global) → runs ≡ run ∷ [] → All IsRising (runs_of runs) → Joins m (runs_of runs) run.items
-joins-last m runs run is all =
-    let rising : All IsRising (run.items ∷ []) = subst (λ rs. All IsRising (runs_of rs)) is all in
-    subst (λ rs. Joins m (runs_of rs) run.items) (sym is) (joins-one m run.items (rising zero run.items (omega arith)))
 
 -- ---- what that says of them
 
@@ -134,7 +110,7 @@ both_of : {A : Type 0} (P Q R : A → Type 0) → ((x : A) → P x → Q x → R
 both_of P Q R f [] p q = tt
 both_of P Q R f (x ∷ xs) p q = (f x p.0 q.0, both_of P Q R f xs p.1 q.1)
 
-each_of : {A : Type 0} (P Q : A → Type 0) → ((x : A) → P x → Q x) → (xs : List A) → AllByRecursion P xs → AllByRecursion Q xs
+pub each_of : {A : Type 0} (P Q : A → Type 0) → ((x : A) → P x → Q x) → (xs : List A) → AllByRecursion P xs → AllByRecursion Q xs
 each_of P Q f [] p = tt
 each_of P Q f (x ∷ xs) p = (f x p.0, each_of P Q f xs p.1)
 
@@ -153,10 +129,11 @@ greatest_numbers run rows rising numbers =
     each_of (λ (s : Stamped). of_key s.key run ≡ s ∷ []) (λ (s : Stamped). s.seq ≡ greatest_number (of_key s.key rows))
     (λ s is. let number : HasNumber (s ∷ []) (of_key s.key rows) = subst (λ own. HasNumber own (of_key s.key rows)) is (numbers s.key) in number.1) run (alone run rising)
 
-has_kinds : (m : Meaning) (run rows : Run) → IsRising run → ((key : Values) → HasKind m (of_key key run) (of_key key rows)) → HasKinds m run rows
+has_kinds : (m : Meaning) (run rows : Run) → IsRising run → ((key : Values) → HaveOwnKinds m (of_key key rows) → HasKind m (of_key key run) (of_key key rows))
+    → AllByRecursion (λ (s : Stamped). HasOwnKinds m s (of_key s.key rows)) run
 has_kinds m run rows rising kinds =
-    each_of (λ (s : Stamped). of_key s.key run ≡ s ∷ []) (λ (s : Stamped). HasKindOf m s (of_key s.key rows))
-    (λ s is. let kind : HasKind m (s ∷ []) (of_key s.key rows) = subst (λ own. HasKind m own (of_key s.key rows)) is (kinds s.key) in kind) run (alone run rising)
+    each_of (λ (s : Stamped). of_key s.key run ≡ s ∷ []) (λ (s : Stamped). HasOwnKinds m s (of_key s.key rows))
+    (λ s is own. let kind : HasKind m (s ∷ []) (of_key s.key rows) = subst (λ o. HasKind m o (of_key s.key rows)) is (kinds s.key own) in kind) run (alone run rising)
 
 same_keys : (own rows : Run) → HasNumber own rows → (own ≡ []) ↔ (rows ≡ [])
 same_keys [] rows number = ((λ e. number), (λ e. refl))
@@ -165,18 +142,18 @@ same_keys (s ∷ t ∷ more) rows number = absurd number
 
 covers_same : (m : Meaning) (runs : List Run) (run : Run) → Joins m runs run → CoversTheSame m runs run
 covers_same m runs run joins = λ key missing rows covers. record {
-  parts = flat_map (λ part. part) covers.parts ∷ [];
-  split = covers.split ∙ ap (λ xs. missing ++ xs) (sym (append-nil (flat_map (λ part. part) covers.parts)));
-  holds = (joins.holds key covers.parts covers.holds, tt);
+  parts = joined covers.parts ∷ [];
+  split = covers.split ∙ ap (λ xs. missing ++ xs) (sym (append-nil (joined covers.parts)));
+  holds = ((joins.at key).holds covers.parts covers.holds, tt);
 }
 
 pub is_merge : (m : Meaning) (runs : List Run) (run : Run) → Joins m runs run → IsMerge m runs run
 is_merge m runs run joins = record {
   rising = joins.rising;
-  keys = λ key. same_keys (of_key key run) (of_key key (all_rows runs)) (joins.numbers key);
-  numbers = greatest_numbers run (all_rows runs) joins.rising joins.numbers;
-  kinds = λ own. has_kinds m run (all_rows runs) joins.rising (joins.kinds own);
-  kept = joins.kept;
+  keys = λ key. same_keys (of_key key run) (of_key key (all_rows runs)) (joins.at key).number;
+  numbers = greatest_numbers run (all_rows runs) joins.rising (λ key. (joins.at key).number);
+  kinds = has_kinds m run (all_rows runs) joins.rising (λ key. (joins.at key).kind);
+  kept = λ key. (joins.at key).kept;
   covers = covers_same m runs run joins;
 }
 
@@ -191,13 +168,6 @@ merge-covers_all m runs run rows is covers = λ key. is.covers key [] (rows_of m
 
 -- ---- in the place of the runs
 
--- each run has one stored row for its part of the key's rows
-abbrev HaveParts : Meaning → Values → List Run → List (List HistoryRow) → Type 0
-HaveParts m key runs parts = AllZip (λ (run : Run) (part : List HistoryRow). Holds m key (of_key key run) part) runs parts
-
-abbrev joined : List (List HistoryRow) → List HistoryRow
-joined parts = flat_map (λ part. part) parts
-
 parts-append : (m : Meaning) (key : Values) (xs : List Run) (ys : List (List HistoryRow)) (us : List Run) (vs : List (List HistoryRow)) → HaveParts m key xs ys → HaveParts m key us vs
     → HaveParts m key (xs ++ us) (ys ++ vs)
 parts-append m key [] [] us vs one two = two
@@ -205,7 +175,7 @@ parts-append m key [] (y ∷ ys) us vs one two = absurd one
 parts-append m key (x ∷ xs) [] us vs one two = absurd one
 parts-append m key (x ∷ xs) (y ∷ ys) us vs one two = (one.0, parts-append m key xs ys us vs one.1 two)
 
-joined-append : (xs ys : List (List HistoryRow)) → joined (xs ++ ys) ≡ joined xs ++ joined ys
+pub joined-append : (xs ys : List (List HistoryRow)) → joined (xs ++ ys) ≡ joined xs ++ joined ys
 joined-append xs ys = flat_map-append (λ part. part) xs ys
 
 joined-place : (all before rest middle after new : List (List HistoryRow)) → all ≡ before ++ rest → rest ≡ middle ++ after → joined middle ≡ joined new → joined all ≡ joined (before ++ (new ++ after))
@@ -246,7 +216,7 @@ whole_part m key run rows covers = by_parts covers.parts covers.split covers.hol
     by_parts (p ∷ []) split holds = subst (Holds m key (of_key key run)) (sym (split ∙ append-nil p)) holds.0
     by_parts (p ∷ q ∷ ps) split holds = absurd holds.1
 
-all-filter : {A : Type 0} (P : A → Type 0) (p : A → Bool) (xs : List A) → AllByRecursion P xs → AllByRecursion P (filter p xs)
+pub all-filter : {A : Type 0} (P : A → Type 0) (p : A → Bool) (xs : List A) → AllByRecursion P xs → AllByRecursion P (filter p xs)
 all-filter P p [] all = tt
 all-filter P p (x ∷ xs) all =
     elim (p x) as (λ b. AllByRecursion P (cond b (x ∷ filter p xs) (filter p xs))) [

@@ -1,5 +1,5 @@
 -- Of runs of stored rows there is one merge: each key has the stored row of its rows.
-use Rattle.std.proofs.Common.{◌≡◌, ◌≢◌, ◌↔◌, zero, List, [], ◌∷◌, ◌++◌, map, All, true, false, cond, refl, sym, ap, subst, ◌∙◌, arith, append-nil}
+use Rattle.std.proofs.Common.{◌≡◌, ◌≢◌, zero, List, [], ◌∷◌, ◌++◌, map, All, true, false, refl, sym, ap, subst, ◌∙◌, arith}
 use Rattle.std.specs.List.{AllByRecursion, AllZip, flat_map}
 use Rattle.std.specs.Ordering.{eq_by_cmp, is_eq, ordering_reverse}
 use Rattle.std.specs.declared.cmp.Ordering.TheVariants.{Less, Equal, Greater}
@@ -12,10 +12,10 @@ use Rattle.pm_model_history.specs.Merge.{HistoryRow}
 use Rattle.pm_engine.specs.Covers.{Covers, CoversKey, Holds, IsRising, Run, of_key, row_of}
 use Rattle.pm_engine.specs.Meaning.{KindsAreOwn, Meaning, SpeaksFor, stored_of}
 use Rattle.pm_engine.specs.Reducing.{AreStoredRows, HasKindOf, greatest_number}
-use Rattle.pm_engine.proofs.Rising.{apart_back, tied, ties_itself}
-use Rattle.pm_merge.specs.Merge.{AreStored, IsMerge, all_rows}
-use Rattle.pm_merge.proofs.MergeLemmas.{alone, whole_part}
-use Rattle.pm_merge.proofs.PairLemmas.{above-rest, none_above, of_key-above, of_key-first, of_key-here, of_key-other, rising-parts}
+use Rattle.pm_engine.proofs.Rising.{tied, ties_itself}
+use Rattle.pm_merge.specs.Merge.{AreStored, HasOwnKinds, IsMerge, all_rows}
+use Rattle.pm_merge.proofs.MergeLemmas.{all-filter, alone, each_of, whole_part}
+use Rattle.pm_merge.proofs.RisingLemmas.{above-rest, none_above, of_key-above, of_key-first, of_key-here, of_key-other, rising-parts}
 
 -- ---- the row of a key
 
@@ -43,13 +43,16 @@ all_hold m key (run ∷ runs) rising speak =
     let parts = AllByRecursion-parts (λ (s : Stamped). SpeaksFor m s.key (row_of s) (row_of s ∷ [])) run (all_rows runs) speak in
     (holds_own m key run (rising zero run (omega arith)) parts.0, all_hold m key runs (All-tail IsRising run runs rising) parts.1)
 
-abbrev IsOne : Type 0
+abbrev pub IsOne : Type 0
 IsOne = (m : Meaning) (key : Values) (stored : HistoryRow) (rows : List HistoryRow) → SpeaksFor m key stored rows → stored.0 ≡ m.kind rows → stored ≡ stored_of m rows
 
 -- the rows of a merge are the stored rows of their keys
 pub merged-stored : IsOne → (m : Meaning) (runs : List Run) (run : Run) → AreStored m runs → IsMerge m runs run → AreStoredRows m run (all_rows runs)
-merged-stored one m runs run stored is = each run (alone run is.rising) (is.kinds stored.kinds)
+merged-stored one m runs run stored is = each run (alone run is.rising) (each_of (λ (s : Stamped). HasOwnKinds m s (of_key s.key (all_rows runs))) (λ (s : Stamped). HasKindOf m s (of_key s.key (all_rows runs))) has_kind run is.kinds)
   where
+    has_kind : (s : Stamped) → HasOwnKinds m s (of_key s.key (all_rows runs)) → HasKindOf m s (of_key s.key (all_rows runs))
+    has_kind s of_own = of_own (all-filter (λ (t : Stamped). t.kind ≡ m.kind (row_of t ∷ [])) (λ (t : Stamped). eq_by_cmp key_cmp s.key t.key) (all_rows runs) stored.kinds)
+
     speaks : (s : Stamped) → of_key s.key run ≡ s ∷ [] → SpeaksFor m s.key (row_of s) (map row_of (of_key s.key (all_rows runs)))
     speaks s own =
         let rows : List HistoryRow = map row_of (of_key s.key (all_rows runs)) in

@@ -1,4 +1,3 @@
 pub mod Merge
 pub mod Merging
-pub mod Pairs
 pub mod Source

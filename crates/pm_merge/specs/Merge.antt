@@ -7,7 +7,7 @@ use Rattle.pm_values.specs.declared.record.Stamped.{Stamped}
 use Rattle.pm_model_history.specs.Merge.{HistoryRow}
 use Rattle.pm_engine.specs.Covers.{Covers, CoversAll, CoversKey, IsRising, Run, of_key, row_of}
 use Rattle.pm_engine.specs.Meaning.{Meaning, SpeaksFor}
-use Rattle.pm_engine.specs.Reducing.{HasGreatestNumbers, HasKinds}
+use Rattle.pm_engine.specs.Reducing.{HasGreatestNumbers, HasKindOf}
 
 -- the runs without where they lie in memory
 abbrev pub runs_of : List (Vec Stamped Global) → List Run
@@ -21,15 +21,19 @@ all_rows runs = flat_map (λ (run : Run). run) runs
 abbrev pub without_droppable : Meaning → Run → Run
 without_droppable m run = filter (λ (s : Stamped). not (m.drops (row_of s))) run
 
--- each stored row of the runs has its own kind: that of the row alone
-abbrev pub HaveOwnKinds : Meaning → List Run → Type 0
-HaveOwnKinds m runs = AllByRecursion (λ (s : Stamped). s.kind ≡ m.kind (row_of s ∷ [])) (all_rows runs)
+-- each stored row has its own kind: that of the row alone
+abbrev pub HaveOwnKinds : Meaning → List Stamped → Type 0
+HaveOwnKinds m rows = AllByRecursion (λ (s : Stamped). s.kind ≡ m.kind (row_of s ∷ [])) rows
+
+-- a stored row has the kind of the rows of its key, where these have their own
+abbrev pub HasOwnKinds : Meaning → Stamped → List Stamped → Type 0
+HasOwnKinds m s rows = HaveOwnKinds m rows → HasKindOf m s rows
 
 -- runs of stored rows: they rise, and each row speaks for itself and has its own kind
 pub record AreStored (m : Meaning) (runs : List Run) : Type 0 where
   pub rising : All IsRising runs
   pub speak : AllByRecursion (λ (s : Stamped). SpeaksFor m s.key (row_of s) (row_of s ∷ [])) (all_rows runs)
-  pub kinds : HaveOwnKinds m runs
+  pub kinds : HaveOwnKinds m (all_rows runs)
 
 -- of each key the run covers what the runs cover, and the same first rows are missing
 abbrev pub CoversTheSame : Meaning → List Run → Run → Type 0
@@ -44,7 +48,7 @@ pub record IsMerge (m : Meaning) (runs : List Run) (run : Run) : Type 0 where
   pub rising : IsRising run
   pub keys : (key : Values) → (of_key key run ≡ []) ↔ (of_key key (all_rows runs) ≡ [])
   pub numbers : HasGreatestNumbers run (all_rows runs)
-  pub kinds : HaveOwnKinds m runs → HasKinds m run (all_rows runs)
+  pub kinds : AllByRecursion (λ (s : Stamped). HasOwnKinds m s (of_key s.key (all_rows runs))) run
   pub kept : (key : Values) (s : Stamped) → of_key key (all_rows runs) ≡ s ∷ [] → of_key key run ≡ s ∷ []
   pub covers : CoversTheSame m runs run
 

@@ -1,18 +1,29 @@
 -- Rows that are given one after another.
-use Rattle.std.specs.Prelude.{◌≡◌, ℕ, [], ◌∷◌, length, Option, None, Some}
+use Rattle.std.specs.Prelude.{◌≡◌, List, [], ◌∷◌, Option, None, Some, Result, Ok, Err}
 use Rattle.std.specs.Vec.Iter.{into_iter_items}
-use Rattle.pm_merge.specs.declared.source.RunRows.{RunRows}
 use Rattle.pm_values.specs.declared.record.Stamped.{Stamped}
-use Rattle.pm_engine.specs.Covers.{Run}
+use Rattle.pm_values.specs.declared.refusal.Refusal.{Refusal}
+use Rattle.pm_values.specs.declared.refusal.Refusal.TheVariants.{Memory}
+use Rattle.pm_merge.specs.declared.source.MemRows.{MemRows}
 
--- the rows begin with the first one, if there is one, and then what may follow; where there is none, there are no more
-abbrev pub BeginsWith : Option Stamped → (Run → Type 0) → Run → Type 0
-BeginsWith None follows rows = rows ≡ []
-BeginsWith (Some s) follows rows = (rest : Run) × follows rest × (rows ≡ s ∷ rest)
+-- what a source has still to give: rows, and after them a refusal, if one comes
+pub record Rest : Type 0 where
+  pub rows : List Stamped
+  pub refusal : Option Refusal
 
--- the rows of a run that is in memory, and how many there are
-abbrev pub gives_rows : RunRows → Run → Type 0
-gives_rows r run = run ≡ into_iter_items r.rows
+-- What one call makes of it: the first row stands in the place and the others are left; or there is neither a row nor a
+-- refusal, and nothing changes; or no row is left, and the refusal comes. Where memory ran out, nothing is said.
+abbrev pub Fills : Rest → Result (Unit {0}) Refusal → Rest → Option Stamped → Type 0
+Fills old (Ok done) new None = (old.rows ≡ []) × (old.refusal ≡ None) × (new ≡ old)
+Fills old (Ok done) new (Some s) = (old.rows ≡ s ∷ new.rows) × (new.refusal ≡ old.refusal)
+Fills old (Err Memory) new held = Unit {0}
+Fills old (Err e) new held = (old.rows ≡ []) × (old.refusal ≡ Some e)
 
-abbrev pub rows_in : RunRows → ℕ
-rows_in r = length (into_iter_items r.rows)
+-- the same of a call that hands the row out
+abbrev pub HandsOut : Rest → Result (Option Stamped) Refusal → Rest → Type 0
+HandsOut old (Ok next) new = Fills old (Ok tt) new next
+HandsOut old (Err e) new = Fills old (Err e) new None
+
+-- what rows in memory have still to give: they have no refusal
+abbrev pub rest_in_memory : MemRows → Rest
+rest_in_memory r = record { rows = into_iter_items r.rows; refusal = None }

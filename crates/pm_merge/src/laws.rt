@@ -1,10 +1,13 @@
 //! What holds of runs that are merged, whatever the engine.
 
-ghost use Rattle.std.specs.Prelude.{◌≡◌, [], ◌∷◌, List, All};
+ghost use Rattle.std.specs.Prelude.{◌≡◌, [], ◌∷◌, ◌++◌, List, All};
 ghost use Rattle.pm_model_history.specs.Merge.{HistoryRow};
 ghost use Rattle.pm_engine.specs.Covers.{Run, Covers, CoversAll, IsRising};
 ghost use Rattle.pm_engine.specs.Meaning.{Meaning, DropsNoEffect, KindsAreOwn};
 ghost use Rattle.pm_engine.specs.Reducing.{AreStoredRows, HasGreatestNumbers};
+ghost use Rattle.pm_values.specs.declared.record.Stamped.{Stamped};
+ghost use Rattle.pm_merge.specs.Merging.{GivesAll, GivesLeast, HaveNoRow, runs_in};
+ghost use Rattle.pm_merge.specs.Source.{Rest};
 ghost use Rattle.pm_merge.specs.Merge.{all_rows, without_droppable, AreStored, IsMerge, Replaces, ReplacesOldest};
 
 use pm_engine::stored_law;
@@ -13,6 +16,19 @@ use pm_engine::stored_law;
 pub fn one_run_law()
     ensures { (m : Meaning) (run : Run) → IsRising run → IsMerge m (run ∷ []) run }
 {}
+
+/// Rows that are given one after another are a run, once no row is left: the rows that were there at first, if they
+/// rose, are merged into it. So of stored rows it is the one run that `merge_runs` gives (`merged_law`).
+pub fn given_law()
+    ensures more { (m : Meaning) (first old new : List Rest) (run : Run) (s : Stamped) → GivesAll m first run old →
+        GivesLeast m old s new → GivesAll m first (run ++ s ∷ []) new }
+    ensures all { (m : Meaning) (first last : List Rest) (run : Run) → All IsRising (runs_in first) →
+        GivesAll m first run last → HaveNoRow last → IsMerge m (runs_in first) run }
+    ensures same { (m : Meaning) (first last : List Rest) (run merged : Run) → AreStored m (runs_in first) →
+        GivesAll m first run last → HaveNoRow last → IsMerge m (runs_in first) merged → run ≡ merged }
+{
+    stored_law();
+}
 
 /// Runs that cover rows are of stored rows, where kinds are their own, as in each table (`own_kind_law`). What such
 /// runs are merged into has of each key the stored row of their rows, and so there is one such run.

@@ -19,8 +19,8 @@ mod merging;
 mod place;
 mod source;
 
-pub use laws::{merged_law, oldest_law, one_run_law, replaces_law};
+pub use laws::{given_law, merged_law, oldest_law, one_run_law, replaces_law};
 pub use merge::merge_runs;
 pub use merging::Merging;
 pub use place::RowPlace;
-pub use source::{RowSource, RunRows};
+pub use source::{MemRows, RowSource};

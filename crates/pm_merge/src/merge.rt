@@ -1,18 +1,18 @@
 //! Several runs made into one.
 
-ghost use Rattle.std.specs.Prelude.{◌≡◌, ◌≤◌, List, All, IfOk, true, false};
+ghost use Rattle.std.specs.Prelude.{◌≡◌, All, IfOk, true, false, map};
 ghost use Rattle.pm_engine.specs.Covers.{Run, IsRising};
 ghost use Rattle.pm_merge.specs.Merge.{runs_of, IsMerge, without_droppable};
-ghost use Rattle.pm_merge.specs.Merging.{HaveRuns};
-ghost use Rattle.pm_merge.specs.Pairs.{Joins};
-ghost use Rattle.pm_merge.specs.Source.{gives_rows};
+ghost use Rattle.pm_merge.specs.Merging.{rests_of};
+ghost use Rattle.pm_merge.specs.Source.{rest_in_memory};
 
 use crate::drops::without_droppable;
-use crate::merging::joined;
-use crate::source::RunRows;
+use crate::laws::given_law;
+use crate::merging::Merging;
+use crate::source::MemRows;
 use pm_engine::MergeEngine;
 use pm_row_slots::RowSlot;
-use pm_values::Stamped;
+use pm_values::{Refusal, Stamped};
 use std::alloc::{AllocError, Global};
 
 /// One run of several, the oldest first, which may stand in their place (`replaces_law`). With `drop` it lacks the
@@ -30,7 +30,9 @@ pub fn merge_runs<E: MergeEngine>(
         × IsMerge (E.meaning engine.now) (runs_of older_first.items) merged
         × (run.items ≡ without_droppable (E.meaning engine.now) merged)) }
 {
-    let merged = merged(alloc, engine, older_first)?;
+    let Ok(merged) = merged(alloc, engine, older_first) else {
+        return Err(AllocError);
+    };
     if drop {
         without_droppable(alloc, engine, merged)
     } else {
@@ -38,17 +40,18 @@ pub fn merge_runs<E: MergeEngine>(
     }
 }
 
-/// One run of several, in time and memory about linear in their rows.
+/// One run of several, in time and memory about linear in their rows. The only refusal is that memory ran out.
 fn merged<E: MergeEngine>(
     alloc: Global,
     engine: &E,
     older_first: Vec<Vec<Stamped>>,
-) -> Result<Vec<Stamped>, AllocError>
+) -> Result<Vec<Stamped>, Refusal>
     requires { All IsRising (runs_of older_first.items) }
-    ensures { IfOk result (λ run. Joins (E.meaning engine.now) (runs_of older_first.items) run.items) }
+    ensures { IfOk result (λ run. IsMerge (E.meaning engine.now) (runs_of older_first.items) run.items) }
 {
+    given_law();
     let mut run = Vec::with_capacity(alloc, most_rows(&older_first))?;
-    let mut merging = joined(alloc, engine, sources_of(alloc, older_first)?)?;
+    let mut merging = Merging::of(alloc, sources_of(alloc, older_first)?)?;
     let mut slot = Box::new(alloc, RowSlot::new(alloc))?;
     loop {
         merging.fill(alloc, engine, &mut slot)?;
@@ -60,12 +63,12 @@ fn merged<E: MergeEngine>(
 }
 
 /// The rows of each of the runs.
-fn sources_of(alloc: Global, runs: Vec<Vec<Stamped>>) -> Result<Vec<RunRows>, AllocError>
-    ensures { IfOk result (λ sources. HaveRuns gives_rows sources.items (runs_of runs.items)) }
+fn sources_of(alloc: Global, runs: Vec<Vec<Stamped>>) -> Result<Vec<MemRows>, AllocError>
+    ensures { IfOk result (λ sources. map rest_in_memory sources.items ≡ rests_of (runs_of runs.items)) }
 {
     let mut sources = Vec::with_capacity(alloc, runs.len())?;
     for run in runs {
-        sources.push(RunRows {
+        sources.push(MemRows {
             rows: run.into_iter(),
         })?;
     }

@@ -1,22 +1,24 @@
 //! Runs that are made into one run, row by row.
 
-ghost use Rattle.std.specs.Prelude.{◌≡◌, ◌+◌, ◌≤◌, List, None, All, IfOk, OnOk, length, option_to_list};
+ghost use Rattle.std.specs.Prelude.{◌≡◌, ◌≢◌, ◌+◌, ◌≤◌, List, None, Some, IfErr, IfOk, OnOk, length, map};
+ghost use Rattle.std.specs.Prelude.{option_to_list};
 ghost use Rattle.std.specs.Vec.{vec_len};
-ghost use Rattle.pm_engine.specs.Covers.{Run, IsRising};
 ghost use Rattle.pm_engine.specs.Meaning.{Meaning};
-ghost use Rattle.pm_merge.specs.Merge.{IsMerge};
-ghost use Rattle.pm_merge.specs.Merging.{rows_left, CombineFirst, GivesNext, HaveRuns, Pairs, StillGives};
-ghost use Rattle.pm_merge.specs.Pairs.{Joins};
+ghost use Rattle.pm_merge.specs.Merging.{Chooses, CombineFirst, GivesOne, HasLeft, HaveNoRow};
+ghost use Rattle.pm_merge.specs.Merging.{first_refusal, rows_left};
+ghost use Rattle.pm_merge.specs.Source.{Rest};
+ghost use Rattle.pm_values.specs.declared.refusal.Refusal.TheVariants.{Memory};
 
 use crate::place::RowPlace;
 use crate::source::RowSource;
 use pm_engine::{MergeEngine, combined};
+use pm_values::Refusal;
 use std::alloc::{AllocError, Global};
 use std::cmp::Ordering;
 use std::mem;
 
-/// No row, or the rows of one source, or of an older and a newer one that are merged, with the first row of each that
-/// wasn't given yet, or none where it has no more. These are in boxes, so that a row is moved by a pointer.
+/// No row, or the rows of one source, or of an older and a newer one that are merged, with a place for the first row of
+/// each. These are in boxes, so that a row is moved by a pointer.
 #[derive(Drop)]
 pub enum Merging<P, S> {
     Nothing,
@@ -30,34 +32,46 @@ pub enum Merging<P, S> {
 }
 
 impl<P: RowPlace, S: RowSource<P>> Merging<P, S> {
-    /// The rows of the run that the runs of sources are made into, the oldest first: what they have of a key is
-    /// combined. It takes time and memory by the number of sources.
-    pub fn of<E: MergeEngine>(
-        alloc: Global,
-        engine: &E,
-        older_first: Vec<S>,
-    ) -> Result<Merging<P, S>, AllocError>
-        ensures { IfOk result (λ merging. (runs : List Run) (run : Run) → All IsRising runs
-            → HaveRuns S.gives older_first.items runs → StillGives (E.meaning engine.now) P.held S.gives merging run
-            → IsMerge (E.meaning engine.now) runs run) }
+    /// The merge of sources, the oldest first. It takes time and memory by the number of sources, and asks none for a
+    /// row yet.
+    pub fn of(alloc: Global, older_first: Vec<S>) -> Result<Merging<P, S>, AllocError>
+        ensures { IfOk result (λ merging. (m : Meaning)
+            → HasLeft m P.held S.rest merging (map S.rest older_first.items)) }
     {
-        joined(alloc, engine, older_first)
+        let mut sources = older_first;
+        let half = sources.len() / 2;
+        if half == 0 {
+            return Ok(only(sources));
+        }
+        let newer = sources.split_off(half)?;
+        let older = Merging::of(alloc, sources)?;
+        let newer = Merging::of(alloc, newer)?;
+        Ok(Merging::Two {
+            older: Box::new(alloc, older)?,
+            newer: Box::new(alloc, newer)?,
+            first_older: Box::new(alloc, P::empty(alloc))?,
+            first_newer: Box::new(alloc, P::empty(alloc))?,
+        })
     }
 
-    /// Puts the next row into an empty place, or none at the end, in about as many comparisons as the number of runs
-    /// can be halved. Where memory runs out, nothing is said of what is left.
+    /// Puts the next row into an empty place, or none at the end, in about as many comparisons as the number of sources
+    /// can be halved: what the first rows of the least key are combined to. The refusal of a source comes where its next
+    /// row would have to be known. Where memory runs out, nothing is said of what is left.
     pub fn fill<E: MergeEngine>(
         &mut self,
         alloc: Global,
         engine: &E,
         slot: &mut Box<P>,
-    ) -> Result<(), AllocError>
+    ) -> Result<(), Refusal>
         requires { P.held slot.old.value ≡ None }
-        ensures gives { OnOk result
-            (GivesNext (E.meaning engine.now) P.held S.gives self.old self.new (P.held slot.new.value)) }
+        ensures gives { OnOk result ((rests : List Rest) → HasLeft (E.meaning engine.now) P.held S.rest self.old rests
+            → (left : List Rest) × GivesOne (E.meaning engine.now) rests (P.held slot.new.value) left
+            × HasLeft (E.meaning engine.now) P.held S.rest self.new left) }
         ensures fewer { OnOk result
-            (length (option_to_list (P.held slot.new.value)) + rows_left P.held S.left self.new
-            ≤ rows_left P.held S.left self.old) }
+            (length (option_to_list (P.held slot.new.value)) + rows_left P.held S.rest self.new
+            ≤ rows_left P.held S.rest self.old) }
+        ensures refuses { IfErr result (λ e. e ≢ Memory → (rests : List Rest)
+            → HasLeft (E.meaning engine.now) P.held S.rest self.old rests → first_refusal rests ≡ Some e) }
     {
         match self {
             Merging::Nothing => Ok(()),
@@ -67,30 +81,58 @@ impl<P: RowPlace, S: RowSource<P>> Merging<P, S> {
                 newer,
                 first_older,
                 first_newer,
-            } => match first_older.order(first_newer) {
-                Some(Ordering::Less) => {
-                    mem::swap(slot, first_older);
-                    older.fill(alloc, engine, first_older)
-                }
-                Some(Ordering::Greater) => {
-                    mem::swap(slot, first_newer);
-                    newer.fill(alloc, engine, first_newer)
-                }
-                Some(Ordering::Equal) => {
-                    combine(
-                        alloc,
-                        engine,
-                        first_older.as_mut(),
-                        first_newer.as_mut(),
-                        slot.as_mut(),
-                    )?;
+            } => {
+                if first_older.is_empty() {
                     older.fill(alloc, engine, first_older)?;
-                    newer.fill(alloc, engine, first_newer)
+                    let_go(older, first_older);
                 }
-                None => Ok(()),
-            },
+                if first_newer.is_empty() {
+                    newer.fill(alloc, engine, first_newer)?;
+                    let_go(newer, first_newer);
+                }
+                Ok(choose(alloc, engine, first_older, first_newer, slot)?)
+            }
         }
     }
+}
+
+/// Lets a side go of which nothing is left, as no row stands first, so that it costs nothing from then on.
+fn let_go<P: RowPlace, S: RowSource<P>>(side: &mut Box<Merging<P, S>>, first: &Box<P>)
+    ensures left { (m : Meaning) (rests : List Rest) → (P.held first.now.value ≡ None → HaveNoRow rests
+        × (first_refusal rests ≡ None)) → HasLeft m P.held S.rest side.old.value rests
+        → HasLeft m P.held S.rest side.new.value rests }
+    ensures fewer { rows_left P.held S.rest side.new.value ≤ rows_left P.held S.rest side.old.value }
+{
+    if first.is_empty() {
+        **side = Merging::Nothing;
+    }
+}
+
+/// Puts the row of the lower key into an empty place, or those of one key as one.
+fn choose<P: RowPlace, E: MergeEngine>(
+    alloc: Global,
+    engine: &E,
+    older: &mut Box<P>,
+    newer: &mut Box<P>,
+    slot: &mut Box<P>,
+) -> Result<(), AllocError>
+    requires { P.held slot.old.value ≡ None }
+    ensures { OnOk result (Chooses (E.meaning engine.now) (P.held older.old.value) (P.held newer.old.value)
+        (P.held slot.new.value) (P.held older.new.value) (P.held newer.new.value)) }
+{
+    match older.order(newer) {
+        Some(Ordering::Less) => mem::swap(slot, older),
+        Some(Ordering::Greater) => mem::swap(slot, newer),
+        Some(Ordering::Equal) => combine(
+            alloc,
+            engine,
+            older.as_mut(),
+            newer.as_mut(),
+            slot.as_mut(),
+        )?,
+        None => {}
+    }
+    Ok(())
 }
 
 /// Puts two rows of one key into an empty place, as one, and takes them from theirs. It isn't inlined, so that `fill`
@@ -114,55 +156,10 @@ fn combine<P: RowPlace, E: MergeEngine>(
     Ok(())
 }
 
-/// The runs of sources, the oldest first, by halves.
-pub(crate) fn joined<P: RowPlace, S: RowSource<P>, E: MergeEngine>(
-    alloc: Global,
-    engine: &E,
-    older_first: Vec<S>,
-) -> Result<Merging<P, S>, AllocError>
-    ensures { IfOk result (λ merging. (runs : List Run) (run : Run) → All IsRising runs
-        → HaveRuns S.gives older_first.items runs → StillGives (E.meaning engine.now) P.held S.gives merging run
-        → Joins (E.meaning engine.now) runs run) }
-{
-    let mut sources = older_first;
-    let half = sources.len() / 2;
-    if half == 0 {
-        return Ok(only(sources));
-    }
-    let newer = sources.split_off(half)?;
-    let older = joined(alloc, engine, sources)?;
-    let newer = joined(alloc, engine, newer)?;
-    pair_of(alloc, engine, older, newer)
-}
-
-/// An older and a newer one that are merged.
-fn pair_of<P: RowPlace, S: RowSource<P>, E: MergeEngine>(
-    alloc: Global,
-    engine: &E,
-    older: Merging<P, S>,
-    newer: Merging<P, S>,
-) -> Result<Merging<P, S>, AllocError>
-    ensures { IfOk result (Pairs (E.meaning engine.now) P.held S.gives older newer) }
-{
-    let mut older = Box::new(alloc, older)?;
-    let mut newer = Box::new(alloc, newer)?;
-    let mut first_older = Box::new(alloc, P::empty(alloc))?;
-    let mut first_newer = Box::new(alloc, P::empty(alloc))?;
-    older.fill(alloc, engine, &mut first_older)?;
-    newer.fill(alloc, engine, &mut first_newer)?;
-    Ok(Merging::Two {
-        older,
-        newer,
-        first_older,
-        first_newer,
-    })
-}
-
 /// The only source, or no row.
 fn only<P: RowPlace, S: RowSource<P>>(sources: Vec<S>) -> Merging<P, S>
     requires { vec_len sources ≤ 1 }
-    ensures { (m : Meaning) (runs : List Run) (run : Run) → All IsRising runs → HaveRuns S.gives sources.items runs
-        → StillGives m P.held S.gives result run → Joins m runs run }
+    ensures { (m : Meaning) → HasLeft m P.held S.rest result (map S.rest sources.items) }
 {
     let mut sources = sources;
     match sources.pop() {

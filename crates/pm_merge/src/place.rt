@@ -1,6 +1,6 @@
 //! Places for rows, between which rows are moved.
 
-ghost use Rattle.std.specs.Prelude.{◌≡◌, None, Some, Option, IfOk, OnOk};
+ghost use Rattle.std.specs.Prelude.{◌≡◌, None, Some, Option, IfOk, OnOk, is_none};
 ghost use Rattle.pm_row_slots.specs.Slot.{OrdersFirst};
 
 use pm_row_slots::RowSlot;
@@ -18,6 +18,10 @@ pub trait RowPlace: Drop {
     /// A place without a row.
     fn empty(alloc: Global) -> Self
         ensures { held result ≡ None };
+
+    /// Whether no row stands in it.
+    fn is_empty(&self) -> bool
+        ensures { result ≡ is_none (held self.now) };
 
     /// How the rows of two places compare by their keys, as if a place without one had one above all; none where both
     /// have none.
@@ -41,6 +45,11 @@ impl<'b> RowPlace for RowSlot<'b> {
     #[inline]
     fn empty(alloc: Global) -> RowSlot<'b> {
         RowSlot::new(alloc)
+    }
+
+    #[inline]
+    fn is_empty(&self) -> bool {
+        self.is_none()
     }
 
     #[inline]

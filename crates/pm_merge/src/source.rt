@@ -1,53 +1,54 @@
 //! Rows that are given one after another.
 
-ghost use Rattle.std.specs.Prelude.{◌≡◌, ◌+◌, ◌≤◌, ℕ, None, OnOk, length, option_to_list};
-ghost use Rattle.pm_engine.specs.Covers.{Run};
-ghost use Rattle.pm_merge.specs.Source.{BeginsWith};
+ghost use Rattle.std.specs.Prelude.{◌≡◌, None};
+ghost use Rattle.pm_merge.specs.Source.{Fills, HandsOut, Rest};
 
 use crate::place::RowPlace;
 use pm_row_slots::RowSlot;
-use pm_values::Stamped;
-use std::alloc::{AllocError, Global};
+use pm_values::{Refusal, Stamped};
+use std::alloc::Global;
 use std::vec::IntoIter;
 
-/// What gives the rows of a run one after another, by putting them into places. It has the places' type as a parameter,
-/// and no lifetime, as a bound with a lifetime is refused on functions that call themselves.
+/// What gives rows one after another, and after them a refusal, if one comes, by putting the rows into places. It has
+/// the places' type as a parameter, and no lifetime, as a bound with a lifetime is refused on functions that call
+/// themselves.
 pub trait RowSource<P: RowPlace>: Drop {
-    /// The rows that it may still give.
-    ghost gives: { Self → Run → Type 0 };
-
-    /// How many it still gives at most.
-    ghost left: { Self → ℕ };
+    /// What it has still to give.
+    ghost rest: { Self → Rest };
 
     /// Puts the next row into an empty place, or none at the end. Where memory runs out, nothing is said of what is
     /// left.
-    fn fill(&mut self, alloc: Global, slot: &mut P) -> Result<(), AllocError>
+    fn fill(&mut self, alloc: Global, slot: &mut P) -> Result<(), Refusal>
         requires { P.held slot.old ≡ None }
-        ensures gives { OnOk result
-            ((run : Run) → BeginsWith (P.held slot.new) (gives self.new) run → gives self.old run) }
-        ensures fewer { OnOk result
-            (length (option_to_list (P.held slot.new)) + left self.new ≤ left self.old) };
-}
+        ensures { Fills (rest self.old) result (rest self.new) (P.held slot.new) };
 
-/// The rows of a run that is in memory.
-pub struct RunRows {
-    pub rows: IntoIter<Stamped, Global>,
-}
-
-impl Drop for RunRows {
-    fn drop(self) {
-        let RunRows { rows } = self;
+    /// The next row, in memory of its own, or none at the end.
+    fn next(&mut self, alloc: Global) -> Result<Option<Stamped>, Refusal>
+        ensures { HandsOut (rest self.old) result (rest self.new) }
+    {
+        let mut slot = P::empty(alloc);
+        self.fill(alloc, &mut slot)?;
+        Ok(slot.take(alloc)?)
     }
 }
 
-impl<'b> RowSource<RowSlot<'b>> for RunRows {
-    ghost use Rattle.pm_merge.specs.Source.{gives_rows, rows_in};
+/// Rows that are in memory.
+pub struct MemRows {
+    pub rows: IntoIter<Stamped, Global>,
+}
 
-    ghost gives = { gives_rows };
+impl Drop for MemRows {
+    fn drop(self) {
+        let MemRows { rows } = self;
+    }
+}
 
-    ghost left = { rows_in };
+impl<'b> RowSource<RowSlot<'b>> for MemRows {
+    ghost use Rattle.pm_merge.specs.Source.{rest_in_memory};
 
-    fn fill(&mut self, _alloc: Global, slot: &mut RowSlot<'b>) -> Result<(), AllocError> {
+    ghost rest = { rest_in_memory };
+
+    fn fill(&mut self, _alloc: Global, slot: &mut RowSlot<'b>) -> Result<(), Refusal> {
         slot.set(self.rows.next());
         Ok(())
     }

@@ -1,38 +1,82 @@
-use Rattle.std.proofs.lemmas.Result.{on_ok_weaker}
-use Rattle.pm_merge.proofs.MergingLemmas.{gives_both, gives_newer, gives_none, gives_older}
+use Rattle.std.proofs.Common.{◌≡◌, None, ap}
+use Rattle.std.proofs.lemmas.Result.{err_from_is_err_and}
+use Rattle.pm_merge.specs.Merging.{HasLeft}
+use Rattle.pm_merge.proofs.MergingLemmas.{Knows, knows_after, knows_same, newer_refuses, none_stands, older_refuses, source_gives, two_give}
 use Rattle.pm_merge.proofs.merging.Merging.+fill.Goals as goal
+use Rattle.pm_merge.proofs.merging.Merging.+fill.Goals.{then-is_empty+in_ok-fill-in-Two, else-is_empty, then-is_empty-2+in_ok-fill-in-Two-2, else-is_empty-2}
 
--- the older run's first row
-pub returns-in-Some-Less-clause-gives : goal.returns-in-Some-Less-clause-gives
-returns-in-Some-Less-clause-gives g t c =
-    on_ok_weaker c.fill-in-Some-Less.result (λ gives.
-    rw (c.in-Two.is, c.swap.ensures.x_after)
-    (gives_older (g.E.MergeEngine.meaning c.args.engine.now) g.P.RowPlace.held g.S.RowSource.gives c.in-Two.older.value c.fill-in-Some-Less.new.self c.in-Two.newer.value (g.P.RowPlace.held c.in-Two.first_older.value) (g.P.RowPlace.held c.in-Two.first_newer.value) (g.P.RowPlace.held c.fill-in-Some-Less.new.slot.value)
-    (rw (c.in-Some-Less.field-0-is, c.deref.ensures, c.deref-in-Two.ensures) at c.in-Some-Less.ensures) (rw c.deref_mut.ensures.value at gives))) c.fill-in-Some-Less.ensures.gives
+-- one source
+pub returns-in-One-clause-gives : goal.returns-in-One-clause-gives
+returns-in-One-clause-gives g t c =
+    rw c.in-One.is (source_gives (g.E.MergeEngine.meaning c.args.engine.now) c.fill.result (g.S.RowSource.rest c.in-One.source) (g.S.RowSource.rest c.fill.new.self) (g.P.RowPlace.held c.fill.new.slot) c.fill.ensures)
 
--- the newer run's first row
-pub returns-in-Some-Greater-clause-gives : goal.returns-in-Some-Greater-clause-gives
-returns-in-Some-Greater-clause-gives g t c =
-    on_ok_weaker c.fill-in-Some-Greater.result (λ gives.
-    rw (c.in-Two.is, c.swap-in-Some-Greater.ensures.x_after)
-    (gives_newer (g.E.MergeEngine.meaning c.args.engine.now) g.P.RowPlace.held g.S.RowSource.gives c.in-Two.older.value c.in-Two.newer.value c.fill-in-Some-Greater.new.self (g.P.RowPlace.held c.in-Two.first_older.value) (g.P.RowPlace.held c.in-Two.first_newer.value)
-    (g.P.RowPlace.held c.fill-in-Some-Greater.new.slot.value) (rw (c.in-Some-Greater.field-0-is, c.deref.ensures, c.deref-in-Two.ensures) at c.in-Some-Greater.ensures) (rw c.deref_mut-in-Some-Greater.ensures.value at gives)))
-    c.fill-in-Some-Greater.ensures.gives
+-- the older side refuses
+pub returns-in_err-fill-in-Two-clause-refuses : goal.returns-in_err-fill-in-Two-clause-refuses
+returns-in_err-fill-in-Two-clause-refuses g t c =
+    let m = g.E.MergeEngine.meaning c.args.engine.now in
+    let p = err_from_is_err_and c.from_residual.result c.from_residual.ensures.1 in
+    let none : g.P.RowPlace.held c.in-Two.first_older.value ≡ None = none_stands (g.P.RowPlace.held c.in-Two.first_older.value) c.is_empty.result (rw c.deref.ensures at c.is_empty.ensures) c.if-is_empty.true in
+    rw (p.1, p.2, c.in-Two.is)
+    (λ other. older_refuses m (HasLeft m g.P.RowPlace.held g.S.RowSource.rest c.in-Two.older.value) (HasLeft m g.P.RowPlace.held g.S.RowSource.rest c.in-Two.older.value)
+    (HasLeft m g.P.RowPlace.held g.S.RowSource.rest c.in-Two.newer.value) (HasLeft m g.P.RowPlace.held g.S.RowSource.rest c.in-Two.newer.value)
+    (g.P.RowPlace.held c.in-Two.first_older.value) (g.P.RowPlace.held c.in-Two.first_newer.value) c.in_err-fill-in-Two.field-0.0 none (rw c.deref_mut.ensures.value at (c.in_err-fill-in-Two.ensures.refuses other)))
 
--- both, of one key
-pub returns-in_ok-fill-in-Some-Equal-clause-gives : goal.returns-in_ok-fill-in-Some-Equal-clause-gives
-returns-in_ok-fill-in-Some-Equal-clause-gives g t c =
-    on_ok_weaker c.fill-in-Some-Equal-2.result (λ gives.
+-- the newer side refuses
+pub returns-in_err-fill-in-Two-2-clause-refuses : goal.returns-in_err-fill-in-Two-2-clause-refuses
+returns-in_err-fill-in-Two-2-clause-refuses g t c =
+    let m = g.E.MergeEngine.meaning c.args.engine.now in
+    let p = err_from_is_err_and c.from_residual-in_err-fill-in-Two-2.result c.from_residual-in_err-fill-in-Two-2.ensures.1 in
+    let none : g.P.RowPlace.held c.in-Two.first_newer.value ≡ None = none_stands (g.P.RowPlace.held c.in-Two.first_newer.value) c.is_empty-in-Two.result (rw c.deref-in-Two.ensures at c.is_empty-in-Two.ensures) c.if-is_empty-2.true in
+    let knows : Knows m (g.P.RowPlace.held c.in-Two.first_older.value) (HasLeft m g.P.RowPlace.held g.S.RowSource.rest c.in-Two.older.value) (g.P.RowPlace.held c.if-is_empty.first_older.value)
+    (HasLeft m g.P.RowPlace.held g.S.RowSource.rest c.if-is_empty.self.1.1.0.value) =
+    elim c.if-is_empty.branch [
+      | then-is_empty+in_ok-fill-in-Two w ↦
+          rw (ap (λ s. s.1.1.0) w.self-is, w.first_older-is)
+          (knows_after m (g.P.RowPlace.held c.in-Two.first_older.value) (g.P.RowPlace.held w.fill-then-is_empty.new.slot.value) (HasLeft m g.P.RowPlace.held g.S.RowSource.rest c.in-Two.older.value)
+          (HasLeft m g.P.RowPlace.held g.S.RowSource.rest w.fill-then-is_empty.new.self) (HasLeft m g.P.RowPlace.held g.S.RowSource.rest w.let_go.new.side.value)
+          (none_stands (g.P.RowPlace.held c.in-Two.first_older.value) c.is_empty.result (rw c.deref.ensures at c.is_empty.ensures) w.if-is_empty.true) (rw w.deref_mut.ensures.value at w.in_ok-fill-in-Two.ensures.gives) (w.let_go.ensures.left m))
+      | else-is_empty w ↦
+          rw (ap (λ s. s.1.1.0) w.self-is, w.first_older-is)
+          (knows_same m (g.P.RowPlace.held c.in-Two.first_older.value) c.is_empty.result (HasLeft m g.P.RowPlace.held g.S.RowSource.rest c.in-Two.older.value) (rw c.deref.ensures at c.is_empty.ensures) w.if-is_empty.false)
+    ] in
+    rw (p.1, p.2, c.in-Two.is)
+    (λ other. newer_refuses m (HasLeft m g.P.RowPlace.held g.S.RowSource.rest c.in-Two.older.value) (HasLeft m g.P.RowPlace.held g.S.RowSource.rest c.if-is_empty.self.1.1.0.value)
+    (HasLeft m g.P.RowPlace.held g.S.RowSource.rest c.in-Two.newer.value) (HasLeft m g.P.RowPlace.held g.S.RowSource.rest c.in-Two.newer.value)
+    (g.P.RowPlace.held c.in-Two.first_older.value) (g.P.RowPlace.held c.in-Two.first_newer.value) (g.P.RowPlace.held c.if-is_empty.first_older.value) c.in_err-fill-in-Two-2.field-0.0 none knows
+    (rw c.deref_mut-then-is_empty-2.ensures.value at (c.in_err-fill-in-Two-2.ensures.refuses other)))
+
+-- two sides
+pub returns-in_ok-choose-in-Two-clause-gives : goal.returns-in_ok-choose-in-Two-clause-gives
+returns-in_ok-choose-in-Two-clause-gives g t c =
+    let m = g.E.MergeEngine.meaning c.args.engine.now in
+    let knows : Knows m (g.P.RowPlace.held c.in-Two.first_older.value) (HasLeft m g.P.RowPlace.held g.S.RowSource.rest c.in-Two.older.value) (g.P.RowPlace.held c.if-is_empty.first_older.value)
+    (HasLeft m g.P.RowPlace.held g.S.RowSource.rest c.if-is_empty.self.1.1.0.value) =
+    elim c.if-is_empty.branch [
+      | then-is_empty+in_ok-fill-in-Two w ↦
+          rw (ap (λ s. s.1.1.0) w.self-is, w.first_older-is)
+          (knows_after m (g.P.RowPlace.held c.in-Two.first_older.value) (g.P.RowPlace.held w.fill-then-is_empty.new.slot.value) (HasLeft m g.P.RowPlace.held g.S.RowSource.rest c.in-Two.older.value)
+          (HasLeft m g.P.RowPlace.held g.S.RowSource.rest w.fill-then-is_empty.new.self) (HasLeft m g.P.RowPlace.held g.S.RowSource.rest w.let_go.new.side.value)
+          (none_stands (g.P.RowPlace.held c.in-Two.first_older.value) c.is_empty.result (rw c.deref.ensures at c.is_empty.ensures) w.if-is_empty.true) (rw w.deref_mut.ensures.value at w.in_ok-fill-in-Two.ensures.gives) (w.let_go.ensures.left m))
+      | else-is_empty w ↦
+          rw (ap (λ s. s.1.1.0) w.self-is, w.first_older-is)
+          (knows_same m (g.P.RowPlace.held c.in-Two.first_older.value) c.is_empty.result (HasLeft m g.P.RowPlace.held g.S.RowSource.rest c.in-Two.older.value) (rw c.deref.ensures at c.is_empty.ensures) w.if-is_empty.false)
+    ] in
+    let also : Knows m (g.P.RowPlace.held c.in-Two.first_newer.value) (HasLeft m g.P.RowPlace.held g.S.RowSource.rest c.in-Two.newer.value) (g.P.RowPlace.held c.if-is_empty-2.first_newer.value)
+    (HasLeft m g.P.RowPlace.held g.S.RowSource.rest c.if-is_empty-2.self.1.1.1.0.value) =
+    elim c.if-is_empty-2.branch [
+      | then-is_empty-2+in_ok-fill-in-Two-2 w ↦
+          rw (ap (λ s. s.1.1.1.0) w.self-is, w.first_newer-is)
+          (knows_after m (g.P.RowPlace.held c.in-Two.first_newer.value) (g.P.RowPlace.held w.fill-then-is_empty-2.new.slot.value) (HasLeft m g.P.RowPlace.held g.S.RowSource.rest c.in-Two.newer.value)
+          (HasLeft m g.P.RowPlace.held g.S.RowSource.rest w.fill-then-is_empty-2.new.self) (HasLeft m g.P.RowPlace.held g.S.RowSource.rest w.let_go-then-is_empty-2.new.side.value)
+          (none_stands (g.P.RowPlace.held c.in-Two.first_newer.value) c.is_empty-in-Two.result (rw c.deref-in-Two.ensures at c.is_empty-in-Two.ensures) w.if-is_empty-2.true) (rw w.deref_mut-then-is_empty-2.ensures.value at w.in_ok-fill-in-Two-2.ensures.gives)
+          (w.let_go-then-is_empty-2.ensures.left m))
+      | else-is_empty-2 w ↦
+          rw (ap (λ s. s.1.1.1.0) w.self-is, w.first_newer-is)
+          (knows_same m (g.P.RowPlace.held c.in-Two.first_newer.value) c.is_empty-in-Two.result (HasLeft m g.P.RowPlace.held g.S.RowSource.rest c.in-Two.newer.value)
+          (rw c.deref-in-Two.ensures at c.is_empty-in-Two.ensures) w.if-is_empty-2.false)
+    ] in
     rw c.in-Two.is
-    (gives_both (g.E.MergeEngine.meaning c.args.engine.now) g.P.RowPlace.held g.S.RowSource.gives c.in-Two.older.value c.fill-in-Some-Equal.new.self c.in-Two.newer.value c.fill-in-Some-Equal-2.new.self
-    (g.P.RowPlace.held c.in-Two.first_older.value) (g.P.RowPlace.held c.in-Two.first_newer.value) (g.P.RowPlace.held c.fill-in-Some-Equal.new.slot.value) (g.P.RowPlace.held c.fill-in-Some-Equal-2.new.slot.value) (g.P.RowPlace.held c.combine.new.slot)
-    (rw (c.in-Some-Equal.field-0-is, c.deref.ensures, c.deref-in-Two.ensures) at c.in-Some-Equal.ensures) (rw c.deref_mut-in-Some-Equal.ensures.value at c.in_ok-fill-in-Some-Equal.ensures.gives)
-    (rw c.deref_mut-in-Some-Equal-2.ensures.value at gives)
-    (rw (c.as_mut-in-Some-Equal.ensures.value, c.as_mut-in-Some-Equal-2.ensures.value) at c.in_ok-combine-in-Some-Equal.ensures.combines)))
-    c.fill-in-Some-Equal-2.ensures.gives
-
--- none is left
-pub returns-in-None-clause-gives : goal.returns-in-None-clause-gives
-returns-in-None-clause-gives g t c =
-    rw (c.in-Two.is, c.requires)
-    (gives_none (g.E.MergeEngine.meaning c.args.engine.now) g.P.RowPlace.held g.S.RowSource.gives c.in-Two.older.value c.in-Two.newer.value (g.P.RowPlace.held c.in-Two.first_older.value) (g.P.RowPlace.held c.in-Two.first_newer.value) (rw (c.deref.ensures, c.deref-in-Two.ensures) at c.in-None.ensures))
+    (two_give m (HasLeft m g.P.RowPlace.held g.S.RowSource.rest c.in-Two.older.value) (HasLeft m g.P.RowPlace.held g.S.RowSource.rest c.if-is_empty.self.1.1.0.value)
+    (HasLeft m g.P.RowPlace.held g.S.RowSource.rest c.in-Two.newer.value) (HasLeft m g.P.RowPlace.held g.S.RowSource.rest c.if-is_empty-2.self.1.1.1.0.value)
+    (g.P.RowPlace.held c.in-Two.first_older.value) (g.P.RowPlace.held c.in-Two.first_newer.value) (g.P.RowPlace.held c.if-is_empty.first_older.value) (g.P.RowPlace.held c.if-is_empty-2.first_newer.value)
+    (g.P.RowPlace.held c.choose.new.slot.value) (g.P.RowPlace.held c.choose.new.older.value) (g.P.RowPlace.held c.choose.new.newer.value) knows also c.in_ok-choose-in-Two.ensures)
