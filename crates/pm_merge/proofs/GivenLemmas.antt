@@ -70,7 +70,7 @@ module _ (m : Meaning) where
   kept_of _ _ (alone s) t e = e
   kept_of _ _ (joined rows olders newers older newer s is one two both) t e = absurd (not_alone olders newers t (some_rows olders older one) (some_rows newers newer two) (sym is ∙ e))
 
-  abbrev SpeakFor : Values → Run → List (List HistoryRow) → Type 0
+  abbrev pub SpeakFor : Values → Run → List (List HistoryRow) → Type 0
   SpeakFor key rows parts = AllZip (λ (x : Stamped) (part : List HistoryRow). SpeaksFor m key (row_of x) part) rows parts
 
   -- it speaks for what they speak for
@@ -95,7 +95,7 @@ module _ (m : Meaning) where
   own_part key (s ∷ []) rows p ps holds speak = (p ∷ ps, (holds, speak), refl)
   own_part key (s ∷ t ∷ more) rows p ps holds speak = absurd holds
 
-  all_parts : (key : Values) (runs : List Run) (parts : List (List HistoryRow)) → HaveParts m key runs parts
+  pub all_parts : (key : Values) (runs : List Run) (parts : List (List HistoryRow)) → HaveParts m key runs parts
       → (kept : List (List HistoryRow)) × SpeakFor key (of_key key (all_rows runs)) kept × (merged.joined kept ≡ merged.joined parts)
   all_parts key [] [] holds = ([], tt, refl)
   all_parts key [] (p ∷ ps) holds = absurd holds
@@ -113,7 +113,7 @@ module _ (m : Meaning) where
 abbrev pub AreRising : List Rest → Type 0
 AreRising rests = AllByRecursion (λ (r : Rest). IsRising r.rows) rests
 
-are_rising : (rests : List Rest) → All IsRising (runs_in rests) → AreRising rests
+pub are_rising : (rests : List Rest) → All IsRising (runs_in rests) → AreRising rests
 are_rising [] rising = tt
 are_rising (r ∷ rests) rising = (rising zero r.rows (omega arith), are_rising rests (All-tail IsRising r.rows (runs_in rests) rising))
 
@@ -144,7 +144,7 @@ past_rising key (s ∷ run) rising =
     ]
 
 -- and has of another key what was there
-past_other : (key other : Values) (run : Run) → eq_by_cmp key_cmp other key ≡ false → of_key other (rows_past key run) ≡ of_key other run
+pub past_other : (key other : Values) (run : Run) → eq_by_cmp key_cmp other key ≡ false → of_key other (rows_past key run) ≡ of_key other run
 past_other key other [] differs = refl
 past_other key other (s ∷ run) differs =
     elim (eq_by_cmp key_cmp key s.key) as (λ b. eq_by_cmp key_cmp key s.key ≡ b → of_key other (cond b run (s ∷ run)) ≡ of_key other (s ∷ run)) [
@@ -169,18 +169,18 @@ module _ (key : Values) where
       ∙ ap (λ (xs : Run). xs ++ of_key key (all_rows (runs_in rests))) (first_only key r.rows rising.0 from.0)
       ∙ ap (λ (xs : Run). first_of_key key r.rows ++ xs) (firsts_only rests rising.1 from.1)
 
-  all_past_above : (rests : List Rest) → AreRising rests → AllFrom rests → AllAbove key (all_rows (runs_in (past rests)))
+  pub all_past_above : (rests : List Rest) → AreRising rests → AllFrom rests → AllAbove key (all_rows (runs_in (past rests)))
   all_past_above [] rising from = tt
   all_past_above (r ∷ rests) rising from =
       AllByRecursion-append (λ (s : Stamped). key_cmp key s.key ≡ Less) (rows_past key r.rows) (all_rows (runs_in (past rests))) (past_above key r.rows rising.0 from.0)
       (all_past_above rests rising.1 from.1)
 
-  all_past_rising : (rests : List Rest) → AreRising rests → AreRising (past rests)
+  pub all_past_rising : (rests : List Rest) → AreRising rests → AreRising (past rests)
   all_past_rising [] rising = tt
   all_past_rising (r ∷ rests) rising = (past_rising key r.rows rising.0, all_past_rising rests rising.1)
 
   module _ (other : Values) (differs : eq_by_cmp key_cmp other key ≡ false) where
-    all_past_other : (rests : List Rest) → of_key other (all_rows (runs_in (past rests))) ≡ of_key other (all_rows (runs_in rests))
+    pub all_past_other : (rests : List Rest) → of_key other (all_rows (runs_in (past rests))) ≡ of_key other (all_rows (runs_in rests))
     all_past_other [] = refl
     all_past_other (r ∷ rests) =
         filter-append (λ (s : Stamped). eq_by_cmp key_cmp other s.key) (rows_past key r.rows) (all_rows (runs_in (past rests)))
@@ -213,7 +213,7 @@ keys_above low run rows rising numbers above =
 
 module _ (m : Meaning) (old : List Rest) (rising : AreRising old) where
   -- of the row's key it has this row
-  at_first : (s : Stamped) (new : List Rest) → GivesLeast m old s new → JoinsAt m (runs_in old) s.key (s ∷ [])
+  pub at_first : (s : Stamped) (new : List Rest) → GivesLeast m old s new → JoinsAt m (runs_in old) s.key (s ∷ [])
   at_first s new least =
       let rows : of_key s.key (all_rows (runs_in old)) ≡ firsts s.key old = firsts_only s.key old rising least.least in
       let some : firsts s.key old ≢ [] = some_rows m (firsts s.key old) s least.combined in

@@ -2,4 +2,5 @@ mod GivenLemmas
 mod MergeLemmas
 mod MergingLemmas
 mod OneLemmas
+mod PrefixLemmas
 mod RisingLemmas

@@ -20,7 +20,7 @@ use Rattle.pm_merge.proofs.RisingLemmas.{above-rest, none_above, of_key-above, o
 -- ---- the row of a key
 
 -- what all runs have of a key, run by run
-split_rows : (key : Values) (runs : List Run) → map row_of (of_key key (all_rows runs)) ≡ flat_map (λ part. part) (map (λ (run : Run). map row_of (of_key key run)) runs)
+pub split_rows : (key : Values) (runs : List Run) → map row_of (of_key key (all_rows runs)) ≡ flat_map (λ part. part) (map (λ (run : Run). map row_of (of_key key run)) runs)
 split_rows key [] = refl
 split_rows key (run ∷ runs) =
     ap (map row_of) (filter-append (λ (s : Stamped). eq_by_cmp key_cmp key s.key) run (all_rows runs)) ∙ map-append row_of (of_key key run) (of_key key (all_rows runs))
@@ -36,7 +36,7 @@ holds_own m key (s ∷ run) rising speak =
       | false ↦ λ e. subst (λ own. Holds m key own (map row_of own)) (sym (of_key-other key s run e)) (holds_own m key run parts.1 speak.1)
     ] refl
 
-all_hold : (m : Meaning) (key : Values) (runs : List Run) → All IsRising runs → AllByRecursion (λ (s : Stamped). SpeaksFor m s.key (row_of s) (row_of s ∷ [])) (all_rows runs)
+pub all_hold : (m : Meaning) (key : Values) (runs : List Run) → All IsRising runs → AllByRecursion (λ (s : Stamped). SpeaksFor m s.key (row_of s) (row_of s ∷ [])) (all_rows runs)
     → AllZip (λ (run : Run) (part : List HistoryRow). Holds m key (of_key key run) part) runs (map (λ (run : Run). map row_of (of_key key run)) runs)
 all_hold m key [] rising speak = tt
 all_hold m key (run ∷ runs) rising speak =
@@ -66,7 +66,7 @@ merged-stored one m runs run stored is = each run (alone run is.rising) (each_of
 -- ---- the keys
 
 -- a key of which a run has nothing isn't its first one
-not_first : (x : Stamped) (xs : Run) → of_key x.key (x ∷ xs) ≢ []
+pub not_first : (x : Stamped) (xs : Run) → of_key x.key (x ∷ xs) ≢ []
 not_first x xs = λ none. let no : x ∷ of_key x.key xs ≡ [] = sym (of_key-here x.key x xs (ties_itself x.key)) ∙ none in cc
 
 -- where one run has nothing of a key, the other hasn't either
@@ -81,7 +81,7 @@ later_no_more x y xs ys same rising no_more key none =
     ] refl
 
 -- a key below the first one isn't there
-below-none : (key : Values) (y : Stamped) (ys : Run) → IsRising (y ∷ ys) → key_cmp key y.key ≡ Less → of_key key (y ∷ ys) ≡ []
+pub below-none : (key : Values) (y : Stamped) (ys : Run) → IsRising (y ∷ ys) → key_cmp key y.key ≡ Less → of_key key (y ∷ ys) ≡ []
 below-none key y ys rising less = of_key-above key (y ∷ ys) (less, above-rest key y.key ys less (rising-parts y ys rising).0)
 
 -- rising runs that have the same keys have them in one order
@@ -102,18 +102,21 @@ same_keys (x ∷ xs) (y ∷ ys) rising_one rising_other there back =
 -- ---- the merge
 
 -- the stored row of the rows of a key, with the greatest number of these
-the_row : Meaning → Run → Values → Stamped
+pub the_row : Meaning → Run → Values → Stamped
 the_row m rows key = record { key = key; seq = greatest_number (of_key key rows); kind = (stored_of m (map row_of (of_key key rows))).0; row = (stored_of m (map row_of (of_key key rows))).1 }
+
+pub is_the_row : (m : Meaning) (rows : Run) (s : Stamped) → row_of s ≡ stored_of m (map row_of (of_key s.key rows)) → s.seq ≡ greatest_number (of_key s.key rows) → s ≡ the_row m rows s.key
+unfolding the_row
+is_the_row m rows s same number = λ i. record { key = s.key; seq = number i; kind = (same i).0; row = (same i).1 }
 
 by_keys : (m : Meaning) (rows run : Run) → AreStoredRows m run rows → AllByRecursion (λ (s : Stamped). s.seq ≡ greatest_number (of_key s.key rows)) run
     → run ≡ map (the_row m rows) (map (λ (s : Stamped). s.key) run)
 unfolding the_row
 by_keys m rows [] stored numbers = refl
 by_keys m rows (s ∷ ss) stored numbers =
-    let same : row_of s ≡ stored_of m (map row_of (of_key s.key rows)) = stored.0 in
-    let number : s.seq ≡ greatest_number (of_key s.key rows) = numbers.0 in
+    let same : s ≡ the_row m rows s.key = is_the_row m rows s stored.0 numbers.0 in
     let rest = by_keys m rows ss stored.1 numbers.1 in
-    λ i. record { key = s.key; seq = number i; kind = (same i).0; row = (same i).1 } ∷ rest i
+    λ i. same i ∷ rest i
 
 pub one-merge : IsOne → (m : Meaning) (runs : List Run) (one other : Run) → AreStored m runs → IsMerge m runs one → IsMerge m runs other → one ≡ other
 one-merge is_one m runs one other stored a b =

@@ -1,5 +1,6 @@
 -- What merging gives, row by row, of the rests of its sources, the oldest first.
-use Rattle.std.specs.Prelude.{◌≡◌, ◌⊎◌, ◌++◌, ◌∷◌, ℕ, ◌+◌, [], cond, length, map, option_to_list, List, Option, None, Some, ⊤}
+use Rattle.std.specs.Prelude.{◌≡◌, ◌⊎◌, ◌++◌, ◌∷◌, ℕ, ◌+◌, [], cond, length, map, option_to_list, List, Option, None}
+use Rattle.std.specs.Prelude.{Some, ⊤}
 use Rattle.std.specs.List.{AllByRecursion, flat_map}
 use Rattle.std.specs.Option.{option_or}
 use Rattle.std.specs.Ordering.{eq_by_cmp}

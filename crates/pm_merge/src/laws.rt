@@ -18,7 +18,8 @@ pub fn one_run_law()
 {}
 
 /// Rows that are given one after another are a run, once no row is left: the rows that were there at first, if they
-/// rose, are merged into it. So of stored rows it is the one run that `merge_runs` gives (`merged_law`).
+/// rose, are merged into it. So of stored rows it is the one run that `merge_runs` gives (`merged_law`), and those
+/// given so far are its first ones.
 pub fn given_law()
     ensures more { (m : Meaning) (first old new : List Rest) (run : Run) (s : Stamped) → GivesAll m first run old →
         GivesLeast m old s new → GivesAll m first (run ++ s ∷ []) new }
@@ -26,6 +27,9 @@ pub fn given_law()
         GivesAll m first run last → HaveNoRow last → IsMerge m (runs_in first) run }
     ensures same { (m : Meaning) (first last : List Rest) (run merged : Run) → AreStored m (runs_in first) →
         GivesAll m first run last → HaveNoRow last → IsMerge m (runs_in first) merged → run ≡ merged }
+    ensures prefix { (m : Meaning) (first last : List Rest) (run merged : Run) → AreStored m (runs_in first) →
+        GivesAll m first run last → IsMerge m (runs_in first) merged →
+        (more : Run) × (merged ≡ run ++ more) × IsMerge m (runs_in last) more }
 {
     stored_law();
 }

@@ -55,8 +55,8 @@ impl<P: RowPlace, S: RowSource<P>> Merging<P, S> {
     }
 
     /// Puts the next row into an empty place, or none at the end, in about as many comparisons as the number of sources
-    /// can be halved: what the first rows of the least key are combined to. The refusal of a source comes where its next
-    /// row would have to be known. Where memory runs out, nothing is said of what is left.
+    /// can be halved: what the first rows of the least key are combined to. A source's refusal comes where its next row
+    /// would have to be known. Where memory runs out, nothing is said of what is left.
     pub fn fill<E: MergeEngine>(
         &mut self,
         alloc: Global,
