@@ -235,6 +235,10 @@ covers_all m rows sorted run gathers stable sorted_keyed keyed = λ key.
       holds = (subst (Holds m key (of_key key run)) is (gathers.holds (by_recursion (IsKeyed m) sorted sorted_keyed) key), tt);
     }
 
+pub keys_all : (m : Meaning) (rows sorted run : Run) → Gathers m run sorted → IsStableByKey (λ (s : Stamped). s.key) key_cmp rows sorted
+    → (key : Values) → of_key key run ≡ [] → of_key key rows ≡ []
+keys_all m rows sorted run gathers stable key none = sym (of_key-sorted rows sorted key stable) ∙ gathers.known key none
+
 pub numbers_all : (m : Meaning) (rows sorted run : Run) → Gathers m run sorted → IsStableByKey (λ (s : Stamped). s.key) key_cmp rows sorted → HasGreatestNumbers run rows
 numbers_all m rows sorted run gathers stable =
     moved run gathers.numbers

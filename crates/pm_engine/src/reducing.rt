@@ -3,10 +3,10 @@
 ghost use Rattle.std.specs.Prelude.{◌≡◌, [], ◌∷◌, map, All, IfOk, OnOk};
 ghost use Rattle.std.specs.List.{FoldsTo};
 ghost use Rattle.std.specs.List.Sorted.{IsSortedByKey, IsPermutation, IsStableByKey};
-ghost use Rattle.pm_values.specs.Order.{key_cmp};
+ghost use Rattle.pm_values.specs.Order.{Values, key_cmp};
 ghost use Rattle.pm_values.specs.declared.record.Stamped.{Stamped};
 ghost use Rattle.pm_model_history.specs.declared.verdict.Verdict.TheVariants.{Take};
-ghost use Rattle.pm_engine.specs.Covers.{CoversAll, IsKeyed, IsRising, row_of};
+ghost use Rattle.pm_engine.specs.Covers.{CoversAll, IsKeyed, IsRising, of_key, row_of};
 ghost use Rattle.pm_engine.specs.Reducing.{HasGreatestNumbers, HasKinds, IsLifted, IsCombined, Puts};
 
 use crate::engine::MergeEngine;
@@ -14,8 +14,8 @@ use crate::stored::Stored;
 use pm_values::Stamped;
 use std::alloc::{AllocError, Global};
 
-/// One stored row for each key, by rising key. A stored row has the greatest number of its rows, and their kind, so
-/// that there is one such run (`stored_law`).
+/// One stored row for each key that rows have, by rising key. A stored row has the greatest number of its rows, and
+/// their kind, so that there is one such run (`stored_law`).
 pub fn reduce<E: MergeEngine>(
     alloc: Global,
     engine: &E,
@@ -23,6 +23,7 @@ pub fn reduce<E: MergeEngine>(
 ) -> Result<Vec<Stamped>, AllocError>
     requires { All (λ s. (E.meaning engine.now).verdict s.kind ≡ Take) rows.items }
     ensures rising { IfOk result (λ run. IsRising run.items) }
+    ensures keys { IfOk result (λ run. (key : Values) → of_key key run.items ≡ [] → of_key key rows.items ≡ []) }
     ensures numbers { IfOk result (λ run. HasGreatestNumbers run.items rows.items) }
     ensures kinds { IfOk result (λ run. HasKinds (E.meaning engine.now) run.items rows.items) }
     ensures covers { IfOk result (λ run. All (IsKeyed (E.meaning engine.now)) rows.items →

@@ -3,7 +3,7 @@ use Rattle.std.proofs.lemmas.List.Sorted.{All-permutation}
 use Rattle.std.proofs.lemmas.Result.{IfOk-weaker}
 use Rattle.pm_model_history.specs.declared.verdict.Verdict.TheVariants.{Take}
 use Rattle.pm_engine.specs.Covers.{IsKeyed}
-use Rattle.pm_engine.proofs.ReduceLemmas.{covers_all, gathers-all, kinds_all, numbers_all}
+use Rattle.pm_engine.proofs.ReduceLemmas.{covers_all, gathers-all, keys_all, kinds_all, numbers_all}
 use Rattle.pm_engine.proofs.reducing.reduce.Goals as goal
 
 -- the kind of each row is taken, in whichever order
@@ -15,6 +15,12 @@ pub returns-clause-rising : goal.returns-clause-rising
 returns-clause-rising g c =
     let m = g.E.MergeEngine.meaning c.args.engine.now in
     IfOk-weaker c.gathered.result _ _ (λ run folds. (gathers-all m c.in_ok-rows.rows.items run.items c.in_ok-rows.ensures.sorted folds).rising) c.gathered.ensures
+
+pub returns-clause-keys : goal.returns-clause-keys
+returns-clause-keys g c =
+    let m = g.E.MergeEngine.meaning c.args.engine.now in
+    let sorted = c.in_ok-rows.rows.items in
+    IfOk-weaker c.gathered.result _ _ (λ run folds. keys_all m c.args.rows.items sorted run.items (gathers-all m sorted run.items c.in_ok-rows.ensures.sorted folds) c.in_ok-rows.ensures.stable) c.gathered.ensures
 
 pub returns-clause-numbers : goal.returns-clause-numbers
 returns-clause-numbers g c =
