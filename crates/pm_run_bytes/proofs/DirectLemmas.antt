@@ -158,25 +158,36 @@ module _ (bytes : List ℕ) (offset count size : ℕ) (middle left marker rest :
   pub rest_within : length rest ≤ length bytes
   rest_within = omega (arith, ap length follows.parts, length-append follows.prefix rest)
 
-  pub block_read : (r : Reader) (ds : List Data) → bytes ≡ r.bytes → marker ≡ r.marker → count ≤ size → size ≤ length left → length ds ≡ count → AreItems (IsDatum r.kind) ds (take size left) []
-      → HasBlock r.kind r.marker r.bytes offset ds (length bytes - length rest)
-  block_read r ds same mark le room many items =
-      let long_enough : length (take size left) ≡ size = length-take-le size left room in
-      let block : IsBlock r.kind marker ds (drop offset bytes) rest = record {
+  pub content_read : (d : Direct) (content : List ℕ) → content ≡ take size left → marker ≡ d.marker.items → count ≤ size → size ≤ length left → HasContent d bytes offset count content (length bytes - length rest)
+  content_read d content is mark le room =
+      let whole : length content ≡ size = ap length is ∙ length-take-le size left room in
+      record {
         middle = middle;
         left = left;
-        content = take size left;
-        count = subst (λ (n : ℕ). IsLong (pos n) (drop offset bytes) middle) (sym many) counted;
-        size = subst (λ (n : ℕ). IsLong (pos n) middle left) (sym long_enough) sized;
-        within = omega (arith, many, long_enough);
-        each = items;
-        marked = left_parts;
-      } in
-      let at : IsBlock r.kind marker ds (drop offset bytes) (drop (length bytes - length rest) bytes) =
-      subst (λ (bs : List ℕ). IsBlock r.kind marker ds (drop offset bytes) bs) (sym (at_end bytes rest follows)) block in
-      let here : HasBlock r.kind marker bytes offset ds (length bytes - length rest) = record { within = omega arith; block = at } in
-      subst (λ (bs : List ℕ). HasBlock r.kind r.marker bs offset ds (length bytes - length rest)) same
-      (subst (λ (m : List ℕ). HasBlock r.kind m bytes offset ds (length bytes - length rest)) mark here)
+        within = omega arith;
+        counted = counted;
+        sized = subst (λ (n : ℕ). IsLong (pos n) middle left) (sym whole) sized;
+        fits = omega (arith, whole, le);
+        marked = left_parts ∙ ap (λ (bs : List ℕ). bs ++ (marker ++ rest)) (sym is) ∙ ap (λ (m : List ℕ). content ++ (m ++ rest)) mark
+            ∙ ap (λ (bs : List ℕ). content ++ (d.marker.items ++ bs)) (sym (at_end bytes rest follows));
+      }
+
+-- the block with this content
+content_block : (d : Direct) (bytes : List ℕ) (offset count : ℕ) (content : List ℕ) (next : ℕ) → HasContent d bytes offset count content next → (r : Reader) (ds : List Data) → r.bytes ≡ bytes
+    → d.marker.items ≡ r.marker → length ds ≡ count → AreItems (IsDatum r.kind) ds content [] → HasBlock r.kind r.marker r.bytes offset ds next
+content_block d bytes offset count content next has r ds same mark many items =
+    let block : IsBlock r.kind d.marker.items ds (drop offset bytes) (drop next bytes) = record {
+      middle = has.middle;
+      left = has.left;
+      content = content;
+      count = subst (λ (n : ℕ). IsLong (pos n) (drop offset bytes) has.middle) (sym many) has.counted;
+      size = has.sized;
+      within = omega (arith, many, has.fits);
+      each = items;
+      marked = has.marked;
+    } in
+    let here : HasBlock r.kind d.marker.items bytes offset ds next = record { within = has.within; block = block } in
+    subst (λ (bs : List ℕ). HasBlock r.kind r.marker bs offset ds next) (sym same) (subst (λ (m : List ℕ). HasBlock r.kind m bytes offset ds next) mark here)
 
 -- the rows of a block, after one with the key before
 pub block_rows : (d : Direct) (bytes : List ℕ) (offset count : ℕ) (content : List ℕ) (next : ℕ) → HasContent d bytes offset count content next → (o : Opened) (f : Form) (changes : Bool) (before : Option Values)
@@ -184,7 +195,7 @@ pub block_rows : (d : Direct) (bytes : List ℕ) (offset count : ℕ) (content :
     → length rows ≡ count → (ds : List Data) × HasBlock o.file.kind o.file.marker o.file.bytes offset ds next × (judged o before (placed offset ds) ≡ all_judged rows)
 block_rows d bytes offset count content next has o f changes before rows form kinds same direct all many =
     let (ds, as_many, items, is) = all o offset form kinds direct.written in
-    (ds, has f o.file ds same direct (as_many ∙ many) items, is)
+    (ds, content_block d bytes offset count content next has o.file ds same direct.marker (as_many ∙ many) items, is)
 
 -- ---- the marker of a file
 

@@ -1,5 +1,5 @@
 -- Keys of rows that are judged where they lie.
-use Rattle.std.proofs.Common.{◌≡◌, ◌+◌, Bool, true, false, List, [], ◌∷◌, ◌++◌, Option, Some, map, refl, subst}
+use Rattle.std.proofs.Common.{◌≡◌, Bool, true, false, List, [], ◌∷◌, ◌++◌, Option, Some, map, refl, subst}
 use Rattle.pm_row_slots.specs.Seen.{seen_value}
 use Rattle.pm_row_slots.specs.declared.seen.Seen.{Seen}
 use Rattle.pm_values.specs.Order.{Values}

@@ -25,8 +25,8 @@ ReadsBlock o offset before (Err e) = UnlessMemory e ((e ≡ Damaged o.path offse
     × HasNoBlock o.file.kind o.file.marker o.file.bytes offset)
 
 -- the block at an offset has rows, after one with the key before, none of which is refused; this is the key of
--- the last of them, or of that one, how many they are, and the next offset
-abbrev pub JudgesBlock : Opened → ℕ → Option Values → Option Values → ℕ → ℕ → Type 0
-JudgesBlock o offset before last count next = (ds : List Data) × (rows : List Stamped)
+-- the last of them, or of that one, and the next offset
+abbrev pub JudgesBlock : Opened → ℕ → Option Values → Option Values → ℕ → Type 0
+JudgesBlock o offset before last next = (ds : List Data) × (rows : List Stamped)
     × HasBlock o.file.kind o.file.marker o.file.bytes offset ds next
-    × (judged o before (placed offset ds) ≡ all_judged rows) × (last ≡ last_key before rows) × (length rows ≡ count)
+    × (judged o before (placed offset ds) ≡ all_judged rows) × (last ≡ last_key before rows)

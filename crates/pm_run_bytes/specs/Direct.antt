@@ -1,5 +1,5 @@
 -- Rows that are read straight from the bytes of a file that is as it is written.
-use Rattle.std.specs.Prelude.{◌≡◌, ℕ, List, [], Bool, true, Option, Some, None, Ok, length, map}
+use Rattle.std.specs.Prelude.{◌≡◌, ◌≤◌, ◌++◌, ℕ, pos, List, Bool, true, Option, Some, None, Ok, drop, length, map}
 use Rattle.pm_values.specs.Order.{Values}
 use Rattle.pm_values.specs.declared.record.Stamped.{Stamped}
 use Rattle.pm_values.specs.declared.value.Value.{Value}
@@ -7,7 +7,8 @@ use Rattle.pm_avro_schema.specs.Avro.{Avro}
 use Rattle.pm_avro_schema.specs.View.{fields_of}
 use Rattle.pm_avro_data.specs.Datum.{Data, items_of}
 use Rattle.pm_avro_data.specs.IsDatum.{AreFields, AreItems, IsDatum}
-use Rattle.pm_avro_file.specs.Reader.{HasBlock, Reader}
+use Rattle.pm_avro_data.specs.Number.{IsLong}
+use Rattle.pm_avro_file.specs.Reader.{Reader}
 use Rattle.pm_record.specs.Record.{all_differ}
 use Rattle.pm_run_bytes.specs.declared.direct.Direct.{Direct}
 use Rattle.pm_run.specs.declared.form.Field.{Field}
@@ -32,7 +33,7 @@ pub record IsWritten (f : Form) (t : Avro) : Type 0 where
   pub kind : t ≡ run_type f
   pub differ : all_differ (written_fields f) ≡ true
 
--- Private: where what is written has the type, the source is a datum of it that is the row, and then the rest
+-- where what is written has the type, the source is a datum of it that is the row, and then the rest
 abbrev pub IsRow : Form → Bool → Stamped → List ℕ → List ℕ → Type 0
 IsRow f changes x source rest = (t : Avro) → IsWritten f t
     → (d : Data) × IsDatum t d source rest × (row_in f changes t d ≡ Ok x)
@@ -54,9 +55,13 @@ abbrev pub IsDirectOr : Option Direct → Form → Reader → Type 0
 IsDirectOr None f r = Unit {0}
 IsDirectOr (Some d) f r = IsDirect d f r
 
--- Private: of a file of these bytes the block at an offset has so many data, in this content, and ends at the next
--- offset, if they are data
-abbrev pub HasContent : Direct → List ℕ → ℕ → ℕ → List ℕ → ℕ → Type 0
-HasContent d bytes offset count content next = (f : Form) (r : Reader) (ds : List Data)
-    → r.bytes ≡ bytes → IsDirect d f r → length ds ≡ count → AreItems (IsDatum r.kind) ds content []
-    → HasBlock r.kind r.marker r.bytes offset ds next
+-- of a file of these bytes the block at an offset says that it has so many data, which are this content, and ends at
+-- the next offset
+pub record HasContent (d : Direct) (bytes : List ℕ) (offset count : ℕ) (content : List ℕ) (next : ℕ) : Type 0 where
+  pub middle : List ℕ
+  pub left : List ℕ
+  pub within : next ≤ length bytes
+  pub counted : IsLong (pos count) (drop offset bytes) middle
+  pub sized : IsLong (pos (length content)) middle left
+  pub fits : count ≤ length content
+  pub marked : left ≡ content ++ (d.marker.items ++ drop next bytes)

@@ -1,4 +1,5 @@
 pub mod Block
 pub mod Direct
+pub mod Known
 pub mod Lying
 pub mod Seen

@@ -84,8 +84,7 @@ impl Direct {
     }
 
     /// Judges the rows of the block at an offset of the file's bytes, after one with the key before: the key of the
-    /// last of them or of that one, how many they are, and the offset after the block. A block without rows isn't
-    /// judged here.
+    /// last of them or of that one, and the offset after the block. A block without rows isn't judged here.
     pub fn judge_block(
         &self,
         alloc: Global,
@@ -94,17 +93,17 @@ impl Direct {
         bytes: &[u8],
         offset: usize,
         before: &Option<Key>,
-    ) -> Option<(Option<Key>, usize, usize)>
+    ) -> Option<(Option<Key>, usize)>
         ensures { IfSome result (λ judged. (o : Opened) → o.form ≡ form.now → o.changes ≡ changes
             → o.file.bytes ≡ bytes.now → IsDirect self.now form.now o.file
-            → JudgesBlock o offset before.now judged.0 judged.1 judged.2) }
+            → JudgesBlock o offset before.now judged.0 judged.1) }
     {
         let (count, content, next) = self.content(alloc, bytes, offset)?;
         if count == 0 {
             return None;
         }
         let last = judge_rows(alloc, form, changes, before, count, content)?;
-        Some((last, count, next))
+        Some((last, next))
     }
 
     /// How many rows the block at an offset of the file's bytes has, their bytes, and the offset after it.

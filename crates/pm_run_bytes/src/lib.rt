@@ -5,7 +5,8 @@
 //! judged where they lie (`Direct::judge_block`, `src/judge.rt`): none is kept, and no memory is taken for one. Where
 //! nothing is answered nothing is known of the block: it is read by its data, which also finds the refusal.
 //!
-//! `FileRows` gives rows one after another where they lie, into a place that keeps its memory (`specs/Lying.antt`).
+//! `FileRows` gives rows one after another where they lie, into a place that keeps its memory (`specs/Lying.antt`). It
+//! knows which they are, since bytes have one list of rows (`specs/Known.antt`).
 #![tactic(auto)]
 
 mod direct;

@@ -1,5 +1,5 @@
 -- Rows that are found in a file block by block, and what opening it answers.
-use Rattle.std.proofs.Common.{◌≡◌, ℕ, ◌-◌, ◌<◌, ◌≤◌, List, [], ◌∷◌, length, Bool, false, Option, None, Some, Ok, inl, inr, refl, sym, ap, subst, ◌∙◌}
+use Rattle.std.proofs.Common.{◌≡◌, ℕ, ◌<◌, ◌≤◌, List, [], ◌∷◌, length, Bool, false, Option, None, Some, Ok, inl, inr, refl, sym, ap, subst, ◌∙◌}
 use Rattle.std.specs.Vec.Iter.{into_iter_items}
 use Rattle.pm_values.specs.Order.{Values}
 use Rattle.pm_values.specs.declared.record.Stamped.{Stamped}

@@ -1,120 +1,110 @@
--- The rows that lie in a judged file are those of the file.
-use Rattle.std.proofs.Common.{◌≡◌, ℕ, ◌+◌, Bool, List, [], ◌∷◌, ◌++◌, length, Option, None, Some, Result, Ok, refl, sym, ap, subst, ◌∙◌, arith}
-use Rattle.std.proofs.lemmas.List.{nil_from_length}
-use mathlib.Core.Logic.{∥∥₁_elim}
+-- The rows of a judged file lie in its bytes.
+use Rattle.std.proofs.Common.{◌≡◌, ℕ, Bool, List, [], ◌∷◌, ◌++◌, length, pos, drop, Option, None, Some, Ok, refl, sym, ap, subst, ◌∙◌, arith}
+use mathlib.Core.Logic.{∥∥₁_elim, ∥∥₁_map}
 use Rattle.pm_base.proofs.Laws.{step_ok}
+use Rattle.pm_avro_schema.specs.Avro.{Avro}
 use Rattle.pm_avro_data.specs.Datum.{Data}
 use Rattle.pm_avro_data.specs.IsDatum.{AreItems, IsDatum}
+use Rattle.pm_avro_data.specs.Number.{IsLong}
 use Rattle.pm_avro_file.specs.Reader.{HasBlock}
-use Rattle.pm_record.specs.declared.misfit.Misfit.{Misfit}
 use Rattle.pm_values.specs.Order.{Values}
 use Rattle.pm_values.specs.declared.record.Stamped.{Stamped}
 use Rattle.pm_values.specs.declared.refusal.Refusal.{Refusal}
 use Rattle.pm_run_bytes.specs.declared.direct.Direct.{Direct}
-use Rattle.pm_run_bytes.specs.Direct.{HasContent, IsDirect, IsDirectOr, IsWritten}
+use Rattle.pm_run_bytes.specs.Direct.{HasContent, IsDirect, IsRow, IsWritten}
+use Rattle.pm_run_bytes.specs.Known.{LieAt, LieFrom, LieRows, at_end, with_block}
 use Rattle.pm_run.specs.Form.{Form}
+use Rattle.pm_run.specs.Kinds.{run_type}
 use Rattle.pm_run_reader.specs.Judged.{HasOnly}
-use Rattle.pm_run_bytes.specs.Lying.{LieFrom, LieIn, LieLeft, LieRows, at_end, with_block}
 use Rattle.pm_run.specs.Order.{following}
 use Rattle.pm_run.specs.Row.{row_in}
-use Rattle.pm_run.specs.Rows.{Blocks, Ends, Follow, Gives, Judged, LeadTo, Opened, all_judged, all_placed, judged, next_row, placed}
+use Rattle.pm_run.specs.Rows.{Blocks, Ends, Follow, Judged, LeadTo, Opened, all_judged, all_placed, judged, next_row, placed}
 use Rattle.pm_run.proofs.FollowLemmas.{first_judged}
-use Rattle.pm_run.proofs.OneLemmas.{OneBlock, following_same, next_same, no_more}
+use Rattle.pm_run.proofs.OneLemmas.{following_same}
 
--- data that are rows, whatever the order of their keys
-abbrev AreReadAs : Opened → List Data → List Stamped → Type 0
-AreReadAs o [] [] = Unit {0}
-AreReadAs o (d ∷ ds) (x ∷ xs) = (row_in o.form o.changes o.file.kind d ≡ Ok x) × AreReadAs o ds xs
-AreReadAs o ds xs = ⊥
-
--- so where they lie in a source
-record AreData (o : Opened) (rows : List Stamped) (source rest : List ℕ) : Type 0 where
-  pub ds : List Data
-  pub many : length ds ≡ length rows
-  pub items : AreItems (IsDatum o.file.kind) ds source rest
-  pub read : AreReadAs o ds rows
-
-module _ (o : Opened) where
-  lie_read : IsWritten o.form o.file.kind → (rows : List Stamped) (source rest : List ℕ) → LieRows o.form o.changes rows source rest → AreData o rows source rest
-  lie_read written [] source rest lie = record { ds = []; many = refl; items = lie; read = tt }
-  lie_read written (x ∷ rows) source rest (middle, row, lie) =
-      let (d, datum, read) = row o.file.kind written in
-      let later = lie_read written rows middle rest lie in
-      record { ds = d ∷ later.ds; many = omega (arith, later.many); items = (middle, datum, later.items); read = (read, later.read) }
-
-  row_same : (before : Option Values) (d : Data) (x y : Stamped) → row_in o.form o.changes o.file.kind d ≡ Ok x → next_row o before d ≡ Ok y → y ≡ x
-  row_same before d x y read e =
-      let p = step_ok (row_in o.form o.changes o.file.kind d) (following o.changes before) y e in
-      let first : ◌≡◌ {A = Result Stamped Misfit} (Ok p.0) (Ok x) = sym p.1 ∙ read in
-      let same : p.0 ≡ x = cc in
-      sym (following_same o.changes before p.0 y p.2) ∙ same
+module _ (o : Opened) (d : Direct) (direct : IsDirect d o.form o.file) where
+  -- a datum that is the next row is that row where it lies
+  row_lies : (before : Option Values) (e : Data) (x : Stamped) (source rest : List ℕ) → IsDatum o.file.kind e source rest → next_row o before e ≡ Ok x → IsRow o.form o.changes x source rest
+  row_lies before e x source rest datum next = λ t written.
+      let p = step_ok (row_in o.form o.changes o.file.kind e) (following o.changes before) x next in
+      let same : p.0 ≡ x = following_same o.changes before p.0 x p.2 in
+      let read : row_in o.form o.changes o.file.kind e ≡ Ok x = p.1 ∙ ap (λ (y : Stamped). Ok y) same in
+      let kind : o.file.kind ≡ t = direct.written.kind ∙ sym written.kind in
+      (e, subst (λ (u : Avro). IsDatum u e source rest) kind datum, subst (λ (u : Avro). row_in o.form o.changes u e ≡ Ok x) kind read)
 
   -- of data of which none is refused the first are these rows
-  judged-first : (offset : ℕ) (ds : List Data) (own : List Stamped) → AreReadAs o ds own → (qs : List (ℕ × Data)) (before : Option Values) (rows : List Stamped)
-      → judged o before (placed offset ds ++ qs) ≡ all_judged rows → (key : Option Values) × (later : List Stamped) × (rows ≡ own ++ later) × (judged o key qs ≡ all_judged later)
-  judged-first offset [] [] read qs before rows is = (before, rows, refl, is)
-  judged-first offset [] (x ∷ own) read qs before rows is = absurd read
-  judged-first offset (d ∷ ds) [] read qs before rows is = absurd read
-  judged-first offset (d ∷ ds) (x ∷ own) read qs before rows is =
-      let f = first_judged o.path offset (λ (y : Stamped). judged o (Some y.key) (placed offset ds ++ qs)) rows (next_row o before d) is in
-      let same : f.first ≡ x = row_same before d x f.first read.0 f.read in
-      let p = judged-first offset ds own read.1 qs (Some f.first.key) f.more f.rest in
-      (p.0, p.1, f.same ∙ ap (λ (y : Stamped). y ∷ f.more) same ∙ ap (λ (xs : List Stamped). x ∷ xs) p.2, p.3)
+  record RowsLie (many : ℕ) (source : List ℕ) (qs : List (ℕ × Data)) (rows : List Stamped) : Type 0 where
+    pub key : Option Values
+    pub own : List Stamped
+    pub more : List Stamped
+    pub long : length own ≡ many
+    pub here : LieRows o.form o.changes own source []
+    pub joined : rows ≡ own ++ more
+    pub later : judged o key qs ≡ all_judged more
 
-  module _ (one : OneBlock) (d : Direct) (direct : IsDirect d o.form o.file) where
-    -- at the end of the bytes no row follows
-    ends_same : (offset : ℕ) → offset ≡ length o.file.bytes → (blocks : Blocks) (last : ℕ) → LeadTo o.file offset blocks last → (before : Option Values) (rows : List Stamped)
-        → judged o before (all_placed blocks) ≡ all_judged rows → [] ≡ rows
-    ends_same offset over [] last lead before rows is = ap (λ (j : Judged). j.rows) is
-    ends_same offset over (b ∷ blocks) last lead before rows is = absurd (no_more o one offset lead.1 b.1 None lead.2 over)
+  rows_lie : (offset : ℕ) (ds : List Data) (source : List ℕ) → AreItems (IsDatum o.file.kind) ds source [] → (qs : List (ℕ × Data)) (before : Option Values) (rows : List Stamped)
+      → judged o before (placed offset ds ++ qs) ≡ all_judged rows → RowsLie (length ds) source qs rows
+  rows_lie offset [] source items qs before rows is = record { key = before; own = []; more = rows; long = refl; here = items; joined = refl; later = is }
+  rows_lie offset (e ∷ ds) source (middle, datum, items) qs before rows is =
+      let f = first_judged o.path offset (λ (y : Stamped). judged o (Some y.key) (placed offset ds ++ qs)) rows (next_row o before e) is in
+      let p = rows_lie offset ds middle items qs (Some f.first.key) f.more f.rest in
+      record {
+        key = p.key;
+        own = f.first ∷ p.own;
+        more = p.more;
+        long = omega (arith, p.long);
+        here = (middle, row_lies before e f.first source middle datum f.read, p.here);
+        joined = f.same ∙ ap (λ (xs : List Stamped). f.first ∷ xs) p.joined;
+        later = p.later;
+      }
 
-    -- the rows of a block, and those that follow it
-    module _ (offset next : ℕ) (own more : List Stamped) (content : List ℕ) (has : HasContent d o.file.bytes offset (length own) content next) (here : LieRows o.form o.changes own content [])
-        (later : (blocks : Blocks) (last : ℕ) → LeadTo o.file next blocks last → last ≡ length o.file.bytes → (before : Option Values) (rows : List Stamped)
-        → judged o before (all_placed blocks) ≡ all_judged rows → more ≡ rows) where
-      own_data : AreData o own content []
-      own_data = lie_read direct.written own content [] here
+  -- a block of as many data has this content
+  block_content : (offset : ℕ) (ds : List Data) (next count : ℕ) → count ≡ length ds → (b : HasBlock o.file.kind o.file.marker o.file.bytes offset ds next)
+      → HasContent d o.file.bytes offset count b.block.content next
+  block_content offset ds next count many b = record {
+    middle = b.block.middle;
+    left = b.block.left;
+    within = b.within;
+    counted = subst (λ n. IsLong (pos n) (drop offset o.file.bytes) b.block.middle) (sym many) b.block.count;
+    sized = b.block.size;
+    fits = omega (arith, many, b.block.within);
+    marked = b.block.marked ∙ ap (λ (m : List ℕ). b.block.content ++ (m ++ drop next o.file.bytes)) (sym direct.marker);
+  }
 
-      own_block : HasBlock o.file.kind o.file.marker o.file.bytes offset own_data.ds next
-      own_block = has o.form o.file own_data.ds refl direct own_data.many own_data.items
+  blocks_lie : (blocks : Blocks) (offset last : ℕ) → LeadTo o.file offset blocks last → last ≡ length o.file.bytes → (before : Option Values) (rows : List Stamped)
+      → judged o before (all_placed blocks) ≡ all_judged rows → LieFrom d o.file.bytes o.form o.changes offset rows
+  blocks_lie [] offset last lead stop before rows is =
+      subst (λ (xs : List Stamped). LieFrom d o.file.bytes o.form o.changes offset xs) (ap (λ (j : Judged). j.rows) is) (at_end offset (lead ∙ stop))
+  blocks_lie (b ∷ blocks) offset last lead stop before rows is =
+      let block : HasBlock o.file.kind o.file.marker o.file.bytes offset b.1 lead.1 = lead.2 in
+      let p = rows_lie b.0 b.1 block.block.content block.block.each (all_placed blocks) before rows is in
+      let later = blocks_lie blocks lead.1 last lead.3 stop p.key p.more p.later in
+      subst (λ (xs : List Stamped). LieFrom d o.file.bytes o.form o.changes offset xs) (sym p.joined)
+      (with_block offset lead.1 p.own p.more block.block.content (block_content offset b.1 lead.1 (length p.own) p.long block) p.here later)
 
-      block_same : (blocks : Blocks) (last : ℕ) → LeadTo o.file offset blocks last → last ≡ length o.file.bytes → (before : Option Values) (rows : List Stamped)
-          → judged o before (all_placed blocks) ≡ all_judged rows → own ++ more ≡ rows
-      block_same [] last lead stop before rows is = absurd (no_more o one offset next own_data.ds None own_block (lead ∙ stop))
-      block_same (b ∷ blocks) last lead stop before rows is =
-          let same = next_same o one offset next lead.1 own_data.ds b.1 own_block lead.2 in
-          let moved : judged o before (placed b.0 own_data.ds ++ all_placed blocks) ≡ all_judged rows =
-          subst (λ (ds : List Data). judged o before (placed b.0 ds ++ all_placed blocks) ≡ all_judged rows) (sym same.0) is in
-          let p = judged-first b.0 own_data.ds own own_data.read (all_placed blocks) before rows moved in
-          let follow : more ≡ p.1 = later blocks last (subst (λ (n : ℕ). LeadTo o.file n blocks last) (sym same.1) lead.3) stop p.0 p.1 p.3 in
-          ap (λ (xs : List Stamped). own ++ xs) follow ∙ sym p.2
+  -- the rows that follow from an offset on lie there
+  follow_lies : (offset : ℕ) (before : Option Values) (rows : List Stamped) → Follow o offset before rows None → LieAt d o.file.bytes o.form o.changes offset rows
+  follow_lies offset before rows f = (written, by_judged (judged o before (all_placed f.blocks)).refusal refl f.ends)
+    where
+      written : IsWritten o.form (run_type o.form)
+      written = record { kind = refl; differ = direct.written.differ }
 
-    lie_same : (offset : ℕ) (run : List Stamped) → LieFrom d o.file.bytes o.form o.changes offset run → (blocks : Blocks) (last : ℕ) → LeadTo o.file offset blocks last → last ≡ length o.file.bytes
-        → (before : Option Values) (rows : List Stamped) → judged o before (all_placed blocks) ≡ all_judged rows → run ≡ rows
-    lie_same offset run (at_end at over) blocks last lead stop before rows is = ends_same at over blocks last lead before rows is
-    lie_same offset run (with_block at next own more content has here later) blocks last lead stop before rows is =
-        block_same at next own more content has here (lie_same next more later) blocks last lead stop before rows is
+      by_judged : (q : Option Refusal) → (judged o before (all_placed f.blocks)).refusal ≡ q → Ends o f.last q None → LieFrom d o.file.bytes o.form o.changes offset rows
+      by_judged (Some e) is ends = let no : None ≡ Some e = ends in cc
+      by_judged None is ends =
+          let make : List Stamped → Option Refusal → Judged = λ xs q. record { rows = xs; refusal = q } in
+          let whole : judged o before (all_placed f.blocks) ≡ all_judged rows =
+          ap (make (judged o before (all_placed f.blocks)).rows) is ∙ ap (λ (xs : List Stamped). make xs None) f.same in
+          blocks_lie f.blocks offset f.last f.lead ends before rows whole
 
-    -- the rows of the blocks to the end are those that follow
-    follow_lies : (offset : ℕ) (run : List Stamped) → LieFrom d o.file.bytes o.form o.changes offset run → (before : Option Values) (rows : List Stamped) → Follow o offset before rows None → run ≡ rows
-    follow_lies offset run lie before rows f = by_judged (judged o before (all_placed f.blocks)).refusal refl f.ends
-      where
-        by_judged : (q : Option Refusal) → (judged o before (all_placed f.blocks)).refusal ≡ q → Ends o f.last q None → run ≡ rows
-        by_judged (Some e) is ends = let no : None ≡ Some e = ends in cc
-        by_judged None is ends =
-            let make : List Stamped → Option Refusal → Judged = λ xs q. record { rows = xs; refusal = q } in
-            let whole : judged o before (all_placed f.blocks) ≡ all_judged rows =
-            ap (make (judged o before (all_placed f.blocks)).rows) is ∙ ap (λ (xs : List Stamped). make xs None) f.same in
-            lie_same offset run lie f.blocks f.last f.lead ends before rows whole
+module _ (o : Opened) (d : Direct) (bytes : List ℕ) (f : Form) (changes : Bool) (next : ℕ) (same : bytes ≡ o.file.bytes) (form : f ≡ o.form) (kinds : changes ≡ o.changes) (first : next ≡ o.file.first) where
+  only_lies : (rows : List Stamped) → HasOnly o d rows → LieAt d bytes f changes next rows
+  only_lies rows h = rw (same, form, kinds, first) (follow_lies o d h.direct o.file.first None rows h.gives)
 
-    first_lies : (rows : List Stamped) → LieLeft d o.file.bytes o.form o.changes [] 0 o.file.first rows → (known : List Stamped) → Gives o known None → rows ≡ known
-    first_lies rows lie known gives =
-        let none : lie.own ≡ [] = nil_from_length lie.own lie.many in
-        lie.joined ∙ ap (λ (xs : List Stamped). xs ++ lie.more) none ∙ follow_lies o.file.first lie.more lie.later None known gives
+  -- the rows of a judged file lie in its bytes, from the first block on
+  pub known_lies : (p : (rows : List Stamped) × ∥ HasOnly o d rows ∥₁) → (rows : List Stamped) × ∥ LieAt d bytes f changes next rows ∥₁
+  known_lies p = (p.0, ∥∥₁_map p.1 (only_lies p.0))
 
--- the rows that are given from the first block on are those that are known
-pub lie_known : (o : Opened) → OneBlock → (p : Option Direct) → IsDirectOr p o.form o.file → (rows known : List Stamped) → ∥ HasOnly o known ∥₁ → IsSet (List Stamped)
-    → (bytes : List ℕ) (f : Form) (changes : Bool) (rest : List ℕ) (next : ℕ) → bytes ≡ o.file.bytes → f ≡ o.form → changes ≡ o.changes → rest ≡ [] → next ≡ o.file.first → LieIn p bytes f changes rest 0 next rows → rows ≡ known
-lie_known o one None direct rows known has set bytes f changes rest next same form kinds nothing first lie = absurd lie
-lie_known o one (Some d) direct rows known has set bytes f changes rest next same form kinds nothing first lie =
-    ∥∥₁_elim has (set rows known) (λ h. first_lies o one d direct rows (rw (same, form, kinds, nothing, first) at lie) known h.gives)
+  -- so what is given of them is these rows
+  pub given_known : IsSet (List Stamped) → (given rows : List Stamped) → ∥ HasOnly o d rows ∥₁ → ((others : List Stamped) → LieAt d bytes f changes next others → given ≡ others) → given ≡ rows
+  given_known set given rows has is = ∥∥₁_elim has (set given rows) (λ h. is rows (only_lies rows h))

@@ -29,7 +29,6 @@ FindsRows o offset before (Ok (Some f)) = (f.next ≤ length o.file.bytes)
 FindsRows o offset before (Err e) = UnlessMemory e (Follow o offset before [] (Some e))
 
 -- Private: all rows of an opened file follow one with the key before, and this is the key of the last of them, or of
--- that one, and how many they are
-abbrev pub Judges : Opened → Option Values → Option Values → ℕ → Type 0
-Judges o before last count = (rows : List Stamped) × Follow o o.file.first before rows None
-    × (last ≡ last_key before rows) × (length rows ≡ count)
+-- that one
+abbrev pub Judges : Opened → Option Values → Option Values → Type 0
+Judges o before last = (rows : List Stamped) × Follow o o.file.first before rows None × (last ≡ last_key before rows)

@@ -1,7 +1,6 @@
 //! Files of runs and changelogs that are read row by row or block by block.
 
 ghost use Rattle.std.specs.Prelude.{◌≡◌, ◌≤◌, ℕ, List, [], None, Some, Ok, IfErr, IfOk, IfSome, OnOk, false, length};
-ghost use Rattle.std.specs.Prelude.{option_copied};
 ghost use Rattle.pm_record.specs.File.{IsMemoryOr};
 ghost use Rattle.pm_values.specs.declared.refusal.Refusal.TheVariants.{Damaged};
 ghost use Rattle.pm_schema.specs.Stated.{schema_path};
@@ -240,9 +239,14 @@ impl RunReader {
         ensures again { IfErr result (λ reader. reader ≡ self) }
     {
         one_list_law();
-        match judge_file(alloc, &self.rows, &self.direct, &self.file, before) {
-            Some((last, count)) => Ok((JudgedFile::new(self, count), last)),
-            None => Err(self),
+        let mut reader = self;
+        let Some(last) = judge_file(alloc, &reader.rows, &reader.direct, &reader.file, before)
+        else {
+            return Err(reader);
+        };
+        match reader.direct.take() {
+            Some(direct) => Ok((JudgedFile::new(reader, direct), last)),
+            None => Err(reader),
         }
     }
 
@@ -253,12 +257,11 @@ impl RunReader {
         self.file.bytes()
     }
 
-    /// The form of the table, and the marker of the file where it is as it is written here.
-    pub(crate) fn form_and_direct(&self) -> (&TableForm, Option<&Direct>)
-        ensures form { result.0.now ≡ self.now.opened.form }
-        ensures direct { IsDirectOr (option_copied result.1) self.now.opened.form self.now.opened.file }
+    /// The form of the table.
+    pub(crate) fn form(&self) -> &TableForm
+        ensures { result.now ≡ self.now.opened.form }
     {
-        (&self.rows.form, self.direct.as_ref())
+        &self.rows.form
     }
 
     /// Whether it is a changelog file.
@@ -400,39 +403,30 @@ fn rows_after(
 }
 
 /// Judges the rows of a file that is as it is written here, after one with the key before, where they lie: the key of
-/// the last of them, or of that one, and how many they are.
+/// the last of them, or of that one.
 fn judge_file(
     alloc: Global,
     rows: &RowReader,
     direct: &Option<Direct>,
     file: &FileReader,
     before: &Option<Key>,
-) -> Option<(Option<Key>, usize)>
+) -> Option<Option<Key>>
     requires { IsDirectOr direct.now rows.now.form file.now }
-    ensures { IfSome result (λ judged. (path : List ℕ)
-        → Judges (opened_as path rows.now.form rows.now.changes file.now) before.now judged.0 judged.1) }
+    ensures { IfSome result (λ last. (path : List ℕ)
+        → Judges (opened_as path rows.now.form rows.now.changes file.now) before.now last) }
 {
     let Some(direct) = direct else {
         return None;
     };
     let mut last = copied_key(alloc, before).ok()?;
-    let mut count: usize = 0;
     let mut offset = file.first();
     let bytes = file.bytes();
     while offset != bytes.len() {
-        let (key, own, end) = direct.judge_block(
-            alloc,
-            &rows.form,
-            rows.changes,
-            bytes,
-            offset,
-            &last,
-        )?;
+        let (key, end) = direct.judge_block(alloc, &rows.form, rows.changes, bytes, offset, &last)?;
         last = key;
-        count = count.checked_add(own)?;
         offset = end;
     }
-    Some((last, count))
+    Some(last)
 }
 
 /// A copy of a key, if there is one.

@@ -1,40 +1,49 @@
 -- What shows of rows that are given one after another.
-use Rattle.std.proofs.Common.{◌≡◌, ℕ, ◌+◌, ◌<◌, Option, Some, None, List, [], ◌∷◌, ◌++◌, length, get_or, take, Bool, true, false, cond, refl, sym, ap, subst, ◌∙◌, append_assoc, append-nil}
-use Rattle.std.specs.List.{AllZip}
+use Rattle.std.proofs.Common.{◌≡◌, ℕ, zero, ◌+◌, ◌<◌, Option, Some, None, List, [], ◌∷◌, ◌++◌, All, Vec, length, map, get_or, take, Bool, true, false, cond, refl, sym, ap, subst, ◌∙◌, append_assoc, append-nil, arith}
+use Rattle.std.specs.declared.alloc.Global.{Global}
 use Rattle.std.proofs.lemmas.Grind.{flat_map-append}
-use Rattle.std.proofs.lemmas.List.{take_more}
+use Rattle.std.proofs.lemmas.List.{map-append, take_more}
+use Rattle.std.proofs.lemmas.List.Elements.{All-append, All-nil, All-tail}
 use Rattle.pm_base.specs.Newline.{line}
 use Rattle.pm_values.specs.declared.kind.Kind.TheVariants.{Insert}
 use Rattle.pm_values.specs.declared.record.Stamped.{Stamped}
 use Rattle.pm_rows.specs.RowText.{row_text}
-use Rattle.pm_engine.specs.Covers.{Run, row_of}
+use Rattle.pm_engine.specs.Covers.{IsRising, Run, row_of}
 use Rattle.pm_engine.specs.Meaning.{Meaning}
 use Rattle.pm_merge.specs.Merging.{GivesNext, HaveRuns, StillGives}
 use Rattle.pm_merge.specs.declared.merging.Merging.{Merging}
 use Rattle.pm_scan_rows.specs.Stored as stored
 use Rattle.pm_scan_rows.specs.declared.rows.StoredRows.{StoredRows}
 use Rattle.pm_scan_rows.specs.Next.{held, Merged, PrintsNext}
-use Rattle.pm_scan_rows.specs.Shown.{lines_of, only_shown}
+use Rattle.pm_scan_rows.specs.Shown.{all_runs, groups_of, lines_of, only_shown}
 
 pub lines_joined : (xs ys : Run) → lines_of (xs ++ ys) ≡ lines_of xs ++ lines_of ys
 lines_joined xs ys = flat_map-append (λ (x : Stamped). line (row_text Insert x.row)) xs ys
 
--- ---- sources of runs
+-- ---- the runs of all groups
 
-pub zip_push : {A B : Type 0} (P : A → B → Type 0) (xs : List A) (ys : List B) (a : A) (b : B) → AllZip P xs ys → P a b → AllZip P (xs ++ a ∷ []) (ys ++ b ∷ [])
-zip_push P [] [] a b each own = (own, tt)
-zip_push P [] (y ∷ ys) a b each own = absurd each
-zip_push P (x ∷ xs) [] a b each own = absurd each
-zip_push P (x ∷ xs) (y ∷ ys) a b each own = (each.0, zip_push P xs ys a b each.1 own)
+-- where the runs of each group rise, those of all do
+pub all_rise : (groups : List (List Run)) → All (All IsRising) groups → All IsRising (all_runs groups)
+all_rise [] rise = All-nil IsRising
+all_rise (runs ∷ groups) rise = All-append IsRising runs (all_runs groups) (rise zero runs (omega arith)) (all_rise groups (All-tail (All IsRising) runs groups rise))
 
--- the source of one run more
-pub sources_next : (runs : List Run) (i : ℕ) (run : Run) (sources : List StoredRows) (source : StoredRows) (new : List StoredRows) → i < length runs → run ≡ get_or runs i run
-    → HaveRuns stored.StillGives sources (take i runs) → ((own : Run) → stored.StillGives source own → own ≡ run) → new ≡ sources ++ source ∷ [] → HaveRuns stored.StillGives new (take (i + 1) runs)
-sources_next runs i run sources source new lt is so_far gives pushed =
-    let parts : take (i + 1) runs ≡ take i runs ++ run ∷ [] = take_more runs i run lt ∙ ap (λ y. take i runs ++ y ∷ []) (sym is) in
-    subst (λ (rs : List Run). HaveRuns stored.StillGives new rs) (sym parts)
-    (subst (λ (ss : List StoredRows). HaveRuns stored.StillGives ss (take i runs ++ run ∷ [])) (sym pushed)
-    (zip_push (λ (source : StoredRows) (run : Run). (own : Run) → stored.StillGives source own → own ≡ run) sources (take i runs) source run so_far gives))
+-- the runs of one group more
+pub group_next : (groups : List (Vec Run Global)) (i : ℕ) (group : Vec Run Global) (before own : List Run) → i < length groups → group ≡ get_or groups i group → own ≡ group.items
+    → before ≡ all_runs (groups_of (take i groups)) → before ++ own ≡ all_runs (groups_of (take (i + 1) groups))
+group_next groups i group before own lt is same so_far =
+    let parts : take (i + 1) groups ≡ take i groups ++ group ∷ [] = take_more groups i group lt ∙ ap (λ (y : Vec Run Global). take i groups ++ y ∷ []) (sym is) in
+    let mapped : groups_of (take (i + 1) groups) ≡ groups_of (take i groups) ++ group.items ∷ [] = ap groups_of parts ∙ map-append (λ (runs : Vec Run Global). runs.items) (take i groups) (group ∷ []) in
+    let whole : all_runs (groups_of (take (i + 1) groups)) ≡ all_runs (groups_of (take i groups)) ++ group.items =
+    ap all_runs mapped ∙ flat_map-append (λ (runs : List Run). runs) (groups_of (take i groups)) (group.items ∷ []) ∙ ap (λ (rs : List Run). all_runs (groups_of (take i groups)) ++ rs) (append-nil group.items) in
+    ap (λ (rs : List Run). rs ++ own) so_far ∙ ap (λ (rs : List Run). all_runs (groups_of (take i groups)) ++ rs) same ∙ sym whole
+
+-- the sources of these runs
+pub have_runs : (sources : List StoredRows) (runs : List Run) → map stored.rows_left sources ≡ runs → HaveRuns stored.StillGives sources runs
+have_runs sources runs are = subst (HaveRuns stored.StillGives sources) are (own_runs sources)
+  where
+    own_runs : (sources : List StoredRows) → HaveRuns stored.StillGives sources (map stored.rows_left sources)
+    own_runs [] = tt
+    own_runs (source ∷ sources) = (λ own is. is, own_runs sources)
 
 -- ---- rows that are given
 

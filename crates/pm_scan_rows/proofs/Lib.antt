@@ -4,4 +4,3 @@ mod ShownLemmas
 mod ScanLemmas
 mod TextLemmas
 mod GivenLemmas
-mod SeveralLemmas

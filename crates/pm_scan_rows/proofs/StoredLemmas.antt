@@ -1,5 +1,5 @@
 -- The rows of files that were read of a run.
-use Rattle.std.proofs.Common.{◌≡◌, ℕ, ◌+◌, ◌≤◌, false, List, [], ◌∷◌, ◌++◌, length, Option, Some, None, refl, sym, ap, subst, ◌∙◌, append-nil, length-append, arith}
+use Rattle.std.proofs.Common.{◌≡◌, ◌+◌, ◌≤◌, false, List, [], ◌∷◌, ◌++◌, length, Option, Some, None, refl, sym, ap, subst, ◌∙◌, append-nil, arith}
 use Rattle.std.specs.Prelude.{is_none, option_to_list}
 use Rattle.std.proofs.lemmas.Grind.{flat_map-append}
 use Rattle.pm_values.specs.Order.{Values}
@@ -7,9 +7,9 @@ use Rattle.pm_values.specs.declared.record.Stamped.{Stamped}
 use Rattle.pm_engine.specs.Covers.{Run}
 use Rattle.pm_merge.specs.Source.{BeginsWith}
 use Rattle.pm_run.specs.Order.{last_key}
-use Rattle.pm_scan_rows.specs.Stored.{FileGives, all_of, left_in_file, rows_of}
+use Rattle.pm_run_bytes.specs.Lying.{GivesFirst}
+use Rattle.pm_scan_rows.specs.Stored.{all_of, rows_of}
 use Rattle.pm_scan_rows.specs.declared.file.ReadFile.{ReadFile}
-use Rattle.pm_scan_rows.specs.declared.file.RowsLeft.{RowsLeft}
 
 -- ---- what is read
 
@@ -30,36 +30,27 @@ last-push read new file before last pushed is_before is_last =
 
 -- ---- what is given
 
--- the file in hand gives a row, and what follows it after it
-abbrev pub Passes : Option Stamped → RowsLeft → RowsLeft → Type 0
-Passes next old new = (own : Run) → BeginsWith next (FileGives new) own → FileGives old own
+-- a row of the file in hand is the first of all
+pub first_of : (own new more : Run) (next : Option Stamped) → is_none next ≡ false → GivesFirst own next new → GivesFirst (own ++ more) next (new ++ more)
+first_of own new more None some gives = cc
+first_of own new more (Some x) some gives = ap (λ (xs : Run). xs ++ more) gives
 
--- so the run gives the row
-pub passes_on : (next : Option Stamped) (old new : RowsLeft) (rest : Run) → is_none next ≡ false → Passes next old new → (run : Run)
-    → BeginsWith next (λ (more : Run). (own : Run) × FileGives new own × (more ≡ own ++ rest)) run → (own : Run) × FileGives old own × (run ≡ own ++ rest)
-passes_on None old new rest some passes run begins = cc
-passes_on (Some x) old new rest some passes run (more, (own, gives, parts), is) = (x ∷ own, passes (x ∷ own) (own, gives, refl), is ∙ ap (λ (xs : Run). x ∷ xs) parts)
+-- where it gives none it has none, and has none then
+pub none_of : (own new : Run) (next : Option Stamped) → next ≡ None → GivesFirst own next new → (own ≡ []) × (new ≡ [])
+none_of own new None none gives = (gives.0, gives.1 ∙ gives.0)
+none_of own new (Some x) none gives = cc
 
-module _ (file : ReadFile) (rows : RowsLeft) (is_all : (run : Run) → FileGives rows run → run ≡ rows_of file) where
-  -- a file that gives nothing has no rows
-  pub none_of : (next : Option Stamped) (new : RowsLeft) → next ≡ None → Passes next rows new → rows_of file ≡ []
-  none_of next new none passes = sym (is_all [] (passes [] (subst (λ (n : Option Stamped). BeginsWith n (FileGives new) []) (sym none) refl)))
+-- of files the first that has a row gives it
+pub first_in : (files later : List ReadFile) (file : ReadFile) (rows new : Run) (next : Option Stamped) → files ≡ file ∷ later → rows ≡ rows_of file → is_none next ≡ false → GivesFirst rows next new
+    → GivesFirst (all_of files) next (new ++ all_of later)
+first_in files later file rows new next parts is some gives =
+    subst (λ (old : Run). GivesFirst old next (new ++ all_of later)) (ap (λ (xs : Run). xs ++ all_of later) is ∙ ap all_of (sym parts)) (first_of rows new (all_of later) next some gives)
 
-  -- one that gives a row is the first that does
-  pub first_of : (files later : List ReadFile) (next : Option Stamped) (new : RowsLeft) → files ≡ file ∷ later → is_none next ≡ false → Passes next rows new → (run : Run)
-      → BeginsWith next (λ (more : Run). (own : Run) × FileGives new own × (more ≡ own ++ all_of later)) run → run ≡ all_of files
-  first_of files later next new parts some passes run begins =
-      let (own, gives, is) = passes_on next rows new (all_of later) some passes run begins in
-      is ∙ ap (λ (xs : Run). xs ++ all_of later) (is_all own gives) ∙ ap all_of (sym parts)
+-- so as a source of a merge
+pub begins_with : (old new : Run) (next : Option Stamped) → GivesFirst old next new → (run : Run) → BeginsWith next (λ (more : Run). more ≡ new) run → run ≡ old
+begins_with old new None gives run begins = begins ∙ sym gives.0
+begins_with old new (Some x) gives run (more, is, begins) = begins ∙ ap (λ (xs : Run). x ∷ xs) is ∙ sym gives
 
--- how many rows are left once the next file is in hand
-pub fewer_left : (files later : List ReadFile) (file : ReadFile) (own rows new : RowsLeft) (next : Option Stamped) (most : ℕ) → files ≡ file ∷ later → left_in_file rows ≡ length (rows_of file)
-    → length (option_to_list next) + left_in_file new ≤ left_in_file rows → left_in_file own + length (all_of files) ≤ most
-    → length (option_to_list next) + (left_in_file new + length (all_of later)) ≤ most
-fewer_left files later file own rows new next most parts many fewer within =
-    let whole : length (all_of files) ≡ length (rows_of file) + length (all_of later) = ap (λ fs. length (all_of fs)) parts ∙ length-append (rows_of file) (all_of later) in
-    omega (arith, whole, many, fewer, within)
-
-pub fewer_after : (files later : List ReadFile) (file : ReadFile) (own rows new : RowsLeft) (next : Option Stamped) (most : ℕ) → files ≡ file ∷ later → left_in_file rows ≡ length (rows_of file)
-    → length (option_to_list next) + left_in_file new ≤ left_in_file rows → left_in_file own + length (all_of files) ≤ most → left_in_file new + length (all_of later) ≤ most
-fewer_after files later file own rows new next most parts many fewer within = omega (arith, fewer_left files later file own rows new next most parts many fewer within)
+pub fewer_left : (old new : Run) (next : Option Stamped) → GivesFirst old next new → length (option_to_list next) + length new ≤ length old
+fewer_left old new None gives = omega (arith, ap length gives.1)
+fewer_left old new (Some x) gives = omega (arith, ap length gives)

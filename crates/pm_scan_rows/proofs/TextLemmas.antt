@@ -2,7 +2,7 @@
 use Rattle.std.proofs.Common.{◌≡◌, ℕ, List, [], ◌∷◌, ◌++◌, map, true, false, cond, ◌&&◌, Option, Some, None, Less, T, refl, sym, ap, subst, ◌∙◌}
 use Rattle.std.specs.FinMap.{FinMap, entries-from_sorted, find, from_sorted, get, get-from_sorted, is_sorted, same_map, values}
 use Rattle.std.specs.FinMap.Entries.{below_all}
-use Rattle.std.specs.List.{AllByRecursion, AllZip, flat_map}
+use Rattle.std.specs.List.{AllByRecursion, flat_map}
 use Rattle.std.specs.List.Sorted.{IsStrictlySortedBy}
 use Rattle.std.specs.Ordering.{eq_by_cmp, is_lt}
 use Rattle.pm_base.specs.Newline.{line}
@@ -15,13 +15,11 @@ use Rattle.pm_schema.specs.Again.{IsDeclared}
 use Rattle.pm_schema.specs.declared.schema.TableSchema.{TableSchema}
 use Rattle.pm_model_history.specs.Merge.{HistoryRow}
 use Rattle.pm_model_history.specs.Merged.{merged, merged_row, scan_text}
-use Rattle.pm_engine.specs.Covers.{IsRising, Run, of_key}
-use Rattle.pm_engine.specs.Meaning.{Meaning}
+use Rattle.pm_engine.specs.Covers.{Covers, IsRising, Run, of_key}
 use Rattle.pm_engine.specs.OfSchema.{meaning_of}
-use Rattle.pm_merge.specs.Merge.{IsMerge}
 use Rattle.pm_scan_rows.specs.Shown.{GroupRuns, GroupsCover, IsShown, PrintsGroups, lines_of}
-use Rattle.pm_scan_rows.proofs.ScanLemmas.{all-at}
-use Rattle.pm_scan_rows.proofs.ShownLemmas.{IsAt, IsHidden, IsWorth}
+use Rattle.pm_scan_rows.proofs.ScanLemmas.{all_covered, runs_of_all}
+use Rattle.pm_scan_rows.proofs.ShownLemmas.{IsAt, IsHidden, IsWorth, group-at, shown-rising}
 
 -- ---- a run as a table
 
@@ -74,23 +72,16 @@ lines-rows : (run : Run) → lines_of run ≡ flat_map (λ (row : Values). line 
 lines-rows [] = refl
 lines-rows (x ∷ xs) = ap (λ text. line (row_text Insert x.row) ++ text) (lines-rows xs)
 
-each-group : (m : Meaning) (groups : List GroupRuns) (shown : List Run) → AllZip (IsShown m) (map (λ (p : GroupRuns). p.1) groups) shown
-    → AllZip (λ (p : GroupRuns) (own : Run). IsShown m p.1 own) groups shown
-each-group m [] [] each = each
-each-group m [] (own ∷ owns) each = each
-each-group m (p ∷ ps) [] each = each
-each-group m (p ∷ ps) (own ∷ owns) each = (each.0, each-group m ps owns each.1)
-
 scan-lines : IsWorth → IsHidden → ((s : TableSchema) (rows : List HistoryRow) (key : Values) → get (merged s rows) key ≡ merged_row s rows key)
-    → (s : TableSchema) (rows : List HistoryRow) (groups : List GroupRuns) (shown : List Run) (all : Run) → IsDeclared s → GroupsCover s groups rows
-    → AllZip (λ (p : GroupRuns) (own : Run). IsShown (meaning_of s) p.1 own) groups shown → IsMerge (meaning_of s) shown all → lines_of all ≡ scan_text s rows
-scan-lines worth hidden table s rows groups shown all declared covered are is =
-    lines-rows all
+    → (s : TableSchema) (rows : List HistoryRow) (runs : List Run) (shown : Run) → Covers (meaning_of s) runs rows → IsShown (meaning_of s) runs shown → lines_of shown ≡ scan_text s rows
+scan-lines worth hidden table s rows runs shown covers is =
+    lines-rows shown
     ∙ ap (flat_map (λ (row : Values). line (row_text Insert row)))
-    (rows-values all (merged s rows) is.rising (λ key. subst (λ at. IsAt at (of_key key all)) (sym (table s rows key)) (all-at worth hidden s rows groups shown all declared covered are is key)))
+    (rows-values shown (merged s rows) (shown-rising (meaning_of s) is.0 shown is.1.rising is.2)
+    (λ key. subst (λ at. IsAt at (of_key key shown)) (sym (table s rows key)) (group-at worth hidden s key runs shown rows covers is)))
 
 pub printed-scan : IsWorth → IsHidden → ((s : TableSchema) (rows : List HistoryRow) (key : Values) → get (merged s rows) key ≡ merged_row s rows key)
     → (s : TableSchema) (rows : List HistoryRow) (groups : List GroupRuns) (text : List ℕ) → IsDeclared s → GroupsCover s groups rows
     → PrintsGroups (meaning_of s) (map (λ (p : GroupRuns). p.1) groups) text → text ≡ scan_text s rows
-printed-scan worth hidden table s rows groups text declared covered prints =
-    prints.lines ∙ scan-lines worth hidden table s rows groups prints.shown prints.all declared covered (each-group (meaning_of s) groups prints.shown prints.each) prints.is_merge
+printed-scan worth hidden table s rows groups text declared covered (shown, is, lines) =
+    lines ∙ scan-lines worth hidden table s rows (runs_of_all groups) shown (all_covered s rows groups declared covered) is

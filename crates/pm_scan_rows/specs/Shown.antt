@@ -1,6 +1,6 @@
 -- What a scan shows of the runs of all groups, and its lines.
 use Rattle.std.specs.Prelude.{◌≡◌, ◌≢◌, ℕ, List, [], ◌∷◌, filter, map, Vec}
-use Rattle.std.specs.List.{AllByRecursion, AllZip, flat_map}
+use Rattle.std.specs.List.{AllByRecursion, flat_map}
 use Rattle.std.specs.List.Sorted.{IsStrictlySortedBy}
 use Rattle.std.specs.declared.alloc.Global.{Global}
 use Rattle.pm_base.specs.Newline.{line}
@@ -31,17 +31,13 @@ IsShown m runs shown = (merged : Run) × IsMerge m runs merged × (shown ≡ onl
 abbrev pub lines_of : Run → List ℕ
 lines_of rows = flat_map (λ (x : Stamped). line (row_text Insert x.row)) rows
 
--- the lines of the rows that groups show, by rising key, of the runs of each group, the oldest first
-pub record PrintsGroups (m : Meaning) (groups : List (List Run)) (text : List ℕ) : Type 0 where
-  pub shown : List Run
-  pub each : AllZip (IsShown m) groups shown
-  pub all : Run
-  pub is_merge : IsMerge m shown all
-  pub lines : text ≡ lines_of all
+-- the runs of all groups, one group's after another's
+abbrev pub all_runs : List (List Run) → List Run
+all_runs groups = flat_map (λ (runs : List Run). runs) groups
 
--- Private: the lines of the rows that one group shows, of its runs, the oldest first
-abbrev pub PrintsShown : Meaning → List Run → List ℕ → Type 0
-PrintsShown m runs text = (shown : Run) × IsShown m runs shown × (text ≡ lines_of shown)
+-- the lines of the rows that show, by rising key, of the runs of all groups, those of each with the oldest first
+abbrev pub PrintsGroups : Meaning → List (List Run) → List ℕ → Type 0
+PrintsGroups m groups text = (shown : Run) × IsShown m (all_runs groups) shown × (text ≡ lines_of shown)
 
 -- whether a stored row shows depends on its kind alone
 abbrev pub ShowsByKind : Meaning → Type 0

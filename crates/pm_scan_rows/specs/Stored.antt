@@ -1,9 +1,9 @@
 -- What a run that was read takes of a file, and what it gives.
-use Rattle.std.specs.Prelude.{◌≡◌, ℕ, ◌+◌, List, ◌++◌, length, None}
+use Rattle.std.specs.Prelude.{◌≡◌, ℕ, List, ◌++◌, length, None}
 use Rattle.std.specs.List.{flat_map}
 use Rattle.pm_values.specs.declared.refusal.Refusal.{Refusal}
 use Rattle.pm_engine.specs.Covers.{Run}
-use Rattle.pm_run_bytes.specs.Lying.{StillLie, lying_left}
+use Rattle.pm_run_bytes.specs.Lying.{lying_rows}
 use Rattle.pm_run.specs.Order.{last_key}
 use Rattle.pm_run.specs.Reader.{StopsAfter}
 use Rattle.pm_run.specs.Rows.{Opened}
@@ -26,18 +26,18 @@ rows_of (files.Decoded rows) = rows.items
 abbrev pub all_of : List ReadFile → Run
 all_of read = flat_map rows_of read
 
--- Private: what a file still gives, and how many rows these are at most
-abbrev pub FileGives : RowsLeft → Run → Type 0
-FileGives (left.Lying rows) run = StillLie rows run
-FileGives (left.Decoded rest) run = run ≡ rest.now
+-- Private: the rows that a file still gives
+abbrev pub left_in : RowsLeft → Run
+left_in (left.Lying rows) = lying_rows rows
+left_in (left.Decoded rest) = rest.now
 
-abbrev pub left_in_file : RowsLeft → ℕ
-left_in_file (left.Lying rows) = lying_left rows
-left_in_file (left.Decoded rest) = length rest.now
+-- those that a run still gives
+abbrev pub rows_left : StoredRows → Run
+rows_left r = left_in r.own ++ all_of r.files.now
 
--- the rows that a run still gives, and how many these are at most
+-- Private: these are they, and how many there are
 abbrev pub StillGives : StoredRows → Run → Type 0
-StillGives r run = (own : Run) × FileGives r.own own × (run ≡ own ++ all_of r.files.now)
+StillGives r run = run ≡ rows_left r
 
-abbrev pub rows_left : StoredRows → ℕ
-rows_left r = left_in_file r.own + length (all_of r.files.now)
+abbrev pub many_left : StoredRows → ℕ
+many_left r = length (rows_left r)

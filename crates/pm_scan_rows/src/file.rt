@@ -1,12 +1,11 @@
 //! The rows of a file that was read.
 
-ghost use Rattle.std.specs.Prelude.{◌≡◌, ◌+◌, ◌≤◌, None, IfErr, IfOk, OnOk, length, option_to_list};
-ghost use Rattle.pm_engine.specs.Covers.{Run};
-ghost use Rattle.pm_merge.specs.Source.{BeginsWith};
+ghost use Rattle.std.specs.Prelude.{◌≡◌, None, IfErr, IfOk, OnOk};
 ghost use Rattle.pm_run.specs.Order.{last_key};
 ghost use Rattle.pm_run.specs.Reader.{StopsAfter};
 ghost use Rattle.pm_run.specs.Rows.{Follow};
-ghost use Rattle.pm_scan_rows.specs.Stored.{FileGives, left_in_file, rows_of};
+ghost use Rattle.pm_run_bytes.specs.Lying.{GivesFirst};
+ghost use Rattle.pm_scan_rows.specs.Stored.{left_in, rows_of};
 
 use pm_row_slots::RowSlot;
 use pm_run_bytes::FileRows;
@@ -70,8 +69,7 @@ impl ReadFile {
 
     /// Its rows, one after another.
     pub(crate) fn rows(&self) -> RowsLeft<'_>
-        ensures gives { (run : Run) → FileGives result run → run ≡ rows_of self.now }
-        ensures many { left_in_file result ≡ length (rows_of self.now) }
+        ensures { left_in result ≡ rows_of self.now }
     {
         match self {
             ReadFile::Lying(file) => RowsLeft::Lying(file.rows()),
@@ -84,14 +82,11 @@ impl<'b> RowsLeft<'b> {
     /// Puts the next row into an empty place, or none at the end.
     pub(crate) fn fill(&mut self, alloc: Global, slot: &mut RowSlot<'b>) -> Result<(), AllocError>
         requires { slot.old ≡ None }
-        ensures gives { OnOk result
-            ((run : Run) → BeginsWith slot.new (FileGives self.new) run → FileGives self.old run) }
-        ensures fewer { OnOk result
-            (length (option_to_list slot.new) + left_in_file self.new ≤ left_in_file self.old) }
+        ensures { OnOk result (GivesFirst (left_in self.old) slot.new (left_in self.new)) }
     {
         match self {
             RowsLeft::Lying(rows) => rows.fill(alloc, slot),
-            RowsLeft::Decoded(rest) => Ok(lend_first(rest, slot)?),
+            RowsLeft::Decoded(rest) => lend_first(rest, slot),
         }
     }
 }
@@ -99,9 +94,7 @@ impl<'b> RowsLeft<'b> {
 /// Puts the first of the rows into an empty place, lent, or none; those after it are left.
 fn lend_first<'b>(rest: &mut &'b [Stamped], slot: &mut RowSlot<'b>) -> Result<(), AllocError>
     requires { slot.old ≡ None }
-    ensures gives { OnOk result
-        ((run : Run) → BeginsWith slot.new (λ more. more ≡ rest.new.now) run → run ≡ rest.old.now) }
-    ensures fewer { OnOk result (length (option_to_list slot.new) + length rest.new.now ≤ length rest.old.now) }
+    ensures { OnOk result (GivesFirst rest.old.now slot.new rest.new.now) }
 {
     let Some((first, others)) = rest.split_first() else {
         return Ok(());

@@ -6,13 +6,12 @@
 //! other the rows. They are given one after another as a source of a merge (`StoredRows`), each where it lies or lent,
 //! so that none is copied. `specs/Stored.antt` says what a run takes of a file, and what is still given of it.
 //!
-//! `print_groups` merges the runs of each group and prints the rows that show, each as a line that inserts it. The rows
-//! of an only group are printed where they lie, as they are merged, but where they are combined; those of several
-//! groups are copied, and merged once more. `scan_law` says that this is the text of a scan: where the runs of each
+//! `print_groups` merges the runs of all groups at once and prints the rows that show, each as a line that inserts it
+//! and where it lies, but where it is combined. `scan_law` says that this is the text of a scan: where the runs of each
 //! group cover the rows that lie in it, what is printed are the rows of the merged table (`specs/Shown.antt`). It rests
-//! on what covering means alone: a group's rows are worth what its runs have of each key, and a row's group depends on
-//! its key, so that a key shows in one group at most. Whether a row shows depends on its kind alone
-//! (`shows_by_kind_law`), so it is judged without a copy.
+//! on what covering means alone: a row's group depends on its key, so the runs of all groups cover all rows, and these
+//! are worth what the runs have of each key. Whether a row shows depends on its kind alone (`shows_by_kind_law`), so it
+//! is judged without a copy.
 #![tactic(auto)]
 
 mod file;

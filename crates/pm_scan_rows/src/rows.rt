@@ -1,9 +1,8 @@
 //! The rows of a run that was read, one after another.
 
-ghost use Rattle.std.specs.Prelude.{◌≡◌, ◌+◌, ◌≤◌, None, OnOk, length, option_to_list};
-ghost use Rattle.pm_engine.specs.Covers.{Run};
-ghost use Rattle.pm_merge.specs.Source.{BeginsWith};
-ghost use Rattle.pm_scan_rows.specs.Stored.{StillGives, all_of, rows_left};
+ghost use Rattle.std.specs.Prelude.{◌≡◌, [], None, OnOk};
+ghost use Rattle.pm_run_bytes.specs.Lying.{GivesFirst};
+ghost use Rattle.pm_scan_rows.specs.Stored.{all_of, left_in, rows_left};
 
 use crate::file::{ReadFile, RowsLeft};
 use pm_merge::RowSource;
@@ -23,11 +22,11 @@ impl Drop for StoredRows<'_> {
 }
 
 impl<'b> RowSource<RowSlot<'b>> for StoredRows<'b> {
-    ghost use Rattle.pm_scan_rows.specs.Stored.{StillGives, rows_left};
+    ghost use Rattle.pm_scan_rows.specs.Stored.{StillGives, many_left};
 
     ghost gives = { StillGives };
 
-    ghost left = { rows_left };
+    ghost left = { many_left };
 
     fn fill(&mut self, alloc: Global, slot: &mut RowSlot<'b>) -> Result<(), AllocError> {
         self.own.fill(alloc, slot)?;
@@ -41,10 +40,9 @@ impl<'b> RowSource<RowSlot<'b>> for StoredRows<'b> {
 impl<'b> StoredRows<'b> {
     /// The same where the file in hand has no row more: the first row of the next file that has one.
     fn fill_later(&mut self, alloc: Global, slot: &mut RowSlot<'b>) -> Result<(), AllocError>
-        requires { slot.old ≡ None }
-        ensures gives { OnOk result
-            ((run : Run) → BeginsWith slot.new (StillGives self.new) run → run ≡ all_of self.old.files.now) }
-        ensures fewer { OnOk result (length (option_to_list slot.new) + rows_left self.new ≤ rows_left self.old) }
+        requires over { left_in self.old.own ≡ [] }
+        requires none { slot.old ≡ None }
+        ensures { OnOk result (GivesFirst (all_of self.old.files.now) slot.new (rows_left self.new)) }
     {
         while let Some((file, files)) = self.files.split_first() {
             self.own = file.rows();

@@ -1,9 +1,8 @@
 //! The rows of a run.
 
 ghost use Rattle.std.specs.Prelude.{◌≡◌, [], IfErr, OnErr, OnOk};
-ghost use Rattle.pm_engine.specs.Covers.{Run};
 ghost use Rattle.pm_run.specs.Reader.{Appends};
-ghost use Rattle.pm_scan_rows.specs.Stored.{RefusesRows, StillGives};
+ghost use Rattle.pm_scan_rows.specs.Stored.{RefusesRows, rows_left};
 
 use crate::file::{ReadFile, RowsLeft};
 use crate::rows::StoredRows;
@@ -63,7 +62,7 @@ impl StoredRun {
 
     /// Its rows, one after another.
     pub fn rows(&self) -> StoredRows<'_>
-        ensures { (run : Run) → StillGives result run → run ≡ self.now }
+        ensures { rows_left result ≡ self.now }
     {
         StoredRows {
             own: RowsLeft::Decoded(&[]),

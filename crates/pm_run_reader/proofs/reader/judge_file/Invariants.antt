@@ -7,7 +7,7 @@ use Rattle.pm_run_reader.proofs.reader.judge_file.Given as goal
 abbrev pub invariant-loop-offset : goal.invariant-loop-offset
 invariant-loop-offset l = record {
   within : l.offset ≤ length l.file.bytes;
-  judged : (path : List ℕ) → IsJudged (opened_as path l.rows.form l.rows.changes l.file) l.offset l.before l.last l.count;
+  judged : (path : List ℕ) → IsJudged (opened_as path l.rows.form l.rows.changes l.file) l.offset l.before l.last;
 }
 
 abbrev pub decreases-loop-offset : goal.decreases-loop-offset

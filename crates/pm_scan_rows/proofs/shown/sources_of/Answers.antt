@@ -1,8 +1,7 @@
-use Rattle.std.proofs.Common.{rules}
-use Rattle.pm_scan_rows.proofs.GivenLemmas.{sources_next}
+use Rattle.std.proofs.Common.{◌∙◌}
+use Rattle.pm_scan_rows.proofs.GivenLemmas.{group_next}
 use Rattle.pm_scan_rows.proofs.shown.sources_of.Goals as goal
 
-pub loop-run-preserved : goal.loop-run-preserved
-loop-run-preserved c =
-    sources_next c.args.runs.now c.loop-run.run-index c.run-item.result c.loop-run.sources.items c.rows.result c.push.new.self.items c.loop-run-test.true c.run-item.is
-    c.loop-run.invariant c.rows.ensures (search rules)
+pub loop-runs-preserved : goal.loop-runs-preserved
+loop-runs-preserved c =
+    c.in_ok-push_sources.ensures ∙ group_next c.args.groups.now c.loop-runs.runs-index c.runs-item.result _ c.as_slice.result.now c.loop-runs-test.true c.runs-item.is c.as_slice.ensures.value c.loop-runs.invariant

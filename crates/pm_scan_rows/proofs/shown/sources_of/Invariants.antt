@@ -1,8 +1,8 @@
-use Rattle.std.proofs.Common.{take}
-use Rattle.pm_merge.specs.Merging.{HaveRuns}
-use Rattle.pm_scan_rows.specs.Stored.{StillGives}
+use Rattle.std.proofs.Common.{◌≡◌, map, take}
+use Rattle.pm_scan_rows.specs.Shown.{all_runs, groups_of}
+use Rattle.pm_scan_rows.specs.Stored.{rows_left}
 use Rattle.pm_scan_rows.proofs.shown.sources_of.Given as goal
 
--- the sources of the runs so far
-abbrev pub invariant-loop-run : goal.invariant-loop-run
-invariant-loop-run l = HaveRuns StillGives l.sources.items (take l.run-index l.runs)
+-- the runs of the groups so far
+abbrev pub invariant-loop-runs : goal.invariant-loop-runs
+invariant-loop-runs l = map rows_left l.sources.items ≡ all_runs (groups_of (take l.runs-index l.groups))

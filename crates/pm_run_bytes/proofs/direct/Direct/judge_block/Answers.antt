@@ -6,4 +6,4 @@ returns c = λ o form changes same direct.
     let (rows, are, many, last) = c.in_ok-last.ensures in
     let (ds, has, judged) = block_rows c.args.self.now c.args.bytes.now c.args.offset c.in_ok-count.count c.in_ok-count.content.now c.in_ok-count.next c.in_ok-count.ensures o c.args.form.now c.args.changes
     c.args.before.now rows form changes same direct are many in
-    (ds, rows, has, judged, last, many)
+    (ds, rows, has, judged, last)

@@ -1,12 +1,20 @@
-use Rattle.std.proofs.Common.{◌≡◌, ◌+◌, ◌-◌, sym, subst, arith, option_copied}
+use Rattle.std.proofs.Common.{◌≡◌, suc, ◌-◌, arith}
+use Rattle.std.specs.Coded.{codes}
 use Rattle.pm_row_slots.specs.Seen.{seen_row}
-use Rattle.pm_run_bytes.specs.Lying.{StillLie}
-use Rattle.pm_run_bytes.proofs.LyingLemmas.{lies_row}
+use Rattle.pm_run_bytes.proofs.LyingLemmas.{known_row, row_given}
 use Rattle.pm_run_bytes.proofs.lying.FileRows.next_row.Goals as goal
 
-pub returns-clause-gives : goal.returns-clause-gives
-returns-clause-gives c = rw c.put_lying.ensures (λ rows (later, still, is).
+pub invariant_of-self : goal.invariant_of-self
+invariant_of-self c =
     let v = c.args.self.now in
-    let more : v.left ≡ v.left - 1 + 1 = omega (arith, c.requires.left) in
-    subst (StillLie v) (sym is)
-    (lies_row (option_copied v.direct) v.bytes.now v.form.now v.changes (seen_row c.see_row.new.into) v.rest.now c.in-Some.rest.now v.left (v.left - 1) v.next later more c.in-Some.ensures still))
+    let more : v.left ≡ suc (v.left - 1) = omega (arith, c.requires.left) in
+    record {
+      known = known_row v.direct.now v.bytes.now v.form.now v.changes v.rest.now v.left v.next (seen_row c.see_row.new.into) c.in-Some.rest.now (v.left - 1) more c.in-Some.ensures v.known;
+    }
+
+pub returns : goal.returns
+returns c =
+    let v = c.args.self.now in
+    let more : v.left ≡ suc (v.left - 1) = omega (arith, c.requires.left) in
+    rw c.put_lying.ensures
+    (row_given v.direct.now v.bytes.now v.form.now v.changes v.rest.now v.left v.next (seen_row c.see_row.new.into) c.in-Some.rest.now (v.left - 1) more c.in-Some.ensures (hlevel codes) v.known c.self-1.given.0)
