@@ -1,5 +1,5 @@
 -- What shows of rows that are given one after another.
-use Rattle.std.proofs.Common.{◌≡◌, ℕ, zero, ◌+◌, ◌<◌, Option, Some, None, List, [], ◌∷◌, ◌++◌, All, Vec, length, map, get_or, take, Bool, true, false, cond, refl, sym, ap, subst, ◌∙◌, append_assoc, append-nil, arith}
+use Rattle.std.proofs.Common.{◌≡◌, ℕ, zero, ◌+◌, ◌<◌, Option, Some, None, List, [], ◌∷◌, ◌++◌, All, Vec, length, map, get_or, take, Bool, true, false, cond, refl, sym, ap, subst, ◌∙◌, append-nil, arith}
 use Rattle.std.specs.declared.alloc.Global.{Global}
 use Rattle.std.proofs.lemmas.Grind.{flat_map-append}
 use Rattle.std.proofs.lemmas.List.{map-append, take_more}
@@ -10,12 +10,14 @@ use Rattle.pm_values.specs.declared.record.Stamped.{Stamped}
 use Rattle.pm_rows.specs.RowText.{row_text}
 use Rattle.pm_engine.specs.Covers.{IsRising, Run, row_of}
 use Rattle.pm_engine.specs.Meaning.{Meaning}
-use Rattle.pm_merge.specs.Merging.{GivesNext, HaveRuns, StillGives}
-use Rattle.pm_merge.specs.declared.merging.Merging.{Merging}
-use Rattle.pm_scan_rows.specs.Stored as stored
+use Rattle.std.specs.Prelude.{is_some, option_to_list}
+use Rattle.pm_merge.specs.Merge.{IsMerge}
+use Rattle.pm_merge.specs.Merging.{GivesAll, GivesLeast, GivesOne, HasLeft, HaveNoRow, runs_in}
+use Rattle.pm_merge.specs.Source.{Rest}
+use Rattle.pm_scan_rows.specs.Stored.{rest_of, rows_left}
 use Rattle.pm_scan_rows.specs.declared.rows.StoredRows.{StoredRows}
 use Rattle.pm_scan_rows.specs.Next.{held, Merged, PrintsNext}
-use Rattle.pm_scan_rows.specs.Shown.{all_runs, groups_of, lines_of, only_shown}
+use Rattle.pm_scan_rows.specs.Shown.{PrintsGroups, all_runs, groups_of, lines_of, only_shown}
 
 pub lines_joined : (xs ys : Run) → lines_of (xs ++ ys) ≡ lines_of xs ++ lines_of ys
 lines_joined xs ys = flat_map-append (λ (x : Stamped). line (row_text Insert x.row)) xs ys
@@ -37,74 +39,63 @@ group_next groups i group before own lt is same so_far =
     ap all_runs mapped ∙ flat_map-append (λ (runs : List Run). runs) (groups_of (take i groups)) (group.items ∷ []) ∙ ap (λ (rs : List Run). all_runs (groups_of (take i groups)) ++ rs) (append-nil group.items) in
     ap (λ (rs : List Run). rs ++ own) so_far ∙ ap (λ (rs : List Run). all_runs (groups_of (take i groups)) ++ rs) same ∙ sym whole
 
--- the sources of these runs
-pub have_runs : (sources : List StoredRows) (runs : List Run) → map stored.rows_left sources ≡ runs → HaveRuns stored.StillGives sources runs
-have_runs sources runs are = subst (HaveRuns stored.StillGives sources) are (own_runs sources)
-  where
-    own_runs : (sources : List StoredRows) → HaveRuns stored.StillGives sources (map stored.rows_left sources)
-    own_runs [] = tt
-    own_runs (source ∷ sources) = (λ own is. is, own_runs sources)
-
 -- ---- rows that are given
 
-module _ {P S : Type 0} (m : Meaning) (held : P → Option Stamped) (gives : S → Run → Type 0) where
-  shown_joined : (xs ys : Run) → only_shown m (xs ++ ys) ≡ only_shown m xs ++ only_shown m ys
-  shown_joined [] ys = refl
-  shown_joined (x ∷ xs) ys = by_first (m.shows (row_of x ∷ [])) (shown_joined xs ys)
+shown_joined : (m : Meaning) (xs ys : Run) → only_shown m (xs ++ ys) ≡ only_shown m xs ++ only_shown m ys
+shown_joined m [] ys = refl
+shown_joined m (x ∷ xs) ys = by_first (m.shows (row_of x ∷ [])) (shown_joined m xs ys)
+  where
+    by_first : (b : Bool) → only_shown m (xs ++ ys) ≡ only_shown m xs ++ only_shown m ys
+        → cond b (x ∷ only_shown m (xs ++ ys)) (only_shown m (xs ++ ys)) ≡ cond b (x ∷ only_shown m xs) (only_shown m xs) ++ only_shown m ys
+    by_first true later = ap (λ (zs : Run). x ∷ zs) later
+    by_first false later = later
+
+runs_rests : (sources : List StoredRows) → runs_in (map rest_of sources) ≡ map rows_left sources
+runs_rests [] = refl
+runs_rests (source ∷ sources) = ap (λ (runs : List Run). rows_left source ∷ runs) (runs_rests sources)
+
+module _ (m : Meaning) (groups : List (Vec Run Global)) where
+  -- of the runs of groups rows were given, one after another, and the text is the lines of those that show
+  pub record Printed (now : Merged) (text : List ℕ) : Type 0 where
+    pub first : List Rest
+    pub runs : runs_in first ≡ all_runs (groups_of groups)
+    pub rests : List Rest
+    pub left : HasLeft m held rest_of now rests
+    pub run : Run
+    pub given : GivesAll m first run rests
+    pub lines : text ≡ lines_of (only_shown m run)
+
+  pub printed_none : (sources : List StoredRows) (now : Merged) → map rows_left sources ≡ all_runs (groups_of groups) → HasLeft m held rest_of now (map rest_of sources) → (text : List ℕ) → text ≡ []
+      → Printed now text
+  printed_none sources now are left text none =
+      record { first = map rest_of sources; runs = runs_rests sources ∙ are; rests = map rest_of sources; left = left; run = []; given = refl; lines = none }
+
+  pub printed_next : ((m : Meaning) (first old new : List Rest) (run : Run) (s : Stamped) → GivesAll m first run old → GivesLeast m old s new → GivesAll m first (run ++ s ∷ []) new)
+      → (now after : Merged) (text new : List ℕ) → Printed now text → PrintsNext m now after text new true → Printed after new
+  printed_next more now after text new so_far prints = by_next (prints so_far.rests so_far.left)
     where
-      by_first : (b : Bool) → only_shown m (xs ++ ys) ≡ only_shown m xs ++ only_shown m ys
-          → cond b (x ∷ only_shown m (xs ++ ys)) (only_shown m (xs ++ ys)) ≡ cond b (x ∷ only_shown m xs) (only_shown m xs) ++ only_shown m ys
-      by_first true later = ap (λ (zs : Run). x ∷ zs) later
-      by_first false later = later
+      by_next : (next : Option Stamped) × (left : List Rest) × GivesOne m so_far.rests next left × HasLeft m held rest_of after left × (true ≡ is_some next)
+          × (new ≡ text ++ lines_of (only_shown m (option_to_list next))) → Printed after new
+      by_next (None, left, one, has, is, lines) = cc
+      by_next (Some s, left, one, has, is, lines) = record {
+        first = so_far.first;
+        runs = so_far.runs;
+        rests = left;
+        left = has;
+        run = so_far.run ++ s ∷ [];
+        given = more m so_far.first so_far.rests left so_far.run s so_far.given one;
+        lines = lines ∙ ap (λ (bs : List ℕ). bs ++ lines_of (only_shown m (s ∷ []))) so_far.lines ∙ sym (lines_joined (only_shown m so_far.run) (only_shown m (s ∷ [])))
+            ∙ ap lines_of (sym (shown_joined m so_far.run (s ∷ [])));
+      }
 
-  -- these rows are those that show of the ones that were given, and whatever is still given came after them
-  pub record Given (first now : Merging P S) (shown : Run) : Type 0 where
-    pub given : Run
-    pub shows : shown ≡ only_shown m given
-    pub goes_on : (rest : Run) → StillGives m held gives now rest → StillGives m held gives first (given ++ rest)
-
-  pub given_none : (first : Merging P S) (shown : Run) → shown ≡ [] → Given first first shown
-  given_none first shown none = record { given = []; shows = none; goes_on = λ rest more. more }
-
-  pub given_more : (first now after : Merging P S) (shown new : Run) (row : Stamped) → Given first now shown → GivesNext m held gives now after (Some row)
-      → new ≡ shown ++ only_shown m (row ∷ []) → Given first after new
-  given_more first now after shown new row so_far next kept = record {
-    given = so_far.given ++ row ∷ [];
-    shows = kept ∙ ap (λ (xs : Run). xs ++ only_shown m (row ∷ [])) so_far.shows ∙ sym (shown_joined so_far.given (row ∷ []));
-    goes_on = λ rest left. subst (StillGives m held gives first) (sym (append_assoc so_far.given (row ∷ []) rest)) (so_far.goes_on (row ∷ rest) (next (row ∷ rest) (rest, left, refl)));
-  }
-
-  pub given_all : (first now after : Merging P S) (shown : Run) → Given first now shown → GivesNext m held gives now after None
-      → (run : Run) × StillGives m held gives first run × (shown ≡ only_shown m run)
-  given_all first now after shown so_far next =
-      (so_far.given, subst (StillGives m held gives first) (append-nil so_far.given) (so_far.goes_on [] (next [] refl)), so_far.shows)
-
-  -- the text is the lines of such rows
-  pub record Printed (first now : Merging P S) (text : List ℕ) : Type 0 where
-    pub shown : Run
-    pub given : Given first now shown
-    pub lines : text ≡ lines_of shown
-
-  pub printed_none : (first : Merging P S) (text : List ℕ) → text ≡ [] → Printed first first text
-  printed_none first text none = record { shown = []; given = given_none first [] refl; lines = none }
-
-  pub printed_more : (first now after : Merging P S) (text new : List ℕ) (row : Stamped) → Printed first now text → GivesNext m held gives now after (Some row)
-      → new ≡ text ++ lines_of (only_shown m (row ∷ [])) → Printed first after new
-  printed_more first now after text new row so_far next pushed = record {
-    shown = so_far.shown ++ only_shown m (row ∷ []);
-    given = given_more first now after so_far.shown _ row so_far.given next refl;
-    lines = pushed ∙ ap (λ (bs : List ℕ). bs ++ lines_of (only_shown m (row ∷ []))) so_far.lines ∙ sym (lines_joined so_far.shown (only_shown m (row ∷ [])));
-  }
-
-module _ (m : Meaning) where
-  pub printed_next : (first now after : Merged) (text new : List ℕ) → Printed m held stored.StillGives first now text → PrintsNext m now after text new true
-      → Printed m held stored.StillGives first after new
-  printed_next first now after text new so_far (Some row, gives, is, pushed) = printed_more m held stored.StillGives first now after text new row so_far gives pushed
-  printed_next first now after text new so_far (None, gives, is, pushed) = cc
-
-  pub printed_all : (first now after : Merged) (text new : List ℕ) → Printed m held stored.StillGives first now text → PrintsNext m now after text new false
-      → (shown run : Run) × StillGives m held stored.StillGives first run × (shown ≡ only_shown m run) × (new ≡ lines_of shown)
-  printed_all first now after text new so_far (Some row, gives, is, pushed) = cc
-  printed_all first now after text new so_far (None, gives, is, pushed) =
-      let all = given_all m held stored.StillGives first now after so_far.shown so_far.given gives in
-      (so_far.shown, all.0, all.1, all.2, pushed ∙ append-nil text ∙ so_far.lines)
+  pub printed_all : ((m : Meaning) (first last : List Rest) (run : Run) → All IsRising (runs_in first) → GivesAll m first run last → HaveNoRow last → IsMerge m (runs_in first) run)
+      → (now after : Merged) (text new : List ℕ) → All (All IsRising) (groups_of groups) → Printed now text → PrintsNext m now after text new false → PrintsGroups m (groups_of groups) new
+  printed_all all now after text new rise so_far prints = by_next (prints so_far.rests so_far.left)
+    where
+      by_next : (next : Option Stamped) × (left : List Rest) × GivesOne m so_far.rests next left × HasLeft m held rest_of after left × (false ≡ is_some next)
+          × (new ≡ text ++ lines_of (only_shown m (option_to_list next))) → PrintsGroups m (groups_of groups) new
+      by_next (Some s, left, one, has, is, lines) = cc
+      by_next (None, left, one, has, is, lines) =
+          let rising : All IsRising (runs_in so_far.first) = subst (All IsRising) (sym so_far.runs) (all_rise (groups_of groups) rise) in
+          let merge : IsMerge m (all_runs (groups_of groups)) so_far.run = subst (λ (runs : List Run). IsMerge m runs so_far.run) so_far.runs (all m so_far.first so_far.rests so_far.run rising so_far.given one.0) in
+          (only_shown m so_far.run, (so_far.run, merge, refl), lines ∙ append-nil text ∙ so_far.lines)

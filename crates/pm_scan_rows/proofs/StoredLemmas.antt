@@ -1,14 +1,14 @@
 -- The rows of files that were read of a run.
-use Rattle.std.proofs.Common.{◌≡◌, ◌+◌, ◌≤◌, false, List, [], ◌∷◌, ◌++◌, length, Option, Some, None, refl, sym, ap, subst, ◌∙◌, append-nil, arith}
-use Rattle.std.specs.Prelude.{is_none, option_to_list}
+use Rattle.std.proofs.Common.{◌≡◌, false, List, [], ◌∷◌, ◌++◌, Option, Some, None, Ok, refl, sym, ap, subst, ◌∙◌, append-nil}
+use Rattle.std.specs.Prelude.{is_none}
 use Rattle.std.proofs.lemmas.Grind.{flat_map-append}
 use Rattle.pm_values.specs.Order.{Values}
 use Rattle.pm_values.specs.declared.record.Stamped.{Stamped}
 use Rattle.pm_engine.specs.Covers.{Run}
-use Rattle.pm_merge.specs.Source.{BeginsWith}
+use Rattle.pm_merge.specs.Source.{Fills}
 use Rattle.pm_run.specs.Order.{last_key}
 use Rattle.pm_run_bytes.specs.Lying.{GivesFirst}
-use Rattle.pm_scan_rows.specs.Stored.{all_of, rows_of}
+use Rattle.pm_scan_rows.specs.Stored.{all_of, rest_with, rows_of}
 use Rattle.pm_scan_rows.specs.declared.file.ReadFile.{ReadFile}
 
 -- ---- what is read
@@ -47,10 +47,6 @@ first_in files later file rows new next parts is some gives =
     subst (λ (old : Run). GivesFirst old next (new ++ all_of later)) (ap (λ (xs : Run). xs ++ all_of later) is ∙ ap all_of (sym parts)) (first_of rows new (all_of later) next some gives)
 
 -- so as a source of a merge
-pub begins_with : (old new : Run) (next : Option Stamped) → GivesFirst old next new → (run : Run) → BeginsWith next (λ (more : Run). more ≡ new) run → run ≡ old
-begins_with old new None gives run begins = begins ∙ sym gives.0
-begins_with old new (Some x) gives run (more, is, begins) = begins ∙ ap (λ (xs : Run). x ∷ xs) is ∙ sym gives
-
-pub fewer_left : (old new : Run) (next : Option Stamped) → GivesFirst old next new → length (option_to_list next) + length new ≤ length old
-fewer_left old new None gives = omega (arith, ap length gives.1)
-fewer_left old new (Some x) gives = omega (arith, ap length gives)
+pub fills_with : (old new : Run) (next : Option Stamped) (done : Unit {0}) → GivesFirst old next new → Fills (rest_with old) (Ok done) (rest_with new) next
+fills_with old new None done gives = (gives.0, refl, ap rest_with gives.1)
+fills_with old new (Some x) done gives = (gives, refl)

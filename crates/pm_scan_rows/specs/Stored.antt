@@ -1,8 +1,9 @@
 -- What a run that was read takes of a file, and what it gives.
-use Rattle.std.specs.Prelude.{◌≡◌, ℕ, List, ◌++◌, length, None}
+use Rattle.std.specs.Prelude.{List, ◌++◌, None}
 use Rattle.std.specs.List.{flat_map}
 use Rattle.pm_values.specs.declared.refusal.Refusal.{Refusal}
 use Rattle.pm_engine.specs.Covers.{Run}
+use Rattle.pm_merge.specs.Source.{Rest}
 use Rattle.pm_run_bytes.specs.Lying.{lying_rows}
 use Rattle.pm_run.specs.Order.{last_key}
 use Rattle.pm_run.specs.Reader.{StopsAfter}
@@ -35,9 +36,10 @@ left_in (left.Decoded rest) = rest.now
 abbrev pub rows_left : StoredRows → Run
 rows_left r = left_in r.own ++ all_of r.files.now
 
--- Private: these are they, and how many there are
-abbrev pub StillGives : StoredRows → Run → Type 0
-StillGives r run = run ≡ rows_left r
+-- Private: rows after which no refusal comes
+abbrev pub rest_with : Run → Rest
+rest_with run = record { rows = run; refusal = None }
 
-abbrev pub many_left : StoredRows → ℕ
-many_left r = length (rows_left r)
+-- Private: what a run still gives: all of it was read, so no refusal comes
+abbrev pub rest_of : StoredRows → Rest
+rest_of r = rest_with (rows_left r)

@@ -3,7 +3,7 @@
 ghost use Rattle.std.specs.Prelude.{◌≡◌, ◌<◌, All, IfOk, true};
 ghost use Rattle.pm_engine.specs.Covers.{IsRising};
 ghost use Rattle.pm_merge.specs.Merging.{rows_left};
-ghost use Rattle.pm_scan_rows.specs.Stored as stored;
+ghost use Rattle.pm_scan_rows.specs.Stored.{rest_of};
 ghost use Rattle.pm_scan_rows.specs.Next.{held, PrintsNext};
 ghost use Rattle.pm_scan_rows.specs.Shown.{PrintsGroups, ShowsByKind, groups_of};
 
@@ -11,7 +11,7 @@ use crate::rows::StoredRows;
 use crate::shown::{push_shown, sources_of};
 use crate::stored_run::StoredRun;
 use pm_engine::MergeEngine;
-use pm_merge::Merging;
+use pm_merge::{Merging, given_law};
 use pm_row_slots::RowSlot;
 use std::alloc::{AllocError, Global};
 
@@ -40,14 +40,16 @@ fn print_all<E: MergeEngine>(
     requires by_kind { ShowsByKind (E.meaning engine.now) }
     ensures { IfOk result (λ text. PrintsGroups (E.meaning engine.now) (groups_of groups.now) text.items) }
 {
-    let mut merging = Merging::of(alloc, engine, sources_of(alloc, groups)?)?;
+    given_law();
+    let mut merging = Merging::of(alloc, sources_of(alloc, groups)?)?;
     let mut slot = Box::new(alloc, RowSlot::new(alloc))?;
     let mut text = Vec::new(alloc);
     while push_next(alloc, engine, &mut merging, &mut slot, &mut text)? {}
     Ok(text)
 }
 
-/// Adds the line of the next row, if it shows: whether there is one. The place is for the rows, one after another.
+/// Adds the line of the next row, if it shows: whether there is one. The place is for the rows, one after another. What
+/// was read has no refusal but out of memory.
 fn push_next<'b, E: MergeEngine>(
     alloc: Global,
     engine: &E,
@@ -58,11 +60,13 @@ fn push_next<'b, E: MergeEngine>(
     requires { ShowsByKind (E.meaning engine.now) }
     ensures next { IfOk result
         (PrintsNext (E.meaning engine.now) merging.old merging.new text.old.items text.new.items) }
-    ensures fewer { IfOk result (λ is. is ≡ true → rows_left held stored.many_left merging.new
-        < rows_left held stored.many_left merging.old) }
+    ensures fewer { IfOk result (λ is. is ≡ true → rows_left held rest_of merging.new
+        < rows_left held rest_of merging.old) }
 {
     slot.clear();
-    merging.fill(alloc, engine, slot)?;
+    if merging.fill(alloc, engine, slot).is_err() {
+        return Err(AllocError);
+    }
     if slot.is_none() {
         return Ok(false);
     }

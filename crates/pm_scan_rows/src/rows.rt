@@ -7,6 +7,7 @@ ghost use Rattle.pm_scan_rows.specs.Stored.{all_of, left_in, rows_left};
 use crate::file::{ReadFile, RowsLeft};
 use pm_merge::RowSource;
 use pm_row_slots::RowSlot;
+use pm_values::Refusal;
 use std::alloc::{AllocError, Global};
 
 /// The rows of a run that are still to be given: those of a file in hand, and of the files after it.
@@ -22,13 +23,11 @@ impl Drop for StoredRows<'_> {
 }
 
 impl<'b> RowSource<RowSlot<'b>> for StoredRows<'b> {
-    ghost use Rattle.pm_scan_rows.specs.Stored.{StillGives, many_left};
+    ghost use Rattle.pm_scan_rows.specs.Stored.{rest_of};
 
-    ghost gives = { StillGives };
+    ghost rest = { rest_of };
 
-    ghost left = { many_left };
-
-    fn fill(&mut self, alloc: Global, slot: &mut RowSlot<'b>) -> Result<(), AllocError> {
+    fn fill(&mut self, alloc: Global, slot: &mut RowSlot<'b>) -> Result<(), Refusal> {
         self.own.fill(alloc, slot)?;
         if slot.is_none() {
             self.fill_later(alloc, slot)?;
