@@ -8,5 +8,6 @@ mod Readings
 mod Types
 mod Pushing
 mod Encodings
+mod Added
 mod Prefixes
 mod Lengths

@@ -4,4 +4,5 @@ pub mod IsDatum
 pub mod Number
 pub mod Begins
 pub mod Writing
+pub mod Adding
 pub mod Reading

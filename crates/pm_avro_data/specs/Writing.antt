@@ -49,7 +49,7 @@ abbrev mutual
   entries_encoding (entry key d es) = sized key ++ (encoding d ++ entries_encoding es)
 
 abbrev mutual
-  -- Private: what holds of each datum that lies in memory: numbers fit their widths, and lengths are sizes
+  -- what holds of each datum that lies in memory: numbers fit their widths, lengths are sizes, and texts are UTF-8
   pub Fits : Data → Type 0
   Fits null = Unit {0}
   Fits (boolean b) = Unit {0}

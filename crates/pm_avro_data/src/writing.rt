@@ -42,14 +42,14 @@ fn to_zigzag(value: i64) -> u64
 
 /// Writes a long, or an int.
 #[tactic(auto, unfolding(crate::specs::Writing::integer))]
-fn push_integer(out: &mut Vec<u8>, value: i64) -> Result<(), AllocError>
+pub(crate) fn push_integer(out: &mut Vec<u8>, value: i64) -> Result<(), AllocError>
     ensures { OnOk result (out.new.items ≡ out.old.items ++ integer value) }
 {
     push_groups(out, to_zigzag(value))
 }
 
 /// Writes bytes after their length.
-fn push_sized(out: &mut Vec<u8>, content: &[u8]) -> Result<(), AllocError>
+pub(crate) fn push_sized(out: &mut Vec<u8>, content: &[u8]) -> Result<(), AllocError>
     ensures written { OnOk result (out.new.items ≡ out.old.items ++ sized content.now) }
     ensures fits { OnOk result (length content.now < 2 ^ 63) }
 {

@@ -7,4 +7,5 @@ mod Pairs
 mod Blocks
 mod Seen
 mod Writes
+mod BlockBytes
 mod Typed

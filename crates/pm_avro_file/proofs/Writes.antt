@@ -18,7 +18,8 @@ use Rattle.pm_avro_data.specs.Number.{IsLong}
 use Rattle.pm_avro_data.proofs.Facts.{datum_some}
 use Rattle.pm_avro_file.specs.Container.{magic, metadata, IsPreamble, IsHeader, IsBlock, IsContainer}
 use Rattle.pm_avro_file.specs.Header.{at_header, kind_in}
-use Rattle.pm_avro_file.specs.Writing.{written_pairs, header_bytes, block_bytes, file_bytes}
+use Rattle.pm_avro_file.specs.Writing.{written_pairs, header_bytes, block_bytes}
+use Rattle.pm_avro_file.specs.Begun.{IsBegun}
 use Rattle.pm_avro_file.proofs.Items.{items_written}
 use Rattle.pm_avro_file.proofs.Meanings.{kind_header}
 
@@ -96,12 +97,6 @@ written_block t marker content ds spelled each within count size rest =
       each = each;
       marked = refl;
     })
-
--- a file with its first blocks is written
-pub record IsBegun (t : Avro) (marker : List ℕ) (blocks : List (List Data)) (out : List ℕ) : Type 0 where
-  pub written : out ≡ file_bytes t blocks marker
-  pub header : (rest : List ℕ) → IsHeader t marker (header_bytes t marker ++ rest) rest
-  pub each : (rest : List ℕ) → AreItems (IsBlock t marker) blocks (flat_map (block_bytes marker) blocks ++ rest) rest
 
 pub begun : (t : Avro) (marker out : List ℕ) → out ≡ header_bytes t marker → ((rest : List ℕ) → IsHeader t marker (out ++ rest) rest) → IsBegun t marker [] out
 begun t marker out spelled header = record {

@@ -3,4 +3,5 @@ pub mod Header
 pub mod Reader
 pub mod Views
 pub mod Writing
+pub mod Begun
 pub mod Part

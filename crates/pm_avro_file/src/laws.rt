@@ -8,6 +8,7 @@ ghost use Rattle.pm_avro_schema.specs.declared.fault.AvroFault.{AvroFault};
 ghost use Rattle.pm_avro_schema.specs.declared.fault.AvroFault.TheVariants.{Memory, Bad};
 ghost use Rattle.pm_avro_data.specs.Datum.{Data};
 ghost use Rattle.pm_avro_data.specs.HasType.{HasType};
+ghost use Rattle.pm_avro_file.specs.Begun.{IsBegun};
 ghost use Rattle.pm_avro_file.specs.Container.{IsBlock, IsContainer};
 ghost use Rattle.pm_avro_file.specs.Reader.{Reader, Opens, AnswersAt, Leads};
 
@@ -68,4 +69,10 @@ pub fn reread_law()
         IsBlock t marker ds source rest → AllByRecursion (HasType t) ds }
     ensures file { (t : Avro) (blocks : List (List Data)) (marker bytes : List ℕ) →
         IsContainer t blocks marker bytes → IsReadable t × AllByRecursion (AllByRecursion (HasType t)) blocks }
+{}
+
+/// A file that was begun is a file with its blocks.
+pub fn begun_file_law()
+    ensures { (t : Avro) (blocks : List (List Data)) (marker bytes : List ℕ) →
+        IsBegun t marker blocks bytes → IsContainer t blocks marker bytes }
 {}

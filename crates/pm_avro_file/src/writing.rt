@@ -50,7 +50,11 @@ pub fn write_file(
 }
 
 /// The header of a file with data of this type.
-fn write_header(alloc: Global, kind: &AvroType, marker: &[u8; 16]) -> Result<Vec<u8>, AvroFault>
+pub(crate) fn write_header(
+    alloc: Global,
+    kind: &AvroType,
+    marker: &[u8; 16],
+) -> Result<Vec<u8>, AvroFault>
     requires readable { IsReadable (types.view kind.now) }
     ensures bytes { IfOk result (λ v. v.items ≡ header_bytes (types.view kind.now) marker.now) }
     ensures header { IfOk result (λ v. (rest : List ℕ) →

@@ -5,7 +5,8 @@ use Rattle.pm_avro_schema.specs.View as types
 use Rattle.pm_avro_data.specs.Datum.{Data, view}
 use Rattle.pm_avro_data.specs.HasType.{HasType}
 use Rattle.pm_avro_file.specs.Views.{blocks_view}
-use Rattle.pm_avro_file.proofs.Writes.{IsBegun, begun, goes_on, whole, all_at, view_more}
+use Rattle.pm_avro_file.specs.Begun.{IsBegun}
+use Rattle.pm_avro_file.proofs.Writes.{begun, goes_on, whole, all_at, view_more}
 use Rattle.pm_avro_file.proofs.writing.write_file.Goals as goal
 
 pub loop-block-init : goal.loop-block-init
