@@ -6,7 +6,8 @@ use Rattle.pm_base.proofs.Laws.{AllByRecursion-parts}
 use Rattle.pm_avro_data.specs.Datum.{Data}
 use Rattle.pm_record.specs.File.{joined, AreBlocks, IsSplit}
 
-last_block : (most : ℕ) (blocks : List (List Data)) (last : List Data) → AllByRecursion (λ block. length block ≡ most) blocks → 1 ≤ length last → length last ≤ most
+-- full blocks, and a last one with some data
+pub last_block : (most : ℕ) (blocks : List (List Data)) (last : List Data) → AllByRecursion (λ block. length block ≡ most) blocks → 1 ≤ length last → length last ≤ most
     → AreBlocks most (blocks ++ last ∷ [])
 last_block most [] last full some within = (some, within)
 last_block most (b ∷ []) last full some within = (full.0, (some, within))

@@ -1,3 +1,4 @@
+mod BegunLemmas
 mod FileLemmas
 mod LoopLemmas
 mod TypeLemmas

@@ -1,11 +1,12 @@
 -- Steps of loops over a row's values and over rows.
-use Rattle.std.proofs.Common.{◌≡◌, ℕ, zero, suc, ◌+◌, ◌<◌, ◌≤◌, ◌-◌, min, max, Option, Some, List, [], ◌∷◌, ◌++◌, length, get_or, map, take, drop, refl, sym, ap, subst, ◌∙◌, append_assoc, append-nil, arith}
-use Rattle.std.proofs.lemmas.List.{drop_all, map-append, map_push, take_all}
-use Rattle.std.specs.List.{AllByRecursion, last_or}
-use Rattle.pm_base.proofs.Laws.{AllByRecursion-push, last_or-push}
-use Rattle.pm_avro_data.specs.Datum.{Data, view}
+use Rattle.std.proofs.Common.{◌≡◌, ℕ, zero, suc, ◌+◌, ◌<◌, ◌≤◌, ◌-◌, min, max, Option, Some, List, [], ◌∷◌, ◌++◌, length, get_or, take, drop, refl, sym, ap, ◌∙◌, arith}
+use Rattle.std.proofs.lemmas.List.{map_push, take_all}
+use Rattle.std.specs.List.{last_or}
+use Rattle.pm_base.proofs.Laws.{last_or-push}
+use Rattle.pm_avro_data.specs.Adding.{Adds}
+use Rattle.pm_avro_data.specs.Datum.{Data, items_of, record_of}
 use Rattle.pm_avro_data.specs.HasType.{HasType}
-use Rattle.pm_avro_data.specs.declared.datum.Datum.{Datum}
+use Rattle.pm_avro_data.proofs.Facts.{added_more}
 use Rattle.pm_values.specs.Order.{Values}
 use Rattle.pm_values.specs.declared.record.Stamped.{Stamped}
 use Rattle.pm_values.specs.declared.value.Value.{Value}
@@ -17,18 +18,6 @@ use Rattle.pm_run.specs.Row.{value_data, values_data}
 use Rattle.pm_run.specs.Typed.{HaveFields}
 use Rattle.pm_run.specs.Writing.{first_key, first_sequence, greatest_of, least_of}
 
--- what holds of the first items and of the next
-pub all_next : {X : Type 0} (P : X → Type 0) (xs : List X) (i : ℕ) (x : X) → i < length xs → x ≡ get_or xs i x → AllByRecursion P (take i xs) → P x
-    → AllByRecursion P (take (i + 1) xs)
-all_next P xs i x lt is all one = subst (AllByRecursion P) (sym (take_next xs i x lt is)) (AllByRecursion-push P (take i xs) x all one)
-
--- one more record is that of the next item
-pub record_next : {X D Y : Type 0} (view : D → Y) (f : X → Y) (xs : List X) (i : ℕ) (x : X) (records more : List D) (d : D) → i < length xs → x ≡ get_or xs i x
-    → more ≡ records ++ d ∷ [] → view d ≡ f x → map view records ≡ map f (take i xs) → map view more ≡ map f (take (i + 1) xs)
-record_next view f xs i x records more d lt is pushed seen so_far =
-    ap (map view) pushed ∙ map_push view records d ∙ ap (λ ys. ys ++ view d ∷ []) so_far ∙ ap (λ y. map f (take i xs) ++ y ∷ []) seen
-    ∙ sym (ap (map f) (take_next xs i x lt is) ∙ map_push f (take i xs) x)
-
 -- ---- data of values
 
 have_push : (fields : List Field) (values : Values) (x : Field) (value : Value) → HaveFields fields (values_data fields values) → length fields ≡ length values
@@ -37,6 +26,13 @@ have_push [] [] x value have many typed = (typed, tt)
 have_push [] (v ∷ values) x value have many typed = absurd (omega arith)
 have_push (y ∷ fields) [] x value have many typed = absurd (omega arith)
 have_push (y ∷ fields) (v ∷ values) x value have many typed = (have.0, have_push fields values x value have.1 (omega arith) typed)
+
+values-push : (fields : List Field) (values : Values) (x : Field) (value : Value) → length fields ≡ length values
+    → values_data (fields ++ x ∷ []) (values ++ value ∷ []) ≡ values_data fields values ++ value_data x value ∷ []
+values-push [] [] x value many = refl
+values-push [] (v ∷ values) x value many = absurd (omega arith)
+values-push (y ∷ fields) [] x value many = absurd (omega arith)
+values-push (y ∷ fields) (v ∷ values) x value many = ap (λ (ds : List Data). value_data y v ∷ ds) (values-push fields values x value (omega arith))
 
 length-take_both : {X Y : Type 0} (n : ℕ) (xs : List X) (ys : List Y) → length xs ≡ length ys → length (take n xs) ≡ length (take n ys)
 length-take_both zero xs ys same = refl
@@ -47,14 +43,12 @@ length-take_both (suc n) (x ∷ xs) (y ∷ ys) same = ap suc (length-take_both n
 
 module _ (fields : List Field) (values : Values) (i : ℕ) (x : Field) (value : Value) (first : i < length fields) (second : i < length values) (x_is : x ≡ get_or fields i x)
     (value_is : value ≡ get_or values i value) where
-  -- the datum of the next value
-  pub data_next : (before : List Data) (old more : List Datum) (d : Datum) → map view old ++ values_data (drop i fields) (drop i values) ≡ before → more ≡ old ++ d ∷ []
-      → view d ≡ value_data x value → map view more ++ values_data (drop (i + 1) fields) (drop (i + 1) values) ≡ before
-  data_next before old more d so_far pushed seen =
-      let rest = values_data (drop (i + 1) fields) (drop (i + 1) values) in
-      let whole : values_data (drop i fields) (drop i values) ≡ value_data x value ∷ rest = rw (drop_next fields i x first x_is, drop_next values i value second value_is) refl in
-      let moved : map view more ≡ map view old ++ view d ∷ [] = ap (map view) pushed ∙ map-append view old (d ∷ []) in
-      rw (moved, seen) (append_assoc (map view old) (value_data x value ∷ []) rest ∙ ap (λ (ds : List Data). map view old ++ ds) (sym whole) ∙ so_far)
+  -- one more value is added
+  pub values_next : (before middle after : List ℕ) → Adds before middle (record_of (items_of (values_data (take i fields) (take i values)))) → length fields ≡ length values
+      → Adds middle after (value_data x value) → Adds before after (record_of (items_of (values_data (take (i + 1) fields) (take (i + 1) values))))
+  values_next before middle after so_far many more =
+      rw (take_next fields i x first x_is, take_next values i value second value_is, values-push (take i fields) (take i values) x value (length-take_both i fields values many))
+      (added_more before middle after (values_data (take i fields) (take i values)) (value_data x value) so_far more)
 
   pub have_next : HaveFields (take i fields) (values_data (take i fields) (take i values)) → length fields ≡ length values → HasType (field_type x) (value_data x value)
       → HaveFields (take (i + 1) fields) (values_data (take (i + 1) fields) (take (i + 1) values))
@@ -62,10 +56,10 @@ module _ (fields : List Field) (values : Values) (i : ℕ) (x : Field) (value : 
       rw (take_next fields i x first x_is, take_next values i value second value_is)
       (have_push (take i fields) (take i values) x value have (length-take_both i fields values many) typed)
 
--- all data
-pub data_end : (fields : List Field) (values : Values) (i : ℕ) (before : List Data) (old : List Datum) → length fields ≤ i
-    → map view old ++ values_data (drop i fields) (drop i values) ≡ before → map view old ≡ before
-data_end fields values i before old le so_far = sym (append-nil (map view old)) ∙ ap (λ (xs : List Field). map view old ++ values_data xs (drop i values)) (sym (drop_all i fields le)) ∙ so_far
+-- all values are added
+pub values_end : (fields : List Field) (values : Values) (i : ℕ) (before after : List ℕ) → length fields ≤ i → length fields ≡ length values
+    → Adds before after (record_of (items_of (values_data (take i fields) (take i values)))) → Adds before after (record_of (items_of (values_data fields values)))
+values_end fields values i before after le many added = rw (take_all i fields le, take_all i values (omega arith)) at added
 
 pub have_end : (fields : List Field) (values : Values) (i : ℕ) → length fields ≤ i → length fields ≡ length values → HaveFields (take i fields) (values_data (take i fields) (take i values))
     → HaveFields fields (values_data fields values)

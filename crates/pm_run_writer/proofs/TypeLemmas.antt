@@ -120,9 +120,5 @@ have_types [] (d ∷ ds) have = absurd have
 have_types (x ∷ fields) [] have = absurd have
 have_types (x ∷ fields) (d ∷ ds) have = (have.0, have_types fields ds have.1)
 
-row_typed : (f : Form) (x : Stamped) → IsWritable f x → HasType (run_type f) (row_data f x)
+pub row_typed : (f : Form) (x : Stamped) → IsWritable f x → HasType (run_type f) (row_data f x)
 row_typed f x h = have_after f.keys _ _ _ h.keys (tt, (tt, have_types f.columns _ h.columns))
-
-pub rows_typed : (f : Form) (rows : List Stamped) → AllByRecursion (IsWritable f) rows → AllByRecursion (HasType (run_type f)) (map (row_data f) rows)
-rows_typed f [] each = tt
-rows_typed f (x ∷ rows) each = (row_typed f x each.0, rows_typed f rows each.1)

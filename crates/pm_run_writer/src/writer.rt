@@ -1,35 +1,31 @@
 //! Files of runs and changelogs that are written.
 
 ghost use Rattle.std.specs.Prelude.{◌≡◌, ◌<◌, ◌≤◌, ◌^◌, ◌+◌, List, ℕ, None, true, false};
-ghost use Rattle.std.specs.Prelude.{IfErr, IfOk, IsTrue, length, map};
+ghost use Rattle.std.specs.Prelude.{IfErr, IfOk, IsTrue, length};
 ghost use Rattle.std.specs.List.{AllByRecursion};
 ghost use Rattle.pm_avro_schema.specs.View as types;
-ghost use Rattle.pm_record.specs.File.{IsFileOf};
 ghost use Rattle.pm_record.specs.Record as records;
 ghost use Rattle.pm_values.specs.Names.{counted, name_of};
 ghost use Rattle.pm_values.specs.declared.refusal.Refusal.TheVariants.{Memory};
 ghost use Rattle.pm_run.specs.Form.{form_of, written_fields};
 ghost use Rattle.pm_run.specs.Kinds.{run_type};
 ghost use Rattle.pm_run.specs.Order.{are_in_order};
-ghost use Rattle.pm_run.specs.Row.{IsOfFile, row_data};
+ghost use Rattle.pm_run.specs.Row.{IsOfFile};
 ghost use Rattle.pm_run.specs.Rows.{HasRows};
 ghost use Rattle.pm_run.specs.Writing.{AreFilesOf, AreRising, CountFrom, HasOwnKey, IsFileWith, IsMetaOf, IsRun};
 ghost use Rattle.pm_run.specs.Writing.{bytes_of, changes_prefix, data_prefix, first_sequence, greatest_of};
 ghost use Rattle.pm_run.specs.Writing.{least_of, suffix};
 
-use crate::row_writer::row_records;
+use crate::begun_file::write_rows;
 use pm_avro_file::whole_file_law;
 use pm_avro_schema::AvroType;
 use pm_base::{Blob, Txt};
-use pm_record::{all_differ, write_records};
+use pm_record::all_differ;
 use pm_run::RunFile;
 use pm_run_form::{TableForm, run_kind};
 use pm_schema::TableSchema;
 use pm_values::{FileMeta, Names, Refusal, Stamped};
 use std::alloc::{AllocError, Global};
-
-/// How many records stand in a block at most.
-const MOST_IN_BLOCK: usize = 1024;
 
 /// The files of a run of rows by rising key, each of at most so many rows and all but the last of exactly so many, of a
 /// table of the schema, at a level. No rows give no file. The only refusal is out of memory, which is also answered
@@ -202,10 +198,7 @@ impl FileWriter {
         ensures { IfOk result (λ f. (s : TableSchema) → self.now.form ≡ form_of s → self.now.schema_id ≡ s.id
             → IsFileWith s level marker name rows.now f) }
     {
-        let records = row_records(alloc, &self.form, rows)?;
-        let Ok(bytes) = write_records(alloc, &self.kind, MOST_IN_BLOCK, records, marker) else {
-            return Err(AllocError);
-        };
+        let bytes = write_rows(alloc, &self.kind, &self.form, rows, marker)?;
         let meta = self.meta_of(alloc, rows, level, name, bytes.len() as u64)?;
         Ok(RunFile {
             meta,
