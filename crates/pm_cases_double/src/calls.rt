@@ -3,6 +3,7 @@
 use crate::parts::{Bytes, Held, Lock, Name, Owner, Thing};
 use crate::steps::{Act, Step};
 use crate::world::{World, there};
+use pm_base::Txt;
 use pm_folder_store::{Found, HostError, Kind};
 use std::alloc::Global;
 use std::time::Duration;
@@ -38,7 +39,7 @@ impl World {
     }
 
     /// The names in a folder, the last one first. One that begins with a backslash isn't UTF-8.
-    pub(crate) fn names(&mut self, alloc: Global, folder: &str) -> Result<Vec<String>, HostError> {
+    pub(crate) fn names(&mut self, alloc: Global, folder: &str) -> Result<Vec<Txt>, HostError> {
         self.begin(Act::Names, folder, "")?;
         let thing = self.end(folder)?;
         let names = told_names(alloc, self.names_of(thing)?)?;
@@ -348,11 +349,11 @@ fn bars(held: &Option<Held>, thing: usize, is_alone: bool) -> bool {
 }
 
 /// What a host tells of names that lead to something, the last one first.
-fn told_names(alloc: Global, names: &[Name]) -> Result<Vec<String>, HostError> {
+fn told_names(alloc: Global, names: &[Name]) -> Result<Vec<Txt>, HostError> {
     let mut listed = Vec::new(alloc);
     for name in names.iter().rev() {
         if name.now.is_some() {
-            listed.push(String::from_str(alloc, told(name.text.as_str()))?)?;
+            listed.push(Txt::from_str(alloc, told(name.text.as_str()))?)?;
         }
     }
     Ok(listed)

@@ -1,6 +1,7 @@
 //! A process on a double: each call of its host is one of the double.
 
 use crate::world::{World, held};
+use pm_base::Txt;
 use pm_folder_store::{Found, Host, HostError};
 use std::alloc::Global;
 use std::cell::{RefCell, RefMut};
@@ -68,7 +69,7 @@ impl<B: Beside + Drop> Host for Seat<'_, B> {
         self.double()?.look_at(file.number)
     }
 
-    fn names(&mut self, alloc: Global, folder: &str) -> Result<Vec<String>, HostError> {
+    fn names(&mut self, alloc: Global, folder: &str) -> Result<Vec<Txt>, HostError> {
         self.double()?.names(alloc, folder)
     }
 

@@ -5,6 +5,7 @@ ghost use Rattle.std.specs.Prelude.{◌≡◌, ◌↔◌};
 ghost use Rattle.pm_folder_store.specs.declared.host.HostError.TheVariants as errors;
 ghost use Rattle.pm_store.specs.declared.store.StoreFail.TheVariants as fails;
 
+use pm_base::Txt;
 use pm_store::StoreFail;
 use std::alloc::{AllocError, AllocFailed, Global};
 use std::time::Duration;
@@ -88,7 +89,7 @@ pub trait Host {
     fn look_at(&mut self, file: &Self::File) -> Result<Found, HostError>;
 
     /// The names in a folder, in any order. For one that isn't UTF-8 U+FFFD stands.
-    fn names(&mut self, alloc: Global, folder: &str) -> Result<Vec<String>, HostError>;
+    fn names(&mut self, alloc: Global, folder: &str) -> Result<Vec<Txt>, HostError>;
 
     /// Whether nothing stands in a folder.
     fn is_empty(&mut self, folder: &str) -> Result<bool, HostError>;

@@ -3,47 +3,47 @@
 
 use crate::host::{Host, Kind};
 use crate::look::kind_at;
-use crate::paths::{is_name, place_in};
+use crate::paths::{is_name, place_in, put_place};
 use pm_base::Txt;
 use pm_store::StoreFail;
 use std::alloc::Global;
 use std::collections::BTreeSet;
+use std::iter::FromIterator;
 
-/// The shown names in a folder that is there. `has_folders` says that folders stand in it, and no files: killed writers
-/// may have left empty ones. In any other folder an empty folder stands where a file should.
+/// The shown names in a folder that is there, put in order once. `has_folders` says that folders stand in it, and no
+/// files: killed writers may have left empty ones. In any other folder an empty folder stands where a file should.
 pub(crate) fn shown_names<H: Host>(
     alloc: Global,
     host: &mut H,
     folder: &str,
     has_folders: bool,
 ) -> Result<BTreeSet<Txt>, StoreFail> {
-    let mut shown = BTreeSet::new(alloc);
+    let mut place = String::new(alloc);
+    let mut shown = Vec::new(alloc);
     for name in host.names(alloc, folder)? {
-        if is_shown(alloc, host, folder, name.as_str(), has_folders)? {
-            shown.insert(Txt::from_str(alloc, name.as_str())?)?;
+        if is_name(name.as_str()) {
+            put_place(&mut place, folder, name.as_str())?;
+            if is_shown(alloc, host, place.as_str(), has_folders)? {
+                shown.push(name)?;
+            }
         }
     }
-    Ok(shown)
+    Ok(BTreeSet::from_iter(alloc, shown)?)
 }
 
-/// Whether a list shows what stands under a name: a file, or a folder that isn't empty. What is neither is a fault.
+/// Whether a list shows what stands at a place: a file, or a folder that isn't empty. What is neither is a fault.
 fn is_shown<H: Host>(
     alloc: Global,
     host: &mut H,
-    folder: &str,
-    name: &str,
+    place: &str,
     has_folders: bool,
 ) -> Result<bool, StoreFail> {
-    if !is_name(name) {
-        return Ok(false);
-    }
-    let path = place_in(alloc, folder, name)?;
-    match kind_at(host, path.as_str())? {
+    match kind_at(host, place)? {
         None => Ok(false),
         Some(Kind::File) => Ok(true),
         Some(Kind::Other) => Err(StoreFail::Failed),
         Some(Kind::Folder) => {
-            let is_full = holds_file(alloc, host, path)?;
+            let is_full = holds_file(alloc, host, String::from_str(alloc, place)?)?;
             if !is_full && !has_folders {
                 return Err(StoreFail::Failed);
             }

@@ -1,6 +1,6 @@
 //! Paths of the store as texts, and the ways to spell the folder itself.
 
-ghost use Rattle.std.specs.Prelude.{◌≡◌, ◌++◌, ◌∷◌, IfOk, MatchOption, string_bytes};
+ghost use Rattle.std.specs.Prelude.{◌≡◌, ◌++◌, ◌∷◌, IfOk, OnOk, MatchOption, string_bytes};
 ghost use Rattle.pm_folder_store.specs.Paths.{is_name, is_path, IsPlace};
 ghost use Rattle.pm_folder_store.specs.Paths.{HasNoSlash, IsCutAtLast, IsFolderOf, IsStoreFolderOf};
 ghost use Rattle.pm_folder_store.specs.Folders.{is_made_once, is_named_elsewhere, last_part};
@@ -35,16 +35,24 @@ pub(crate) fn place_of(alloc: Global, root: &str, path: &str) -> Result<Option<S
     Ok(Some(format!(in alloc; "{root}/{path}")?))
 }
 
-/// Where a name stands in a folder, in the file system. It takes memory once, since a listing asks for each name.
+/// Where a name stands in a folder, in the file system.
 pub(crate) fn place_in(alloc: Global, folder: &str, name: &str) -> Result<String, AllocError>
     ensures { IfOk result (λ place. string_bytes place ≡ folder.now ++ (47 ∷ name.now)) }
 {
-    let length = folder.len().saturating_add(name.len()).saturating_add(1);
-    let mut place = String::with_capacity(alloc, length)?;
+    let mut place = String::new(alloc);
+    put_place(&mut place, folder, name)?;
+    Ok(place)
+}
+
+/// The same, in a text that had another place before: a listing asks for each name, and takes memory for the longest.
+pub(crate) fn put_place(place: &mut String, folder: &str, name: &str) -> Result<(), AllocError>
+    ensures { OnOk result (string_bytes place.new ≡ folder.now ++ (47 ∷ name.now)) }
+{
+    place.clear();
     place.push_str(folder)?;
     place.push_str("/")?;
     place.push_str(name)?;
-    Ok(place)
+    Ok(())
 }
 
 /// The folder of the store that a path of the store stands in; the empty text for the store's own.

@@ -5,6 +5,7 @@ use crate::paths::{is_made_once, last_part, store_folder_of};
 use pm_base::Txt;
 use std::alloc::{AllocError, Global};
 use std::collections::{BTreeMap, BTreeSet};
+use std::iter::FromIterator;
 
 /// The names of the last listing of each such folder.
 pub(crate) struct Shown {
@@ -35,10 +36,11 @@ impl Shown {
         if !is_made_once(folder) {
             return Ok(());
         }
-        let mut kept = BTreeSet::new(alloc);
+        let mut kept = Vec::with_capacity(alloc, names.len())?;
         for name in names {
-            kept.insert(String::from_str(alloc, name.as_str())?)?;
+            kept.push(String::from_str(alloc, name.as_str())?)?;
         }
+        let kept = BTreeSet::from_iter(alloc, kept)?;
         self.names.insert(String::from_str(alloc, folder)?, kept)?;
         Ok(())
     }

@@ -2,6 +2,7 @@
 //! and decides nothing.
 
 use crate::host::{Found, Host, HostError, Kind};
+use pm_base::Txt;
 use std::alloc::Global;
 use std::fs::{File, Metadata, TryLockError};
 use std::io::{ErrorKind, Read, Write};
@@ -62,13 +63,13 @@ impl<R: Files<File = File> + AllocGlobal + Clock + Clone + Drop> Host for System
         Ok(found(&file.metadata()?))
     }
 
-    fn names(&mut self, alloc: Global, folder: &str) -> Result<Vec<String>, HostError> {
+    fn names(&mut self, alloc: Global, folder: &str) -> Result<Vec<Txt>, HostError> {
         let mut names = Vec::new(alloc);
         for entry in fs::read_dir(&self.rt, folder)? {
             let name = match entry {
-                Ok(entry) => String::from_str(alloc, entry.file_name())?,
+                Ok(entry) => Txt::from_str(alloc, entry.file_name())?,
                 Err(e) if e.kind() == ErrorKind::InvalidFilename => {
-                    String::from_str(alloc, UNREADABLE)?
+                    Txt::from_str(alloc, UNREADABLE)?
                 }
                 Err(e) => return Err(HostError::from(e)),
             };

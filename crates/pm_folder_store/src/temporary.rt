@@ -6,6 +6,7 @@ ghost use Rattle.pm_folder_store.specs.Temporary.{IsTemporary};
 use crate::host::{Host, HostError, Kind};
 use crate::lock::kept;
 use crate::look::{kind_at, make_folder, open_file};
+use crate::paths::place_in;
 use pm_store::StoreFail;
 use std::alloc::{AllocError, Global};
 
@@ -75,7 +76,7 @@ fn begun_files<H: Host>(
         if !is_temporary(alloc, name.as_str())? {
             return Err(StoreFail::Failed);
         }
-        let path = format!(in alloc; "{folder}/{name}")?;
+        let path = place_in(alloc, folder, name.as_str())?;
         match kind_at(host, path.as_str())? {
             None => {}
             Some(Kind::File) => begun.push(path)?,
