@@ -1,7 +1,8 @@
-//! The operating system as a host. It is believed without a case: each function is one call of the kit, `make` two,
-//! and decides nothing.
+//! The operating system as a host. It is believed without a case: each function is one call of the kit, `make` two and
+//! `names` as many as a folder has rooms full of names, and decides nothing.
 
 use crate::host::{Found, Host, HostError, Kind};
+use crate::names::push_names;
 use pm_base::Txt;
 use std::alloc::Global;
 use std::fs::{File, Metadata, TryLockError};
@@ -11,8 +12,8 @@ use std::rt::{Clock, Files};
 use std::time::Duration;
 use std::{fs, io};
 
-/// What stands for a name that isn't UTF-8.
-const UNREADABLE: &str = "\u{FFFD}";
+/// How many bytes of a folder are read at once. There is room in them for any name.
+const ROOM: usize = 8192;
 
 /// The operating system that a runtime has.
 pub struct System<R: Files<File = File> + AllocGlobal + Clock + Clone + Drop> {
@@ -64,18 +65,18 @@ impl<R: Files<File = File> + AllocGlobal + Clock + Clone + Drop> Host for System
     }
 
     fn names(&mut self, alloc: Global, folder: &str) -> Result<Vec<Txt>, HostError> {
+        let place = format!(in alloc; "{folder}/")?;
+        let mut dir = self.rt.open_dir(place.as_str())?;
+        let mut room = [0; ROOM];
         let mut names = Vec::new(alloc);
-        for entry in fs::read_dir(&self.rt, folder)? {
-            let name = match entry {
-                Ok(entry) => Txt::from_str(alloc, entry.file_name())?,
-                Err(e) if e.kind() == ErrorKind::InvalidFilename => {
-                    Txt::from_str(alloc, UNREADABLE)?
-                }
-                Err(e) => return Err(HostError::from(e)),
-            };
-            names.push(name)?;
+        for _ in 0..u32::MAX {
+            let size = dir.read(&mut room)?;
+            if size == 0 {
+                return Ok(names);
+            }
+            push_names(alloc, &mut names, &room[..size])?;
         }
-        Ok(names)
+        Err(HostError::Other)
     }
 
     fn is_empty(&mut self, folder: &str) -> Result<bool, HostError> {
