@@ -24,8 +24,7 @@ use Rattle.pm_model_folder.specs.Folder.{Folder, HasTable}
 use Rattle.pm_model_folder.specs.Paths.{schema_path, snapshot_path}
 use Rattle.pm_model_folder.proofs.HoldLemmas.{ContentsStay, Holds, OneContents, names-were}
 use Rattle.pm_create.specs.Creator.{NewTable, origin_call, own_origin, schema_call}
-use Rattle.pm_create.specs.Making.{DidMake, LeavesFiles}
-use Rattle.pm_create.specs.Meaning.{IsFreeOrigin}
+use Rattle.pm_create.specs.Making.{DidMake, IsFreeOrigin, LeavesFiles}
 use Rattle.pm_create.specs.Trace.{failed_origin, failed_table, made_origin, made_table, met_origin, met_table, Shows}
 use Rattle.pm_commit.specs.AllCalls.{NamesNone}
 use Rattle.pm_command.specs.Outside.{Outside, actor}

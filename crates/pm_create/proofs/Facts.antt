@@ -1,6 +1,7 @@
 -- A creator keeps the laws of machines.
-use Rattle.std.proofs.Common.{◌≡◌, ◌≢◌, inl, inr, ℕ, ◌<◌, List, [], ◌∷◌, ◌++◌, if◌then◌else◌, Option, None, Some, is_none, IsSome, IsSomeAnd, IfSome, Result, Ok, Err, OnOk, OnErr, refl, sym, ap, ◌∙◌, subst, arith}
+use Rattle.std.proofs.Common.{◌≡◌, ◌≢◌, inl, inr, ℕ, suc, ◌<◌, ◌≤◌, List, [], ◌∷◌, ◌++◌, codes, length, if◌then◌else◌, Option, None, Some, is_none, IsSome, IsSomeAnd, IfSome, Result, Ok, Err, OnOk, OnErr, refl, sym, ap, ◌∙◌, subst, arith}
 use Rattle.std.specs.FinMap as map
+use Rattle.std.proofs.lemmas.List.{append_cancel_left}
 use Rattle.std.proofs.lemmas.Option.{IfSome_then}
 use Rattle.pm_values.specs.declared.refusal.Refusal.{Refusal}
 use Rattle.pm_values.specs.declared.refusal.Refusal.TheVariants as refusals
@@ -25,46 +26,76 @@ use Rattle.pm_machine.specs.Trace.{Event, IsFailed, MayEnd, Recounts, after_answ
 use Rattle.pm_machine.proofs.Facts.{image_changed}
 use Rattle.pm_machine.proofs.PhaseFacts.{recounts_of}
 use Rattle.pm_model_history.specs.History.{History, IsTableOf, no_table, table, GoesOn}
-use Rattle.pm_model_folder.specs.Changes.{Actor, Change, IsNoOrigin, committed, its_origin, nothing, own_file, schema}
+use Rattle.pm_model_folder.specs.Changes.{Actor, Change, IsNoOrigin, committed, its_origin, nothing, origin_name, own_file, schema}
+use Rattle.pm_model_folder.specs.Commits.{Needs}
 use Rattle.pm_model_folder.specs.Folder.{Folder}
+use Rattle.pm_model_folder.specs.Ledger.{Advances, IsUnnamed, Past, Stands, count_of}
 use Rattle.pm_model_folder.specs.Meaning.{HasSnapshotAt}
 use Rattle.pm_model_folder.specs.Paths.{schema_path, snapshot_file}
-use Rattle.pm_model_folder.proofs.Facts.{goes_on, some-none, stays, still_there, snapshot_stays}
+use Rattle.pm_model_folder.proofs.Facts.{goes_on, some-none, still_there, there-absent}
+use Rattle.pm_model_folder.proofs.LedgerFacts.{beside}
+use Rattle.pm_model_folder.proofs.PathLemmas.{snapshot-own, snapshot-schema}
 use Rattle.pm_schema.specs.declared.schema.TableSchema.{TableSchema}
 use Rattle.pm_create.specs.declared.phase.Phase.{Phase}
 use Rattle.pm_create.specs.declared.phase.Phase.TheVariants as phases
 use Rattle.pm_create.specs.Creator.{NewTable, IsNewTable, IsOf, own_origin, origin_call, schema_call, next_call, calls_left, Goes, GoesOnce, Reaches, Shown, reached_at}
-use Rattle.pm_create.specs.Meaning.{Begins, IsFreeOrigin, Makes, KnowsAt, Knows, FolderBeside, MakesBeside, KnowsBeside}
+use Rattle.pm_create.specs.Making.{IsFreeOrigin}
+use Rattle.pm_create.specs.Meaning.{Begins, Makes, KnowsAt, Knows, StandsBeside, MakesBeside, KnowsBeside}
 use Rattle.pm_create.specs.Trace.{made_origin, DidSoFar, MayTakeMemory, Did, Shows}
+use Rattle.pm_create.proofs.OriginLemmas.{AreDeclared, origin_unnamed}
 
--- ---- what a creator may change
+-- ---- what its calls may leave
 
-makes-same : (t : NewTable) (f : Files) (h : History) → Makes t f h f h
+-- of the create of an origin, where none is there a file with some content, and else the files as they were
+create_at : (path content : List ℕ) (f : Files) (P : Files → Type 0) → P f → (map.get f path ≡ None → P (map.insert f path content)) → (at : Option (List ℕ))
+    → map.get f path ≡ at → P (if is_none at then map.insert f path content else f)
+create_at path content f P same made None absent = made absent
+create_at path content f P same made (Some found) is = same
+
+created : (path : List ℕ) (f : Files) (P : Files → Type 0) → P f → ((content : List ℕ) → map.get f path ≡ None → P (map.insert f path content))
+    → (effect : Effect) → P (after_effect (origin_call path) effect f)
+created path f P same made effects.None = same
+created path f P same made (effects.Part None) = same
+created path f P same made (effects.Part (Some found)) = create_at path found f P same (made found) (map.get f path) refl
+created path f P same made effects.Whole = create_at path [] f P same (made []) (map.get f path) refl
+
+-- and of the swap of a schema, where there is none, the schema
+swap_at : (bytes : List ℕ) (f : Files) (P : Files → Type 0) → P f → (map.get f (schema_path 0) ≡ None → P (map.insert f (schema_path 0) bytes))
+    → (at : Option (List ℕ)) → map.get f (schema_path 0) ≡ at → P (if is_same at None then map.insert f (schema_path 0) bytes else f)
+swap_at bytes f P same made None absent = made absent
+swap_at bytes f P same made (Some found) is = same
+
+swapped : (bytes : List ℕ) (f : Files) (P : Files → Type 0) → P f → (map.get f (schema_path 0) ≡ None → P (map.insert f (schema_path 0) bytes))
+    → (effect : Effect) → P (after_effect (schema_call bytes) effect f)
+swapped bytes f P same made effects.None = same
+swapped bytes f P same made (effects.Part found) = same
+swapped bytes f P same made effects.Whole = swap_at bytes f P same made (map.get f (schema_path 0)) refl
+
+-- ---- what a creator may change of a history
+
+pub record MakesOf (t : NewTable) (f : Files) (h : History) (after : Files) (later : History) : Type 0 where
+  pub kind : Change t.me f h after later
+  pub begins : Begins t.schema h later
+
+makes-same : (t : NewTable) (f : Files) (h : History) → MakesOf t f h f h
 makes-same t f h = record { kind = nothing (λ q. refl); begins = inl refl }
 
 pub makes-own : (t : NewTable) (path content : List ℕ) (f after : Files) (h : History) → path ≡ own_origin t.me → IsFreeOrigin path f h
-    → map.get f path ≡ None → Puts f path (Some content) after → Makes t f h after h
+    → map.get f path ≡ None → Puts f path (Some content) after → MakesOf t f h after h
 makes-own t path content f after h own free absent puts = record { kind = own_file path content (its_origin own) (free absent) absent puts; begins = inl refl }
 
 pub makes-table : (t : NewTable) (f after : Files) → IsNewTable t → HasSnapshotAt f t.schema 0
-    → Puts f (schema_path 0) (Some t.bytes) after → Makes t f no_table after (table t.schema [])
+    → Puts f (schema_path 0) (Some t.bytes) after → MakesOf t f no_table after (table t.schema [])
 makes-table t f after is there puts = record {
-  kind = schema t.schema t.bytes there puts (t.bytes, puts.here, is.reads);
+  kind = schema t.schema t.bytes there is.origin puts (t.bytes, puts.here, is.reads);
   begins = inr (refl, refl);
 }
 
--- a part of the create of its origin
-origin_part : (t : NewTable) (path content : List ℕ) (f : Files) (h : History) (at : Option (List ℕ)) → map.get f path ≡ at
-    → path ≡ own_origin t.me → IsFreeOrigin path f h → (later : History) × Makes t f h (if is_none at then map.insert f path content else f) later
-origin_part t path content f h None absent own free = (h, makes-own t path content f (map.insert f path content) h own free absent (Puts-insert f path content))
-origin_part t path content f h (Some found) is own free = (h, makes-same t f h)
-
 pub origin_changes : (t : NewTable) (path : List ℕ) (f : Files) (h : History) → path ≡ own_origin t.me → IsFreeOrigin path f h
-    → Changes (Makes t) (origin_call path) f h
-origin_changes t path f h own free effects.None = (h, makes-same t f h)
-origin_changes t path f h own free (effects.Part None) = (h, makes-same t f h)
-origin_changes t path f h own free (effects.Part (Some found)) = origin_part t path found f h (map.get f path) refl own free
-origin_changes t path f h own free effects.Whole = origin_part t path [] f h (map.get f path) refl own free
+    → Changes (MakesOf t) (origin_call path) f h
+origin_changes t path f h own free =
+    created path f (λ g. (later : History) × MakesOf t f h g later) (h, makes-same t f h)
+    (λ content absent. (h, makes-own t path content f (map.insert f path content) h own free absent (Puts-insert f path content)))
 
 -- where no schema is there, there is no table
 pub untold : (f : Files) (h : History) → Folder f h → map.get f (schema_path 0) ≡ None → h ≡ no_table
@@ -72,119 +103,178 @@ untold f no_table folder absent = refl
 untold f (table s entries) folder absent =
     absurd (let first = folder.schema.first in let no : Some first.0 ≡ None = sym first.1 ∙ absent in cc)
 
--- the swap of its schema, carried out whole
-table_whole : (t : NewTable) (f : Files) (h : History) (at : Option (List ℕ)) → map.get f (schema_path 0) ≡ at → Folder f h → IsNewTable t
-    → HasSnapshotAt f t.schema 0
-    → (later : History) × Makes t f h (if is_same at None then map.insert f (schema_path 0) t.bytes else f) later
-table_whole t f h (Some found) at folder is there = (h, makes-same t f h)
-table_whole t f h None absent folder is there =
-    let after : Files = map.insert f (schema_path 0) t.bytes in
-    subst (λ (h : History). (later : History) × Makes t f h after later) (sym (untold f h folder absent))
-    (table t.schema [], makes-table t f after is there (Puts-insert f (schema_path 0) t.bytes))
-
 pub table_changes : (t : NewTable) (f : Files) (h : History) → Folder f h → IsNewTable t → HasSnapshotAt f t.schema 0
-    → Changes (Makes t) (schema_call t.bytes) f h
-table_changes t f h folder is there effects.None = (h, makes-same t f h)
-table_changes t f h folder is there (effects.Part found) = (h, makes-same t f h)
-table_changes t f h folder is there effects.Whole = table_whole t f h (map.get f (schema_path 0)) refl folder is there
+    → Changes (MakesOf t) (schema_call t.bytes) f h
+table_changes t f h folder is there =
+    swapped t.bytes f (λ g. (later : History) × MakesOf t f h g later) (h, makes-same t f h)
+    (λ absent. subst (λ (h : History). (later : History) × MakesOf t f h (map.insert f (schema_path 0) t.bytes) later) (sym (untold f h folder absent))
+    (table t.schema [], makes-table t f (map.insert f (schema_path 0) t.bytes) is there (Puts-insert f (schema_path 0) t.bytes)))
 
-changes_at : (t : NewTable) (m : Phase) (f : Files) (h : History) → Folder f h → IsNewTable t → IsOf t m → KnowsAt t m f h
-    → IfSome (next_call m) (λ call. Changes (Makes t) call f h)
-changes_at t (phases.Origin path bytes) f h folder is own known = origin_changes t path f h own.0 known
-changes_at t (phases.Schema bytes) f h folder is own known =
-    subst (λ (bytes : List ℕ). Changes (Makes t) (schema_call bytes) f h) (sym own) (table_changes t f h folder is known)
-changes_at t phases.Created f h folder is own known = tt
-changes_at t phases.Over f h folder is own known = tt
+-- ---- and of what is known
+
+-- the past with another history
+abbrev at_history : History → Past → Past
+at_history later p = record p { history = later }
+
+-- a file appears only at a path that no known snapshot needs
+abbrev IsFresh : Files → Past → Files → Type 0
+IsFresh f p after = (s : TableSchema) (path : List ℕ) → IsTableOf s p.history → map.get f path ≡ None → IsSome (map.get after path) → IsUnnamed p s path
+
+count-begins : (s : TableSchema) (h later : History) → Begins s h later → count_of later ≡ count_of h
+count-begins s h later (inl same) = ap count_of same
+count-begins s h later (inr (none, is)) = ap count_of is ∙ sym (ap count_of none)
+
+-- a change of a creator keeps what is known, where what appears is fresh
+makes_past : (t : NewTable) (f after : Files) (p : Past) (later : History) → MakesOf t f p.history after later → IsFresh f p after
+    → Makes t f p after (at_history later p)
+makes_past t f after p later makes fresh = record {
+  advances = beside t.me f after p later makes.kind (count-begins t.schema p.history later makes.begins) fresh;
+  begins = makes.begins;
+}
+
+same-fresh : (f : Files) (p : Past) → IsFresh f p f
+same-fresh f p s path is none here = absurd (some-none (map.get f path) here none)
+
+past_same : (t : NewTable) (f : Files) (p : Past) → Makes t f p f (at_history p.history p)
+past_same t f p = makes_past t f f p p.history (makes-same t f p.history) (same-fresh f p)
+
+-- its origin is one
+own-fresh : AreDeclared → (t : NewTable) (path : List ℕ) (content : Option (List ℕ)) (f after : Files) (p : Past) → Stands f p → path ≡ own_origin t.me
+    → Puts f path content after → IsFresh f p after
+own-fresh law t path content f after p stands own puts s q is none here = λ id known needs.
+    let unnamed : IsUnnamed p s path = subst (λ (path : List ℕ). IsUnnamed p s path) (sym own) (origin_unnamed law t.me f p s stands is) in
+    let apart : q ≢ path = λ e. unnamed id known (subst (λ (q : List ℕ). Needs (p.stood id) s id q) e needs) in
+    some-none (map.get after q) here (puts.others q apart ∙ none)
+
+past_own : AreDeclared → (t : NewTable) (path content : List ℕ) (f after : Files) (p : Past) → Stands f p → path ≡ own_origin t.me
+    → IsNoOrigin p.history path → map.get f path ≡ None → Puts f path (Some content) after → Makes t f p after (at_history p.history p)
+past_own law t path content f after p stands own other absent puts =
+    makes_past t f after p p.history (makes-own t path content f after p.history own (λ none. other) absent puts)
+    (own-fresh law t path (Some content) f after p stands own puts)
+
+-- so is the schema of a new table
+past_table : (t : NewTable) (f after : Files) (p : Past) → IsNewTable t → HasSnapshotAt f t.schema 0 → p.history ≡ no_table
+    → Puts f (schema_path 0) (Some t.bytes) after → Makes t f p after (at_history (table t.schema []) p)
+past_table t f after p is there none puts =
+    makes_past t f after p (table t.schema [])
+    (subst (λ (h : History). MakesOf t f h after (table t.schema [])) (sym none) (makes-table t f after is there puts))
+    (λ s path one absent here. absurd (subst (λ (h : History). IsTableOf s h) none one))
+
+changes_at : AreDeclared → (t : NewTable) (m : Phase) (f : Files) (p : Past) → Stands f p → IsNewTable t → IsOf t m → KnowsAt t m f p
+    → IfSome (next_call m) (λ call. Changes (Makes t) call f p)
+changes_at law t (phases.Origin path bytes) f p stands is own known =
+    created path f (λ g. (later : Past) × Makes t f p g later) (at_history p.history p, past_same t f p)
+    (λ content absent. (
+      at_history p.history p,
+      past_own law t path content f (map.insert f path content) p stands own.0 known absent (Puts-insert f path content),
+    ))
+changes_at law t (phases.Schema bytes) f p stands is own known =
+    subst (λ (bytes : List ℕ). Changes (Makes t) (schema_call bytes) f p) (sym own)
+    (swapped t.bytes f (λ g. (later : Past) × Makes t f p g later) (at_history p.history p, past_same t f p)
+    (λ absent. (
+      at_history (table t.schema []) p,
+      past_table t f (map.insert f (schema_path 0) t.bytes) p is known.0 (untold f p.history stands.folder absent) (Puts-insert f (schema_path 0) t.bytes),
+    )))
+changes_at law t phases.Created f p stands is own known = tt
+changes_at law t phases.Over f p stands is own known = tt
 
 -- ---- what it knows afterwards
 
-over_knows : (t : NewTable) (new : Phase) (f : Files) (h : History) → new ≡ phases.Over → IsNewTable t → Knows t new f h
-over_knows t new f h over is = subst (λ (m : Phase). Knows t m f h) (sym over) ((is, tt), tt)
+over_knows : (t : NewTable) (new : Phase) (f : Files) (p : Past) → new ≡ phases.Over → IsNewTable t → Knows t new f p
+over_knows t new f p over is = subst (λ (m : Phase). Knows t m f p) (sym over) ((is, tt), tt)
 
 pub made_absent : (at : Option (List ℕ)) → made.Created ≡ made_at at → at ≡ None
 made_absent None e = refl
 made_absent (Some found) e = cc
 
+-- the origin that its schema names is there where its own is, and the other way
+own_stands : (t : NewTable) (f : Files) → IsNewTable t → IsSome (map.get f (own_origin t.me)) → HasSnapshotAt f t.schema 0
+own_stands t f is there =
+    subst (λ (origin : Option (List ℕ)). IsSomeAnd origin (λ origin. IsSome (map.get f (snapshot_file origin)))) (sym is.origin) there
+
+own_there : (t : NewTable) (f : Files) → IsNewTable t → HasSnapshotAt f t.schema 0 → IsSome (map.get f (own_origin t.me))
+own_there t f is stands =
+    subst (λ (origin : Option (List ℕ)). IsSomeAnd origin (λ origin. IsSome (map.get f (snapshot_file origin)))) is.origin stands
+
 -- its origin is there once it is written
 pub origin_stands : (t : NewTable) (path : List ℕ) (after : Files) → IsNewTable t → path ≡ own_origin t.me → map.get after path ≡ Some []
     → HasSnapshotAt after t.schema 0
 origin_stands t path after is own here =
-    let there : IsSome (map.get after (own_origin t.me)) =
-    subst (λ (found : Option (List ℕ)). IsSome found) (sym (ap (map.get after) (sym own) ∙ here)) refl in
-    subst (λ (origin : Option (List ℕ)). IsSomeAnd origin (λ origin. IsSome (map.get after (snapshot_file origin)))) (sym is.origin) there
+    own_stands t after is (subst (λ (found : Option (List ℕ)). IsSome found) (sym (ap (map.get after) (sym own) ∙ here)) refl)
 
-went_at : (t : NewTable) (m : Phase) (answer : Answer) (new : Phase) (f : Files) (h : History) → Goes m answer new → Folder f h → IsNewTable t
-    → IsOf t m → KnowsAt t m f h
-    → IfSome (next_call m) (λ call. Answers call answer f → Leads (Makes t) (Knows t new) f h (carried call f))
-went_at t (phases.Origin path bytes) (answers.Made made.Created) new f h goes folder is own known = λ told.
+went_at : AreDeclared → (t : NewTable) (m : Phase) (answer : Answer) (new : Phase) (f : Files) (p : Past) → Goes m answer new → Stands f p → IsNewTable t
+    → IsOf t m → KnowsAt t m f p
+    → IfSome (next_call m) (λ call. Answers call answer f → Leads (Makes t) (Knows t new) f p (carried call f))
+went_at law t (phases.Origin path bytes) (answers.Made made.Created) new f p goes stands is own known = λ told.
     let call : Call = origin_call path in
     let puts : Puts f path (Some []) (carried call f) = Answers-Changed call (answers.Made made.Created) f told in
-    subst (λ (m : Phase). Leads (Makes t) (Knows t m) f h (carried call f)) (sym goes) (
-      h,
-      makes-own t path [] f (carried call f) h own.0 known (made_absent (map.get f path) told) puts,
-      ((is, own.1), origin_stands t path (carried call f) is own.0 puts.here),
+    subst (λ (m : Phase). Leads (Makes t) (Knows t m) f p (carried call f)) (sym goes) (
+      at_history p.history p,
+      past_own law t path [] f (carried call f) p stands own.0 known (made_absent (map.get f path) told) puts,
+      ((is, own.1), (origin_stands t path (carried call f) is own.0 puts.here, subst (IsNoOrigin p.history) own.0 known)),
     )
-went_at t (phases.Schema bytes) (answers.Swapped swaps.Swapped) new f h goes folder is own known = λ told.
+went_at law t (phases.Schema bytes) (answers.Swapped swaps.Swapped) new f p goes stands is own known = λ told.
     let call : Call = schema_call bytes in
     let puts : Puts f (schema_path 0) (Some bytes) (carried call f) = Answers-Changed call (answers.Swapped swaps.Swapped) f told in
     let its : Puts f (schema_path 0) (Some t.bytes) (carried call f) =
     subst (λ (bytes : List ℕ). Puts f (schema_path 0) (Some bytes) (carried call f)) own puts in
-    let began : Makes t f h (carried call f) (table t.schema []) =
-    subst (λ (h : History). Makes t f h (carried call f) (table t.schema [])) (sym (untold f h folder told)) (makes-table t f (carried call f) is known its) in
-    subst (λ (m : Phase). Leads (Makes t) (Knows t m) f h (carried call f)) (sym goes)
-    (table t.schema [], began, ((is, tt), refl))
-went_at t m answer new f h goes folder is own known = absurd goes
+    subst (λ (m : Phase). Leads (Makes t) (Knows t m) f p (carried call f)) (sym goes) (
+      at_history (table t.schema []) p,
+      past_table t f (carried call f) p is known.0 (untold f p.history stands.folder told) its,
+      ((is, tt), refl),
+    )
+went_at law t m answer new f p goes stands is own known = absurd goes
 
-failed_at : (t : NewTable) (m new : Phase) (effect : Effect) (f : Files) (h : History) → new ≡ phases.Over → Folder f h
-    → IsNewTable t → IsOf t m → KnowsAt t m f h
-    → IfSome (next_call m) (λ call. Leads (Makes t) (Knows t new) f h (after_effect call effect f))
-failed_at t m new effect f h over folder is own known = IfSome_then (next_call m) (changes_at t m f h folder is own known)
+failed_at : AreDeclared → (t : NewTable) (m new : Phase) (effect : Effect) (f : Files) (p : Past) → new ≡ phases.Over → Stands f p
+    → IsNewTable t → IsOf t m → KnowsAt t m f p
+    → IfSome (next_call m) (λ call. Leads (Makes t) (Knows t new) f p (after_effect call effect f))
+failed_at law t m new effect f p over stands is own known = IfSome_then (next_call m) (changes_at law t m f p stands is own known)
     (λ call changes. ((changes effect).0, (changes effect).1, over_knows t new (after_effect call effect f) (changes effect).0 over is))
 
--- ---- the table beside the history
+-- ---- the table beside the past
 
-beside : (t : NewTable) (m new : Phase) (f after : Files) (h : History) → Leads (Makes t) (Knows t new) f h after
-    → Leads (MakesBeside m) (KnowsBeside new) f (t, h) after
-beside t m new f after h leads = ((t, leads.0), (refl, leads.1), leads.2)
+with_table : (t : NewTable) (m new : Phase) (f after : Files) (p : Past) → Leads (Makes t) (Knows t new) f p after
+    → Leads (MakesBeside m) (KnowsBeside new) f (t, p) after
+with_table t m new f after p leads = ((t, leads.0), (refl, leads.1), leads.2)
 
-pub sound : Sound next_call Goes (Refuses Shown phases.Over) (Stops phases.Over) FolderBeside MakesBeside KnowsBeside
-sound = record {
-  changes = λ m f b folder known. IfSome_then (next_call m) (changes_at b.0 m f b.1 folder known.0.0 known.0.1 known.1)
+pub sound : AreDeclared → Sound next_call Goes (Refuses Shown phases.Over) (Stops phases.Over) StandsBeside MakesBeside KnowsBeside
+sound law = record {
+  changes = λ m f b stands known. IfSome_then (next_call m) (changes_at law b.0 m f b.1 stands known.0.0 known.0.1 known.1)
       (λ call changes effect. ((b.0, (changes effect).0), (refl, (changes effect).1)));
-  went = λ m new answer f b goes folder known. IfSome_then (next_call m)
-      (went_at b.0 m answer new f b.1 goes folder known.0.0 known.0.1 known.1)
-      (λ call leads told. beside b.0 m new f (carried call f) b.1 (leads told));
-  refused = λ m new answer refusal f b refuses folder known. IfSome_then (next_call m)
-      (failed_at b.0 m new effects.Whole f b.1 refuses.1 folder known.0.0 known.0.1 known.1)
-      (λ call leads told. beside b.0 m new f (carried call f) b.1 leads);
-  failed = λ m new effect f b stops folder known. IfSome_then (next_call m)
-      (failed_at b.0 m new effect f b.1 stops folder known.0.0 known.0.1 known.1)
-      (λ call leads may. beside b.0 m new f (after_effect call effect f) b.1 leads);
-  stopped = λ m new f b called stops folder known. over_knows b.0 new f b.1 stops known.0.0;
+  went = λ m new answer f b goes stands known. IfSome_then (next_call m)
+      (went_at law b.0 m answer new f b.1 goes stands known.0.0 known.0.1 known.1)
+      (λ call leads told. with_table b.0 m new f (carried call f) b.1 (leads told));
+  refused = λ m new answer refusal f b refuses stands known. IfSome_then (next_call m)
+      (failed_at law b.0 m new effects.Whole f b.1 refuses.1 stands known.0.0 known.0.1 known.1)
+      (λ call leads told. with_table b.0 m new f (carried call f) b.1 leads);
+  failed = λ m new effect f b stops stands known. IfSome_then (next_call m)
+      (failed_at law b.0 m new effect f b.1 stops stands known.0.0 known.0.1 known.1)
+      (λ call leads may. with_table b.0 m new f (after_effect call effect f) b.1 leads);
+  stopped = λ m new f b called stops stands known. over_knows b.0 new f b.1 stops known.0.0;
 }
 
-keeps_of : (t : NewTable) (old new : Phase) (op : Op) (f : Files) → Keeps FolderBeside (MakesBeside old) (KnowsBeside old) (KnowsBeside new) op f
-    → Keeps Folder (Makes t) (Knows t old) (Knows t new) op f
-keeps_of t old new op f keeps h folder known =
-    let both = keeps (t, h) folder known in
+keeps_of : (t : NewTable) (old new : Phase) (op : Op) (f : Files) → Keeps StandsBeside (MakesBeside old) (KnowsBeside old) (KnowsBeside new) op f
+    → Keeps Stands (Makes t) (Knows t old) (Knows t new) op f
+keeps_of t old new op f keeps p stands known =
+    let both = keeps (t, p) stands known in
     let after : Files = after_effect op.call op.effect f in
     let leads = both.1 in (
       λ effect. ((both.0 effect).0.1, (both.0 effect).1.1),
       (leads.0.1, leads.1.1, subst (λ (u : NewTable). Knows u new after leads.0.1) leads.1.0 leads.2),
     )
 
--- what a step does whichever table stands beside the history, it does to the history
+-- what a step does whichever table stands beside the past, it does to the past
 pub moves_of : (t : NewTable) (old new : Phase) (before after : StoreView)
-    → Moves FolderBeside (MakesBeside old) (KnowsBeside old) (KnowsBeside new) before after
-    → Moves Folder (Makes t) (Knows t old) (Knows t new) before after
+    → Moves StandsBeside (MakesBeside old) (KnowsBeside old) (KnowsBeside new) before after
+    → Moves Stands (Makes t) (Knows t old) (Knows t new) before after
 moves_of t old new before after (inl (op, steps)) = inl (
   op,
   Steps-weaker op
-      (λ ops. Keeps FolderBeside (MakesBeside old) (KnowsBeside old) (KnowsBeside new) op (files_after ops))
-      (λ ops. Keeps Folder (Makes t) (Knows t old) (Knows t new) op (files_after ops)) before after
+      (λ ops. Keeps StandsBeside (MakesBeside old) (KnowsBeside old) (KnowsBeside new) op (files_after ops))
+      (λ ops. Keeps Stands (Makes t) (Knows t old) (Knows t new) op (files_after ops)) before after
       (λ ops keeps. keeps_of t old new op (files_after ops) keeps) steps,
 )
-moves_of t old new before after (inr (meanwhile, same)) = inr (meanwhile, λ f h folder known. same f (t, h) folder known)
+moves_of t old new before after (inr (meanwhile, same)) = inr (meanwhile, λ f p stands known. same f (t, p) stands known)
 
 -- ---- its calls
 
@@ -329,58 +419,67 @@ begins_more s first h later (inr (none, begun)) (inr (again, begins)) = inr (non
 abbrev pub Kept : Type 0
 Kept = (me : Actor) (f after : Files) (h later : History) → Folder f h → Change me f h after later → Folder after later
 
-pub lasts : Kept → (t : NewTable) (first : History) → Lasts Folder (Makes t) (λ f h. Begins t.schema first h)
-lasts kept t first f after h later folder begun change =
-    (kept t.me f after h later folder change.kind, begins_more t.schema first h later begun change.begins)
+-- and the law of what is known
+abbrev pub PastKept : Type 0
+PastKept = (me : Actor) (f after : Files) (p q : Past) → Stands f p → Advances me f p after q → Stands after q
+
+pub lasts : PastKept → (t : NewTable) (first : History) → Lasts Stands (Makes t) (λ f p. Begins t.schema first p.history)
+lasts kept t first f after p later stands begun change =
+    (kept t.me f after p later stands change.advances, begins_more t.schema first p.history later.history begun change.begins)
 
 still_table : (s : TableSchema) (h later : History) → GoesOn h later → IsTableOf s h → IsTableOf s later
 still_table s no_table later goes is = absurd is
 still_table s (table t entries) no_table goes is = absurd goes
 still_table s (table t entries) (table u more) goes is = goes.0 ∙ is
 
--- what is absent was absent
-absent_before : (path : List ℕ) (other : Actor) (f after : Files) (h later : History) → Folder f h → Change other f h after later
-    → map.get after path ≡ None → map.get f path ≡ None
-absent_before path other f after h later folder change absent = at (map.get f path) refl
-  where
-    at : (found : Option (List ℕ)) → map.get f path ≡ found → map.get f path ≡ None
-    at None is = is
-    at (Some bytes) is = absurd (let there : IsSome (map.get f path) = subst (λ (o : Option (List ℕ)). IsSome o) (sym is) refl in
-        let same = stays other f after h later path folder change there in
-        some-none (map.get f path) there (sym same ∙ absent))
+-- ---- what others leave of an actor's origin
 
--- no other actor makes a table whose origin has this path, while it is absent
-free_still : (path : List ℕ) (other : Actor) (f after : Files) (h later : History) → Change other f h after later → IsFreeOrigin path f h
-    → map.get f path ≡ None → IsNoOrigin later path
-free_still path other f after h later (nothing same) free absent = free absent
-free_still path other f after h later (own_file own content is apart none puts) free absent = free absent
-free_still path other f after h later (schema s bytes there puts reads) free absent =
-    λ name is at. origin_there s.origin there name is at
-  where
-    origin_there : (o : Option (List ℕ)) → IsSomeAnd o (λ origin. IsSome (map.get f (snapshot_file origin))) → (name : List ℕ) → o ≡ Some name
-        → snapshot_file name ≢ path
-    origin_there None there name is at = absurd there
-    origin_there (Some origin) there name is at =
-        let same : origin ≡ name = cc in
-        some-none (map.get f (snapshot_file origin)) there (ap (λ (n : List ℕ). map.get f (snapshot_file n)) same ∙ ap (map.get f) at ∙ absent)
-free_still path other f after h later (committed s entries e bytes newest bound none puts fit commit own) free absent = free absent
+same-name : (name other : List ℕ) → Some name ≡ Some other → name ≡ other
+same-name name other e = cc
 
-known_at : (t : NewTable) (m : Phase) (other : Actor) (f after : Files) (h later : History) → Folder f h → Change other f h after later
-    → KnowsAt t m f h → KnowsAt t m after later
-known_at t (phases.Origin path bytes) other f after h later folder change known = λ absent.
-    free_still path other f after h later change known (absent_before path other f after h later folder change absent)
-known_at t (phases.Schema bytes) other f after h later folder change known =
-    snapshot_stays f after t.schema 0 (λ q there. still_there f after q (stays other f after h later q folder change there) there) known
-known_at t phases.Created other f after h later folder change known = still_table t.schema h later (goes_on other f after h later change) known
-known_at t phases.Over other f after h later folder change known = tt
+-- no other actor makes a table with it
+other_still : (me other : Actor) (f after : Files) (h later : History) → Change other f h after later → origin_name other ≢ origin_name me
+    → IsNoOrigin h (own_origin me) → IsNoOrigin later (own_origin me)
+other_still me other f after h later (nothing same) apart free = free
+other_still me other f after h later (own_file path content own other_origin absent puts) apart free = free
+other_still me other f after h later (schema s bytes there named puts reads) apart free = λ name is at.
+    let its : origin_name other ≡ name = same-name (origin_name other) name (sym named ∙ is) in
+    apart (its ∙ append_cancel_left (codes "snapshot/") name (origin_name me) at)
+other_still me other f after h later (committed s entries e bytes newest bound none puts fit commit own) apart free = free
 
-pub knows_still : (t : NewTable) (m : Phase) (other : Actor) (f after : Files) (h later : History) → Folder f h → Change other f h after later
-    → Knows t m f h → Knows t m after later
-knows_still t m other f after h later folder change known = (known.0, known_at t m other f after h later folder change known.1)
+-- and where its file is there it stays
+own_stays : (me other : Actor) (f after : Files) (h later : History) → Change other f h after later → IsSome (map.get f (own_origin me))
+    → map.get after (own_origin me) ≡ map.get f (own_origin me)
+own_stays me other f after h later (nothing same) there = same (own_origin me)
+own_stays me other f after h later (own_file path content own other_origin absent puts) there =
+    puts.others (own_origin me) (there-absent f (own_origin me) path there absent)
+own_stays me other f after h later (schema s bytes origin named puts reads) there =
+    puts.others (own_origin me) (snapshot-schema (origin_name me) 0)
+own_stays me other f after h later (committed s entries e bytes newest bound none puts fit commit own) there =
+    puts.others (own_origin me) (λ same. snapshot-own me (own_origin me) (suc (length entries)) (its_origin refl) (sym same))
 
-pub images : Kept → (t : NewTable) (m : Phase) (call : Call) (f image : Files) (h : History) → next_call m ≡ Some call → Folder f h → Knows t m f h
-    → MayLeave call f image → (later : History) × Makes t f h image later × Folder image later
-images kept t m call f image h is folder known left =
-    let changes : Changes (Makes t) call f h = rw is at (changes_at t m f h folder known.0.0 known.0.1 known.1) in
-    let led = image_changed (Makes t) call f h changes image left in
-    (led.0, led.1, kept t.me f image h led.0 folder led.1.kind)
+known_at : (t : NewTable) (m : Phase) (other : Actor) (f after : Files) (p q : Past) → Change other f p.history after q.history
+    → origin_name other ≢ origin_name t.me → IsNewTable t → IsOf t m → KnowsAt t m f p → KnowsAt t m after q
+known_at t (phases.Origin path bytes) other f after p q change apart is own known =
+    subst (IsNoOrigin q.history) (sym own.0)
+    (other_still t.me other f after p.history q.history change apart (subst (IsNoOrigin p.history) own.0 known))
+known_at t (phases.Schema bytes) other f after p q change apart is own known =
+    let there = own_there t f is known.0 in (
+      own_stands t after is (still_there f after (own_origin t.me) (own_stays t.me other f after p.history q.history change there) there),
+      other_still t.me other f after p.history q.history change apart known.1,
+    )
+known_at t phases.Created other f after p q change apart is own known =
+    still_table t.schema p.history q.history (goes_on other f after p.history q.history change) known
+known_at t phases.Over other f after p q change apart is own known = tt
+
+pub knows_still : (t : NewTable) (m : Phase) (other : Actor) (f after : Files) (p q : Past) → Stands f p → Advances other f p after q
+    → origin_name other ≢ origin_name t.me → Knows t m f p → Knows t m after q
+knows_still t m other f after p q stands advances apart known =
+    (known.0, known_at t m other f after p q advances.change apart known.0.0 known.0.1 known.1)
+
+pub images : AreDeclared → PastKept → (t : NewTable) (m : Phase) (call : Call) (f image : Files) (p : Past) → next_call m ≡ Some call → Stands f p
+    → Knows t m f p → MayLeave call f image → (later : Past) × Makes t f p image later × Stands image later
+images law kept t m call f image p is stands known left =
+    let changes : Changes (Makes t) call f p = rw is at (changes_at law t m f p stands known.0.0 known.0.1 known.1) in
+    let led = image_changed (Makes t) call f p changes image left in
+    (led.0, led.1, kept t.me f image p led.0 stands led.1.advances)

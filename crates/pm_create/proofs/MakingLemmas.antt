@@ -29,14 +29,14 @@ use Rattle.pm_model_folder.specs.Paths.{schema_path}
 use Rattle.pm_model_folder.proofs.Facts.{some-none}
 use Rattle.pm_schema.specs.declared.schema.TableSchema.{TableSchema}
 use Rattle.pm_create.specs.Creator.{NewTable, IsNewTable, IsOf, own_origin, schema_call, calls_left, Reaches}
-use Rattle.pm_create.specs.Meaning.{Begins, IsFreeOrigin, Makes}
+use Rattle.pm_create.specs.Meaning.{Begins}
 use Rattle.pm_create.specs.Trace.{made_origin, met_origin, made_table, met_table, failed_origin, failed_table, Did, Shows, CreatorActed}
 use Rattle.pm_create.specs.declared.creator.CreateStep.{CreateStep}
 use Rattle.pm_create.specs.declared.creator.CreateStep.TheVariants as steps
 use Rattle.pm_create.specs.declared.phase.Phase.{Phase}
 use Rattle.pm_create.specs.declared.phase.Phase.TheVariants as phases
-use Rattle.pm_create.specs.Making.{DidMake, first_call, LeavesFiles, StandsForEither, LeavesHistory, IsThere, IsAbsent, IsCaused, IsMadeOrMemory, MakesTable, MakesTables, MayStart}
-use Rattle.pm_create.proofs.Facts.{Kept, makes-own, makes-table, origin_changes, table_changes, untold, made_absent, origin_stands}
+use Rattle.pm_create.specs.Making.{DidMake, IsFreeOrigin, first_call, LeavesFiles, StandsForEither, LeavesHistory, IsThere, IsAbsent, IsCaused, IsMadeOrMemory, MakesTable, MakesTables, MayStart}
+use Rattle.pm_create.proofs.Facts.{Kept, MakesOf, makes-own, makes-table, origin_changes, table_changes, untold, made_absent, origin_stands}
 use Rattle.pm_machine.proofs.AloneLaws.{Traces-first, Follows, Follows-first, Follows-meanwhile, Follows-steps, Extends-end}
 
 -- ---- single calls
@@ -46,10 +46,10 @@ either_by : (t : NewTable) (f image : Files) (h later : History) → Folder imag
 either_by t f image h later folder (inl same) = inl (subst (Folder image) same folder)
 either_by t f image h later folder (inr (none, is)) = inr (none, subst (Folder image) is folder)
 
-either_images : Kept → (t : NewTable) (call : Call) (f : Files) (h : History) → Folder f h → Changes (Makes t) call f h
+either_images : Kept → (t : NewTable) (call : Call) (f : Files) (h : History) → Folder f h → Changes (MakesOf t) call f h
     → (image : Files) → MayLeave call f image → StandsForEither t.schema h image
 either_images kept t call f h folder changes image left =
-    let led = image_changed (Makes t) call f h changes image left in
+    let led = image_changed (MakesOf t) call f h changes image left in
     either_by t f image h led.0 (kept t.me f image h led.0 folder led.1.kind) led.1.begins
 
 -- its origin was made
@@ -59,7 +59,7 @@ origin_made kept t f h is folder free told =
     let path : List ℕ = own_origin t.me in
     let after : Files = carried (first_call t) f in
     let puts : Puts f path (Some []) after = Answers-Changed (first_call t) (answers.Made made.Created) f told in
-    let makes : Makes t f h after h = makes-own t path [] f after h refl free (made_absent (map.get f path) told) puts in
+    let makes : MakesOf t f h after h = makes-own t path [] f after h refl free (made_absent (map.get f path) told) puts in
     (kept t.me f after h h folder makes.kind, origin_stands t path after is refl puts.here)
 
 -- a call that was answered so changed nothing
@@ -74,7 +74,7 @@ origin_part : Kept → (t : NewTable) (content : List ℕ) (f : Files) (h : Hist
 origin_part kept t content f h None absent folder free =
     let path : List ℕ = own_origin t.me in
     let after : Files = map.insert f path content in
-    let makes : Makes t f h after h = makes-own t path content f after h refl free absent (Puts-insert f path content) in
+    let makes : MakesOf t f h after h = makes-own t path content f after h refl free absent (Puts-insert f path content) in
     kept t.me f after h h folder makes.kind
 origin_part kept t content f h (Some found) is folder free = folder
 
@@ -97,7 +97,7 @@ table_made kept t f h is folder there told =
     let call : Call = schema_call t.bytes in
     let none : h ≡ no_table = untold f h folder told in
     let puts : Puts f (schema_path 0) (Some t.bytes) (carried call f) = Answers-Changed call (answers.Swapped swaps.Swapped) f told in
-    let makes : Makes t f no_table (carried call f) (table t.schema []) = makes-table t f (carried call f) is there puts in
+    let makes : MakesOf t f no_table (carried call f) (table t.schema []) = makes-table t f (carried call f) is there puts in
     (none, kept t.me f (carried call f) no_table (table t.schema []) (subst (Folder f) none folder) makes.kind)
 
 -- there is a table already

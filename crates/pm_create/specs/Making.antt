@@ -12,11 +12,10 @@ use Rattle.pm_store.specs.Store.{StoreView, FromFirst}
 use Rattle.pm_machine.specs.Trace.{Event}
 use Rattle.pm_model_history.specs.History.{History, no_table, table}
 use Rattle.pm_schema.specs.declared.schema.TableSchema.{TableSchema}
-use Rattle.pm_model_folder.specs.Changes.{Actor}
+use Rattle.pm_model_folder.specs.Changes.{Actor, IsNoOrigin}
 use Rattle.pm_model_folder.specs.Folder.{Folder}
 use Rattle.pm_model_folder.specs.Paths.{schema_path}
 use Rattle.pm_create.specs.Creator.{NewTable, own_origin, origin_call}
-use Rattle.pm_create.specs.Meaning.{IsFreeOrigin}
 use Rattle.pm_create.specs.Trace.{made_origin, made_table, Shows}
 
 -- The calls of the making of a table, by its answer: the origin was made and then the schema swapped in; or they show
@@ -79,6 +78,10 @@ pub record MakesTable (t : NewTable) (h : History) (first after : StoreView) (re
   pub cause : IsCaused t h first after result
   pub complete : h ≡ no_table → IsAbsent (own_origin t.me) first → (Rose first.faults after.faults → ⊥)
       → IsMadeOrMemory result
+
+-- where the file is absent, it isn't that of the origin that the table's schema names
+abbrev pub IsFreeOrigin : List ℕ → Files → History → Type 0
+IsFreeOrigin path f h = map.get f path ≡ None → IsNoOrigin h path
 
 -- The files stand for the history, and the actor's origin isn't one that went with an old snapshot of its table: no
 -- other table was made by an actor of this name.

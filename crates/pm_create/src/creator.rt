@@ -15,7 +15,7 @@ use crate::phase::Phase;
 use pm_base::Blob;
 use pm_machine::{Running, make_step};
 use pm_paths::snapshot_file;
-use pm_schema::{TableSchema, schema_law};
+use pm_schema::{TableSchema, declared_law, schema_law};
 use pm_schema_file::write_schema;
 use pm_store::FileStore;
 use pm_values::Refusal;
@@ -110,6 +110,8 @@ impl Creator {
         ensures over { OnErr result (self.new.phase ≡ phases.Over) }
         ensures later { IsLater (F.seen store.old) (F.seen store.new) }
     {
+        declared_law();
+        schema_law();
         make_step(alloc, &mut self.running, store)
     }
 }

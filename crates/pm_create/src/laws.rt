@@ -1,12 +1,12 @@
-//! Laws of creators. Each holds with no call but of pm_model_folder's law.
+//! Laws of creators. Each holds with no call but of laws of crates below.
 
-ghost use Rattle.std.specs.Prelude.{◌≡◌, List, Some};
+ghost use Rattle.std.specs.Prelude.{◌≡◌, ◌≢◌, List, Some};
 ghost use Rattle.pm_create.specs.Creator.{next_call, NewTable};
 ghost use Rattle.pm_create.specs.Meaning.{Begins, Knows, Makes};
 ghost use Rattle.pm_create.specs.Trace.{Shows};
 ghost use Rattle.pm_create.specs.declared.phase.Phase.{Phase};
-ghost use Rattle.pm_model_folder.specs.Changes.{Actor, Change};
-ghost use Rattle.pm_model_folder.specs.Folder.{Folder};
+ghost use Rattle.pm_model_folder.specs.Changes.{Actor, origin_name};
+ghost use Rattle.pm_model_folder.specs.Ledger.{Advances, Past, Stands};
 ghost use Rattle.pm_model_history.specs.History.{History};
 ghost use Rattle.pm_machine.specs.Moves.{Lasts};
 ghost use Rattle.pm_machine.specs.Trace.{Event};
@@ -15,20 +15,22 @@ ghost use Rattle.pm_store.specs.Files.{Files};
 ghost use Rattle.pm_store.specs.Images.{MayLeave};
 ghost use Rattle.pm_values.specs.declared.refusal.Refusal.{Refusal};
 
-use pm_model_folder::kept_law;
+use pm_model_folder::past_law;
+use pm_schema::{declared_law, schema_law};
 
-/// What a creator knows stays true through each kind of change of every other actor.
+/// What a creator knows stays true through each kind of change of every actor that gives its origin another name.
 pub fn known_law()
-    ensures { (t : NewTable) (m : Phase) (other : Actor) (f after : Files) (h later : History) → Folder f h
-        → Change other f h after later → Knows t m f h → Knows t m after later }
+    ensures { (t : NewTable) (m : Phase) (other : Actor) (f after : Files) (p q : Past) → Stands f p
+        → Advances other f p after q → origin_name other ≢ origin_name t.me → Knows t m f p → Knows t m after q }
 {}
 
 /// Through a creator's own changes the files stand for the history that they stood for at first, or for this table
 /// where that was none.
 pub fn begins_law()
-    ensures { (t : NewTable) (first : History) → Lasts Folder (Makes t) (λ f h. Begins t.schema first h) }
+    ensures { (t : NewTable) (first : History)
+        → Lasts Stands (Makes t) (λ f p. Begins t.schema first p.history) }
 {
-    kept_law();
+    past_law();
 }
 
 /// Calls show one refusal at most, whichever tables they make. So each refusal comes exactly where the last call ended
@@ -40,9 +42,11 @@ pub fn causes_law()
 
 /// Whatever a crash leaves of a creator's next call stands for the history before it, or for the one with its table.
 pub fn images_law()
-    ensures { (t : NewTable) (m : Phase) (call : Call) (f image : Files) (h : History) → next_call m ≡ Some call
-        → Folder f h → Knows t m f h → MayLeave call f image
-        → (later : History) × Makes t f h image later × Folder image later }
+    ensures { (t : NewTable) (m : Phase) (call : Call) (f image : Files) (p : Past) → next_call m ≡ Some call
+        → Stands f p → Knows t m f p → MayLeave call f image
+        → (later : Past) × Makes t f p image later × Stands image later }
 {
-    kept_law();
+    past_law();
+    declared_law();
+    schema_law();
 }

@@ -15,8 +15,8 @@
 //! memory ran out.
 //!
 //! `specs/Creator.antt` has its phases, its calls and what each answer leads to; `specs/Meaning.antt` what it knows of
-//! the files in each phase and what a step means for them, with the table, which the phases don't hold, beside the
-//! history; `specs/Trace.antt` which calls it made, and which show a refusal; `specs/Making.antt` what all its calls
+//! the files in each phase and what a step means for them, with the table, which the phases don't hold, beside their
+//! past; `specs/Trace.antt` which calls it made, and which show a refusal; `specs/Making.antt` what all its calls
 //! are, and what they do to a history.
 #![tactic(auto)]
 

@@ -59,14 +59,14 @@ impl PhaseMeaning for Phase {
     ghost use Rattle.pm_create.specs.Creator as creators;
     ghost use Rattle.pm_create.specs.Creator.{calls_left, reached_at, GoesOnce, Reaches};
     ghost use Rattle.pm_create.specs.Meaning as meaning;
-    ghost use Rattle.pm_create.specs.Meaning.{FolderBeside, KnowsBeside, MakesBeside};
+    ghost use Rattle.pm_create.specs.Meaning.{KnowsBeside, MakesBeside, StandsBeside};
     ghost use Rattle.pm_create.specs.Trace.{Did, Shows};
 
     type Step = CreateStep;
 
     ghost History = { meaning.Beside };
 
-    ghost Folder = { FolderBeside };
+    ghost Folder = { StandsBeside };
 
     ghost Change = { MakesBeside };
 

@@ -535,7 +535,7 @@ rows-append s entries e are is = record {
 pub kept : OneContents → ContentsStay → (me : Actor) (f after : Files) (h later : History) → Folder f h → Change me f h after later → Folder after later
 kept one stay me f after h later folder (nothing same) = kept-same one stay f after h same folder
 kept one stay me f after h later folder (own_file path content own other absent puts) = kept-own one stay me f after h path content own other absent puts folder
-kept one stay me f after h later folder (schema s bytes there puts reads) = kept-schema f after s bytes folder there puts reads
+kept one stay me f after h later folder (schema s bytes there named puts reads) = kept-schema f after s bytes folder there puts reads
 kept one stay me f after h later folder (committed s entries e bytes there within absent puts fit commit own) =
     table-after one stay f after s entries _ bytes folder within absent puts commit (rows-append s entries e folder.history fit)
 
@@ -546,7 +546,7 @@ goes-itself (table s entries) = (refl, [], sym (append-nil entries))
 pub goes_on : (me : Actor) (f after : Files) (h later : History) → Change me f h after later → GoesOn h later
 goes_on me f after h later (nothing same) = goes-itself h
 goes_on me f after h later (own_file path content own other absent puts) = goes-itself h
-goes_on me f after h later (schema s bytes there puts reads) = tt
+goes_on me f after h later (schema s bytes there named puts reads) = tt
 goes_on me f after h later (committed s entries e bytes there within absent puts fit commit own) = (refl, _, refl)
 
 -- what is there stays as it is: no kind of change writes a file twice, or takes one away
@@ -554,7 +554,7 @@ pub stays : (me : Actor) (f after : Files) (h later : History) (q : List ℕ) �
     → map.get after q ≡ map.get f q
 stays me f after h later q folder (nothing same) there = same q
 stays me f after h later q folder (own_file path content own other absent puts) there = puts.others q (there-absent f q path there absent)
-stays me f after h later q folder (schema s bytes origin puts reads) there =
+stays me f after h later q folder (schema s bytes origin named puts reads) there =
     puts.others q (there-absent f q (schema_path 0) there (folder.schemas 0 (omega arith)))
 stays me f after h later q folder (committed s entries e bytes newest within absent puts fit commit own) there =
     puts.others q (there-absent f q (snapshot_path (suc (length entries))) there absent)

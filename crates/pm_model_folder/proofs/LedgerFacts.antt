@@ -175,7 +175,7 @@ gone-change : (me : Actor) (f after : Files) (h later : History) (s : TableSchem
 gone-change me f after h later s id folder (nothing same) is least within absent = same (snapshot_path id) ∙ absent
 gone-change me f after h later s id folder (own_file path content own other none puts) is least within absent =
     puts.others (snapshot_path id) (snapshot-own me path id own) ∙ absent
-gone-change me f after h later s id folder (schema t bytes origin puts reads) is least within absent = absurd is
+gone-change me f after h later s id folder (schema t bytes origin named puts reads) is least within absent = absurd is
 gone-change me f after h later s id folder (committed t entries e bytes newest bound none puts fit commit own) is least within absent =
     puts.others (snapshot_path id) (other-snapshot id (suc (length entries)) (omega (arith, within, bound)) bound (λ e. omega (arith, within, e))) ∙ absent
 
@@ -501,7 +501,7 @@ module _ (laws : RunLaws) (me : Actor) (f after : Files) (p q : Past) (stands : 
   past-kept (table s entries) later was now folder (nothing same) past = same-past s entries was now past
   past-kept no_table later was now folder (own_file path content own other none puts) past = none-past was past
   past-kept (table s entries) later was now folder (own_file path content own other none puts) past = same-past s entries was now past
-  past-kept h later was now folder (schema s bytes origin puts reads) past = new-past s now past
+  past-kept h later was now folder (schema s bytes origin named puts reads) past = new-past s now past
   past-kept h later was now folder (committed s entries e bytes newest bound none puts fit commit own) past =
       longer-past s entries _ was now past commit.committed folder fit
 

@@ -3,5 +3,5 @@ pub mod HoldLemmas
 pub mod LedgerFacts
 mod NameLemmas
 mod OwnFacts
-mod PathLemmas
+pub mod PathLemmas
 pub mod RunFacts

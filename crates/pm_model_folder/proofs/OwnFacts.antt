@@ -177,7 +177,7 @@ module _ (one : OneContents) (same : SameContents) (namer : OneNamer) (bears : B
       at : (h later : History) → p.history ≡ h → q.history ≡ later → Change other f h after later → HasNamedNone me q
       at h later was now (nothing stays) = same-none h was now
       at h later was now (own_file path content own no_origin absent puts) = same-none h was now
-      at h later was now (schema s bytes origin puts reads) = λ t id path is known named by.
+      at h later was now (schema s bytes origin named puts reads) = λ t id path is known named by.
           (let low = known.after_origin in let high = known.to in let many = count-is q s [] now in absurd (omega (arith, low, high, many)))
       at h later was now (committed s entries e bytes newest bound absent puts fit commit own) =
           appended-none s entries e apart was now newest bound own
@@ -189,7 +189,7 @@ module _ (one : OneContents) (same : SameContents) (namer : OneNamer) (bears : B
       at : (h later : History) → p.history ≡ h → q.history ≡ later → Change other f h after later → HasNamedNone me q
       at h later was now (nothing stays) = same-none h was now
       at h later was now (own_file path content own no_origin absent puts) = same-none h was now
-      at h later was now (schema s bytes origin puts reads) = λ t id path is known named by.
+      at h later was now (schema s bytes origin named puts reads) = λ t id path is known named by.
           (let low = known.after_origin in let high = known.to in let none = count-is q s [] now in absurd (omega (arith, low, high, none)))
       at h later was now (committed s entries e bytes newest bound absent puts fit commit own) =
           let before = count-is p s entries was in

@@ -75,9 +75,9 @@ pub data Change (me : Actor) (f : Files) : History → Files → History → Typ
   -- a file of the actor's own appears where there was none, whole or in part; the table's origin doesn't come again
   own_file : {h : History} {after : Files} (path content : List ℕ) → IsOwn me path → IsNoOrigin h path
       → map.get f path ≡ None → Puts f path (Some content) after → Change me f h after h
-  -- the schema of a new table appears, whole, once its origin is there
+  -- the schema of a new table appears, whole, once its origin is there, which bears the actor's name
   schema : {after : Files} (s : TableSchema) (bytes : List ℕ) → HasSnapshotAt f s 0
-      → Puts f (schema_path 0) (Some bytes) after → SchemaAt after 0 s
+      → s.origin ≡ Some (origin_name me) → Puts f (schema_path 0) (Some bytes) after → SchemaAt after 0 s
       → Change me f no_table after (table s [])
   -- the snapshot after the newest appears, whole, while that stands, and its entry comes after those of the history,
   -- whatever it is; its new files are the actor's own

@@ -5,7 +5,8 @@ use Rattle.pm_create.proofs.Facts.{sound, recounts, goes, has_call, moves_of, st
 use Rattle.pm_create.proofs.creator.Creator.step.Goals as goal
 
 pub make_step-requires-clause-sound : goal.make_step-requires-clause-sound
-make_step-requires-clause-sound g c = sound
+make_step-requires-clause-sound g c =
+    sound (λ path text s reads. c.declared_law.ensures.file path text s ((c.schema_law.ensures.exact path text s).0 reads))
 
 pub make_step-requires-clause-recounts : goal.make_step-requires-clause-recounts
 make_step-requires-clause-recounts g c = recounts
