@@ -16,14 +16,14 @@ use Rattle.pm_schema.specs.declared.schema.TableSchema.{TableSchema}
 use Rattle.pm_model_folder.specs.Folder.{Folder}
 use Rattle.pm_model_folder.specs.Paths.{schema_folder, schema_path, snapshot_folder}
 use Rattle.pm_read_schema.specs.AllCalls.{DidRead, IsCaused, ReadsTables}
-use Rattle.pm_read_schema.specs.Meaning.{Knows, MayRefuse}
+use Rattle.pm_read_schema.specs.Meaning.{IsSchemaId, MayRefuse}
 use Rattle.pm_read_schema.specs.Reader.{next_call, calls_left, IsReady, Reaches}
 use Rattle.pm_read_schema.specs.Trace.{Names, listed_schemas, read_schema, listed_snapshots, Lists, Reads, Has, Looks, Misreads, LacksOrigin, DidSoFar, MayTakeMemory, Shows, Did, ReaderActed}
 use Rattle.pm_read_schema.specs.declared.phase.Phase.{Phase}
 use Rattle.pm_read_schema.specs.declared.phase.Phase.TheVariants as phases
 use Rattle.pm_read_schema.specs.declared.reader.SchemaStep.{SchemaStep}
 use Rattle.pm_read_schema.specs.declared.reader.SchemaStep.TheVariants as steps
-use Rattle.pm_read_schema.proofs.Facts.{list_effect, read_effect, own_schema, cause_at, spares}
+use Rattle.pm_read_schema.proofs.Facts.{list_effect, read_effect, led_schema, own_schema, cause_at, spares}
 use Rattle.pm_read_schema.proofs.StillLemmas.{IsStill, AreStill, IsTold, AreTold, calls_more, ended_still, failed_still, told_last, stayed}
 
 -- ---- its calls change nothing
@@ -88,21 +88,21 @@ shows_calls other own shows = absurd shows
 
 -- ---- what they say of the files that each answer is of
 
-lists_at : (f : Files) (h : History) (id : ℕ) (own : List Event) → Lists id own → AreTold f own → Knows (phases.Schema id) f h
-lists_at f h id own (names, newest, is) told =
-    let one : IsTold f (listed_schemas names) = (subst (AreTold f) is told).0 in
-    (newest.within, (one.exact _).0 newest.listed)
-
-reads_at : (f : Files) (h : History) (id : ℕ) (found : Option (List ℕ)) (own : List Event) → Reads id found own → AreTold f own
-    → Knows (phases.Schema id) f h × (found ≡ map.get f (schema_path id))
-reads_at f h id found own (earlier, lists, is) told =
-    let parts = told_last f earlier (read_schema id found) (subst (AreTold f) is told) in
-    (lists_at f h id earlier lists parts.0, parts.1)
-
 module _ (f : Files) (h : History) (folder : Folder f h) where
+  lists_at : (id : ℕ) (own : List Event) → Lists id own → AreTold f own → IsSchemaId id h
+  lists_at id own (names, newest, is) told =
+      let one : IsTold f (listed_schemas names) = (subst (AreTold f) is told).0 in
+      led_schema f h id folder newest.within ((one.exact _).0 newest.listed)
+
+  reads_at : (id : ℕ) (found : Option (List ℕ)) (own : List Event) → Reads id found own → AreTold f own
+      → IsSchemaId id h × (found ≡ map.get f (schema_path id))
+  reads_at id found own (earlier, lists, is) told =
+      let parts = told_last f earlier (read_schema id found) (subst (AreTold f) is told) in
+      (lists_at id earlier lists parts.0, parts.1)
+
   has_at : (s : TableSchema) (own : List Event) → Has s own → AreTold f own → IsTableOf s h
   has_at s own (id, bytes, reads, did) told =
-      let at = reads_at f h id (Some bytes) own did told in
+      let at = reads_at id (Some bytes) own did told in
       own_schema f h id bytes s folder at.0 at.1 reads
 
   pub ready_at : (s : TableSchema) (own : List Event) → Did (phases.Ready s) own → AreTold f own → IsTableOf s h
@@ -112,7 +112,7 @@ module _ (f : Files) (h : History) (folder : Folder f h) where
 
   misreads_at : (refusal : Refusal) (own : List Event) → Misreads refusal own → AreTold f own → MayRefuse h refusal
   misreads_at refusal own (id, bytes, is, did) told =
-      let at = reads_at f h id (Some bytes) own did told in
+      let at = reads_at id (Some bytes) own did told in
       cause_at (phases.Schema id) (answers.Found (Some bytes)) refusal f h folder at.0 (inr is) at.1
 
   lacks_at : (own : List Event) → LacksOrigin own → AreTold f own → ⊥
@@ -123,7 +123,7 @@ module _ (f : Files) (h : History) (folder : Folder f h) where
 
   absent_at : (id : ℕ) (own : List Event) → Reads id None own → AreTold f own → ⊥
   absent_at id own did told =
-      let at = reads_at f h id None own did told in
+      let at = reads_at id None own did told in
       cause_at (phases.Schema id) (answers.Found None) (refusals.Damaged (schema_path id) 0) f h folder at.0 (inr refl) at.1
 
   pub shows_at : (first after : StoreView) (refusal : Refusal) (own : List Event) → Shows refusal own → AreTold f own → Traces own first after

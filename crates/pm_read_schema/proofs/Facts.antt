@@ -1,5 +1,5 @@
 -- A reader of a schema keeps the laws of machines.
-use Rattle.std.proofs.Common.{◌≡◌, inl, inr, ℕ, ◌<◌, List, [], ◌∷◌, ◌++◌, Option, None, Some, IsSome, IfSome, Ok, Err, refl, sym, ap, ◌∙◌, subst, arith}
+use Rattle.std.proofs.Common.{◌≡◌, inl, inr, ℕ, ◌<◌, ◌≤◌, List, [], ◌∷◌, ◌++◌, Option, None, Some, IsSome, IfSome, Ok, Err, refl, sym, ap, ◌∙◌, subst, arith}
 use Rattle.std.specs.FinMap as map
 use Rattle.pm_values.specs.declared.refusal.Refusal.{Refusal}
 use Rattle.pm_values.specs.declared.refusal.Refusal.TheVariants as refusals
@@ -20,15 +20,17 @@ use Rattle.pm_machine.proofs.PhaseFacts.{Spares, recounts_of, sound_of_spared}
 use Rattle.pm_model_history.specs.History.{History, IsTableOf, no_table, table, GoesOn}
 use Rattle.pm_schema.specs.Reading.{schema_of}
 use Rattle.pm_schema.specs.declared.schema.TableSchema.{TableSchema}
-use Rattle.pm_model_folder.specs.Changes.{Actor, Change, nothing}
+use Rattle.pm_model_folder.specs.Changes.{Actor, nothing}
 use Rattle.pm_model_folder.specs.Folder.{Folder}
-use Rattle.pm_model_folder.specs.Meaning.{SchemaAt}
+use Rattle.pm_model_folder.specs.Ledger.{Advances, Past, Stands}
+use Rattle.pm_model_folder.specs.Meaning.{LeadsTo, SchemaAt}
 use Rattle.pm_model_folder.specs.Paths.{schema_folder, schema_name, schema_path, snapshot_folder}
-use Rattle.pm_model_folder.proofs.Facts.{goes_on, stays, still_there, no-schema, only-schema, listed-none, snapshot-led, unnamed-origin}
+use Rattle.pm_model_folder.proofs.Facts.{goes_on, no-schema, only-schema, listed-none, snapshot-led, some-none, unnamed-origin}
+use Rattle.pm_model_folder.proofs.LedgerFacts.{beside}
 use Rattle.pm_schema.proofs.Facts.{file_faults}
-use Rattle.pm_snapshot.specs.Names.{snapshot_name}
+use Rattle.pm_snapshot.specs.Names.{greatest, snapshot_name}
 use Rattle.pm_read_schema.specs.Names.{HasSnapshot}
-use Rattle.pm_read_schema.specs.Meaning.{AreKept, Leaves, Knows, MayRefuse}
+use Rattle.pm_read_schema.specs.Meaning.{AreKept, IsSchemaId, Leaves, Knows, KnowsOf, MayRefuse}
 use Rattle.pm_read_schema.specs.Reader.{schemas_call, schema_call, snapshots_call, next_call, calls_left, reached_at, with_origin, Goes, HasDeclared, Reaches, Shown}
 use Rattle.pm_read_schema.specs.Trace.{listed_schemas, read_schema, listed_snapshots, Has, Misreads, DidSoFar, MayTakeMemory, Shows, Did}
 use Rattle.pm_read_schema.specs.declared.phase.Phase.{Phase}
@@ -36,8 +38,8 @@ use Rattle.pm_read_schema.specs.declared.phase.Phase.TheVariants as phases
 
 -- ---- its calls change nothing
 
-pub kept_same : (f after : Files) (h : History) → after ≡ f → AreKept f h after h
-kept_same f after h same = record { files = λ q. ap (λ (g : Files). map.get g q) same; history = refl }
+pub kept_same : (f after : Files) (p : Past) → after ≡ f → AreKept f p after p
+kept_same f after p same = record { files = λ q. ap (λ (g : Files). map.get g q) same; past = refl }
 
 pub list_effect : (folder : List ℕ) (effect : Effect) (f : Files) → after_effect (calls.List folder) effect f ≡ f
 list_effect folder effects.None f = refl
@@ -59,13 +61,18 @@ spares phases.Over f = tt
 
 -- ---- what it knows
 
--- the schema that a file leads to is there, and there is a table of it
-schema_there : (f : Files) (h : History) (id : ℕ) → Folder f h → Knows (phases.Schema id) f h → (s : TableSchema) × SchemaAt f id s × IsTableOf s h
-schema_there f no_table id folder (within, led) = absurd (no-schema f id folder within led)
-schema_there f (table s entries) id folder (within, led) = (s, (only-schema f s entries id folder within led).1, refl)
+-- the schema that a file leads to is the table's
+pub led_schema : (f : Files) (h : History) (id : ℕ) → Folder f h → id ≤ greatest → LeadsTo f schema_folder (schema_name id) → IsSchemaId id h
+led_schema f no_table id folder within led = absurd (no-schema f id folder within led)
+led_schema f (table s entries) id folder within led = ((only-schema f s entries id folder within led).0, (s, refl))
+
+-- that is there, and there is a table of it
+schema_there : (f : Files) (h : History) (id : ℕ) → Folder f h → IsSchemaId id h → (s : TableSchema) × SchemaAt f id s × IsTableOf s h
+schema_there f no_table id folder (first, (s, is)) = absurd is
+schema_there f (table t entries) id folder (first, (s, is)) = (t, subst (λ id. SchemaAt f id t) (sym first) folder.schema.first, refl)
 
 -- its bytes are those that a read answers
-schema_reads : (f : Files) (h : History) (id : ℕ) (bytes : List ℕ) → Folder f h → Knows (phases.Schema id) f h → Some bytes ≡ map.get f (schema_path id)
+schema_reads : (f : Files) (h : History) (id : ℕ) (bytes : List ℕ) → Folder f h → IsSchemaId id h → Some bytes ≡ map.get f (schema_path id)
     → (s : TableSchema) × (schema_of (schema_path id) bytes ≡ Ok s) × IsTableOf s h
 schema_reads f h id bytes folder known there =
     let at = schema_there f h id folder known in
@@ -73,7 +80,7 @@ schema_reads f h id bytes folder known there =
     let bytes_are : bytes ≡ at.1.0 = cc in
     (at.0, ap (schema_of (schema_path id)) bytes_are ∙ at.1.2, at.2)
 
-pub own_schema : (f : Files) (h : History) (id : ℕ) (bytes : List ℕ) (s : TableSchema) → Folder f h → Knows (phases.Schema id) f h
+pub own_schema : (f : Files) (h : History) (id : ℕ) (bytes : List ℕ) (s : TableSchema) → Folder f h → IsSchemaId id h
     → Some bytes ≡ map.get f (schema_path id) → schema_of (schema_path id) bytes ≡ Ok s → IsTableOf s h
 own_schema f h id bytes s folder known there reads =
     let at = schema_reads f h id bytes folder known there in
@@ -81,23 +88,27 @@ own_schema f h id bytes s folder known there reads =
     let same : at.0 ≡ s = cc in
     subst (λ (s : TableSchema). IsTableOf s h) same at.2
 
-knows_schema : (o : Option (List ℕ)) (s : TableSchema) (f : Files) (h : History) → s.origin ≡ o → IsTableOf s h → Knows (with_origin o s) f h
-knows_schema None s f h none is = (is, none)
-knows_schema (Some origin) s f h some is = is
+knows_schema : (o : Option (List ℕ)) (s : TableSchema) (h : History) → s.origin ≡ o → IsTableOf s h → KnowsOf (with_origin o s) h
+knows_schema None s h none is = (is, none)
+knows_schema (Some origin) s h some is = is
 
--- what an answer leads to is known of the same files
-pub knows_next : (m : Phase) (answer : Answer) (new : Phase) (f : Files) (h : History) → Goes m answer new → Folder f h → Knows m f h
-    → IfSome (next_call m) (λ call. Answers call answer f → Knows new f h)
-knows_next phases.Schemas (answers.Listed names) new f h (id, newest, is) folder known = λ told.
-    subst (λ (m : Phase). Knows m f h) (sym is) (newest.within, (told.exact (schema_name id)).0 newest.listed)
-knows_next (phases.Schema id) (answers.Found (Some bytes)) new f h (s, reads, is) folder known = λ told.
-    subst (λ (m : Phase). Knows m f h) (sym is) (knows_schema s.origin s f h refl (own_schema f h id bytes s folder known told reads))
-knows_next (phases.Snapshots s) (answers.Listed names) new f h (some, is) folder known = λ told.
-    subst (λ (m : Phase). Knows m f h) (sym is) known.0
-knows_next m answer new f h goes folder known = absurd goes
+-- what an answer leads to is known of the same history
+next_of : (m : Phase) (answer : Answer) (new : Phase) (f : Files) (h : History) → Goes m answer new → Folder f h → KnowsOf m h
+    → IfSome (next_call m) (λ call. Answers call answer f → KnowsOf new h)
+next_of phases.Schemas (answers.Listed names) new f h (id, newest, is) folder known = λ told.
+    subst (λ (m : Phase). KnowsOf m h) (sym is) (led_schema f h id folder newest.within ((told.exact (schema_name id)).0 newest.listed))
+next_of (phases.Schema id) (answers.Found (Some bytes)) new f h (s, reads, is) folder known = λ told.
+    subst (λ (m : Phase). KnowsOf m h) (sym is) (knows_schema s.origin s h refl (own_schema f h id bytes s folder known told reads))
+next_of (phases.Snapshots s) (answers.Listed names) new f h (some, is) folder known = λ told.
+    subst (λ (m : Phase). KnowsOf m h) (sym is) known.0
+next_of m answer new f h goes folder known = absurd goes
 
-pub sound : Sound next_call Goes (Refuses Shown phases.Over) (Stops phases.Over) Folder Leaves Knows
-sound = sound_of_spared next_call Goes Shown phases.Over Folder Leaves Knows (λ m. kept_same) spares knows_next (λ f h. tt)
+pub knows_next : (m : Phase) (answer : Answer) (new : Phase) (f : Files) (p : Past) → Goes m answer new → Stands f p → Knows m f p
+    → IfSome (next_call m) (λ call. Answers call answer f → Knows new f p)
+knows_next m answer new f p goes stands known = next_of m answer new f p.history goes stands.folder known
+
+pub sound : Sound next_call Goes (Refuses Shown phases.Over) (Stops phases.Over) Stands Leaves Knows
+sound = sound_of_spared next_call Goes Shown phases.Over Stands Leaves Knows (λ m. kept_same) spares knows_next (λ f p. tt)
 
 -- ---- its calls
 
@@ -199,14 +210,14 @@ has_call phases.Over is left = absurd (omega (arith, left))
 -- ---- what answers show where the files stand for a history
 
 -- where a table's schema names no origin, a listing has a snapshot
-lists_some : (f : Files) (h : History) (s : TableSchema) (names : List (List ℕ)) → Folder f h → Knows (phases.Snapshots s) f h
+lists_some : (f : Files) (h : History) (s : TableSchema) (names : List (List ℕ)) → Folder f h → KnowsOf (phases.Snapshots s) h
     → IsListing snapshot_folder names f → HasSnapshot names
 lists_some f no_table s names folder (is, none) listing = absurd is
 lists_some f (table t entries) s names folder (is, none) listing =
     let at = unnamed-origin f t entries folder (ap (λ (s : TableSchema). s.origin) is ∙ none) in
     (at.0, at.1, at.2, (listing.exact (snapshot_name at.0)).1 (snapshot-led f at.0 at.2 at.3))
 
-pub cause_at : (m : Phase) (answer : Answer) (refusal : Refusal) (f : Files) (h : History) → Folder f h → Knows m f h → Shown m answer refusal
+pub cause_at : (m : Phase) (answer : Answer) (refusal : Refusal) (f : Files) (h : History) → Folder f h → KnowsOf m h → Shown m answer refusal
     → IfSome (next_call m) (λ call. Answers call answer f → MayRefuse h refusal)
 cause_at phases.Schemas (answers.Listed names) refusal f h folder known (is, none) = λ told.
     subst (MayRefuse h) (sym is) ((listed-none f h names.items folder told).0 none)
@@ -221,9 +232,9 @@ cause_at m answer refusal f h folder known shown = absurd shown
 
 -- ---- laws
 
-pub cause : (m : Phase) (call : Call) (answer : Answer) (refusal : Refusal) (f : Files) (h : History) → Folder f h → Knows m f h
-    → next_call m ≡ Some call → Answers call answer f → Shown m answer refusal → MayRefuse h refusal
-cause m call answer refusal f h folder known is told shown = (rw is at (cause_at m answer refusal f h folder known shown)) told
+pub cause : (m : Phase) (call : Call) (answer : Answer) (refusal : Refusal) (f : Files) (p : Past) → Stands f p → Knows m f p
+    → next_call m ≡ Some call → Answers call answer f → Shown m answer refusal → MayRefuse p.history refusal
+cause m call answer refusal f p stands known is told shown = (rw is at (cause_at m answer refusal f p.history stands.folder known shown)) told
 
 pub no_next : (answer : Answer) (new : Phase) (f : Files) → Folder f no_table → Answers schemas_call answer f → ¬ Goes phases.Schemas answer new
 no_next (answers.Listed names) new f folder told (id, newest, is) =
@@ -235,20 +246,28 @@ still_table s no_table later goes is = absurd is
 still_table s (table t entries) no_table goes is = absurd goes
 still_table s (table t entries) (table u more) goes is = goes.0 ∙ is
 
-pub knows_still : (m : Phase) (other : Actor) (f after : Files) (h later : History) → Folder f h → Change other f h after later
-    → Knows m f h → Knows m after later
-knows_still phases.Schemas other f after h later folder change known = tt
-knows_still (phases.Schema id) other f after h later folder change (within, (path, there, leads)) =
-    (within, (path, still_there f after path (stays other f after h later path folder change there) there, leads))
-knows_still (phases.Snapshots s) other f after h later folder change (known, none) = (still_table s h later (goes_on other f after h later change) known, none)
-knows_still (phases.Ready s) other f after h later folder change known = still_table s h later (goes_on other f after h later change) known
-knows_still phases.Over other f after h later folder change known = tt
+-- what is known of a history is so of each that it goes on as
+still_of : (m : Phase) (h later : History) → GoesOn h later → KnowsOf m h → KnowsOf m later
+still_of phases.Schemas h later goes known = tt
+still_of (phases.Schema id) h later goes (first, (s, is)) = (first, (s, still_table s h later goes is))
+still_of (phases.Snapshots s) h later goes (known, none) = (still_table s h later goes known, none)
+still_of (phases.Ready s) h later goes known = still_table s h later goes known
+still_of phases.Over h later goes known = tt
 
-pub kept_nothing : (me : Actor) (f after : Files) (h later : History) → AreKept f h after later → Change me f h after later
-kept_nothing me f after h later kept = subst (λ (later : History). Change me f h after later) (sym kept.history) (nothing kept.files)
+pub knows_still : (m : Phase) (other : Actor) (f after : Files) (p q : Past) → Stands f p → Advances other f p after q → Knows m f p → Knows m after q
+knows_still m other f after p q stands advances known =
+    still_of m p.history q.history (goes_on other f after p.history q.history advances.change) known
 
-pub images : (m : Phase) (call : Call) (f image : Files) (h : History) → next_call m ≡ Some call → MayLeave call f image → AreKept f h image h
-images m call f image h is left =
+-- where nothing changes, what is known stays
+same_advances : (me : Actor) (f after : Files) (p : Past) → ((path : List ℕ) → map.get after path ≡ map.get f path) → Advances me f p after p
+same_advances me f after p same =
+    beside me f after p p.history (nothing same) refl (λ s path is none here. absurd (some-none (map.get after path) here (same path ∙ none)))
+
+pub kept_nothing : (me : Actor) (f after : Files) (p later : Past) → AreKept f p after later → Advances me f p after later
+kept_nothing me f after p later kept = subst (λ (later : Past). Advances me f p after later) (sym kept.past) (same_advances me f after p kept.files)
+
+pub images : (m : Phase) (call : Call) (f image : Files) (p : Past) → next_call m ≡ Some call → MayLeave call f image → AreKept f p image p
+images m call f image p is left =
     let had = effect_left call f image left in
     let still = rw is at (spares m f) in
-    kept_same f image h (had.1 ∙ still had.0)
+    kept_same f image p (had.1 ∙ still had.0)

@@ -1,10 +1,11 @@
 //! Laws of readers of a schema. Each holds with no call.
 
 ghost use Rattle.std.specs.Prelude.{◌≡◌, ◌↔◌, ℕ, ◌≤◌, List, Some};
-ghost use Rattle.pm_model_folder.specs.Changes.{Actor, Change};
+ghost use Rattle.pm_model_folder.specs.Changes.{Actor};
 ghost use Rattle.pm_model_folder.specs.Folder.{Folder};
+ghost use Rattle.pm_model_folder.specs.Ledger.{Advances, Past, Stands};
 ghost use Rattle.pm_model_folder.specs.Paths.{schema_name};
-ghost use Rattle.pm_model_history.specs.History.{History, no_table};
+ghost use Rattle.pm_model_history.specs.History.{no_table};
 ghost use Rattle.pm_snapshot.specs.Names.{greatest};
 ghost use Rattle.pm_store.specs.Answers.{Answers};
 ghost use Rattle.pm_store.specs.declared.answer.Answer.{Answer};
@@ -27,27 +28,27 @@ pub fn schema_name_law()
 /// Where the files stand for a history, an answer shows that there is no table only where there is none, and nothing
 /// else but that memory ran out. And where there is none, the listing of the schemas leads to no further call.
 pub fn causes_law()
-    ensures cause { (m : Phase) (call : Call) (answer : Answer) (refusal : Refusal) (f : Files) (h : History)
-        → Folder f h → Knows m f h → next_call m ≡ Some call → Answers call answer f → Shown m answer refusal
-        → MayRefuse h refusal }
+    ensures cause { (m : Phase) (call : Call) (answer : Answer) (refusal : Refusal) (f : Files) (p : Past)
+        → Stands f p → Knows m f p → next_call m ≡ Some call → Answers call answer f → Shown m answer refusal
+        → MayRefuse p.history refusal }
     ensures no_table { (answer : Answer) (new : Phase) (f : Files) → Folder f no_table
         → Answers schemas_call answer f → ¬ Goes phases.Schemas answer new }
 {}
 
 /// What a reader knows stays true through each kind of change of every actor.
 pub fn known_law()
-    ensures { (m : Phase) (other : Actor) (f after : Files) (h later : History) → Folder f h
-        → Change other f h after later → Knows m f h → Knows m after later }
+    ensures { (m : Phase) (other : Actor) (f after : Files) (p q : Past) → Stands f p → Advances other f p after q
+        → Knows m f p → Knows m after q }
 {}
 
 /// Where nothing changes, that is the least kind of change, whoever acts.
 pub fn nothing_law()
-    ensures { (me : Actor) (f after : Files) (h later : History) → AreKept f h after later
-        → Change me f h after later }
+    ensures { (me : Actor) (f after : Files) (p later : Past) → AreKept f p after later
+        → Advances me f p after later }
 {}
 
 /// Whatever a crash leaves of a reader's next call has the same content at each path.
 pub fn images_law()
-    ensures { (m : Phase) (call : Call) (f image : Files) (h : History) → next_call m ≡ Some call
-        → MayLeave call f image → AreKept f h image h }
+    ensures { (m : Phase) (call : Call) (f image : Files) (p : Past) → next_call m ≡ Some call
+        → MayLeave call f image → AreKept f p image p }
 {}

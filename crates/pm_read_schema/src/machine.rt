@@ -137,14 +137,13 @@ impl PhaseMeaning for Phase {
     ghost use Rattle.pm_read_schema.specs.Meaning.{Knows, Leaves};
     ghost use Rattle.pm_read_schema.specs.Reader.{calls_left, reached_at, Reaches};
     ghost use Rattle.pm_read_schema.specs.Trace.{Did, Shows};
-    ghost use Rattle.pm_model_folder.specs.Folder as folders;
-    ghost use Rattle.pm_model_history.specs.History as histories;
+    ghost use Rattle.pm_model_folder.specs.Ledger as ledgers;
 
     type Step = SchemaStep;
 
-    ghost History = { histories.History };
+    ghost History = { ledgers.Past };
 
-    ghost Folder = { folders.Folder };
+    ghost Folder = { ledgers.Stands };
 
     ghost Change = { Leaves };
 

@@ -1,5 +1,5 @@
 -- A lister of snapshots keeps the laws of machines.
-use Rattle.std.proofs.Common.{◌≡◌, inl, inr, ℕ, ◌<◌, ◌+◌, List, [], ◌∷◌, ◌++◌, length, Option, None, Some, option_map, IsSome, IfSome, Ok, refl, sym, ap, ◌∙◌, subst, arith, append_assoc}
+use Rattle.std.proofs.Common.{◌≡◌, inl, inr, ℕ, zero, suc, ◌<◌, ◌≤◌, ◌+◌, List, [], ◌∷◌, ◌++◌, Contains, length, Option, None, Some, option_map, IsSome, IfSome, Ok, refl, sym, ap, ◌∙◌, subst, arith, append_assoc}
 use Rattle.std.specs.FinMap as map
 use Rattle.std.specs.List.{AllByRecursion, AllZip}
 use Rattle.std.proofs.lemmas.List.{append-nil, length_push}
@@ -10,26 +10,28 @@ use Rattle.pm_store.specs.declared.answer.Answer.{Answer}
 use Rattle.pm_store.specs.declared.answer.Answer.TheVariants as answers
 use Rattle.pm_store.specs.declared.call.Call.{Call}
 use Rattle.pm_store.specs.Answers.{Answers, MayAnswer}
-use Rattle.pm_store.specs.Files.{Files}
+use Rattle.pm_store.specs.Files.{Files, IsListing}
 use Rattle.pm_store.specs.Images.{MayLeave}
 use Rattle.pm_store.proofs.FileLaws.{effect_left}
 use Rattle.pm_machine.specs.Moves.{Sound}
 use Rattle.pm_machine.specs.Running.{Refuses, Stops}
 use Rattle.pm_machine.specs.Trace.{Event, Recounts, after_answer, answered}
 use Rattle.pm_machine.proofs.PhaseFacts.{Spares, ended, recounts_of, sound_of_spared}
-use Rattle.pm_model_history.specs.History.{History}
+use Rattle.pm_model_history.specs.History.{IsTableOf}
 use Rattle.pm_schema.specs.declared.schema.TableSchema.{TableSchema}
 use Rattle.pm_snapshot.specs.Names.{greatest}
 use Rattle.pm_snapshot.specs.Snapshot.{snapshot_in}
 use Rattle.pm_snapshot.specs.declared.snapshot.Snapshot.{Snapshot}
 use Rattle.pm_snapshot.proofs.Facts.{id_same}
-use Rattle.pm_model_folder.specs.Changes.{Actor, Change}
-use Rattle.pm_model_folder.specs.Folder.{Folder}
-use Rattle.pm_model_folder.specs.Meaning.{SnapshotAt}
+use Rattle.pm_model_folder.specs.Changes.{Actor}
+use Rattle.pm_model_folder.specs.Ledger.{Advances, IsKnown, Past, Stands}
+use Rattle.pm_model_folder.specs.Meaning.{HasSnapshotAt, SnapshotAt}
 use Rattle.pm_model_folder.specs.Paths.{snapshot_folder, snapshot_path}
-use Rattle.pm_model_folder.proofs.Facts.{goes_on, stays}
+use Rattle.pm_model_folder.proofs.Facts.{goes_on}
+use Rattle.pm_model_folder.proofs.LedgerFacts.{at-table, count-is, known-still, stood-same}
 use Rattle.pm_paths.specs.Ids.{AreIds}
 use Rattle.pm_paths.proofs.IdLemmas.{ids_within}
+use Rattle.pm_paths.proofs.ListedLemmas.{ids_there}
 use Rattle.pm_read_schema.specs.Meaning as reader_meaning
 use Rattle.pm_read_schema.specs.Meaning.{AreKept}
 use Rattle.pm_read_schema.specs.Reader as reader
@@ -42,13 +44,13 @@ use Rattle.pm_read_schema.proofs.Facts as reader_facts
 use Rattle.pm_read_schema.proofs.Facts.{kept_same, list_effect, read_effect, still_table}
 use Rattle.pm_snapshots.specs.Lines.{line_of}
 use Rattle.pm_snapshots.specs.Lister.{snapshot_call, next_call, IsLister, calls_left, IsDone, lines_of, schema_at, KeepsSchema, after_reader, Goes, Shown, Reaches, done_at, reached_at}
-use Rattle.pm_snapshots.specs.Meaning.{Leaves, IsLineAt, Knows}
+use Rattle.pm_snapshots.specs.Meaning.{Leaves, IsLineAt, IsLineIn, IsReadingIn, Knows}
 use Rattle.pm_snapshots.specs.Reading.{ReadingView, reading_of, next_id, add_line}
 use Rattle.pm_snapshots.specs.Trace.{read_snapshot, IsLineOf, HasRead, Meets, HasListed, DidSoFar, MayTakeMemory, Shows, Did}
 use Rattle.pm_snapshots.specs.declared.line.SnapshotLine.{SnapshotLine}
 use Rattle.pm_snapshots.specs.declared.phase.Phase.{Phase}
 use Rattle.pm_snapshots.specs.declared.phase.Phase.TheVariants as phases
-use Rattle.pm_snapshots.proofs.ReadingLemmas.{none_left, one_more, within_none}
+use Rattle.pm_snapshots.proofs.ReadingLemmas.{next_listed, none_left, one_more, within_none}
 
 -- ---- its calls change nothing
 
@@ -64,42 +66,74 @@ spares phases.Over f = tt
 
 -- ---- what it knows
 
-knows_reader : (r : schema_phase.Phase) (f : Files) (h : History) → reader_meaning.Knows r f h → Knows (after_reader r) f h
-knows_reader readers.Schemas f h known = known
-knows_reader (readers.Schema id) f h known = known
-knows_reader (readers.Snapshots s) f h known = known
-knows_reader (readers.Ready s) f h known = known
-knows_reader readers.Over f h known = known
+knows_reader : (r : schema_phase.Phase) (f : Files) (p : Past) → reader_meaning.Knows r f p → Knows (after_reader r) f p
+knows_reader readers.Schemas f p known = known
+knows_reader (readers.Schema id) f p known = known
+knows_reader (readers.Snapshots s) f p known = known
+knows_reader (readers.Ready s) f p known = known
+knows_reader readers.Over f p known = known
 
-line_at : (f : Files) (id : ℕ) (bytes : List ℕ) (s : Snapshot) → Some bytes ≡ map.get f (snapshot_path id) → snapshot_in id bytes ≡ Ok s
-    → IsLineAt f (line_of s)
-line_at f id bytes s there reads =
-    (s, subst (λ id. SnapshotAt f id s) (sym (id_same id bytes s reads)) (bytes, sym there, reads), refl)
+-- a snapshot that is there is known
+there_known : (f : Files) (p : Past) (s : TableSchema) (id : ℕ) → Stands f p → IsTableOf s p.history → 1 ≤ id → id ≤ greatest
+    → IsSome (map.get f (snapshot_path id)) → IsKnown p id
+there_known f p s zero stands is least within there = absurd (omega (arith, least))
+there_known f p s (suc k) stands is least within there =
+    let own = at-table f p s stands is in
+    let here : HasSnapshotAt f s (suc k) = there in
+    let high = ((own.2.snapshots.exact (suc k) within).0 here).1 in
+    record {
+      after_origin = least;
+      from = own.3.reaches (suc k) least high here;
+      to = (let many = count-is p s own.0 own.1 in omega (arith, high, many));
+    }
 
-knows_read : (r : ReadingView) (next : Option ℕ) (id : ℕ) (bytes : List ℕ) (s : Snapshot) (f : Files) → next ≡ Some id → snapshot_in id bytes ≡ Ok s
-    → AllByRecursion (IsLineAt f) r.lines
-    → IfSome (option_map snapshot_call next) (λ call. Answers call (answers.Found (Some bytes)) f → AllByRecursion (IsLineAt f) (r.lines ++ line_of s ∷ []))
-knows_read r None id bytes s f is reads known = tt
-knows_read r (Some other) id bytes s f is reads known = λ told.
+-- so are those that a listing has
+listed_known : (f : Files) (p : Past) (s : TableSchema) (names : List (List ℕ)) (ids : List ℕ) → Stands f p → IsTableOf s p.history → AreIds names ids
+    → IsListing snapshot_folder names f → (id : ℕ) → Contains ids id → IsKnown p id
+listed_known f p s names ids stands is are listing id listed =
+    let there = (ids_there f p.history names ids id stands.folder are listing).0 listed in
+    there_known f p s id stands is there.0 there.1 there.2
+
+-- the line of a known snapshot that is read is that of it as it stood
+line_in : (f : Files) (p : Past) (t : TableSchema) (id : ℕ) (bytes : List ℕ) (s : Snapshot) → Stands f p → IsTableOf t p.history → IsKnown p id
+    → Some bytes ≡ map.get f (snapshot_path id) → snapshot_in id bytes ≡ Ok s → IsLineIn p (line_of s)
+line_in f p t id bytes s stands is known there reads =
+    let same : id ≡ s.id = sym (id_same id bytes s reads) in
+    let stood = stood-same f p t id (snapshot_path id) bytes stands is known (inl refl) (sym there) in record {
+      known = subst (IsKnown p) same known;
+      stood = (s, subst (λ id. SnapshotAt (p.stood id) id s) same (bytes, stood, reads), refl);
+    }
+
+knows_read : (r : ReadingView) (next : Option ℕ) (id : ℕ) (bytes : List ℕ) (s : Snapshot) (f : Files) (p : Past) → next_id r ≡ next → next ≡ Some id
+    → snapshot_in id bytes ≡ Ok s → Stands f p → IsReadingIn p r
+    → IfSome (option_map snapshot_call next) (λ call. Answers call (answers.Found (Some bytes)) f → IsReadingIn p (add_line r (line_of s)))
+knows_read r None id bytes s f p at is reads stands known = tt
+knows_read r (Some other) id bytes s f p at is reads stands known = λ told.
     let same : other ≡ id = cc in
-    AllByRecursion-push (IsLineAt f) r.lines (line_of s) known
-    (line_at f id bytes s (told ∙ ap (λ id. map.get f (snapshot_path id)) same) reads)
+    let known_id = known.ids id (next_listed r id (at ∙ is)) in record {
+      table = known.table;
+      ids = known.ids;
+      lines = AllByRecursion-push (IsLineIn p) r.lines (line_of s) known.lines
+          (line_in f p r.schema id bytes s stands known.table known_id (told ∙ ap (λ id. map.get f (snapshot_path id)) same) reads);
+    }
 
 -- what an answer leads to is known of the same files
-knows_next : (m : Phase) (answer : Answer) (new : Phase) (f : Files) (h : History) → Goes m answer new → Folder f h → Knows m f h
-    → IfSome (next_call m) (λ call. Answers call answer f → Knows new f h)
-knows_next (phases.Schema r) answer new f h (to, on, is) folder known =
-    IfSome_then (reader.next_call r) (reader_facts.knows_next r answer to f h on folder known)
-    (λ call knows told. subst (λ (m : Phase). Knows m f h) (sym is) (knows_reader to f h (knows told)))
-knows_next (phases.List s) (answers.Listed names) new f h (ids, are, is) folder known = λ told.
-    subst (λ (m : Phase). Knows m f h) (sym is) (known, tt)
-knows_next (phases.Read r) (answers.Found (Some bytes)) new f h (id, s, next, reads, is) folder (is_table, known) =
-    IfSome_then (next_call (phases.Read r)) (knows_read r (next_id r) id bytes s f next reads known)
-    (λ call knows told. subst (λ (m : Phase). Knows m f h) (sym is) (is_table, knows told))
-knows_next m answer new f h goes folder known = absurd goes
+knows_next : (m : Phase) (answer : Answer) (new : Phase) (f : Files) (p : Past) → Goes m answer new → Stands f p → Knows m f p
+    → IfSome (next_call m) (λ call. Answers call answer f → Knows new f p)
+knows_next (phases.Schema r) answer new f p (to, on, is) stands known =
+    IfSome_then (reader.next_call r) (reader_facts.knows_next r answer to f p on stands known)
+    (λ call knows told. subst (λ (m : Phase). Knows m f p) (sym is) (knows_reader to f p (knows told)))
+knows_next (phases.List s) (answers.Listed names) new f p (ids, are, is) stands known = λ told.
+    let reading : IsReadingIn p (reading_of s ids []) =
+    record { table = known; ids = listed_known f p s names.items ids stands known are told; lines = tt } in
+    subst (λ (m : Phase). Knows m f p) (sym is) reading
+knows_next (phases.Read r) (answers.Found (Some bytes)) new f p (id, s, next, reads, is) stands known =
+    IfSome_then (next_call (phases.Read r)) (knows_read r (next_id r) id bytes s f p refl next reads stands known)
+    (λ call knows told. subst (λ (m : Phase). Knows m f p) (sym is) (knows told))
+knows_next m answer new f p goes stands known = absurd goes
 
-pub sound : Sound next_call Goes (Refuses Shown phases.Over) (Stops phases.Over) Folder Leaves Knows
-sound = sound_of_spared next_call Goes Shown phases.Over Folder Leaves Knows (λ m. kept_same) spares knows_next (λ f h. tt)
+pub sound : Sound next_call Goes (Refuses Shown phases.Over) (Stops phases.Over) Stands Leaves Knows
+sound = sound_of_spared next_call Goes Shown phases.Over Stands Leaves Knows (λ m. kept_same) spares knows_next (λ f p. tt)
 
 -- ---- its calls
 
@@ -271,27 +305,38 @@ goes m answer new is on = (goes_fewer m answer new on, goes_reaches m answer new
 
 -- ---- laws
 
-lines_still : (lines : List SnapshotLine) (other : Actor) (f after : Files) (h later : History) → Folder f h → Change other f h after later
-    → AllByRecursion (IsLineAt f) lines → AllByRecursion (IsLineAt after) lines
-lines_still [] other f after h later folder change known = tt
-lines_still (l ∷ lines) other f after h later folder change ((s, (bytes, there, reads), is), known) = (
-  (s, (bytes, stays other f after h later (snapshot_path l.id) folder change (subst (λ (o : Option (List ℕ)). IsSome o) (sym there) refl) ∙ there, reads), is),
-  lines_still lines other f after h later folder change known,
-)
+module _ (other : Actor) (f after : Files) (p q : Past) (advances : Advances other f p after q) where
+  line_still : (l : SnapshotLine) → IsLineIn p l → IsLineIn q l
+  line_still l line = record {
+    known = known-still other f after p q l.id advances line.known;
+    stood = subst (λ (g : Files). IsLineAt g l) (sym (advances.same l.id line.known)) line.stood;
+  }
 
-pub knows_still : (m : Phase) (other : Actor) (f after : Files) (h later : History) → Folder f h → Change other f h after later
-    → Knows m f h → Knows m after later
-knows_still (phases.Schema r) other f after h later folder change known = reader_facts.knows_still r other f after h later folder change known
-knows_still (phases.List s) other f after h later folder change known = still_table s h later (goes_on other f after h later change) known
-knows_still (phases.Read r) other f after h later folder change (is_table, known) =
-    (still_table r.schema h later (goes_on other f after h later change) is_table, lines_still r.lines other f after h later folder change known)
-knows_still phases.Over other f after h later folder change known = tt
+  lines_still : (lines : List SnapshotLine) → AllByRecursion (IsLineIn p) lines → AllByRecursion (IsLineIn q) lines
+  lines_still [] known = tt
+  lines_still (l ∷ lines) (line, known) = (line_still l line, lines_still lines known)
 
-pub images : (m : Phase) (call : Call) (f image : Files) (h : History) → next_call m ≡ Some call → MayLeave call f image → AreKept f h image h
-images m call f image h is left =
+  table_still : (s : TableSchema) → IsTableOf s p.history → IsTableOf s q.history
+  table_still s is = still_table s p.history q.history (goes_on other f after p.history q.history advances.change) is
+
+  reading_still : (r : ReadingView) → IsReadingIn p r → IsReadingIn q r
+  reading_still r known = record {
+    table = table_still r.schema known.table;
+    ids = λ id listed. known-still other f after p q id advances (known.ids id listed);
+    lines = lines_still r.lines known.lines;
+  }
+
+pub knows_still : (m : Phase) (other : Actor) (f after : Files) (p q : Past) → Stands f p → Advances other f p after q → Knows m f p → Knows m after q
+knows_still (phases.Schema r) other f after p q stands advances known = reader_facts.knows_still r other f after p q stands advances known
+knows_still (phases.List s) other f after p q stands advances known = table_still other f after p q advances s known
+knows_still (phases.Read r) other f after p q stands advances known = reading_still other f after p q advances r known
+knows_still phases.Over other f after p q stands advances known = tt
+
+pub images : (m : Phase) (call : Call) (f image : Files) (p : Past) → next_call m ≡ Some call → MayLeave call f image → AreKept f p image p
+images m call f image p is left =
     let had = effect_left call f image left in
     let still = rw is at (spares m f) in
-    kept_same f image h (had.1 ∙ still had.0)
+    kept_same f image p (had.1 ∙ still had.0)
 
 pub printed : (m : Phase) (s : TableSchema) (own : List Event) → IsLister m → IsDone m → schema_at m ≡ Some s → Did m own
     → HasListed s (lines_of m) own

@@ -167,14 +167,13 @@ impl PhaseMeaning for Phase {
     ghost use Rattle.pm_snapshots.specs.Lister.{calls_left, reached_at, KeepsSchema, Reaches};
     ghost use Rattle.pm_snapshots.specs.Meaning.{Knows, Leaves};
     ghost use Rattle.pm_snapshots.specs.Trace.{Did, Shows};
-    ghost use Rattle.pm_model_folder.specs.Folder as folders;
-    ghost use Rattle.pm_model_history.specs.History as histories;
+    ghost use Rattle.pm_model_folder.specs.Ledger as ledgers;
 
     type Step = ListStep;
 
-    ghost History = { histories.History };
+    ghost History = { ledgers.Past };
 
-    ghost Folder = { folders.Folder };
+    ghost Folder = { ledgers.Stands };
 
     ghost Change = { Leaves };
 
