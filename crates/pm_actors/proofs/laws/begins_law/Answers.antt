@@ -1,0 +1,5 @@
+use Rattle.pm_actors.proofs.BeginLemmas.{begun}
+use Rattle.pm_actors.proofs.laws.begins_law.Goals as goal
+
+pub returns : goal.returns
+returns c = begun c.found_law.ensures

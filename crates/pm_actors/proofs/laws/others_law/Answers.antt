@@ -1,0 +1,15 @@
+use Rattle.pm_actors.proofs.WorldLemmas.{KnownLaws, others_know}
+use Rattle.pm_actors.proofs.laws.others_law.Goals as goal
+
+pub returns : goal.returns
+returns c =
+    let laws : KnownLaws = record {
+      past = c.past_law.ensures;
+      same = c.nothing_law.ensures;
+      own = c.own_law.ensures.own;
+      creates = c.known_law.ensures;
+      lists = c.known_law-2.ensures;
+      scans = c.known_law-3.ensures;
+      commits = c.known_law-4.ensures;
+    } in
+    others_know laws

@@ -1,0 +1,104 @@
+-- Machines of commands beside each other on one folder, each run by an actor: what each may change, and what it knows.
+use Rattle.std.specs.Prelude.{◌≡◌, ◌≢◌, List, Option, Some, IfSome, IsSomeAnd, option_map}
+use Rattle.std.specs.List.{AllByRecursion}
+use Rattle.pm_store.specs.Files.{Files, files_after}
+use Rattle.pm_store.specs.Store.{StoreView}
+use Rattle.pm_model_history.specs.History.{History, IsTableOf}
+use Rattle.pm_model_history.specs.Merge.{HistoryRow}
+use Rattle.pm_schema.specs.declared.schema.TableSchema.{TableSchema}
+use Rattle.pm_snapshot.specs.Names.{MayName}
+use Rattle.pm_model_folder.specs.Changes.{Actor, IsActor, IsNoOrigin}
+use Rattle.pm_model_folder.specs.Folder.{IsRowOf}
+use Rattle.pm_model_folder.specs.Ledger.{Past, Stands}
+use Rattle.pm_create.specs.Creator.{IsCreator, NewTable, calls_left, own_origin}
+use Rattle.pm_create.specs.Meaning as create
+use Rattle.pm_create.specs.declared.phase.Phase as creating
+use Rattle.pm_snapshots.specs.Meaning as snapshots
+use Rattle.pm_snapshots.specs.declared.phase.Phase as listing
+use Rattle.pm_snapshots.specs.declared.phase.Phase.TheVariants as listers
+use Rattle.pm_read_table.specs.Asked.{Asked}
+use Rattle.pm_read_table.specs.declared.phase.Phase.TheVariants as readers
+use Rattle.pm_scan.specs.Meaning as scan
+use Rattle.pm_scan.specs.declared.phase.Phase as scanning
+use Rattle.pm_scan.specs.declared.phase.Phase.TheVariants as scanners
+use Rattle.pm_write.specs.Batch.{IsBatchOf}
+use Rattle.pm_commit.specs.AllCalls.{NamesNone}
+use Rattle.pm_commit.specs.Committer.{IsCommitter}
+use Rattle.pm_commit.specs.Meaning as commit
+use Rattle.pm_commit.specs.Own as owner
+use Rattle.pm_commit.specs.Own.{OwnView}
+use Rattle.pm_commit.specs.declared.phase.Phase as committing
+use Rattle.pm_commit.specs.declared.phase.Phase.TheVariants as committers
+
+-- a machine of a command, by its phase: with the table that it makes, the rows that it commits, or who runs it
+pub data Worker : Type 0 where
+  creates : NewTable → creating.Phase → Worker
+  lists : Actor → listing.Phase → Worker
+  scans : Actor → scanning.Phase → Worker
+  commits : List HistoryRow → committing.Phase → Worker
+
+-- who runs it; of a commit that is over nobody
+abbrev pub actor_of : Worker → Option Actor
+actor_of (creates t m) = Some t.me
+actor_of (lists me m) = Some me
+actor_of (scans me m) = Some me
+actor_of (commits rows m) = option_map owner.actor_of (commit.own_in m)
+
+-- the kinds of change that it may make
+abbrev pub Leaves : Worker → Files → Past → Files → Past → Type 0
+Leaves (creates t m) f p after later = create.Makes t f p after later
+Leaves (lists me m) f p after later = snapshots.Leaves m f p after later
+Leaves (scans me m) f p after later = scan.LeavesFiles m f p after later
+Leaves (commits rows m) f p after later = commit.MakesRows rows m f p after later
+
+-- what it knows of the files and of what they stand for
+abbrev pub Knows : Worker → Files → Past → Type 0
+Knows (creates t m) f p = create.Knows t m f p
+Knows (lists me m) f p = snapshots.Knows m f p
+Knows (scans me m) f p = scan.Knows m f p
+Knows (commits rows m) f p = commit.Knows rows m f p
+
+abbrev pub AllKnow : List Worker → Files → Past → Type 0
+AllKnow workers f p = AllByRecursion (λ w. Knows w f p) workers
+
+-- ---- their names
+
+-- two actors that differ
+pub record Differ (me other : Actor) : Type 0 where
+  pub mine : IsActor me
+  pub its : IsActor other
+  pub apart : me ≢ other
+
+-- those that run them differ
+abbrev pub AreApart : Worker → Worker → Type 0
+AreApart a b = IfSome (actor_of a) (λ me. IfSome (actor_of b) (λ other. Differ me other))
+
+-- ---- all of them
+
+-- the store's operations are known, and leave files that stand; each of the machines knows what it knows
+abbrev pub IsWorld : List Worker → StoreView → Type 0
+IsWorld workers store =
+    IsSomeAnd store.ops (λ ops. (p : Past) × Stands (files_after ops) p × AllKnow workers (files_after ops) p)
+
+-- ---- where they begin
+
+-- what a commit of rows begins with: no try was made, and its actor is new to the history
+pub record BeginsCommit (f : Files) (h : History) (rows : List HistoryRow) (m : committing.Phase) : Type 0 where
+  pub begun : OwnView
+  pub schema : TableSchema
+  pub is : m ≡ committers.Names begun schema
+  pub is_committer : IsCommitter m
+  pub table : IsTableOf schema h
+  pub fit : AllByRecursion (IsRowOf schema) rows
+  pub batch : IsBatchOf schema rows begun.batch
+  pub may : MayName begun.names
+  pub no_base : begun.author.base ≡ 0
+  pub unnamed : NamesNone (owner.actor_of begun) h f
+
+-- A machine has made no call, of a folder that stands for the history: a creator's actor is new to that, and a command
+-- on a table has read its schema.
+abbrev pub MayBegin : Files → History → Worker → Type 0
+MayBegin f h (creates t m) = IsCreator t m × (calls_left m ≡ 2) × IsNoOrigin h (own_origin t.me)
+MayBegin f h (lists me m) = (s : TableSchema) × (m ≡ listers.List s) × IsTableOf s h
+MayBegin f h (scans me m) = (a : Asked) × (m ≡ scanners.View (readers.List a)) × IsTableOf a.schema h
+MayBegin f h (commits rows m) = BeginsCommit f h rows m
