@@ -1,16 +1,18 @@
 -- What a machine of phases proves of its steps and of its calls, from less.
-use Rattle.std.proofs.Common.{◌≡◌, ℕ, List, [], ◌∷◌, ◌++◌, Option, None, Some, IsSome, IfSome, refl, sym, subst}
+use Rattle.std.proofs.Common.{◌≡◌, ◌∙◌, ℕ, List, [], ◌∷◌, ◌++◌, Option, None, Some, IsSome, IfSome, refl, sym, subst}
 use Rattle.std.proofs.lemmas.Option.{IfSome_then}
 use Rattle.pm_base.specs.Faults.{Rose}
 use Rattle.pm_values.specs.declared.refusal.Refusal.{Refusal}
 use Rattle.pm_values.specs.declared.refusal.Refusal.TheVariants as refusals
 use Rattle.pm_store.specs.Answers.{Answers, MayAnswer}
 use Rattle.pm_store.specs.Files.{Files, after_effect, carried}
+use Rattle.pm_store.specs.Images.{MayLeave}
 use Rattle.pm_store.specs.Store.{StoreView}
 use Rattle.pm_store.specs.declared.answer.Answer.{Answer}
 use Rattle.pm_store.specs.declared.call.Call.{Call}
 use Rattle.pm_store.specs.declared.call.Effect.{Effect}
 use Rattle.pm_store.specs.declared.call.Effect.TheVariants as effects
+use Rattle.pm_store.proofs.FileLaws.{effect_left}
 use Rattle.pm_machine.specs.Moves.{Leads, Sound}
 use Rattle.pm_machine.specs.Running.{Refuses, Stops}
 use Rattle.pm_machine.specs.Step.{path_of}
@@ -22,6 +24,14 @@ use Rattle.pm_machine.proofs.Facts.{Traces-faulted}
 -- each effect of the call leaves these files as they are
 abbrev pub Spares : Files → Call → Type 0
 Spares f call = (effect : Effect) → after_effect call effect f ≡ f
+
+-- and so does a crash in it
+pub image_spared : {P : Type 0} (call_of : P → Option Call) (m : P) (call : Call) (f image : Files) → IfSome (call_of m) (Spares f) → call_of m ≡ Some call
+    → MayLeave call f image → image ≡ f
+image_spared call_of m call f image spared is left =
+    let had = effect_left call f image left in
+    let still = rw is at spared in
+    had.1 ∙ still had.0
 
 pub both_if : (next : Option Call) (P Q R : Call → Type 0) → ((call : Call) → P call → Q call → R call) → IfSome next P → IfSome next Q → IfSome next R
 both_if None P Q R both one two = tt

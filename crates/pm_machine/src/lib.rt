@@ -8,6 +8,8 @@
 //! A command is an enum of its phases, with `impl Phase`: what its next call is in each, and which phase or refusal an
 //! answer leads to. `Running` makes a machine of it. What its steps mean is `impl PhaseMeaning`, and `make_step` makes
 //! one of them: it asks for what the command proves of its phases, and promises of each step what follows from that.
+//! A machine that changes nothing says less of its phases (`ReaderPhase`), and has its laws in one place
+//! (`LawfulPhase`): `take_step` asks for nothing more, and is the step of each such machine.
 //!
 //! What files stand for, the kinds of change, and what a machine knows are parameters of `specs/Moves.antt`: no
 //! command, folder or history is named here. A machine proves `Sound` once, by cases on its phase. Then each of its
@@ -23,16 +25,20 @@
 //! Of files and answers all this speaks where the store's operations are known.
 #![tactic(auto)]
 
+mod lawful;
 mod laws;
 mod machine;
 mod phase;
 mod phase_meaning;
+mod reader_phase;
 mod running;
 mod stepping;
 
+pub use lawful::{LawfulPhase, take_step};
 pub use laws::{Meaning, acted_law, images_law, moved_law, stands_law, traces_law};
 pub use machine::Machine;
 pub use phase::Phase;
 pub use phase_meaning::PhaseMeaning;
+pub use reader_phase::ReaderPhase;
 pub use running::{Running, make_step};
 pub use stepping::step;

@@ -1,5 +1,5 @@
 -- A reader of a changelog keeps the laws of machines.
-use Rattle.std.proofs.Common.{◌≡◌, inl, inr, ℕ, ◌<◌, ◌+◌, suc, List, [], ◌∷◌, ◌++◌, length, Option, None, Some, IsSome, IfSome, Contains, refl, sym, ap, ◌∙◌, subst, arith, append_assoc}
+use Rattle.std.proofs.Common.{◌≡◌, ◌⊎◌, inl, inr, ℕ, ◌<◌, ◌+◌, suc, List, [], ◌∷◌, ◌++◌, length, Option, None, Some, IsSome, IfSome, Contains, refl, sym, ap, ◌∙◌, subst, arith, append_assoc}
 use Rattle.std.specs.List.{AllByRecursion}
 use Rattle.std.proofs.lemmas.List.{append-nil}
 use Rattle.std.proofs.lemmas.List.Elements.{Contains-append_right}
@@ -13,11 +13,10 @@ use Rattle.pm_store.specs.declared.call.Call.TheVariants as calls
 use Rattle.pm_store.specs.Answers.{Answers, MayAnswer}
 use Rattle.pm_store.specs.Files.{Files}
 use Rattle.pm_store.specs.Images.{MayLeave}
-use Rattle.pm_store.proofs.FileLaws.{effect_left}
 use Rattle.pm_machine.specs.Moves.{Sound}
 use Rattle.pm_machine.specs.Running.{Refuses, Stops}
 use Rattle.pm_machine.specs.Trace.{Event, Recounts, after_answer, answered}
-use Rattle.pm_machine.proofs.PhaseFacts.{Spares, recounts_of, sound_of_spared}
+use Rattle.pm_machine.proofs.PhaseFacts.{Spares, image_spared, recounts_of, sound_of_spared}
 use Rattle.pm_schema.specs.declared.schema.TableSchema.{TableSchema}
 use Rattle.pm_snapshot.specs.declared.snapshot.Snapshot.{Snapshot}
 use Rattle.pm_snapshot.proofs.Facts.{id_same}
@@ -25,7 +24,6 @@ use Rattle.pm_model_folder.specs.Changes.{Actor}
 use Rattle.pm_model_folder.specs.Ledger.{Advances, Past, Stands}
 use Rattle.pm_model_folder.specs.Paths.{schema_path, snapshot_path}
 use Rattle.pm_model_folder.proofs.Facts.{goes_on}
-use Rattle.pm_model_folder.proofs.LedgerFacts.{gone-still, known-still}
 use Rattle.pm_read_schema.proofs.Facts.{read_effect}
 use Rattle.pm_paths.proofs.ListLemmas.{here}
 use Rattle.pm_manifest.specs.declared.entry.Entry.{Entry}
@@ -33,16 +31,16 @@ use Rattle.pm_manifest.specs.declared.entry.ManifestMeta.{ManifestMeta}
 use Rattle.pm_model_contents.specs.Named.{Contents, HasContents, IsNamed, changelog_list, manifest}
 use Rattle.pm_model_contents.specs.Lists.{HasChangelog, HaveEntries, IsChangelogEntry, IsList, IsManifest, manifest_path}
 use Rattle.pm_read_log.specs.Log.{IsLogOf, LogAskedView, LogReadingView}
-use Rattle.pm_read_log.specs.LogMeaning.{IsLogIn, IsReadingOf, Knows, LeavesFiles}
-use Rattle.pm_read_log.specs.LogReader.{calls_left, next_call, reached_at, Goes, GoesOn, IsLogReader, Opens, Reaches, Shown}
+use Rattle.pm_read_log.specs.LogMeaning.{IsLogIn, IsReadingOf, Knows}
+use Rattle.pm_read_log.specs.LogReader.{calls_left, next_call, Goes, GoesOn, IsLogReader, IsReady, Opens, Shown}
 use Rattle.pm_read_log.specs.LogTrace.{Did, DidSoFar, FindsList, Has, HasLog, HasPart, IsDamaged, MayTakeMemory, Misreads, Shows, bad_schema, bad_snapshot, gone_again, gone_first, has_other, is_absent, is_misread, lacks_list, lacks_manifest, misreads_list, misreads_manifest, of_list, without}
-use Rattle.pm_read_table.specs.Meaning.{HasGone, IsKept, Stood}
+use Rattle.pm_read_table.specs.Meaning.{HasGone, IsKept, LeavesFiles, Stood}
 use Rattle.pm_read_table.specs.Reader.{most, IsListOf, IsManifestOf}
 use Rattle.pm_read_table.specs.Trace.{read_file}
 use Rattle.pm_read_log.specs.declared.log.Log.{Log}
 use Rattle.pm_read_log.specs.declared.log_phase.LogPhase.{LogPhase}
 use Rattle.pm_read_log.specs.declared.log_phase.LogPhase.TheVariants as phases
-use Rattle.pm_read_table.proofs.Facts.{OneList, damaged_other, entries_push, expired_other, fault_other, found_stood, gone_now, have_at, kept_same, memory_other, one_list, read_push, some_there, stood_contents, stood_new, stood_still, table_still}
+use Rattle.pm_read_table.proofs.Facts.{OneList, damaged_other, entries_push, expired_other, fault_other, found_stood, gone_now, gone_still, have_at, kept_same, memory_other, one_list, read_push, some_there, stood_contents, stood_new, stood_still, table_still}
 use Rattle.pm_read_table.proofs.FaultLemmas.{IsFileFault, file_fault}
 use Rattle.pm_read_table.proofs.ListedLemmas.{count_grows}
 
@@ -109,7 +107,7 @@ gone_asked : (f : Files) (p : Past) (s : TableSchema) (one other : ℕ) → one 
 gone_asked f p s one other same gone = subst (HasGone f p s) same gone
 
 -- what an answer leads to is known of the same files
-knows_next : OneList → (m : LogPhase) (answer : Answer) (new : LogPhase) (f : Files) (p : Past) → Goes m answer new → Stands f p → Knows m f p
+pub knows_next : OneList → (m : LogPhase) (answer : Answer) (new : LogPhase) (f : Files) (p : Past) → Goes m answer new → Stands f p → Knows m f p
     → IfSome (next_call m) (λ call. Answers call answer f → Knows new f p)
 knows_next law (phases.Snapshot a) (answers.Found (Some bytes)) new f p (x, reads, schema, on) stands (table, least, within, bound) = λ told.
     opens_known f p a x x.changelog_list new refl on (stood_new f p a.schema a.id bytes x stands table least within told reads schema) (id_same a.id bytes x reads)
@@ -271,33 +269,33 @@ recounts a = recounts_of next_call Goes Shown phases.Over (DidSoFar a) (Did a) M
 
 -- ---- how far it has come
 
--- fewer calls than that are left, and what was reached
+-- fewer calls than that are left, and some if the changelog isn't ready
 abbrev pub IsAhead : ℕ → LogPhase → Type 0
-IsAhead n m = (calls_left m < n) × Reaches (reached_at m) m
+IsAhead n m = (calls_left m < n) × (IsReady m ⊎ (0 < calls_left m))
 
 on_ahead : (a : LogAskedView) (x : Snapshot) (done rest : List ManifestMeta) (changes : List Entry) (new : LogPhase) (n : ℕ) → length rest + 1 < n → GoesOn a x done rest changes new
     → IsAhead n new
 on_ahead a x done [] changes new n below (l, log, is) =
     let one : 0 + 1 < n = below in
     let less : 0 < n = omega (arith, one) in
-    subst (IsAhead n) (sym is) (less, tt)
+    subst (IsAhead n) (sym is) (less, inl tt)
 on_ahead a x done (meta ∷ rest) changes new n below is =
     let one : suc (length rest) + 1 < n = below in
     let less : length rest + 2 < n = omega (arith, one) in
     let some : 0 < length rest + 2 = omega arith in
-    subst (IsAhead n) (sym is) (less, some)
+    subst (IsAhead n) (sym is) (less, inr some)
 
 pub opens_ahead : (a : LogAskedView) (x : Snapshot) (o : Option (List ℕ)) (new : LogPhase) → Opens a x o new → IsAhead (most + 3) new
 opens_ahead a x None new on = on_ahead a x [] [] [] new (most + 3) (omega arith) on
 opens_ahead a x (Some list) new is =
     let less : most + 2 < most + 3 = omega arith in
     let some : 0 < most + 2 = omega arith in
-    subst (IsAhead (most + 3)) (sym is) (less, some)
+    subst (IsAhead (most + 3)) (sym is) (less, inr some)
 
 again_ahead : (a : LogAskedView) (path : List ℕ) (new : LogPhase) (n : ℕ) → 1 < n → new ≡ phases.Again a path → IsAhead n new
 again_ahead a path new n below is =
     let some : 0 < 1 = omega arith in
-    subst (IsAhead n) (sym is) (below, some)
+    subst (IsAhead n) (sym is) (below, inr some)
 
 pub goes_ahead : (m : LogPhase) (answer : Answer) (new : LogPhase) → Goes m answer new → IsAhead (calls_left m) new
 goes_ahead (phases.Snapshot a) (answers.Found (Some bytes)) new (x, reads, schema, on) = opens_ahead a x x.changelog_list new on
@@ -316,10 +314,10 @@ has_call (phases.Again a path) left = refl
 has_call (phases.Ready l) left = absurd (let none : 0 < 0 = left in omega (arith, none))
 has_call phases.Over left = absurd (let none : 0 < 0 = left in omega (arith, none))
 
--- an answer that it goes on with leaves fewer calls, and what was reached
+-- an answer that it goes on with leaves fewer calls
 pub goes : (m : LogPhase) (answer : Answer) (new : LogPhase) → IsLogReader m → Goes m answer new
-    → (calls_left new < calls_left m) × Reaches (reached_at new) new × Unit {0}
-goes m answer new is on = let ahead = goes_ahead m answer new on in (ahead.0, ahead.1, tt)
+    → (calls_left new < calls_left m) × (IsReady new ⊎ (0 < calls_left new))
+goes m answer new is on = goes_ahead m answer new on
 
 -- ---- laws
 
@@ -361,16 +359,9 @@ knows_still (phases.Manifests r) other f after p q stands advances (stood, id, r
   id,
   subst (λ (g : Files). IsReadingOf g r) (sym (advances.same r.snapshot.id stood.known)) reading,
 )
-knows_still (phases.Again a path) other f after p q stands advances gone = record {
-  table = table_still other f after p q a.schema advances gone.table;
-  known = known-still other f after p q a.id advances gone.known;
-  absent = gone-still other f after p q a.schema a.id stands advances gone.table gone.known gone.absent;
-}
+knows_still (phases.Again a path) other f after p q stands advances gone = gone_still other f after p q a.schema a.id stands advances gone
 knows_still (phases.Ready l) other f after p q stands advances known = log_still other f after p q l advances known
 knows_still phases.Over other f after p q stands advances known = tt
 
 pub images : (m : LogPhase) (call : Call) (f image : Files) (p : Past) → next_call m ≡ Some call → MayLeave call f image → IsKept f p image p
-images m call f image p is left =
-    let had = effect_left call f image left in
-    let still = rw is at (spares m f) in
-    kept_same f image p (had.1 ∙ still had.0)
+images m call f image p is left = kept_same f image p (image_spared next_call m call f image (spares m f) is left)

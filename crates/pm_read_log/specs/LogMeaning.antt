@@ -2,22 +2,16 @@
 use Rattle.std.specs.Prelude.{◌≡◌, ℕ, ◌≤◌, List, ◌∷◌, ◌++◌, Some}
 use Rattle.std.specs.List.{AllByRecursion}
 use Rattle.pm_store.specs.Files.{Files}
-use Rattle.pm_store.specs.Store.{StoreView}
-use Rattle.pm_machine.specs.Moves.{Moves}
 use Rattle.pm_model_history.specs.History.{IsTableOf}
 use Rattle.pm_snapshot.specs.Names.{greatest}
-use Rattle.pm_model_folder.specs.Ledger.{Past, Stands, count_of}
+use Rattle.pm_model_folder.specs.Ledger.{Past, count_of}
 use Rattle.pm_manifest.specs.declared.entry.ManifestMeta.{ManifestMeta}
 use Rattle.pm_model_contents.specs.Lists.{HasChangelog, HaveEntries, IsChangelogEntry, IsList}
 use Rattle.pm_read_log.specs.Log.{LogReadingView}
-use Rattle.pm_read_table.specs.Meaning.{HasGone, IsKept, Stood}
+use Rattle.pm_read_table.specs.Meaning.{HasGone, Stood}
 use Rattle.pm_read_log.specs.declared.log.Log.{Log}
 use Rattle.pm_read_log.specs.declared.log_phase.LogPhase.{LogPhase}
 use Rattle.pm_read_log.specs.declared.log_phase.LogPhase.TheVariants as phases
-
--- what a reader changes: nothing
-abbrev pub LeavesFiles : LogPhase → Files → Past → Files → Past → Type 0
-LeavesFiles phase f p after later = IsKept f p after later
 
 -- in these files the snapshot's changelog list has the manifests of a reading in their order, and those that were read
 -- have its entries, each of which is a changelog's
@@ -44,7 +38,3 @@ Knows (phases.Manifests r) f p =
 Knows (phases.Again a path) f p = HasGone f p a.schema a.id
 Knows (phases.Ready l) f p = IsLogIn p l
 Knows phases.Over f p = Unit {0}
-
--- a step changes nothing, and what the reader knows holds after it
-abbrev pub LogReaderMoved : LogPhase → LogPhase → StoreView → StoreView → Type 0
-LogReaderMoved old new before after = Moves Stands (LeavesFiles old) (Knows old) (Knows new) before after

@@ -1,5 +1,5 @@
 -- A reader of a changelog: its phases, its calls, and what each answer leads to.
-use Rattle.std.specs.Prelude.{◌≡◌, ◌⊎◌, ℕ, ◌+◌, ◌<◌, ◌≤◌, List, [], ◌∷◌, ◌++◌, length, Option, None, Some, Ok}
+use Rattle.std.specs.Prelude.{◌≡◌, ◌⊎◌, ℕ, ◌+◌, ◌≤◌, List, [], ◌∷◌, ◌++◌, length, Option, None, Some, Ok}
 use Rattle.std.specs.List.{AllByRecursion}
 use Rattle.pm_values.specs.declared.refusal.Refusal.{Refusal}
 use Rattle.pm_values.specs.declared.refusal.Refusal.TheVariants as refusals
@@ -19,8 +19,6 @@ use Rattle.pm_read_table.specs.Reader.{most, IsBad, IsListOf, IsManifestOf, Misr
 use Rattle.pm_read_log.specs.declared.log.Log.{Log}
 use Rattle.pm_read_log.specs.declared.log_phase.LogPhase.{LogPhase}
 use Rattle.pm_read_log.specs.declared.log_phase.LogPhase.TheVariants as phases
-use Rattle.pm_read_log.specs.declared.log_reader.LogStep.{LogStep}
-use Rattle.pm_read_log.specs.declared.log_reader.LogStep.TheVariants as steps
 
 -- ---- its calls
 
@@ -112,12 +110,3 @@ Shown (phases.Manifests r) (answers.Found found) refusal =
 Shown (phases.Again a path) (answers.Found None) refusal = refusal ≡ refusals.Expired a.id
 Shown (phases.Again a path) (answers.Found (Some bytes)) refusal = refusal ≡ refusals.Damaged path 0
 Shown phase other refusal = ⊥
-
--- what a step that goes on has reached
-abbrev pub Reaches : LogStep → LogPhase → Type 0
-Reaches steps.More phase = 0 < calls_left phase
-Reaches steps.Ready phase = IsReady phase
-
-abbrev pub reached_at : LogPhase → LogStep
-reached_at (phases.Ready l) = steps.Ready
-reached_at other = steps.More

@@ -1,12 +1,11 @@
 -- The own calls of a reader of a changelog, and what they show.
-use Rattle.std.specs.Prelude.{◌≡◌, ◌≢◌, ℕ, List, [], ◌∷◌, ◌++◌, Option, None, Some, Result, Ok, Err, IfErr}
+use Rattle.std.specs.Prelude.{◌≡◌, ◌≢◌, ℕ, List, [], ◌∷◌, ◌++◌, Option, None, Some, Ok, Err}
 use Rattle.std.specs.List.{AllByRecursion}
 use Rattle.pm_values.specs.declared.refusal.Refusal.{Refusal}
 use Rattle.pm_values.specs.declared.refusal.Refusal.TheVariants as refusals
 use Rattle.pm_store.specs.declared.answer.Answer.{Answer}
 use Rattle.pm_store.specs.declared.answer.Answer.TheVariants as answers
-use Rattle.pm_store.specs.Store.{StoreView}
-use Rattle.pm_machine.specs.Trace.{Event, Acts, IsFailed, MayEnd}
+use Rattle.pm_machine.specs.Trace.{Event, IsFailed, MayEnd}
 use Rattle.pm_snapshot.specs.Snapshot.{snapshot_in}
 use Rattle.pm_snapshot.specs.declared.fault.SnapFault.TheVariants as faults
 use Rattle.pm_snapshot.specs.declared.snapshot.Snapshot.{Snapshot}
@@ -21,7 +20,6 @@ use Rattle.pm_read_table.specs.Trace.{HaveRead, read_file}
 use Rattle.pm_read_log.specs.declared.log.Log.{Log}
 use Rattle.pm_read_log.specs.declared.log_phase.LogPhase.{LogPhase}
 use Rattle.pm_read_log.specs.declared.log_phase.LogPhase.TheVariants as phases
-use Rattle.pm_read_log.specs.declared.log_reader.LogStep.{LogStep}
 
 -- ---- how far the calls have come
 
@@ -145,9 +143,3 @@ Shows a other own = ⊥
 abbrev pub Did : LogAskedView → LogPhase → List Event → Type 0
 Did a phases.Over own = (refusal : Refusal) × Shows a refusal own
 Did a m own = DidSoFar a m own
-
--- Whatever was asked, its next call is the next event of its calls so far, or none was made; and a refusal is shown by
--- the calls up to it.
-abbrev pub LogReaderActed : LogPhase → LogPhase → StoreView → StoreView → Result LogStep Refusal → Type 0
-LogReaderActed old new before after result = (a : LogAskedView)
-    → Acts (Did a old) (λ own. Did a new own × IfErr result (λ refusal. Shows a refusal own)) before after

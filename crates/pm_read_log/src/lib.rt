@@ -20,5 +20,5 @@ mod named;
 pub use log::{Log, LogAsked, LogReading};
 pub use log_laws::{log_causes_law, log_images_law, log_known_law, whole_law};
 pub use log_phase::LogPhase;
-pub use log_reader::{LogReader, LogStep, into_log, is_log_ready, log_at, opened_log, step_log};
+pub use log_reader::{LogReader, into_log, is_log_ready, log_at, opened_log};
 pub use named::named_paths;

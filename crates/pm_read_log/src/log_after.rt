@@ -3,7 +3,6 @@
 ghost use Rattle.std.specs.Prelude.{◌≡◌, ◌⊎◌, ◌++◌, ◌∷◌, [], ◌≤◌, length, Some, IfOk, IfErr, OnOk, IsTrue, ◌↔◌};
 ghost use Rattle.std.specs.List.{AllByRecursion};
 ghost use Rattle.pm_model_contents.specs.Lists.{manifest_path, IsChangelogEntry};
-ghost use Rattle.pm_model_folder.specs.Paths.{schema_path, snapshot_path};
 ghost use Rattle.pm_store.specs.declared.answer.Answer.TheVariants as answers;
 ghost use Rattle.pm_read_table.specs.View.{HaveGroups};
 ghost use Rattle.pm_read_log.specs.LogReader.{Goes, GoesOn, IsLogReader, Opens, Shown, TakesOwn};
@@ -18,8 +17,8 @@ use pm_manifest::{Entry, ManifestMeta, read_entry_law};
 use pm_manifest_reader::{read_list, read_manifest};
 use pm_model_contents::folder_law;
 use pm_paths::manifest_path;
-use pm_read_table::{damaged_schema, damaged_snapshot};
-use pm_snapshot::{SnapFault, Snapshot, read_snapshot};
+use pm_read_table::read_named;
+use pm_snapshot::Snapshot;
 use pm_values::Refusal;
 use std::alloc::{AllocError, Global};
 use std::collections::VecDeque;
@@ -55,28 +54,14 @@ fn after_bytes(alloc: Global, asked: LogAsked, bytes: Blob) -> Result<LogPhase, 
     ensures is_reader { IfOk result IsLogReader }
     ensures refuses { IfErr result (Shown (phases.Snapshot asked) (answers.Found (Some bytes))) }
 {
-    let id = asked.id();
-    match read_snapshot(alloc, id, bytes.as_bytes()) {
-        Ok(snapshot) => {
-            if snapshot.schema_id == asked.schema().id {
-                match open(alloc, asked, snapshot) {
-                    Ok(phase) => Ok(phase),
-                    Err(_) => Err(Refusal::Memory),
-                }
-            } else {
-                let other = snapshot.schema_id;
-                drop(asked);
-                drop(snapshot);
-                Err(damaged_schema(alloc, other))
-            }
-        }
-        Err(SnapFault::Memory) => {
+    match read_named(alloc, asked.schema(), asked.id(), bytes.as_bytes()) {
+        Ok(snapshot) => match open(alloc, asked, snapshot) {
+            Ok(phase) => Ok(phase),
+            Err(_) => Err(Refusal::Memory),
+        },
+        Err(refusal) => {
             drop(asked);
-            Err(Refusal::Memory)
-        }
-        Err(SnapFault::Bad) => {
-            drop(asked);
-            Err(damaged_snapshot(alloc, id))
+            Err(refusal)
         }
     }
 }

@@ -4,8 +4,7 @@ ghost use Rattle.pm_read_log.specs.declared.log_phase.LogPhase.TheVariants as ph
 
 use crate::log_after::{after_again, after_list, after_manifest, after_snapshot};
 use crate::log_phase::LogPhase;
-use crate::log_reader::LogStep;
-use pm_machine::{Phase, PhaseMeaning};
+use pm_machine::{Phase, ReaderPhase};
 use pm_paths::{manifest_path, snapshot_path};
 use pm_store::{Answer, Call};
 use pm_values::Refusal;
@@ -39,6 +38,10 @@ impl Phase for LogPhase {
         }
     }
 
+    fn over() -> LogPhase {
+        LogPhase::Over
+    }
+
     fn next(self, alloc: Global, answer: Answer) -> Result<LogPhase, Refusal> {
         match (self, answer) {
             (LogPhase::Snapshot { asked }, Answer::Found(found)) => {
@@ -61,26 +64,21 @@ impl Phase for LogPhase {
             _ => unreachable!(),
         }
     }
-
-    fn over() -> LogPhase {
-        LogPhase::Over
-    }
 }
 
-impl PhaseMeaning for LogPhase {
+impl ReaderPhase for LogPhase {
     ghost use Rattle.pm_model_folder.specs.Ledger as ledgers;
     ghost use Rattle.pm_read_log.specs.Log as logs;
-    ghost use Rattle.pm_read_log.specs.LogMeaning.{Knows, LeavesFiles};
-    ghost use Rattle.pm_read_log.specs.LogReader.{calls_left, reached_at, Reaches};
+    ghost use Rattle.pm_read_log.specs.LogMeaning.{Knows};
+    ghost use Rattle.pm_read_log.specs.LogReader.{calls_left, IsReady};
     ghost use Rattle.pm_read_log.specs.LogTrace.{Did, Shows};
-
-    type Step = LogStep;
+    ghost use Rattle.pm_read_table.specs.Meaning.{IsKept};
 
     ghost History = { ledgers.Past };
 
     ghost Folder = { ledgers.Stands };
 
-    ghost Change = { LeavesFiles };
+    ghost Same = { IsKept };
 
     ghost knows = { Knows };
 
@@ -92,16 +90,5 @@ impl PhaseMeaning for LogPhase {
 
     ghost calls_left = { calls_left };
 
-    ghost reached_at = { reached_at };
-
-    ghost reaches = { Reaches };
-
-    ghost keeps = { λ old new. Unit {0} };
-
-    fn reached(&self) -> LogStep {
-        match self {
-            LogPhase::Ready { .. } => LogStep::Ready,
-            _ => LogStep::More,
-        }
-    }
+    ghost ready = { IsReady };
 }

@@ -1,37 +1,31 @@
 //! The reader of a changelog.
 
-ghost use Rattle.std.specs.Prelude.{◌≡◌, ◌↔◌, ◌<◌, ℕ, ◌≤◌, IfOk, OnOk, OnErr, IsTrue};
+ghost use Rattle.std.specs.Prelude.{◌≡◌, ◌↔◌, ◌≤◌, IfOk, IsTrue};
 ghost use Rattle.pm_schema.specs.Again.{IsDeclared};
-ghost use Rattle.pm_store.specs.Store.{IsLater};
 ghost use Rattle.pm_read_log.specs.Log.{log_asked_of};
 ghost use Rattle.pm_read_table.specs.View.{HaveGroups};
-ghost use Rattle.pm_read_log.specs.LogMeaning.{LogReaderMoved};
-ghost use Rattle.pm_read_log.specs.LogReader.{calls_left, IsReady, Opens, Reaches};
-ghost use Rattle.pm_read_log.specs.LogTrace.{LogReaderActed};
+ghost use Rattle.pm_read_log.specs.LogReader.{IsReady, Opens};
 ghost use Rattle.pm_read_log.specs.declared.log_phase.LogPhase.TheVariants as phases;
 
 use crate::log::{Log, LogAsked};
 use crate::log_after::open;
 use crate::log_phase::LogPhase;
-use pm_machine::{Running, make_step};
+use pm_machine::{LawfulPhase, Running};
 use pm_manifest::ManifestMeta;
 use pm_record::one_reading_law;
 use pm_schema::TableSchema;
 use pm_snapshot::Snapshot;
-use pm_store::FileStore;
-use pm_values::Refusal;
 use std::alloc::{AllocError, Global};
-
-/// What a step of a reader reached: it goes on, or the changelog is ready.
-#[derive(Clone, Copy)]
-pub enum LogStep {
-    More,
-    Ready,
-}
 
 /// Reads the changelog of a table at a snapshot, a call of the store a step. It is a part of other machines, which make
 /// its calls.
 pub type LogReader = Running<LogPhase>;
+
+impl LawfulPhase for LogPhase {
+    fn laws() {
+        one_reading_law::<ManifestMeta>();
+    }
+}
 
 /// A reader of the changelog of the snapshot with this id, from 1, of the table with this schema, which was read.
 pub fn log_at(schema: TableSchema, id: u64) -> LogReader
@@ -77,22 +71,4 @@ pub fn into_log(reader: LogReader) -> Log
         LogPhase::Ready { log } => log,
         _ => unreachable!(),
     }
-}
-
-/// Makes the next call of the store. After a refusal, and once the changelog is ready, no call is left.
-pub fn step_log<F: FileStore>(
-    alloc: Global,
-    reader: &mut LogReader,
-    store: &mut F,
-) -> Result<LogStep, Refusal>
-    requires { 0 < calls_left reader.old }
-    ensures moves { LogReaderMoved reader.old reader.new (F.seen store.old) (F.seen store.new) }
-    ensures acts { LogReaderActed reader.old reader.new (F.seen store.old) (F.seen store.new) result }
-    ensures reaches { IfOk result (λ step. Reaches step reader.new) }
-    ensures fewer { OnOk result (calls_left reader.new < calls_left reader.old) }
-    ensures over { OnErr result (reader.new ≡ phases.Over) }
-    ensures later { IsLater (F.seen store.old) (F.seen store.new) }
-{
-    one_reading_law::<ManifestMeta>();
-    make_step(alloc, reader, store)
 }

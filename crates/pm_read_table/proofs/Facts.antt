@@ -1,5 +1,5 @@
 -- A reader of a view keeps the laws of machines.
-use Rattle.std.proofs.Common.{◌≡◌, ◌≢◌, inl, inr, ℕ, ◌<◌, ◌≤◌, ◌+◌, ◌==◌, suc, List, [], ◌∷◌, ◌++◌, length, Bool, true, false, if◌then◌else◌, Option, None, Some, IsSome, IfSome, Result, Ok, Err, Contains, refl, sym, ap, ◌∙◌, ◌↔◌, subst, arith, append_assoc, is_some, take, not}
+use Rattle.std.proofs.Common.{◌≡◌, ◌≢◌, ◌⊎◌, inl, inr, ℕ, ◌<◌, ◌≤◌, ◌+◌, ◌==◌, suc, List, [], ◌∷◌, ◌++◌, length, Bool, true, false, if◌then◌else◌, Option, None, Some, IsSome, IfSome, Result, Ok, Err, Contains, refl, sym, ap, ◌∙◌, ◌↔◌, subst, arith, append_assoc, is_some, take, not}
 use Rattle.std.specs.FinMap as map
 use Rattle.std.proofs.lemmas.List.{append-nil}
 use Rattle.std.proofs.lemmas.List.Elements.{Contains-append_right}
@@ -13,11 +13,10 @@ use Rattle.pm_store.specs.declared.call.Call.TheVariants as calls
 use Rattle.pm_store.specs.Answers.{Answers, MayAnswer}
 use Rattle.pm_store.specs.Files.{Files, IsListing}
 use Rattle.pm_store.specs.Images.{MayLeave}
-use Rattle.pm_store.proofs.FileLaws.{effect_left}
 use Rattle.pm_machine.specs.Moves.{Sound}
 use Rattle.pm_machine.specs.Running.{Refuses, Stops}
 use Rattle.pm_machine.specs.Trace.{Event, Recounts, after_answer, answered}
-use Rattle.pm_machine.proofs.PhaseFacts.{Spares, recounts_of, sound_of_spared}
+use Rattle.pm_machine.proofs.PhaseFacts.{Spares, image_spared, recounts_of, sound_of_spared}
 use Rattle.pm_model_history.specs.History.{IsTableOf}
 use Rattle.pm_schema.specs.declared.schema.TableSchema.{TableSchema}
 use Rattle.pm_snapshot.specs.Names.{greatest}
@@ -48,7 +47,7 @@ use Rattle.pm_manifest.specs.Listed.{has_meta_fields, meta_in}
 use Rattle.pm_model_contents.specs.Groups.{Overlaps}
 use Rattle.pm_model_contents.specs.Named.{Contents, HasContents, IsNamed, base_list, delta_list, manifest}
 use Rattle.pm_model_contents.specs.Lists.{HasEntries, HaveEntries, IsList, IsManifest, manifest_path, none_live}
-use Rattle.pm_read_table.specs.Reader.{Goes, GoesOn, IsAsked, IsListOf, IsManifestOf, IsViewer, Reaches, Shown, calls_left, disorder, most, next_call, opening, overlap, reached_at}
+use Rattle.pm_read_table.specs.Reader.{Goes, GoesOn, IsAsked, IsListOf, IsManifestOf, IsReady, IsViewer, Shown, calls_left, disorder, most, next_call, opening, overlap}
 use Rattle.pm_read_table.specs.Reading.{Filed, ReadingView, live_of}
 use Rattle.pm_read_table.specs.Meaning.{HasGone, IsKept, IsReadingOf, IsViewIn, view_origin, view_snapshot, Knows, KnowsSought, LeavesFiles, Stood}
 use Rattle.pm_read_table.specs.declared.asked.Wanted.{Wanted}
@@ -280,7 +279,7 @@ listed_within f p a latest id names stands table newest listing asked =
     omega (arith, count, is, below)
 
 -- what an answer leads to is known of the same files
-knows_next : Joined → OneList → (m : Phase) (answer : Answer) (new : Phase) (f : Files) (p : Past) → Goes m answer new → Stands f p → Knows m f p
+pub knows_next : Joined → OneList → (m : Phase) (answer : Answer) (new : Phase) (f : Files) (p : Past) → Goes m answer new → Stands f p → Knows m f p
     → IfSome (next_call m) (λ call. Answers call answer f → Knows new f p)
 knows_next law one_law (phases.List a) (answers.Listed names) new f p (ids, latest, id, are, newest, is_asked, is) stands known = λ told.
     let sought : KnowsSought f p a.wanted ids id = sought_new f p a.schema a.wanted names.items ids latest id stands known are newest told is_asked
@@ -587,27 +586,27 @@ recounts law a = recounts_of next_call Goes Shown phases.Over (DidSoFar a) (Did 
 
 -- ---- how far it has come
 
--- fewer calls than that are left, and what was reached
+-- fewer calls than that are left, and some if the view isn't ready
 abbrev pub IsAhead : ℕ → Phase → Type 0
-IsAhead n m = (calls_left m < n) × Reaches (reached_at m) m
+IsAhead n m = (calls_left m < n) × (IsReady m ⊎ (0 < calls_left m))
 
 on_ahead : (q : SoughtView) (x : Snapshot) (done rest : List ManifestMeta) (files : Filed) (kept : List Entry) (new : Phase) (n : ℕ) → length rest + 1 < n
     → GoesOn q x done rest files kept new → IsAhead n new
 on_ahead q x done [] files kept new n below (v, view, sought, is) =
     let one : 0 + 1 < n = below in
     let less : 0 < n = omega (arith, one) in
-    subst (IsAhead n) (sym is) (less, tt)
+    subst (IsAhead n) (sym is) (less, inl tt)
 on_ahead q x done (meta ∷ rest) files kept new n below is =
     let one : suc (length rest) + 1 < n = below in
     let less : length rest + 2 < n = omega (arith, one) in
     let some : 0 < length rest + 2 = omega arith in
-    subst (IsAhead n) (sym is) (less, some)
+    subst (IsAhead n) (sym is) (less, inr some)
 
 -- with one call left
 again_ahead : (a : Asked) (id : ℕ) (path : List ℕ) (new : Phase) (n : ℕ) → 1 < n → new ≡ phases.Again a id path → IsAhead n new
 again_ahead a id path new n below is =
     let some : 0 < 1 = omega arith in
-    subst (IsAhead n) (sym is) (below, some)
+    subst (IsAhead n) (sym is) (below, inr some)
 
 pub goes_ahead : (m : Phase) (answer : Answer) (new : Phase) → Goes m answer new → IsAhead (calls_left m) new
 goes_ahead (phases.List a) (answers.Listed names) new (ids, latest, id, are, newest, is_asked, is) =
@@ -615,19 +614,19 @@ goes_ahead (phases.List a) (answers.Listed names) new (ids, latest, id, are, new
     let less : most + 4 < most + 5 = omega arith in
     let some : 0 < 1 = omega arith in
     let more : 0 < most + 4 = omega arith in
-    subst (IsAhead (most + 5)) (sym is) (opened (IsAhead (most + 5)) (sought_of a ids) id (λ first. (one, some)) (λ least. (less, more)))
+    subst (IsAhead (most + 5)) (sym is) (opened (IsAhead (most + 5)) (sought_of a ids) id (λ first. (one, inr some)) (λ least. (less, inr more)))
 goes_ahead (phases.Origin q) (answers.Found (Some bytes)) new (v, view, sought, is) =
     let less : 0 < 1 = omega arith in
-    subst (IsAhead 1) (sym is) (less, tt)
+    subst (IsAhead 1) (sym is) (less, inl tt)
 goes_ahead (phases.Snapshot q id) (answers.Found (Some bytes)) new (x, reads, schema, is) =
     let less : most + 3 < most + 4 = omega arith in
     let some : 0 < most + 3 = omega arith in
-    subst (IsAhead (most + 4)) (sym is) (less, some)
+    subst (IsAhead (most + 4)) (sym is) (less, inr some)
 goes_ahead (phases.Base q x) (answers.Found None) new is = again_ahead q.asked x.id (manifest_path x.base_list) new (most + 3) (omega arith) is
 goes_ahead (phases.Base q x) (answers.Found (Some bytes)) new (base, reads, is) =
     let less : most + 2 < most + 3 = omega arith in
     let some : 0 < most + 2 = omega arith in
-    subst (IsAhead (most + 3)) (sym is) (less, some)
+    subst (IsAhead (most + 3)) (sym is) (less, inr some)
 goes_ahead (phases.Delta q x base) (answers.Found None) new is = again_ahead q.asked x.id (manifest_path x.delta_list) new (most + 2) (omega arith) is
 goes_ahead (phases.Delta q x base) (answers.Found (Some bytes)) new (delta, reads, (files, left, within, on)) =
     on_ahead q x [] (base.items ++ delta) files [] new (most + 2) (omega (arith, within)) on
@@ -649,10 +648,10 @@ has_call (phases.Again a id path) left = refl
 has_call (phases.Ready v) left = absurd (let none : 0 < 0 = left in omega (arith, none))
 has_call phases.Over left = absurd (let none : 0 < 0 = left in omega (arith, none))
 
--- an answer that it goes on with leaves fewer calls, and what was reached
+-- an answer that it goes on with leaves fewer calls
 pub goes : (m : Phase) (answer : Answer) (new : Phase) → IsViewer m → Goes m answer new
-    → (calls_left new < calls_left m) × Reaches (reached_at new) new × Unit {0}
-goes m answer new is on = let ahead = goes_ahead m answer new on in (ahead.0, ahead.1, tt)
+    → (calls_left new < calls_left m) × (IsReady new ⊎ (0 < calls_left new))
+goes m answer new is on = goes_ahead m answer new on
 
 -- ---- which answers show that a snapshot is above the latest
 
@@ -714,6 +713,14 @@ stood_still other f after p q s x advances stood = record {
   schema = stood.schema;
 }
 
+-- and has gone
+pub gone_still : (other : Actor) (f after : Files) (p q : Past) (s : TableSchema) (id : ℕ) → Stands f p → Advances other f p after q → HasGone f p s id → HasGone after q s id
+gone_still other f after p q s id stands advances gone = record {
+  table = table_still other f after p q s advances gone.table;
+  known = known-still other f after p q id advances gone.known;
+  absent = gone-still other f after p q s id stands advances gone.table gone.known gone.absent;
+}
+
 view_still : (other : Actor) (f after : Files) (p q : Past) (v : View) → Advances other f p after q → IsViewIn p v → IsViewIn q v
 view_still other f after p q v advances (view_origin view) = view_origin view
 view_still other f after p q v advances (view_snapshot x base delta entries live stood contents left view) =
@@ -746,11 +753,7 @@ knows_still (phases.Manifests r) other f after p q stands advances (stood, readi
   subst (λ (g : Files). IsReadingOf g r) (sym (advances.same r.snapshot.id stood.known)) reading,
   sought_still other f after p q r.sought.asked.schema r.sought.asked.wanted r.sought.listed r.snapshot.id stands advances stood.table sought,
 )
-knows_still (phases.Again a id path) other f after p q stands advances gone = record {
-  table = table_still other f after p q a.schema advances gone.table;
-  known = known-still other f after p q id advances gone.known;
-  absent = gone-still other f after p q a.schema id stands advances gone.table gone.known gone.absent;
-}
+knows_still (phases.Again a id path) other f after p q stands advances gone = gone_still other f after p q a.schema id stands advances gone
 knows_still (phases.Ready v) other f after p q stands advances (known, view, sought) = (
   table_still other f after p q v.schema advances known,
   view_still other f after p q v advances view,
@@ -763,7 +766,4 @@ pub again_absent : (a : Asked) (id : ℕ) (path : List ℕ) (found : Option (Lis
 again_absent a id path found f p gone told = told ∙ gone.absent
 
 pub images : (m : Phase) (call : Call) (f image : Files) (p : Past) → next_call m ≡ Some call → MayLeave call f image → IsKept f p image p
-images m call f image p is left =
-    let had = effect_left call f image left in
-    let still = rw is at (spares m f) in
-    kept_same f image p (had.1 ∙ still had.0)
+images m call f image p is left = kept_same f image p (image_spared next_call m call f image (spares m f) is left)

@@ -7,3 +7,4 @@ pub mod ListedLemmas
 pub mod LiveLemmas
 pub mod TwoLemmas
 pub mod NamedLemmas
+pub mod WithinLemmas

@@ -4,13 +4,11 @@ use Rattle.std.specs.FinMap as map
 use Rattle.pm_values.specs.declared.refusal.Refusal.{Refusal}
 use Rattle.pm_values.specs.declared.refusal.Refusal.TheVariants as refusals
 use Rattle.pm_store.specs.Files.{Files}
-use Rattle.pm_store.specs.Store.{StoreView}
-use Rattle.pm_machine.specs.Moves.{Moves}
 use Rattle.pm_model_history.specs.History.{IsTableOf}
 use Rattle.pm_schema.specs.declared.schema.TableSchema.{TableSchema}
 use Rattle.pm_snapshot.specs.Names.{greatest}
 use Rattle.pm_snapshot.specs.declared.snapshot.Snapshot.{Snapshot}
-use Rattle.pm_model_folder.specs.Ledger.{IsKnown, Past, Stands, count_of}
+use Rattle.pm_model_folder.specs.Ledger.{IsKnown, Past, count_of}
 use Rattle.pm_model_folder.specs.Meaning.{HasSnapshotAt, SnapshotAt}
 use Rattle.pm_model_folder.specs.Paths.{snapshot_path}
 use Rattle.pm_paths.specs.Ids.{IsGreatestOf}
@@ -31,9 +29,9 @@ pub record IsKept (f : Files) (p : Past) (after : Files) (later : Past) : Type 0
   pub files : (path : List ℕ) → map.get after path ≡ map.get f path
   pub past : later ≡ p
 
--- what a reader changes: nothing
-abbrev pub LeavesFiles : Phase → Files → Past → Files → Past → Type 0
-LeavesFiles phase f p after later = IsKept f p after later
+-- what a reader changes, in each of its phases: nothing
+abbrev pub LeavesFiles : {P : Type 0} → P → Files → Past → Files → Past → Type 0
+LeavesFiles {P} phase f p after later = IsKept f p after later
 
 -- the snapshot is one of the table's, and names its schema: it stood so when it was committed, whether or not it has
 -- gone since
@@ -120,11 +118,3 @@ MayRefuse f p refusals.Memory = Unit {0}
 MayRefuse f p (refusals.NoSnapshot id latest) = (latest ≡ count_of p.history) × (latest < id)
 MayRefuse f p (refusals.Expired id) = IsExpired f p id
 MayRefuse f p other = ⊥
-
--- no fact of others' is of concern to it
-abbrev pub Anything : Files → Past → Type 0
-Anything f p = Unit {0}
-
--- a step changes nothing, and what the reader knows holds after it
-abbrev pub ViewerMoved : Phase → Phase → StoreView → StoreView → Type 0
-ViewerMoved old new before after = Moves Stands (LeavesFiles old) (Knows old) (Knows new) before after

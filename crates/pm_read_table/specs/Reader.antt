@@ -33,8 +33,6 @@ use Rattle.pm_read_table.specs.declared.asked.Wanted.{Wanted}
 use Rattle.pm_read_table.specs.declared.asked.Wanted.TheVariants as wants
 use Rattle.pm_read_table.specs.declared.phase.Phase.{Phase}
 use Rattle.pm_read_table.specs.declared.phase.Phase.TheVariants as phases
-use Rattle.pm_read_table.specs.declared.reader.ViewStep.{ViewStep}
-use Rattle.pm_read_table.specs.declared.reader.ViewStep.TheVariants as steps
 use Rattle.pm_read_table.specs.declared.view.View.{View}
 
 -- ---- its calls
@@ -208,11 +206,26 @@ Shown (phases.Manifests r) (answers.Found found) refusal =
     (refusal ≡ refusals.Memory) ⊎ Reveals (phases.Manifests r) (answers.Found found) refusal
 Shown phase other refusal = ⊥
 
--- what a step that goes on has reached
-abbrev pub Reaches : ViewStep → Phase → Type 0
-Reaches steps.More phase = 0 < calls_left phase
-Reaches steps.Ready phase = IsReady phase
+-- ---- a reader within another machine
 
-abbrev pub reached_at : Phase → ViewStep
-reached_at (phases.Ready v) = steps.Ready
-reached_at other = steps.More
+-- the phase with this reader, which it holds so; once the view is ready, what it goes on with
+abbrev pub WithReader : {P : Type 0} → (Phase → P) → (View → P → Type 0) → Phase → P → Type 0
+WithReader {P} hold Opens (phases.Ready v) later = Opens v later
+WithReader {P} hold Opens m later = later ≡ hold m
+
+-- the view is ready with the answer, and memory runs out before the machine goes on with it
+abbrev pub FailsToOpen : (Phase → Type 0) → Phase → Answer → Refusal → Type 0
+FailsToOpen Reads m answer refusal =
+    (refusal ≡ refusals.Memory) × (v : View) × Reads (phases.Ready v) × Goes m answer (phases.Ready v)
+
+-- the schema of the table that it reads is such a one
+abbrev pub OfSchema : (TableSchema → Type 0) → Phase → Type 0
+OfSchema Holds (phases.List a) = Holds a.schema
+OfSchema Holds (phases.Origin q) = Holds q.asked.schema
+OfSchema Holds (phases.Snapshot q id) = Holds q.asked.schema
+OfSchema Holds (phases.Base q x) = Holds q.asked.schema
+OfSchema Holds (phases.Delta q x base) = Holds q.asked.schema
+OfSchema Holds (phases.Manifests r) = Holds r.sought.asked.schema
+OfSchema Holds (phases.Again a id path) = Holds a.schema
+OfSchema Holds (phases.Ready v) = Holds v.schema
+OfSchema Holds phases.Over = Unit {0}

@@ -1,12 +1,11 @@
 -- The own calls of a reader of a view, and what they show.
-use Rattle.std.specs.Prelude.{◌≡◌, ◌≢◌, ℕ, ◌≤◌, List, [], ◌∷◌, ◌++◌, Option, None, Some, Result, Ok, Err, IfErr}
+use Rattle.std.specs.Prelude.{◌≡◌, ◌≢◌, ℕ, ◌≤◌, List, [], ◌∷◌, ◌++◌, Option, None, Some, Ok, Err}
 use Rattle.pm_values.specs.declared.refusal.Refusal.{Refusal}
 use Rattle.pm_values.specs.declared.refusal.Refusal.TheVariants as refusals
 use Rattle.pm_store.specs.declared.answer.Answer.{Answer}
 use Rattle.pm_store.specs.declared.answer.Answer.TheVariants as answers
 use Rattle.pm_store.specs.declared.call.Call.TheVariants as calls
-use Rattle.pm_store.specs.Store.{StoreView}
-use Rattle.pm_machine.specs.Trace.{Event, Acts, IsFailed, MayEnd, answered}
+use Rattle.pm_machine.specs.Trace.{Event, IsFailed, MayEnd, answered}
 use Rattle.pm_schema.specs.declared.schema.TableSchema.{TableSchema}
 use Rattle.pm_snapshot.specs.Snapshot.{snapshot_in}
 use Rattle.pm_snapshot.specs.declared.fault.SnapFault.TheVariants as faults
@@ -28,7 +27,6 @@ use Rattle.pm_read_table.specs.declared.asked.Wanted.{Wanted}
 use Rattle.pm_read_table.specs.declared.asked.Wanted.TheVariants as wants
 use Rattle.pm_read_table.specs.declared.phase.Phase.{Phase}
 use Rattle.pm_read_table.specs.declared.phase.Phase.TheVariants as phases
-use Rattle.pm_read_table.specs.declared.reader.ViewStep.{ViewStep}
 use Rattle.pm_read_table.specs.declared.view.View.{View}
 
 -- this was found at a path
@@ -226,9 +224,3 @@ Shows a other own = ⊥
 abbrev pub Did : Asked → Phase → List Event → Type 0
 Did a phases.Over own = (refusal : Refusal) × Shows a refusal own
 Did a m own = DidSoFar a m own
-
--- Whatever was asked, its next call is the next event of its calls so far, or none was made; and a refusal is shown by
--- the calls up to it.
-abbrev pub ViewerActed : Phase → Phase → StoreView → StoreView → Result ViewStep Refusal → Type 0
-ViewerActed old new before after result = (a : Asked)
-    → Acts (Did a old) (λ own. Did a new own × IfErr result (λ refusal. Shows a refusal own)) before after

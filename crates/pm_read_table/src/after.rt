@@ -3,7 +3,7 @@
 //! What isn't handed on is dropped by name. Left to the end of its scope it would be taken apart there, and each of its
 //! variants proved at each such place.
 
-ghost use Rattle.std.specs.Prelude.{◌≡◌, ◌⊎◌, ◌++◌, ℕ, [], ◌≤◌, length, Some, IfOk, IfErr, OnOk};
+ghost use Rattle.std.specs.Prelude.{◌≡◌, ◌⊎◌, ◌++◌, ℕ, [], ◌≤◌, length, Some, Ok, IfOk, IfErr, OnOk};
 ghost use Rattle.indexmap.specs.IndexMap.{get};
 ghost use Rattle.pm_model_contents.specs.Groups.{AreNamed, HaveFolders, Overlaps};
 ghost use Rattle.pm_model_contents.specs.Lists.{manifest_path};
@@ -12,9 +12,10 @@ ghost use Rattle.pm_manifest.specs.FileId.{id_eq};
 ghost use Rattle.pm_manifest.specs.Live.{AreInOrder, Leaves, Refuses};
 ghost use Rattle.pm_record.specs.File.{IsMemoryOr};
 ghost use Rattle.pm_schema.specs.Again.{IsDeclared};
+ghost use Rattle.pm_snapshot.specs.Snapshot.{snapshot_in};
 ghost use Rattle.pm_store.specs.declared.answer.Answer.TheVariants as answers;
 ghost use Rattle.pm_read_table.specs.View.{HaveGroups};
-ghost use Rattle.pm_read_table.specs.Reader.{most, opening, Goes, GoesOn, IsAbove, IsAsked, IsViewer, Shown};
+ghost use Rattle.pm_read_table.specs.Reader.{most, opening, Goes, GoesOn, IsAbove, IsAsked, IsBad, IsViewer, Shown};
 ghost use Rattle.pm_read_table.specs.Reader.{RefusesEntries, Starts, Takes};
 ghost use Rattle.pm_read_table.specs.View.{kept_for, HasFolders, IsOriginView, IsSoughtBy, IsViewOf};
 ghost use Rattle.pm_read_table.specs.Asked.{Asked as AskedView, ListsFirst};
@@ -34,6 +35,7 @@ use pm_manifest::{Entry, FileId, ManifestMeta, fold_entries, read_entry_law};
 use pm_manifest_reader::{read_list, read_manifest_by};
 use pm_model_contents::{folder_law, group_levels, live_law};
 use pm_paths::{ids_of, latest_of, manifest_path, schema_path, snapshot_path};
+use pm_schema::TableSchema;
 use pm_snapshot::{SnapFault, Snapshot, read_snapshot};
 use pm_values::{Group, Refusal};
 use std::alloc::{AllocError, Global};
@@ -164,30 +166,43 @@ fn after_bytes(alloc: Global, sought: Sought, id: u64, bytes: Blob) -> Result<Ph
     ensures is_viewer { IfOk result IsViewer }
     ensures refuses { IfErr result (Shown (phases.Snapshot sought id) (answers.Found (Some bytes))) }
 {
-    match read_snapshot(alloc, id, bytes.as_bytes()) {
-        Ok(snapshot) => {
-            if snapshot.schema_id == sought.schema().id {
-                Ok(Phase::Base { sought, snapshot })
-            } else {
-                let other = snapshot.schema_id;
-                drop(sought);
-                drop(snapshot);
-                Err(damaged_schema(alloc, other))
-            }
-        }
-        Err(SnapFault::Memory) => {
+    match read_named(alloc, sought.schema(), id, bytes.as_bytes()) {
+        Ok(snapshot) => Ok(Phase::Base { sought, snapshot }),
+        Err(refusal) => {
             drop(sought);
-            Err(Refusal::Memory)
-        }
-        Err(SnapFault::Bad) => {
-            drop(sought);
-            Err(damaged_snapshot(alloc, id))
+            Err(refusal)
         }
     }
 }
 
+/// The snapshot with an id, which these bytes of its file are to be read as, and which is to name the table's schema.
+pub fn read_named(
+    alloc: Global,
+    schema: &TableSchema,
+    id: u64,
+    bytes: &[u8],
+) -> Result<Snapshot, Refusal>
+    ensures reads { IfOk result (λ x. snapshot_in id bytes.now ≡ Ok x) }
+    ensures schema { IfOk result (λ x. x.schema_id ≡ schema.now.id) }
+    ensures refuses { IfErr result (λ refusal. (refusal ≡ refusals.Memory) ⊎ IsBad schema.now id bytes.now refusal) }
+{
+    match read_snapshot(alloc, id, bytes) {
+        Ok(snapshot) => {
+            if snapshot.schema_id == schema.id {
+                Ok(snapshot)
+            } else {
+                let other = snapshot.schema_id;
+                drop(snapshot);
+                Err(damaged_schema(alloc, other))
+            }
+        }
+        Err(SnapFault::Memory) => Err(Refusal::Memory),
+        Err(SnapFault::Bad) => Err(damaged_snapshot(alloc, id)),
+    }
+}
+
 /// The refusal of the snapshot's file with an id, whose path may take memory.
-pub fn damaged_snapshot(alloc: Global, id: u64) -> Refusal
+fn damaged_snapshot(alloc: Global, id: u64) -> Refusal
     ensures { IsMemoryOr (refusals.Damaged (snapshot_path id) 0) result }
 {
     match snapshot_path(alloc, id) {
@@ -197,7 +212,7 @@ pub fn damaged_snapshot(alloc: Global, id: u64) -> Refusal
 }
 
 /// The refusal of the schema's file with an id, whose path may take memory.
-pub fn damaged_schema(alloc: Global, id: u64) -> Refusal
+fn damaged_schema(alloc: Global, id: u64) -> Refusal
     ensures { IsMemoryOr (refusals.Damaged (schema_path id) 0) result }
 {
     match schema_path(alloc, id) {

@@ -24,16 +24,17 @@ mod phase;
 mod reader;
 mod reading;
 mod view;
+mod within;
 
-pub use after::{damaged_schema, damaged_snapshot};
+pub use after::read_named;
 pub use asked::{Asked, Sought, Wanted};
 pub use laws::{
     absent_law, causes_law, entries_law, images_law, known_law, listed_law, named_law, sought_law,
 };
 pub use phase::Phase;
 pub use reader::{
-    ViewReader, ViewStep, into_view, is_view_ready, newest_entries, newest_view, step_view,
-    view_at, whole_view,
+    ViewReader, into_view, is_view_ready, newest_entries, newest_view, view_at, whole_view,
 };
 pub use reading::Reading;
 pub use view::View;
+pub use within::{OpensView, after_view};

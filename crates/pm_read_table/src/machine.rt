@@ -6,8 +6,7 @@ use crate::after::{
     after_again, after_base, after_delta, after_list, after_manifest, after_origin, after_snapshot,
 };
 use crate::phase::Phase;
-use crate::reader::ViewStep;
-use pm_machine::PhaseMeaning;
+use pm_machine::ReaderPhase;
 use pm_paths::{manifest_path, origin_path, snapshot_path};
 use pm_store::{Answer, Call};
 use pm_values::Refusal;
@@ -48,6 +47,10 @@ impl pm_machine::Phase for Phase {
         }
     }
 
+    fn over() -> Phase {
+        Phase::Over
+    }
+
     fn next(self, alloc: Global, answer: Answer) -> Result<Phase, Refusal> {
         match (self, answer) {
             (Phase::List { asked }, Answer::Listed(names)) => after_list(alloc, asked, names),
@@ -76,26 +79,20 @@ impl pm_machine::Phase for Phase {
             _ => unreachable!(),
         }
     }
-
-    fn over() -> Phase {
-        Phase::Over
-    }
 }
 
-impl PhaseMeaning for Phase {
+impl ReaderPhase for Phase {
     ghost use Rattle.pm_model_folder.specs.Ledger as ledgers;
     ghost use Rattle.pm_read_table.specs.Asked as asks;
-    ghost use Rattle.pm_read_table.specs.Meaning.{Knows, LeavesFiles};
-    ghost use Rattle.pm_read_table.specs.Reader.{calls_left, reached_at, Reaches};
+    ghost use Rattle.pm_read_table.specs.Meaning.{IsKept, Knows};
+    ghost use Rattle.pm_read_table.specs.Reader.{calls_left, IsReady};
     ghost use Rattle.pm_read_table.specs.Trace.{Did, Shows};
-
-    type Step = ViewStep;
 
     ghost History = { ledgers.Past };
 
     ghost Folder = { ledgers.Stands };
 
-    ghost Change = { LeavesFiles };
+    ghost Same = { IsKept };
 
     ghost knows = { Knows };
 
@@ -107,16 +104,5 @@ impl PhaseMeaning for Phase {
 
     ghost calls_left = { calls_left };
 
-    ghost reached_at = { reached_at };
-
-    ghost reaches = { Reaches };
-
-    ghost keeps = { λ old new. Unit {0} };
-
-    fn reached(&self) -> ViewStep {
-        match self {
-            Phase::Ready { .. } => ViewStep::Ready,
-            _ => ViewStep::More,
-        }
-    }
+    ghost ready = { IsReady };
 }

@@ -1,13 +1,10 @@
 //! The reader of a view.
 
-ghost use Rattle.std.specs.Prelude.{◌≡◌, ◌↔◌, ◌<◌, ◌≤◌, ℕ, [], IfOk, OnOk, OnErr, IsTrue};
+ghost use Rattle.std.specs.Prelude.{◌≡◌, ◌↔◌, ◌≤◌, [], IsTrue};
 ghost use Rattle.pm_schema.specs.Again.{IsDeclared};
-ghost use Rattle.pm_store.specs.Store.{IsLater};
-ghost use Rattle.pm_read_table.specs.Meaning.{ViewerMoved};
-ghost use Rattle.pm_read_table.specs.Reader.{calls_left, IsReady, Reaches};
+ghost use Rattle.pm_read_table.specs.Reader.{IsReady};
 ghost use Rattle.pm_read_table.specs.Asked.{asked_of, sought_of};
 ghost use Rattle.pm_read_table.specs.View.{HaveGroups};
-ghost use Rattle.pm_read_table.specs.Trace.{ViewerActed};
 ghost use Rattle.pm_read_table.specs.View.{HasFolders};
 ghost use Rattle.pm_read_table.specs.declared.asked.Wanted.TheVariants as wants;
 ghost use Rattle.pm_read_table.specs.declared.phase.Phase.TheVariants as phases;
@@ -15,23 +12,21 @@ ghost use Rattle.pm_read_table.specs.declared.phase.Phase.TheVariants as phases;
 use crate::asked::{Asked, Sought, Wanted};
 use crate::phase::Phase;
 use crate::view::View;
-use pm_machine::{Running, make_step};
+use pm_machine::{LawfulPhase, Running};
 use pm_manifest::{ManifestMeta, joined_law};
 use pm_record::one_reading_law;
 use pm_schema::TableSchema;
-use pm_store::FileStore;
-use pm_values::Refusal;
 use std::alloc::Global;
-
-/// What a step of a reader reached: it goes on, or the view is ready.
-#[derive(Clone, Copy)]
-pub enum ViewStep {
-    More,
-    Ready,
-}
 
 /// Reads the table at a snapshot, a call of the store a step. It is a part of other machines, which make its calls.
 pub type ViewReader = Running<Phase>;
+
+impl LawfulPhase for Phase {
+    fn laws() {
+        joined_law();
+        one_reading_law::<ManifestMeta>();
+    }
+}
 
 /// A reader of the table with this schema, which was just read, at its latest snapshot.
 pub fn newest_view(schema: TableSchema) -> ViewReader
@@ -96,23 +91,4 @@ pub fn into_view(reader: ViewReader) -> View
         Phase::Ready { view } => view,
         _ => unreachable!(),
     }
-}
-
-/// Makes the next call of the store. After a refusal, and once the view is ready, no call is left.
-pub fn step_view<F: FileStore>(
-    alloc: Global,
-    reader: &mut ViewReader,
-    store: &mut F,
-) -> Result<ViewStep, Refusal>
-    requires { 0 < calls_left reader.old }
-    ensures moves { ViewerMoved reader.old reader.new (F.seen store.old) (F.seen store.new) }
-    ensures acts { ViewerActed reader.old reader.new (F.seen store.old) (F.seen store.new) result }
-    ensures reaches { IfOk result (λ step. Reaches step reader.new) }
-    ensures fewer { OnOk result (calls_left reader.new < calls_left reader.old) }
-    ensures over { OnErr result (reader.new ≡ phases.Over) }
-    ensures later { IsLater (F.seen store.old) (F.seen store.new) }
-{
-    joined_law();
-    one_reading_law::<ManifestMeta>();
-    make_step(alloc, reader, store)
 }

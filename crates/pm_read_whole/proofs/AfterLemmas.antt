@@ -1,7 +1,5 @@
 -- The parts of a reader stay what they are: the view's reads one snapshot whole, and the changelog's that of the view.
-use Rattle.std.proofs.Common.{◌≡◌, ◌⊎◌, inl, inr, ℕ, ◌<◌, ◌≤◌, List, [], ◌∷◌, ◌++◌, Option, None, Some, Result, Ok, Err, IfOk, IfErr, sym, ap, ◌∙◌, subst, arith}
-use Rattle.pm_values.specs.declared.refusal.Refusal.{Refusal}
-use Rattle.pm_values.specs.declared.refusal.Refusal.TheVariants as refusals
+use Rattle.std.proofs.Common.{◌≡◌, ◌⊎◌, inl, inr, ℕ, ◌<◌, ◌≤◌, List, [], ◌∷◌, ◌++◌, Option, None, Some, sym, ap, ◌∙◌, subst, arith}
 use Rattle.pm_store.specs.declared.answer.Answer.{Answer}
 use Rattle.pm_store.specs.declared.answer.Answer.TheVariants as answers
 use Rattle.pm_snapshot.specs.declared.snapshot.Snapshot.{Snapshot}
@@ -21,32 +19,16 @@ use Rattle.pm_read_log.specs.declared.log_phase.LogPhase.TheVariants as logs
 use Rattle.pm_read_table.specs.declared.phase.Phase as view_phase
 use Rattle.pm_read_table.specs.declared.phase.Phase.TheVariants as readers
 use Rattle.pm_read_table.specs.declared.view.View.{View}
-use Rattle.pm_read_whole.specs.Whole.{FailsToOpen, IsAskedWhole, IsLogOf, IsOpened, IsWholeOf, IsWholeView}
+use Rattle.pm_read_whole.specs.Whole.{IsAskedWhole, IsLogOf, IsOpened, IsWholeOf, IsWholeView}
 
 pub some_same : (x y : Snapshot) → Some x ≡ Some y → x ≡ y
 some_same x y e = cc
 
-pub if_ok : {X E : Type 0} (r : Result X E) (P Q : X → Type 0) → ((x : X) → P x → Q x) → IfOk r P → IfOk r Q
-if_ok (Ok x) P Q weaker is = weaker x is
-if_ok (Err e) P Q weaker is = tt
-
-pub if_err : {X E : Type 0} (r : Result X E) (P Q : E → Type 0) → ((e : E) → P e → Q e) → IfErr r P → IfErr r Q
-if_err (Ok x) P Q weaker is = tt
-if_err (Err e) P Q weaker is = weaker e is
-
 -- ---- the reader of the view
 
--- it reads a snapshot whole, and is ready or has a call left
-record IsOn (m : view_phase.Phase) : Type 0 where
-  whole : IsWholeOf m
-  left : reader.IsReady m ⊎ (0 < reader.calls_left m)
-
-on_at : (m to : view_phase.Phase) → m ≡ to → IsWholeOf to → 0 < reader.calls_left to → IsOn m
-on_at m to is whole left = subst IsOn (sym is) (record { whole = whole; left = inr left })
-
-manifests_on : (q : SoughtView) (x : Snapshot) (done rest : List ManifestMeta) (files : Filed) (kept : List Entry) (m : view_phase.Phase)
-    → IsAskedWhole q.asked x.id → reader.GoesOn q x done rest files kept m → IsOn m
-manifests_on q x done [] files kept m whole (v, view, by, is) =
+manifests_whole : (q : SoughtView) (x : Snapshot) (done rest : List ManifestMeta) (files : Filed) (kept : List Entry) (m : view_phase.Phase)
+    → IsAskedWhole q.asked x.id → reader.GoesOn q x done rest files kept m → IsWholeOf m
+manifests_whole q x done [] files kept m whole (v, view, by, is) =
     let viewer : IsWholeView v = record {
       snapshot = x;
       is_snapshot = view.snapshot;
@@ -54,36 +36,24 @@ manifests_on q x done [] files kept m whole (v, view, by, is) =
       wanted = by.wanted ∙ whole.0 ∙ ap (λ (id : ℕ). wants.Whole id) (sym view.id);
       after_origin = subst (λ (id : ℕ). 1 ≤ id) (sym view.id) whole.1;
     } in
-    subst IsOn (sym is) (record { whole = viewer; left = inl tt })
-manifests_on q x done (meta ∷ rest) files kept m whole is = on_at m _ is whole (omega arith)
+    subst IsWholeOf (sym is) viewer
+manifests_whole q x done (meta ∷ rest) files kept m whole is = subst IsWholeOf (sym is) whole
 
-view_on : (r : view_phase.Phase) (answer : Answer) (to : view_phase.Phase) → IsWholeOf r → reader.Goes r answer to → IsOn to
-view_on (readers.List a) answer to whole goes = absurd whole
-view_on (readers.Origin q) answer to whole goes = absurd whole
-view_on (readers.Snapshot q id) (answers.Found (Some bytes)) to whole (x, reads, schema, is) =
-    on_at to (readers.Base q x) is (subst (IsAskedWhole q.asked) (sym (id_same id bytes x reads)) whole) (omega arith)
-view_on (readers.Base q x) (answers.Found None) to whole is = on_at to _ is whole (omega arith)
-view_on (readers.Base q x) (answers.Found (Some bytes)) to whole (base, reads, is) = on_at to (readers.Delta q x base) is whole (omega arith)
-view_on (readers.Delta q x base) (answers.Found None) to whole is = on_at to _ is whole (omega arith)
-view_on (readers.Delta q x base) (answers.Found (Some bytes)) to whole (delta, reads, (files, left, within, on)) =
-    manifests_on q x [] (base.items ++ delta) files [] to whole on
-view_on (readers.Manifests r) (answers.Found None) to whole is = on_at to _ is whole (omega arith)
-view_on (readers.Manifests r) (answers.Found (Some bytes)) to whole (own, reads, (files, order, left, on)) =
-    manifests_on r.sought r.snapshot (r.done ++ r.next ∷ []) r.rest files (r.kept ++ kept_for r.sought.asked.wanted own) to whole on
-view_on r answer to whole goes = absurd goes
-
-pub view_left : (r : view_phase.Phase) (answer : Answer) (to : view_phase.Phase) → IsWholeOf r → reader.Goes r answer to
-    → reader.IsReady to ⊎ (0 < reader.calls_left to)
-view_left r answer to whole goes = (view_on r answer to whole goes).left
-
-pub view_whole : (r : view_phase.Phase) (answer : Answer) (to : view_phase.Phase) → IsWholeOf r → reader.Goes r answer to → IsWholeOf to
-view_whole r answer to whole goes = (view_on r answer to whole goes).whole
-
--- memory runs out once the view is ready
-pub open_failed : (r : view_phase.Phase) (answer : Answer) (to : view_phase.Phase) (refusal : Refusal) → IsWholeOf to → reader.Goes r answer to
-    → refusal ≡ refusals.Memory → reader.IsReady to → FailsToOpen r answer refusal
-open_failed r answer (readers.Ready v) refusal whole goes is ready = (is, v, whole.snapshot, whole.is_snapshot, goes)
-open_failed r answer to refusal whole goes is ready = absurd ready
+-- it goes on to read one snapshot whole
+pub stays_whole : (m : view_phase.Phase) (answer : Answer) (new : view_phase.Phase) → reader.Goes m answer new → IsWholeOf m → IsWholeOf new
+stays_whole (readers.List a) answer new goes whole = absurd whole
+stays_whole (readers.Origin q) answer new goes whole = absurd whole
+stays_whole (readers.Snapshot q id) (answers.Found (Some bytes)) new (x, reads, schema, is) whole =
+    subst IsWholeOf (sym is) (subst (IsAskedWhole q.asked) (sym (id_same id bytes x reads)) whole)
+stays_whole (readers.Base q x) (answers.Found None) new is whole = subst IsWholeOf (sym is) whole
+stays_whole (readers.Base q x) (answers.Found (Some bytes)) new (base, reads, is) whole = subst IsWholeOf (sym is) whole
+stays_whole (readers.Delta q x base) (answers.Found None) new is whole = subst IsWholeOf (sym is) whole
+stays_whole (readers.Delta q x base) (answers.Found (Some bytes)) new (delta, reads, (files, left, within, on)) whole =
+    manifests_whole q x [] (base.items ++ delta) files [] new whole on
+stays_whole (readers.Manifests r) (answers.Found None) new is whole = subst IsWholeOf (sym is) whole
+stays_whole (readers.Manifests r) (answers.Found (Some bytes)) new (own, reads, (files, order, left, on)) whole =
+    manifests_whole r.sought r.snapshot (r.done ++ r.next ∷ []) r.rest files (r.kept ++ kept_for r.sought.asked.wanted own) new whole on
+stays_whole m answer new goes whole = absurd goes
 
 -- ---- the reader of the changelog
 

@@ -52,7 +52,7 @@ never_listed r answer refusal id latest whole shown is =
 
 pub causes : ViewCauses → LogCauses → (m : Phase) (call : Call) (answer : Answer) (refusal : Refusal) (f : Files) (p : Past) → Stands f p → IsWhole m → Knows m f p
     → next_call m ≡ Some call → Answers call answer f → Shown m answer refusal → MayRefuse f p refusal
-causes views logs (phases.View r) call answer refusal f p stands whole known at told (inl (is, v, x, there, goes)) = subst (MayRefuse f p) (sym is) tt
+causes views logs (phases.View r) call answer refusal f p stands whole known at told (inl (is, v, viewed, goes)) = subst (MayRefuse f p) (sym is) tt
 causes views logs (phases.View r) call answer refusal f p stands whole known at told (inr shown) =
     not_above f p refusal (views r call answer refusal f p stands known at told shown)
     (λ id latest is. never_listed r answer refusal id latest whole.1 shown is)

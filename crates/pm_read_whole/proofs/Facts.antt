@@ -1,5 +1,5 @@
 -- A reader of a whole view keeps the laws of machines.
-use Rattle.std.proofs.Common.{◌≡◌, inl, inr, ℕ, ◌<◌, ◌+◌, List, [], ◌∷◌, ◌++◌, Option, None, Some, IsSome, IfSome, Ok, refl, sym, ap, ◌∙◌, subst, arith, append_assoc}
+use Rattle.std.proofs.Common.{◌≡◌, ◌⊎◌, inl, inr, ℕ, ◌<◌, ◌+◌, List, [], ◌∷◌, ◌++◌, Option, None, Some, IsSome, IfSome, Ok, refl, sym, ap, ◌∙◌, subst, arith, append_assoc}
 use Rattle.std.proofs.lemmas.List.{append-nil}
 use Rattle.std.proofs.lemmas.Option.{IfSome_then}
 use Rattle.pm_values.specs.declared.refusal.Refusal.{Refusal}
@@ -8,15 +8,14 @@ use Rattle.pm_store.specs.declared.answer.Answer.{Answer}
 use Rattle.pm_store.specs.declared.answer.Answer.TheVariants as answers
 use Rattle.pm_store.specs.declared.call.Call.{Call}
 use Rattle.pm_store.specs.declared.call.Call.TheVariants as calls
-use Rattle.pm_store.specs.declared.call.Effect.{Effect}
-use Rattle.pm_store.specs.declared.call.Effect.TheVariants as effects
 use Rattle.pm_store.specs.Answers.{Answers, MayAnswer}
-use Rattle.pm_store.specs.Files.{Files, after_effect, carried}
+use Rattle.pm_store.specs.Files.{Files}
 use Rattle.pm_store.specs.Images.{MayLeave}
-use Rattle.pm_machine.specs.Moves.{Changes, Leads, Sound}
+use Rattle.pm_machine.specs.Moves.{Sound}
 use Rattle.pm_machine.specs.Running.{Refuses, Stops}
 use Rattle.pm_machine.specs.Step.{path_of}
 use Rattle.pm_machine.specs.Trace.{Event, Recounts, after_answer, answered, faulted}
+use Rattle.pm_machine.proofs.PhaseFacts.{Spares, image_spared, sound_of_spared}
 use Rattle.pm_snapshot.specs.Snapshot.{snapshot_in}
 use Rattle.pm_snapshot.specs.declared.snapshot.Snapshot.{Snapshot}
 use Rattle.pm_schema.specs.declared.schema.TableSchema.{TableSchema}
@@ -31,35 +30,47 @@ use Rattle.pm_read_log.specs.LogMeaning as log_meaning
 use Rattle.pm_read_log.specs.LogReader as log
 use Rattle.pm_read_log.specs.LogTrace as log_trace
 use Rattle.pm_read_table.specs.Meaning as reader_meaning
-use Rattle.pm_read_table.specs.Meaning.{IsKept, IsViewIn, Stood, view_origin, view_snapshot}
+use Rattle.pm_read_table.specs.Meaning.{IsKept, IsViewIn, LeavesFiles, Stood, view_origin, view_snapshot}
 use Rattle.pm_read_table.specs.Reader as reader
 use Rattle.pm_read_table.specs.Reader.{most}
 use Rattle.pm_read_table.specs.Trace as reader_trace
 use Rattle.pm_read_table.specs.Trace.{of_origin, of_snapshot, read_file}
+use Rattle.pm_read_log.specs.declared.log.Log.{Log}
 use Rattle.pm_read_log.specs.declared.log_phase.LogPhase.{LogPhase}
 use Rattle.pm_read_log.specs.declared.log_phase.LogPhase.TheVariants as logs
 use Rattle.pm_read_table.specs.declared.phase.Phase as view_phase
 use Rattle.pm_read_table.specs.declared.phase.Phase.TheVariants as readers
 use Rattle.pm_read_table.specs.declared.view.View.{View}
 use Rattle.pm_read_table.proofs.Facts as reader_facts
-use Rattle.pm_read_table.proofs.Facts.{Joined, OneList}
+use Rattle.pm_read_table.proofs.Facts.{Joined, OneList, kept_same}
+use Rattle.pm_read_table.proofs.WithinLemmas.{with_reader}
 use Rattle.pm_read_log.proofs.LogFacts as log_facts
-use Rattle.pm_read_whole.specs.Meaning.{Knows, LeavesFiles}
+use Rattle.pm_read_whole.specs.Meaning.{Knows}
 use Rattle.pm_read_whole.specs.Trace.{Did, Follows, Shows, read_first, view_asked}
-use Rattle.pm_read_whole.specs.Whole.{next_call, calls_left, AfterLog, AfterView, Goes, IsWhole, Reaches, Shown, reached_at}
+use Rattle.pm_read_whole.specs.Whole.{next_call, calls_left, AfterLog, AfterView, Goes, IsReady, IsWhole, BeginsLog, Shown}
 use Rattle.pm_read_whole.specs.declared.phase.Phase.{Phase}
 use Rattle.pm_read_whole.specs.declared.phase.Phase.TheVariants as phases
 use Rattle.pm_read_whole.proofs.AfterLemmas.{some_same}
 
 -- ---- its calls change nothing
 
-changes_on : Joined → OneList → (m : Phase) (f : Files) (p : Past) → Stands f p → Knows m f p → IfSome (next_call m) (λ call. Changes (LeavesFiles m) call f p)
-changes_on law one (phases.View r) f p stands known = (reader_facts.sound law one).changes r f p stands known
-changes_on law one (phases.Log v r) f p stands (viewed, known) = (log_facts.sound one).changes r f p stands known
-changes_on law one (phases.Ready v l) f p stands known = tt
-changes_on law one phases.Over f p stands known = tt
+spares : (m : Phase) (f : Files) → IfSome (next_call m) (Spares f)
+spares (phases.View r) f = reader_facts.spares r f
+spares (phases.Log v r) f = log_facts.spares r f
+spares (phases.Ready v l) f = tt
+spares phases.Over f = tt
 
 -- ---- what it knows
+
+-- the phase with a reader of the changelog, or with the changelog; what is so of the reader is so of it once it is ready
+with_log : (v : View) (Q : LogPhase → Type 0) (X : Type 0) (m : LogPhase) (later : Phase) → AfterLog v m later → Q m → (later ≡ phases.Log v m → X)
+    → ((l : Log) → Q (logs.Ready l) → later ≡ phases.Ready v l → X) → X
+with_log v Q X (logs.Snapshot a) later is so held ready = held is
+with_log v Q X (logs.List a x list) later is so held ready = held is
+with_log v Q X (logs.Manifests r) later is so held ready = held is
+with_log v Q X (logs.Again a path) later is so held ready = held is
+with_log v Q X (logs.Ready l) later is so held ready = ready l so is
+with_log v Q X logs.Over later is so held ready = held is
 
 -- the snapshot of a view stood as it was read
 stood_of : (p : Past) (v : View) (x : Snapshot) → IsViewIn p v → v.snapshot ≡ Some x → Stood p v.schema x
@@ -67,95 +78,36 @@ stood_of p v x (view_origin is) at = absurd (let clash : None ≡ Some x = sym i
 stood_of p v x (view_snapshot y base delta entries live stood has leaves is) at =
     subst (Stood p v.schema) (some_same y x (sym is.snapshot ∙ at)) stood
 
--- what is known of a view where nothing changes
-kept_view : (f after : Files) (p later : Past) (v : View) → IsKept f p after later → reader_meaning.Knows (readers.Ready v) f p
-    → reader_meaning.Knows (readers.Ready v) after later
-kept_view f after p later v kept (table, view, sought) =
-    subst (λ (q : Past). reader_meaning.Knows (readers.Ready v) after q) (sym kept.past) (
-      table,
-      view,
-      record {
-        listed = record {
-          within = sought.listed.within;
-          all = λ id top known below c there.
-              sought.listed.all id top known below c (subst (λ (o : Option (List ℕ)). IsSome o) (kept.files (snapshot_path id)) there);
-        };
-        asked = sought.asked;
-        within = sought.within;
-      },
-    )
-
-as_log : (v : View) (to : LogPhase) (new : Phase) (f : Files) (p : Past) → new ≡ phases.Log v to → reader_meaning.Knows (readers.Ready v) f p → log_meaning.Knows to f p
-    → Knows new f p
-as_log v to new f p is viewed known = subst (λ (m : Phase). Knows m f p) (sym is) (viewed, known)
-
 log_known : (v : View) (to : LogPhase) (new : Phase) (f : Files) (p : Past) → AfterLog v to new → reader_meaning.Knows (readers.Ready v) f p → log_meaning.Knows to f p
     → Knows new f p
-log_known v (logs.Snapshot a) new f p is viewed known = as_log v (logs.Snapshot a) new f p is viewed known
-log_known v (logs.List a x list) new f p is viewed known = as_log v (logs.List a x list) new f p is viewed known
-log_known v (logs.Manifests r) new f p is viewed known = as_log v (logs.Manifests r) new f p is viewed known
-log_known v (logs.Again a path) new f p is viewed known = as_log v (logs.Again a path) new f p is viewed known
-log_known v (logs.Ready l) new f p is viewed known = subst (λ (m : Phase). Knows m f p) (sym is) (viewed, known)
-log_known v logs.Over new f p is viewed known = as_log v logs.Over new f p is viewed known
+log_known v to new f p after viewed known = with_log v (λ m. log_meaning.Knows m f p) (Knows new f p) to new after known
+    (λ is. subst (λ (m : Phase). Knows m f p) (sym is) (viewed, known))
+    (λ l logged is. subst (λ (m : Phase). Knows m f p) (sym is) (viewed, logged))
 
 -- once the view is ready
-opened_known : (v : View) (new : Phase) (f : Files) (p : Past) → AfterView (readers.Ready v) new → reader_meaning.Knows (readers.Ready v) f p → Knows new f p
+opened_known : (v : View) (new : Phase) (f : Files) (p : Past) → BeginsLog v new → reader_meaning.Knows (readers.Ready v) f p → Knows new f p
 opened_known v new f p (to, (x, at, opens), after) known =
     log_known v to new f p after known
     (log_facts.opens_known f p (log_asked_of v.schema x.id) x x.changelog_list to refl opens (stood_of p v x known.1 at) refl)
 
-as_known : (to : view_phase.Phase) (new : Phase) (f : Files) (p : Past) → new ≡ phases.View to → reader_meaning.Knows to f p → Knows new f p
-as_known to new f p is known = subst (λ (m : Phase). Knows m f p) (sym is) known
-
 after_known : (to : view_phase.Phase) (new : Phase) (f : Files) (p : Past) → AfterView to new → reader_meaning.Knows to f p → Knows new f p
-after_known (readers.List a) new f p is known = as_known (readers.List a) new f p is known
-after_known (readers.Origin q) new f p is known = as_known (readers.Origin q) new f p is known
-after_known (readers.Snapshot q id) new f p is known = as_known (readers.Snapshot q id) new f p is known
-after_known (readers.Base q x) new f p is known = as_known (readers.Base q x) new f p is known
-after_known (readers.Delta q x base) new f p is known = as_known (readers.Delta q x base) new f p is known
-after_known (readers.Manifests r) new f p is known = as_known (readers.Manifests r) new f p is known
-after_known (readers.Again a id path) new f p is known = as_known (readers.Again a id path) new f p is known
-after_known (readers.Ready v) new f p after known = opened_known v new f p after known
-after_known readers.Over new f p is known = as_known readers.Over new f p is known
+after_known to new f p after known =
+    with_reader (λ m. phases.View m) BeginsLog (λ m. reader_meaning.Knows m f p) (Knows new f p) to new after known
+    (λ is. subst (λ (m : Phase). Knows m f p) (sym is) known) (λ v viewed opens. opened_known v new f p opens viewed)
 
-view_leads : (r to : view_phase.Phase) (new : Phase) (f g : Files) (p : Past) → AfterView to new → Leads (reader_meaning.LeavesFiles r) (reader_meaning.Knows to) f p g
-    → Leads (LeavesFiles (phases.View r)) (Knows new) f p g
-view_leads r to new f g p after (later, stays, known) = (later, stays, after_known to new g later after known)
-
-log_leads : (v : View) (r to : LogPhase) (new : Phase) (f g : Files) (p : Past) → AfterLog v to new → reader_meaning.Knows (readers.Ready v) f p
-    → Leads (log_meaning.LeavesFiles r) (log_meaning.Knows to) f p g → Leads (LeavesFiles (phases.Log v r)) (Knows new) f p g
-log_leads v r to new f g p after viewed (later, stays, known) = (later, stays, log_known v to new g later after (kept_view f g p later v stays viewed) known)
-
--- what an answer leads to is known
-leads_on : Joined → OneList → (m : Phase) (answer : Answer) (new : Phase) (f : Files) (p : Past) → Goes m answer new → Stands f p → Knows m f p
-    → IfSome (next_call m) (λ call. Answers call answer f → Leads (LeavesFiles m) (Knows new) f p (carried call f))
-leads_on law one (phases.View r) answer new f p (to, on, after) stands known =
-    IfSome_then (reader.next_call r) ((reader_facts.sound law one).went r to answer f p on stands known)
-    (λ call leads told. view_leads r to new f (carried call f) p after (leads told))
-leads_on law one (phases.Log v r) answer new f p (to, on, after) stands (viewed, known) =
-    IfSome_then (log.next_call r) ((log_facts.sound one).went r to answer f p on stands known)
-    (λ call leads told. log_leads v r to new f (carried call f) p after viewed (leads told))
-leads_on law one m answer new f p goes stands known = absurd goes
-
-over_knows : (new : Phase) (f : Files) (p : Past) → new ≡ phases.Over → Knows new f p
-over_knows new f p over = subst (λ (m : Phase). Knows m f p) (sym over) tt
-
-over_leads : (m new : Phase) (call : Call) (f : Files) (p : Past) (effect : Effect) → new ≡ phases.Over → Changes (LeavesFiles m) call f p
-    → Leads (LeavesFiles m) (Knows new) f p (after_effect call effect f)
-over_leads m new call f p effect over changes =
-    let change = changes effect in
-    (change.0, change.1, over_knows new (after_effect call effect f) change.0 over)
+-- what an answer leads to is known of the same files
+knows_next : Joined → OneList → (m : Phase) (answer : Answer) (new : Phase) (f : Files) (p : Past) → Goes m answer new → Stands f p → Knows m f p
+    → IfSome (next_call m) (λ call. Answers call answer f → Knows new f p)
+knows_next law one (phases.View r) answer new f p (to, on, after) stands known =
+    IfSome_then (reader.next_call r) (reader_facts.knows_next law one r answer to f p on stands known)
+    (λ call next told. after_known to new f p after (next told))
+knows_next law one (phases.Log v r) answer new f p (to, on, after) stands (viewed, known) =
+    IfSome_then (log.next_call r) (log_facts.knows_next one r answer to f p on stands known)
+    (λ call next told. log_known v to new f p after viewed (next told))
+knows_next law one m answer new f p goes stands known = absurd goes
 
 pub sound : Joined → OneList → Sound next_call Goes (Refuses Shown phases.Over) (Stops phases.Over) Stands LeavesFiles Knows
-sound law one = record {
-  changes = λ m f p stands known. changes_on law one m f p stands known;
-  went = λ m new answer f p goes stands known. leads_on law one m answer new f p goes stands known;
-  refused = λ m new answer refusal f p refuses stands known. IfSome_then (next_call m) (changes_on law one m f p stands known)
-      (λ call changes told. over_leads m new call f p effects.Whole refuses.1 changes);
-  failed = λ m new effect f p stops stands known. IfSome_then (next_call m) (changes_on law one m f p stands known)
-      (λ call changes may. over_leads m new call f p effect stops changes);
-  stopped = λ m new f p called stops stands known. over_knows new f p stops;
-}
+sound law one = sound_of_spared next_call Goes Shown phases.Over Stands LeavesFiles Knows (λ m. kept_same) spares (knows_next law one) (λ f p. tt)
 
 -- ---- its calls
 
@@ -231,17 +183,14 @@ follows_with a v P Q own event follows logged = record {
 }
 
 log_did : (a : LogAskedView) (v : View) (to : LogPhase) (new : Phase) (own : List Event) → AfterLog v to new → Follows a v (log_trace.Did a to) own → Did a new own
-log_did a v (logs.Snapshot b) new own is follows = subst (λ (m : Phase). Did a m own) (sym is) follows
-log_did a v (logs.List b x list) new own is follows = subst (λ (m : Phase). Did a m own) (sym is) follows
-log_did a v (logs.Manifests r) new own is follows = subst (λ (m : Phase). Did a m own) (sym is) follows
-log_did a v (logs.Again b path) new own is follows = subst (λ (m : Phase). Did a m own) (sym is) follows
-log_did a v (logs.Ready l) new own is follows = subst (λ (m : Phase). Did a m own) (sym is) follows
-log_did a v logs.Over new own is follows = subst (λ (m : Phase). Did a m own) (sym is) follows
+log_did a v to new own after follows = with_log v (λ m. Follows a v (log_trace.Did a m) own) (Did a new own) to new after follows
+    (λ is. subst (λ (m : Phase). Did a m own) (sym is) follows)
+    (λ l logged is. subst (λ (m : Phase). Did a m own) (sym is) logged)
 
 asked_same : (s : TableSchema) (id : ℕ) (a : LogAskedView) → s ≡ a.schema → id ≡ a.id → log_asked_of s id ≡ a
 asked_same s id a schema same = ap (λ (s : TableSchema). log_asked_of s id) schema ∙ ap (λ (id : ℕ). log_asked_of a.schema id) same
 
-opened_did : (a : LogAskedView) (v : View) (new : Phase) (own : List Event) → AfterView (readers.Ready v) new → reader_trace.Did (view_asked a) (readers.Ready v) own
+opened_did : (a : LogAskedView) (v : View) (new : Phase) (own : List Event) → BeginsLog v new → reader_trace.Did (view_asked a) (readers.Ready v) own
     → Did a new own
 opened_did a v new own (to, (x, at, opens), after) viewed =
     let both = began_view a v x own viewed.0 at in
@@ -252,19 +201,10 @@ opened_did a v new own (to, (x, at, opens), after) viewed =
     log_did a v to new own after
     (follows_first a v x own (log_trace.Did a to) began viewed (log_facts.opens_did a (log_asked_of v.schema x.id) x x.changelog_list to first asked refl opens has))
 
-as_did : (a : LogAskedView) (to : view_phase.Phase) (new : Phase) (own : List Event) → new ≡ phases.View to → reader_trace.Did (view_asked a) to own → Did a new own
-as_did a to new own is did = subst (λ (m : Phase). Did a m own) (sym is) did
-
 did_after : (a : LogAskedView) (to : view_phase.Phase) (new : Phase) (own : List Event) → AfterView to new → reader_trace.Did (view_asked a) to own → Did a new own
-did_after a (readers.List b) new own is did = as_did a (readers.List b) new own is did
-did_after a (readers.Origin q) new own is did = as_did a (readers.Origin q) new own is did
-did_after a (readers.Snapshot q id) new own is did = as_did a (readers.Snapshot q id) new own is did
-did_after a (readers.Base q x) new own is did = as_did a (readers.Base q x) new own is did
-did_after a (readers.Delta q x base) new own is did = as_did a (readers.Delta q x base) new own is did
-did_after a (readers.Manifests r) new own is did = as_did a (readers.Manifests r) new own is did
-did_after a (readers.Again b id path) new own is did = as_did a (readers.Again b id path) new own is did
-did_after a (readers.Ready v) new own after did = opened_did a v new own after did
-did_after a readers.Over new own is did = as_did a readers.Over new own is did
+did_after a to new own after did =
+    with_reader (λ m. phases.View m) BeginsLog (λ m. reader_trace.Did (view_asked a) m own) (Did a new own) to new after did
+    (λ is. subst (λ (m : Phase). Did a m own) (sym is) did) (λ v viewed opens. opened_did a v new own opens viewed)
 
 went_on : Joined → (a : LogAskedView) (m : Phase) (answer : Answer) (new : Phase) (own : List Event) → Goes m answer new → Did a m own
     → IfSome (next_call m) (λ call. MayAnswer call answer → Did a new (own ++ answered call answer ∷ []))
@@ -291,9 +231,9 @@ unopened a v x refusal own is at viewed =
 
 refused_on : Joined → (a : LogAskedView) (m : Phase) (answer : Answer) (refusal : Refusal) (own : List Event) → Shown m answer refusal → Did a m own
     → IfSome (next_call m) (λ call. MayAnswer call answer → Shows a refusal (own ++ answered call answer ∷ []))
-refused_on law a (phases.View r) answer refusal own (inl (is, v, x, at, on)) did =
+refused_on law a (phases.View r) answer refusal own (inl (is, v, whole, on)) did =
     IfSome_then (reader.next_call r) ((reader_facts.recounts law (view_asked a)).went r (readers.Ready v) answer own on did)
-    (λ call did may. unopened a v x refusal (own ++ answered call answer ∷ []) is at (did may))
+    (λ call did may. unopened a v whole.snapshot refusal (own ++ answered call answer ∷ []) is whole.is_snapshot (did may))
 refused_on law a (phases.View r) answer refusal own (inr shown) did =
     IfSome_then (reader.next_call r) ((reader_facts.recounts law (view_asked a)).refused r readers.Over answer refusal own (shown, refl) did)
     (λ call shows may. inl (shows may).1)
@@ -344,54 +284,41 @@ recounts law a = record {
 
 -- ---- how far it has come
 
--- fewer calls than that are left, and what was reached
+-- fewer calls than that are left, and some if not all is ready
 abbrev IsAhead : ℕ → Phase → Type 0
-IsAhead n m = (calls_left m < n) × Reaches (reached_at m) m
+IsAhead n m = (calls_left m < n) × (IsReady m ⊎ (0 < calls_left m))
 
-log_on : (v : View) (to : LogPhase) (new : Phase) (n : ℕ) → log.calls_left to < n → 0 < log.calls_left to → new ≡ phases.Log v to → IsAhead n new
-log_on v to new n fewer left is = subst (IsAhead n) (sym is) (fewer, left)
-
-log_ahead : (v : View) (to : LogPhase) (new : Phase) (n : ℕ) → log.calls_left to < n → log.Reaches (log.reached_at to) to → AfterLog v to new → IsAhead n new
-log_ahead v (logs.Snapshot a) new n fewer reaches is = log_on v (logs.Snapshot a) new n fewer reaches is
-log_ahead v (logs.List a x list) new n fewer reaches is = log_on v (logs.List a x list) new n fewer reaches is
-log_ahead v (logs.Manifests r) new n fewer reaches is = log_on v (logs.Manifests r) new n fewer reaches is
-log_ahead v (logs.Again a path) new n fewer reaches is = log_on v (logs.Again a path) new n fewer reaches is
-log_ahead v (logs.Ready l) new n fewer reaches is = subst (IsAhead n) (sym is) (fewer, tt)
-log_ahead v logs.Over new n fewer reaches is = log_on v logs.Over new n fewer reaches is
+log_ahead : (v : View) (to : LogPhase) (new : Phase) (n : ℕ) → log.calls_left to < n → log.IsReady to ⊎ (0 < log.calls_left to) → AfterLog v to new → IsAhead n new
+log_ahead v (logs.Ready l) new n fewer ready is = subst (IsAhead n) (sym is) (fewer, inl tt)
+log_ahead v to new n fewer (inr left) after = with_log v (λ m. log.calls_left m < n) (IsAhead n new) to new after fewer
+    (λ is. subst (IsAhead n) (sym is) (fewer, inr left)) (λ l fewer is. subst (IsAhead n) (sym is) (fewer, inl tt))
+log_ahead v to new n fewer (inl ready) after = absurd ready
 
 view_ahead : (r to : view_phase.Phase) (new : Phase) → reader.calls_left to < reader.calls_left r → new ≡ phases.View to → IsAhead (reader.calls_left r + (most + 3)) new
 view_ahead r to new fewer is =
     let less : reader.calls_left to + (most + 3) < reader.calls_left r + (most + 3) = omega (arith, fewer) in
     let some : 0 < reader.calls_left to + (most + 3) = omega arith in
-    subst (IsAhead (reader.calls_left r + (most + 3))) (sym is) (less, some)
+    subst (IsAhead (reader.calls_left r + (most + 3))) (sym is) (less, inr some)
 
-after_ahead : (r to : view_phase.Phase) (new : Phase) → reader.calls_left to < reader.calls_left r → AfterView to new → IsAhead (reader.calls_left r + (most + 3)) new
-after_ahead r (readers.List a) new fewer is = view_ahead r (readers.List a) new fewer is
-after_ahead r (readers.Origin q) new fewer is = view_ahead r (readers.Origin q) new fewer is
-after_ahead r (readers.Snapshot q id) new fewer is = view_ahead r (readers.Snapshot q id) new fewer is
-after_ahead r (readers.Base q x) new fewer is = view_ahead r (readers.Base q x) new fewer is
-after_ahead r (readers.Delta q x base) new fewer is = view_ahead r (readers.Delta q x base) new fewer is
-after_ahead r (readers.Manifests s) new fewer is = view_ahead r (readers.Manifests s) new fewer is
-after_ahead r (readers.Again a id path) new fewer is = view_ahead r (readers.Again a id path) new fewer is
-after_ahead r (readers.Ready v) new fewer (to, (x, at, opens), after) =
+opened_ahead : (n : ℕ) (v : View) (new : Phase) → BeginsLog v new → IsAhead (n + (most + 3)) new
+opened_ahead n v new (to, (x, at, opens), after) =
     let ahead = log_facts.opens_ahead (log_asked_of v.schema x.id) x x.changelog_list to opens in
     let below : log.calls_left to < most + 3 = ahead.0 in
-    log_ahead v to new (reader.calls_left r + (most + 3)) (omega (arith, below)) ahead.1 after
-after_ahead r readers.Over new fewer is = view_ahead r readers.Over new fewer is
+    log_ahead v to new (n + (most + 3)) (omega (arith, below)) ahead.1 after
 
 goes_ahead : (m : Phase) (answer : Answer) (new : Phase) → Goes m answer new → IsAhead (calls_left m) new
 goes_ahead (phases.View r) answer new (to, on, then) =
-    let ahead = reader_facts.goes_ahead r answer to on in
-    after_ahead r to new ahead.0 then
+    with_reader (λ m. phases.View m) BeginsLog (λ m. Unit {0}) (IsAhead (reader.calls_left r + (most + 3)) new) to new then tt
+    (view_ahead r to new (reader_facts.goes_ahead r answer to on).0) (λ v none opens. opened_ahead (reader.calls_left r) v new opens)
 goes_ahead (phases.Log v r) answer new (to, on, then) =
     let ahead = log_facts.goes_ahead r answer to on in
     log_ahead v to new (log.calls_left r) ahead.0 ahead.1 then
 goes_ahead m answer new goes = absurd goes
 
--- an answer that it goes on with leaves fewer calls, and what was reached
+-- an answer that it goes on with leaves fewer calls
 pub goes : (m : Phase) (answer : Answer) (new : Phase) → IsWhole m → Goes m answer new
-    → (calls_left new < calls_left m) × Reaches (reached_at new) new × Unit {0}
-goes m answer new is on = let ahead = goes_ahead m answer new on in (ahead.0, ahead.1, tt)
+    → (calls_left new < calls_left m) × (IsReady new ⊎ (0 < calls_left new))
+goes m answer new is on = goes_ahead m answer new on
 
 -- a reader with calls left has a next one
 pub has_call : (m : Phase) → IsWhole m → 0 < calls_left m → IsSome (next_call m)
@@ -415,7 +342,4 @@ knows_still (phases.Ready v l) other f after p q stands advances (viewed, known)
 knows_still phases.Over other f after p q stands advances known = tt
 
 pub images : (m : Phase) (call : Call) (f image : Files) (p : Past) → next_call m ≡ Some call → MayLeave call f image → IsKept f p image p
-images (phases.View r) call f image p is left = reader_facts.images r call f image p is left
-images (phases.Log v r) call f image p is left = log_facts.images r call f image p is left
-images (phases.Ready v l) call f image p is left = absurd (let clash : None ≡ Some call = is in cc)
-images phases.Over call f image p is left = absurd (let clash : None ≡ Some call = is in cc)
+images m call f image p is left = kept_same f image p (image_spared next_call m call f image (spares m f) is left)

@@ -3,21 +3,15 @@ use Rattle.std.specs.Prelude.{◌↔◌, ℕ, List, Contains}
 use Rattle.pm_values.specs.declared.refusal.Refusal.{Refusal}
 use Rattle.pm_values.specs.declared.refusal.Refusal.TheVariants as refusals
 use Rattle.pm_store.specs.Files.{Files}
-use Rattle.pm_store.specs.Store.{StoreView}
-use Rattle.pm_machine.specs.Moves.{Moves}
 use Rattle.pm_model_folder.specs.Commits.{Names}
-use Rattle.pm_model_folder.specs.Ledger.{Past, Stands}
+use Rattle.pm_model_folder.specs.Ledger.{Past}
 use Rattle.pm_read_log.specs.LogMeaning as log
 use Rattle.pm_read_table.specs.Meaning as reader
-use Rattle.pm_read_table.specs.Meaning.{IsExpired, IsKept}
+use Rattle.pm_read_table.specs.Meaning.{IsExpired}
 use Rattle.pm_read_log.specs.declared.log_phase.LogPhase.TheVariants as logs
 use Rattle.pm_read_table.specs.declared.phase.Phase.TheVariants as readers
 use Rattle.pm_read_whole.specs.declared.phase.Phase.{Phase}
 use Rattle.pm_read_whole.specs.declared.phase.Phase.TheVariants as phases
-
--- what a reader changes: nothing
-abbrev pub LeavesFiles : Phase → Files → Past → Files → Past → Type 0
-LeavesFiles phase f p after later = IsKept f p after later
 
 -- What it knows in each phase, whatever others do: what its parts know. A part that is ready knows what it read: the
 -- view that of the table at the snapshot as it stood, the changelog that of the snapshot.
@@ -38,7 +32,3 @@ abbrev pub AreNamed : Past → Phase → List (List ℕ) → Type 0
 AreNamed p (phases.Ready v l) paths =
     (path : List ℕ) → Contains paths path ↔ Names (p.stood l.snapshot.id) l.schema l.snapshot.id path
 AreNamed p other paths = ⊥
-
--- a step changes nothing, and what the reader knows holds after it
-abbrev pub WholeMoved : Phase → Phase → StoreView → StoreView → Type 0
-WholeMoved old new before after = Moves Stands (LeavesFiles old) (Knows old) (Knows new) before after

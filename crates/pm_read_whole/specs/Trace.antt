@@ -1,8 +1,7 @@
 -- The own calls of a reader of a whole view, and what they show.
-use Rattle.std.specs.Prelude.{◌≡◌, ◌⊎◌, ℕ, List, ◌∷◌, ◌++◌, Some, Result, IfErr}
+use Rattle.std.specs.Prelude.{◌≡◌, ◌⊎◌, ℕ, List, ◌∷◌, ◌++◌, Some}
 use Rattle.pm_values.specs.declared.refusal.Refusal.{Refusal}
-use Rattle.pm_store.specs.Store.{StoreView}
-use Rattle.pm_machine.specs.Trace.{Acts, Event}
+use Rattle.pm_machine.specs.Trace.{Event}
 use Rattle.pm_model_folder.specs.Paths.{snapshot_path}
 use Rattle.pm_read_table.specs.Asked.{Asked, asked_of}
 use Rattle.pm_read_log.specs.Log.{LogAskedView}
@@ -15,7 +14,6 @@ use Rattle.pm_read_table.specs.declared.phase.Phase.TheVariants as readers
 use Rattle.pm_read_table.specs.declared.view.View.{View}
 use Rattle.pm_read_whole.specs.declared.phase.Phase.{Phase}
 use Rattle.pm_read_whole.specs.declared.phase.Phase.TheVariants as phases
-use Rattle.pm_read_whole.specs.declared.whole.WholeStep.{WholeStep}
 
 -- what is asked of the view's reader, where this is asked
 abbrev pub view_asked : LogAskedView → Asked
@@ -48,9 +46,3 @@ Did a (phases.View m) own = reader.Did (view_asked a) m own
 Did a (phases.Log v m) own = Follows a v (log.Did a m) own
 Did a (phases.Ready v l) own = Follows a v (log.Did a (logs.Ready l)) own
 Did a phases.Over own = (refusal : Refusal) × Shows a refusal own
-
--- Whatever was asked, its next call is the next event of its calls so far, or none was made; and a refusal is shown by
--- the calls up to it.
-abbrev pub WholeActed : Phase → Phase → StoreView → StoreView → Result WholeStep Refusal → Type 0
-WholeActed old new before after result = (a : LogAskedView)
-    → Acts (Did a old) (λ own. Did a new own × IfErr result (λ refusal. Shows a refusal own)) before after

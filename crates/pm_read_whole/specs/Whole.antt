@@ -12,7 +12,7 @@ use Rattle.pm_read_log.specs.LogReader as log
 use Rattle.pm_read_log.specs.LogReader.{Opens}
 use Rattle.pm_read_table.specs.Named.{named_paths, parts_of}
 use Rattle.pm_read_table.specs.Reader as reader
-use Rattle.pm_read_table.specs.Reader.{most}
+use Rattle.pm_read_table.specs.Reader.{most, FailsToOpen, WithReader}
 use Rattle.pm_read_table.specs.declared.asked.Wanted.TheVariants as wants
 use Rattle.pm_read_log.specs.declared.log_phase.LogPhase.{LogPhase}
 use Rattle.pm_read_log.specs.declared.log_phase.LogPhase.TheVariants as logs
@@ -21,8 +21,6 @@ use Rattle.pm_read_table.specs.declared.phase.Phase.TheVariants as readers
 use Rattle.pm_read_table.specs.declared.view.View.{View}
 use Rattle.pm_read_whole.specs.declared.phase.Phase.{Phase}
 use Rattle.pm_read_whole.specs.declared.phase.Phase.TheVariants as phases
-use Rattle.pm_read_whole.specs.declared.whole.WholeStep.{WholeStep}
-use Rattle.pm_read_whole.specs.declared.whole.WholeStep.TheVariants as steps
 
 -- ---- its calls
 
@@ -107,10 +105,12 @@ AfterLog v m later = later ≡ phases.Log v m
 abbrev pub IsOpened : View → LogPhase → Type 0
 IsOpened v m = (x : Snapshot) × (v.snapshot ≡ Some x) × Opens (log_asked_of v.schema x.id) x x.changelog_list m
 
--- the phase with a reader of the view: the changelog is to be read once it is ready
+-- once the view is ready, the changelog is to be read
+abbrev pub BeginsLog : View → Phase → Type 0
+BeginsLog v later = (m : LogPhase) × IsOpened v m × AfterLog v m later
+
 abbrev pub AfterView : view_phase.Phase → Phase → Type 0
-AfterView (readers.Ready v) later = (m : LogPhase) × IsOpened v m × AfterLog v m later
-AfterView m later = later ≡ phases.View m
+AfterView m later = WithReader (λ m. phases.View m) BeginsLog m later
 
 -- the phase after an answer that it goes on with
 abbrev pub Goes : Phase → Answer → Phase → Type 0
@@ -118,23 +118,8 @@ Goes (phases.View m) answer later = (new : view_phase.Phase) × reader.Goes m an
 Goes (phases.Log v m) answer later = (new : LogPhase) × log.Goes m answer new × AfterLog v new later
 Goes phase other later = ⊥
 
--- the view of a snapshot is ready with the answer, and memory runs out before the changelog is to be read
-abbrev pub FailsToOpen : view_phase.Phase → Answer → Refusal → Type 0
-FailsToOpen m answer refusal =
-    (refusal ≡ refusals.Memory) × (v : View) × (x : Snapshot) × (v.snapshot ≡ Some x)
-    × reader.Goes m answer (readers.Ready v)
-
 -- the refusal that an answer shows: one of the part that made the call, or memory runs out between the two parts
 abbrev pub Shown : Phase → Answer → Refusal → Type 0
-Shown (phases.View m) answer refusal = FailsToOpen m answer refusal ⊎ reader.Shown m answer refusal
+Shown (phases.View m) answer refusal = FailsToOpen IsWholeOf m answer refusal ⊎ reader.Shown m answer refusal
 Shown (phases.Log v m) answer refusal = log.Shown m answer refusal
 Shown phase other refusal = ⊥
-
--- what a step that goes on has reached
-abbrev pub Reaches : WholeStep → Phase → Type 0
-Reaches steps.More phase = 0 < calls_left phase
-Reaches steps.Ready phase = IsReady phase
-
-abbrev pub reached_at : Phase → WholeStep
-reached_at (phases.Ready v l) = steps.Ready
-reached_at other = steps.More

@@ -7,56 +7,36 @@ ghost use Rattle.pm_schema.specs.Again.{IsDeclared};
 ghost use Rattle.pm_store.specs.Answers.{MayAnswer};
 ghost use Rattle.pm_read_table.specs.View.{HaveGroups};
 ghost use Rattle.pm_read_log.specs.LogReader as logs;
-ghost use Rattle.pm_read_table.specs.Reader as readers;
-ghost use Rattle.pm_read_table.specs.declared.phase.Phase.TheVariants as reader_phases;
 ghost use Rattle.pm_values.specs.declared.refusal.Refusal.TheVariants as refusals;
-ghost use Rattle.pm_read_whole.specs.Whole.{AfterLog, AfterView, Goes, IsLogOf, IsOpened, IsWholeView, IsWhole, Shown};
-ghost use Rattle.pm_read_whole.specs.Whole.{IsWholeOf};
+ghost use Rattle.pm_read_whole.specs.Whole.{AfterLog, BeginsLog, Goes, IsLogOf, IsOpened, IsWholeView, IsWhole, Shown};
 ghost use Rattle.pm_read_whole.specs.declared.phase.Phase.TheVariants as phases;
 
 use crate::copy::copied;
 use crate::phase::Phase;
 use pm_machine::Machine;
 use pm_read_log::{LogReader, into_log, is_log_ready, opened_log};
-use pm_read_table::{View, ViewReader, into_view, is_view_ready};
+use pm_read_table::{OpensView, View, ViewReader};
 use pm_store::Answer;
 use pm_values::Refusal;
 use std::alloc::{AllocError, Global};
 
-/// The phase after an answer to a call of the view's reader.
-pub(crate) fn after_view(
-    alloc: Global,
-    reader: ViewReader,
-    answer: Answer,
-) -> Result<Phase, Refusal>
-    requires may { IsSomeAnd (readers.next_call reader) (λ call. MayAnswer call answer) }
-    requires whole { IsWholeOf reader }
-    ensures goes { IfOk result (Goes (phases.View reader) answer) }
-    ensures is_whole { IfOk result IsWhole }
-    ensures refuses { IfErr result (Shown (phases.View reader) answer) }
-{
-    let mut reader = reader;
-    match reader.take(alloc, answer) {
-        Ok(()) => after_reader(alloc, reader),
-        Err(refusal) => {
-            drop(reader);
-            Err(refusal)
-        }
-    }
-}
+impl OpensView for Phase {
+    ghost use Rattle.pm_read_whole.specs.Whole.{BeginsLog, IsWhole, IsWholeOf};
 
-/// The phase with this reader: the changelog is to be read once the view is ready.
-fn after_reader(alloc: Global, reader: ViewReader) -> Result<Phase, Refusal>
-    requires left { readers.IsReady reader ⊎ (0 < readers.calls_left reader) }
-    requires whole { IsWholeOf reader }
-    ensures goes { IfOk result (AfterView reader) }
-    ensures is_whole { IfOk result IsWhole }
-    ensures memory { IfErr result (λ e. (e ≡ refusals.Memory) × readers.IsReady reader) }
-{
-    if is_view_ready(&reader) {
-        open_log(alloc, into_view(reader))
-    } else {
-        Ok(Phase::View { reader })
+    ghost holds = { IsWhole };
+
+    ghost reads = { IsWholeOf };
+
+    ghost holding = { λ m. phases.View m };
+
+    ghost opens = { BeginsLog };
+
+    fn hold(reader: ViewReader) -> Phase {
+        Phase::View { reader }
+    }
+
+    fn open(alloc: Global, view: View) -> Result<Phase, Refusal> {
+        open_log(alloc, view)
     }
 }
 
@@ -65,7 +45,7 @@ fn open_log(alloc: Global, view: View) -> Result<Phase, Refusal>
     requires whole { IsWholeView view }
     requires groups { HaveGroups view.schema view.live.items }
     requires declared { IsDeclared view.schema }
-    ensures goes { IfOk result (AfterView (reader_phases.Ready view)) }
+    ensures goes { IfOk result (BeginsLog view) }
     ensures is_whole { IfOk result IsWhole }
     ensures memory { IfErr result (λ e. e ≡ refusals.Memory) }
 {

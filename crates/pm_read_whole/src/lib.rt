@@ -18,4 +18,4 @@ mod whole;
 
 pub use laws::{causes_law, images_law, known_law, paths_law};
 pub use phase::Phase;
-pub use whole::{WholeReader, WholeStep};
+pub use whole::{WholeReader, into_parts, is_whole_ready, paths_in, whole_at};

@@ -2,10 +2,10 @@
 
 ghost use Rattle.pm_read_whole.specs.declared.phase.Phase.TheVariants as phases;
 
-use crate::after::{after_answer, after_view};
+use crate::after::after_answer;
 use crate::phase::Phase;
-use crate::whole::WholeStep;
-use pm_machine::{Machine, PhaseMeaning};
+use pm_machine::{Machine, ReaderPhase};
+use pm_read_table::after_view;
 use pm_store::{Answer, Call};
 use pm_values::Refusal;
 use std::alloc::{AllocError, Global};
@@ -31,6 +31,10 @@ impl pm_machine::Phase for Phase {
         }
     }
 
+    fn over() -> Phase {
+        Phase::Over
+    }
+
     fn next(self, alloc: Global, answer: Answer) -> Result<Phase, Refusal> {
         match self {
             Phase::View { reader } => after_view(alloc, reader, answer),
@@ -38,26 +42,21 @@ impl pm_machine::Phase for Phase {
             Phase::Ready { .. } | Phase::Over => unreachable!(),
         }
     }
-
-    fn over() -> Phase {
-        Phase::Over
-    }
 }
 
-impl PhaseMeaning for Phase {
+impl ReaderPhase for Phase {
     ghost use Rattle.pm_model_folder.specs.Ledger as ledgers;
     ghost use Rattle.pm_read_log.specs.Log as logs;
-    ghost use Rattle.pm_read_whole.specs.Meaning.{Knows, LeavesFiles};
+    ghost use Rattle.pm_read_table.specs.Meaning.{IsKept};
+    ghost use Rattle.pm_read_whole.specs.Meaning.{Knows};
     ghost use Rattle.pm_read_whole.specs.Trace.{Did, Shows};
-    ghost use Rattle.pm_read_whole.specs.Whole.{calls_left, reached_at, Reaches};
-
-    type Step = WholeStep;
+    ghost use Rattle.pm_read_whole.specs.Whole.{calls_left, IsReady};
 
     ghost History = { ledgers.Past };
 
     ghost Folder = { ledgers.Stands };
 
-    ghost Change = { LeavesFiles };
+    ghost Same = { IsKept };
 
     ghost knows = { Knows };
 
@@ -69,16 +68,5 @@ impl PhaseMeaning for Phase {
 
     ghost calls_left = { calls_left };
 
-    ghost reached_at = { reached_at };
-
-    ghost reaches = { Reaches };
-
-    ghost keeps = { λ old new. Unit {0} };
-
-    fn reached(&self) -> WholeStep {
-        match self {
-            Phase::Ready { .. } => WholeStep::Ready,
-            _ => WholeStep::More,
-        }
-    }
+    ghost ready = { IsReady };
 }

@@ -1,5 +1,5 @@
 -- All calls of a scanner, and what they say where nobody else acts.
-use Rattle.std.proofs.Common.{◌≡◌, ◌≢◌, inl, inr, ℕ, ◌<◌, ◌≤◌, List, [], ◌∷◌, ◌++◌, length, take, Option, None, Some, IfSome, IsSome, Result, Ok, Err, Vec, refl, sym, ap, subst, ◌∙◌, arith, append_assoc, append-nil}
+use Rattle.std.proofs.Common.{◌≡◌, ◌≢◌, ◌⊎◌, inl, inr, ℕ, ◌<◌, ◌≤◌, List, [], ◌∷◌, ◌++◌, length, take, Option, None, Some, IfSome, IsSome, Result, Ok, Err, IfErr, Vec, refl, sym, ap, subst, ◌∙◌, arith, append_assoc, append-nil}
 use Rattle.std.specs.FinMap as map
 use Rattle.std.specs.Global.{Global}
 use Rattle.pm_base.specs.Faults.{Rose}
@@ -8,7 +8,7 @@ use Rattle.pm_values.specs.declared.refusal.Refusal.{Refusal}
 use Rattle.pm_values.specs.declared.refusal.Refusal.TheVariants as refusals
 use Rattle.pm_store.specs.Files.{Files, IsListing}
 use Rattle.pm_store.specs.Store.{StoreView, IsLater, at_first_own}
-use Rattle.pm_machine.specs.Trace.{Event, HasTrace, Traces, faulted}
+use Rattle.pm_machine.specs.Trace.{Event, Acts, HasTrace, Traces, faulted}
 use Rattle.pm_machine.proofs.AloneLaws.{Traces-first}
 use Rattle.pm_machine.proofs.Facts.{HasTrace-acts, Traces-faulted, Traces-join, Traces-none}
 use Rattle.pm_machine.proofs.PhaseFacts.{Spares}
@@ -41,13 +41,11 @@ use Rattle.pm_scan.specs.AllCalls.{DidScan, Ends, Has, IsCaused, IsThere, Prints
 use Rattle.pm_scan.specs.Collected.{Collected, RefusesFile, nothing_of}
 use Rattle.pm_scan.specs.Jobs.{all_jobs, job_of}
 use Rattle.pm_scan.specs.Meaning.{HaveTaken}
-use Rattle.pm_scan.specs.Scanner.{next_call, calls_left, IsReady, Reaches}
-use Rattle.pm_scan.specs.Trace.{HaveRead, HasPart, FindsNext, LacksFile, ReadsAgain, HasScan, DidSoFar, MayTakeMemory, Misreads, IsDamaged, ShowsOfFiles, Shows, Did, ScannerActed}
+use Rattle.pm_scan.specs.Scanner.{next_call, calls_left, IsReady}
+use Rattle.pm_scan.specs.Trace.{HaveRead, HasPart, FindsNext, LacksFile, ReadsAgain, HasScan, DidSoFar, MayTakeMemory, Misreads, IsDamaged, ShowsOfFiles, Shows, Did}
 use Rattle.pm_scan.specs.declared.job.Job.{Job}
 use Rattle.pm_scan.specs.declared.phase.Phase.{Phase}
 use Rattle.pm_scan.specs.declared.phase.Phase.TheVariants as phases
-use Rattle.pm_scan.specs.declared.scanner.ScanStep.{ScanStep}
-use Rattle.pm_scan.specs.declared.scanner.ScanStep.TheVariants as steps
 use Rattle.pm_scan.proofs.KnownLemmas.{taken-schema}
 use Rattle.pm_scan.proofs.NextLemmas.{FollowsOn, next-group}
 use Rattle.pm_scan.proofs.ScanLemmas.{each-own}
@@ -372,14 +370,19 @@ scanned_history laws s at (Err refusal) before after declared (own, (earlier, la
 pub begun : (a : Asked) (store : StoreView) → ListsFirst a.wanted → HasTrace (Did a (phases.View (readers.List a))) store store
 begun a store first = ([], (refl, refl, first), Traces-none store)
 
-pub went_further : (a : Asked) (old new : Phase) (first before after : StoreView) (step : ScanStep) → HasTrace (Did a old) first before
-    → ScannerActed old new before after (Ok step) → IsLater before after → HasTrace (Did a new) first after
+-- whatever was asked, a step's call is the next event, or none was made, and a refusal is shown
+abbrev pub Acted : Phase → Phase → StoreView → StoreView → Result (Unit {0}) Refusal → Type 0
+Acted old new before after result = (a : Asked)
+    → Acts (Did a old) (λ own. Did a new own × IfErr result (λ refusal. Shows a refusal own)) before after
+
+pub went_further : (a : Asked) (old new : Phase) (first before after : StoreView) (step : Unit {0}) → HasTrace (Did a old) first before
+    → Acted old new before after (Ok step) → IsLater before after → HasTrace (Did a new) first after
 went_further a old new first before after step trace acted later =
     let t = HasTrace-acts {did = Did a old} {before = before} trace (acted a) later in
     (t.0, t.1.0, t.2)
 
 pub was_refused : (a : Asked) (old new : Phase) (first before after : StoreView) (refusal : Refusal) → HasTrace (Did a old) first before
-    → ScannerActed old new before after (Err refusal) → IsLater before after → HasTrace (Ends a (Err refusal)) first after
+    → Acted old new before after (Err refusal) → IsLater before after → HasTrace (Ends a (Err refusal)) first after
 was_refused a old new first before after refusal trace acted later =
     let t = HasTrace-acts {did = Did a old} {before = before} trace (acted a) later in
     (t.0, t.1.1, t.2)
@@ -389,9 +392,9 @@ pub was_done : (a : Asked) (m : Phase) (id : ℕ) (text : Vec ℕ Global) (first
 was_done a m id text first after is (own, did, trace) = (own, (id, subst (λ (m : Phase). Did a m own) is did), trace)
 
 -- a step that went on leaves a call, or the text is ready
-pub call_left : (step : ScanStep) (m : Phase) → Reaches step m → ¬ IsReady m → 0 < calls_left m
-call_left steps.More m reaches not = reaches
-call_left steps.Ready m reaches not = absurd (not reaches)
+pub call_left : (m : Phase) → IsReady m ⊎ (0 < calls_left m) → ¬ IsReady m → 0 < calls_left m
+call_left m (inl ready) not = absurd (not ready)
+call_left m (inr left) not = left
 
 -- a scanner that was just made has calls left
 pub first_left : (a : Asked) (m : Phase) → m ≡ phases.View (readers.List a) → 0 < calls_left m

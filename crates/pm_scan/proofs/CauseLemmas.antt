@@ -74,7 +74,7 @@ told-of call own answer f at told = let same : call ≡ own = cc in subst (λ (c
 
 pub causes : ReaderCauses → Laws → OneContents → Tells → (m : Phase) (call : Call) (answer : Answer) (refusal : Refusal) (f : Files) (p : Past) → Stands f p → Knows m f p
     → next_call m ≡ Some call → Answers call answer f → Shown m answer refusal → MayRefuse f p refusal
-causes law laws one tells (phases.View r) call answer refusal f p stands known at told (inl (is, v, goes)) = subst (MayRefuse f p) (sym is) tt
+causes law laws one tells (phases.View r) call answer refusal f p stands known at told (inl (is, v, engine, goes)) = subst (MayRefuse f p) (sym is) tt
 causes law laws one tells (phases.View r) call answer refusal f p stands known at told (inr shown) = law r call answer refusal f p stands known at told shown
 causes law laws one tells (phases.Files r) call (answers.Found (Some bytes)) refusal f p stands reading at told (inl is) = subst (MayRefuse f p) (sym is) tt
 causes law laws one tells (phases.Files r) call (answers.Found (Some bytes)) refusal f p stands reading at told (inr refuses) =

@@ -1,5 +1,5 @@
 -- A scanner keeps the laws of machines.
-use Rattle.std.proofs.Common.{◌≡◌, inl, inr, ℕ, ◌<◌, ◌+◌, suc, List, [], ◌∷◌, ◌++◌, length, None, Some, IsSome, IfSome, refl, sym, ap, ◌∙◌, subst, arith, append_assoc}
+use Rattle.std.proofs.Common.{◌≡◌, ◌⊎◌, inl, inr, ℕ, ◌<◌, ◌+◌, suc, List, [], ◌∷◌, ◌++◌, length, None, Some, IsSome, IfSome, refl, sym, ap, ◌∙◌, subst, arith, append_assoc}
 use Rattle.std.specs.BTreeMap.{IsOrdered}
 use Rattle.std.specs.FinMap as map
 use Rattle.std.proofs.lemmas.List.{append-nil}
@@ -11,16 +11,13 @@ use Rattle.pm_store.specs.declared.answer.Answer.{Answer}
 use Rattle.pm_store.specs.declared.answer.Answer.TheVariants as answers
 use Rattle.pm_store.specs.declared.call.Call.{Call}
 use Rattle.pm_store.specs.declared.call.Call.TheVariants as calls
-use Rattle.pm_store.specs.declared.call.Effect.{Effect}
-use Rattle.pm_store.specs.declared.call.Effect.TheVariants as effects
 use Rattle.pm_store.specs.Answers.{Answers, MayAnswer}
-use Rattle.pm_store.specs.Files.{Files, after_effect, carried}
+use Rattle.pm_store.specs.Files.{Files}
 use Rattle.pm_store.specs.Images.{MayLeave}
-use Rattle.pm_store.proofs.FileLaws.{effect_left}
-use Rattle.pm_machine.specs.Moves.{Changes, Leads, Sound}
+use Rattle.pm_machine.specs.Moves.{Sound}
 use Rattle.pm_machine.specs.Running.{Refuses, Stops}
 use Rattle.pm_machine.specs.Trace.{Event, Recounts, after_answer, answered}
-use Rattle.pm_machine.proofs.PhaseFacts.{ended, recounts_of}
+use Rattle.pm_machine.proofs.PhaseFacts.{Spares, ended, image_spared, recounts_of, sound_of_spared}
 use Rattle.pm_model_history.specs.History.{IsTableOf}
 use Rattle.pm_schema.specs.declared.schema.TableSchema.{TableSchema}
 use Rattle.pm_engine.specs.OfSchema.{meaning_of}
@@ -29,11 +26,10 @@ use Rattle.pm_model_folder.specs.Changes.{Actor}
 use Rattle.pm_model_folder.specs.Ledger.{Advances, Past, Stands}
 use Rattle.pm_model_folder.specs.Paths.{snapshot_path}
 use Rattle.pm_model_folder.proofs.Facts.{goes_on}
-use Rattle.pm_model_folder.proofs.LedgerFacts.{gone-still, known-still}
-use Rattle.pm_read_schema.proofs.Facts.{read_effect, still_table}
+use Rattle.pm_read_schema.proofs.Facts.{read_effect}
 use Rattle.pm_read_table.specs.Asked.{Asked}
 use Rattle.pm_read_table.specs.Meaning as reader_meaning
-use Rattle.pm_read_table.specs.Meaning.{HasGone, IsKept, IsViewIn}
+use Rattle.pm_read_table.specs.Meaning.{HasGone, IsKept, IsViewIn, LeavesFiles}
 use Rattle.pm_read_table.specs.Reader as reader
 use Rattle.pm_read_table.specs.Reader.{most}
 use Rattle.pm_read_table.specs.Trace as reader_trace
@@ -42,13 +38,14 @@ use Rattle.pm_read_table.specs.declared.phase.Phase as view_phase
 use Rattle.pm_read_table.specs.declared.phase.Phase.TheVariants as readers
 use Rattle.pm_read_table.specs.declared.view.View.{View}
 use Rattle.pm_read_table.proofs.Facts as reader_facts
-use Rattle.pm_read_table.proofs.Facts.{Joined, OneList}
+use Rattle.pm_read_table.proofs.Facts.{Joined, OneList, gone_still, kept_same}
 use Rattle.pm_read_table.proofs.FaultLemmas.{IsFileFault}
+use Rattle.pm_read_table.proofs.WithinLemmas.{with_reader}
 use Rattle.pm_scan.specs.Collected.{Collected, Takes, nothing_of}
 use Rattle.pm_scan.specs.Jobs.{all_jobs}
-use Rattle.pm_scan.specs.Meaning.{HaveTaken, IsReadingOf, IsScan, Knows, LeavesFiles}
+use Rattle.pm_scan.specs.Meaning.{HaveTaken, IsReadingOf, IsScan, Knows}
 use Rattle.pm_scan.specs.Reading.{ReadingView, reading_of}
-use Rattle.pm_scan.specs.Scanner.{next_call, calls_left, IsScanner, GoesOn, AfterReader, Goes, Shown, Reaches, reached_at}
+use Rattle.pm_scan.specs.Scanner.{next_call, calls_left, IsReady, IsScanner, GoesOn, AfterReader, Goes, Shown, Starts}
 use Rattle.pm_scan.specs.Trace.{HaveRead, HasPart, DidSoFar, MayTakeMemory, Misreads, ShowsOfFiles, Shows, Did}
 use Rattle.pm_scan.specs.declared.job.Job.{Job}
 use Rattle.pm_scan.specs.declared.phase.Phase.{Phase}
@@ -70,47 +67,30 @@ pub record FileLaws : Type 0 where
 
 -- ---- its calls change nothing
 
-kept : (f after : Files) (p : Past) → after ≡ f → IsKept f p after p
-kept f after p same = record { files = λ q. ap (λ (g : Files). map.get g q) same; past = refl }
-
-changes_on : Joined → OneList → (m : Phase) (f : Files) (p : Past) → Stands f p → Knows m f p → IfSome (next_call m) (λ call. Changes (LeavesFiles m) call f p)
-changes_on law one (phases.View r) f p stands known = (reader_facts.sound law one).changes r f p stands known
-changes_on law one (phases.Files r) f p stands known = λ effect. (p, kept f _ p (read_effect r.next.path effect f))
-changes_on law one (phases.Again id path) f p stands known = λ effect. (p, kept f _ p (read_effect (snapshot_path id) effect f))
-changes_on law one (phases.Ready id text) f p stands known = tt
-changes_on law one phases.Over f p stands known = tt
+spares : (m : Phase) (f : Files) → IfSome (next_call m) (Spares f)
+spares (phases.View r) f = reader_facts.spares r f
+spares (phases.Files r) f = λ effect. read_effect r.next.path effect f
+spares (phases.Again id path) f = λ effect. read_effect (snapshot_path id) effect f
+spares (phases.Ready id text) f = tt
+spares phases.Over f = tt
 
 -- ---- what it knows
 
 -- once the view is ready
-start_known : FileLaws → (v : View) (jobs : List Job) (new : Phase) (f g : Files) (p : Past) → Stands f p → IsOrdered group_cmp v.groups → IsTableOf v.schema p.history
-    → IsViewIn p v → all_jobs v.schema v.groups.entries ≡ jobs → GoesOn v.id (nothing_of v.schema) jobs new → Knows new g p
-start_known laws v [] new f g p stands order table is_view parts (text, prints, is) =
+start_known : FileLaws → (v : View) (jobs : List Job) (new : Phase) (f : Files) (p : Past) → Stands f p → IsOrdered group_cmp v.groups → IsTableOf v.schema p.history
+    → IsViewIn p v → all_jobs v.schema v.groups.entries ≡ jobs → GoesOn v.id (nothing_of v.schema) jobs new → Knows new f p
+start_known laws v [] new f p stands order table is_view parts (text, prints, is) =
     let none : HaveTaken (p.stood v.id) (all_jobs v.schema v.groups.entries) (nothing_of v.schema) (nothing_of v.schema) =
     subst (λ (jobs : List Job). HaveTaken (p.stood v.id) jobs (nothing_of v.schema) (nothing_of v.schema)) (sym parts) refl in
-    subst (λ (m : Phase). Knows m g p) (sym is) (laws.all f p v stands table is_view order (nothing_of v.schema) text.items none prints)
-start_known laws v (job ∷ jobs) new f g p stands order table is_view parts is =
-    subst (λ (m : Phase). Knows m g p) (sym is) (laws.first p v job jobs table is_view order parts)
+    subst (λ (m : Phase). Knows m f p) (sym is) (laws.all f p v stands table is_view order (nothing_of v.schema) text.items none prints)
+start_known laws v (job ∷ jobs) new f p stands order table is_view parts is =
+    subst (λ (m : Phase). Knows m f p) (sym is) (laws.first p v job jobs table is_view order parts)
 
-as_known : (to : view_phase.Phase) (new : Phase) (g : Files) (p : Past) → new ≡ phases.View to → reader_meaning.Knows to g p → Knows new g p
-as_known to new g p is known = subst (λ (m : Phase). Knows m g p) (sym is) known
-
-after_known : FileLaws → (to : view_phase.Phase) (new : Phase) (f g : Files) (p : Past) → Stands f p → AfterReader to new → reader_meaning.Knows to g p → Knows new g p
-after_known laws (readers.List a) new f g p stands is known = as_known (readers.List a) new g p is known
-after_known laws (readers.Origin a) new f g p stands is known = as_known (readers.Origin a) new g p is known
-after_known laws (readers.Snapshot a id) new f g p stands is known = as_known (readers.Snapshot a id) new g p is known
-after_known laws (readers.Base a x) new f g p stands is known = as_known (readers.Base a x) new g p is known
-after_known laws (readers.Delta a x base) new f g p stands is known = as_known (readers.Delta a x base) new g p is known
-after_known laws (readers.Manifests r) new f g p stands is known = as_known (readers.Manifests r) new g p is known
-after_known laws (readers.Again a id path) new f g p stands is known = as_known (readers.Again a id path) new g p is known
-after_known laws (readers.Ready v) new f g p stands (order, within, on) (table, is_view, sought) =
-    start_known laws v (all_jobs v.schema v.groups.entries) new f g p stands order table is_view refl on
-after_known laws readers.Over new f g p stands is known = as_known readers.Over new g p is known
-
-reader_leads : FileLaws → (r to : view_phase.Phase) (new : Phase) (f g : Files) (p : Past) → Stands f p → AfterReader to new
-    → Leads (reader_meaning.LeavesFiles r) (reader_meaning.Knows to) f p g → Leads (LeavesFiles (phases.View r)) (Knows new) f p g
-reader_leads laws r to new f g p stands after (later, stays, known) =
-    (later, stays, after_known laws to new f g later (subst (λ (q : Past). Stands f q) (sym stays.past) stands) after known)
+after_known : FileLaws → (to : view_phase.Phase) (new : Phase) (f : Files) (p : Past) → Stands f p → AfterReader to new → reader_meaning.Knows to f p → Knows new f p
+after_known laws to new f p stands after known =
+    with_reader (λ m. phases.View m) Starts (λ m. reader_meaning.Knows m f p) (Knows new f p) to new after known
+    (λ is. subst (λ (m : Phase). Knows m f p) (sym is) known)
+    (λ v viewed starts. start_known laws v (all_jobs v.schema v.groups.entries) new f p stands starts.0 viewed.0 viewed.1 refl starts.2)
 
 -- once the next file was read
 file_known : FileLaws → (f : Files) (p : Past) → Stands f p → (r : ReadingView) → IsReadingOf p r → (bytes : List ℕ) (c : Collected) (jobs : List Job) (new : Phase)
@@ -120,43 +100,20 @@ file_known laws f p stands r known bytes c [] new there takes rest (text, prints
 file_known laws f p stands r known bytes c (job ∷ jobs) new there takes rest is =
     subst (λ (m : Phase). Knows m f p) (sym is) (laws.more f p stands r known bytes c job jobs there takes rest)
 
-leads_still : (m new : Phase) (f after : Files) (p : Past) → after ≡ f → Knows new f p → Leads (LeavesFiles m) (Knows new) f p after
-leads_still m new f after p same known =
-    (p, kept f after p same, subst (λ (g : Files). Knows new g p) (sym same) known)
-
--- what an answer leads to is known
-leads_on : Joined → OneList → FileLaws → (m : Phase) (answer : Answer) (new : Phase) (f : Files) (p : Past) → Goes m answer new → Stands f p → Knows m f p
-    → IfSome (next_call m) (λ call. Answers call answer f → Leads (LeavesFiles m) (Knows new) f p (carried call f))
-leads_on law one laws (phases.View r) answer new f p (to, on, after) stands known =
-    IfSome_then (reader.next_call r) ((reader_facts.sound law one).went r to answer f p on stands known)
-    (λ call leads told. reader_leads laws r to new f (carried call f) p stands after (leads told))
-leads_on law one laws (phases.Files r) (answers.Found None) new f p is stands known = λ told.
-    leads_still (phases.Files r) new f (carried (calls.Read r.next.path) f) p (read_effect r.next.path effects.Whole f)
-    (subst (λ (m : Phase). Knows m f p) (sym is) (laws.gone f p stands r known (sym told)))
-leads_on law one laws (phases.Files r) (answers.Found (Some bytes)) new f p (c, takes, on) stands known = λ told.
-    leads_still (phases.Files r) new f (carried (calls.Read r.next.path) f) p (read_effect r.next.path effects.Whole f)
-    (file_known laws f p stands r known bytes c r.rest new (sym told) takes refl on)
-leads_on law one laws m answer new f p goes stands known = absurd goes
-
-over_knows : (new : Phase) (f : Files) (p : Past) → new ≡ phases.Over → Knows new f p
-over_knows new f p over = subst (λ (m : Phase). Knows m f p) (sym over) tt
-
-over_leads : (m new : Phase) (call : Call) (f : Files) (p : Past) (effect : Effect) → new ≡ phases.Over → Changes (LeavesFiles m) call f p
-    → Leads (LeavesFiles m) (Knows new) f p (after_effect call effect f)
-over_leads m new call f p effect over changes =
-    let change = changes effect in
-    (change.0, change.1, over_knows new (after_effect call effect f) change.0 over)
+-- what an answer leads to is known of the same files
+knows_next : Joined → OneList → FileLaws → (m : Phase) (answer : Answer) (new : Phase) (f : Files) (p : Past) → Goes m answer new → Stands f p → Knows m f p
+    → IfSome (next_call m) (λ call. Answers call answer f → Knows new f p)
+knows_next law one laws (phases.View r) answer new f p (to, on, after) stands known =
+    IfSome_then (reader.next_call r) (reader_facts.knows_next law one r answer to f p on stands known)
+    (λ call next told. after_known laws to new f p stands after (next told))
+knows_next law one laws (phases.Files r) (answers.Found None) new f p is stands known = λ told.
+    subst (λ (m : Phase). Knows m f p) (sym is) (laws.gone f p stands r known (sym told))
+knows_next law one laws (phases.Files r) (answers.Found (Some bytes)) new f p (c, takes, on) stands known = λ told.
+    file_known laws f p stands r known bytes c r.rest new (sym told) takes refl on
+knows_next law one laws m answer new f p goes stands known = absurd goes
 
 pub sound : Joined → OneList → FileLaws → Sound next_call Goes (Refuses Shown phases.Over) (Stops phases.Over) Stands LeavesFiles Knows
-sound law one laws = record {
-  changes = λ m f p stands known. changes_on law one m f p stands known;
-  went = λ m new answer f p goes stands known. leads_on law one laws m answer new f p goes stands known;
-  refused = λ m new answer refusal f p refuses stands known. IfSome_then (next_call m) (changes_on law one m f p stands known)
-      (λ call changes told. over_leads m new call f p effects.Whole refuses.1 changes);
-  failed = λ m new effect f p stops stands known. IfSome_then (next_call m) (changes_on law one m f p stands known)
-      (λ call changes may. over_leads m new call f p effect stops changes);
-  stopped = λ m new f p called stops stands known. over_knows new f p stops;
-}
+sound law one laws = sound_of_spared next_call Goes Shown phases.Over Stands LeavesFiles Knows (λ m. kept_same) spares (knows_next law one laws) (λ f p. tt)
 
 -- ---- its calls
 
@@ -201,20 +158,11 @@ did_on a v id c [] new own same (text, prints, is) part =
     subst (λ (m : Phase). Did a m own) (sym is) (record { view = v; collected = c; is_id = same; all_read = part; prints = prints })
 did_on a v id c (job ∷ jobs) new own same is part = subst (λ (m : Phase). Did a m own) (sym is) (v, same, part)
 
-as_did : (a : Asked) (to : view_phase.Phase) (new : Phase) (own : List Event) → new ≡ phases.View to → reader_trace.Did a to own → Did a new own
-as_did a to new own is did = subst (λ (m : Phase). Did a m own) (sym is) did
-
 did_after : (a : Asked) (to : view_phase.Phase) (new : Phase) (own : List Event) → AfterReader to new → reader_trace.Did a to own → Did a new own
-did_after a (readers.List b) new own is did = as_did a (readers.List b) new own is did
-did_after a (readers.Origin b) new own is did = as_did a (readers.Origin b) new own is did
-did_after a (readers.Snapshot b id) new own is did = as_did a (readers.Snapshot b id) new own is did
-did_after a (readers.Base b x) new own is did = as_did a (readers.Base b x) new own is did
-did_after a (readers.Delta b x base) new own is did = as_did a (readers.Delta b x base) new own is did
-did_after a (readers.Manifests r) new own is did = as_did a (readers.Manifests r) new own is did
-did_after a (readers.Again b id path) new own is did = as_did a (readers.Again b id path) new own is did
-did_after a (readers.Ready v) new own (order, within, on) viewed =
-    did_on a v v.id (nothing_of v.schema) (all_jobs v.schema v.groups.entries) new own refl on (part_none a v own viewed.0)
-did_after a readers.Over new own is did = as_did a readers.Over new own is did
+did_after a to new own after did =
+    with_reader (λ m. phases.View m) Starts (λ m. reader_trace.Did a m own) (Did a new own) to new after did
+    (λ is. subst (λ (m : Phase). Did a m own) (sym is) did)
+    (λ v viewed starts. did_on a v v.id (nothing_of v.schema) (all_jobs v.schema v.groups.entries) new own refl starts.2 (part_none a v own viewed.0))
 
 went_on : Joined → (a : Asked) (m : Phase) (answer : Answer) (new : Phase) (own : List Event) → Goes m answer new → Did a m own
     → IfSome (next_call m) (λ call. MayAnswer call answer → Did a new (own ++ answered call answer ∷ []))
@@ -241,7 +189,7 @@ misread_as a other own fault ends bad = absurd fault
 
 refused_on : Joined → (a : Asked) (m : Phase) (answer : Answer) (refusal : Refusal) (own : List Event) → Shown m answer refusal → Did a m own
     → IfSome (next_call m) (λ call. MayAnswer call answer → Shows a refusal (own ++ answered call answer ∷ []))
-refused_on law a (phases.View r) answer refusal own (inl (is, v, on)) did =
+refused_on law a (phases.View r) answer refusal own (inl (is, v, engine, on)) did =
     IfSome_then (reader.next_call r)
     (ended next_call (DidSoFar a) MayTakeMemory (phases.View r) (reader.next_call r) answer own refl did (v, on))
     (λ call ends may. shows_as a refusal refusals.Memory (own ++ answered call answer ∷ []) is (ends may))
@@ -274,70 +222,51 @@ recounts law a = recounts_of next_call Goes Shown phases.Over (DidSoFar a) (Did 
 
 -- ---- how far it has come
 
--- fewer calls than that are left, and what was reached
+-- fewer calls than that are left, and some if the text isn't ready
 abbrev IsAhead : ℕ → Phase → Type 0
-IsAhead n m = (calls_left m < n) × Reaches (reached_at m) m
+IsAhead n m = (calls_left m < n) × (IsReady m ⊎ (0 < calls_left m))
 
 on_ahead : (id : ℕ) (c : Collected) (jobs : List Job) (new : Phase) (n : ℕ) → length jobs + 1 < n → GoesOn id c jobs new → IsAhead n new
 on_ahead id c [] new n below (text, prints, is) =
     let one : 0 + 1 < n = below in
     let less : 0 < n = omega (arith, one) in
-    subst (IsAhead n) (sym is) (less, tt)
+    subst (IsAhead n) (sym is) (less, inl tt)
 on_ahead id c (job ∷ jobs) new n below is =
     let one : suc (length jobs) + 1 < n = below in
     let less : length jobs + 2 < n = omega (arith, one) in
     let some : 0 < length jobs + 2 = omega arith in
-    subst (IsAhead n) (sym is) (less, some)
+    subst (IsAhead n) (sym is) (less, inr some)
 
 view_ahead : (r to : view_phase.Phase) (new : Phase) → reader.calls_left to < reader.calls_left r → new ≡ phases.View to → IsAhead (reader.calls_left r + (most + 2)) new
 view_ahead r to new fewer is =
     let less : reader.calls_left to + (most + 2) < reader.calls_left r + (most + 2) = omega (arith, fewer) in
     let some : 0 < reader.calls_left to + (most + 2) = omega arith in
-    subst (IsAhead (reader.calls_left r + (most + 2))) (sym is) (less, some)
+    subst (IsAhead (reader.calls_left r + (most + 2))) (sym is) (less, inr some)
 
-after_ahead : (r to : view_phase.Phase) (new : Phase) → reader.calls_left to < reader.calls_left r → AfterReader to new → IsAhead (reader.calls_left r + (most + 2)) new
-after_ahead r (readers.List a) new fewer is = view_ahead r (readers.List a) new fewer is
-after_ahead r (readers.Origin a) new fewer is = view_ahead r (readers.Origin a) new fewer is
-after_ahead r (readers.Snapshot a id) new fewer is = view_ahead r (readers.Snapshot a id) new fewer is
-after_ahead r (readers.Base a x) new fewer is = view_ahead r (readers.Base a x) new fewer is
-after_ahead r (readers.Delta a x base) new fewer is = view_ahead r (readers.Delta a x base) new fewer is
-after_ahead r (readers.Manifests s) new fewer is = view_ahead r (readers.Manifests s) new fewer is
-after_ahead r (readers.Again a id path) new fewer is = view_ahead r (readers.Again a id path) new fewer is
-after_ahead r (readers.Ready v) new fewer (order, within, on) =
-    on_ahead v.id (nothing_of v.schema) (all_jobs v.schema v.groups.entries) new (reader.calls_left r + (most + 2)) (omega (arith, within)) on
-after_ahead r readers.Over new fewer is = view_ahead r readers.Over new fewer is
+starts_ahead : (n : ℕ) (v : View) (new : Phase) → Starts v new → IsAhead (n + (most + 2)) new
+starts_ahead n v new (order, within, on) =
+    on_ahead v.id (nothing_of v.schema) (all_jobs v.schema v.groups.entries) new (n + (most + 2)) (omega (arith, within)) on
 
 goes_ahead : (m : Phase) (answer : Answer) (new : Phase) → Goes m answer new → IsAhead (calls_left m) new
 goes_ahead (phases.View r) answer new (to, on, then) =
-    let ahead = reader_facts.goes_ahead r answer to on in
-    after_ahead r to new ahead.0 then
+    with_reader (λ m. phases.View m) Starts (λ m. Unit {0}) (IsAhead (reader.calls_left r + (most + 2)) new) to new then tt
+    (view_ahead r to new (reader_facts.goes_ahead r answer to on).0) (λ v none starts. starts_ahead (reader.calls_left r) v new starts)
 goes_ahead (phases.Files r) (answers.Found None) new is =
     let less : 1 < length r.rest + 2 = omega arith in
     let some : 0 < 1 = omega arith in
-    subst (IsAhead (length r.rest + 2)) (sym is) (less, some)
+    subst (IsAhead (length r.rest + 2)) (sym is) (less, inr some)
 goes_ahead (phases.Files r) (answers.Found (Some bytes)) new (c, takes, on) =
     on_ahead r.id c r.rest new (length r.rest + 2) (omega arith) on
 goes_ahead m answer new goes = absurd goes
 
--- a step that goes on leaves fewer calls, and what it reached
+-- an answer that it goes on with leaves fewer calls
 pub goes : (m : Phase) (answer : Answer) (new : Phase) → IsScanner m → Goes m answer new
-    → (calls_left new < calls_left m) × Reaches (reached_at new) new × Unit {0}
-goes m answer new is on = let ahead = goes_ahead m answer new on in (ahead.0, ahead.1, tt)
-
-reader_call : (r : view_phase.Phase) → 0 < reader.calls_left r → IsSome (reader.next_call r)
-reader_call (readers.List a) left = refl
-reader_call (readers.Origin a) left = refl
-reader_call (readers.Snapshot a id) left = refl
-reader_call (readers.Base a x) left = refl
-reader_call (readers.Delta a x base) left = refl
-reader_call (readers.Manifests r) left = refl
-reader_call (readers.Again a id path) left = refl
-reader_call (readers.Ready v) left = absurd (let none : 0 < 0 = left in omega (arith, none))
-reader_call readers.Over left = absurd (let none : 0 < 0 = left in omega (arith, none))
+    → (calls_left new < calls_left m) × (IsReady new ⊎ (0 < calls_left new))
+goes m answer new is on = goes_ahead m answer new on
 
 -- a scanner with calls left has a next one
 pub has_call : (m : Phase) → IsScanner m → 0 < calls_left m → IsSome (next_call m)
-has_call (phases.View r) (has, engine) left = reader_call r has
+has_call (phases.View r) (has, engine) left = reader_facts.has_call r has
 has_call (phases.Files r) is left = refl
 has_call (phases.Again id path) is left = refl
 has_call (phases.Ready id text) is left = absurd (let none : 0 < 0 = left in omega (arith, none))
@@ -345,30 +274,12 @@ has_call phases.Over is left = absurd (let none : 0 < 0 = left in omega (arith, 
 
 -- ---- laws
 
-gone_kept : (other : Actor) (f after : Files) (p q : Past) (s : TableSchema) (id : ℕ) → Stands f p → Advances other f p after q → HasGone f p s id → HasGone after q s id
-gone_kept other f after p q s id stands advances gone = record {
-  table = still_table s p.history q.history (goes_on other f after p.history q.history advances.change) gone.table;
-  known = known-still other f after p q id advances gone.known;
-  absent = gone-still other f after p q s id stands advances gone.table gone.known gone.absent;
-}
-
 pub knows_still : (m : Phase) (other : Actor) (f after : Files) (p q : Past) → Stands f p → Advances other f p after q → Knows m f p → Knows m after q
 knows_still (phases.View r) other f after p q stands advances known = reader_facts.knows_still r other f after p q stands advances known
 knows_still (phases.Files r) other f after p q stands advances known = reading-kept goes_on other f after p q advances r known
-knows_still (phases.Again id path) other f after p q stands advances (s, gone) = (s, gone_kept other f after p q s id stands advances gone)
+knows_still (phases.Again id path) other f after p q stands advances (s, gone) = (s, gone_still other f after p q s id stands advances gone)
 knows_still (phases.Ready id text) other f after p q stands advances known = scan-kept goes_on other f after p q advances id text.items known
 knows_still phases.Over other f after p q stands advances known = tt
 
-read_image : (path : List ℕ) (call : Call) (f image : Files) (p : Past) → Some (calls.Read path) ≡ Some call → MayLeave call f image → IsKept f p image p
-read_image path call f image p is left =
-    let same : calls.Read path ≡ call = cc in
-    let had = effect_left call f image left in
-    let still : after_effect call had.0 f ≡ f = subst (λ (call : Call). after_effect call had.0 f ≡ f) same (read_effect path had.0 f) in
-    kept f image p (had.1 ∙ still)
-
 pub images : (m : Phase) (call : Call) (f image : Files) (p : Past) → next_call m ≡ Some call → MayLeave call f image → IsKept f p image p
-images (phases.View r) call f image p is left = reader_facts.images r call f image p is left
-images (phases.Files r) call f image p is left = read_image r.next.path call f image p is left
-images (phases.Again id path) call f image p is left = read_image (snapshot_path id) call f image p is left
-images (phases.Ready id text) call f image p is left = absurd (let clash : None ≡ Some call = is in cc)
-images phases.Over call f image p is left = absurd (let clash : None ≡ Some call = is in cc)
+images m call f image p is left = kept_same f image p (image_spared next_call m call f image (spares m f) is left)

@@ -4,14 +4,12 @@ use Rattle.std.specs.BTreeMap.{IsOrdered}
 use Rattle.std.specs.FinMap as map
 use Rattle.pm_values.specs.GroupOrder.{group_cmp}
 use Rattle.pm_store.specs.Files.{Files}
-use Rattle.pm_store.specs.Store.{StoreView}
-use Rattle.pm_machine.specs.Moves.{Moves}
 use Rattle.pm_model_history.specs.History.{Entry, IsTableOf, rows_up_to, table}
 use Rattle.pm_model_history.specs.Merged.{scan_text}
 use Rattle.pm_schema.specs.declared.schema.TableSchema.{TableSchema}
-use Rattle.pm_model_folder.specs.Ledger.{IsKnown, Past, Stands}
+use Rattle.pm_model_folder.specs.Ledger.{IsKnown, Past}
 use Rattle.pm_read_table.specs.Meaning as reader
-use Rattle.pm_read_table.specs.Meaning.{HasGone, IsKept, IsViewIn}
+use Rattle.pm_read_table.specs.Meaning.{HasGone, IsViewIn}
 use Rattle.pm_read_table.specs.declared.view.View.{View}
 use Rattle.pm_scan.specs.Collected.{Collected, Takes, nothing_of}
 use Rattle.pm_scan.specs.Jobs.{all_jobs}
@@ -19,10 +17,6 @@ use Rattle.pm_scan.specs.Reading.{ReadingView}
 use Rattle.pm_scan.specs.declared.job.Job.{Job}
 use Rattle.pm_scan.specs.declared.phase.Phase.{Phase}
 use Rattle.pm_scan.specs.declared.phase.Phase.TheVariants as phases
-
--- what a scanner changes: nothing
-abbrev pub LeavesFiles : Phase → Files → Past → Files → Past → Type 0
-LeavesFiles phase f p after later = IsKept f p after later
 
 -- what the files at these paths make of what was collected, one after another
 abbrev pub HaveTaken : Files → List Job → Collected → Collected → Type 0
@@ -60,7 +54,3 @@ Knows (phases.Files r) f p = IsReadingOf p r
 Knows (phases.Again id path) f p = (s : TableSchema) × HasGone f p s id
 Knows (phases.Ready id text) f p = IsScan p id text.items
 Knows phases.Over f p = Unit {0}
-
--- a step changes nothing, and what the scanner knows holds after it
-abbrev pub ScannerMoved : Phase → Phase → StoreView → StoreView → Type 0
-ScannerMoved old new before after = Moves Stands (LeavesFiles old) (Knows old) (Knows new) before after

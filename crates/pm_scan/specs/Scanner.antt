@@ -14,7 +14,7 @@ use Rattle.pm_engines.specs.TableEngine.{HasEngine}
 use Rattle.pm_scan_rows.specs.Shown.{PrintsGroups}
 use Rattle.pm_model_folder.specs.Paths.{snapshot_path}
 use Rattle.pm_read_table.specs.Reader as reader
-use Rattle.pm_read_table.specs.Reader.{most}
+use Rattle.pm_read_table.specs.Reader.{most, FailsToOpen, OfSchema, WithReader}
 use Rattle.pm_read_table.specs.declared.phase.Phase as view_phase
 use Rattle.pm_read_table.specs.declared.phase.Phase.TheVariants as readers
 use Rattle.pm_read_table.specs.declared.view.View.{View}
@@ -24,8 +24,6 @@ use Rattle.pm_scan.specs.Reading.{reading_of}
 use Rattle.pm_scan.specs.declared.job.Job.{Job}
 use Rattle.pm_scan.specs.declared.phase.Phase.{Phase}
 use Rattle.pm_scan.specs.declared.phase.Phase.TheVariants as phases
-use Rattle.pm_scan.specs.declared.scanner.ScanStep.{ScanStep}
-use Rattle.pm_scan.specs.declared.scanner.ScanStep.TheVariants as steps
 
 -- ---- its calls
 
@@ -47,15 +45,7 @@ calls_left phases.Over = 0
 
 -- the table that a reader of a view reads has an engine
 abbrev pub IsEngineOf : view_phase.Phase → Type 0
-IsEngineOf (readers.List a) = HasEngine a.schema
-IsEngineOf (readers.Origin q) = HasEngine q.asked.schema
-IsEngineOf (readers.Snapshot q id) = HasEngine q.asked.schema
-IsEngineOf (readers.Base q x) = HasEngine q.asked.schema
-IsEngineOf (readers.Delta q x base) = HasEngine q.asked.schema
-IsEngineOf (readers.Manifests r) = HasEngine r.sought.asked.schema
-IsEngineOf (readers.Again a id path) = HasEngine a.schema
-IsEngineOf (readers.Ready v) = HasEngine v.schema
-IsEngineOf readers.Over = Unit {0}
+IsEngineOf m = OfSchema HasEngine m
 
 -- a scanner: the reader of its view has a call left, and the table has an engine
 abbrev pub IsScanner : Phase → Type 0
@@ -75,12 +65,14 @@ GoesOn id c [] later =
     (text : Vec ℕ Global) × PrintsGroups (meaning_of c.schema) c.groups text.items × (later ≡ phases.Ready id text)
 GoesOn id c (job ∷ jobs) later = later ≡ phases.Files (reading_of id c job jobs)
 
--- the phase with a reader of the view: its files are to be read once it is ready
-abbrev pub AfterReader : view_phase.Phase → Phase → Type 0
-AfterReader (readers.Ready v) later =
+-- once the view is ready, its files are to be read
+abbrev pub Starts : View → Phase → Type 0
+Starts v later =
     IsOrdered group_cmp v.groups × (length (all_jobs v.schema v.groups.entries) ≤ most)
     × GoesOn v.id (nothing_of v.schema) (all_jobs v.schema v.groups.entries) later
-AfterReader m later = later ≡ phases.View m
+
+abbrev pub AfterReader : view_phase.Phase → Phase → Type 0
+AfterReader m later = WithReader (λ m. phases.View m) Starts m later
 
 -- the phase after an answer that it goes on with
 abbrev pub Goes : Phase → Answer → Phase → Type 0
@@ -90,26 +82,13 @@ Goes (phases.Files r) (answers.Found (Some bytes)) later =
     (c : Collected) × Takes r.next bytes r.collected c × GoesOn r.id c r.rest later
 Goes phase other later = ⊥
 
--- the view is ready with the answer, and memory runs out before its files are to be read
-abbrev pub FailsToStart : view_phase.Phase → Answer → Refusal → Type 0
-FailsToStart m answer refusal = (refusal ≡ refusals.Memory) × (v : View) × reader.Goes m answer (readers.Ready v)
-
 -- The refusal that an answer shows, but for memory, which may run out too where more is read: one of the view's reader;
 -- a data file has none of the rows that it should have; or it is absent, and the snapshot read again is absent, or
 -- stands.
 abbrev pub Shown : Phase → Answer → Refusal → Type 0
-Shown (phases.View m) answer refusal = FailsToStart m answer refusal ⊎ reader.Shown m answer refusal
+Shown (phases.View m) answer refusal = FailsToOpen IsEngineOf m answer refusal ⊎ reader.Shown m answer refusal
 Shown (phases.Files r) (answers.Found (Some bytes)) refusal =
     (refusal ≡ refusals.Memory) ⊎ RefusesFile r.collected.schema r.next bytes r.collected.rows refusal
 Shown (phases.Again id path) (answers.Found None) refusal = refusal ≡ refusals.Expired id
 Shown (phases.Again id path) (answers.Found (Some bytes)) refusal = refusal ≡ refusals.Damaged path 0
 Shown phase other refusal = ⊥
-
--- what a step that goes on has reached
-abbrev pub Reaches : ScanStep → Phase → Type 0
-Reaches steps.More phase = 0 < calls_left phase
-Reaches steps.Ready phase = IsReady phase
-
-abbrev pub reached_at : Phase → ScanStep
-reached_at (phases.Ready id text) = steps.Ready
-reached_at other = steps.More

@@ -1,11 +1,10 @@
 -- The own calls of a scanner, and what they show.
-use Rattle.std.specs.Prelude.{◌≡◌, ◌⊎◌, ℕ, List, [], ◌∷◌, ◌++◌, Option, None, Some, Result, IfErr}
+use Rattle.std.specs.Prelude.{◌≡◌, ◌⊎◌, ℕ, List, [], ◌∷◌, ◌++◌, Option, None, Some}
 use Rattle.pm_values.specs.declared.refusal.Refusal.{Refusal}
 use Rattle.pm_values.specs.declared.refusal.Refusal.TheVariants as refusals
 use Rattle.pm_store.specs.declared.answer.Answer.{Answer}
 use Rattle.pm_store.specs.declared.answer.Answer.TheVariants as answers
-use Rattle.pm_store.specs.Store.{StoreView}
-use Rattle.pm_machine.specs.Trace.{Acts, Event, IsFailed, MayEnd}
+use Rattle.pm_machine.specs.Trace.{Event, IsFailed, MayEnd}
 use Rattle.pm_engine.specs.OfSchema.{meaning_of}
 use Rattle.pm_scan_rows.specs.Shown.{PrintsGroups}
 use Rattle.pm_model_folder.specs.Paths.{snapshot_path}
@@ -21,7 +20,6 @@ use Rattle.pm_scan.specs.Scanner.{next_call}
 use Rattle.pm_scan.specs.declared.job.Job.{Job}
 use Rattle.pm_scan.specs.declared.phase.Phase.{Phase}
 use Rattle.pm_scan.specs.declared.phase.Phase.TheVariants as phases
-use Rattle.pm_scan.specs.declared.scanner.ScanStep.{ScanStep}
 
 -- ---- how far the calls have come
 
@@ -113,9 +111,3 @@ Shows a refusal own = reader.Shows a refusal own ⊎ ShowsOfFiles a refusal own
 abbrev pub Did : Asked → Phase → List Event → Type 0
 Did a phases.Over own = (refusal : Refusal) × Shows a refusal own
 Did a m own = DidSoFar a m own
-
--- Whatever was asked, its next call is the next event of its calls so far, or none was made; and a refusal is shown by
--- the calls up to it.
-abbrev pub ScannerActed : Phase → Phase → StoreView → StoreView → Result ScanStep Refusal → Type 0
-ScannerActed old new before after result = (a : Asked)
-    → Acts (Did a old) (λ own. Did a new own × IfErr result (λ refusal. Shows a refusal own)) before after

@@ -2,7 +2,7 @@
 //!
 //! What isn't handed on is dropped by name, as in `pm_read_table`.
 
-ghost use Rattle.std.specs.Prelude.{◌≡◌, ◌⊎◌, ◌<◌, ◌≤◌, length, IfErr, IfOk, IsSome, IsSomeAnd};
+ghost use Rattle.std.specs.Prelude.{◌≡◌, ◌≤◌, length, IfErr, IfOk, IsSome};
 ghost use Rattle.std.specs.BTreeMap.{get_by, IsOrdered};
 ghost use Rattle.pm_schema.specs.Folder.{FitsPartition};
 ghost use Rattle.pm_scan.specs.Collected.{nothing_of};
@@ -11,14 +11,10 @@ ghost use Rattle.pm_read_table.specs.Reader.{most};
 ghost use Rattle.pm_values.specs.GroupOrder.{group_cmp};
 ghost use Rattle.pm_values.specs.declared.group.Group.{Group as GroupView};
 ghost use Rattle.pm_engines.specs.TableEngine.{HasEngine};
-ghost use Rattle.pm_store.specs.Answers.{MayAnswer};
 ghost use Rattle.pm_store.specs.declared.answer.Answer.TheVariants as answers;
-ghost use Rattle.pm_read_table.specs.Reader as readers;
-ghost use Rattle.pm_read_table.specs.Reader.{IsReady};
 ghost use Rattle.pm_read_table.specs.View.{HasFolders};
-ghost use Rattle.pm_read_table.specs.declared.phase.Phase.TheVariants as reader_phases;
 ghost use Rattle.pm_values.specs.declared.refusal.Refusal.TheVariants as refusals;
-ghost use Rattle.pm_scan.specs.Scanner.{AfterReader, Goes, GoesOn, IsEngineOf, IsScanner, Shown};
+ghost use Rattle.pm_scan.specs.Scanner.{Goes, GoesOn, IsScanner, Shown, Starts};
 ghost use Rattle.pm_scan.specs.declared.phase.Phase.TheVariants as phases;
 
 use crate::collected::Collected;
@@ -27,48 +23,29 @@ use crate::phase::Phase;
 use crate::reading::Reading;
 use pm_base::{Blob, Txt};
 use pm_levels::Levels;
-use pm_machine::Machine;
-use pm_read_table::{View, ViewReader, into_view, is_view_ready};
+use pm_read_table::{OpensView, View, ViewReader};
 use pm_schema::TableSchema;
-use pm_store::Answer;
 use pm_values::{Group, Refusal};
 use std::alloc::Global;
 use std::collections::{BTreeMap, VecDeque};
 
-/// The phase after an answer to a call of the view's reader.
-pub(crate) fn after_view(
-    alloc: Global,
-    reader: ViewReader,
-    answer: Answer,
-) -> Result<Phase, Refusal>
-    requires may { IsSomeAnd (readers.next_call reader) (λ call. MayAnswer call answer) }
-    requires engine { IsEngineOf reader }
-    ensures goes { IfOk result (Goes (phases.View reader) answer) }
-    ensures is_scanner { IfOk result IsScanner }
-    ensures refuses { IfErr result (Shown (phases.View reader) answer) }
-{
-    let mut reader = reader;
-    match reader.take(alloc, answer) {
-        Ok(()) => after_reader(alloc, reader),
-        Err(refusal) => {
-            drop(reader);
-            Err(refusal)
-        }
-    }
-}
+impl OpensView for Phase {
+    ghost use Rattle.pm_scan.specs.Scanner.{IsEngineOf, IsScanner, Starts};
 
-/// The phase with this reader: its files are to be read once the view is ready.
-fn after_reader(alloc: Global, reader: ViewReader) -> Result<Phase, Refusal>
-    requires left { IsReady reader ⊎ (0 < readers.calls_left reader) }
-    requires engine { IsEngineOf reader }
-    ensures goes { IfOk result (AfterReader reader) }
-    ensures is_scanner { IfOk result IsScanner }
-    ensures memory { IfErr result (λ e. (e ≡ refusals.Memory) × IsReady reader) }
-{
-    if is_view_ready(&reader) {
-        start(alloc, into_view(reader))
-    } else {
-        Ok(Phase::View { reader })
+    ghost holds = { IsScanner };
+
+    ghost reads = { IsEngineOf };
+
+    ghost holding = { λ m. phases.View m };
+
+    ghost opens = { Starts };
+
+    fn hold(reader: ViewReader) -> Phase {
+        Phase::View { reader }
+    }
+
+    fn open(alloc: Global, view: View) -> Result<Phase, Refusal> {
+        start(alloc, view)
     }
 }
 
@@ -76,7 +53,7 @@ fn after_reader(alloc: Global, reader: ViewReader) -> Result<Phase, Refusal>
 fn start(alloc: Global, view: View) -> Result<Phase, Refusal>
     requires engine { HasEngine view.schema }
     requires folders { HasFolders view }
-    ensures goes { IfOk result (AfterReader (reader_phases.Ready view)) }
+    ensures goes { IfOk result (Starts view) }
     ensures is_scanner { IfOk result IsScanner }
     ensures memory { IfErr result (λ e. e ≡ refusals.Memory) }
 {

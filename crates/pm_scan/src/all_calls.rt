@@ -13,7 +13,8 @@ ghost use Rattle.pm_scan.specs.Trace.{Did};
 ghost use Rattle.pm_scan.specs.declared.phase.Phase.TheVariants as phases;
 
 use crate::laws::all_calls_law;
-use crate::scanner::Scanner;
+use crate::scanner::{Scanner, into_text, is_scan_ready, newest_scan, scan_at};
+use pm_machine::take_step;
 use pm_schema::TableSchema;
 use pm_store::FileStore;
 use pm_values::Refusal;
@@ -46,8 +47,8 @@ fn scanner_of(schema: TableSchema, at: Option<u64>) -> Scanner
     ensures { result ≡ phases.View (readers.List (asked_at schema at)) }
 {
     match at {
-        Some(id) => Scanner::at(schema, id),
-        None => Scanner::newest(schema),
+        Some(id) => scan_at(schema, id),
+        None => newest_scan(schema),
     }
 }
 
@@ -63,8 +64,8 @@ fn make_calls<F: FileStore>(
     ensures later { IsLater (F.seen store.old) (F.seen store.new) }
 {
     let mut scanner = scanner;
-    while !scanner.is_ready() {
-        match scanner.step(alloc, store) {
+    while !is_scan_ready(&scanner) {
+        match take_step(alloc, &mut scanner, store) {
             Ok(_) => {}
             Err(refusal) => {
                 drop(scanner);
@@ -72,5 +73,5 @@ fn make_calls<F: FileStore>(
             }
         }
     }
-    Ok(scanner.into_text())
+    Ok(into_text(scanner))
 }

@@ -30,4 +30,4 @@ pub use job::{Ends, Job};
 pub use laws::{causes_law, images_law, known_law};
 pub use phase::Phase;
 pub use reading::Reading;
-pub use scanner::{ScanStep, Scanner};
+pub use scanner::{Scanner, into_text, is_scan_ready, newest_scan, scan_at};

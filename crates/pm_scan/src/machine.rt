@@ -1,13 +1,12 @@
 //! The phases of a scanner, and what they mean.
 
-ghost use Rattle.std.specs.Prelude.{IfOk, ◌≡◌};
 ghost use Rattle.pm_scan.specs.declared.phase.Phase.TheVariants as phases;
 
-use crate::after::{after_again, after_file, after_view};
+use crate::after::{after_again, after_file};
 use crate::phase::Phase;
-use crate::scanner::ScanStep;
-use pm_machine::{Machine, PhaseMeaning};
+use pm_machine::{Machine, ReaderPhase};
 use pm_paths::snapshot_path;
+use pm_read_table::after_view;
 use pm_store::{Answer, Call};
 use pm_values::Refusal;
 use std::alloc::{AllocError, Global};
@@ -38,6 +37,10 @@ impl pm_machine::Phase for Phase {
         }
     }
 
+    fn over() -> Phase {
+        Phase::Over
+    }
+
     fn next(self, alloc: Global, answer: Answer) -> Result<Phase, Refusal> {
         match (self, answer) {
             (Phase::View { reader }, answer) => after_view(alloc, reader, answer),
@@ -46,26 +49,21 @@ impl pm_machine::Phase for Phase {
             _ => unreachable!(),
         }
     }
-
-    fn over() -> Phase {
-        Phase::Over
-    }
 }
 
-impl PhaseMeaning for Phase {
+impl ReaderPhase for Phase {
     ghost use Rattle.pm_model_folder.specs.Ledger as ledgers;
-    ghost use Rattle.pm_scan.specs.Meaning.{Knows, LeavesFiles};
-    ghost use Rattle.pm_scan.specs.Scanner.{calls_left, reached_at, Reaches};
-    ghost use Rattle.pm_scan.specs.Trace.{Did, Shows};
     ghost use Rattle.pm_read_table.specs.Asked as asks;
-
-    type Step = ScanStep;
+    ghost use Rattle.pm_read_table.specs.Meaning.{IsKept};
+    ghost use Rattle.pm_scan.specs.Meaning.{Knows};
+    ghost use Rattle.pm_scan.specs.Scanner.{calls_left, IsReady};
+    ghost use Rattle.pm_scan.specs.Trace.{Did, Shows};
 
     ghost History = { ledgers.Past };
 
     ghost Folder = { ledgers.Stands };
 
-    ghost Change = { LeavesFiles };
+    ghost Same = { IsKept };
 
     ghost knows = { Knows };
 
@@ -77,16 +75,5 @@ impl PhaseMeaning for Phase {
 
     ghost calls_left = { calls_left };
 
-    ghost reached_at = { reached_at };
-
-    ghost reaches = { Reaches };
-
-    ghost keeps = { λ old new. Unit {0} };
-
-    fn reached(&self) -> ScanStep {
-        match self {
-            Phase::Ready { .. } => ScanStep::Ready,
-            _ => ScanStep::More,
-        }
-    }
+    ghost ready = { IsReady };
 }

@@ -1,6 +1,7 @@
 use Rattle.pm_scan.specs.Reading.{ReadingView, reading_of}
 use Rattle.pm_scan.specs.declared.phase.Phase.{Phase}
-use Rattle.pm_scan.proofs.AfterLemmas.{file_on, if_ok}
+use Rattle.pm_read_table.proofs.AfterLemmas.{if_ok}
+use Rattle.pm_scan.proofs.AfterLemmas.{file_on}
 use Rattle.pm_scan.proofs.after.after_file.Goals as goal
 
 pub returns-in-Ok-clause-goes : goal.returns-in-Ok-clause-goes

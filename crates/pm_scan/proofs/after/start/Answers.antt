@@ -1,5 +1,6 @@
 use Rattle.pm_scan.specs.declared.phase.Phase.{Phase}
-use Rattle.pm_scan.proofs.AfterLemmas.{if_ok, start_on}
+use Rattle.pm_read_table.proofs.AfterLemmas.{if_ok}
+use Rattle.pm_scan.proofs.AfterLemmas.{start_on}
 use Rattle.pm_scan.proofs.after.start.Goals as goal
 
 pub returns-in-Ok-clause-goes : goal.returns-in-Ok-clause-goes

@@ -6,17 +6,17 @@ pub loop-alloc-preserved : goal.loop-alloc-preserved
 loop-alloc-preserved g c =
     let seen = g.F.FileStore.seen in
     record {
-      trace = λ a first begun. went_further a c.loop-alloc.scanner c.step.new.self first (seen c.loop-alloc.store) (seen c.step.new.store)
-          c.in-Ok.field-0 (c.loop-alloc.invariant.trace a first begun) c.in-Ok.ensures.acts c.step.ensures.later;
-      left = call_left c.in-Ok.field-0 c.step.new.self c.in-Ok.ensures.reaches;
+      trace = λ a first begun. went_further a c.loop-alloc.scanner c.take_step.new.reader first (seen c.loop-alloc.store) (seen c.take_step.new.store)
+          c.in-Ok.field-0 (c.loop-alloc.invariant.trace a first begun) c.in-Ok.ensures.acts c.take_step.ensures.later;
+      left = call_left c.take_step.new.reader c.in-Ok.ensures.reaches;
       later = search rules;
     }
 
 pub returns-in-Err-clause-trace : goal.returns-in-Err-clause-trace
 returns-in-Err-clause-trace g c = λ a first begun.
     let seen = g.F.FileStore.seen in
-    was_refused a c.loop-alloc.scanner c.step.new.self first (seen c.loop-alloc.store) (seen c.step.new.store) c.in-Err.refusal
-    (c.loop-alloc.invariant.trace a first begun) c.in-Err.ensures.acts c.step.ensures.later
+    was_refused a c.loop-alloc.scanner c.take_step.new.reader first (seen c.loop-alloc.store) (seen c.take_step.new.store) c.in-Err.refusal
+    (c.loop-alloc.invariant.trace a first begun) c.in-Err.ensures.acts c.take_step.ensures.later
 
 pub returns-clause-trace : goal.returns-clause-trace
 returns-clause-trace g c = λ a first begun.
