@@ -18,6 +18,7 @@ mod KnownLemmas
 mod MadeLemmas
 mod MarkLemmas
 mod NewestLemmas
+pub mod OneLemmas
 mod OriginLemmas
 mod PathLemmas
 mod PublishLemmas

@@ -1,5 +1,5 @@
 -- What a commit is made of, and by whom.
-use Rattle.std.specs.Prelude.{◌≡◌, ℕ, ℤ, ◌+◌, ◌*◌, ◌<◌, ◌≤◌, ◌^◌, List, [], ◌∷◌, ◌++◌, length, Bool}
+use Rattle.std.specs.Prelude.{◌≡◌, ℕ, ℤ, ◌+◌, ◌*◌, ◌<◌, ◌≤◌, ◌^◌, List, [], ◌∷◌, ◌++◌, length, map, Bool}
 use Rattle.std.specs.List.{AllByRecursion}
 use Rattle.pm_values.specs.Names.{Naming, based}
 use Rattle.pm_values.specs.declared.group.Group.{Group}
@@ -51,6 +51,19 @@ with_lost id own = record own { lost = own.lost ++ id ∷ [] }
 
 abbrev pub with_named : ℕ → OwnView → OwnView
 with_named count own = record own { names = record own.names { count = count } }
+
+-- how many rows a batch has of each of its groups
+abbrev pub counts_of : Groups → List (Group × ℕ)
+counts_of batch = map (λ (e : Group × GroupRows). (e.0, e.1.count)) batch
+
+-- Two commits of one author and one maker of names, after the same tries, with as many rows of each group. They may
+-- differ in how the rows are stored.
+pub record AreAlike (one other : OwnView) : Type 0 where
+  pub author : one.author ≡ other.author
+  pub check : one.check ≡ other.check
+  pub names : one.names ≡ other.names
+  pub lost : one.lost ≡ other.lost
+  pub counts : counts_of one.batch ≡ counts_of other.batch
 
 -- how many tries there are, and how many files a try makes at most
 abbrev pub tries : ℕ

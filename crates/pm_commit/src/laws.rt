@@ -1,28 +1,31 @@
 //! Laws of committers.
 
-ghost use Rattle.std.specs.Prelude.{◌≡◌, List, Result, Some};
+ghost use Rattle.std.specs.Prelude.{◌≡◌, ◌⊎◌, List, [], ◌∷◌, ◌++◌, Result, Some, Err};
 ghost use Rattle.pm_values.specs.declared.refusal.Refusal.{Refusal};
+ghost use Rattle.pm_values.specs.declared.refusal.Refusal.TheVariants as refusals;
 ghost use Rattle.pm_store.specs.Answers.{Answers};
 ghost use Rattle.pm_store.specs.Files.{Files};
 ghost use Rattle.pm_store.specs.Store.{StoreView};
 ghost use Rattle.pm_store.specs.declared.answer.Answer.{Answer};
 ghost use Rattle.pm_store.specs.declared.call.Call.{Call};
 ghost use Rattle.pm_machine.specs.Moves.{Moves, Sound};
-ghost use Rattle.pm_machine.specs.Step.{Stepped};
-ghost use Rattle.pm_machine.specs.Trace.{Recounts};
+ghost use Rattle.pm_machine.specs.Step.{Stepped, path_of};
+ghost use Rattle.pm_machine.specs.Trace.{Event, Recounts, faulted};
 ghost use Rattle.pm_model_history.specs.Merge.{HistoryRow};
 ghost use Rattle.pm_schema.specs.declared.schema.TableSchema.{TableSchema as SchemaView};
 ghost use Rattle.pm_model_folder.specs.Changes.{Actor};
 ghost use Rattle.pm_model_folder.specs.Ledger.{Advances, Past, Stands};
+ghost use Rattle.pm_commit.specs.AllCalls.{DidAppend};
 ghost use Rattle.pm_commit.specs.Alone.{Beginning, KnewAlone, KnowsAlone};
 ghost use Rattle.pm_commit.specs.Committer.{next_call, Goes, IsCommitter, Refuses, Stops};
 ghost use Rattle.pm_commit.specs.Meaning.{IsOtherThan, Knows, MakesRows, MayRefuse};
-ghost use Rattle.pm_commit.specs.Own.{OwnView};
+ghost use Rattle.pm_commit.specs.Own.{AreAlike, OwnView};
 ghost use Rattle.pm_commit.specs.Trace.{Did, Shows};
+ghost use Rattle.pm_commit.specs.declared.all_calls.Appended.{Appended};
 ghost use Rattle.pm_commit.specs.declared.phase.Phase.{Phase};
 
 use pm_append::{append_law, own_files_law};
-use pm_manifest::{ManifestMeta, joined_law, read_entry_law};
+use pm_manifest::{Entry, ManifestMeta, joined_law, read_entry_law};
 use pm_model_contents::{one_contents_law, same_law};
 use pm_model_folder::{newest_law, unnamed_law};
 use pm_read_table::{entries_law, named_law};
@@ -90,4 +93,19 @@ pub fn causes_law()
     append_law();
     own_files_law();
     pm_read_table::causes_law();
+}
+
+/// The same calls of two commits that are alike show one answer at most, but that memory may have run out. So each other
+/// answer comes exactly where the calls are those that it names; and after a call that failed it is that failure.
+pub fn one_answer_law()
+    ensures one { (s : SchemaView) (first second : OwnView) → AreAlike first second → (own : List Event)
+        (one other : Result Appended Refusal) → DidAppend s first one own → DidAppend s second other own
+        → (one ≡ other) ⊎ ((one ≡ Err refusals.Memory) ⊎ (other ≡ Err refusals.Memory)) }
+    ensures failed { (s : SchemaView) (first : OwnView) (earlier : List Event) (call : Call)
+        (result : Result Appended Refusal) → DidAppend s first result (earlier ++ faulted call ∷ [])
+        → (result ≡ Err refusals.Memory) ⊎ (result ≡ Err (refusals.StoreFault (path_of call))) }
+{
+    joined_law();
+    one_reading_law::<ManifestMeta>();
+    one_reading_law::<Entry>();
 }

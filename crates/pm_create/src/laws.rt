@@ -1,7 +1,8 @@
 //! Laws of creators. Each holds with no call but of laws of crates below.
 
-ghost use Rattle.std.specs.Prelude.{◌≡◌, ◌≢◌, List, Some};
+ghost use Rattle.std.specs.Prelude.{List, Result, Some, ◌≡◌, ◌≢◌};
 ghost use Rattle.pm_create.specs.Creator.{next_call, NewTable};
+ghost use Rattle.pm_create.specs.Making.{DidMake};
 ghost use Rattle.pm_create.specs.Meaning.{Begins, Knows, Makes};
 ghost use Rattle.pm_create.specs.Trace.{Shows};
 ghost use Rattle.pm_create.specs.declared.phase.Phase.{Phase};
@@ -50,3 +51,10 @@ pub fn images_law()
     declared_law();
     schema_law();
 }
+
+/// Calls show one answer at most, whichever tables they make: where a table was made none was refused, and each refusal
+/// comes exactly where the last call ended as it says.
+pub fn one_answer_law()
+    ensures { (t u : NewTable) (own : List Event) (one other : Result (Unit {0}) Refusal) → DidMake t one own
+        → DidMake u other own → one ≡ other }
+{}

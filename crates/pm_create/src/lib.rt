@@ -28,7 +28,7 @@ mod names;
 mod phase;
 
 pub use creator::{CreateStep, Creator};
-pub use laws::{begins_law, causes_law, images_law, known_law};
+pub use laws::{begins_law, causes_law, images_law, known_law, one_answer_law};
 pub use making::create_table;
 pub use names::origin_name;
 pub use phase::Phase;

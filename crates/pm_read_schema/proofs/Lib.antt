@@ -1,5 +1,8 @@
 pub mod AllCallsLemmas
 pub mod Facts
 mod FaultLemmas
+pub mod IdLemmas
+pub mod LeadLemmas
 mod NameLemmas
+pub mod OneLemmas
 pub mod StillLemmas

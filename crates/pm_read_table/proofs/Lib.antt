@@ -7,4 +7,6 @@ pub mod ListedLemmas
 pub mod LiveLemmas
 pub mod TwoLemmas
 pub mod NamedLemmas
+pub mod OneLemmas
+mod OverlapLemmas
 pub mod WithinLemmas

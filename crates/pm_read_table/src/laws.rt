@@ -1,6 +1,6 @@
 //! Laws of readers of a view. Each holds with no call but of the laws of crates below.
 
-ghost use Rattle.std.specs.Prelude.{◌≡◌, ◌↔◌, ◌++◌, ℕ, ◌≤◌, List, Contains, Option, None, Some, IsSome};
+ghost use Rattle.std.specs.Prelude.{◌≡◌, ◌⊎◌, ◌↔◌, ◌++◌, ℕ, ◌≤◌, List, Contains, Option, None, Some, IsSome};
 ghost use Rattle.std.specs.FinMap as finite;
 ghost use Rattle.pm_model_folder.specs.Changes.{Actor};
 ghost use Rattle.pm_model_folder.specs.Entries.{AreLive};
@@ -17,6 +17,8 @@ ghost use Rattle.pm_schema.specs.declared.schema.TableSchema.{TableSchema};
 ghost use Rattle.pm_snapshot.specs.Names.{greatest};
 ghost use Rattle.pm_snapshot.specs.declared.snapshot.Snapshot.{Snapshot};
 ghost use Rattle.pm_values.specs.declared.refusal.Refusal.{Refusal};
+ghost use Rattle.pm_values.specs.declared.refusal.Refusal.TheVariants as refusals;
+ghost use Rattle.pm_machine.specs.Trace.{Event};
 ghost use Rattle.pm_store.specs.Answers.{Answers};
 ghost use Rattle.pm_store.specs.declared.answer.Answer.{Answer};
 ghost use Rattle.pm_store.specs.declared.answer.Answer.TheVariants as answers;
@@ -28,6 +30,7 @@ ghost use Rattle.pm_read_table.specs.Asked.{Asked};
 ghost use Rattle.pm_read_table.specs.Meaning.{IsKept, Knows, KnowsListed, MayRefuse};
 ghost use Rattle.pm_read_table.specs.Named.{named_paths, parts_of};
 ghost use Rattle.pm_read_table.specs.Reader.{next_call, Shown};
+ghost use Rattle.pm_read_table.specs.Trace.{Shows};
 ghost use Rattle.pm_read_table.specs.View.{live_entries};
 ghost use Rattle.pm_read_table.specs.declared.phase.Phase.{Phase};
 ghost use Rattle.pm_read_table.specs.declared.phase.Phase.TheVariants as phases;
@@ -94,3 +97,14 @@ pub fn images_law()
     ensures { (m : Phase) (call : Call) (f image : Files) (p : Past) → next_call m ≡ Some call
         → MayLeave call f image → IsKept f p image p }
 {}
+
+/// The same calls of a reader that was asked the same show one refusal at most, but that memory may have run out. So
+/// each other refusal comes exactly where the calls are those that it names.
+pub fn one_refusal_law()
+    ensures { (a : Asked) (own : List Event) (one other : Refusal) → Shows a one own → Shows a other own
+        → (one ≡ other) ⊎ ((one ≡ refusals.Memory) ⊎ (other ≡ refusals.Memory)) }
+{
+    joined_law();
+    one_reading_law::<ManifestMeta>();
+    one_reading_law::<Entry>();
+}

@@ -29,7 +29,8 @@ mod within;
 pub use after::read_named;
 pub use asked::{Asked, Sought, Wanted};
 pub use laws::{
-    absent_law, causes_law, entries_law, images_law, known_law, listed_law, named_law, sought_law,
+    absent_law, causes_law, entries_law, images_law, known_law, listed_law, named_law,
+    one_refusal_law, sought_law,
 };
 pub use phase::Phase;
 pub use reader::{

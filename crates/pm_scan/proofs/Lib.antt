@@ -12,3 +12,4 @@ mod ViewLemmas
 mod AllCallsLemmas
 mod NextLemmas
 mod ViewCallsLemmas
+pub mod OneLemmas

@@ -84,7 +84,7 @@ none-found g (e ∷ groups) others =
     ] refl
 
 -- a group without a live file has no runs
-no-runs : (live : Live) (g : Group) (runs : List RunView) → AreRunsOf live g runs → ((e : files.Entry) → IsLive live e → e.group ≡ g → ⊥) → runs ≡ []
+pub no-runs : (live : Live) (g : Group) (runs : List RunView) → AreRunsOf live g runs → ((e : files.Entry) → IsLive live e → e.group ≡ g → ⊥) → runs ≡ []
 no-runs live g [] are none = refl
 no-runs live g (run ∷ runs) are none = absurd (by_files run.files are.made.each.0.some (λ m here. are-none m (Contains-permutation (files_of (run ∷ runs)) are.files m (IsPermutation-sym are.files (files_of (run ∷ runs)) are.made.whole) here)))
   where

@@ -13,6 +13,9 @@ use Rattle.pm_machine.specs.Trace.{Event}
 use Rattle.pm_model_history.specs.History.{History, IsTableOf, no_table, rows_up_to, table}
 use Rattle.pm_model_history.specs.Merged.{scan_text}
 use Rattle.pm_schema.specs.declared.schema.TableSchema.{TableSchema}
+use Rattle.pm_engine.specs.Covers.{Run}
+use Rattle.pm_engine.specs.OfSchema.{meaning_of}
+use Rattle.pm_scan_rows.specs.Shown.{PrintsGroups}
 use Rattle.pm_model_folder.specs.Folder.{Folder}
 use Rattle.pm_model_folder.specs.Ledger.{count_of}
 use Rattle.pm_model_folder.specs.Paths.{origin_path, snapshot_path}
@@ -51,6 +54,13 @@ Ends a (Err refusal) own = Shows a refusal own
 abbrev pub DidScan : TableSchema → Option ℕ → Result (List ℕ) Refusal → List Event → Type 0
 DidScan s at result own = (earlier later : List Event) × Has s earlier × (own ≡ earlier ++ later)
     × Ends (asked_at s at) result later
+
+-- Both are texts of the same runs: these make one text where their rows are those of a table, and may make several where
+-- rows of a key have no meaning together.
+abbrev pub PrintAlike : Result (List ℕ) Refusal → Result (List ℕ) Refusal → Type 0
+PrintAlike (Ok text) (Ok other) = (s : TableSchema) × (groups : List (List Run))
+    × PrintsGroups (meaning_of s) groups text × PrintsGroups (meaning_of s) groups other
+PrintAlike one other = ⊥
 
 -- the id that is asked for, where this is the latest
 abbrev pub id_of : Option ℕ → ℕ → ℕ

@@ -1,6 +1,6 @@
 //! Laws of scanners.
 
-ghost use Rattle.std.specs.Prelude.{◌≡◌, List, [], ◌∷◌, ℕ, Option, None, Some, Result};
+ghost use Rattle.std.specs.Prelude.{◌≡◌, ◌⊎◌, List, [], ◌∷◌, ◌++◌, ℕ, Option, None, Some, Result, Err};
 ghost use Rattle.std.specs.BTreeMap.{IsOrdered};
 ghost use Rattle.std.specs.FinMap as map;
 ghost use Rattle.pm_values.specs.GroupOrder.{group_cmp};
@@ -17,11 +17,13 @@ ghost use Rattle.pm_store.specs.Files.{Files};
 ghost use Rattle.pm_store.specs.Images.{MayLeave};
 ghost use Rattle.pm_read_table.specs.Meaning.{HasGone, IsKept, IsViewIn, MayRefuse};
 ghost use Rattle.pm_read_table.specs.declared.view.View.{View};
-ghost use Rattle.pm_machine.specs.Trace.{HasTrace};
+ghost use Rattle.pm_machine.specs.Step.{path_of};
+ghost use Rattle.pm_machine.specs.Trace.{Event, HasTrace, faulted};
 ghost use Rattle.pm_schema.specs.Again.{IsDeclared};
 ghost use Rattle.pm_store.specs.Store.{StoreView};
 ghost use Rattle.pm_values.specs.declared.refusal.Refusal.{Refusal};
-ghost use Rattle.pm_scan.specs.AllCalls.{DidScan, ScansTables};
+ghost use Rattle.pm_values.specs.declared.refusal.Refusal.TheVariants as refusals;
+ghost use Rattle.pm_scan.specs.AllCalls.{DidScan, PrintAlike, ScansTables};
 ghost use Rattle.pm_scan.specs.Collected.{Collected, Takes, nothing_of};
 ghost use Rattle.pm_scan.specs.Jobs.{all_jobs};
 ghost use Rattle.pm_scan.specs.Meaning.{HaveTaken, IsReadingOf, IsScan, Knows};
@@ -30,6 +32,7 @@ ghost use Rattle.pm_scan.specs.Scanner.{next_call, Shown};
 ghost use Rattle.pm_scan.specs.declared.job.Job.{Job};
 ghost use Rattle.pm_scan.specs.declared.phase.Phase.{Phase};
 
+use pm_avro_file::one_opening_law;
 use pm_manifest::{Entry, ManifestMeta, joined_law};
 use pm_model_contents::{one_contents_law, one_runs_law};
 use pm_record::one_reading_law;
@@ -65,6 +68,26 @@ pub fn causes_law()
     order_law();
     pm_run::reading_law();
     scan_law();
+}
+
+/// The same calls of a scan show one answer at most, but that memory may have run out, and that their text is one of
+/// those that the same runs print. So each refusal comes exactly where the calls are those that it names; and after a
+/// call that failed it is that one.
+pub fn one_answer_law()
+    ensures one { (s : TableSchema) (at : Option ℕ) (own : List Event) (one other : Result (List ℕ) Refusal)
+        → DidScan s at one own → DidScan s at other own
+        → (one ≡ other)
+        ⊎ ((one ≡ Err refusals.Memory) ⊎ ((other ≡ Err refusals.Memory) ⊎ PrintAlike one other)) }
+    ensures failed { (s : TableSchema) (at : Option ℕ) (earlier : List Event) (call : Call)
+        (result : Result (List ℕ) Refusal) → DidScan s at result (earlier ++ faulted call ∷ [])
+        → (result ≡ Err refusals.Memory) ⊎ (result ≡ Err (refusals.StoreFault (path_of call))) }
+{
+    joined_law();
+    one_reading_law::<ManifestMeta>();
+    one_reading_law::<Entry>();
+    one_runs_law();
+    one_opening_law();
+    one_list_law();
 }
 
 /// What is known of a view and of its files, whatever others do: once the view was read; once its next file was; once

@@ -27,7 +27,7 @@ mod scanner;
 pub use all_calls::scan_table;
 pub use collected::Collected;
 pub use job::{Ends, Job};
-pub use laws::{causes_law, images_law, known_law};
+pub use laws::{causes_law, images_law, known_law, one_answer_law};
 pub use phase::Phase;
 pub use reading::Reading;
 pub use scanner::{Scanner, into_text, is_scan_ready, newest_scan, scan_at};

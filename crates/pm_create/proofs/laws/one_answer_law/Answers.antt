@@ -1,0 +1,5 @@
+use Rattle.pm_create.proofs.OneLemmas.{one_answer}
+use Rattle.pm_create.proofs.laws.one_answer_law.Goals as goal
+
+pub returns : goal.returns
+returns c = one_answer
