@@ -15,7 +15,7 @@ use pm_values::Stamped;
 use std::alloc::{AllocError, Global};
 
 /// One stored row for each key that rows have, by rising key. A stored row has the greatest number of its rows, and
-/// their kind, so that there is one such run (`stored_law`).
+/// their kind.
 pub fn reduce<E: MergeEngine>(
     alloc: Global,
     engine: &E,

@@ -10,8 +10,8 @@
 //!   the first folder on a path's way. So a folder that isn't empty has its name there.
 //! - Files of `manifest` and of a bucket are reached only by their names in files of other folders. A change there only
 //!   *owes* its file and that one's folder, and each change elsewhere first has all of these on the disk, before it
-//!   names a file of theirs. A power loss may so take away what nothing names yet, leave any part of its bytes, or bring
-//!   back what was taken away: as if the call hadn't come, or had been cut short.
+//!   names a file of theirs. A power loss may so take away what nothing names yet, leave any part of its bytes, or
+//!   bring back what was taken away: as if the call hadn't come, or had been cut short.
 //! - A change elsewhere is on the disk before it is answered.
 //! - A look into a folder whose files are named elsewhere syncs nothing: what names a file came to the disk after it. A
 //!   look elsewhere is on the disk before it is answered: the folder is synced where it changed since this process last

@@ -1,5 +1,5 @@
-//! What the store asks of an operating system. Each function is one call of it, so that a double can stand in which
-//! records the calls and fails those that it is told to.
+//! What the store asks of an operating system. Each function is one call of it, or a few that decide nothing, so that a
+//! double can stand in which records the calls and fails those that it is told to.
 
 ghost use Rattle.std.specs.Prelude.{◌≡◌, ◌↔◌};
 ghost use Rattle.pm_folder_store.specs.declared.host.HostError.TheVariants as errors;
