@@ -95,8 +95,8 @@ pub fn causes_law()
     pm_read_table::causes_law();
 }
 
-/// The same calls of two commits that are alike show one answer at most, but that memory may have run out. So each other
-/// answer comes exactly where the calls are those that it names; and after a call that failed it is that failure.
+/// The same calls of two commits that are alike show one answer at most, but that memory may have run out. So each
+/// other answer comes exactly where the calls are those that it names; and after a call that failed it is that failure.
 pub fn one_answer_law()
     ensures one { (s : SchemaView) (first second : OwnView) → AreAlike first second → (own : List Event)
         (one other : Result Appended Refusal) → DidAppend s first one own → DidAppend s second other own

@@ -14,9 +14,9 @@
 //! What readers rely on while others act is in `specs/Ledger.antt`: beside the history, the files as they stood when
 //! each snapshot was committed. What a snapshot needs is absent or has those bytes, also once the snapshot has gone.
 //! It has the groups' runs too, from the snapshot on that was the newest when the folder was found, and how those of
-//! each next one follow. `found_law` leads from a folder that is found to one with such a past, and `past_law` says that
-//! each change keeps it. `beside_law` says that each change which adds no entry, and makes no file that a known snapshot
-//! needs, is a step of it, and `still_law` where those runs stand that a compaction took at a snapshot of it.
+//! each next one follow. `found_law` leads from a folder that is found to one with such a past, and `past_law` says
+//! that each change keeps it. `beside_law` says that each change which adds no entry, and makes no file that a known
+//! snapshot needs, is a step of it, and `still_law` where those runs stand that a compaction took at a snapshot of it.
 #![tactic(auto)]
 
 mod laws;

@@ -55,8 +55,8 @@ abbrev pub DidScan : TableSchema → Option ℕ → Result (List ℕ) Refusal �
 DidScan s at result own = (earlier later : List Event) × Has s earlier × (own ≡ earlier ++ later)
     × Ends (asked_at s at) result later
 
--- Both are texts of the same runs: these make one text where their rows are those of a table, and may make several where
--- rows of a key have no meaning together.
+-- Both are texts of the same runs: these make one text where their rows are those of a table, and may make several
+-- where rows of a key have no meaning together.
 abbrev pub PrintAlike : Result (List ℕ) Refusal → Result (List ℕ) Refusal → Type 0
 PrintAlike (Ok text) (Ok other) = (s : TableSchema) × (groups : List (List Run))
     × PrintsGroups (meaning_of s) groups text × PrintsGroups (meaning_of s) groups other
