@@ -17,6 +17,7 @@ use Rattle.pm_snapshots.specs.Meaning as snapshots
 use Rattle.pm_snapshots.specs.declared.phase.Phase as listing
 use Rattle.pm_snapshots.specs.declared.phase.Phase.TheVariants as listers
 use Rattle.pm_read_table.specs.Asked.{Asked}
+use Rattle.pm_read_table.specs.Meaning.{IsKept}
 use Rattle.pm_read_table.specs.declared.phase.Phase.TheVariants as readers
 use Rattle.pm_scan.specs.Meaning as scan
 use Rattle.pm_scan.specs.declared.phase.Phase as scanning
@@ -48,7 +49,7 @@ actor_of (commits rows m) = option_map owner.actor_of (commit.own_in m)
 abbrev pub Leaves : Worker → Files → Past → Files → Past → Type 0
 Leaves (creates t m) f p after later = create.Makes t f p after later
 Leaves (lists me m) f p after later = snapshots.Leaves m f p after later
-Leaves (scans me m) f p after later = scan.LeavesFiles m f p after later
+Leaves (scans me m) f p after later = IsKept f p after later
 Leaves (commits rows m) f p after later = commit.MakesRows rows m f p after later
 
 -- what it knows of the files and of what they stand for
