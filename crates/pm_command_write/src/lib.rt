@@ -5,8 +5,10 @@
 #![tactic(auto)]
 
 mod input;
+mod laws;
 mod write;
 mod writer;
 
+pub use laws::one_answer_law;
 pub use write::{Written, run_write};
 pub use writer::Writer;
