@@ -56,13 +56,14 @@ as_listing h at first after (refusals.Expired id) may = absurd may
 as_listing h at first after e may = may
 
 scan_caused : (f : Files) (s : TableSchema) (h : History) (at : Option ℕ) (first after : StoreView) (e : Refusal) → HasFiles f first → IsTableOf s h
-    → scanner.IsCaused f s h at first after e → MayRefuse h at first after e
-scan_caused f s h at first after refusals.Memory has is cause = tt
-scan_caused f s h at first after (refusals.StoreFault path) has is cause = cause
-scan_caused f s h at first after (refusals.NoSnapshot id latest) has is cause = cause
-scan_caused f s h at first after (refusals.Expired id) has is (asked, within, gone) =
-    (asked, within, (s, is, leaves_of (λ f. map.get f (path_of s id) ≡ None) f first has gone))
-scan_caused f s h at first after e has is cause = absurd cause
+    → IsBuilt s → scanner.IsCaused f s h at first after e → MayRefuse h at first after e
+scan_caused f s h at first after refusals.Memory has is built cause = tt
+scan_caused f s h at first after (refusals.StoreFault path) has is built cause = cause
+scan_caused f s h at first after (refusals.NoSnapshot id latest) has is built (asked, newest, above) =
+    ((s, is, built), asked, newest, above)
+scan_caused f s h at first after (refusals.Expired id) has is built (asked, within, gone) =
+    ((s, is, built), asked, within, (s, is, leaves_of (λ f. map.get f (path_of s id) ≡ None) f first has gone))
+scan_caused f s h at first after e has is built cause = absurd cause
 
 -- ---- what its calls do to histories
 
@@ -87,18 +88,18 @@ is_there f s h id first has is (within, there) =
     (within, (s, is, leaves_of (λ f. IsSome (map.get f (path_of s id))) f first has there))
 
 scanned_makes : (f : Files) (h : History) (s : TableSchema) (at : Option ℕ) (first after : StoreView) (made : Result (List ℕ) Refusal) → HasFiles f first
-    → scanner.ScansTable f h s at first after made → MakesText h at first after made
-scanned_makes f h s at first after (Ok text) has scans =
+    → IsBuilt s → scanner.ScansTable f h s at first after made → MakesText h at first after made
+scanned_makes f h s at first after (Ok text) has built scans =
     (is_there f s h (id_of at (count_of h)) first has scans.schema scans.there, scans.text)
-scanned_makes f h s at first after (Err e) has scans = scan_caused f s h at first after e has scans.schema scans.cause
+scanned_makes f h s at first after (Err e) has built scans = scan_caused f s h at first after e has scans.schema built scans.cause
 
-pub scanned_keeps : (at : Option ℕ) (s : TableSchema) (made : Result (List ℕ) Refusal) (before after : StoreView) → scanner.ScansTables s at before after made
+pub scanned_keeps : (at : Option ℕ) (s : TableSchema) (made : Result (List ℕ) Refusal) (before after : StoreView) → IsBuilt s → scanner.ScansTables s at before after made
     → KeepsHistories at before after made
-scanned_keeps at s made before after scans = λ alone h stands.
+scanned_keeps at s made before after built scans = λ alone h stands.
     let first = at_first_own before after in
     let files = files_of (λ f. Folder f h) first stands in
     let scan = scans alone files.0 h files.1 files.2 in
-    keeps h at files.0 first after made files.1 files.2 scan.files (scanned_makes files.0 h s at first after made files.1 scan)
+    keeps h at files.0 first after made files.1 files.2 scan.files (scanned_makes files.0 h s at first after made files.1 built scan)
 
 -- ---- and what was printed
 

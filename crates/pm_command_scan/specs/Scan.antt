@@ -54,11 +54,17 @@ abbrev pub IsThere : History → ℕ → StoreView → Type 0
 IsThere h id first = (id ≤ count_of h)
     × ((s : TableSchema) × IsTableOf s h × LeavesFiles (λ f. IsSome (map.get f (path_of s id))) first)
 
--- What a history may be refused for: the snapshot that is asked for is above the newest, or has gone; or why
--- each command may refuse a table (`MayRefuse` of `pm_command`).
+-- the history's table is built
+abbrev pub HasBuiltTable : History → Type 0
+HasBuiltTable h = (s : TableSchema) × IsTableOf s h × IsBuilt s
+
+-- What a history may be refused for: the snapshot that is asked for, of a table that is built, is above the newest or
+-- has gone; or why each command may refuse a table (`MayRefuse` of `pm_command`).
 abbrev pub MayRefuse : History → Option ℕ → StoreView → StoreView → Refusal → Type 0
-MayRefuse h at first after (refusals.NoSnapshot id latest) = (at ≡ Some id) × (latest ≡ count_of h) × (latest < id)
-MayRefuse h at first after (refusals.Expired id) = (at ≡ Some id) × (id ≤ count_of h) × HasGone h id first
+MayRefuse h at first after (refusals.NoSnapshot id latest) =
+    HasBuiltTable h × (at ≡ Some id) × (latest ≡ count_of h) × (latest < id)
+MayRefuse h at first after (refusals.Expired id) =
+    HasBuiltTable h × (at ≡ Some id) × (id ≤ count_of h) × HasGone h id first
 MayRefuse h at first after other = tables.MayRefuse h first after other
 
 -- the scan of the history's table was printed, at the newest snapshot or at the one that is asked for

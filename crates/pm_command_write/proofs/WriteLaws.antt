@@ -263,25 +263,25 @@ of-lines s room (l ∷ lines) e is = elim (of-both (taken_at s room l) (taken_in
 ]
 
 line_spoils : (start : Start) (w : Writer) (lines : Lines) (h : History) (s : TableSchema) (first after : StoreView) (e : Refusal) → IsTableOf s h
-    → all_taken s lines ≡ Err e → IsOfLines e → Rests h first after → Spoils start w lines h first after e
-line_spoils start w lines h s first after (refusals.BadLine number why column) is refused of left = ((s, is, refused), left)
-line_spoils start w lines h s first after (refusals.Retraction number column) is refused of left = ((s, is, refused), left)
-line_spoils start w lines h s first after (refusals.Limit which number) is refused of left = (inl (s, is, refused), left)
-line_spoils start w lines h s first after other is refused of left = absurd of
+    → IsBuilt s → all_taken s lines ≡ Err e → IsOfLines e → Rests h first after → Spoils start w lines h first after e
+line_spoils start w lines h s first after (refusals.BadLine number why column) is built refused of left = ((s, is, built, refused), left)
+line_spoils start w lines h s first after (refusals.Retraction number column) is built refused of left = ((s, is, built, refused), left)
+line_spoils start w lines h s first after (refusals.Limit which number) is built refused of left = (inl (s, is, built, refused), left)
+line_spoils start w lines h s first after other is built refused of left = absurd of
 
 why_spoils : (start : Start) (w : Writer) (lines : Lines) (h : History) (s : TableSchema) (first after : StoreView) (e : Refusal) → IsTableOf s h
-    → (e ≡ refusals.Memory) ⊎ (all_taken s lines ≡ Err e) → Rests h first after → Spoils start w lines h first after e
-why_spoils start w lines h s first after e is (inl memory) left = subst (Spoils start w lines h first after) (sym memory) left.folder
-why_spoils start w lines h s first after e is (inr refused) left =
-    line_spoils start w lines h s first after e is refused (of-lines s limits.rows lines e refused) left
+    → IsBuilt s → (e ≡ refusals.Memory) ⊎ (all_taken s lines ≡ Err e) → Rests h first after → Spoils start w lines h first after e
+why_spoils start w lines h s first after e is built (inl memory) left = subst (Spoils start w lines h first after) (sym memory) left.folder
+why_spoils start w lines h s first after e is built (inr refused) left =
+    line_spoils start w lines h s first after e is built refused (of-lines s limits.rows lines e refused) left
 
-pub lines_keeps : (start : Start) (w : Writer) (lines : Lines) (s : TableSchema) (e : Refusal) (before after : StoreView)
+pub lines_keeps : (start : Start) (w : Writer) (lines : Lines) (s : TableSchema) (e : Refusal) (before after : StoreView) → IsBuilt s
     → (e ≡ refusals.Memory) ⊎ (all_taken s lines ≡ Err e) → ReadsTables before after (Ok s) → KeepsHistories start w lines before after (Err e)
-lines_keeps start w lines s e before after why reads = λ alone h begins.
+lines_keeps start w lines s e before after built why reads = λ alone h begins.
     let first = at_first_own before after in
     let files = files_of (MayStart (actor start) h) first begins in
     let read = reads alone files.0 h files.1 files.2.0 in
-    stay_keeps start w lines h files.0 first after (Err e) files.1 files.2.0 read.files (λ left. why_spoils start w lines h s first after e read.schema why left)
+    stay_keeps start w lines h files.0 first after (Err e) files.1 files.2.0 read.files (λ left. why_spoils start w lines h s first after e read.schema built why left)
 
 pub nothing_keeps : (start : Start) (w : Writer) (lines : Lines) (s : TableSchema) (before after : StoreView) → all_taken s lines ≡ Ok []
     → ReadsTables before after (Ok s) → KeepsHistories start w lines before after (Ok written.Nothing)

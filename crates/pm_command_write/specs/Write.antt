@@ -211,9 +211,9 @@ Becomes start w lines h first after (written.Committed id) =
     × LeavesFiles (λ f. LeavesFiles (BeginsWith start w lines h (IsCommittedTo f)) first) after
     × LeavesFiles (HasRows start w lines h) after
 
--- a line of the input is the first that the history's table refuses
+-- the history's table is built, and a line of the input is the first that it refuses
 abbrev pub RefusesLines : History → Lines → Refusal → Type 0
-RefusesLines h lines e = (s : TableSchema) × IsTableOf s h × (all_taken s lines ≡ Err e)
+RefusesLines h lines e = (s : TableSchema) × IsTableOf s h × IsBuilt s × (all_taken s lines ≡ Err e)
 
 -- the newest snapshot that was there at first gives this reason against the commit of the lines
 abbrev pub GivesAgainst : Start → Writer → Lines → History → Refusal → StoreView → Type 0

@@ -33,5 +33,5 @@ returns-clause-trace g c =
 pub returns-clause-history : goal.returns-clause-history
 returns-clause-history g c =
     scanned_keeps c.args.snapshot c.in_ok-schema.schema (text_in c.scan_table.result) (g.F.FileStore.seen c.args.store.now)
-    (g.F.FileStore.seen c.scan_table.new.store)
+    (g.F.FileStore.seen c.scan_table.new.store) c.in_ok-judge.ensures.built
     (c.scan_table.ensures.history (g.F.FileStore.seen c.args.store.now) c.in_ok-schema.ensures.trace)

@@ -48,7 +48,7 @@ returns-in_err-batch-clause-history g c =
     let lines = map line_view c.args.lines.now in
     rw (p.1, p.2)
     (lines_keeps c.args.start.now c.args.writer lines c.in_ok-schema.schema
-    c.in_err-batch.field-0.0 (g.F.FileStore.seen c.args.store.now) (g.F.FileStore.seen c.read_table_schema.new.store)
+    c.in_err-batch.field-0.0 (g.F.FileStore.seen c.args.store.now) (g.F.FileStore.seen c.read_table_schema.new.store) c.in_ok-judge.ensures.built
     (why_refused c.in_err-batch.field-0.0 (all_taken c.in_ok-schema.schema lines) c.in_err-batch.ensures) c.in_ok-schema.ensures.history)
 
 pub returns-then-is_empty-clause-trace : goal.returns-then-is_empty-clause-trace
@@ -72,7 +72,7 @@ returns-in_err-committer-clause-history g c =
     let p = err_from_is_err_and c.from_residual-in_err-committer.result c.from_residual-in_err-committer.ensures.1 in
     rw (p.1, p.2)
     (lines_keeps c.args.start.now c.args.writer (map line_view c.args.lines.now) c.in_ok-schema.schema
-    refusals.Memory (g.F.FileStore.seen c.args.store.now) (g.F.FileStore.seen c.read_table_schema.new.store) (inl refl) c.in_ok-schema.ensures.history)
+    refusals.Memory (g.F.FileStore.seen c.args.store.now) (g.F.FileStore.seen c.read_table_schema.new.store) c.in_ok-judge.ensures.built (inl refl) c.in_ok-schema.ensures.history)
 
 pub returns-in-Ok-Committed-clause-trace : goal.returns-in-Ok-Committed-clause-trace
 returns-in-Ok-Committed-clause-trace g c =
