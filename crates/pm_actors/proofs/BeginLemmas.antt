@@ -24,7 +24,8 @@ use Rattle.pm_actors.specs.World.{AllKnow, BeginsCommit, Knows, MayBegin, Worker
 
 -- what the law of a folder that is found says
 abbrev pub Found : Type 0
-Found = (f : Files) (h : History) → Folder f h → (p : Past) × (p.history ≡ h) × Stands f p × ((id : ℕ) → p.stood id ≡ f)
+Found = (f : Files) (h : History) → Folder f h
+    → (p : Past) × (p.history ≡ h) × Stands f p × ((id : ℕ) → p.stood id ≡ f) × (p.since ≡ count_of h)
 
 module _ (f : Files) (p : Past) (stood : (id : ℕ) → p.stood id ≡ f) where
   creator_begins : (t : NewTable) (m : creating.Phase) → IsCreator t m → calls_left m ≡ 2 → IsNoOrigin p.history (own_origin t.me) → create.Knows t m f p

@@ -332,13 +332,14 @@ went_on s own result first middle after (earlier, has, trace) (later, does, rest
 
 -- what the law of a folder that is found says
 abbrev pub FoundPast : Type 0
-FoundPast = (f : Files) (h : History) → Folder f h → (p : Past) × (p.history ≡ h) × Stands f p × ((id : ℕ) → p.stood id ≡ f)
+FoundPast = (f : Files) (h : History) → Folder f h
+    → (p : Past) × (p.history ≡ h) × Stands f p × ((id : ℕ) → p.stood id ≡ f) × (p.since ≡ count_of h)
 
 -- at first the committer knows its rows, and that no snapshot names a file of its actor
 first-known : FoundPast → (s : TableSchema) (b : Beginning) (f : Files) → f ≡ b.files → IsCommitter (phases.Names b.own s) → MayBegin s b
     → IsTableOf s b.history → KnewFiles b (phases.Names b.own s) f
 first-known found s b f same is begin table_is =
-    let (past, history, stands, stood) = found b.files b.history begin.start.0 in
+    let (past, history, stands, stood, since) = found b.files b.history begin.start.0 in
     let named : (who : Actor) → NamesNone who b.history b.files → HasNamedNone who past = λ who none t id path at known names by.
     none t id path (subst (IsTableOf t) history at) known.after_origin (subst (λ (h : History). id ≤ count_of h) history known.to)
     (subst (λ (f : Files). Names f t id path) (stood id) names) by in

@@ -10,27 +10,21 @@ use Rattle.pm_store.specs.declared.call.Call.TheVariants as calls
 use Rattle.pm_store.specs.declared.call.Effect.{Effect}
 use Rattle.pm_store.specs.declared.call.Effect.TheVariants as effects
 use Rattle.pm_store.proofs.ChangeLaws.{Puts-insert}
-use Rattle.pm_model_history.specs.History.{History, no_table, table}
 use Rattle.pm_model_history.specs.Merge.{HistoryRow}
 use Rattle.pm_schema.specs.declared.schema.TableSchema.{TableSchema}
-use Rattle.pm_model_folder.specs.Changes.{Actor, IsNamedBy, IsNoOrigin, IsOwn}
+use Rattle.pm_model_folder.specs.Changes.{Actor, IsNamedBy, IsOwn}
 use Rattle.pm_model_folder.specs.Ledger.{Past}
 use Rattle.pm_model_folder.proofs.Facts.{there-absent}
-use Rattle.pm_append.specs.Commit.{Attempt, IsBuilt, MakesNames}
-use Rattle.pm_append.specs.Files.{IsAppendOf}
+use Rattle.pm_append.specs.Commit.{Attempt}
 use Rattle.pm_append.specs.declared.newest.CommitFile.{CommitFile}
 use Rattle.pm_commit.specs.Meaning.{IsFenced, IsPut, KnowsOwn, KnowsTry, MakesOwn}
 use Rattle.pm_commit.specs.Own.{IsTried, OwnView, actor_of}
 use Rattle.pm_commit.specs.declared.making.Publishing.{Publishing}
 use Rattle.pm_commit.proofs.AdvanceLemmas.{own-advances}
 use Rattle.pm_commit.proofs.MadeLemmas.{IsInTable, made-in}
-use Rattle.pm_commit.proofs.PathLemmas.{InTable, named-by, not-snapshot}
+use Rattle.pm_commit.proofs.PathLemmas.{InTable, named-by, no-origin}
 use Rattle.pm_commit.proofs.PublishLemmas.{own-same}
-
--- what the law of a commit's own files says
-abbrev pub OwnFiles : Type 0
-OwnFiles = (me : Actor) (s : TableSchema) (t : Attempt) → IsBuilt s → MakesNames me t → IsAppendOf s t.newest t.author t.batch t.names t.made
-    → AllByRecursion (λ (file : CommitFile). IsOwn me file.path) t.made.files.items
+use Rattle.pm_commit.proofs.StillLemmas.{OwnFiles}
 
 -- a create is answered so where its path was absent
 pub created-absent : (at : Option (List ℕ)) → creates.Created ≡ made_at at → at ≡ None
@@ -40,10 +34,6 @@ created-absent (Some found) e = cc
 all-at : (P : CommitFile → Type 0) (before after : List CommitFile) (file : CommitFile) → AllByRecursion P (before ++ file ∷ after) → P file
 all-at P [] after file all = all.0
 all-at P (other ∷ before) after file all = all-at P before after file all.1
-
-no-origin : (h : History) (path : List ℕ) → InTable path → IsNoOrigin h path
-no-origin no_table path at = tt
-no-origin (table s entries) path at = λ name is. not-snapshot name path at
 
 module _ (own_files : OwnFiles) (own : OwnView) (rows : List HistoryRow) (x : Publishing) (file : CommitFile) (left : List CommitFile) (f : Files) (p : Past)
     (tried : IsTried x.schema own) (known : KnowsOwn own rows x.schema p) (is_try : KnowsTry own rows x (file ∷ left) f p) where

@@ -43,7 +43,8 @@ use Rattle.pm_commit.specs.declared.phase.Phase.{Phase}
 use Rattle.pm_commit.specs.declared.phase.Phase.TheVariants as phases
 use Rattle.pm_commit.proofs.AdvanceLemmas.{NamedPaths}
 use Rattle.pm_commit.proofs.CommitterLemmas.{asked-same, begun-own, ok-err, ok-same, ready-schema, still-committer}
-use Rattle.pm_commit.proofs.CreateLemmas.{OwnFiles, create-keeps, created-absent, created-try, put-makes}
+use Rattle.pm_commit.proofs.CreateLemmas.{create-keeps, created-absent, created-try, put-makes}
+use Rattle.pm_commit.proofs.StillLemmas.{OwnFiles}
 use Rattle.pm_commit.proofs.FoundLemmas.{LiveEntries}
 use Rattle.pm_commit.proofs.KnownLemmas.{begun-known, count-bound, create-known, hears-known, lost-known, makes-known, tries-known, view-within}
 use Rattle.pm_commit.proofs.OriginLemmas.{origin-on}

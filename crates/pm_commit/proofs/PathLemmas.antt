@@ -5,6 +5,7 @@ use Rattle.std.proofs.lemmas.Fmt.{decimal_injective}
 use Rattle.std.proofs.lemmas.List.{append_cancel_left}
 use Rattle.pm_store.specs.Files.{Files}
 use Rattle.pm_values.specs.declared.group.Group.{Group}
+use Rattle.pm_model_history.specs.History.{History, no_table, table}
 use Rattle.pm_schema.specs.Folder.{parts_text}
 use Rattle.pm_schema.specs.declared.schema.TableSchema.{TableSchema}
 use Rattle.pm_snapshot.specs.Names.{greatest}
@@ -12,7 +13,7 @@ use Rattle.pm_snapshot.specs.declared.snapshot.Snapshot.{Snapshot}
 use Rattle.pm_model_contents.specs.Lists.{manifest_path}
 use Rattle.pm_model_contents.specs.Named.{Contents, IsNamed, base_list, changelog_list, changes_file, data_file, delta_list, manifest}
 use Rattle.pm_model_contents.specs.Runs.{data_path}
-use Rattle.pm_model_folder.specs.Changes.{Actor, IsNamedBy, IsOwn, its_file, its_origin, origin_name}
+use Rattle.pm_model_folder.specs.Changes.{Actor, IsNamedBy, IsNoOrigin, IsOwn, its_file, its_origin, origin_name}
 use Rattle.pm_model_folder.specs.Commits.{Names}
 use Rattle.pm_model_folder.specs.Paths.{schema_path, snapshot_file, snapshot_path}
 
@@ -23,6 +24,11 @@ InTable path = (get_or path 0 0 ≡ 109) ⊎ (get_or path 0 0 ≡ 98)
 pub not-snapshot : (name path : List ℕ) → InTable path → snapshot_file name ≢ path
 not-snapshot name path (inl first) e = let clash : 115 ≡ 109 = ap (λ (l : List ℕ). get_or l 0 0) e ∙ first in omega (arith, clash)
 not-snapshot name path (inr first) e = let clash : 115 ≡ 98 = ap (λ (l : List ℕ). get_or l 0 0) e ∙ first in omega (arith, clash)
+
+-- so it is no table's origin
+pub no-origin : (h : History) (path : List ℕ) → InTable path → IsNoOrigin h path
+no-origin no_table path at = tt
+no-origin (table s entries) path at = λ name is. not-snapshot name path at
 
 pub not-schema : (id : ℕ) (path : List ℕ) → InTable path → schema_path id ≢ path
 not-schema id path (inl first) e = let clash : 115 ≡ 109 = ap (λ (l : List ℕ). get_or l 0 0) e ∙ first in omega (arith, clash)

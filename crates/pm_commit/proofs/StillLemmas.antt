@@ -6,29 +6,57 @@ use Rattle.pm_store.specs.Files.{Files}
 use Rattle.pm_model_history.specs.History.{GoesOn, History, IsTableOf, no_table, table}
 use Rattle.pm_model_history.specs.Merge.{HistoryRow}
 use Rattle.pm_schema.specs.declared.schema.TableSchema.{TableSchema}
-use Rattle.pm_model_folder.specs.Changes.{Actor}
+use Rattle.pm_model_folder.specs.Changes.{Actor, IsOwn}
 use Rattle.pm_model_folder.specs.Ledger.{Advances, HasNamedNone, Past, Stands, count_of}
 use Rattle.pm_model_folder.specs.Meaning.{SnapshotAt}
-use Rattle.pm_model_folder.proofs.Facts.{goes_on, stays}
-use Rattle.pm_model_folder.proofs.LedgerFacts.{known-still}
+use Rattle.pm_model_folder.proofs.Facts.{goes_on}
+use Rattle.pm_model_folder.proofs.LedgerFacts.{known-still, own-stays}
 use Rattle.pm_model_contents.specs.Lists.{HasEntries}
 use Rattle.pm_read_table.specs.Meaning.{IsViewIn, view_origin, view_snapshot}
 use Rattle.pm_read_table.specs.declared.view.View.{View}
 use Rattle.pm_read_table.proofs.Facts as reader_facts
-use Rattle.pm_append.specs.Commit.{HasAppended}
+use Rattle.pm_append.specs.Commit.{Attempt, HasAppended, IsBuilt, MakesNames}
+use Rattle.pm_append.specs.Files.{IsAppendOf}
 use Rattle.pm_append.specs.declared.newest.Author.{Author}
 use Rattle.pm_append.specs.declared.newest.CommitFile.{CommitFile}
 use Rattle.pm_commit.specs.Meaning.{HasCommitted, HasEarlier, HasEntry, IsFenced, IsFoundIn, IsOtherThan, IsPut, Knows, KnowsIn, KnowsOwn, KnowsTry, entry_of}
-use Rattle.pm_commit.specs.Own.{OwnView, actor_of}
+use Rattle.pm_commit.specs.Committer.{IsCommitter}
+use Rattle.pm_commit.specs.Own.{IsTried, OwnView, actor_of}
 use Rattle.pm_commit.specs.declared.found.Found.{Found}
 use Rattle.pm_commit.specs.declared.making.Publishing.{Publishing}
 use Rattle.pm_commit.specs.declared.phase.Phase.{Phase}
 use Rattle.pm_commit.specs.declared.phase.Phase.TheVariants as phases
 use Rattle.pm_commit.proofs.FenceLemmas.{fenced-later}
+use Rattle.pm_commit.proofs.MadeLemmas.{IsInTable, made-in}
+use Rattle.pm_commit.proofs.PathLemmas.{no-origin}
 
 -- what the law of others' names says
 abbrev pub OthersNone : Type 0
 OthersNone = (me other : Actor) (f after : Files) (p q : Past) → Stands f p → Advances other f p after q → me ≢ other → HasNamedNone me p → HasNamedNone me q
+
+-- what the law of a commit's own files says
+abbrev pub OwnFiles : Type 0
+OwnFiles = (me : Actor) (s : TableSchema) (t : Attempt) → IsBuilt s → MakesNames me t → IsAppendOf s t.newest t.author t.batch t.names t.made
+    → AllByRecursion (λ (file : CommitFile). IsOwn me file.path) t.made.files.items
+
+first-of : (P : CommitFile → Type 0) (before later : List CommitFile) → AllByRecursion P (before ++ later) → AllByRecursion P before
+first-of P [] later all = tt
+first-of P (file ∷ before) later all = (all.0, first-of P before later all.1)
+
+-- a file of the actor's own, in a folder of files that snapshots name
+abbrev IsMadeBy : Actor → CommitFile → Type 0
+IsMadeBy me file = IsOwn me file.path × IsInTable file
+
+made-by : (me : Actor) (files : List CommitFile) → AllByRecursion (λ (file : CommitFile). IsOwn me file.path) files → AllByRecursion IsInTable files
+    → AllByRecursion (IsMadeBy me) files
+made-by me [] own at = tt
+made-by me (file ∷ files) (own, owns) (at, ats) = ((own, at), made-by me files owns ats)
+
+-- so is each file of a try
+tried-made : OwnFiles → (me : Actor) (s : TableSchema) (t : Attempt) → IsBuilt s → MakesNames me t
+    → IsAppendOf s t.newest t.author t.batch t.names t.made → AllByRecursion (IsMadeBy me) t.made.files.items
+tried-made own_files me s t built names made =
+    made-by me t.made.files.items (own_files me s t built names made) (made-in s t.newest t.author t.batch t.names t.made made built.no_partition)
 
 count-grows : (h later : History) → GoesOn h later → count_of h ≤ count_of later
 count-grows no_table later goes = omega arith
@@ -52,7 +80,8 @@ module _ (actor : Actor) (f after : Files) (p q : Past) (advances : Advances act
     origin = is_found.origin;
   }
 
-module _ (law : OthersNone) (rows : List HistoryRow) (other : Actor) (f after : Files) (p q : Past) (stands : Stands f p) (advances : Advances other f p after q) where
+module _ (law : OthersNone) (own_files : OwnFiles) (rows : List HistoryRow) (other : Actor) (f after : Files) (p q : Past) (stands : Stands f p)
+    (advances : Advances other f p after q) where
   own-still : (own : OwnView) (s : TableSchema) → actor_of own ≢ other → KnowsOwn own rows s p → KnowsOwn own rows s q
   own-still own s apart known = record {
     is_table = reader_facts.table_still other f after p q s advances known.is_table;
@@ -66,20 +95,24 @@ module _ (law : OthersNone) (rows : List HistoryRow) (other : Actor) (f after : 
         omega (arith, low, more));
   }
 
-  puts-still : (files : List CommitFile) → AllByRecursion (IsPut f) files → AllByRecursion (IsPut after) files
-  puts-still [] all = tt
-  puts-still (file ∷ files) (is, rest) =
-      let there : IsSome (map.get f file.path) = subst (λ (o : Option (List ℕ)). IsSome o) (sym is) refl in
-      (stays other f after p.history q.history file.path stands.folder advances.change there ∙ is, puts-still files rest)
+  -- the files that an actor made are there
+  module _ (me : Actor) (none : HasNamedNone me p) where
+    puts-still : (files : List CommitFile) → AllByRecursion (IsMadeBy me) files → AllByRecursion (IsPut f) files → AllByRecursion (IsPut after) files
+    puts-still [] made all = tt
+    puts-still (file ∷ files) ((own, at), made) (is, rest) =
+        let there : IsSome (map.get f file.path) = subst (λ (o : Option (List ℕ)). IsSome o) (sym is) refl in
+        let origin = no-origin p.history file.path at in
+        (own-stays me other f after p q file.path stands advances own origin none there ∙ is, puts-still files made rest)
 
-  there-still : (base : ℕ) (files : List CommitFile) → IsFenced base p.history ⊎ AllByRecursion (IsPut f) files
-      → IsFenced base q.history ⊎ AllByRecursion (IsPut after) files
-  there-still base files (inl fenced) =
-      inl (fenced-later base p.history q.history (goes_on other f after p.history q.history advances.change) fenced)
-  there-still base files (inr there) = inr (puts-still files there)
+    there-still : (base : ℕ) (files : List CommitFile) → AllByRecursion (IsMadeBy me) files → IsFenced base p.history ⊎ AllByRecursion (IsPut f) files
+        → IsFenced base q.history ⊎ AllByRecursion (IsPut after) files
+    there-still base files made (inl fenced) =
+        inl (fenced-later base p.history q.history (goes_on other f after p.history q.history advances.change) fenced)
+    there-still base files made (inr there) = inr (puts-still files made there)
 
-  try-still : (own : OwnView) (x : Publishing) (left : List CommitFile) → IsTableOf x.schema p.history → KnowsTry own rows x left f p → KnowsTry own rows x left after q
-  try-still own x left is_table is_try = record {
+  try-still : (own : OwnView) (x : Publishing) (left : List CommitFile) → IsTried x.schema own → KnowsOwn own rows x.schema p → KnowsTry own rows x left f p
+      → KnowsTry own rows x left after q
+  try-still own x left tried known is_try = record {
     attempt = is_try.attempt;
     same_rows = is_try.same_rows;
     same_batch = is_try.same_batch;
@@ -91,7 +124,10 @@ module _ (law : OthersNone) (rows : List HistoryRow) (other : Actor) (f after : 
     is = is_try.is;
     done = is_try.done;
     files = is_try.files;
-    there = there-still own.author.base is_try.done is_try.there;
+    there = there-still (actor_of own) known.unnamed own.author.base is_try.done
+        (first-of (IsMadeBy (actor_of own)) is_try.done left
+        (subst (AllByRecursion (IsMadeBy (actor_of own))) is_try.files (tried-made own_files (actor_of own) x.schema is_try.attempt tried.built is_try.names is_try.made)))
+        is_try.there;
   }
 
   entry-still : (author : Author) (id : ℕ) → HasEntry author rows id p → HasEntry author rows id q
@@ -129,20 +165,20 @@ module _ (law : OthersNone) (rows : List HistoryRow) (other : Actor) (f after : 
     reached = has.reached;
   }
 
-  in-still : (m : Phase) → IsOtherThan other m → KnowsIn rows m f p → KnowsIn rows m after q
-  in-still (phases.Names own s) apart known = own-still own s apart known
-  in-still (phases.View own m) apart (s, reads, known, reading, origin) =
+  in-still : (m : Phase) → IsCommitter m → IsOtherThan other m → KnowsIn rows m f p → KnowsIn rows m after q
+  in-still (phases.Names own s) is apart known = own-still own s apart known
+  in-still (phases.View own m) is apart (s, reads, known, reading, origin) =
       (s, reads, own-still own s apart known, reader_facts.knows_still m other f after p q stands advances reading, origin)
-  in-still (phases.Search own searching) apart (known, is_found) =
+  in-still (phases.Search own searching) is apart (known, is_found) =
       (own-still own searching.found.schema apart known, found-still other f after p q advances searching.found is_found)
-  in-still (phases.Create own making) apart (known, is_try) = (
+  in-still (phases.Create own making) is apart (known, is_try) = (
     own-still own making.publishing.schema apart known,
-    try-still own making.publishing (making.next ∷ making.rest) known.is_table is_try,
+    try-still own making.publishing (making.next ∷ making.rest) is.0 known is_try,
   )
-  in-still (phases.Publish own x) apart (known, is_try) = (own-still own x.schema apart known, try-still own x [] known.is_table is_try)
-  in-still (phases.Committed author id) apart known = committed-still author id known
-  in-still (phases.Already author) apart known = earlier-still author known
-  in-still phases.Over apart known = tt
+  in-still (phases.Publish own x) is apart (known, is_try) = (own-still own x.schema apart known, try-still own x [] is known is_try)
+  in-still (phases.Committed author id) is apart known = committed-still author id known
+  in-still (phases.Already author) is apart known = earlier-still author known
+  in-still phases.Over is apart known = tt
 
   pub knows-still : (m : Phase) → IsOtherThan other m → Knows rows m f p → Knows rows m after q
-  knows-still m apart known = (known.0, in-still m apart known.1)
+  knows-still m apart known = (known.0, in-still m known.0 apart known.1)

@@ -70,6 +70,7 @@ pub fn known_law()
         → Advances other f p after q → IsOtherThan other m → Knows rows m f p → Knows rows m after q }
 {
     unnamed_law();
+    own_files_law();
 }
 
 /// Whatever others do between its calls, a folder that stands shows a committer no refusal but that memory ran out;

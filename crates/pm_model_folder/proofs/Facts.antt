@@ -1,5 +1,5 @@
 -- What the kinds of change leave of a folder, and what its listings say.
-use Rattle.std.proofs.Common.{◌≡◌, ◌≢◌, ◌↔◌, ◌⊎◌, inl, inr, ℕ, ◌+◌, ◌<◌, ◌≤◌, ◌==◌, nat_le, zero, suc, List, [], ◌∷◌, ◌++◌, take, drop, get_or, length, length-append, Bool, true, false, Contains, Option, Some, None, IsSome, IsSomeAnd, refl, sym, ap, subst, ◌∙◌, arith}
+use Rattle.std.proofs.Common.{◌≡◌, ◌≢◌, ◌↔◌, ◌⊎◌, inl, inr, ℕ, ◌+◌, ◌<◌, ◌≤◌, ◌==◌, nat_le, zero, suc, ℤ, pos, int_lt, List, [], ◌∷◌, ◌++◌, take, drop, get_or, slice_get, length, length-append, Bool, true, false, Contains, Option, Some, None, IsSome, IsSomeAnd, refl, sym, ap, subst, ◌∙◌, arith}
 use Rattle.std.specs.FinMap as map
 use Rattle.std.specs.List.{AllByRecursion, flat_map}
 use Rattle.std.proofs.lemmas.Bool.Decides.{nat_tests}
@@ -10,15 +10,15 @@ use Rattle.pm_store.specs.Files.{Files, Puts, IsListing, name_in}
 use Rattle.pm_model_history.specs.History.{Entry, History, append, compaction, fence, entry_rows, no_table, table, GoesOn}
 use Rattle.pm_model_following.specs.Following.{HaveBases}
 use Rattle.pm_schema.specs.declared.schema.TableSchema.{TableSchema}
-use Rattle.pm_snapshot.specs.Names.{greatest, snapshot_name}
+use Rattle.pm_snapshot.specs.Names.{floor_name, greatest, snapshot_name}
 use Rattle.pm_snapshot.specs.declared.snapshot.Snapshot.{Snapshot}
 use Rattle.pm_model_folder.specs.Changes.{Actor, IsNoOrigin, IsOwn, Change, nothing, own_file, schema, committed}
-use Rattle.pm_model_folder.specs.Commits.{BeginsOn, FollowsOn, IsCommit, IsCommitted, Names, NeverReturn}
+use Rattle.pm_model_folder.specs.Commits.{BeginsOn, FollowsOn, IsCommit, IsCommitted, Names, Needs, NeverReturn}
 use Rattle.pm_model_folder.specs.Folder.{AreEntriesOf, Folder, HasCommits, HasFloor, HaveFiles, HasNoTable, HasTable, IsEntryAfter, IsFrom, IsRowOf}
 use Rattle.pm_model_folder.specs.Meaning.{SchemaAt, SnapshotAt, HasSnapshotAt, LeadsTo}
-use Rattle.pm_model_folder.specs.Paths.{schema_folder, schema_name, schema_path, snapshot_folder, snapshot_file, snapshot_path, consumer_path, tag_path, changelog_path, floor_path}
+use Rattle.pm_model_folder.specs.Paths.{consumer_file, consumer_folder, floor_folder, schema_folder, schema_name, schema_path, snapshot_folder, snapshot_file, snapshot_path, consumer_path, tag_path, changelog_path, floor_path}
 use Rattle.pm_model_folder.proofs.HoldLemmas.{Holds, ContentsStay, OneContents, commit-was, committed-held, names-held, names-were}
-use Rattle.pm_model_folder.proofs.NameLemmas.{schema-leads, snapshot-leads, schema-none, snapshot-none, none-some, first-other, other-led, own-no_schema, own-no_snapshot}
+use Rattle.pm_model_folder.proofs.NameLemmas.{schema-leads, snapshot-leads, schema-none, snapshot-none, none-some, first-other, other-led, own-no_consumer, own-no_floor, own-no_schema, own-no_snapshot, schema-no_consumer, schema-no_floor, snapshot-no_consumer, snapshot-no_floor}
 use Rattle.pm_model_folder.proofs.PathLemmas.{origin-other, other-snapshot, snapshot-schema, consumer-schema, consumer-snapshot, other-schema, snapshot-own, schema-own, consumer-own, tag-own, changelog-own}
 
 -- ---- what is at a path
@@ -200,6 +200,8 @@ names-same : (f after : Files) → ((path : List ℕ) → map.get after path ≡
 names-same f after same names = record {
   schemas = λ id q within there leads. names.schemas id q within (still_there after f q (sym (same q)) there) leads;
   snapshots = λ id q within there leads. names.snapshots id q within (still_there after f q (sym (same q)) there) leads;
+  floors = λ n q within there leads. names.floors n q within (still_there after f q (sym (same q)) there) leads;
+  consumers = λ name q there leads. names.consumers name q (still_there after f q (sym (same q)) there) leads;
 }
 
 names-own : (me : Actor) (f after : Files) (path content : List ℕ) → IsOwn me path → Puts f path (Some content) after → HaveFiles f
@@ -209,6 +211,10 @@ names-own me f after path content own puts names = record {
       (there_before f after schema_folder (schema_name id) path (Some content) puts (own-no_schema me path id own) q there leads) leads;
   snapshots = λ id q within there leads. names.snapshots id q within
       (there_before f after snapshot_folder (snapshot_name id) path (Some content) puts (own-no_snapshot me path id own) q there leads) leads;
+  floors = λ n q within there leads. names.floors n q within
+      (there_before f after floor_folder (floor_name n) path (Some content) puts (own-no_floor me path n own) q there leads) leads;
+  consumers = λ name q there leads. names.consumers name q
+      (there_before f after consumer_folder (consumer_file name) path (Some content) puts (own-no_consumer me path name own) q there leads) leads;
 }
 
 -- ---- no path has another content
@@ -265,6 +271,11 @@ kept-own one stay me f after (table s entries) path content own other absent put
     (origin-iff f after s.origin (λ name is. puts.others (snapshot_file name) (other name is)))
     (names-own me f after path content own puts folder.names) folder
 
+-- no entry is one of none
+no-entry : {P : Type 0} (n : ℕ) (e : Entry) → slice_get [] n ≡ Some e → P
+no-entry zero e is = cc
+no-entry (suc n) e is = cc
+
 -- ---- the schema of a new table appears
 
 -- a table that has just been made has its origin as its only snapshot
@@ -297,6 +308,12 @@ new-names f after bytes folder puts = record {
   snapshots = λ id q within there leads. folder.names.snapshots id q within
       (there_before f after snapshot_folder (snapshot_name id) (schema_path 0) (Some bytes) puts
       (λ e. none-some (snapshot_name id) (sym (schema-none 0) ∙ e)) q there leads) leads;
+  floors = λ n q within there leads. folder.names.floors n q within
+      (there_before f after floor_folder (floor_name n) (schema_path 0) (Some bytes) puts
+      (λ e. none-some (floor_name n) (sym (schema-no_floor 0) ∙ e)) q there leads) leads;
+  consumers = λ name q there leads. folder.names.consumers name q
+      (there_before f after consumer_folder (consumer_file name) (schema_path 0) (Some bytes) puts
+      (λ e. none-some (consumer_file name) (sym (schema-no_consumer 0) ∙ e)) q there leads) leads;
 }
 
 -- its origin has the name of no snapshot, since no snapshot was there
@@ -320,7 +337,7 @@ kept-schema f after s bytes folder there puts reads = record {
     only = λ id other within. puts.others (schema_path id) (other-schema id within other) ∙ folder.schemas id within;
     origin = new-origin f s.origin folder there;
   };
-  history = record { rows = tt; bases = tt };
+  history = record { rows = tt; bases = tt; fences = λ n x is. no-entry n _ is };
   snapshots = record {
     least = 0;
     some = omega arith;
@@ -345,6 +362,30 @@ split-last n id within = at (nat_le id n) refl
     at : (t : Bool) → nat_le id n ≡ t → (id ≤ n) ⊎ (id ≡ suc n)
     at true is = inl (grind (arith, nat_tests))
     at false is = inr (grind (arith, nat_tests))
+
+entry-same : (a b : Entry) → Some a ≡ Some b → a ≡ b
+entry-same a b e = cc
+
+-- each fence is below its own number, where the first entry's is one more than this
+abbrev HaveFences : ℕ → List Entry → Type 0
+HaveFences k entries = (n : ℕ) (x : ℤ) → slice_get entries n ≡ Some (fence x) → int_lt x (pos (suc (k + n))) ≡ true
+
+-- the entry's fence, if it is one, is at most a number
+abbrev FenceUpTo : ℕ → Entry → Type 0
+FenceUpTo k e = (x : ℤ) → e ≡ fence x → int_lt x (pos (suc k)) ≡ true
+
+at-number : (a b : ℕ) (x : ℤ) → a ≡ b → int_lt x (pos (suc a)) ≡ true → int_lt x (pos (suc b)) ≡ true
+at-number a b x same below = subst (λ (n : ℕ). int_lt x (pos (suc n)) ≡ true) same below
+
+fences-append : (k : ℕ) (entries : List Entry) (e : Entry) → FenceUpTo (k + length entries) e → HaveFences k entries → HaveFences k (entries ++ e ∷ [])
+fences-append k [] e last have zero x is = last x (entry-same e (fence x) is)
+fences-append k [] e last have (suc n) x is = no-entry n (fence x) is
+fences-append k (y ∷ entries) e last have zero x is = have zero x is
+fences-append k (y ∷ entries) e last have (suc n) x is =
+    at-number (suc k + n) (k + suc n) x (omega arith)
+    (fences-append (suc k) entries e
+    (λ z same. at-number (k + suc (length entries)) (suc k + length entries) z (omega arith) (last z same))
+    (λ m z at. at-number (k + suc m) (suc k + m) z (omega arith) (have (suc m) z at)) n x is)
 
 -- a compaction's base is below a number
 abbrev BaseBelow : ℕ → Entry → Type 0
@@ -424,6 +465,12 @@ module _ (one : OneContents) (stay : ContentsStay) (f after : Files) (s : TableS
           (there_before f after snapshot_folder (snapshot_name id) (snapshot_path last) (Some bytes) puts
           (other-led last id within bound (λ same. other (sym same))) q there leads) leads
     ];
+    floors = λ n q bound there leads. folder.names.floors n q bound
+        (there_before f after floor_folder (floor_name n) (snapshot_path last) (Some bytes) puts
+        (λ e. none-some (floor_name n) (sym (snapshot-no_floor (snapshot_name last)) ∙ e)) q there leads) leads;
+    consumers = λ name q there leads. folder.names.consumers name q
+        (there_before f after consumer_folder (consumer_file name) (snapshot_path last) (Some bytes) puts
+        (λ e. none-some (consumer_file name) (sym (snapshot-no_consumer (snapshot_name last)) ∙ e)) q there leads) leads;
   }
 
   was-from : (id : ℕ) → IsFrom folder.snapshots.least (length (entries ++ e ∷ [])) id → id ≤ length entries → IsFrom folder.snapshots.least (length entries) id
@@ -524,12 +571,27 @@ entry-rows s entries (append user identifier rows) is = is
 entry-rows s entries (compaction base groups) is = tt
 entry-rows s entries (fence number) is = tt
 
+fence-same : (a b : ℤ) → fence a ≡ fence b → a ≡ b
+fence-same a b e = cc
+
+entry-fence : (s : TableSchema) (entries : List Entry) (e : Entry) → IsEntryAfter s entries e → FenceUpTo (length entries) e
+entry-fence s entries (append user identifier rows) is x same = cc
+entry-fence s entries (compaction base groups) is x same = cc
+entry-fence s entries (fence number) is x same =
+    subst (λ (z : ℤ). int_lt z (pos (suc (length entries))) ≡ true) (fence-same number x same) is.1
+
+fences-more : (s : TableSchema) (entries : List Entry) (e : Entry) → AreEntriesOf s entries → IsEntryAfter s entries e → HaveFences 0 (entries ++ e ∷ [])
+fences-more s entries e are is =
+    fences-append 0 entries e (λ x same. at-number (length entries) (0 + length entries) x (omega arith) (entry-fence s entries e is x same))
+    (λ n x at. at-number n (0 + n) x (omega arith) (are.fences n x at))
+
 pub rows-append : (s : TableSchema) (entries : List Entry) (e : Entry) → AreEntriesOf s entries → IsEntryAfter s entries e → AreEntriesOf s (entries ++ e ∷ [])
 rows-append s entries e are is = record {
   rows = subst (AllByRecursion (IsRowOf s)) (sym (flat_map-append entry_rows entries (e ∷ [])))
       (AllByRecursion-append (IsRowOf s) (flat_map entry_rows entries) (entry_rows e ++ []) are.rows
       (subst (AllByRecursion (IsRowOf s)) (sym (append-nil (entry_rows e))) (entry-rows s entries e is)));
   bases = bases-append 1 entries e (entry-below s entries e is) are.bases;
+  fences = λ n x at. at-number (0 + n) n x (omega arith) (fences-more s entries e are is n x at);
 }
 
 pub kept : OneContents → ContentsStay → (me : Actor) (f after : Files) (h later : History) → Folder f h → Change me f h after later → Folder after later
@@ -549,7 +611,7 @@ goes_on me f after h later (own_file path content own other absent puts) = goes-
 goes_on me f after h later (schema s bytes there named puts reads) = tt
 goes_on me f after h later (committed s entries e bytes there within absent puts fit commit own) = (refl, _, refl)
 
--- what is there stays as it is: no kind of change writes a file twice, or takes one away
+-- of the kinds so far none writes a file twice, or takes one away
 pub stays : (me : Actor) (f after : Files) (h later : History) (q : List ℕ) → Folder f h → Change me f h after later → IsSome (map.get f q)
     → map.get after q ≡ map.get f q
 stays me f after h later q folder (nothing same) there = same q
@@ -558,6 +620,16 @@ stays me f after h later q folder (schema s bytes origin named puts reads) there
     puts.others q (there-absent f q (schema_path 0) there (folder.schemas 0 (omega arith)))
 stays me f after h later q folder (committed s entries e bytes newest within absent puts fit commit own) there =
     puts.others q (there-absent f q (snapshot_path (suc (length entries))) there absent)
+
+-- what a snapshot needs stays while that is there
+pub needed-stays : (me : Actor) (f after : Files) (s : TableSchema) (entries : List Entry) (later : History) (id : ℕ) (q : List ℕ) → Folder f (table s entries)
+    → Change me f (table s entries) after later → HasSnapshotAt after s id → Needs f s id q → IsSome (map.get f q) → map.get after q ≡ map.get f q
+needed-stays me f after s entries later id q folder change _ needs there = stays me f after (table s entries) later q folder change there
+
+-- What a snapshot needed when it was committed stays, also once that has gone.
+pub stood-stays : (me : Actor) (f after : Files) (h later : History) (s : TableSchema) (stood : Files) (id : ℕ) (q : List ℕ) → Folder f h → Change me f h after later
+    → Needs stood s id q → IsSome (map.get f q) → map.get after q ≡ map.get f q
+stood-stays me f after h later s stood id q folder change needs there = stays me f after h later q folder change there
 
 -- ---- what listings say
 

@@ -12,14 +12,14 @@ use Rattle.pm_snapshot.specs.Names.{greatest}
 use Rattle.pm_snapshot.specs.Snapshot.{snapshot_in}
 use Rattle.pm_snapshot.specs.declared.snapshot.Snapshot.{Snapshot}
 use Rattle.pm_model_contents.specs.Named.{Contents, HasContents}
-use Rattle.pm_model_folder.specs.Changes.{Actor, Change, nothing, own_file, schema, committed}
+use Rattle.pm_model_folder.specs.Changes.{Actor, Change, IsNoOrigin, IsOwn, nothing, own_file, schema, committed}
 use Rattle.pm_model_folder.specs.Commits.{HasCommit, IsCommitted, Names, Needs, live_in}
 use Rattle.pm_model_folder.specs.Folder.{Folder, HasTable, IsEntryAfter, IsFrom}
-use Rattle.pm_model_folder.specs.Ledger.{Past, Advances, IsKnown, IsOldOrUnnamed, IsUnnamed, KeepsFiles, KnowsNone, KnowsPast, KnowsRuns, KnowsTable, Stands, count_of}
+use Rattle.pm_model_folder.specs.Ledger.{Past, Advances, HasNamedNone, IsKnown, IsOldOrUnnamed, IsUnnamed, KeepsFiles, KnowsNone, KnowsPast, KnowsRuns, KnowsTable, Stands, count_of}
 use Rattle.pm_model_folder.specs.Meaning.{HasSnapshotAt, SnapshotAt}
 use Rattle.pm_model_folder.specs.Paths.{schema_path, snapshot_path}
 use Rattle.pm_model_folder.specs.Runs.{AreInFiles, HaveLiveFiles}
-use Rattle.pm_model_folder.proofs.Facts.{kept, goes_on, rows-append, stays, same-or-other, some-none, split-last}
+use Rattle.pm_model_folder.proofs.Facts.{kept, goes_on, rows-append, stays, stood-stays, same-or-other, some-none, split-last}
 use Rattle.pm_model_folder.proofs.HoldLemmas.{ContentsStay, OneContents, one-snapshot}
 use Rattle.pm_model_folder.proofs.PathLemmas.{other-snapshot, snapshot-own}
 use Rattle.pm_model_folder.proofs.RunFacts.{found-runs, live-shows, none-known, origin-none, origin-runs}
@@ -86,15 +86,17 @@ module _ (law : RunsFound) (f : Files) (s : TableSchema) (entries : List Entry) 
         runs = known-runs;
       }
 
-pub found : RunsFound → (f : Files) (h : History) → Folder f h → (p : Past) × (p.history ≡ h) × Stands f p × ((id : ℕ) → p.stood id ≡ f)
+pub found : RunsFound → (f : Files) (h : History) → Folder f h
+    → (p : Past) × (p.history ≡ h) × Stands f p × ((id : ℕ) → p.stood id ≡ f) × (p.since ≡ count_of h)
 found law f no_table folder = (
   found_past f no_table 1 (λ g. []),
   refl,
   record { folder = folder; past = record { first = omega arith; since = refl; runs = λ g. refl } },
   λ id. refl,
+  refl,
 )
 found law f (table s entries) folder =
-    (newest_past law f s entries folder, refl, record { folder = folder; past = found-table law f s entries folder }, λ id. refl)
+    (newest_past law f s entries folder, refl, record { folder = folder; past = found-table law f s entries folder }, λ id. refl, refl)
 
 -- ---- the table of a past
 
@@ -205,7 +207,7 @@ needed-same me f after p q s id path stands advances is known needs = elim (abse
     | inl absent ↦ absent ∙ sym none
     | inr here ↦ absurd (advances.fresh s path is none here id known needs)
   ]
-  | inr there ↦ stays me f after p.history q.history path stands.folder advances.change there
+  | inr there ↦ stood-stays me f after p.history q.history s (p.stood id) id path stands.folder advances.change needs there
 ]
 
 back-there : (me : Actor) (f after : Files) (p q : Past) (s : TableSchema) (id : ℕ) → Stands f p → Advances me f p after q → IsTableOf s p.history
@@ -253,6 +255,12 @@ module _ (me : Actor) (f after : Files) (p q : Past) (s : TableSchema) (entries 
       subst (λ (g : Files). Names g s middle path) (sym (advances.same middle between))
       (past.gone early middle late path first low high last (subst (λ (g : Files). Names g s early path) (advances.same early first) here)
       (subst (λ (g : Files). Names g s late path) (advances.same late last) there))
+
+-- what an actor made stays, whoever acts, while no known snapshot names a file of the actor
+pub own-stays : (me other : Actor) (f after : Files) (p q : Past) (path : List ℕ) → Stands f p → Advances other f p after q → IsOwn me path
+    → IsNoOrigin p.history path → HasNamedNone me p → IsSome (map.get f path) → map.get after path ≡ map.get f path
+own-stays me other f after p q path stands advances own origin none there =
+    stays other f after p.history q.history path stands.folder advances.change there
 
 pub is-table : (p : Past) (s : TableSchema) (entries : List Entry) → p.history ≡ table s entries → IsTableOf s p.history
 is-table p s entries same = subst (λ (h : History). IsTableOf s h) (sym same) refl

@@ -1,4 +1,4 @@
--- The names in the folders of schemas and of snapshots that paths lead to.
+-- The names in the folders of schemas, of snapshots, of floors and of consumers that paths lead to.
 use Rattle.std.proofs.Common.{◌≡◌, ◌≢◌, ℕ, ◌+◌, ◌<◌, ◌≤◌, suc, List, [], ◌∷◌, ◌++◌, take, drop, length, get_or, codes, ◌==◌, nat_eq, Bool, true, false, not, cond, Option, None, Some, refl, sym, ap, ◌∙◌, eqb-true, arith}
 use Rattle.std.specs.Char.{digit_value}
 use Rattle.std.specs.Cmp.{unsigned_Decides}
@@ -12,10 +12,10 @@ use Rattle.std.proofs.lemmas.Slice.Eq.{starts_is}
 use Rattle.std.proofs.lemmas.Str.Parse.{digit_from_value}
 use Rattle.uuid.specs.Text.{hyphenated_text, hyphen, lower}
 use Rattle.pm_store.specs.Files.{slash, some_name, name_after, name_in}
-use Rattle.pm_snapshot.specs.Names.{greatest, snapshot_name}
+use Rattle.pm_snapshot.specs.Names.{floor_name, greatest, snapshot_name}
 use Rattle.pm_model_folder.specs.Changes.{Actor, IsOwn, its_file, its_origin, origin_name}
-use Rattle.pm_model_folder.proofs.PathLemmas.{named-apart, other-schemas, other-snapshots}
-use Rattle.pm_model_folder.specs.Paths.{schema_folder, schema_name, schema_path, snapshot_file, snapshot_folder, snapshot_path}
+use Rattle.pm_model_folder.proofs.PathLemmas.{named-apart, other-consumers, other-floors, other-schemas, other-snapshots}
+use Rattle.pm_model_folder.specs.Paths.{consumer_file, consumer_folder, floor_folder, schema_folder, schema_name, schema_path, snapshot_file, snapshot_folder, snapshot_path}
 
 -- ---- what stands before a slash
 
@@ -65,6 +65,19 @@ schema-none id = refl
 pub snapshot-none : (name : List ℕ) → name_in schema_folder (snapshot_file name) ≡ None
 snapshot-none name = refl
 
+-- neither leads to a floor or to a consumer
+pub schema-no_floor : (id : ℕ) → name_in floor_folder (schema_path id) ≡ None
+schema-no_floor id = refl
+
+pub schema-no_consumer : (id : ℕ) → name_in consumer_folder (schema_path id) ≡ None
+schema-no_consumer id = refl
+
+pub snapshot-no_floor : (name : List ℕ) → name_in floor_folder (snapshot_file name) ≡ None
+snapshot-no_floor name = refl
+
+pub snapshot-no_consumer : (name : List ℕ) → name_in consumer_folder (snapshot_file name) ≡ None
+snapshot-no_consumer name = refl
+
 pub none-some : {A : Type 0} (x : A) → None ≢ Some x
 none-some x e = cc
 
@@ -102,6 +115,12 @@ leads-schema path name is = after-begins (codes "schema/") path name is
 leads-snapshot : (path name : List ℕ) → name_in snapshot_folder path ≡ Some name → path ≡ codes "snapshot" ++ 47 ∷ drop 9 path
 leads-snapshot path name is = after-begins (codes "snapshot/") path name is
 
+leads-floor : (path name : List ℕ) → name_in floor_folder path ≡ Some name → path ≡ codes "floor" ++ 47 ∷ drop 6 path
+leads-floor path name is = after-begins (codes "floor/") path name is
+
+leads-consumer : (path name : List ℕ) → name_in consumer_folder path ≡ Some name → path ≡ codes "consumer" ++ 47 ∷ drop 9 path
+leads-consumer path name is = after-begins (codes "consumer/") path name is
+
 -- an own file leads to no name of a schema, and to none of a snapshot
 pub own-no_schema : (me : Actor) (path : List ℕ) (id : ℕ) → IsOwn me path → name_in schema_folder path ≢ Some (schema_name id)
 own-no_schema me path id (its_origin own) e =
@@ -118,3 +137,16 @@ own-no_snapshot me path id (its_origin own) e =
     omega (arith, first)
 own-no_snapshot me path id (its_file by in_table) e =
     named-apart me path (codes "snapshot") (drop 9 path) by in_table other-snapshots (leads-snapshot path (snapshot_name id) e)
+
+-- and to none of a floor or of a consumer
+pub own-no_floor : (me : Actor) (path : List ℕ) (n : ℕ) → IsOwn me path → name_in floor_folder path ≢ Some (floor_name n)
+own-no_floor me path n (its_origin own) e =
+    none-some (floor_name n) (sym (snapshot-no_floor (origin_name me)) ∙ ap (name_in floor_folder) (sym own) ∙ e)
+own-no_floor me path n (its_file by in_table) e =
+    named-apart me path (codes "floor") (drop 6 path) by in_table other-floors (leads-floor path (floor_name n) e)
+
+pub own-no_consumer : (me : Actor) (path name : List ℕ) → IsOwn me path → name_in consumer_folder path ≢ Some (consumer_file name)
+own-no_consumer me path name (its_origin own) e =
+    none-some (consumer_file name) (sym (snapshot-no_consumer (origin_name me)) ∙ ap (name_in consumer_folder) (sym own) ∙ e)
+own-no_consumer me path name (its_file by in_table) e =
+    named-apart me path (codes "consumer") (drop 9 path) by in_table other-consumers (leads-consumer path (consumer_file name) e)

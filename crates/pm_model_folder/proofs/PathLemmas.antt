@@ -101,6 +101,9 @@ other-tags = record { plain = grind arith; no_manifest = λ rest e. omega (arith
 pub other-changelogs : IsOther (codes "changelog")
 other-changelogs = record { plain = grind arith; no_manifest = λ rest e. omega (arith, e); no_bucket = λ rest e. omega (arith, e) }
 
+pub other-floors : IsOther (codes "floor")
+other-floors = record { plain = grind arith; no_manifest = λ rest e. omega (arith, e); no_bucket = λ rest e. omega (arith, e) }
+
 -- a file that the actor named is in none of these
 pub named-apart : (me : Actor) (path other rest : List ℕ) (by : IsNamedBy me path) → IsTableFolder by.folder → IsOther other
     → path ≢ other ++ 47 ∷ rest

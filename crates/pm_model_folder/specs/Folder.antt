@@ -1,6 +1,6 @@
 -- What a folder stands for, sentence by sentence. Ids are those that may stand in a name.
-use Rattle.std.specs.Prelude.{◌≡◌, ◌≢◌, ◌↔◌, ◌⊎◌, ℕ, suc, ◌<◌, ◌≤◌, pos, int_lt, Bool, true, false, Some, None, IsSome}
-use Rattle.std.specs.Prelude.{List, [], Contains, length, take, map as each_of}
+use Rattle.std.specs.Prelude.{◌≡◌, ◌≢◌, ◌↔◌, ◌⊎◌, ℕ, suc, ◌<◌, ◌≤◌, Bool, true, false, Some, None, IsSome}
+use Rattle.std.specs.Prelude.{ℤ, pos, int_lt, List, [], Contains, length, slice_get, take, map as each_of}
 use Rattle.std.specs.FinMap as map
 use Rattle.std.specs.List.{AllByRecursion, flat_map}
 use Rattle.std.specs.List.Sorted.{IsStrictlySortedBy}
@@ -14,23 +14,28 @@ use Rattle.pm_model_history.specs.Taken.{verdict}
 use Rattle.pm_model_history.specs.declared.verdict.Verdict.TheVariants.{Take}
 use Rattle.pm_model_following.specs.Following.{HaveBases}
 use Rattle.pm_schema.specs.declared.schema.TableSchema.{TableSchema}
-use Rattle.pm_snapshot.specs.Names.{greatest, snapshot_name}
+use Rattle.pm_snapshot.specs.Names.{floor_name, greatest, snapshot_name}
 use Rattle.pm_snapshot.specs.declared.consumer.Consumer.{Consumer}
 use Rattle.pm_model_folder.specs.Commits.{BeginsOn, FollowsOn, IsCommitted, NeverReturn}
 use Rattle.pm_model_folder.specs.Entries.{fence_at}
 use Rattle.pm_model_folder.specs.Meaning.{SchemaAt, ConsumerAt, HasSnapshotAt}
 use Rattle.pm_model_folder.specs.Paths.{schema_folder, schema_name, schema_path, snapshot_folder, snapshot_path}
-use Rattle.pm_model_folder.specs.Paths.{consumer_path, tag_path, changelog_path, floor_path}
+use Rattle.pm_model_folder.specs.Paths.{changelog_path, consumer_file, consumer_folder, consumer_path, floor_folder}
+use Rattle.pm_model_folder.specs.Paths.{floor_path, tag_path}
 
 -- ---- what a listing has
 
--- Only the file itself leads to the name of a schema or of a snapshot: nothing else stands in its place, as a folder
--- would.
+-- Only the file itself leads to the name of a schema, of a snapshot, of a floor or of a consumer: nothing else stands
+-- in its place, as a folder would.
 pub record HaveFiles (f : Files) : Type 0 where
   pub schemas : (id : ℕ) (path : List ℕ) → id ≤ greatest → IsSome (map.get f path)
       → name_in schema_folder path ≡ Some (schema_name id) → path ≡ schema_path id
   pub snapshots : (id : ℕ) (path : List ℕ) → id ≤ greatest → IsSome (map.get f path)
       → name_in snapshot_folder path ≡ Some (snapshot_name id) → path ≡ snapshot_path id
+  pub floors : (n : ℕ) (path : List ℕ) → n ≤ greatest → IsSome (map.get f path)
+      → name_in floor_folder path ≡ Some (floor_name n) → path ≡ floor_path n
+  pub consumers : (name path : List ℕ) → IsSome (map.get f path)
+      → name_in consumer_folder path ≡ Some (consumer_file name) → path ≡ consumer_path name
 
 -- ---- no table
 
@@ -57,19 +62,22 @@ pub record IsRowOf (s : TableSchema) (r : HistoryRow) : Type 0 where
   pub fits : Fits s.columns r.1
   pub taken : verdict s r.0 ≡ Take
 
--- An entry that may come after these: its rows are rows of the table; or its base is the snapshot of one of them, and
--- it names groups, which rise; or the fence that it raises is above theirs and below its own number.
+-- An entry that may come after these: its rows are rows of the table; or its base is the snapshot of one of them, above
+-- their fence, and it names groups, which rise; or the fence that it raises is above theirs and below its own number.
 abbrev pub IsEntryAfter : TableSchema → List Entry → Entry → Type 0
 IsEntryAfter s entries (append user identifier rows) = AllByRecursion (IsRowOf s) rows
 IsEntryAfter s entries (compaction base groups) = (1 ≤ base) × (base ≤ length entries) × (groups ≢ [])
+    × (int_lt (fence_at entries (length entries)) (pos base) ≡ true)
     × IsStrictlySortedBy group_cmp (each_of (λ (p : Group × Bool). p.0) groups)
 IsEntryAfter s entries (fence number) = (int_lt (fence_at entries (length entries)) number ≡ true)
     × (int_lt number (pos (suc (length entries))) ≡ true)
 
--- entries that a table may have: their rows are rows of the table, and a compaction's base is an earlier snapshot
+-- entries that a table may have: their rows are rows of the table, a compaction's base is an earlier snapshot, and a
+-- fence is below its own number
 pub record AreEntriesOf (s : TableSchema) (entries : List Entry) : Type 0 where
   pub rows : AllByRecursion (IsRowOf s) (flat_map entry_rows entries)
   pub bases : HaveBases 1 entries
+  pub fences : (n : ℕ) (x : ℤ) → slice_get entries n ≡ Some (fence x) → int_lt x (pos (suc n)) ≡ true
 
 -- The snapshots that are there, the origin counted as 0, are all from some id on to the newest, which is as great as
 -- there are entries.

@@ -4,12 +4,18 @@ use Rattle.pm_snapshot.specs.Names as names
 use Rattle.pm_schema.specs.Stated as schemas
 use Rattle.pm_schema.specs.declared.schema.TableSchema.{TableSchema}
 
--- the folders of schemas and of snapshots
+-- the folders of schemas, of snapshots, of floors and of consumers
 abbrev pub schema_folder : List ℕ
 schema_folder = codes "schema"
 
 abbrev pub snapshot_folder : List ℕ
 snapshot_folder = codes "snapshot"
+
+abbrev pub floor_folder : List ℕ
+floor_folder = codes "floor"
+
+abbrev pub consumer_folder : List ℕ
+consumer_folder = codes "consumer"
 
 -- the name of the schema with an id
 abbrev pub schema_name : ℕ → List ℕ
@@ -37,6 +43,9 @@ abbrev pub origin_path : TableSchema → List ℕ
 origin_path s = snapshot_file (named_origin s.origin)
 
 -- the consumer of a name
+abbrev pub consumer_file : List ℕ → List ℕ
+consumer_file name = codes "consumer-" ++ name
+
 abbrev pub consumer_path : List ℕ → List ℕ
 consumer_path name = codes "consumer/consumer-" ++ name
 

@@ -9,8 +9,8 @@ ghost use Rattle.pm_schema.specs.declared.schema.TableSchema.{TableSchema};
 ghost use Rattle.pm_snapshot.specs.Names.{greatest};
 ghost use Rattle.pm_snapshot.specs.declared.snapshot.Snapshot.{Snapshot};
 ghost use Rattle.pm_model_contents.specs.Named.{Contents};
-ghost use Rattle.pm_model_folder.specs.Changes.{Actor, Change, IsActor, IsNamedBy, IsOwn};
-ghost use Rattle.pm_model_folder.specs.Commits.{HasCommit, Names, live_in};
+ghost use Rattle.pm_model_folder.specs.Changes.{Actor, Change, IsActor, IsNamedBy, IsNoOrigin, IsOwn};
+ghost use Rattle.pm_model_folder.specs.Commits.{HasCommit, Names, Needs, live_in};
 ghost use Rattle.pm_model_folder.specs.Folder.{Folder};
 ghost use Rattle.pm_model_folder.specs.Ledger.{Advances, HasNamedNone, IsUnnamed, Past, Stands, count_of};
 ghost use Rattle.pm_model_folder.specs.Meaning.{HasSnapshotAt};
@@ -38,10 +38,16 @@ pub fn goes_on_law()
     ensures { (me : Actor) (f after : Files) (h later : History) → Change me f h after later → GoesOn h later }
 {}
 
-/// What is there stays as it is: no kind of change writes a file again, or takes one away.
+/// What a snapshot needs stays as it is while that snapshot is there. What an actor made stays, whoever acts, while no
+/// known snapshot names a file of the actor.
 pub fn stays_law()
-    ensures { (me : Actor) (f after : Files) (h later : History) (path : List ℕ) → Folder f h
-        → Change me f h after later → IsSome (map.get f path) → map.get after path ≡ map.get f path }
+    ensures needed { (me : Actor) (f after : Files) (s : TableSchema) (entries : List Entry) (later : History) (id : ℕ)
+        (path : List ℕ) → Folder f (table s entries) → Change me f (table s entries) after later
+        → HasSnapshotAt after s id → Needs f s id path → IsSome (map.get f path)
+        → map.get after path ≡ map.get f path }
+    ensures own { (me other : Actor) (f after : Files) (p q : Past) (path : List ℕ) → Stands f p
+        → Advances other f p after q → IsOwn me path → IsNoOrigin p.history path → HasNamedNone me p
+        → IsSome (map.get f path) → map.get after path ≡ map.get f path }
 {}
 
 /// A file bears the name of one actor at most.
@@ -64,11 +70,11 @@ pub fn listed_law()
         → (id : ℕ) → id ≤ greatest → Contains names (schema_name id) ↔ (id ≡ 0) }
 {}
 
-/// A folder that is found has a past, in which each snapshot that is there stands as it is, and from which on the runs
+/// A folder that is found has a past, in which each snapshot that is there stands as it is; from the newest on the runs
 /// of the groups are known. What stands for a past stands for its history.
 pub fn found_law()
     ensures { (f : Files) (h : History) → Folder f h
-        → (p : Past) × (p.history ≡ h) × Stands f p × ((id : ℕ) → p.stood id ≡ f) }
+        → (p : Past) × (p.history ≡ h) × Stands f p × ((id : ℕ) → p.stood id ≡ f) × (p.since ≡ count_of h) }
 {
     pm_runs::found_law();
 }

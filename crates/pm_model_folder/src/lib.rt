@@ -8,7 +8,7 @@
 //!
 //! `specs/Changes.antt` has the kinds of change that commands make. `kept_law` says that each kind leads from a folder
 //! that stands for a history to one that stands for the history with that change, `goes_on_law` that the history goes
-//! on, `stays_law` that what is there stays as it is, and `own_law` that no file bears the names of two actors.
+//! on, `stays_law` that what a snapshot needs stays as it is, and `own_law` that no file bears the names of two actors.
 //! `listed_law` says what a listing of the schemas has.
 //!
 //! What readers rely on while others act is in `specs/Ledger.antt`: beside the history, the files as they stood when

@@ -11,8 +11,8 @@ use Rattle.pm_model_folder.specs.Paths.{snapshot_folder, snapshot_path}
 use Rattle.pm_model_folder.proofs.Facts.{goes_on, some-none}
 use Rattle.pm_model_folder.proofs.LedgerFacts.{at-table, gone-still}
 use Rattle.pm_paths.specs.Ids.{AreIds, IsGreatestOf, IsLatest}
-use Rattle.pm_paths.proofs.ListedLemmas.{ids_there, latest_of_ids}
-use Rattle.pm_read_table.specs.Meaning.{IsFor, KnowsListed, KnowsSought}
+use Rattle.pm_paths.proofs.ListedLemmas.{ids_there, latest_is, latest_of_ids}
+use Rattle.pm_read_table.specs.Meaning.{AsksLatest, IsFor, KnowsListed, KnowsSought}
 use Rattle.pm_read_table.specs.Reader.{IsAsked}
 use Rattle.pm_read_table.specs.View.{IsSoughtBy}
 use Rattle.pm_read_table.specs.Asked.{SoughtView}
@@ -54,12 +54,24 @@ listed_new f p s names ids stands table_is are listing =
           (ids_there f (table s own.0) names ids id own.2 are listing).1 (known.after_origin, omega (arith, high, count, within), there));
     }
 
+asks_latest : (w : Wanted) (latest id : ℕ) → AsksLatest w → IsAsked w latest id → id ≡ latest
+asks_latest wants.Newest latest id asks is = is
+asks_latest wants.Entries latest id asks is = is
+asks_latest (wants.At asked) latest id asks is = absurd asks
+asks_latest (wants.Whole asked) latest id asks is = absurd asks
+
 pub sought_new : (f : Files) (p : Past) (s : TableSchema) (w : Wanted) (names : List (List ℕ)) (ids : List ℕ) (latest id : ℕ) → Stands f p → IsTableOf s p.history
     → AreIds names ids → IsLatest names latest → IsListing snapshot_folder names f → IsAsked w latest id → id ≤ count_of p.history → KnowsSought f p w ids id
 sought_new f p s w names ids latest id stands table_is are newest listing asked within = record {
   listed = listed_new f p s names ids stands table_is are listing;
   asked = asked_for w names ids latest id are newest asked;
   within = within;
+  reaches = λ asks.
+      let own = at-table f p s stands table_is in
+      let last : latest ≡ length own.0 = latest_is f s own.0 own.2 latest names newest listing in
+      let low = own.3.runs.since in
+      let same = asks_latest w latest id asks asked in
+      omega (arith, last, low, same);
 }
 
 pub sought_at : (f : Files) (p : Past) (w : Wanted) (ids : List ℕ) (one other : ℕ) → one ≡ other → KnowsSought f p w ids one → KnowsSought f p w ids other
@@ -105,6 +117,7 @@ sought_still other f after p q s w ids id stands advances table_is sought =
       listed = listed_still other f after p q s ids stands advances table_is sought.listed;
       asked = sought.asked;
       within = omega (arith, high, grown);
+      reaches = λ asks. (let low = sought.reaches asks in let same = advances.since in omega (arith, low, same));
     }
 
 -- what is there is known, so it was listed

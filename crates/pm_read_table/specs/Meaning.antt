@@ -72,11 +72,19 @@ IsFor (wants.At asked) ids id = id ≡ asked
 IsFor (wants.Whole asked) ids id = id ≡ asked
 IsFor other ids id = IsGreatestOf ids id
 
--- what was listed is known, and the snapshot with the id is the one that is asked for, which the table has or had
+-- the latest snapshot is asked for
+abbrev pub AsksLatest : Wanted → Type 0
+AsksLatest (wants.At asked) = ⊥
+AsksLatest (wants.Whole asked) = ⊥
+AsksLatest other = Unit {0}
+
+-- What was listed is known, and the snapshot with the id is the one that is asked for, which the table has or had. The
+-- latest is one of which the groups' runs are known.
 pub record KnowsSought (f : Files) (p : Past) (wanted : Wanted) (ids : List ℕ) (id : ℕ) : Type 0 where
   pub listed : KnowsListed f p ids
   pub asked : IsFor wanted ids id
   pub within : id ≤ count_of p.history
+  pub reaches : AsksLatest wanted → p.since ≤ id
 
 -- the snapshot with the id is one of the table's, and has gone
 pub record HasGone (f : Files) (p : Past) (s : TableSchema) (id : ℕ) : Type 0 where

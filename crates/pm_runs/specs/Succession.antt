@@ -123,7 +123,7 @@ pub record HasNewestOf (taken : List KnownRun) (run : KnownRun) : Type 0 where
   pub greatest : AllByRecursion (λ (other : KnownRun). other.newest ≤ run.newest) taken
 
 -- A compaction of the group: what it took at its base still stands, together, and at most one new run takes its place,
--- which has rows of the same entries.
+-- which may have rows up to the newest entry of theirs.
 pub record Compacts (s : TableSchema) (g : Group) (since : ℕ) (runs : ℕ → List KnownRun) (n : ℕ) (e : Entry)
     (new : List KnownRun) : Type 0 where
   pub taking : Taking

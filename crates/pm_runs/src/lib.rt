@@ -1,5 +1,5 @@
-//! A group's runs from snapshot to snapshot: definitions and laws alone, which a compaction rests on. No program uses
-//! them yet.
+//! A group's runs from snapshot to snapshot: definitions and laws alone, which the ledger of all commands rests on.
+//! Those that a compaction needs, `there_law`, `still_law`, `placed_law` and `made_law`, no program uses yet.
 //!
 //! `specs/Stand.antt` says when runs stand for the rows of a history. `specs/Succession.antt` says how a group's runs
 //! follow those at the snapshot before: they stay, a run at level 0 comes before them, or at most one run takes the

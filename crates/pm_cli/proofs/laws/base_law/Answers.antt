@@ -27,6 +27,8 @@ names : HaveFiles no_file
 names = record {
   schemas = λ id path within there leads. absurd (nothing (map.get no_file path) (absent path) there);
   snapshots = λ id path within there leads. absurd (nothing (map.get no_file path) (absent path) there);
+  floors = λ n path within there leads. absurd (nothing (map.get no_file path) (absent path) there);
+  consumers = λ name path there leads. absurd (nothing (map.get no_file path) (absent path) there);
 }
 
 folder : Folder no_file no_table

@@ -1,5 +1,9 @@
-use Rattle.pm_model_folder.proofs.Facts.{stays}
+use Rattle.pm_model_folder.proofs.Facts.{needed-stays}
+use Rattle.pm_model_folder.proofs.LedgerFacts.{own-stays}
 use Rattle.pm_model_folder.proofs.laws.stays_law.Goals as goal
 
-pub returns : goal.returns
-returns c = stays
+pub returns-clause-needed : goal.returns-clause-needed
+returns-clause-needed c = needed-stays
+
+pub returns-clause-own : goal.returns-clause-own
+returns-clause-own c = own-stays
