@@ -1,3 +1,4 @@
+mod ActorLemmas
 mod AdvanceLemmas
 mod AfterLemmas
 mod AllCallsLemmas

@@ -1,6 +1,6 @@
 //! Laws of committers.
 
-ghost use Rattle.std.specs.Prelude.{◌≡◌, ◌⊎◌, List, [], ◌∷◌, ◌++◌, Result, Some, Err};
+ghost use Rattle.std.specs.Prelude.{◌≡◌, ◌⊎◌, List, [], ◌∷◌, ◌++◌, Result, Some, Err, IfSome, option_map};
 ghost use Rattle.pm_values.specs.declared.refusal.Refusal.{Refusal};
 ghost use Rattle.pm_values.specs.declared.refusal.Refusal.TheVariants as refusals;
 ghost use Rattle.pm_store.specs.Answers.{Answers};
@@ -18,8 +18,8 @@ ghost use Rattle.pm_model_folder.specs.Ledger.{Advances, Past, Stands};
 ghost use Rattle.pm_commit.specs.AllCalls.{DidAppend};
 ghost use Rattle.pm_commit.specs.Alone.{Beginning, KnewAlone, KnowsAlone};
 ghost use Rattle.pm_commit.specs.Committer.{next_call, Goes, IsCommitter, Refuses, Stops};
-ghost use Rattle.pm_commit.specs.Meaning.{IsOtherThan, Knows, MakesRows, MayRefuse};
-ghost use Rattle.pm_commit.specs.Own.{AreAlike, OwnView};
+ghost use Rattle.pm_commit.specs.Meaning.{IsOtherThan, Knows, MakesRows, MayRefuse, own_in};
+ghost use Rattle.pm_commit.specs.Own.{AreAlike, OwnView, actor_of};
 ghost use Rattle.pm_commit.specs.Trace.{Did, Shows};
 ghost use Rattle.pm_commit.specs.declared.all_calls.Appended.{Appended};
 ghost use Rattle.pm_commit.specs.declared.phase.Phase.{Phase};
@@ -72,6 +72,12 @@ pub fn known_law()
     unnamed_law();
     own_files_law();
 }
+
+/// Whoever runs a committer goes on to run it, until the commit is over.
+pub fn actor_law()
+    ensures { (m : Phase) (answer : Answer) (later : Phase) → Goes m answer later
+        → IfSome (option_map actor_of (own_in later)) (λ me. option_map actor_of (own_in m) ≡ Some me) }
+{}
 
 /// Whatever others do between its calls, a folder that stands shows a committer no refusal but that memory ran out;
 /// that the newest snapshot has gone; that a name that is listed has its actor's mark, or a file was there; that the

@@ -31,7 +31,7 @@ mod search;
 pub use all_calls::{Appended, append_rows};
 pub use committer::{CommitStep, Committer};
 pub use found::Found;
-pub use laws::{causes_law, known_law, one_answer_law};
+pub use laws::{actor_law, causes_law, known_law, one_answer_law};
 pub use making::{Making, Publishing};
 pub use own::Own;
 pub use phase::Phase;
