@@ -1,10 +1,12 @@
--- In a folder that is found machines may begin.
-use Rattle.std.proofs.Common.{◌≡◌, ℕ, List, [], ◌∷◌, sym, subst, arith}
+-- Machines may begin, in a folder that is found and beside others.
+use Rattle.std.proofs.Common.{◌≡◌, ◌⊎◌, inl, inr, ℕ, List, [], ◌∷◌, Option, None, Some, IsSomeAnd, sym, subst, arith}
 use Rattle.std.specs.List.{AllByRecursion}
-use Rattle.pm_store.specs.Files.{Files}
+use Rattle.pm_store.specs.declared.call.Op.{Op}
+use Rattle.pm_store.specs.Files.{Files, files_after}
+use Rattle.pm_store.specs.Store.{StoreView}
 use Rattle.pm_model_history.specs.History.{History, IsTableOf}
 use Rattle.pm_model_history.specs.Merge.{HistoryRow}
-use Rattle.pm_model_folder.specs.Changes.{IsNoOrigin}
+use Rattle.pm_model_folder.specs.Changes.{Actor, IsNoOrigin}
 use Rattle.pm_model_folder.specs.Commits.{Names}
 use Rattle.pm_model_folder.specs.Folder.{Folder}
 use Rattle.pm_model_folder.specs.Ledger.{HasNamedNone, Past, Stands, count_of}
@@ -16,51 +18,87 @@ use Rattle.pm_snapshots.specs.Meaning as snapshots
 use Rattle.pm_snapshots.specs.declared.phase.Phase as listing
 use Rattle.pm_scan.specs.Meaning as scan
 use Rattle.pm_scan.specs.declared.phase.Phase as scanning
+use Rattle.pm_commit.specs.AllCalls.{NamesNone}
 use Rattle.pm_commit.specs.Meaning as commit
 use Rattle.pm_commit.specs.Meaning.{KnowsOwn}
 use Rattle.pm_commit.specs.Own as owner
 use Rattle.pm_commit.specs.declared.phase.Phase as committing
-use Rattle.pm_actors.specs.World.{AllKnow, BeginsCommit, Knows, MayBegin, Worker, commits, creates, lists, scans}
+use Rattle.pm_actors.specs.World.{AllKnow, AreAllApart, BeginsCommit, IsWorld, Knows, MayBegin, MayComeTo, MayJoin, Worker, commits, creates, lists, scans}
 
 -- what the law of a folder that is found says
 abbrev pub Found : Type 0
 Found = (f : Files) (h : History) → Folder f h
     → (p : Past) × (p.history ≡ h) × Stands f p × ((id : ℕ) → p.stood id ≡ f) × (p.since ≡ count_of h)
 
-module _ (f : Files) (p : Past) (stood : (id : ℕ) → p.stood id ≡ f) where
+module _ (f : Files) (p : Past) where
   creator_begins : (t : NewTable) (m : creating.Phase) → IsCreator t m → calls_left m ≡ 2 → IsNoOrigin p.history (own_origin t.me) → create.Knows t m f p
   creator_begins t (creators.Origin path bytes) is left other = (is, subst (IsNoOrigin p.history) (sym is.1.0) other)
   creator_begins t (creators.Schema bytes) is left other = absurd (let clash : 1 ≡ 2 = left in omega (arith, clash))
   creator_begins t creators.Created is left other = absurd (let clash : 0 ≡ 2 = left in omega (arith, clash))
   creator_begins t creators.Over is left other = absurd (let clash : 0 ≡ 2 = left in omega (arith, clash))
 
-  commit_begins : (rows : List HistoryRow) (m : committing.Phase) → BeginsCommit f p.history rows m → commit.Knows rows m f p
+  commit_begins : (rows : List HistoryRow) (m : committing.Phase) → BeginsCommit (λ me. HasNamedNone me p) p.history rows m → commit.Knows rows m f p
   commit_begins rows m begins =
-      let me = owner.actor_of begins.begun in
-      let unnamed : HasNamedNone me p = λ s id path is known named by.
-      begins.unnamed s id path is known.after_origin known.to (subst (λ (g : Files). Names g s id path) (stood id) named) by in
       let own : KnowsOwn begins.begun rows begins.schema p = record {
         is_table = begins.table;
         fit = begins.fit;
         batch = begins.batch;
         may = begins.may;
-        unnamed = unnamed;
+        unnamed = begins.unnamed;
         from = (let none = begins.no_base in omega (arith, none));
       } in
       (begins.is_committer, subst (λ (m : committing.Phase). commit.KnowsIn rows m f p) (sym begins.is) own)
 
-  knows_first : (w : Worker) → MayBegin f p.history w → Knows w f p
-  knows_first (creates t m) (is, left, other) = creator_begins t m is left other
-  knows_first (lists me m) (s, is, table) = subst (λ (m : listing.Phase). snapshots.Knows m f p) (sym is) table
-  knows_first (scans me m) (a, is, table) = subst (λ (m : scanning.Phase). scan.Knows m f p) (sym is) table
-  knows_first (commits rows m) begins = commit_begins rows m begins
+  pub joined : (w : Worker) → MayJoin p w → Knows w f p
+  joined (creates t m) (is, left, other) = creator_begins t m is left other
+  joined (lists me m) (inl is) = subst (λ (m : listing.Phase). snapshots.Knows m f p) (sym is) tt
+  joined (lists me m) (inr (s, is, table)) = subst (λ (m : listing.Phase). snapshots.Knows m f p) (sym is) table
+  joined (scans me m) (a, is, table) = subst (λ (m : scanning.Phase). scan.Knows m f p) (sym is) table
+  joined (commits rows m) begins = commit_begins rows m begins
+
+-- so it comes into their world
+pub came : (workers : List Worker) (w : Worker) (store : StoreView) → AreAllApart (w ∷ workers) → MayComeTo workers w store → IsWorld (w ∷ workers) store
+came workers w store apart may = (apart, at store.ops may)
+  where
+    at : (known : Option (List Op)) → IsSomeAnd known (λ ops. (p : Past) × Stands (files_after ops) p × AllKnow workers (files_after ops) p × MayJoin p w)
+        → IsSomeAnd known (λ ops. (p : Past) × Stands (files_after ops) p × AllKnow (w ∷ workers) (files_after ops) p)
+    at None none = none
+    at (Some ops) (p, stands, known, joins) = (p, stands, (joined (files_after ops) p w joins, known))
+
+-- what the law of those that join says
+abbrev pub Joins : Type 0
+Joins = (f : Files) (p : Past) (w : Worker) → MayJoin p w → Knows w f p
+
+-- where each known snapshot stands as it is, one that may begin in the folder may join
+module _ (joins : Joins) (f : Files) (p : Past) (stood : (id : ℕ) → p.stood id ≡ f) where
+  names_none : (me : Actor) → NamesNone me p.history f → HasNamedNone me p
+  names_none me none s id path is known named by =
+      none s id path is known.after_origin known.to (subst (λ (g : Files). Names g s id path) (stood id) named) by
+
+  may_join : (w : Worker) → MayBegin f p.history w → MayJoin p w
+  may_join (creates t m) may = may
+  may_join (lists me m) may = may
+  may_join (scans me m) may = may
+  may_join (commits rows m) may = record {
+    begun = may.begun;
+    schema = may.schema;
+    is = may.is;
+    is_committer = may.is_committer;
+    table = may.table;
+    fit = may.fit;
+    batch = may.batch;
+    may = may.may;
+    no_base = may.no_base;
+    none_lost = may.none_lost;
+    unnamed = names_none (owner.actor_of may.begun) may.unnamed;
+  }
 
   all_begin : (workers : List Worker) → AllByRecursion (MayBegin f p.history) workers → AllKnow workers f p
   all_begin [] all = tt
-  all_begin (w ∷ workers) (first, all) = (knows_first w first, all_begin workers all)
+  all_begin (w ∷ workers) (first, all) = (joins f p w (may_join w first), all_begin workers all)
 
-pub begun : Found → (f : Files) (h : History) (workers : List Worker) → Folder f h → AllByRecursion (MayBegin f h) workers
+pub begun : Found → Joins → (f : Files) (h : History) (workers : List Worker) → Folder f h → AllByRecursion (MayBegin f h) workers
     → (p : Past) × (p.history ≡ h) × Stands f p × AllKnow workers f p
-begun found f h workers folder may =
+begun found joins f h workers folder may =
     let at = found f h folder in
-    (at.0, at.1, at.2, all_begin f at.0 at.3 workers (subst (λ (h : History). AllByRecursion (MayBegin f h) workers) (sym at.1) may))
+    (at.0, at.1, at.2, all_begin joins f at.0 at.3 workers (subst (λ (h : History). AllByRecursion (MayBegin f h) workers) (sym at.1) may))

@@ -23,7 +23,7 @@ use Rattle.pm_commit.specs.Meaning as commit
 use Rattle.pm_commit.specs.Own as owner
 use Rattle.pm_commit.specs.Own.{OwnView}
 use Rattle.pm_commit.specs.declared.phase.Phase as committing
-use Rattle.pm_actors.specs.World.{AllKnow, AreApart, Differ, IsWorld, Knows, Leaves, Worker, actor_of, commits, creates, lists, scans}
+use Rattle.pm_actors.specs.World.{AllKnow, AllKnowIn, AreAllApart, AreApart, Differ, IsWorld, KeepsActor, Knows, Leaves, Worker, actor_of, commits, creates, lists, scans}
 
 -- what the laws of the crates below say
 pub record KnownLaws : Type 0 where
@@ -93,6 +93,58 @@ others_know laws a others apart f after p q stands known changes =
     let acts = steps laws a f after p q changes in
     (laws.past acts.0 f after p q stands acts.2, all_still laws a others f after p q apart stands acts known)
 
+-- ---- who is apart
+
+apart_back : (a b : Worker) → AreApart a b → AreApart b a
+apart_back a b apart = at (actor_of a) (actor_of b) apart
+  where
+    at : (mine its : Option Actor) → IfSome mine (λ me. IfSome its (λ other. Differ me other)) → IfSome its (λ me. IfSome mine (λ other. Differ me other))
+    at None None apart = tt
+    at None (Some other) apart = tt
+    at (Some me) None apart = tt
+    at (Some me) (Some other) apart = record { mine = apart.its; its = apart.mine; apart = λ same. apart.apart (sym same) }
+
+-- one of them apart
+one_out : (P : Worker → Type 0) (before later : List Worker) (a : Worker) → AllByRecursion P (before ++ a ∷ later) → AllByRecursion P (before ++ later) × P a
+one_out P [] later a all = (all.1, all.0)
+one_out P (b ∷ before) later a all =
+    let rest = one_out P before later a all.1 in
+    ((all.0, rest.0), rest.1)
+
+apart_rest : (before later : List Worker) (a : Worker) → AreAllApart (before ++ a ∷ later) → AllByRecursion (AreApart a) (before ++ later)
+apart_rest [] later a all = all.0
+apart_rest (b ∷ before) later a all =
+    (apart_back b a (one_out (AreApart b) before later a all.0).1, apart_rest before later a all.1)
+
+left_apart : (before later : List Worker) (a : Worker) → AreAllApart (before ++ a ∷ later) → AreAllApart (before ++ later)
+left_apart [] later a all = all.1
+left_apart (b ∷ before) later a all = ((one_out (AreApart b) before later a all.0).0, left_apart before later a all.1)
+
+-- a machine that keeps its actor stays apart
+module _ (a new : Worker) (keeps : KeepsActor a new) where
+  new_apart : (b : Worker) → AreApart b a → AreApart b new
+  new_apart b apart = at (actor_of new) keeps
+    where
+      by_none : (its : Option Actor) → IfSome its (λ me. Unit {0})
+      by_none None = tt
+      by_none (Some me) = tt
+
+      at : (mine : Option Actor) → IfSome mine (λ me. actor_of a ≡ Some me) → IfSome (actor_of b) (λ its. IfSome mine (λ me. Differ its me))
+      at None is = by_none (actor_of b)
+      at (Some me) is = subst (λ (o : Option Actor). IfSome (actor_of b) (λ its. IfSome o (λ me. Differ its me))) is apart
+
+  all_new : (b : Worker) (before later : List Worker) → AllByRecursion (AreApart b) (before ++ a ∷ later) → AllByRecursion (AreApart b) (before ++ new ∷ later)
+  all_new b [] later all = (new_apart b all.0, all.1)
+  all_new b (c ∷ before) later all = (all.0, all_new b before later all.1)
+
+  from_new : (later : List Worker) → AllByRecursion (AreApart a) later → AllByRecursion (AreApart new) later
+  from_new [] all = tt
+  from_new (b ∷ later) all = (apart_back b new (new_apart b (apart_back a b all.0)), from_new later all.1)
+
+  still_apart : (before later : List Worker) → AreAllApart (before ++ a ∷ later) → AreAllApart (before ++ new ∷ later)
+  still_apart [] later all = (from_new later all.0, all.1)
+  still_apart (b ∷ before) later all = (all_new b before later all.0, still_apart before later all.1)
+
 -- ---- a world
 
 -- one of them apart, and put in again
@@ -113,7 +165,7 @@ OthersKnow = (a : Worker) (others : List Worker) → AllByRecursion (AreApart a)
 abbrev OneApart : List Worker → Worker → StoreView → Type 0
 OneApart others a store = moves.Stands Stands (λ f p. AllKnow others f p × Knows a f p) store
 
-one_apart : (before later : List Worker) (a : Worker) (store : StoreView) → IsWorld (before ++ a ∷ later) store → OneApart (before ++ later) a store
+one_apart : (before later : List Worker) (a : Worker) (store : StoreView) → AllKnowIn (before ++ a ∷ later) store → OneApart (before ++ later) a store
 one_apart before later a store = at store.ops
   where
     at : (known : Option (List Op)) → IsSomeAnd known (λ ops. (p : Past) × Stands (files_after ops) p × AllKnow (before ++ a ∷ later) (files_after ops) p)
@@ -121,7 +173,7 @@ one_apart before later a store = at store.ops
     at None world = world
     at (Some ops) (p, stands, known) = (p, stands, taken_out before later a (files_after ops) p known)
 
-all_again : (before later : List Worker) (a : Worker) (store : StoreView) → OneApart (before ++ later) a store → IsWorld (before ++ a ∷ later) store
+all_again : (before later : List Worker) (a : Worker) (store : StoreView) → OneApart (before ++ later) a store → AllKnowIn (before ++ a ∷ later) store
 all_again before later a store = at store.ops
   where
     at : (known : Option (List Op))
@@ -130,10 +182,21 @@ all_again before later a store = at store.ops
     at None world = world
     at (Some ops) (p, stands, known) = (p, stands, put_in before later a (files_after ops) p known.0 known.1)
 
-pub world : OthersKnow → (before later : List Worker) (a new : Worker) (first after : StoreView) → AllByRecursion (AreApart a) (before ++ later)
+pub world : OthersKnow → (before later : List Worker) (a new : Worker) (first after : StoreView) → KeepsActor a new
     → IsAlone first after → Moves Stands (Leaves a) (Knows a) (Knows new) first after → IsWorld (before ++ a ∷ later) first
     → IsWorld (before ++ new ∷ later) after
-world law before later a new first after apart alone moved was =
-    all_again before later new after
-    (Stands-moves Stands (Leaves a) (AllKnow (before ++ later)) (Knows a) (Knows new) (law a (before ++ later) apart) first after alone moved
-    (one_apart before later a first was))
+world law before later a new first after keeps alone moved (apart, was) = (
+  still_apart a new keeps before later apart,
+  all_again before later new after
+      (Stands-moves Stands (Leaves a) (AllKnow (before ++ later)) (Knows a) (Knows new) (law a (before ++ later) (apart_rest before later a apart)) first after
+      alone moved (one_apart before later a first was)),
+)
+
+-- where one of them stops
+pub left : (before later : List Worker) (a : Worker) (store : StoreView) → IsWorld (before ++ a ∷ later) store → IsWorld (before ++ later) store
+left before later a store (apart, was) = (left_apart before later a apart, at store.ops was)
+  where
+    at : (known : Option (List Op)) → IsSomeAnd known (λ ops. (p : Past) × Stands (files_after ops) p × AllKnow (before ++ a ∷ later) (files_after ops) p)
+        → IsSomeAnd known (λ ops. (p : Past) × Stands (files_after ops) p × AllKnow (before ++ later) (files_after ops) p)
+    at None world = world
+    at (Some ops) (p, stands, known) = (p, stands, (taken_out before later a (files_after ops) p known).0)

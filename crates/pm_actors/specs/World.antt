@@ -1,5 +1,5 @@
 -- Machines of commands beside each other on one folder, each run by an actor: what each may change, and what it knows.
-use Rattle.std.specs.Prelude.{◌≡◌, ◌≢◌, List, Option, Some, IfSome, IsSomeAnd, option_map}
+use Rattle.std.specs.Prelude.{◌≡◌, ◌≢◌, ◌⊎◌, List, [], ◌∷◌, Option, Some, IfSome, IsSomeAnd, option_map}
 use Rattle.std.specs.List.{AllByRecursion}
 use Rattle.pm_store.specs.Files.{Files, files_after}
 use Rattle.pm_store.specs.Store.{StoreView}
@@ -9,10 +9,11 @@ use Rattle.pm_schema.specs.declared.schema.TableSchema.{TableSchema}
 use Rattle.pm_snapshot.specs.Names.{MayName}
 use Rattle.pm_model_folder.specs.Changes.{Actor, IsActor, IsNoOrigin}
 use Rattle.pm_model_folder.specs.Folder.{IsRowOf}
-use Rattle.pm_model_folder.specs.Ledger.{Past, Stands}
+use Rattle.pm_model_folder.specs.Ledger.{HasNamedNone, Past, Stands}
 use Rattle.pm_create.specs.Creator.{IsCreator, NewTable, calls_left, own_origin}
 use Rattle.pm_create.specs.Meaning as create
 use Rattle.pm_create.specs.declared.phase.Phase as creating
+use Rattle.pm_read_schema.specs.declared.phase.Phase.TheVariants as schema_readers
 use Rattle.pm_snapshots.specs.Meaning as snapshots
 use Rattle.pm_snapshots.specs.declared.phase.Phase as listing
 use Rattle.pm_snapshots.specs.declared.phase.Phase.TheVariants as listers
@@ -74,32 +75,62 @@ pub record Differ (me other : Actor) : Type 0 where
 abbrev pub AreApart : Worker → Worker → Type 0
 AreApart a b = IfSome (actor_of a) (λ me. IfSome (actor_of b) (λ other. Differ me other))
 
+-- so of each two of them
+abbrev pub AreAllApart : List Worker → Type 0
+AreAllApart [] = Unit {0}
+AreAllApart (w ∷ workers) = AllByRecursion (AreApart w) workers × AreAllApart workers
+
+-- the machine as it is then is run by the same actor, or by nobody
+abbrev pub KeepsActor : Worker → Worker → Type 0
+KeepsActor a new = IfSome (actor_of new) (λ me. actor_of a ≡ Some me)
+
 -- ---- all of them
 
 -- the store's operations are known, and leave files that stand; each of the machines knows what it knows
-abbrev pub IsWorld : List Worker → StoreView → Type 0
-IsWorld workers store =
+abbrev pub AllKnowIn : List Worker → StoreView → Type 0
+AllKnowIn workers store =
     IsSomeAnd store.ops (λ ops. (p : Past) × Stands (files_after ops) p × AllKnow workers (files_after ops) p)
+
+-- so of machines that different actors run
+abbrev pub IsWorld : List Worker → StoreView → Type 0
+IsWorld workers store = AreAllApart workers × AllKnowIn workers store
 
 -- ---- where they begin
 
--- what a commit of rows begins with: no try was made, and its actor is new to the history
-pub record BeginsCommit (f : Files) (h : History) (rows : List HistoryRow) (m : committing.Phase) : Type 0 where
-  pub begun : OwnView
-  pub schema : TableSchema
-  pub is : m ≡ committers.Names begun schema
-  pub is_committer : IsCommitter m
-  pub table : IsTableOf schema h
-  pub fit : AllByRecursion (IsRowOf schema) rows
-  pub batch : IsBatchOf schema rows begun.batch
-  pub may : MayName begun.names
-  pub no_base : begun.author.base ≡ 0
-  pub unnamed : NamesNone (owner.actor_of begun) h f
+-- what a commit of rows begins with: no try was made, and its actor is one that named nothing
+pub record BeginsCommit (Named : Actor → Type 0) (h : History) (rows : List HistoryRow) (m : committing.Phase) : Type 0
+  where
+    pub begun : OwnView
+    pub schema : TableSchema
+    pub is : m ≡ committers.Names begun schema
+    pub is_committer : IsCommitter m
+    pub table : IsTableOf schema h
+    pub fit : AllByRecursion (IsRowOf schema) rows
+    pub batch : IsBatchOf schema rows begun.batch
+    pub may : MayName begun.names
+    pub no_base : begun.author.base ≡ 0
+    pub none_lost : begun.lost ≡ []
+    pub unnamed : Named (owner.actor_of begun)
 
--- A machine has made no call, of a folder that stands for the history: a creator's actor is new to that, and a command
--- on a table has read its schema.
+-- A machine has made no call on a table with the history: a creator's origin isn't that table's, a lister has yet to
+-- read the schema or has read it, and a scanner or a committer has read it.
+abbrev pub Begins : (Actor → Type 0) → History → Worker → Type 0
+Begins Named h (creates t m) = IsCreator t m × (calls_left m ≡ 2) × IsNoOrigin h (own_origin t.me)
+Begins Named h (lists me m) =
+    (m ≡ listers.Schema schema_readers.Schemas) ⊎ ((s : TableSchema) × (m ≡ listers.List s) × IsTableOf s h)
+Begins Named h (scans me m) = (a : Asked) × (m ≡ scanners.View (readers.List a)) × IsTableOf a.schema h
+Begins Named h (commits rows m) = BeginsCommit Named h rows m
+
+-- in a folder that is found: no snapshot that is there names a file of a committer
 abbrev pub MayBegin : Files → History → Worker → Type 0
-MayBegin f h (creates t m) = IsCreator t m × (calls_left m ≡ 2) × IsNoOrigin h (own_origin t.me)
-MayBegin f h (lists me m) = (s : TableSchema) × (m ≡ listers.List s) × IsTableOf s h
-MayBegin f h (scans me m) = (a : Asked) × (m ≡ scanners.View (readers.List a)) × IsTableOf a.schema h
-MayBegin f h (commits rows m) = BeginsCommit f h rows m
+MayBegin f h w = Begins (λ me. NamesNone me h f) h w
+
+-- beside others: no known snapshot names a file of a committer
+abbrev pub MayJoin : Past → Worker → Type 0
+MayJoin p w = Begins (λ me. HasNamedNone me p) p.history w
+
+-- the store's operations leave files of which each of the machines knows what it knows, and where this one may begin
+abbrev pub MayComeTo : List Worker → Worker → StoreView → Type 0
+MayComeTo workers w store =
+    IsSomeAnd store.ops
+    (λ ops. (p : Past) × Stands (files_after ops) p × AllKnow workers (files_after ops) p × MayJoin p w)
