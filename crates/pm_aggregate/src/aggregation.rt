@@ -10,7 +10,7 @@ ghost use Rattle.pm_model_history.specs.Merge.{value_at};
 use crate::aggregator::Aggregator;
 use crate::column_function::{ColumnFunction, function_on};
 use pm_columns::verdict_of;
-use pm_engine::{MergeEngine, Stored, Verdict};
+use pm_engine::{MergeEngine, Needed, Stored, Verdict};
 use pm_schema::TableSchema;
 use pm_values::{Column, Kind, Row, Value};
 use std::alloc::{AllocError, Global};
@@ -84,6 +84,10 @@ impl MergeEngine for Aggregation {
             kind: Kind::Insert,
             row: stored?,
         })
+    }
+
+    fn needed(&self) -> Needed {
+        Needed::Both
     }
 
     fn shows(&self, _stored: &Stored) -> bool {

@@ -4,7 +4,7 @@ ghost use Rattle.std.specs.Prelude.{◌≡◌, IfOk};
 ghost use Rattle.pm_options.specs.declared.kinds.EngineKind.TheVariants as engines;
 ghost use Rattle.pm_engine.specs.OfSchema.{meaning_of};
 
-use pm_engine::{MergeEngine, Stored, Verdict};
+use pm_engine::{MergeEngine, Needed, Stored, Verdict};
 use pm_schema::TableSchema;
 use pm_values::{Kind, Row};
 use std::alloc::{AllocError, Global};
@@ -47,6 +47,10 @@ impl MergeEngine for Deduplicate {
 
     fn combine(&self, _alloc: Global, _older: Stored, newer: Stored) -> Result<Stored, AllocError> {
         Ok(newer)
+    }
+
+    fn needed(&self) -> Needed {
+        Needed::Newer
     }
 
     fn shows(&self, stored: &Stored) -> bool {

@@ -5,7 +5,7 @@ ghost use Rattle.pm_options.specs.declared.kinds.EngineKind.TheVariants as engin
 ghost use Rattle.pm_schema.specs.Rules.{differ, names_of};
 ghost use Rattle.pm_engine.specs.OfSchema.{meaning_of};
 
-use pm_engine::{MergeEngine, Stored, Verdict};
+use pm_engine::{MergeEngine, Needed, Stored, Verdict};
 use pm_schema::TableSchema;
 use pm_values::{Kind, Row};
 use std::alloc::{AllocError, Global};
@@ -52,6 +52,10 @@ impl MergeEngine for FirstRow {
 
     fn combine(&self, _alloc: Global, older: Stored, _newer: Stored) -> Result<Stored, AllocError> {
         Ok(older)
+    }
+
+    fn needed(&self) -> Needed {
+        Needed::Older
     }
 
     fn shows(&self, _stored: &Stored) -> bool {

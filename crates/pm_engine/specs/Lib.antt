@@ -1,5 +1,6 @@
 pub mod Covers
 pub mod Meaning
+pub mod Needed
 pub mod OfSchema
 pub mod Reducing
 pub mod Stored

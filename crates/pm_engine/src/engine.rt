@@ -6,8 +6,10 @@ ghost use Rattle.pm_values.specs.Order.{Values};
 ghost use Rattle.pm_model_history.specs.Merge.{HistoryRow, key_of};
 ghost use Rattle.pm_model_history.specs.declared.verdict.Verdict.TheVariants.{Take};
 ghost use Rattle.pm_engine.specs.Meaning.{Meaning, DropsNoEffect, SpeaksFor};
+ghost use Rattle.pm_engine.specs.Needed.{IsNeeded};
 ghost use Rattle.pm_engine.specs.Stored.{as_row};
 
+use crate::needed::Needed;
 use crate::stored::Stored;
 use pm_model_history::Verdict;
 use pm_values::{Kind, Row};
@@ -39,6 +41,11 @@ pub trait MergeEngine {
             SpeaksFor (meaning self.now) key (as_row older) before →
             SpeaksFor (meaning self.now) key (as_row newer) after → IfOk result (λ stored.
             SpeaksFor (meaning self.now) key (as_row stored) (before ++ after)) };
+
+    /// Which of two stored rows of a key their stored row is made of. Of one alone it is that row, whatever the other
+    /// is, but for its number.
+    fn needed(&self) -> Needed
+        ensures { IsNeeded (meaning self.now) result };
 
     /// Whether the key of the stored row shows.
     fn shows(&self, stored: &Stored) -> bool

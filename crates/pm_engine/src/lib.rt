@@ -4,7 +4,8 @@
 //! over rows of a key, and which keys show (`specs/Meaning.antt`). A stored row speaks for rows of its key where it is
 //! worth the same as they are, among whatever other rows of the key. The trait's clauses are four laws over these
 //! words: a lifted row speaks for itself, a combined one for what both spoke for, a stored row shows where its rows do,
-//! and a droppable one has no effect. The layers above rest on them alone, and no engine is named there.
+//! and a droppable one has no effect. The layers above rest on them alone, and no engine is named there. An engine says
+//! which of two stored rows is needed (`specs/Needed.antt`), so that one that is combined is copied only where both are.
 //!
 //! What is made here has the kind of its rows, too, and so it is the stored row of these rows: there is one
 //! (`stored_law`). A file that was found may have another kind beside the same values: its row speaks for the rows all
@@ -19,11 +20,13 @@
 
 mod engine;
 mod laws;
+mod needed;
 mod reducing;
 mod stored;
 
 pub use engine::MergeEngine;
 pub use laws::{added_law, covers_law, own_kind_law, stored_law, worth_law};
+pub use needed::Needed;
 pub use pm_model_history::Verdict;
 pub use reducing::{combined, reduce};
 pub use stored::Stored;

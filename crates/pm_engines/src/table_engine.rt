@@ -9,7 +9,7 @@ ghost use Rattle.pm_engines.specs.Verdict.{verdict_on};
 use crate::verdict::{Verdict, named};
 use pm_aggregate::Aggregation;
 use pm_dedup::{Deduplicate, FirstRow};
-use pm_engine::{MergeEngine, Stored, Verdict as VerdictByIndex};
+use pm_engine::{MergeEngine, Needed, Stored, Verdict as VerdictByIndex};
 use pm_partial::PartialUpdate;
 use pm_schema::{EngineKind, TableSchema};
 use pm_values::{Kind, Refusal, Row};
@@ -104,6 +104,15 @@ impl MergeEngine for TableEngine {
             TableEngine::PartialUpdate(engine) => engine.combine(alloc, older, newer),
             TableEngine::Aggregation(engine) => engine.combine(alloc, older, newer),
             TableEngine::FirstRow(engine) => engine.combine(alloc, older, newer),
+        }
+    }
+
+    fn needed(&self) -> Needed {
+        match self {
+            TableEngine::Deduplicate(engine) => engine.needed(),
+            TableEngine::PartialUpdate(engine) => engine.needed(),
+            TableEngine::Aggregation(engine) => engine.needed(),
+            TableEngine::FirstRow(engine) => engine.needed(),
         }
     }
 

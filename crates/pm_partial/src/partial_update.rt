@@ -13,7 +13,7 @@ ghost use Rattle.pm_partial.specs.Update.{update_on};
 use crate::update::{Update, update_on};
 use pm_aggregate::{Aggregator, LastNonNullValue};
 use pm_columns::verdict_of;
-use pm_engine::{MergeEngine, Stored, Verdict};
+use pm_engine::{MergeEngine, Needed, Stored, Verdict};
 use pm_schema::TableSchema;
 use pm_values::{ColType, Kind, Row, Value};
 use std::alloc::{AllocError, Global};
@@ -85,6 +85,10 @@ impl MergeEngine for PartialUpdate {
             kind: Kind::Insert,
             row: stored?,
         })
+    }
+
+    fn needed(&self) -> Needed {
+        Needed::Both
     }
 
     fn shows(&self, _stored: &Stored) -> bool {
