@@ -5,7 +5,7 @@
 //! worth the same as they are, among whatever other rows of the key. The trait's clauses are four laws over these
 //! words: a lifted row speaks for itself, a combined one for what both spoke for, a stored row shows where its rows do,
 //! and a droppable one has no effect. The layers above rest on them alone, and no engine is named there. An engine says
-//! which of two stored rows is needed (`specs/Needed.antt`), so that one that is combined is copied only where both are.
+//! which of two stored rows is needed (`specs/Needed.antt`), so a row is copied to be combined only where both are.
 //!
 //! What is made here has the kind of its rows, too, and so it is the stored row of these rows: there is one
 //! (`stored_law`). A file that was found may have another kind beside the same values: its row speaks for the rows all
