@@ -1,6 +1,6 @@
 //! A text that a record keeps.
 
-ghost use Rattle.std.specs.Prelude.{◌≡◌, ◌==◌, List, ℕ, Some, IfOk, IsUtf8};
+ghost use Rattle.std.specs.Prelude.{◌≡◌, ◌==◌, ◌++◌, List, ℕ, Some, IfOk, IsUtf8, OnErr, OnOk};
 ghost use Rattle.std.proofs.Common.{rules};
 ghost use Rattle.std.specs.Cmp.{partial_equiv_from_equiv, partial_order_from_own_ties};
 ghost use Rattle.std.specs.Cmp.Lexicographic.{slice_cmp, nat_list_cmp_total, nat_list_eq_equiv};
@@ -55,6 +55,15 @@ impl Txt {
         ensures utf8 { IsUtf8 self.now }
     {
         self.text.as_str().as_bytes()
+    }
+
+    /// Appends a text, in time by this one's length, as the room grows by doubling. Where memory runs out, the text
+    /// stays as it is.
+    pub fn push_str(&mut self, more: &str) -> Result<(), AllocError>
+        ensures pushed { OnOk result (self.new ≡ self.old ++ more.now) }
+        ensures unchanged { OnErr result (self.new ≡ self.old) }
+    {
+        self.text.push_str(more)
     }
 
     /// An equal text.

@@ -41,6 +41,14 @@ impl Row {
         self.values.as_slice()
     }
 
+    /// The values in a vector of their own.
+    pub fn into_values(self) -> Vec<Value>
+        ensures { result.items ≡ self }
+    {
+        let Row { values } = self;
+        values
+    }
+
     /// An equal row.
     pub fn copy(&self, alloc: Global) -> Result<Row, AllocError>
         ensures { IfOk result (λ r. r ≡ self.now) }
