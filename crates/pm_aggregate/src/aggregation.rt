@@ -5,10 +5,10 @@ ghost use Rattle.pm_options.specs.declared.kinds.EngineKind.TheVariants as engin
 ghost use Rattle.pm_engine.specs.OfSchema.{meaning_of};
 ghost use Rattle.pm_aggregate.specs.Aggregation.{AreCombined, AreLifted, CanAggregate, IsCombined, IsLifted, Takes};
 ghost use Rattle.pm_aggregate.specs.ColumnFunction.{function_on};
-ghost use Rattle.pm_model_history.specs.Merge.{value_at};
 
 use crate::aggregator::Aggregator;
 use crate::column_function::{ColumnFunction, function_on};
+use crate::values::next_value;
 use pm_columns::verdict_of;
 use pm_engine::{MergeEngine, Needed, Stored, Verdict};
 use pm_schema::TableSchema;
@@ -68,21 +68,16 @@ impl MergeEngine for Aggregation {
     }
 
     fn lift(&self, alloc: Global, kind: Kind, row: Row) -> Result<Stored, AllocError> {
-        let stored = lifted_row(alloc, self.functions.as_slice(), kind, &row);
-        drop(row);
         Ok(Stored {
             kind: Kind::Insert,
-            row: stored?,
+            row: lifted_row(alloc, self.functions.as_slice(), kind, row)?,
         })
     }
 
     fn combine(&self, alloc: Global, older: Stored, newer: Stored) -> Result<Stored, AllocError> {
-        let stored = combined_row(alloc, self.functions.as_slice(), &older.row, &newer.row);
-        drop(older);
-        drop(newer);
         Ok(Stored {
             kind: Kind::Insert,
-            row: stored?,
+            row: combined_row(alloc, self.functions.as_slice(), older.row, newer.row)?,
         })
     }
 
@@ -106,14 +101,15 @@ fn lifted_row(
     alloc: Global,
     functions: &[Option<ColumnFunction>],
     kind: Kind,
-    row: &Row,
+    row: Row,
 ) -> Result<Row, AllocError>
     requires { All (Takes kind) functions.now }
-    ensures { IfOk result (λ stored. AreLifted functions.now kind row.now stored) }
+    ensures { IfOk result (λ stored. AreLifted functions.now kind row stored) }
 {
+    let mut left = row.into_values().into_iter();
     let mut values = Vec::with_capacity(alloc, functions.len())?;
-    for (index, function) in functions.iter().enumerate() {
-        values.push(lifted(alloc, function, kind, value_at(alloc, row, index)?)?)?;
+    for function in functions {
+        values.push(lifted(alloc, function, kind, next_value(&mut left))?)?;
     }
     Ok(Row::new(values))
 }
@@ -138,44 +134,36 @@ fn lifted(
 fn combined_row(
     alloc: Global,
     functions: &[Option<ColumnFunction>],
-    older: &Row,
-    newer: &Row,
+    older: Row,
+    newer: Row,
 ) -> Result<Row, AllocError>
-    ensures { IfOk result (λ stored. AreCombined functions.now older.now newer.now stored) }
+    ensures { IfOk result (λ stored. AreCombined functions.now older newer stored) }
 {
+    let mut older_left = older.into_values().into_iter();
+    let mut newer_left = newer.into_values().into_iter();
     let mut values = Vec::with_capacity(alloc, functions.len())?;
-    for (index, function) in functions.iter().enumerate() {
-        values.push(combined(alloc, function, older, newer, index)?)?;
+    for function in functions {
+        let before = next_value(&mut older_left);
+        let after = next_value(&mut newer_left);
+        values.push(combined(alloc, function, before, after)?)?;
     }
     Ok(Row::new(values))
 }
 
-/// The stored value of the values that two rows have at an index.
+/// The stored value of two.
 fn combined(
     alloc: Global,
     function: &Option<ColumnFunction>,
-    older: &Row,
-    newer: &Row,
-    index: usize,
+    older: Value,
+    newer: Value,
 ) -> Result<Value, AllocError>
-    ensures { IfOk result (IsCombined function.now (value_at older.now index) (value_at newer.now index)) }
+    ensures { IfOk result (IsCombined function.now older newer) }
 {
     match function {
-        Some(function) => {
-            let before = value_at(alloc, older, index)?;
-            let after = value_at(alloc, newer, index)?;
-            function.combine(alloc, before, after)
+        Some(function) => function.combine(alloc, older, newer),
+        None => {
+            drop(older);
+            Ok(newer)
         }
-        None => value_at(alloc, newer, index),
-    }
-}
-
-/// The value at an index, null where there is none.
-fn value_at(alloc: Global, row: &Row, index: usize) -> Result<Value, AllocError>
-    ensures { IfOk result (λ value. value ≡ value_at row.now index) }
-{
-    match row.values().get(index) {
-        Some(value) => value.copy(alloc),
-        None => Ok(Value::Null),
     }
 }

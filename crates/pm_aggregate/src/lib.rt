@@ -8,7 +8,8 @@
 //!
 //! `ColumnFunction` is any of the ten. `Aggregation` is a merge engine over any mix of them, whose meaning is that of
 //! its schema. A stored row inserts, and has in each column what the column is worth; so a first value that is null
-//! stays null, and a sum of nulls is null.
+//! stays null, and a sum of nulls is null. Rows are taken apart and their values moved (`next_value`); a joined text
+//! grows in place.
 #![tactic(auto)]
 
 mod aggregation;
@@ -29,3 +30,4 @@ pub use extremes::{Max, Min};
 pub use list_agg::ListAgg;
 pub use sum::Sum;
 pub use truths::{BoolAnd, BoolOr};
+pub use values::next_value;

@@ -1,6 +1,6 @@
 //! The texts of a column, joined.
 
-ghost use Rattle.std.specs.Prelude.{◌≡◌, IfOk, if◌then◌else◌};
+ghost use Rattle.std.specs.Prelude.{◌≡◌, ◌++◌, IfOk, if◌then◌else◌};
 ghost use Rattle.pm_values.specs.declared.value.Value.TheVariants.{Null};
 ghost use Rattle.pm_aggregate.specs.Functions.{joined_of};
 ghost use Rattle.pm_aggregate.specs.Steps.{beside, glued, text_alone};
@@ -40,8 +40,8 @@ impl Aggregator for ListAgg {
         Ok(lifted(retract, value))
     }
 
-    fn combine(&self, alloc: Global, older: Value, newer: Value) -> Result<Value, AllocError> {
-        joined(alloc, self.delimiter.as_str(), older, newer)
+    fn combine(&self, _alloc: Global, older: Value, newer: Value) -> Result<Value, AllocError> {
+        joined(self.delimiter.as_str(), older, newer)
     }
 }
 
@@ -59,7 +59,7 @@ fn lifted(retract: bool, value: Value) -> Value
 }
 
 /// Two texts joined, where null is no text.
-fn joined(alloc: Global, delimiter: &str, older: Value, newer: Value) -> Result<Value, AllocError>
+fn joined(delimiter: &str, older: Value, newer: Value) -> Result<Value, AllocError>
     ensures { IfOk result (λ v. v ≡ beside (glued delimiter.now) older newer) }
 {
     if is_null(&older) {
@@ -70,26 +70,28 @@ fn joined(alloc: Global, delimiter: &str, older: Value, newer: Value) -> Result<
         drop(newer);
         return Ok(older);
     }
-    let text = glued(alloc, delimiter, &older, &newer);
-    drop(older);
-    drop(newer);
-    text
+    glued(delimiter, older, newer)
 }
 
 /// Two texts with the delimiter between them.
-fn glued(alloc: Global, delimiter: &str, older: &Value, newer: &Value) -> Result<Value, AllocError>
-    ensures { IfOk result (λ v. v ≡ glued delimiter.now older.now newer.now) }
+fn glued(delimiter: &str, older: Value, newer: Value) -> Result<Value, AllocError>
+    ensures { IfOk result (λ v. v ≡ glued delimiter.now older newer) }
 {
     match older {
-        Value::Text(a) => match newer {
-            Value::Text(b) => {
-                let mut text = String::from_str(alloc, a.as_str())?;
-                text.push_str(delimiter)?;
-                text.push_str(b.as_str())?;
-                Ok(Value::Text(Txt::from_str(alloc, text.as_str())?))
-            }
+        Value::Text(text) => match newer {
+            Value::Text(more) => Ok(Value::Text(extended(text, delimiter, &more)?)),
             _ => Ok(Value::Null),
         },
         _ => Ok(Value::Null),
     }
+}
+
+/// A text with the delimiter and another one after it. It grows in place.
+fn extended(text: Txt, delimiter: &str, more: &Txt) -> Result<Txt, AllocError>
+    ensures { IfOk result (λ t. t ≡ (text ++ delimiter.now) ++ more.now) }
+{
+    let mut text = text;
+    text.push_str(delimiter)?;
+    text.push_str(more.as_str())?;
+    Ok(text)
 }

@@ -1,5 +1,5 @@
 -- The columns of a sequence group: what is known of rows joined, and of a stored row.
-use Rattle.std.proofs.Common.{arith, ◌≡◌, ℕ, List, [], ◌∷◌, ◌++◌, Bool, true, false, not, ◌&&◌, ◌==◌, cond, Option, Some, None, refl, sym, ap, ◌∙◌}
+use Rattle.std.proofs.Common.{arith, ◌≡◌, ℕ, zero, suc, List, [], ◌∷◌, ◌++◌, get_or, map, Bool, true, false, not, ◌&&◌, ◌==◌, cond, Option, Some, None, refl, sym, ap, ◌∙◌}
 use Rattle.std.specs.Option.{option_map, option_map_or}
 use Rattle.std.proofs.lemmas.Bool.Decides.{nat_tests}
 use Rattle.pm_values.specs.Kind.{retracts}
@@ -11,7 +11,8 @@ use Rattle.pm_model_history.specs.ColumnValue.{group_value, is_null, leading_row
 use Rattle.pm_model_history.specs.Merge.{HistoryRow, value_at}
 use Rattle.pm_aggregate.specs.Steps.{not_greater}
 use Rattle.pm_aggregate.proofs.LeadingLemmas.{later, leading_row-append, leading_row-one, null_least}
-use Rattle.pm_partial.specs.PartialUpdate.{follows, kept_of}
+use Rattle.pm_partial.specs.PartialUpdate.{IsFrom, follows, left_of}
+use Rattle.pm_partial.specs.declared.update.Side.TheVariants as sides
 
 -- what is known of rows: the leading value, and what its row leaves in the column
 abbrev pub Known : Type 0
@@ -105,6 +106,10 @@ is_null-is v e = cc
 eq_self : (n : ℕ) → (n == n) ≡ true
 eq_self n = grind (arith, nat_tests)
 
+-- what a row leaves in a column of the group that the column at `lead` leads: nothing without a leading value
+abbrev pub kept_of : ℕ → ℕ → HistoryRow → Value
+kept_of lead i r = cond (is_null (value_at r.1 lead)) Null (left_by lead i r)
+
 -- the leading value is kept
 kept-lead : (lead : ℕ) (r : HistoryRow) → kept_of lead lead r ≡ value_at r.1 lead
 kept-lead lead r =
@@ -134,21 +139,36 @@ lifted-known lead i r values first other =
     of true = refl
     of false = refl
 
+-- where a row has null, or nothing
+null-at : (row : Values) (lead : ℕ) → get_or (map is_null row) lead true ≡ is_null (value_at row lead)
+null-at [] lead = refl
+null-at (v ∷ row) zero = refl
+null-at (v ∷ row) (suc lead) = null-at row lead
+
+-- what is left of a value by what is null is what the row leaves
+pub left-kept : (lead i : ℕ) (r : HistoryRow) → left_of lead i r.0 (map is_null r.1) (value_at r.1 i) ≡ kept_of lead i r
+left-kept lead i r = ap (λ b. cond b Null (left_by lead i r)) (null-at r.1 lead)
+
 -- ---- a row of two stored ones
+
+-- what is taken from a side is the newer row's value where this one's leading value follows
+pub from-is : (follow : Bool) (a b v : Value) → IsFrom (cond follow sides.Newer sides.Older) a b v → v ≡ cond follow b a
+from-is true a b v is = is
+from-is false a b v is = is
 
 -- what is known of both, by their leading values and their values in the column
 both-known : (a u b v : Value) → join (shown a u) (shown b v) ≡ shown (cond (follows a b) b a) (cond (follows a b) v u)
 both-known a u b v = by (is_null a) (is_null b) refl refl
   where
-    pick : (x y : Bool) (o : Bool) → not_greater a b ≡ o → is_null a ≡ false → is_null b ≡ false → cond o (Some (b, v)) (Some (a, u)) ≡ shown (cond (true && o) b a) (cond (true && o) v u)
-    pick x y true le one two = sym (ap (λ t. cond t None (Some (b, v))) two)
-    pick x y false le one two = sym (ap (λ t. cond t None (Some (a, u))) one)
+    side : (x y : Bool) (o : Bool) → not_greater a b ≡ o → is_null a ≡ false → is_null b ≡ false → cond o (Some (b, v)) (Some (a, u)) ≡ shown (cond (true && o) b a) (cond (true && o) v u)
+    side x y true le one two = sym (ap (λ t. cond t None (Some (b, v))) two)
+    side x y false le one two = sym (ap (λ t. cond t None (Some (a, u))) one)
 
     by : (x y : Bool) → is_null a ≡ x → is_null b ≡ y → join (cond x None (Some (a, u))) (cond y None (Some (b, v))) ≡ shown (cond (not y && not_greater a b) b a) (cond (not y && not_greater a b) v u)
     by true true one two = sym (ap (λ t. cond t None (Some (a, u))) one)
     by true false one two = sym (ap (λ t. shown (cond t b a) (cond t v u)) (null_least a b one) ∙ ap (λ t. cond t None (Some (b, v))) two)
     by false true one two = sym (ap (λ t. cond t None (Some (a, u))) one)
-    by false false one two = pick true true (not_greater a b) refl one two
+    by false false one two = side true true (not_greater a b) refl one two
 
 pub combined-known : (lead i : ℕ) (older newer values : Values)
     → value_at values lead ≡ cond (follows (value_at older lead) (value_at newer lead)) (value_at newer lead) (value_at older lead)

@@ -34,7 +34,7 @@ use Rattle.pm_partial.specs.PartialUpdate.{AreCombined, AreLifted, CanUpdate, fo
 use Rattle.pm_partial.specs.Update.{update_in, update_on}
 use Rattle.pm_partial.specs.declared.update.Update.{Update}
 use Rattle.pm_partial.specs.declared.update.Update.TheVariants.{Key, Latest, InGroup}
-use Rattle.pm_partial.proofs.GroupLemmas.{Follows, known, combined-follows, combined-known, group-alone, group-among, group-follows, lifted-follows, lifted-known}
+use Rattle.pm_partial.proofs.GroupLemmas.{Follows, known, combined-follows, combined-known, group-alone, group-among, group-follows, left-kept, lifted-follows, lifted-known, from-is}
 
 -- ---- the column that leads a group
 
@@ -278,8 +278,8 @@ module _ (s : TableSchema) (is : s.options.engine ≡ PartialUpdate) (can : CanU
           (lifted.each i (Latest c.kind) (other-at updates are i c None at other none) (fits-type c (value_at row i) (Fits-column s.columns row i c fits at)))
       column i c at other (Some group) some =
           let lead = index_of s group.0 in
-          let here = lifted.each i (InGroup lead) (other-at updates are i c (Some group) at other some) in
-          let there = lifted.each lead (InGroup lead) (lead-at updates are c group some) in
+          let here = lifted.each i (InGroup lead) (other-at updates are i c (Some group) at other some) ∙ left-kept lead i (k, row) in
+          let there = lifted.each lead (InGroup lead) (lead-at updates are c group some) ∙ left-kept lead lead (k, row) in
           group-made i c group ((k, row) ∷ []) stored some
           (subst (FitsColumn c) (sym here) (null-fits i c at other (is_null (value_at row lead)) _ (null-fits i c at other (retracts k && not (i == lead)) (value_at row i) (Fits-column s.columns row i c fits at))))
           (lifted-follows lead i (k, row) stored there here) (lifted-known lead i (k, row) stored there here)
@@ -323,8 +323,9 @@ module _ (s : TableSchema) (is : s.options.engine ≡ PartialUpdate) (can : CanU
           (subst (λ (k : Kind). SpeaksForCells m (value_at stored i) ((Insert, value_at older.1 i) ∷ (k, value_at newer.1 i) ∷ [])) (sym (kind-stored newer.0 two.kind)) both))
       column i c at other (Some group) some =
           let lead = index_of s group.0 in
-          let here = combined.each i (InGroup lead) (other-at updates are i c (Some group) at other some) in
-          let there = combined.each lead (InGroup lead) (lead-at updates are c group some) in
+          let follow = follows (value_at older.1 lead) (value_at newer.1 lead) in
+          let here = from-is follow (value_at older.1 i) (value_at newer.1 i) (value_at stored i) (combined.each i (InGroup lead) (other-at updates are i c (Some group) at other some)) in
+          let there = from-is follow (value_at older.1 lead) (value_at newer.1 lead) (value_at stored lead) (combined.each lead (InGroup lead) (lead-at updates are c group some)) in
           group-made i c group (older ∷ newer ∷ []) stored some
           (subst (FitsColumn c) (sym here) (one_of (follows (value_at older.1 lead) (value_at newer.1 lead)) (Fits-column s.columns older.1 i c one.taken.fits at) (Fits-column s.columns newer.1 i c two.taken.fits at)))
           (combined-follows lead i older.1 newer.1 stored (stored-follows i c group older x at other some one) (stored-follows i c group newer y at other some two) there here)

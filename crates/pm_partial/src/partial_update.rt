@@ -1,17 +1,18 @@
 //! The engine that updates rows in part.
 
-ghost use Rattle.std.specs.Prelude.{◌≡◌, map, true, IfOk};
+ghost use Rattle.std.specs.Prelude.{◌≡◌, map, slice_index_or, true, IfOk};
 ghost use Rattle.std.specs.Ordering.{is_le};
 ghost use Rattle.pm_options.specs.declared.kinds.EngineKind.TheVariants as engines;
 ghost use Rattle.pm_values.specs.Order.{value_cmp};
 ghost use Rattle.pm_engine.specs.OfSchema.{meaning_of};
 ghost use Rattle.pm_model_history.specs.ColumnValue.{is_null};
 ghost use Rattle.pm_model_history.specs.Merge.{value_at};
-ghost use Rattle.pm_partial.specs.PartialUpdate.{AreCombined, AreLifted, CanUpdate, IsCombined, IsLifted, follows, kept_of};
+ghost use Rattle.pm_partial.specs.PartialUpdate.{AreCombined, AreLifted, CanUpdate, IsLifted, IsFrom};
+ghost use Rattle.pm_partial.specs.PartialUpdate.{follows, left_of, side_of};
 ghost use Rattle.pm_partial.specs.Update.{update_on};
 
-use crate::update::{Update, update_on};
-use pm_aggregate::{Aggregator, LastNonNullValue};
+use crate::update::{Side, Update, update_on};
+use pm_aggregate::{Aggregator, LastNonNullValue, next_value};
 use pm_columns::verdict_of;
 use pm_engine::{MergeEngine, Needed, Stored, Verdict};
 use pm_schema::TableSchema;
@@ -69,21 +70,16 @@ impl MergeEngine for PartialUpdate {
     }
 
     fn lift(&self, alloc: Global, kind: Kind, row: Row) -> Result<Stored, AllocError> {
-        let stored = lifted_row(alloc, self.updates.as_slice(), kind, &row);
-        drop(row);
         Ok(Stored {
             kind: Kind::Insert,
-            row: stored?,
+            row: lifted_row(alloc, self.updates.as_slice(), kind, row)?,
         })
     }
 
     fn combine(&self, alloc: Global, older: Stored, newer: Stored) -> Result<Stored, AllocError> {
-        let stored = combined_row(alloc, self.updates.as_slice(), &older.row, &newer.row);
-        drop(older);
-        drop(newer);
         Ok(Stored {
             kind: Kind::Insert,
-            row: stored?,
+            row: combined_row(alloc, self.updates.as_slice(), older.row, newer.row)?,
         })
     }
 
@@ -103,14 +99,28 @@ impl MergeEngine for PartialUpdate {
 }
 
 /// The stored row of one row.
-fn lifted_row(alloc: Global, updates: &[Update], kind: Kind, row: &Row) -> Result<Row, AllocError>
-    ensures { IfOk result (λ stored. AreLifted updates.now (kind, row.now) stored) }
+fn lifted_row(alloc: Global, updates: &[Update], kind: Kind, row: Row) -> Result<Row, AllocError>
+    ensures { IfOk result (λ stored. AreLifted updates.now (kind, row) stored) }
 {
+    let nulls = nulls_of(alloc, row.values())?;
+    let mut left = row.into_values().into_iter();
     let mut values = Vec::with_capacity(alloc, updates.len())?;
     for (index, update) in updates.iter().enumerate() {
-        values.push(lifted(alloc, *update, kind, row, index)?)?;
+        let value = next_value(&mut left);
+        values.push(lifted(alloc, *update, kind, &nulls, index, value)?)?;
     }
     Ok(Row::new(values))
+}
+
+/// Which of a row's values are null.
+fn nulls_of(alloc: Global, values: &[Value]) -> Result<Vec<bool>, AllocError>
+    ensures { IfOk result (λ nulls. nulls.items ≡ map is_null values.now) }
+{
+    let mut nulls = Vec::with_capacity(alloc, values.len())?;
+    for value in values {
+        nulls.push(matches!(value, Value::Null))?;
+    }
+    Ok(nulls)
 }
 
 /// The stored value of a row's value at an index.
@@ -118,81 +128,112 @@ fn lifted(
     alloc: Global,
     update: Update,
     kind: Kind,
-    row: &Row,
+    nulls: &[bool],
     index: usize,
+    value: Value,
 ) -> Result<Value, AllocError>
-    ensures { IfOk result (IsLifted update (kind, row.now) index) }
+    ensures { IfOk result (IsLifted update kind nulls.now index value) }
 {
     match update {
-        Update::Key => value_at(alloc, row, index),
-        Update::Latest(column) => {
-            let value = value_at(alloc, row, index)?;
-            latest(column).lift(alloc, kind.retracts(), value)
-        }
-        Update::InGroup(lead) => kept_of(alloc, lead, index, kind, row),
+        Update::Key => Ok(value),
+        Update::Latest(column) => latest(column).lift(alloc, kind.retracts(), value),
+        Update::InGroup(lead) => Ok(left_of(lead, index, kind, nulls, value)),
     }
 }
 
-/// What a row leaves in a column of a group.
-fn kept_of(
-    alloc: Global,
-    lead: usize,
-    index: usize,
-    kind: Kind,
-    row: &Row,
-) -> Result<Value, AllocError>
-    ensures { IfOk result (λ value. value ≡ kept_of lead index (kind, row.now)) }
+/// What is left of a row's value at an index in a column of a group.
+fn left_of(lead: usize, index: usize, kind: Kind, nulls: &[bool], value: Value) -> Value
+    ensures { result ≡ left_of lead index kind nulls.now value }
 {
-    if is_null_at(row, lead) {
-        return Ok(Value::Null);
+    if is_null_at(nulls, lead) {
+        drop(value);
+        return Value::Null;
     }
     if kind.retracts() && index != lead {
-        return Ok(Value::Null);
+        drop(value);
+        return Value::Null;
     }
-    value_at(alloc, row, index)
+    value
 }
 
-/// The stored row of two.
+/// Whether there is null at an index, or nothing.
+fn is_null_at(nulls: &[bool], index: usize) -> bool
+    ensures { result ≡ slice_index_or nulls.now index true }
+{
+    match nulls.get(index) {
+        Some(is_null) => *is_null,
+        None => true,
+    }
+}
+
+/// The stored row of two. Which of them each column is taken from is known before their values are moved.
 fn combined_row(
     alloc: Global,
     updates: &[Update],
-    older: &Row,
-    newer: &Row,
+    older: Row,
+    newer: Row,
 ) -> Result<Row, AllocError>
-    ensures { IfOk result (λ stored. AreCombined updates.now older.now newer.now stored) }
+    ensures { IfOk result (λ stored. AreCombined updates.now older newer stored) }
 {
-    let mut values = Vec::with_capacity(alloc, updates.len())?;
-    for (index, update) in updates.iter().enumerate() {
-        values.push(combined(alloc, *update, older, newer, index)?)?;
+    let sides = sides_of(alloc, updates, &older, &newer)?;
+    let mut older_left = older.into_values().into_iter();
+    let mut newer_left = newer.into_values().into_iter();
+    let mut values = Vec::with_capacity(alloc, sides.len())?;
+    for side in &sides {
+        let before = next_value(&mut older_left);
+        let after = next_value(&mut newer_left);
+        values.push(combined(alloc, *side, before, after)?)?;
     }
     Ok(Row::new(values))
 }
 
-/// The stored value of the values that two rows have at an index.
-fn combined(
+/// Which of two rows each column is taken from.
+fn sides_of(
     alloc: Global,
-    update: Update,
+    updates: &[Update],
     older: &Row,
     newer: &Row,
-    index: usize,
-) -> Result<Value, AllocError>
-    ensures { IfOk result (IsCombined update older.now newer.now index) }
+) -> Result<Vec<Side>, AllocError>
+    ensures { IfOk result (λ sides. sides.items ≡ map (side_of older.now newer.now) updates.now) }
+{
+    let mut sides = Vec::with_capacity(alloc, updates.len())?;
+    for update in updates {
+        sides.push(side_of(*update, older, newer))?;
+    }
+    Ok(sides)
+}
+
+/// Which of two rows a column is taken from.
+fn side_of(update: Update, older: &Row, newer: &Row) -> Side
+    ensures { result ≡ side_of older.now newer.now update }
 {
     match update {
-        Update::Key => value_at(alloc, newer, index),
-        Update::Latest(column) => {
-            let before = value_at(alloc, older, index)?;
-            let after = value_at(alloc, newer, index)?;
-            latest(column).combine(alloc, before, after)
-        }
+        Update::Key => Side::Newer,
+        Update::Latest(column) => Side::Latest(column),
         Update::InGroup(lead) => {
-            let leader = if follows(older, newer, lead) {
-                newer
+            if follows(older, newer, lead) {
+                Side::Newer
             } else {
-                older
-            };
-            value_at(alloc, leader, index)
+                Side::Older
+            }
         }
+    }
+}
+
+/// The stored value of two.
+fn combined(alloc: Global, side: Side, older: Value, newer: Value) -> Result<Value, AllocError>
+    ensures { IfOk result (IsFrom side older newer) }
+{
+    match side {
+        Side::Older => {
+            drop(newer);
+            Ok(older)
+        }
+        Side::Newer => {
+            drop(older);
+            Ok(newer)
+        }
+        Side::Latest(column) => latest(column).combine(alloc, older, newer),
     }
 }
 
@@ -221,25 +262,5 @@ fn is_at_most(row: &Row, index: usize, other: &Value) -> bool
     match row.values().get(index) {
         Some(value) => value.cmp(other).is_le(),
         None => true,
-    }
-}
-
-/// Whether a row has null at an index, or nothing.
-fn is_null_at(row: &Row, index: usize) -> bool
-    ensures { result ≡ is_null (value_at row.now index) }
-{
-    match row.values().get(index) {
-        Some(value) => matches!(value, Value::Null),
-        None => true,
-    }
-}
-
-/// The value at an index, null where there is none.
-fn value_at(alloc: Global, row: &Row, index: usize) -> Result<Value, AllocError>
-    ensures { IfOk result (λ value. value ≡ value_at row.now index) }
-{
-    match row.values().get(index) {
-        Some(value) => value.copy(alloc),
-        None => Ok(Value::Null),
     }
 }

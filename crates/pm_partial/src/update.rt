@@ -19,6 +19,15 @@ pub(crate) enum Update {
     InGroup(usize),
 }
 
+/// Which of two stored rows a column is taken from.
+#[derive(Clone, Copy)]
+pub(crate) enum Side {
+    Older,
+    Newer,
+    /// It has its latest value that isn't null. Its type.
+    Latest(ColType),
+}
+
 /// How the schema keeps the column.
 pub(crate) fn update_on(schema: &TableSchema, column: &Column) -> Update
     ensures { result ≡ update_on schema.now column.now }

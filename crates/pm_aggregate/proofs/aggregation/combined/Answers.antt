@@ -1,7 +1,6 @@
 use Rattle.std.proofs.Common.{subst, sym, ◌++◌, List, Option, Some, Result, Ok, Err}
 use Rattle.std.specs.Prelude.{IfOk}
 use Rattle.pm_values.specs.declared.value.Value.{Value}
-use Rattle.pm_model_history.specs.Merge.{value_at}
 use Rattle.pm_aggregate.specs.Aggregation.{IsCombined}
 use Rattle.pm_aggregate.specs.Column.{Cell, SpeaksForCells}
 use Rattle.pm_aggregate.specs.ColumnFunction.{meaning_of}
@@ -15,10 +14,8 @@ for_all : {E : Type 0} (r : Result Value E) (f : ColumnFunction) (a b : Value)
 for_all (Ok v) f a b law = law
 for_all (Err e) f a b law = tt
 
--- the function's law, at the values of both rows
-pub returns-in_ok-after-in-Some : goal.returns-in_ok-after-in-Some
-returns-in_ok-after-in-Some c =
-    subst (λ (o : Option ColumnFunction). IfOk c.combine.result (IsCombined o (value_at c.args.older.now c.args.index) (value_at c.args.newer.now c.args.index))) (sym c.in-Some.is)
-    (subst (λ v. IfOk c.combine.result (IsCombined (Some c.in-Some.function) v (value_at c.args.newer.now c.args.index))) c.in_ok-before-in-Some.ensures
-    (subst (λ v. IfOk c.combine.result (IsCombined (Some c.in-Some.function) c.in_ok-before-in-Some.before v)) c.in_ok-after-in-Some.ensures
-    (for_all c.combine.result c.in-Some.function c.in_ok-before-in-Some.before c.in_ok-after-in-Some.after c.combine.ensures.combines)))
+-- the function's law
+pub returns-in-Some : goal.returns-in-Some
+returns-in-Some c =
+    subst (λ (o : Option ColumnFunction). IfOk c.combine.result (IsCombined o c.args.older c.args.newer)) (sym c.in-Some.is)
+    (for_all c.combine.result c.in-Some.function c.args.older c.args.newer c.combine.ensures.combines)

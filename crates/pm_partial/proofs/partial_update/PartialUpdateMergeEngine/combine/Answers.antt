@@ -10,6 +10,6 @@ returns c =
     record {
       kind = λ before after _ _ _ _. sym (ap (λ k. kind_by k (before ++ after)) engine.in_part);
       combines = λ key before after one two.
-          combines engine.schema engine.in_part engine.can key c.as_slice.result.now (c.args.older.kind, c.args.older.row) (c.args.newer.kind, c.args.newer.row) before after c.in_ok-stored.field-0
-          (c.as_slice.ensures.value ∙ engine.are) c.in_ok-stored.ensures one two;
+          combines engine.schema engine.in_part engine.can key c.as_slice.result.now (c.args.older.kind, c.args.older.row) (c.args.newer.kind, c.args.newer.row) before after c.in_ok-combined_row.field-0
+          (c.as_slice.ensures.value ∙ engine.are) c.in_ok-combined_row.ensures one two;
     }

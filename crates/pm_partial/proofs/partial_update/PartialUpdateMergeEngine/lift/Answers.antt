@@ -10,5 +10,5 @@ returns c =
     record {
       kind = sym (ap (λ k. kind_by k ((c.args.kind, c.args.row) ∷ [])) engine.in_part);
       lifts = λ fits.
-          lifts engine.schema engine.in_part engine.can _ c.as_slice.result.now c.args.kind c.args.row c.in_ok-stored.field-0 (c.as_slice.ensures.value ∙ engine.are) c.requires.taken fits refl c.in_ok-stored.ensures;
+          lifts engine.schema engine.in_part engine.can _ c.as_slice.result.now c.args.kind c.args.row c.in_ok-lifted_row.field-0 (c.as_slice.ensures.value ∙ engine.are) c.requires.taken fits refl c.in_ok-lifted_row.ensures;
     }
