@@ -1,5 +1,5 @@
 -- One row more of a sorted list in a run, and all of them.
-use Rattle.std.proofs.Common.{◌≡◌, ◌≢◌, ℕ, zero, ◌<◌, List, [], ◌∷◌, ◌++◌, map, length, get_or, max, All, Bool, true, false, cond, Option, Some, None, IfSome, refl, sym, ap, subst, ◌∙◌, arith, append_assoc, append-nil}
+use Rattle.std.proofs.Common.{◌≡◌, ◌≢◌, ◌↔◌, ℕ, zero, ◌<◌, List, [], ◌∷◌, ◌++◌, map, length, get_or, max, All, Bool, true, false, cond, Option, Some, None, IfSome, refl, sym, ap, subst, ◌∙◌, arith, append_assoc, append-nil}
 use Rattle.std.specs.List.{AllByRecursion, FoldsTo, last_or}
 use Rattle.std.specs.List.Sorted.{IsSortedByKey, IsStableByKey, IsStrictlySortedBy}
 use Rattle.std.specs.Option.{option_map}
@@ -235,10 +235,6 @@ covers_all m rows sorted run gathers stable sorted_keyed keyed = λ key.
       holds = (subst (Holds m key (of_key key run)) is (gathers.holds (by_recursion (IsKeyed m) sorted sorted_keyed) key), tt);
     }
 
-pub keys_all : (m : Meaning) (rows sorted run : Run) → Gathers m run sorted → IsStableByKey (λ (s : Stamped). s.key) key_cmp rows sorted
-    → (key : Values) → of_key key run ≡ [] → of_key key rows ≡ []
-keys_all m rows sorted run gathers stable key none = sym (of_key-sorted rows sorted key stable) ∙ gathers.known key none
-
 pub numbers_all : (m : Meaning) (rows sorted run : Run) → Gathers m run sorted → IsStableByKey (λ (s : Stamped). s.key) key_cmp rows sorted → HasGreatestNumbers run rows
 numbers_all m rows sorted run gathers stable =
     moved run gathers.numbers
@@ -254,3 +250,19 @@ kinds_all m rows sorted run gathers stable =
     moved : (ss : Run) → HasKinds m ss sorted → HasKinds m ss rows
     moved [] kinds = tt
     moved (s ∷ ss) kinds = (subst (HasKindOf m s) (of_key-sorted rows sorted s.key stable) kinds.0, moved ss kinds.1)
+
+-- a key of the run is one of the rows
+known_keys : (m : Meaning) (key : Values) (run rows : Run) → HasKinds m run rows → of_key key rows ≡ [] → of_key key run ≡ []
+known_keys m key [] rows kinds none = refl
+known_keys m key (s ∷ ss) rows kinds none =
+    elim (eq_by_cmp key_cmp key s.key) as (λ b. eq_by_cmp key_cmp key s.key ≡ b → cond b (s ∷ of_key key ss) (of_key key ss) ≡ []) [
+      | true ↦ λ e. absurd (kinds.0.some (subst (λ k. of_key k rows ≡ []) (tied key s.key e) none))
+      | false ↦ λ e. known_keys m key ss rows kinds.1 none
+    ] refl
+
+pub keys_all : (m : Meaning) (rows sorted run : Run) → Gathers m run sorted → IsStableByKey (λ (s : Stamped). s.key) key_cmp rows sorted
+    → (key : Values) → (of_key key run ≡ []) ↔ (of_key key rows ≡ [])
+keys_all m rows sorted run gathers stable key = (
+  (λ none. sym (of_key-sorted rows sorted key stable) ∙ gathers.known key none),
+  (λ none. known_keys m key run rows (kinds_all m rows sorted run gathers stable) none),
+)

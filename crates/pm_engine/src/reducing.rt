@@ -1,6 +1,6 @@
 //! Rows of a batch made into one run.
 
-ghost use Rattle.std.specs.Prelude.{◌≡◌, [], ◌∷◌, map, All, IfOk, OnOk};
+ghost use Rattle.std.specs.Prelude.{◌≡◌, ◌↔◌, [], ◌∷◌, map, All, IfOk, OnOk};
 ghost use Rattle.std.specs.List.{FoldsTo};
 ghost use Rattle.std.specs.List.Sorted.{IsSortedByKey, IsPermutation, IsStableByKey};
 ghost use Rattle.pm_values.specs.Order.{Values, key_cmp};
@@ -14,8 +14,8 @@ use crate::stored::Stored;
 use pm_values::Stamped;
 use std::alloc::{AllocError, Global};
 
-/// One stored row for each key that rows have, by rising key. A stored row has the greatest number of its rows, and
-/// their kind.
+/// One stored row for each key that rows have, and of no other, by rising key. A stored row has the greatest number of
+/// its rows, and their kind.
 pub fn reduce<E: MergeEngine>(
     alloc: Global,
     engine: &E,
@@ -23,7 +23,8 @@ pub fn reduce<E: MergeEngine>(
 ) -> Result<Vec<Stamped>, AllocError>
     requires { All (λ s. (E.meaning engine.now).verdict s.kind ≡ Take) rows.items }
     ensures rising { IfOk result (λ run. IsRising run.items) }
-    ensures keys { IfOk result (λ run. (key : Values) → of_key key run.items ≡ [] → of_key key rows.items ≡ []) }
+    ensures keys { IfOk result (λ run. (key : Values)
+        → (of_key key run.items ≡ []) ↔ (of_key key rows.items ≡ [])) }
     ensures numbers { IfOk result (λ run. HasGreatestNumbers run.items rows.items) }
     ensures kinds { IfOk result (λ run. HasKinds (E.meaning engine.now) run.items rows.items) }
     ensures covers { IfOk result (λ run. All (IsKeyed (E.meaning engine.now)) rows.items →
