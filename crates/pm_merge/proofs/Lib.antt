@@ -3,4 +3,5 @@ mod MergeLemmas
 mod MergingLemmas
 mod OneLemmas
 mod PrefixLemmas
+mod RefusalLemmas
 mod RisingLemmas

@@ -1,6 +1,6 @@
 -- What two sides that are merged give, by what each of them gives.
 use Rattle.std.proofs.Common.{◌≡◌, ◌≤◌, ◌+◌, ℕ, List, [], ◌∷◌, ◌++◌, map, take, drop, length, arith, Option, Some, None, Bool, true, false, cond, refl, sym, ap, subst, ◌∙◌, append-nil, inl, inr}
-use Rattle.std.specs.Prelude.{option_to_list, is_none, OnOk, Result, Ok, Err, ⊤}
+use Rattle.std.specs.Prelude.{option_to_list, is_none, ◌≢◌, IfErr, OnOk, Result, Ok, Err, ⊤}
 use Rattle.std.specs.List.{AllByRecursion}
 use Rattle.std.specs.Option.{option_or}
 use Rattle.std.specs.Ordering.{eq_by_cmp, is_eq, ordering_reverse}
@@ -11,13 +11,14 @@ use Rattle.pm_base.proofs.Laws.{AllByRecursion-append}
 use Rattle.pm_values.specs.Order.{Values, key_cmp, key_total}
 use Rattle.pm_values.specs.declared.record.Stamped.{Stamped}
 use Rattle.pm_values.specs.declared.refusal.Refusal.{Refusal}
+use Rattle.pm_values.specs.declared.refusal.Refusal.TheVariants.{Memory}
 use Rattle.pm_engine.specs.Covers.{Run}
 use Rattle.pm_engine.specs.Meaning.{Meaning}
 use Rattle.pm_engine.specs.Reducing.{IsCombined}
 use Rattle.pm_engine.proofs.Rising.{apart, tied, ties_itself}
 use Rattle.pm_merge.specs.Merging.{AreCombined, BeginsFrom, Chooses, CombineFirst, GaveFirst, GivesLeast, GivesOne, HaveNoRow, IsBelow, alone, both_go, first_of_key, first_refusal, joined, newer_goes, none_goes, older_goes, refusal_now, rest_past, rests_of, rows_past, runs_in}
 use Rattle.pm_row_slots.specs.Slot.{OrdersFirst}
-use Rattle.pm_merge.specs.Source.{Fills, Rest}
+use Rattle.pm_merge.specs.Source.{Fills, HandsOut, Rest}
 use Rattle.pm_merge.proofs.GivenLemmas.{AllFrom, firsts, past}
 
 -- ---- runs as rests
@@ -309,3 +310,18 @@ module _ (m : Meaning) where
       of_ok old new None done fills = fills
       of_ok old new (Some s) done fills = fills
   source_gives (Err e) old new first fills = tt
+
+pub source_refuses : (result : Result (Unit {0}) Refusal) (old new : Rest) (first : Option Stamped) → Fills old result new first
+    → IfErr result (λ e. e ≢ Memory → (rests : List Rest) → rests ≡ old ∷ [] → first_refusal rests ≡ Some e)
+source_refuses (Ok done) old new first fills = tt
+source_refuses (Err e) old new first fills = λ other rests is.
+    let f = fills other in
+    ap first_refusal is ∙ ap (λ (rows : Run). option_or (refusal_now rows old.refusal) None) f.0 ∙ ap (λ a. option_or a None) f.1
+
+pub source_leaves : (result : Result (Unit {0}) Refusal) (old new : Rest) (first : Option Stamped) → Fills old result new first → IfErr result (λ e. e ≢ Memory → first ≡ None)
+source_leaves (Ok done) old new first fills = tt
+source_leaves (Err e) old new first fills = λ other. (fills other).3
+
+-- the same of a call that hands the row out
+pub hands_refusal : (old new : Rest) (e : Refusal) (first : Option Stamped) → Fills old (Err e) new first → HandsOut old (Err e) new
+hands_refusal old new e first fills = λ other. let f = fills other in (f.0, f.1, f.2, refl)

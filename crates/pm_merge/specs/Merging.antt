@@ -38,6 +38,14 @@ abbrev pub first_refusal : List Rest → Option Refusal
 first_refusal [] = None
 first_refusal (r ∷ rests) = option_or (refusal_now r.rows r.refusal) (first_refusal rests)
 
+-- none of the rests has a refusal
+abbrev pub HaveNoRefusal : List Rest → Type 0
+HaveNoRefusal rests = AllByRecursion (λ (r : Rest). r.refusal ≡ None) rests
+
+-- one of the rests has the refusal
+abbrev pub HasRefusal : List Rest → Refusal → Type 0
+HasRefusal rests e = (before after : List Rest) × (r : Rest) × (rests ≡ before ++ r ∷ after) × (r.refusal ≡ Some e)
+
 -- the first row, where it has the key
 abbrev pub first_of_key : Values → Run → Run
 first_of_key key [] = []

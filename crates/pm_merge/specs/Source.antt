@@ -1,5 +1,5 @@
 -- Rows that are given one after another.
-use Rattle.std.specs.Prelude.{◌≡◌, List, [], ◌∷◌, Option, None, Some, Result, Ok, Err}
+use Rattle.std.specs.Prelude.{◌≡◌, ◌≢◌, List, [], ◌∷◌, Option, None, Some, Result, Ok, Err}
 use Rattle.std.specs.Vec.Iter.{into_iter_items}
 use Rattle.pm_values.specs.declared.record.Stamped.{Stamped}
 use Rattle.pm_values.specs.declared.refusal.Refusal.{Refusal}
@@ -12,12 +12,13 @@ pub record Rest : Type 0 where
   pub refusal : Option Refusal
 
 -- What one call makes of it: the first row stands in the place and the others are left; or there is neither a row nor a
--- refusal, and nothing changes; or no row is left, and the refusal comes. Where memory ran out, nothing is said.
+-- refusal, and nothing changes; or no row is left, and the refusal comes: no row stands in the place, and none comes
+-- after it. Where memory ran out, nothing is said.
 abbrev pub Fills : Rest → Result (Unit {0}) Refusal → Rest → Option Stamped → Type 0
 Fills old (Ok done) new None = (old.rows ≡ []) × (old.refusal ≡ None) × (new ≡ old)
 Fills old (Ok done) new (Some s) = (old.rows ≡ s ∷ new.rows) × (new.refusal ≡ old.refusal)
-Fills old (Err Memory) new held = Unit {0}
-Fills old (Err e) new held = (old.rows ≡ []) × (old.refusal ≡ Some e)
+Fills old (Err e) new held =
+    e ≢ Memory → (old.rows ≡ []) × (old.refusal ≡ Some e) × (new.rows ≡ []) × (held ≡ None)
 
 -- the same of a call that hands the row out
 abbrev pub HandsOut : Rest → Result (Option Stamped) Refusal → Rest → Type 0

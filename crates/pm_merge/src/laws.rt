@@ -1,12 +1,15 @@
 //! What holds of runs that are merged, whatever the engine.
 
-ghost use Rattle.std.specs.Prelude.{◌≡◌, [], ◌∷◌, ◌++◌, List, All};
+ghost use Rattle.std.specs.Prelude.{◌≡◌, ◌≢◌, [], ◌∷◌, ◌++◌, List, All, None, Some};
 ghost use Rattle.pm_model_history.specs.Merge.{HistoryRow};
 ghost use Rattle.pm_engine.specs.Covers.{Run, Covers, CoversAll, IsRising};
 ghost use Rattle.pm_engine.specs.Meaning.{Meaning, DropsNoEffect, KindsAreOwn};
 ghost use Rattle.pm_engine.specs.Reducing.{AreStoredRows, HasGreatestNumbers};
 ghost use Rattle.pm_values.specs.declared.record.Stamped.{Stamped};
-ghost use Rattle.pm_merge.specs.Merging.{GivesAll, GivesLeast, HaveNoRow, runs_in};
+ghost use Rattle.pm_values.specs.declared.refusal.Refusal.{Refusal};
+ghost use Rattle.pm_values.specs.declared.refusal.Refusal.TheVariants.{Memory};
+ghost use Rattle.pm_merge.specs.Merging.{GivesAll, GivesLeast, HasRefusal, HaveNoRefusal, HaveNoRow, first_refusal};
+ghost use Rattle.pm_merge.specs.Merging.{runs_in};
 ghost use Rattle.pm_merge.specs.Source.{Rest};
 ghost use Rattle.pm_merge.specs.Merge.{all_rows, without_droppable, AreStored, IsMerge, Replaces, ReplacesOldest};
 
@@ -19,7 +22,8 @@ pub fn one_run_law()
 
 /// Rows that are given one after another are a run, once no row is left: the rows that were there at first, if they
 /// rose, are merged into it. So of stored rows it is the one run that `merge_runs` gives (`merged_law`), and those
-/// given so far are its first ones.
+/// given so far are its first ones. Where they end without a refusal no source had one, and one that comes is that of a
+/// source: where none has one, the only refusal is that memory ran out.
 pub fn given_law()
     ensures more { (m : Meaning) (first old new : List Rest) (run : Run) (s : Stamped) → GivesAll m first run old →
         GivesLeast m old s new → GivesAll m first (run ++ s ∷ []) new }
@@ -30,6 +34,12 @@ pub fn given_law()
     ensures prefix { (m : Meaning) (first last : List Rest) (run merged : Run) → AreStored m (runs_in first) →
         GivesAll m first run last → IsMerge m (runs_in first) merged →
         (more : Run) × (merged ≡ run ++ more) × IsMerge m (runs_in last) more }
+    ensures ended { (m : Meaning) (first last : List Rest) (run : Run) → GivesAll m first run last → HaveNoRow last →
+        first_refusal last ≡ None → HaveNoRefusal first }
+    ensures refused { (m : Meaning) (first last : List Rest) (run : Run) (e : Refusal) → GivesAll m first run last →
+        first_refusal last ≡ Some e → HasRefusal first e }
+    ensures memory { (m : Meaning) (first last : List Rest) (run : Run) (e : Refusal) → GivesAll m first run last →
+        HaveNoRefusal first → (e ≢ Memory → first_refusal last ≡ Some e) → e ≡ Memory }
 {
     stored_law();
 }

@@ -1,10 +1,11 @@
 //! Several runs made into one.
 
-ghost use Rattle.std.specs.Prelude.{◌≡◌, All, IfOk, true, false, map};
+ghost use Rattle.std.specs.Prelude.{◌≡◌, All, IfErr, IfOk, true, false, map};
 ghost use Rattle.pm_engine.specs.Covers.{Run, IsRising};
 ghost use Rattle.pm_merge.specs.Merge.{runs_of, IsMerge, without_droppable};
 ghost use Rattle.pm_merge.specs.Merging.{rests_of};
 ghost use Rattle.pm_merge.specs.Source.{rest_in_memory};
+ghost use Rattle.pm_values.specs.declared.refusal.Refusal.TheVariants.{Memory};
 
 use crate::drops::without_droppable;
 use crate::laws::given_law;
@@ -47,7 +48,8 @@ fn merged<E: MergeEngine>(
     older_first: Vec<Vec<Stamped>>,
 ) -> Result<Vec<Stamped>, Refusal>
     requires { All IsRising (runs_of older_first.items) }
-    ensures { IfOk result (λ run. IsMerge (E.meaning engine.now) (runs_of older_first.items) run.items) }
+    ensures merged { IfOk result (λ run. IsMerge (E.meaning engine.now) (runs_of older_first.items) run.items) }
+    ensures memory { IfErr result (λ e. e ≡ Memory) }
 {
     given_law();
     let mut run = Vec::with_capacity(alloc, most_rows(&older_first))?;

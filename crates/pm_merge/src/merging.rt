@@ -56,7 +56,8 @@ impl<P: RowPlace, S: RowSource<P>> Merging<P, S> {
 
     /// Puts the next row into an empty place, or none at the end, in about as many comparisons as the number of sources
     /// can be halved: what the first rows of the least key are combined to. A source's refusal comes where its next row
-    /// would have to be known. Where memory runs out, nothing is said of what is left.
+    /// would have to be known, and then no row stands in the place. Where memory runs out, nothing is said of what is
+    /// left.
     pub fn fill<E: MergeEngine>(
         &mut self,
         alloc: Global,
@@ -72,6 +73,7 @@ impl<P: RowPlace, S: RowSource<P>> Merging<P, S> {
             ≤ rows_left P.held S.rest self.old) }
         ensures refuses { IfErr result (λ e. e ≢ Memory → (rests : List Rest)
             → HasLeft (E.meaning engine.now) P.held S.rest self.old rests → first_refusal rests ≡ Some e) }
+        ensures none { IfErr result (λ e. e ≢ Memory → P.held slot.new.value ≡ None) }
     {
         match self {
             Merging::Nothing => Ok(()),

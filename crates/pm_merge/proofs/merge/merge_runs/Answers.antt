@@ -9,8 +9,8 @@ use Rattle.pm_merge.proofs.merge.merge_runs.Goals as goal
 pub returns-then-drop-clause-drops : goal.returns-then-drop-clause-drops
 returns-then-drop-clause-drops g c =
     let m = g.E.MergeEngine.meaning c.args.engine.now in
-    IfOk-weaker c.without_droppable.result (λ (new : Vec Stamped Global). new.items ≡ without_droppable m c.in-Ok.merged.items) _ (λ run items _. (c.in-Ok.merged.items, c.in-Ok.ensures, items)) c.without_droppable.ensures
+    IfOk-weaker c.without_droppable.result (λ (new : Vec Stamped Global). new.items ≡ without_droppable m c.in-Ok.merged.items) _ (λ run items _. (c.in-Ok.merged.items, c.in-Ok.ensures.merged, items)) c.without_droppable.ensures
 
 -- with them
 pub returns-else-drop-clause-keeps : goal.returns-else-drop-clause-keeps
-returns-else-drop-clause-keeps g c = λ _. c.in-Ok.ensures
+returns-else-drop-clause-keeps g c = λ _. c.in-Ok.ensures.merged

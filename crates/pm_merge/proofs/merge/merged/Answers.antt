@@ -1,9 +1,11 @@
 use Rattle.std.proofs.Common.{◌≡◌, All, List, Some, None, refl, subst, sym, ◌∙◌}
+use Rattle.std.proofs.lemmas.Result.{err_from_is_err_and}
 use Rattle.pm_engine.specs.Covers.{IsRising}
 use Rattle.pm_merge.specs.Merge.{IsMerge, runs_of}
 use Rattle.pm_merge.specs.Merging.{HasLeft, rests_of}
 use Rattle.pm_merge.specs.Source.{Rest, rest_in_memory}
 use Rattle.pm_merge.proofs.MergingLemmas.{runs_back}
+use Rattle.pm_merge.proofs.RefusalLemmas.{whole_none}
 use Rattle.pm_merge.proofs.merge.merged.Goals as goal
 
 -- no row yet
@@ -31,8 +33,8 @@ loop-slot-preserved g c =
     }
 
 -- all rows
-pub returns-in-None : goal.returns-in-None
-returns-in-None g c =
+pub returns-in-None-clause-merged : goal.returns-in-None-clause-merged
+returns-in-None-clause-merged g c =
     let m = g.E.MergeEngine.meaning c.args.engine.now in
     let runs = runs_of c.args.older_first.items in
     let none : c.fill.new.slot.value ≡ None = sym c.deref_mut.ensures.value ∙ sym c.in_ok-row.ensures.row ∙ c.in-None.is in
@@ -41,3 +43,14 @@ returns-in-None g c =
     let ended = rw none at gives in
     subst (λ rs. IsMerge m rs c.loop-slot.run.items) (runs_back runs)
     (c.given_law.ensures.all m (rests_of runs) left c.loop-slot.run.items (subst (All IsRising) (sym (runs_back runs)) c.requires) given ended.0)
+
+-- rows in memory have no refusal
+pub returns-in_err-fill-clause-memory : goal.returns-in_err-fill-clause-memory
+returns-in_err-fill-clause-memory g c =
+    let m = g.E.MergeEngine.meaning c.args.engine.now in
+    let runs = runs_of c.args.older_first.items in
+    let p = err_from_is_err_and c.from_residual-in_err-fill.result c.from_residual-in_err-fill.ensures.1 in
+    let e = c.in_err-fill.field-0.0 in
+    let (left, given, has) = c.loop-slot.invariant.given in
+    rw (p.1, p.2)
+    (c.given_law.ensures.memory m (rests_of runs) left c.loop-slot.run.items e given (whole_none runs) (λ other. c.in_err-fill.ensures.refuses other left has))

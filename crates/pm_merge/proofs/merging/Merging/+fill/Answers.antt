@@ -1,7 +1,7 @@
 use Rattle.std.proofs.Common.{◌≡◌, None, ap}
 use Rattle.std.proofs.lemmas.Result.{err_from_is_err_and}
 use Rattle.pm_merge.specs.Merging.{HasLeft}
-use Rattle.pm_merge.proofs.MergingLemmas.{Knows, knows_after, knows_same, newer_refuses, none_stands, older_refuses, source_gives, two_give}
+use Rattle.pm_merge.proofs.MergingLemmas.{Knows, knows_after, knows_same, newer_refuses, none_stands, older_refuses, source_gives, source_leaves, source_refuses, two_give}
 use Rattle.pm_merge.proofs.merging.Merging.+fill.Goals as goal
 use Rattle.pm_merge.proofs.merging.Merging.+fill.Goals.{then-is_empty+in_ok-fill-in-Two, else-is_empty, then-is_empty-2+in_ok-fill-in-Two-2, else-is_empty-2}
 
@@ -9,6 +9,14 @@ use Rattle.pm_merge.proofs.merging.Merging.+fill.Goals.{then-is_empty+in_ok-fill
 pub returns-in-One-clause-gives : goal.returns-in-One-clause-gives
 returns-in-One-clause-gives g t c =
     rw c.in-One.is (source_gives (g.E.MergeEngine.meaning c.args.engine.now) c.fill.result (g.S.RowSource.rest c.in-One.source) (g.S.RowSource.rest c.fill.new.self) (g.P.RowPlace.held c.fill.new.slot) c.fill.ensures)
+
+pub returns-in-One-clause-refuses : goal.returns-in-One-clause-refuses
+returns-in-One-clause-refuses g t c =
+    rw c.in-One.is (source_refuses c.fill.result (g.S.RowSource.rest c.in-One.source) (g.S.RowSource.rest c.fill.new.self) (g.P.RowPlace.held c.fill.new.slot) c.fill.ensures)
+
+pub returns-in-One-clause-none : goal.returns-in-One-clause-none
+returns-in-One-clause-none g t c =
+    source_leaves c.fill.result (g.S.RowSource.rest c.in-One.source) (g.S.RowSource.rest c.fill.new.self) (g.P.RowPlace.held c.fill.new.slot) c.fill.ensures
 
 -- the older side refuses
 pub returns-in_err-fill-in-Two-clause-refuses : goal.returns-in_err-fill-in-Two-clause-refuses
