@@ -1,5 +1,5 @@
 -- What shows of rows that are given one after another.
-use Rattle.std.proofs.Common.{◌≡◌, ℕ, zero, ◌+◌, ◌<◌, Option, Some, None, List, [], ◌∷◌, ◌++◌, All, Vec, length, map, get_or, take, Bool, true, false, cond, refl, sym, ap, subst, ◌∙◌, append-nil, arith}
+use Rattle.std.proofs.Common.{◌≡◌, ◌≢◌, ℕ, zero, ◌+◌, ◌<◌, Option, Some, None, List, [], ◌∷◌, ◌++◌, All, Vec, length, map, get_or, take, Bool, true, false, cond, refl, sym, ap, subst, ◌∙◌, append-nil, arith}
 use Rattle.std.specs.declared.alloc.Global.{Global}
 use Rattle.std.proofs.lemmas.Grind.{flat_map-append}
 use Rattle.std.proofs.lemmas.List.{map-append, take_more}
@@ -7,14 +7,16 @@ use Rattle.std.proofs.lemmas.List.Elements.{All-append, All-nil, All-tail}
 use Rattle.pm_base.specs.Newline.{line}
 use Rattle.pm_values.specs.declared.kind.Kind.TheVariants.{Insert}
 use Rattle.pm_values.specs.declared.record.Stamped.{Stamped}
+use Rattle.pm_values.specs.declared.refusal.Refusal.{Refusal}
+use Rattle.pm_values.specs.declared.refusal.Refusal.TheVariants.{Memory}
 use Rattle.pm_rows.specs.RowText.{row_text}
 use Rattle.pm_engine.specs.Covers.{IsRising, Run, row_of}
 use Rattle.pm_engine.specs.Meaning.{Meaning}
 use Rattle.std.specs.Prelude.{is_some, option_to_list}
 use Rattle.pm_merge.specs.Merge.{IsMerge}
-use Rattle.pm_merge.specs.Merging.{GivesAll, GivesLeast, GivesOne, HasLeft, HaveNoRow, runs_in}
+use Rattle.pm_merge.specs.Merging.{GivesAll, GivesLeast, GivesOne, HasLeft, HaveNoRefusal, HaveNoRow, first_refusal, runs_in}
 use Rattle.pm_merge.specs.Source.{Rest}
-use Rattle.pm_scan_rows.specs.Stored.{rest_of, rows_left}
+use Rattle.pm_scan_rows.specs.Stored.{rest_of, run_left}
 use Rattle.pm_scan_rows.specs.declared.rows.StoredRows.{StoredRows}
 use Rattle.pm_scan_rows.specs.Next.{held, Merged, PrintsNext}
 use Rattle.pm_scan_rows.specs.Shown.{PrintsGroups, all_runs, groups_of, lines_of, only_shown}
@@ -50,25 +52,30 @@ shown_joined m (x ∷ xs) ys = by_first (m.shows (row_of x ∷ [])) (shown_joine
     by_first true later = ap (λ (zs : Run). x ∷ zs) later
     by_first false later = later
 
-runs_rests : (sources : List StoredRows) → runs_in (map rest_of sources) ≡ map rows_left sources
+runs_rests : (sources : List StoredRows) → runs_in (map rest_of sources) ≡ map run_left sources
 runs_rests [] = refl
-runs_rests (source ∷ sources) = ap (λ (runs : List Run). rows_left source ∷ runs) (runs_rests sources)
+runs_rests (source ∷ sources) = ap (λ (runs : List Run). run_left source ∷ runs) (runs_rests sources)
+
+rests_whole : (sources : List StoredRows) → HaveNoRefusal (map rest_of sources)
+rests_whole [] = tt
+rests_whole (source ∷ sources) = (refl, rests_whole sources)
 
 module _ (m : Meaning) (groups : List (Vec Run Global)) where
   -- of the runs of groups rows were given, one after another, and the text is the lines of those that show
   pub record Printed (now : Merged) (text : List ℕ) : Type 0 where
     pub first : List Rest
     pub runs : runs_in first ≡ all_runs (groups_of groups)
+    pub whole : HaveNoRefusal first
     pub rests : List Rest
     pub left : HasLeft m held rest_of now rests
     pub run : Run
     pub given : GivesAll m first run rests
     pub lines : text ≡ lines_of (only_shown m run)
 
-  pub printed_none : (sources : List StoredRows) (now : Merged) → map rows_left sources ≡ all_runs (groups_of groups) → HasLeft m held rest_of now (map rest_of sources) → (text : List ℕ) → text ≡ []
+  pub printed_none : (sources : List StoredRows) (now : Merged) → map run_left sources ≡ all_runs (groups_of groups) → HasLeft m held rest_of now (map rest_of sources) → (text : List ℕ) → text ≡ []
       → Printed now text
   printed_none sources now are left text none =
-      record { first = map rest_of sources; runs = runs_rests sources ∙ are; rests = map rest_of sources; left = left; run = []; given = refl; lines = none }
+      record { first = map rest_of sources; runs = runs_rests sources ∙ are; whole = rests_whole sources; rests = map rest_of sources; left = left; run = []; given = refl; lines = none }
 
   pub printed_next : ((m : Meaning) (first old new : List Rest) (run : Run) (s : Stamped) → GivesAll m first run old → GivesLeast m old s new → GivesAll m first (run ++ s ∷ []) new)
       → (now after : Merged) (text new : List ℕ) → Printed now text → PrintsNext m now after text new true → Printed after new
@@ -80,6 +87,7 @@ module _ (m : Meaning) (groups : List (Vec Run Global)) where
       by_next (Some s, left, one, has, is, lines) = record {
         first = so_far.first;
         runs = so_far.runs;
+        whole = so_far.whole;
         rests = left;
         left = has;
         run = so_far.run ++ s ∷ [];
@@ -99,3 +107,9 @@ module _ (m : Meaning) (groups : List (Vec Run Global)) where
           let rising : All IsRising (runs_in so_far.first) = subst (All IsRising) (sym so_far.runs) (all_rise (groups_of groups) rise) in
           let merge : IsMerge m (all_runs (groups_of groups)) so_far.run = subst (λ (runs : List Run). IsMerge m runs so_far.run) so_far.runs (all m so_far.first so_far.rests so_far.run rising so_far.given one.0) in
           (only_shown m so_far.run, (so_far.run, merge, refl), lines ∙ append-nil text ∙ so_far.lines)
+
+  -- no refusal comes but out of memory
+  pub printed_memory : ((m : Meaning) (first last : List Rest) (run : Run) (e : Refusal) → GivesAll m first run last → HaveNoRefusal first → (e ≢ Memory → first_refusal last ≡ Some e) → e ≡ Memory)
+      → (now : Merged) (text : List ℕ) → Printed now text → (e : Refusal) → (e ≢ Memory → (rests : List Rest) → HasLeft m held rest_of now rests → first_refusal rests ≡ Some e) → e ≡ Memory
+  printed_memory memory now text so_far e refuses =
+      memory m so_far.first so_far.rests so_far.run e so_far.given so_far.whole (λ other. refuses other so_far.rests so_far.left)

@@ -5,10 +5,11 @@ use Rattle.std.proofs.lemmas.Grind.{flat_map-append}
 use Rattle.pm_values.specs.Order.{Values}
 use Rattle.pm_values.specs.declared.record.Stamped.{Stamped}
 use Rattle.pm_engine.specs.Covers.{Run}
+use Rattle.pm_merge.specs.Merging.{whole_rest}
 use Rattle.pm_merge.specs.Source.{Fills}
 use Rattle.pm_run.specs.Order.{last_key}
 use Rattle.pm_run_bytes.specs.Lying.{GivesFirst}
-use Rattle.pm_scan_rows.specs.Stored.{all_of, rest_with, rows_of}
+use Rattle.pm_scan_rows.specs.Stored.{all_of, rows_of}
 use Rattle.pm_scan_rows.specs.declared.file.ReadFile.{ReadFile}
 
 -- ---- what is read
@@ -47,6 +48,6 @@ first_in files later file rows new next parts is some gives =
     subst (λ (old : Run). GivesFirst old next (new ++ all_of later)) (ap (λ (xs : Run). xs ++ all_of later) is ∙ ap all_of (sym parts)) (first_of rows new (all_of later) next some gives)
 
 -- so as a source of a merge
-pub fills_with : (old new : Run) (next : Option Stamped) (done : Unit {0}) → GivesFirst old next new → Fills (rest_with old) (Ok done) (rest_with new) next
-fills_with old new None done gives = (gives.0, refl, ap rest_with gives.1)
+pub fills_with : (old new : Run) (next : Option Stamped) (done : Unit {0}) → GivesFirst old next new → Fills (whole_rest old) (Ok done) (whole_rest new) next
+fills_with old new None done gives = (gives.0, refl, ap whole_rest gives.1)
 fills_with old new (Some x) done gives = (gives, refl)

@@ -3,6 +3,7 @@ use Rattle.std.specs.Prelude.{List, ◌++◌, None}
 use Rattle.std.specs.List.{flat_map}
 use Rattle.pm_values.specs.declared.refusal.Refusal.{Refusal}
 use Rattle.pm_engine.specs.Covers.{Run}
+use Rattle.pm_merge.specs.Merging.{whole_rest}
 use Rattle.pm_merge.specs.Source.{Rest}
 use Rattle.pm_run_bytes.specs.Lying.{lying_rows}
 use Rattle.pm_run.specs.Order.{last_key}
@@ -33,13 +34,9 @@ left_in (left.Lying rows) = lying_rows rows
 left_in (left.Decoded rest) = rest.now
 
 -- those that a run still gives
-abbrev pub rows_left : StoredRows → Run
-rows_left r = left_in r.own ++ all_of r.files.now
-
--- Private: rows after which no refusal comes
-abbrev pub rest_with : Run → Rest
-rest_with run = record { rows = run; refusal = None }
+abbrev pub run_left : StoredRows → Run
+run_left r = left_in r.own ++ all_of r.files.now
 
 -- Private: what a run still gives: all of it was read, so no refusal comes
 abbrev pub rest_of : StoredRows → Rest
-rest_of r = rest_with (rows_left r)
+rest_of r = whole_rest (run_left r)

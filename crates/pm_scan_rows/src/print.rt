@@ -1,8 +1,10 @@
 //! What is printed of the groups of a table.
 
-ghost use Rattle.std.specs.Prelude.{◌≡◌, ◌<◌, All, IfOk, true};
+ghost use Rattle.std.specs.Prelude.{◌≡◌, ◌≢◌, ◌<◌, All, IfErr, IfOk, List, Some, true};
 ghost use Rattle.pm_engine.specs.Covers.{IsRising};
-ghost use Rattle.pm_merge.specs.Merging.{rows_left};
+ghost use Rattle.pm_merge.specs.Merging.{HasLeft, first_refusal, rows_left};
+ghost use Rattle.pm_merge.specs.Source.{Rest};
+ghost use Rattle.pm_values.specs.declared.refusal.Refusal.TheVariants.{Memory};
 ghost use Rattle.pm_scan_rows.specs.Stored.{rest_of};
 ghost use Rattle.pm_scan_rows.specs.Next.{held, PrintsNext};
 ghost use Rattle.pm_scan_rows.specs.Shown.{PrintsGroups, ShowsByKind, groups_of};
@@ -13,6 +15,7 @@ use crate::stored_run::StoredRun;
 use pm_engine::MergeEngine;
 use pm_merge::{Merging, given_law};
 use pm_row_slots::RowSlot;
+use pm_values::Refusal;
 use std::alloc::{AllocError, Global};
 
 /// The lines of the rows that groups show, by rising key, of the runs of each group, the oldest first. The runs of all
@@ -27,18 +30,22 @@ pub fn print_groups<E: MergeEngine>(
     requires by_kind { ShowsByKind (E.meaning engine.now) }
     ensures { IfOk result (λ text. PrintsGroups (E.meaning engine.now) (groups_of groups.items) text.items) }
 {
-    print_all(alloc, engine, groups.as_slice())
+    let Ok(text) = print_all(alloc, engine, groups.as_slice()) else {
+        return Err(AllocError);
+    };
+    Ok(text)
 }
 
-/// The same of groups that are lent.
+/// The same of groups that are lent. The only refusal is that memory ran out, as what was read has none.
 fn print_all<E: MergeEngine>(
     alloc: Global,
     engine: &E,
     groups: &[Vec<StoredRun>],
-) -> Result<Vec<u8>, AllocError>
+) -> Result<Vec<u8>, Refusal>
     requires rising { All (All IsRising) (groups_of groups.now) }
     requires by_kind { ShowsByKind (E.meaning engine.now) }
-    ensures { IfOk result (λ text. PrintsGroups (E.meaning engine.now) (groups_of groups.now) text.items) }
+    ensures prints { IfOk result (λ text. PrintsGroups (E.meaning engine.now) (groups_of groups.now) text.items) }
+    ensures memory { IfErr result (λ e. e ≡ Memory) }
 {
     given_law();
     let mut merging = Merging::of(alloc, sources_of(alloc, groups)?)?;
@@ -48,25 +55,25 @@ fn print_all<E: MergeEngine>(
     Ok(text)
 }
 
-/// Adds the line of the next row, if it shows: whether there is one. The place is for the rows, one after another. What
-/// was read has no refusal but out of memory.
+/// Adds the line of the next row, if it shows: whether there is one. The place is for the rows, one after another.
+/// Refusals are those of `Merging::fill`.
 fn push_next<'b, E: MergeEngine>(
     alloc: Global,
     engine: &E,
     merging: &mut Merging<RowSlot<'b>, StoredRows<'b>>,
     slot: &mut Box<RowSlot<'b>>,
     text: &mut Vec<u8>,
-) -> Result<bool, AllocError>
+) -> Result<bool, Refusal>
     requires { ShowsByKind (E.meaning engine.now) }
     ensures next { IfOk result
         (PrintsNext (E.meaning engine.now) merging.old merging.new text.old.items text.new.items) }
     ensures fewer { IfOk result (λ is. is ≡ true → rows_left held rest_of merging.new
         < rows_left held rest_of merging.old) }
+    ensures refuses { IfErr result (λ e. e ≢ Memory → (rests : List Rest)
+        → HasLeft (E.meaning engine.now) held rest_of merging.old rests → first_refusal rests ≡ Some e) }
 {
     slot.clear();
-    if merging.fill(alloc, engine, slot).is_err() {
-        return Err(AllocError);
-    }
+    merging.fill(alloc, engine, slot)?;
     if slot.is_none() {
         return Ok(false);
     }

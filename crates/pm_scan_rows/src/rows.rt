@@ -2,7 +2,7 @@
 
 ghost use Rattle.std.specs.Prelude.{◌≡◌, [], None, OnOk};
 ghost use Rattle.pm_run_bytes.specs.Lying.{GivesFirst};
-ghost use Rattle.pm_scan_rows.specs.Stored.{all_of, left_in, rows_left};
+ghost use Rattle.pm_scan_rows.specs.Stored.{all_of, left_in, run_left};
 
 use crate::file::{ReadFile, RowsLeft};
 use pm_merge::RowSource;
@@ -41,7 +41,7 @@ impl<'b> StoredRows<'b> {
     fn fill_later(&mut self, alloc: Global, slot: &mut RowSlot<'b>) -> Result<(), AllocError>
         requires over { left_in self.old.own ≡ [] }
         requires none { slot.old ≡ None }
-        ensures { OnOk result (GivesFirst (all_of self.old.files.now) slot.new (rows_left self.new)) }
+        ensures { OnOk result (GivesFirst (all_of self.old.files.now) slot.new (run_left self.new)) }
     {
         while let Some((file, files)) = self.files.split_first() {
             self.own = file.rows();

@@ -5,7 +5,7 @@ ghost use Rattle.pm_base.specs.Newline.{line};
 ghost use Rattle.pm_row_slots.specs.Seen.{seen_row, seen_value};
 ghost use Rattle.pm_row_slots.specs.Slot.{placed_row};
 ghost use Rattle.pm_rows.specs.RowText.{row_text};
-ghost use Rattle.pm_scan_rows.specs.Stored.{rows_left};
+ghost use Rattle.pm_scan_rows.specs.Stored.{run_left};
 ghost use Rattle.pm_values.specs.Order.{Values};
 ghost use Rattle.pm_values.specs.declared.kind.Kind.TheVariants.{Insert};
 ghost use Rattle.pm_values.specs.declared.record.Stamped.{Stamped as StampedView};
@@ -24,7 +24,7 @@ pub(crate) fn sources_of<'b>(
     alloc: Global,
     groups: &'b [Vec<StoredRun>],
 ) -> Result<Vec<StoredRows<'b>>, AllocError>
-    ensures { IfOk result (λ sources. map rows_left sources.items ≡ all_runs (groups_of groups.now)) }
+    ensures { IfOk result (λ sources. map run_left sources.items ≡ all_runs (groups_of groups.now)) }
 {
     let mut sources = Vec::new(alloc);
     for runs in groups {
@@ -38,7 +38,7 @@ fn push_sources<'b>(
     sources: &mut Vec<StoredRows<'b>>,
     runs: &'b [StoredRun],
 ) -> Result<(), AllocError>
-    ensures { OnOk result (map rows_left sources.new.items ≡ map rows_left sources.old.items ++ runs.now) }
+    ensures { OnOk result (map run_left sources.new.items ≡ map run_left sources.old.items ++ runs.now) }
 {
     for run in runs {
         sources.push(run.rows())?;

@@ -2,7 +2,7 @@
 
 ghost use Rattle.std.specs.Prelude.{◌≡◌, [], IfErr, OnErr, OnOk};
 ghost use Rattle.pm_run.specs.Reader.{Appends};
-ghost use Rattle.pm_scan_rows.specs.Stored.{RefusesRows, rows_left};
+ghost use Rattle.pm_scan_rows.specs.Stored.{RefusesRows, run_left};
 
 use crate::file::{ReadFile, RowsLeft};
 use crate::rows::StoredRows;
@@ -62,7 +62,7 @@ impl StoredRun {
 
     /// Its rows, one after another.
     pub fn rows(&self) -> StoredRows<'_>
-        ensures { rows_left result ≡ self.now }
+        ensures { run_left result ≡ self.now }
     {
         StoredRows {
             own: RowsLeft::Decoded(&[]),
