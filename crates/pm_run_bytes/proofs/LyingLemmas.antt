@@ -1,5 +1,5 @@
 -- Rows that lie one after another in the bytes of a file are one list, and are read from its first row on.
-use Rattle.std.proofs.Common.{◌≡◌, ℕ, suc, Bool, pos, List, [], ◌∷◌, ◌++◌, drop, length, Result, Ok, refl, sym, ap, subst, ◌∙◌, arith}
+use Rattle.std.proofs.Common.{◌≡◌, ◌≢◌, ◌<◌, ℕ, zero, suc, Bool, pos, List, [], ◌∷◌, ◌++◌, drop, length, Result, Ok, refl, sym, ap, subst, ◌∙◌, arith}
 use Rattle.std.proofs.lemmas.List.{append_cancel_left, drop_all, drop_at, length-drop, nil_from_length}
 use Rattle.std.proofs.lemmas.Option.{some_pair_parts}
 use Rattle.std.proofs.Math.Seq.{take-append_seam}
@@ -76,12 +76,13 @@ module _ (f : Form) (changes : Bool) (written : IsWritten f (run_type f)) where
   module _ (d : Direct) (bytes : List ℕ) where
     none_from : (offset : ℕ) → offset ≡ length bytes → (rows : List Stamped) → LieFrom d bytes f changes offset rows → [] ≡ rows
     none_from offset over rows (at_end at end) = refl
-    none_from offset over rows (with_block at next own more content has here later) = absurd (no_content d bytes at (length own) content next over has)
+    none_from offset over rows (with_block at next own more content some has here later) = absurd (no_content d bytes at (length own) content next over has)
 
     -- what stands at an offset where a block has this content
     record BlockAt (many after : ℕ) (content : List ℕ) (rows : List Stamped) : Type 0 where
       pub own : List Stamped
       pub more : List Stamped
+      pub some : own ≢ []
       pub many_is : length own ≡ many
       pub here : LieRows f changes own content []
       pub later : LieFrom d bytes f changes after more
@@ -89,11 +90,12 @@ module _ (f : Form) (changes : Bool) (written : IsWritten f (run_type f)) where
 
     block_from : (offset many after : ℕ) (content : List ℕ) → HasContent d bytes offset many content after → (rows : List Stamped) → LieFrom d bytes f changes offset rows → BlockAt many after content rows
     block_from offset many after content has rows (at_end at end) = absurd (no_content d bytes at many content after end has)
-    block_from offset many after content has rows (with_block at next own more contents other here later) =
+    block_from offset many after content has rows (with_block at next own more contents some other here later) =
         let same = content_one d bytes at (length own) many next after contents content other has in
         record {
           own = own;
           more = more;
+          some = some;
           many_is = same.0;
           here = subst (λ (s : List ℕ). LieRows f changes own s []) same.1 here;
           later = subst (λ n. LieFrom d bytes f changes n more) same.2 later;
@@ -102,7 +104,7 @@ module _ (f : Form) (changes : Bool) (written : IsWritten f (run_type f)) where
 
     rows_from : (offset : ℕ) (rows : List Stamped) → LieFrom d bytes f changes offset rows → (others : List Stamped) → LieFrom d bytes f changes offset others → rows ≡ others
     rows_from offset rows (at_end at end) others lie = none_from at end others lie
-    rows_from offset rows (with_block at next own more content has here later) others lie =
+    rows_from offset rows (with_block at next own more content some has here later) others lie =
         let b = block_from at (length own) next content has others lie in
         ap (λ (xs : List Stamped). xs ++ more) (rows_one own b.own content (sym b.many_is) here b.here)
         ∙ ap (λ (xs : List Stamped). b.own ++ xs) (rows_from next more later b.more b.later)
@@ -135,6 +137,10 @@ module _ (d : Direct) (bytes : List ℕ) (f : Form) (changes : Bool) (next : ℕ
 
 -- ---- what one call takes
 
+some_number : (n : ℕ) → (n ≡ 0 → ⊥) → 0 < n
+some_number zero some = absurd (some refl)
+some_number (suc n) some = omega arith
+
 module _ (d : Direct) (bytes : List ℕ) (f : Form) (changes : Bool) (rest : List ℕ) (left next : ℕ) where
   -- the end of the bytes
   left_over : left ≡ 0 → next ≡ length bytes → (rows : List Stamped) → LieLeft d bytes f changes rest left next rows → rows ≡ []
@@ -162,6 +168,15 @@ module _ (d : Direct) (bytes : List ℕ) (f : Form) (changes : Bool) (rest : Lis
 
     pub known_block : (k : KnownRows d bytes f changes rest left next) → KnownRows d bytes f changes content many after
     known_block k = (k.0, ∥∥₁_map k.1 (λ h. only_lie d bytes f changes content many after k.0 (left_block k.0 h.lie)))
+
+    -- it has a row
+    some_left : (rows : List Stamped) → LieLeft d bytes f changes rest left next rows → many ≡ 0 → ⊥
+    some_left rows lie over =
+        let b = block_from f changes lie.later.0 d bytes next many after content has lie.more lie.later.1 in
+        b.some (nil_from_length b.own (b.many_is ∙ over))
+
+    pub some_block : KnownRows d bytes f changes rest left next → 0 < many
+    some_block k = some_number many (λ over. ∥∥₁_elim k.1 (λ x y. absurd x) (λ h. some_left k.0 h.lie over))
 
     -- the same rows are left
     pub block_given : Coded (List Stamped) → (k : KnownRows d bytes f changes rest left next) (m : KnownRows d bytes f changes content many after) → m.0 ≡ k.0

@@ -1,5 +1,5 @@
 -- What is read of the block at an offset of a file.
-use Rattle.std.specs.Prelude.{◌≡◌, ℕ, List, length, Option, Some, None, Result, Ok, Err}
+use Rattle.std.specs.Prelude.{◌≡◌, ◌≢◌, ℕ, List, [], length, Option, Some, None, Result, Ok, Err}
 use Rattle.pm_values.specs.Order.{Values}
 use Rattle.pm_values.specs.declared.record.Stamped.{Stamped}
 use Rattle.pm_values.specs.declared.refusal.Refusal.{Refusal}
@@ -24,9 +24,9 @@ ReadsBlock o offset before (Ok (Some read)) = (ds : List Data)
 ReadsBlock o offset before (Err e) = UnlessMemory e ((e ≡ Damaged o.path offset)
     × HasNoBlock o.file.kind o.file.marker o.file.bytes offset)
 
--- the block at an offset has rows, after one with the key before, none of which is refused; this is the key of
--- the last of them, or of that one, and the next offset
+-- the block at an offset has rows, at least one, after one with the key before, none of which is refused; this is the
+-- key of the last of them, and the next offset
 abbrev pub JudgesBlock : Opened → ℕ → Option Values → Option Values → ℕ → Type 0
 JudgesBlock o offset before last next = (ds : List Data) × (rows : List Stamped)
     × HasBlock o.file.kind o.file.marker o.file.bytes offset ds next
-    × (judged o before (placed offset ds) ≡ all_judged rows) × (last ≡ last_key before rows)
+    × (judged o before (placed offset ds) ≡ all_judged rows) × (last ≡ last_key before rows) × (rows ≢ [])

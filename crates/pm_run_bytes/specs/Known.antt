@@ -1,5 +1,5 @@
 -- What is known of rows that lie one after another in the bytes of a file.
-use Rattle.std.specs.Prelude.{◌≡◌, ℕ, Bool, List, [], ◌∷◌, ◌++◌, length}
+use Rattle.std.specs.Prelude.{◌≡◌, ◌≢◌, ℕ, Bool, List, [], ◌∷◌, ◌++◌, length}
 use Rattle.std.specs.Coded.{Coded, Coded-set}
 use mathlib.Core.HLevel.{is_prop→PathP}
 use mathlib.Core.Logic.{∥∥₁_elim, ∥∥₁_prop}
@@ -15,11 +15,11 @@ LieRows f changes [] source rest = source ≡ rest
 LieRows f changes (x ∷ xs) source rest =
     (middle : List ℕ) × IsRow f changes x source middle × LieRows f changes xs middle rest
 
--- the blocks from an offset to the end of the bytes have these rows
+-- the blocks from an offset to the end of the bytes have these rows, and each has some
 pub data LieFrom (d : Direct) (bytes : List ℕ) (f : Form) (changes : Bool) : ℕ → List Stamped → Type 0 where
   at_end : (offset : ℕ) → offset ≡ length bytes → LieFrom d bytes f changes offset []
   with_block : (offset next : ℕ) (own more : List Stamped) (content : List ℕ)
-      → HasContent d bytes offset (length own) content next → LieRows f changes own content []
+      → own ≢ [] → HasContent d bytes offset (length own) content next → LieRows f changes own content []
       → LieFrom d bytes f changes next more → LieFrom d bytes f changes offset (own ++ more)
 
 -- so in a file whose type is what is written of the form

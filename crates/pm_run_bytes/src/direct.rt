@@ -1,7 +1,7 @@
 //! Rows that are read straight from the bytes of a file that is as it is written here, without the data between. Where
 //! none are answered, they are read by their data, which also finds the refusal.
 
-ghost use Rattle.std.specs.Prelude.{◌≡◌, ◌≢◌, ◌≤◌, ◌-◌, ◌++◌, List, [], ℕ, Ok, Some, IfOk, IfSome};
+ghost use Rattle.std.specs.Prelude.{◌≡◌, ◌≢◌, ◌<◌, ◌≤◌, ◌-◌, ◌++◌, List, [], ℕ, Ok, Some, IfOk, IfSome};
 ghost use Rattle.std.specs.Prelude.{MatchOption, drop, length, pos, take};
 ghost use Rattle.pm_avro_data.specs.Number.{IsInt, IsLong};
 ghost use Rattle.pm_avro_file.specs.Reader.{IsOpened};
@@ -84,7 +84,7 @@ impl Direct {
     }
 
     /// Judges the rows of the block at an offset of the file's bytes, after one with the key before: the key of the
-    /// last of them or of that one, and the offset after the block. A block without rows isn't judged here.
+    /// last of them, and the offset after the block. A block without rows isn't judged here.
     pub fn judge_block(
         &self,
         alloc: Global,
@@ -98,12 +98,27 @@ impl Direct {
             → o.file.bytes ≡ bytes.now → IsDirect self.now form.now o.file
             → JudgesBlock o offset before.now judged.0 judged.1) }
     {
+        let (count, content, next) = self.some_content(alloc, bytes, offset)?;
+        let last = judge_rows(alloc, form, changes, before, count, content)?;
+        Some((last, next))
+    }
+
+    /// The same as `content` of a block that has rows.
+    fn some_content<'b>(
+        &self,
+        alloc: Global,
+        bytes: &'b [u8],
+        offset: usize,
+    ) -> Option<(usize, &'b [u8], usize)>
+        ensures content { IfSome result (λ found.
+            HasContent self.now bytes.now offset found.0 found.1.now found.2) }
+        ensures some { IfSome result (λ found. 0 < found.0) }
+    {
         let (count, content, next) = self.content(alloc, bytes, offset)?;
         if count == 0 {
             return None;
         }
-        let last = judge_rows(alloc, form, changes, before, count, content)?;
-        Some((last, next))
+        Some((count, content, next))
     }
 
     /// How many rows the block at an offset of the file's bytes has, their bytes, and the offset after it.

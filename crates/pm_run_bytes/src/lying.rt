@@ -70,8 +70,7 @@ impl<'b> FileRows<'b> {
         self.next_row(alloc, slot)
     }
 
-    /// Takes the next block in hand, where no row is left of the last one. A block without rows isn't one that was
-    /// judged.
+    /// Takes the next block in hand, where no row is left of the last one. A block that was judged has rows.
     fn next_block(&mut self, alloc: Global) -> Result<(), AllocError>
         requires { self.old.left ≡ 0 }
         ensures same { OnOk result (lying_rows self.new ≡ lying_rows self.old) }
@@ -80,9 +79,6 @@ impl<'b> FileRows<'b> {
         let Some((count, content, next)) = self.direct.content(alloc, self.bytes, self.next) else {
             return Err(AllocError);
         };
-        if count == 0 {
-            return Err(AllocError);
-        }
         self.rest = content;
         self.left = count;
         self.next = next;

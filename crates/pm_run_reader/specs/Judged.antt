@@ -6,14 +6,16 @@ use mathlib.Core.Logic.{∥∥₁_elim, ∥∥₁_prop}
 use Rattle.pm_values.specs.declared.record.Stamped.{Stamped}
 use Rattle.pm_run.specs.Rows.{Gives, Opened}
 use Rattle.pm_run_bytes.specs.Direct.{IsDirect}
+use Rattle.pm_run_bytes.specs.Known.{LieAt}
 use Rattle.pm_run_bytes.specs.declared.direct.Direct.{Direct}
 
--- Private: an opened file has these rows and then its end, and no others; the marker is its own, and it is as it is
--- written
+-- Private: an opened file has these rows and then its end, and no others; the marker is its own, it is as it is
+-- written, and they lie in its bytes
 pub record HasOnly (o : Opened) (d : Direct) (rows : List Stamped) : Type 0 where
   pub direct : IsDirect d o.form o.file
   pub gives : Gives o rows None
   pub only : (others : List Stamped) → Gives o others None → others ≡ rows
+  pub lie : LieAt d o.file.bytes o.form o.changes o.file.first rows
 
 -- Private: such rows of an opened file
 abbrev pub OnlyRows : Opened → Direct → Type 0
