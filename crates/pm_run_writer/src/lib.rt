@@ -6,8 +6,8 @@
 //! The names of a schema's columns differ by its rules. Where those of some other schema don't, calls answer that
 //! memory ran out.
 //!
-//! A row's bytes go from its values into those of its block, and a block is ended at 1024 rows: beside the rows there
-//! is one file in memory, and no datum of a row is made.
+//! A row's bytes go from its values into those of its block, and a block is ended at 1024 rows: beside the rows stand
+//! the files so far and one block, and no datum of a row is made.
 #![tactic(auto)]
 
 mod begun_file;
