@@ -1,6 +1,6 @@
 //! Runs that are made into one run, row by row.
 
-ghost use Rattle.std.specs.Prelude.{◌≡◌, ◌≢◌, ◌+◌, ◌≤◌, List, None, Some, IfErr, IfOk, OnOk, length, map};
+ghost use Rattle.std.specs.Prelude.{◌≡◌, ◌≢◌, ◌+◌, ◌≤◌, List, None, Some, IfErr, IfOk, OnErr, OnOk, length, map};
 ghost use Rattle.std.specs.Prelude.{option_to_list};
 ghost use Rattle.std.specs.Vec.{vec_len};
 ghost use Rattle.pm_engine.specs.Meaning.{Meaning};
@@ -16,6 +16,16 @@ use pm_values::Refusal;
 use std::alloc::{AllocError, Global};
 use std::cmp::Ordering;
 use std::mem;
+
+/// No row was given: the cause stands beside the answer, which so fits into a register.
+#[derive(Clone, Copy)]
+struct Stopped;
+
+impl From<AllocError> for Stopped {
+    fn from(_e: AllocError) -> Stopped {
+        Stopped
+    }
+}
 
 /// No row, or the rows of one source, or of an older and a newer one that are merged, with a place for the first row of
 /// each. These are in boxes, so that a row is moved by a pointer.
@@ -75,9 +85,43 @@ impl<P: RowPlace, S: RowSource<P>> Merging<P, S> {
             → HasLeft (E.meaning engine.now) P.held S.rest self.old rests → first_refusal rests ≡ Some e) }
         ensures none { IfErr result (λ e. e ≢ Memory → P.held slot.new.value ≡ None) }
     {
+        let mut cause = Refusal::Memory;
+        match self.put_next(alloc, engine, slot, &mut cause) {
+            Ok(()) => Ok(()),
+            Err(_) => Err(cause),
+        }
+    }
+
+    /// The same, with a source's refusal beside the answer.
+    fn put_next<E: MergeEngine>(
+        &mut self,
+        alloc: Global,
+        engine: &E,
+        slot: &mut Box<P>,
+        cause: &mut Refusal,
+    ) -> Result<(), Stopped>
+        requires none { P.held slot.old.value ≡ None }
+        requires memory { cause.old ≡ Memory }
+        ensures gives { OnOk result ((rests : List Rest) → HasLeft (E.meaning engine.now) P.held S.rest self.old rests
+            → (left : List Rest) × GivesOne (E.meaning engine.now) rests (P.held slot.new.value) left
+            × HasLeft (E.meaning engine.now) P.held S.rest self.new left) }
+        ensures fewer { OnOk result
+            (length (option_to_list (P.held slot.new.value)) + rows_left P.held S.rest self.new
+            ≤ rows_left P.held S.rest self.old) }
+        ensures memory { OnOk result (cause.new ≡ Memory) }
+        ensures refuses { OnErr result (cause.new ≢ Memory → (rests : List Rest)
+            → HasLeft (E.meaning engine.now) P.held S.rest self.old rests → first_refusal rests ≡ Some cause.new) }
+        ensures leaves { OnErr result (cause.new ≢ Memory → P.held slot.new.value ≡ None) }
+    {
         match self {
             Merging::Nothing => Ok(()),
-            Merging::One(source) => source.fill(alloc, slot.as_mut()),
+            Merging::One(source) => match source.fill(alloc, slot.as_mut()) {
+                Ok(()) => Ok(()),
+                Err(refusal) => {
+                    *cause = refusal;
+                    Err(Stopped)
+                }
+            },
             Merging::Two {
                 older,
                 newer,
@@ -85,11 +129,11 @@ impl<P: RowPlace, S: RowSource<P>> Merging<P, S> {
                 first_newer,
             } => {
                 if first_older.is_empty() {
-                    older.fill(alloc, engine, first_older)?;
+                    older.put_next(alloc, engine, first_older, cause)?;
                     let_go(older, first_older);
                 }
                 if first_newer.is_empty() {
-                    newer.fill(alloc, engine, first_newer)?;
+                    newer.put_next(alloc, engine, first_newer, cause)?;
                     let_go(newer, first_newer);
                 }
                 Ok(choose(alloc, engine, first_older, first_newer, slot)?)
@@ -137,8 +181,8 @@ fn choose<P: RowPlace, E: MergeEngine>(
     Ok(())
 }
 
-/// Puts two rows of one key into an empty place, as one, and takes them from theirs. It isn't inlined, so that `fill`
-/// has no room for rows.
+/// Puts two rows of one key into an empty place, as one, and takes them from theirs. It isn't inlined, so that
+/// `put_next` has no room for rows.
 #[inline(never)]
 fn combine<P: RowPlace, E: MergeEngine>(
     alloc: Global,

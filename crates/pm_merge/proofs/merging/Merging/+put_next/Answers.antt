@@ -1,57 +1,58 @@
-use Rattle.std.proofs.Common.{◌≡◌, None, ap}
+use Rattle.std.proofs.Common.{◌≡◌, None, Ok, ap}
+use Rattle.std.specs.Prelude.{Err}
 use Rattle.std.proofs.lemmas.Result.{err_from_is_err_and}
 use Rattle.pm_merge.specs.Merging.{HasLeft}
 use Rattle.pm_merge.proofs.MergingLemmas.{Knows, knows_after, knows_same, newer_refuses, none_stands, older_refuses, source_gives, source_leaves, source_refuses, two_give}
-use Rattle.pm_merge.proofs.merging.Merging.+fill.Goals as goal
-use Rattle.pm_merge.proofs.merging.Merging.+fill.Goals.{then-is_empty+in_ok-fill-in-Two, else-is_empty, then-is_empty-2+in_ok-fill-in-Two-2, else-is_empty-2}
+use Rattle.pm_merge.proofs.merging.Merging.+put_next.Goals as goal
+use Rattle.pm_merge.proofs.merging.Merging.+put_next.Goals.{then-is_empty+in_ok-put_next-in-Two, else-is_empty, then-is_empty-2+in_ok-put_next-in-Two-2, else-is_empty-2}
 
 -- one source
-pub returns-in-One-clause-gives : goal.returns-in-One-clause-gives
-returns-in-One-clause-gives g t c =
-    rw c.in-One.is (source_gives (g.E.MergeEngine.meaning c.args.engine.now) c.fill.result (g.S.RowSource.rest c.in-One.source) (g.S.RowSource.rest c.fill.new.self) (g.P.RowPlace.held c.fill.new.slot) c.fill.ensures)
+pub returns-in-Ok-clause-gives : goal.returns-in-Ok-clause-gives
+returns-in-Ok-clause-gives g t c =
+    rw c.in-One.is (source_gives (g.E.MergeEngine.meaning c.args.engine.now) (Ok tt) (g.S.RowSource.rest c.in-One.source) (g.S.RowSource.rest c.fill.new.self) (g.P.RowPlace.held c.fill.new.slot) (rw c.in-Ok.is at c.fill.ensures))
 
-pub returns-in-One-clause-refuses : goal.returns-in-One-clause-refuses
-returns-in-One-clause-refuses g t c =
-    rw c.in-One.is (source_refuses c.fill.result (g.S.RowSource.rest c.in-One.source) (g.S.RowSource.rest c.fill.new.self) (g.P.RowPlace.held c.fill.new.slot) c.fill.ensures)
+pub returns-in-Err-clause-refuses : goal.returns-in-Err-clause-refuses
+returns-in-Err-clause-refuses g t c =
+    rw c.in-One.is (source_refuses (Err c.in-Err.refusal) (g.S.RowSource.rest c.in-One.source) (g.S.RowSource.rest c.fill.new.self) (g.P.RowPlace.held c.fill.new.slot) (rw c.in-Err.is at c.fill.ensures))
 
-pub returns-in-One-clause-none : goal.returns-in-One-clause-none
-returns-in-One-clause-none g t c =
-    source_leaves c.fill.result (g.S.RowSource.rest c.in-One.source) (g.S.RowSource.rest c.fill.new.self) (g.P.RowPlace.held c.fill.new.slot) c.fill.ensures
+pub returns-in-Err-clause-leaves : goal.returns-in-Err-clause-leaves
+returns-in-Err-clause-leaves g t c =
+    source_leaves (Err c.in-Err.refusal) (g.S.RowSource.rest c.in-One.source) (g.S.RowSource.rest c.fill.new.self) (g.P.RowPlace.held c.fill.new.slot) (rw c.in-Err.is at c.fill.ensures)
 
 -- the older side refuses
-pub returns-in_err-fill-in-Two-clause-refuses : goal.returns-in_err-fill-in-Two-clause-refuses
-returns-in_err-fill-in-Two-clause-refuses g t c =
+pub returns-in_err-put_next-in-Two-clause-refuses : goal.returns-in_err-put_next-in-Two-clause-refuses
+returns-in_err-put_next-in-Two-clause-refuses g t c =
     let m = g.E.MergeEngine.meaning c.args.engine.now in
     let p = err_from_is_err_and c.from_residual.result c.from_residual.ensures.1 in
     let none : g.P.RowPlace.held c.in-Two.first_older.value ≡ None = none_stands (g.P.RowPlace.held c.in-Two.first_older.value) c.is_empty.result (rw c.deref.ensures at c.is_empty.ensures) c.if-is_empty.true in
-    rw (p.1, p.2, c.in-Two.is)
+    rw (p.1, c.in-Two.is)
     (λ other. older_refuses m (HasLeft m g.P.RowPlace.held g.S.RowSource.rest c.in-Two.older.value) (HasLeft m g.P.RowPlace.held g.S.RowSource.rest c.in-Two.older.value)
     (HasLeft m g.P.RowPlace.held g.S.RowSource.rest c.in-Two.newer.value) (HasLeft m g.P.RowPlace.held g.S.RowSource.rest c.in-Two.newer.value)
-    (g.P.RowPlace.held c.in-Two.first_older.value) (g.P.RowPlace.held c.in-Two.first_newer.value) c.in_err-fill-in-Two.field-0.0 none (rw c.deref_mut.ensures.value at (c.in_err-fill-in-Two.ensures.refuses other)))
+    (g.P.RowPlace.held c.in-Two.first_older.value) (g.P.RowPlace.held c.in-Two.first_newer.value) c.put_next.new.cause none (rw c.deref_mut.ensures.value at (c.in_err-put_next-in-Two.ensures.refuses other)))
 
 -- the newer side refuses
-pub returns-in_err-fill-in-Two-2-clause-refuses : goal.returns-in_err-fill-in-Two-2-clause-refuses
-returns-in_err-fill-in-Two-2-clause-refuses g t c =
+pub returns-in_err-put_next-in-Two-2-clause-refuses : goal.returns-in_err-put_next-in-Two-2-clause-refuses
+returns-in_err-put_next-in-Two-2-clause-refuses g t c =
     let m = g.E.MergeEngine.meaning c.args.engine.now in
-    let p = err_from_is_err_and c.from_residual-in_err-fill-in-Two-2.result c.from_residual-in_err-fill-in-Two-2.ensures.1 in
+    let p = err_from_is_err_and c.from_residual-in_err-put_next-in-Two-2.result c.from_residual-in_err-put_next-in-Two-2.ensures.1 in
     let none : g.P.RowPlace.held c.in-Two.first_newer.value ≡ None = none_stands (g.P.RowPlace.held c.in-Two.first_newer.value) c.is_empty-in-Two.result (rw c.deref-in-Two.ensures at c.is_empty-in-Two.ensures) c.if-is_empty-2.true in
     let knows : Knows m (g.P.RowPlace.held c.in-Two.first_older.value) (HasLeft m g.P.RowPlace.held g.S.RowSource.rest c.in-Two.older.value) (g.P.RowPlace.held c.if-is_empty.first_older.value)
     (HasLeft m g.P.RowPlace.held g.S.RowSource.rest c.if-is_empty.self.1.1.0.value) =
     elim c.if-is_empty.branch [
-      | then-is_empty+in_ok-fill-in-Two w ↦
+      | then-is_empty+in_ok-put_next-in-Two w ↦
           rw (ap (λ s. s.1.1.0) w.self-is, w.first_older-is)
-          (knows_after m (g.P.RowPlace.held c.in-Two.first_older.value) (g.P.RowPlace.held w.fill-then-is_empty.new.slot.value) (HasLeft m g.P.RowPlace.held g.S.RowSource.rest c.in-Two.older.value)
-          (HasLeft m g.P.RowPlace.held g.S.RowSource.rest w.fill-then-is_empty.new.self) (HasLeft m g.P.RowPlace.held g.S.RowSource.rest w.let_go.new.side.value)
-          (none_stands (g.P.RowPlace.held c.in-Two.first_older.value) c.is_empty.result (rw c.deref.ensures at c.is_empty.ensures) w.if-is_empty.true) (rw w.deref_mut.ensures.value at w.in_ok-fill-in-Two.ensures.gives) (w.let_go.ensures.left m))
+          (knows_after m (g.P.RowPlace.held c.in-Two.first_older.value) (g.P.RowPlace.held w.put_next.new.slot.value) (HasLeft m g.P.RowPlace.held g.S.RowSource.rest c.in-Two.older.value)
+          (HasLeft m g.P.RowPlace.held g.S.RowSource.rest w.put_next.new.self) (HasLeft m g.P.RowPlace.held g.S.RowSource.rest w.let_go.new.side.value)
+          (none_stands (g.P.RowPlace.held c.in-Two.first_older.value) c.is_empty.result (rw c.deref.ensures at c.is_empty.ensures) w.if-is_empty.true) (rw w.deref_mut.ensures.value at w.in_ok-put_next-in-Two.ensures.gives) (w.let_go.ensures.left m))
       | else-is_empty w ↦
           rw (ap (λ s. s.1.1.0) w.self-is, w.first_older-is)
           (knows_same m (g.P.RowPlace.held c.in-Two.first_older.value) c.is_empty.result (HasLeft m g.P.RowPlace.held g.S.RowSource.rest c.in-Two.older.value) (rw c.deref.ensures at c.is_empty.ensures) w.if-is_empty.false)
     ] in
-    rw (p.1, p.2, c.in-Two.is)
+    rw (p.1, c.in-Two.is)
     (λ other. newer_refuses m (HasLeft m g.P.RowPlace.held g.S.RowSource.rest c.in-Two.older.value) (HasLeft m g.P.RowPlace.held g.S.RowSource.rest c.if-is_empty.self.1.1.0.value)
     (HasLeft m g.P.RowPlace.held g.S.RowSource.rest c.in-Two.newer.value) (HasLeft m g.P.RowPlace.held g.S.RowSource.rest c.in-Two.newer.value)
-    (g.P.RowPlace.held c.in-Two.first_older.value) (g.P.RowPlace.held c.in-Two.first_newer.value) (g.P.RowPlace.held c.if-is_empty.first_older.value) c.in_err-fill-in-Two-2.field-0.0 none knows
-    (rw c.deref_mut-then-is_empty-2.ensures.value at (c.in_err-fill-in-Two-2.ensures.refuses other)))
+    (g.P.RowPlace.held c.in-Two.first_older.value) (g.P.RowPlace.held c.in-Two.first_newer.value) (g.P.RowPlace.held c.if-is_empty.first_older.value) c.put_next-then-is_empty-2.new.cause none knows
+    (rw c.deref_mut-then-is_empty-2.ensures.value at (c.in_err-put_next-in-Two-2.ensures.refuses other)))
 
 -- two sides
 pub returns-in_ok-choose-in-Two-clause-gives : goal.returns-in_ok-choose-in-Two-clause-gives
@@ -60,11 +61,11 @@ returns-in_ok-choose-in-Two-clause-gives g t c =
     let knows : Knows m (g.P.RowPlace.held c.in-Two.first_older.value) (HasLeft m g.P.RowPlace.held g.S.RowSource.rest c.in-Two.older.value) (g.P.RowPlace.held c.if-is_empty.first_older.value)
     (HasLeft m g.P.RowPlace.held g.S.RowSource.rest c.if-is_empty.self.1.1.0.value) =
     elim c.if-is_empty.branch [
-      | then-is_empty+in_ok-fill-in-Two w ↦
+      | then-is_empty+in_ok-put_next-in-Two w ↦
           rw (ap (λ s. s.1.1.0) w.self-is, w.first_older-is)
-          (knows_after m (g.P.RowPlace.held c.in-Two.first_older.value) (g.P.RowPlace.held w.fill-then-is_empty.new.slot.value) (HasLeft m g.P.RowPlace.held g.S.RowSource.rest c.in-Two.older.value)
-          (HasLeft m g.P.RowPlace.held g.S.RowSource.rest w.fill-then-is_empty.new.self) (HasLeft m g.P.RowPlace.held g.S.RowSource.rest w.let_go.new.side.value)
-          (none_stands (g.P.RowPlace.held c.in-Two.first_older.value) c.is_empty.result (rw c.deref.ensures at c.is_empty.ensures) w.if-is_empty.true) (rw w.deref_mut.ensures.value at w.in_ok-fill-in-Two.ensures.gives) (w.let_go.ensures.left m))
+          (knows_after m (g.P.RowPlace.held c.in-Two.first_older.value) (g.P.RowPlace.held w.put_next.new.slot.value) (HasLeft m g.P.RowPlace.held g.S.RowSource.rest c.in-Two.older.value)
+          (HasLeft m g.P.RowPlace.held g.S.RowSource.rest w.put_next.new.self) (HasLeft m g.P.RowPlace.held g.S.RowSource.rest w.let_go.new.side.value)
+          (none_stands (g.P.RowPlace.held c.in-Two.first_older.value) c.is_empty.result (rw c.deref.ensures at c.is_empty.ensures) w.if-is_empty.true) (rw w.deref_mut.ensures.value at w.in_ok-put_next-in-Two.ensures.gives) (w.let_go.ensures.left m))
       | else-is_empty w ↦
           rw (ap (λ s. s.1.1.0) w.self-is, w.first_older-is)
           (knows_same m (g.P.RowPlace.held c.in-Two.first_older.value) c.is_empty.result (HasLeft m g.P.RowPlace.held g.S.RowSource.rest c.in-Two.older.value) (rw c.deref.ensures at c.is_empty.ensures) w.if-is_empty.false)
@@ -72,11 +73,11 @@ returns-in_ok-choose-in-Two-clause-gives g t c =
     let also : Knows m (g.P.RowPlace.held c.in-Two.first_newer.value) (HasLeft m g.P.RowPlace.held g.S.RowSource.rest c.in-Two.newer.value) (g.P.RowPlace.held c.if-is_empty-2.first_newer.value)
     (HasLeft m g.P.RowPlace.held g.S.RowSource.rest c.if-is_empty-2.self.1.1.1.0.value) =
     elim c.if-is_empty-2.branch [
-      | then-is_empty-2+in_ok-fill-in-Two-2 w ↦
+      | then-is_empty-2+in_ok-put_next-in-Two-2 w ↦
           rw (ap (λ s. s.1.1.1.0) w.self-is, w.first_newer-is)
-          (knows_after m (g.P.RowPlace.held c.in-Two.first_newer.value) (g.P.RowPlace.held w.fill-then-is_empty-2.new.slot.value) (HasLeft m g.P.RowPlace.held g.S.RowSource.rest c.in-Two.newer.value)
-          (HasLeft m g.P.RowPlace.held g.S.RowSource.rest w.fill-then-is_empty-2.new.self) (HasLeft m g.P.RowPlace.held g.S.RowSource.rest w.let_go-then-is_empty-2.new.side.value)
-          (none_stands (g.P.RowPlace.held c.in-Two.first_newer.value) c.is_empty-in-Two.result (rw c.deref-in-Two.ensures at c.is_empty-in-Two.ensures) w.if-is_empty-2.true) (rw w.deref_mut-then-is_empty-2.ensures.value at w.in_ok-fill-in-Two-2.ensures.gives)
+          (knows_after m (g.P.RowPlace.held c.in-Two.first_newer.value) (g.P.RowPlace.held w.put_next-then-is_empty-2.new.slot.value) (HasLeft m g.P.RowPlace.held g.S.RowSource.rest c.in-Two.newer.value)
+          (HasLeft m g.P.RowPlace.held g.S.RowSource.rest w.put_next-then-is_empty-2.new.self) (HasLeft m g.P.RowPlace.held g.S.RowSource.rest w.let_go-then-is_empty-2.new.side.value)
+          (none_stands (g.P.RowPlace.held c.in-Two.first_newer.value) c.is_empty-in-Two.result (rw c.deref-in-Two.ensures at c.is_empty-in-Two.ensures) w.if-is_empty-2.true) (rw w.deref_mut-then-is_empty-2.ensures.value at w.in_ok-put_next-in-Two-2.ensures.gives)
           (w.let_go-then-is_empty-2.ensures.left m))
       | else-is_empty-2 w ↦
           rw (ap (λ s. s.1.1.1.0) w.self-is, w.first_newer-is)
