@@ -7,23 +7,20 @@ ghost use Rattle.pm_avro_data.specs.Number.{IsInt, IsLong};
 ghost use Rattle.pm_avro_file.specs.Reader.{IsOpened};
 ghost use Rattle.pm_values.specs.Kind.{code_of};
 ghost use Rattle.pm_run_bytes.specs.Block.{JudgesBlock, ReadsBlock};
-ghost use Rattle.pm_run_bytes.specs.Direct.{AreCells, AreRows, HasContent, IsCell, IsDirect, IsDirectOr};
-ghost use Rattle.pm_run_bytes.specs.Direct.{IsRow, IsWritten};
+ghost use Rattle.pm_run_bytes.specs.Direct.{AreRows, HasContent, IsCell, IsDirect, IsDirectOr, IsWritten};
 ghost use Rattle.pm_run.specs.Row.{most_sequence, row_kind};
 ghost use Rattle.pm_run.specs.Rows.{Opened};
-ghost use Rattle.pm_row_slots.specs.Seen.{seen_value};
+ghost use Rattle.pm_row_slots.specs.Seen.{seen_row, seen_value};
 
-use crate::judge::judge_rows;
+use crate::judge::{judge_rows, see_row};
 use crate::same::is_written;
 use pm_avro_file::FileReader;
-use pm_row_slots::{Seen, copied};
+use pm_row_slots::{Seen, SeenRow, values_of};
 use pm_run::Field;
-use pm_run_form::{
-    MOST_SEQUENCE, RowsRead, TableForm, agree, keeps_kind, last_key, may_follow, own_key,
-};
+use pm_run_form::{MOST_SEQUENCE, RowsRead, TableForm, keeps_kind, last_key, may_follow};
 use pm_run_scalars::{read_int, read_long, read_size, see_scalar};
 use pm_schema::EngineKind;
-use pm_values::{Key, Kind, Row, Stamped, Value};
+use pm_values::{Key, Kind, Row, Stamped};
 use std::alloc::{AllocError, Global};
 
 /// How many bytes a file's marker has.
@@ -176,9 +173,11 @@ fn read_rows(
     ensures many { IfSome result (λ rows. length rows.items ≡ count) }
 {
     let mut rows = Vec::with_capacity(alloc, count).ok()?;
+    let mut seen = SeenRow::new(alloc);
     let mut rest = bytes;
     for _ in 0..count {
-        let (row, after) = read_row(alloc, form, changes, rest)?;
+        let after = see_row(alloc, form, changes, rest, &mut seen)?;
+        let row = copied(alloc, &seen).ok()?;
         if !may_follow(changes, last_key(before, &rows), &row.key) {
             return None;
         }
@@ -188,33 +187,16 @@ fn read_rows(
     if rest.is_empty() { Some(rows) } else { None }
 }
 
-/// The row that the bytes begin with, and the rest.
-fn read_row<'b>(
-    alloc: Global,
-    form: &TableForm,
-    changes: bool,
-    bytes: &'b [u8],
-) -> Option<(Stamped, &'b [u8])>
-    ensures { IfSome result (λ x. IsRow form.now changes x.0 bytes.now x.1.now) }
+/// The row, in memory of its own.
+fn copied(alloc: Global, seen: &SeenRow) -> Result<Stamped, AllocError>
+    ensures { IfOk result (λ row. row ≡ seen_row seen.now) }
 {
-    let (values, rest) = read_values(alloc, &form.keys, bytes)?;
-    let (seq, rest) = read_sequence(alloc, rest)?;
-    let (kind, rest) = read_kind(alloc, changes, form.engine, rest)?;
-    let (row, rest) = read_values(alloc, &form.columns, rest)?;
-    if !agree(&form.places, &row, &values) {
-        return None;
-    }
-    let row = Row::new(row);
-    let key = own_key(alloc, form, &row, values).ok()?;
-    Some((
-        Stamped {
-            key,
-            seq,
-            kind,
-            row,
-        },
-        rest,
-    ))
+    Ok(Stamped {
+        key: Key::new(values_of(alloc, &seen.key)?),
+        seq: seen.seq,
+        kind: seen.kind,
+        row: Row::new(values_of(alloc, &seen.row)?),
+    })
 }
 
 /// The sequence number that the bytes begin with, and the rest.
@@ -250,32 +232,6 @@ pub(crate) fn read_kind(
     } else {
         None
     }
-}
-
-/// The values of fields that the bytes begin with, and the rest.
-fn read_values<'b>(
-    alloc: Global,
-    fields: &[Field],
-    bytes: &'b [u8],
-) -> Option<(Vec<Value>, &'b [u8])>
-    ensures { IfSome result (λ x. AreCells fields.now x.0.items bytes.now x.1.now) }
-{
-    let mut values = Vec::with_capacity(alloc, fields.len()).ok()?;
-    let mut rest = bytes;
-    for field in fields {
-        let (value, after) = read_value(alloc, field, rest)?;
-        values.push(value).ok()?;
-        rest = after;
-    }
-    Some((values, rest))
-}
-
-/// The value of a field that the bytes begin with, and the rest.
-fn read_value<'b>(alloc: Global, field: &Field, bytes: &'b [u8]) -> Option<(Value, &'b [u8])>
-    ensures { IfSome result (λ x. IsCell field.now x.0 bytes.now x.1.now) }
-{
-    let (seen, rest) = see_value(alloc, field, bytes)?;
-    Some((copied(alloc, seen).ok()?, rest))
 }
 
 /// The value of a field that the bytes begin with, where it lies, and the rest. That of one that may be null stands

@@ -4,7 +4,7 @@
 
 ghost use Rattle.std.specs.Prelude.{◌≡◌, ◌++◌, [], List, Some, IfOk, IfSome, IsTrue, OnOk, is_some, length, map, true};
 ghost use Rattle.std.specs.Ordering.{is_eq};
-ghost use Rattle.pm_model_history.specs.Merge.{value_at};
+ghost use Rattle.pm_model_history.specs.Merge.{key_of, value_at};
 ghost use Rattle.pm_values.specs.Order.{value_cmp};
 ghost use Rattle.pm_values.specs.declared.record.Stamped.{Stamped};
 ghost use Rattle.pm_run_bytes.specs.Direct.{AreCells, AreRows, IsRow};
@@ -55,8 +55,8 @@ pub(crate) fn judge_rows(
     }
 }
 
-/// The row that the bytes begin with, where it lies, and the rest. It takes no memory but where the row is longer than
-/// those before it.
+/// The row that the bytes begin with, where it lies, and the rest: its key are values of it. It takes no memory but
+/// where the row is longer than those before it.
 pub(crate) fn see_row<'b>(
     alloc: Global,
     form: &TableForm,
@@ -72,10 +72,53 @@ pub(crate) fn see_row<'b>(
     let rest = see_values(alloc, &form.columns, rest, &mut into.row)?;
     into.seq = seq;
     into.kind = kind;
-    if form.whole && are_at(&form.places, &into.row, &into.key) {
-        Some(rest)
+    if !are_at(&form.places, &into.row, &into.key) {
+        return None;
+    }
+    own_key(form, &into.row, &mut into.key).ok()?;
+    Some(rest)
+}
+
+/// The key of a row, where its values lie, in the place of values that are those at the indexes of the key's own
+/// columns. Where the key has no other columns they stay.
+#[inline(always)]
+fn own_key<'b>(
+    form: &TableForm,
+    row: &[Seen<'b>],
+    key: &mut Vec<Seen<'b>>,
+) -> Result<(), AllocError>
+    requires { agree form.now.places (map seen_value row.now) (map seen_value key.old.items) ≡ true }
+    ensures { OnOk result (map seen_value key.new.items ≡ key_of form.now.primary (map seen_value row.now)) }
+{
+    if form.whole {
+        Ok(())
     } else {
-        None
+        see_key(&form.primary, row, key)
+    }
+}
+
+/// The values of a row at indexes, where they lie, in the place of those before.
+fn see_key<'b>(
+    primary: &[usize],
+    row: &[Seen<'b>],
+    into: &mut Vec<Seen<'b>>,
+) -> Result<(), AllocError>
+    ensures { OnOk result (map seen_value into.new.items ≡ key_of primary.now (map seen_value row.now)) }
+{
+    into.clear();
+    for index in primary {
+        into.push(seen_at(row, *index))?;
+    }
+    Ok(())
+}
+
+/// The value at an index, null where there is none.
+fn seen_at<'b>(row: &[Seen<'b>], index: usize) -> Seen<'b>
+    ensures { seen_value result ≡ value_at (map seen_value row.now) index }
+{
+    match row.get(index) {
+        Some(own) => *own,
+        None => Seen::Null,
     }
 }
 

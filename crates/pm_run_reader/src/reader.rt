@@ -226,8 +226,7 @@ impl RunReader {
 
     /// The file with its rows and the key of the last of them, or the key before: all were judged where they lie in its
     /// bytes, and the first may follow one with the key before. The reader again where that isn't known: for a file
-    /// that isn't as it is written here or has a refusal, for a table with partition columns, and where memory runs
-    /// out.
+    /// that isn't as it is written here or has a refusal or a block without rows, and where memory runs out.
     pub fn judged(
         self,
         alloc: Global,
