@@ -1,4 +1,7 @@
 mod BegunLemmas
 mod FileLemmas
 mod LoopLemmas
+mod SeenLemmas
+mod SummaryLemmas
 mod TypeLemmas
+mod WrittenLemmas

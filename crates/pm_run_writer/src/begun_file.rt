@@ -9,6 +9,7 @@ ghost use Rattle.pm_avro_schema.specs.Readable.{IsReadable};
 ghost use Rattle.pm_avro_schema.specs.View as types;
 ghost use Rattle.pm_record.specs.File.{IsFileOf};
 ghost use Rattle.pm_record.specs.Record as records;
+ghost use Rattle.pm_row_slots.specs.Slot.{placed_row};
 ghost use Rattle.pm_values.specs.declared.record.Stamped.{Stamped as StampedView};
 ghost use Rattle.pm_run.specs.Form.{Form, written_fields};
 ghost use Rattle.pm_run.specs.Kinds.{run_type};
@@ -19,6 +20,7 @@ ghost use Rattle.pm_run_writer.specs.Begun.{HasBegun};
 use crate::row_writer::add_row;
 use pm_avro_file::{add_block, begin_file, begun_file_law};
 use pm_avro_schema::AvroType;
+use pm_row_slots::PlacedRow;
 use pm_run_form::TableForm;
 use pm_values::Stamped;
 use std::alloc::{AllocError, Global};
@@ -61,7 +63,7 @@ pub(crate) fn write_rows(
 {
     let mut file = BegunFile::begin(alloc, kind, marker)?;
     for row in rows {
-        file.add(form, row)?;
+        file.add(form, PlacedRow::Own(row))?;
     }
     let bytes = file.finish()?;
     Ok(bytes)
@@ -69,7 +71,11 @@ pub(crate) fn write_rows(
 
 impl BegunFile {
     /// A file without rows yet.
-    fn begin(alloc: Global, kind: &AvroType, marker: [u8; 16]) -> Result<BegunFile, AllocError>
+    pub(crate) fn begin(
+        alloc: Global,
+        kind: &AvroType,
+        marker: [u8; 16],
+    ) -> Result<BegunFile, AllocError>
         requires readable { IsReadable (types.view kind.now) }
         requires some { takes_no_byte (types.view kind.now) ≡ false }
         ensures begun { IfOk result (λ file. (f : Form) → types.view kind.now ≡ run_type f
@@ -88,10 +94,11 @@ impl BegunFile {
     }
 
     /// Adds a row.
-    fn add(&mut self, form: &TableForm, row: &Stamped) -> Result<(), AllocError>
+    pub(crate) fn add(&mut self, form: &TableForm, row: PlacedRow) -> Result<(), AllocError>
         requires within { self.old.count ≤ 1024 }
         ensures begun { OnOk result ((marker : List ℕ) (rows : List StampedView) →
-            HasBegun form.now marker rows self.old → HasBegun form.now marker (rows ++ row.now ∷ []) self.new) }
+            HasBegun form.now marker rows self.old
+            → HasBegun form.now marker (rows ++ placed_row row.entry ∷ []) self.new) }
         ensures within { OnOk result (self.new.count ≤ 1024) }
     {
         self.make_room()?;
@@ -145,7 +152,7 @@ impl BegunFile {
     }
 
     /// The bytes of the file.
-    fn finish(self) -> Result<Vec<u8>, AllocError>
+    pub(crate) fn finish(self) -> Result<Vec<u8>, AllocError>
         requires within { self.count ≤ 1024 }
         ensures { IfOk result (λ v. (f : Form) (marker : List ℕ) (rows : List StampedView) → HasBegun f marker rows self
             → IsFileOf (run_type f) 1024 (map (row_data f) rows) marker v.items) }

@@ -7,11 +7,16 @@
 //! memory ran out.
 //!
 //! A row's bytes go from its values into those of its block, and a block is ended at 1024 rows: beside the rows stand
-//! the files so far and one block, and no datum of a row is made.
+//! the files so far and one block, and no datum of a row is made. A `RunWriter` takes one row at a time from its place,
+//! wherever it lies, and ends a file where it is full, so that no list of all rows is made (`specs/Written.antt`).
 #![tactic(auto)]
 
 mod begun_file;
+mod placed;
 mod row_writer;
+mod run_writer;
+mod summary;
 mod writer;
 
+pub use run_writer::RunWriter;
 pub use writer::{write_changes, write_data, write_run};

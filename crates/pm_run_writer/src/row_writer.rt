@@ -1,34 +1,35 @@
-//! The bytes of rows, written from where their values lie. A row that has another number of values than there are
-//! columns, or a value that isn't of its column's type, gives out of memory, and so does a sequence number above
-//! 2^62 - 1.
+//! The bytes of rows, written from where they stand. A row that has another number of values than there are columns, or
+//! a value that isn't of its column's type, gives out of memory, and so does a sequence number above 2^62 - 1.
 
-ghost use Rattle.std.specs.Prelude.{◌≡◌, ◌≤◌, IfOk, OnOk, pos};
+ghost use Rattle.std.specs.Prelude.{◌≡◌, ◌≤◌, OnOk, map, pos};
 ghost use Rattle.pm_avro_data.specs.Adding.{Adds};
 ghost use Rattle.pm_avro_data.specs.Datum.{int, items_of, long, null, record_of, union_of};
 ghost use Rattle.pm_avro_data.specs.HasType.{HasType};
 ghost use Rattle.pm_model_history.specs.Merge.{key_of, value_at};
 ghost use Rattle.pm_row_slots.specs.Seen.{seen_value};
+ghost use Rattle.pm_row_slots.specs.Slot.{placed_row};
 ghost use Rattle.pm_values.specs.Kind.{code_of};
 ghost use Rattle.pm_run.specs.Kinds.{field_type, or_null, value_type};
 ghost use Rattle.pm_run.specs.Row.{most_sequence, optional_data, row_data, scalar_data, value_data, values_data};
 ghost use Rattle.pm_run.specs.Typed.{HaveFields, IsWritable};
 
+use crate::placed::{kind_of, number_of, value_count};
 use pm_avro_data::{add_boolean, add_branch, add_bytes, add_int, add_long, add_text};
-use pm_row_slots::{Seen, seen_of};
+use pm_row_slots::{PlacedRow, Seen, seen_of};
 use pm_run::Field;
 use pm_run_form::{MOST_SEQUENCE, TableForm};
-use pm_values::{ColType, Kind, Stamped, Value};
+use pm_values::{ColType, Kind, Value};
 use std::alloc::AllocError;
 
 /// Adds a row.
-pub(crate) fn add_row(out: &mut Vec<u8>, form: &TableForm, row: &Stamped) -> Result<(), AllocError>
-    ensures added { OnOk result (Adds out.old.items out.new.items (row_data form.now row.now)) }
-    ensures writable { OnOk result (IsWritable form.now row.now) }
+pub(crate) fn add_row(out: &mut Vec<u8>, form: &TableForm, row: PlacedRow) -> Result<(), AllocError>
+    ensures added { OnOk result (Adds out.old.items out.new.items (row_data form.now (placed_row row.entry))) }
+    ensures writable { OnOk result (IsWritable form.now (placed_row row.entry)) }
 {
-    add_keys(out, &form.keys, &form.places, row.row.values())?;
-    add_sequence(out, row.seq)?;
-    add_kind(out, row.kind)?;
-    add_values(out, &form.columns, row.row.values())?;
+    add_keys(out, &form.keys, &form.places, row)?;
+    add_sequence(out, number_of(row))?;
+    add_kind(out, kind_of(row))?;
+    add_values(out, &form.columns, row)?;
     Ok(())
 }
 
@@ -55,45 +56,73 @@ fn add_keys(
     out: &mut Vec<u8>,
     fields: &[Field],
     places: &[usize],
-    row: &[Value],
+    row: PlacedRow,
 ) -> Result<(), AllocError>
     ensures added { OnOk result (Adds out.old.items out.new.items
-        (record_of (items_of (values_data fields.now (key_of places.now row.now))))) }
-    ensures typed { OnOk result (HaveFields fields.now (values_data fields.now (key_of places.now row.now))) }
+        (record_of (items_of (values_data fields.now (key_of places.now (placed_row row.entry).row))))) }
+    ensures typed { OnOk result
+        (HaveFields fields.now (values_data fields.now (key_of places.now (placed_row row.entry).row))) }
 {
     if fields.len() != places.len() {
         return Err(AllocError);
     }
     for (index, field) in fields.iter().enumerate() {
-        let value = value_at(row, places[index])?;
-        add_value(out, field, seen_of(value))?;
+        add_at(out, field, row, places[index])?;
     }
     Ok(())
 }
 
-/// The value of a row at an index; out of memory where there is none.
-fn value_at(row: &[Value], index: usize) -> Result<&Value, AllocError>
-    ensures { IfOk result (λ v. v.now ≡ value_at row.now index) }
+/// Adds a row's values.
+fn add_values(out: &mut Vec<u8>, fields: &[Field], row: PlacedRow) -> Result<(), AllocError>
+    ensures added { OnOk result (Adds out.old.items out.new.items
+        (record_of (items_of (values_data fields.now (placed_row row.entry).row)))) }
+    ensures typed { OnOk result (HaveFields fields.now (values_data fields.now (placed_row row.entry).row)) }
+{
+    if fields.len() != value_count(row) {
+        return Err(AllocError);
+    }
+    for (index, field) in fields.iter().enumerate() {
+        add_at(out, field, row, index)?;
+    }
+    Ok(())
+}
+
+/// Adds the value that a row has of a field at the index; out of memory where it has none.
+fn add_at(out: &mut Vec<u8>, field: &Field, row: PlacedRow, index: usize) -> Result<(), AllocError>
+    ensures added { OnOk result (Adds out.old.items out.new.items
+        (value_data field.now (value_at (placed_row row.entry).row index))) }
+    ensures typed { OnOk result
+        (HasType (field_type field.now) (value_data field.now (value_at (placed_row row.entry).row index))) }
+{
+    match row {
+        PlacedRow::Lying(seen) => add_seen(out, field, &seen.row, index),
+        PlacedRow::Own(own) => add_own(out, field, own.row.values(), index),
+    }
+}
+
+/// The same of values that lie in bytes or are lent.
+fn add_seen(out: &mut Vec<u8>, field: &Field, row: &[Seen], index: usize) -> Result<(), AllocError>
+    ensures added { OnOk result (Adds out.old.items out.new.items
+        (value_data field.now (value_at (map seen_value row.now) index))) }
+    ensures typed { OnOk result
+        (HasType (field_type field.now) (value_data field.now (value_at (map seen_value row.now) index))) }
 {
     match row.get(index) {
-        Some(value) => Ok(value),
+        Some(value) => add_value(out, field, *value),
         None => Err(AllocError),
     }
 }
 
-/// Adds a row's values.
-fn add_values(out: &mut Vec<u8>, fields: &[Field], row: &[Value]) -> Result<(), AllocError>
+/// The same of values in memory of their own.
+fn add_own(out: &mut Vec<u8>, field: &Field, row: &[Value], index: usize) -> Result<(), AllocError>
     ensures added { OnOk result (Adds out.old.items out.new.items
-        (record_of (items_of (values_data fields.now row.now)))) }
-    ensures typed { OnOk result (HaveFields fields.now (values_data fields.now row.now)) }
+        (value_data field.now (value_at row.now index))) }
+    ensures typed { OnOk result (HasType (field_type field.now) (value_data field.now (value_at row.now index))) }
 {
-    if fields.len() != row.len() {
-        return Err(AllocError);
+    match row.get(index) {
+        Some(value) => add_value(out, field, seen_of(value)),
+        None => Err(AllocError),
     }
-    for (index, field) in fields.iter().enumerate() {
-        add_value(out, field, seen_of(&row[index]))?;
-    }
-    Ok(())
 }
 
 /// Adds a field's value.

@@ -116,10 +116,10 @@ pub fn write_changes(
 }
 
 /// What writes files of a table.
-struct FileWriter {
-    form: TableForm,
-    kind: AvroType,
-    schema_id: u64,
+pub(crate) struct FileWriter {
+    pub(crate) form: TableForm,
+    pub(crate) kind: AvroType,
+    pub(crate) schema_id: u64,
 }
 
 impl Drop for FileWriter {
@@ -135,7 +135,7 @@ impl Drop for FileWriter {
 impl FileWriter {
     /// What writes files of a table of the schema. Where names of fields don't differ, which no schema's rules allow,
     /// the answer is out of memory.
-    fn of(alloc: Global, schema: &TableSchema) -> Result<FileWriter, AllocError>
+    pub(crate) fn of(alloc: Global, schema: &TableSchema) -> Result<FileWriter, AllocError>
         ensures form { IfOk result (λ w. w.form ≡ form_of schema.now) }
         ensures kind { IfOk result (λ w. types.view w.kind ≡ run_type w.form) }
         ensures differ { IfOk result (λ w. records.all_differ (written_fields w.form) ≡ true) }
