@@ -14,7 +14,7 @@ use Rattle.pm_run.specs.Writing.{AreFilesOf}
 use Rattle.pm_run.specs.declared.run.RunFile.{RunFile}
 use Rattle.pm_runs.specs.Stand.{top_of}
 use Rattle.pm_runs.specs.Succession.{KnownRun, MayTakePlace, TakeOldestPlace, TakePlace, from_oldest, unless_empty}
-use Rattle.pm_compact.specs.Made.{IsMadeAt, TakesPlace, made_run}
+use Rattle.pm_compact.specs.Made.{IsMadeAt, IsRunOf, TakesPlace, made_run}
 use Rattle.pm_compact.specs.Rewritten.{AreRewritten, IsRewritten, most_rows}
 
 -- ---- parts of rows
@@ -58,6 +58,11 @@ files_made s most level names run (f ∷ files) positive within are =
 pub rewritten_told : (s : TableSchema) (m : Meaning) (drop : Bool) (level : ℕ) (names : Naming) (rests : List Rest) (files : List RunFile) → AreRewritten s m drop level names rests files
     → AllByRecursion (IsMadeAt level) files
 rewritten_told s m drop level names rests files are = files_made s most_rows level names are.run files (omega arith) (omega arith) are.files
+
+-- at most one run, with these files
+pub rewritten_one : (level newest : ℕ) (run : Run) (files : List RunFile) → (length (made_run level newest run files) ≤ 1) × AllByRecursion (IsRunOf level newest run files) (made_run level newest run files)
+rewritten_one level newest run [] = (omega arith, tt)
+rewritten_one level newest run (f ∷ files) = (omega arith, (record { level_is = refl; newest_is = refl; rows_are = refl; files_are = refl; some = λ none. cc }, tt))
 
 -- the rows of the run that files are
 made_rows : (s : TableSchema) (level newest : ℕ) (names : Naming) (run : Run) (files : List RunFile) → AreFilesOf s most_rows level names run files → from_oldest (made_run level newest run files) ≡ unless_empty run

@@ -1,5 +1,5 @@
 -- What a compaction's files are as a run of its group.
-use Rattle.std.specs.Prelude.{◌≡◌, ℕ, ◌≤◌, List, [], ◌∷◌, Bool, true, map, false}
+use Rattle.std.specs.Prelude.{◌≡◌, ◌≢◌, ℕ, ◌≤◌, List, [], ◌∷◌, Bool, true, map, false}
 use Rattle.pm_values.specs.declared.file_meta.FileMeta.{FileMeta}
 use Rattle.pm_engine.specs.Covers.{Run}
 use Rattle.pm_engine.specs.Meaning.{Meaning}
@@ -16,6 +16,14 @@ abbrev pub made_run : ℕ → ℕ → Run → List RunFile → List KnownRun
 made_run level newest run [] = []
 made_run level newest run (f ∷ files) =
     (record { level = level; files = metas_of (f ∷ files); newest = newest; rows = run }) ∷ []
+
+-- the run has these files, some, with these rows, at the level
+pub record IsRunOf (level newest : ℕ) (run : Run) (files : List RunFile) (known : KnownRun) : Type 0 where
+  pub level_is : known.level ≡ level
+  pub newest_is : known.newest ≡ newest
+  pub rows_are : known.rows ≡ run
+  pub files_are : known.files ≡ metas_of files
+  pub some : known.files ≢ []
 
 -- the run takes the place of the runs; without the droppable rows it does so where none is older
 abbrev pub TakesPlace : Meaning → Bool → List Run → Run → Type 0

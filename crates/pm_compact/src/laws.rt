@@ -12,7 +12,7 @@ ghost use Rattle.pm_merge.specs.Source.{Rest};
 ghost use Rattle.pm_run.specs.declared.run.RunFile.{RunFile};
 ghost use Rattle.pm_runs.specs.Stand.{top_of};
 ghost use Rattle.pm_runs.specs.Succession.{KnownRun, MayTakePlace, from_oldest};
-ghost use Rattle.pm_compact.specs.Made.{IsMadeAt, TakesPlace, made_run};
+ghost use Rattle.pm_compact.specs.Made.{IsMadeAt, IsRunOf, TakesPlace, made_run};
 ghost use Rattle.pm_compact.specs.Rewritten.{AreRewritten, DropsByKind, IsRewritten};
 
 use pm_merge::{oldest_law, replaces_law};
@@ -36,6 +36,9 @@ pub fn rewritten_law()
     ensures told { (s : TableSchema) (m : Meaning) (drop : Bool) (level : ℕ) (names : Naming) (rests : List Rest)
         (files : List RunFile) → AreRewritten s m drop level names rests files →
         AllByRecursion (IsMadeAt level) files }
+    ensures one { (level newest : ℕ) (run : Run) (files : List RunFile) →
+        (length (made_run level newest run files) ≤ 1)
+        × AllByRecursion (IsRunOf level newest run files) (made_run level newest run files) }
     ensures stands { (s : TableSchema) (drop : Bool) (level newest : ℕ) (names : Naming) (rests : List Rest)
         (files : List RunFile) (taken older : List KnownRun) → DropsNoEffect (meaning_of s) →
         from_oldest taken ≡ runs_in rests → (drop ≡ true → (level ≡ top_of s) × (older ≡ [])) →
