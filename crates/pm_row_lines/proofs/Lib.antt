@@ -1,0 +1,2 @@
+mod IntegerLemmas
+mod TokenLemmas
