@@ -7,16 +7,22 @@ ghost use Rattle.pm_input.specs.Lines.{line_view};
 ghost use Rattle.pm_input.specs.Rows.{faulty_column, refusal_in, row_at};
 
 use crate::lines::InputLine;
-use pm_rows::{RowFault, read_row};
+use pm_row_lines::LineReader;
+use pm_rows::RowFault;
 use pm_values::{Column, Kind, Refusal, Row, Txt, Why};
 use std::alloc::{AllocError, Global};
 
 /// The kind and the row of a line, or the refusal of a bad one, by its number.
-pub fn row_at(alloc: Global, columns: &[Column], line: &InputLine) -> Result<(Kind, Row), Refusal>
+pub fn row_at(
+    alloc: Global,
+    reader: &mut LineReader,
+    columns: &[Column],
+    line: &InputLine,
+) -> Result<(Kind, Row), Refusal>
     ensures exact { Gives (λ row. row) refusal_in result (row_at columns.now (line_view line.now)) }
     ensures fits { IfOk result (λ row. Fits columns.now row.1) }
 {
-    match read_row(alloc, columns, &line.bytes) {
+    match reader.read_row(alloc, columns, &line.bytes) {
         Ok(row) => Ok(row),
         Err(RowFault::Memory) => Err(Refusal::Memory),
         Err(RowFault::Bad(why, index)) => Err(Refusal::BadLine {

@@ -15,6 +15,7 @@ ghost use Rattle.pm_write.specs.Taken.{IsTakenRow, stamped, with_taken};
 use pm_engines::{TableEngine, Verdict};
 use pm_input::{InputLine, LIMITS, LimitKind, row_at};
 use pm_model_history::{key_of, primary_of};
+use pm_row_lines::LineReader;
 use pm_schema::TableSchema;
 use pm_values::{Kind, Refusal, Row, Stamped, Txt};
 use std::alloc::{AllocError, Global};
@@ -33,13 +34,22 @@ pub(crate) fn taken_rows(
     ensures numbers { IfOk result (λ rows. CountFrom 0 rows.items) }
 {
     let primary = primary_of(alloc, schema)?;
+    let mut reader = LineReader::new(alloc);
     let mut rows = Vec::new(alloc);
     let mut room = LIMITS.rows;
     for line in lines {
         if room == 0 {
             return Err(no_room(alloc)?);
         }
-        take_line(alloc, schema, engine, &primary, line, &mut rows)?;
+        take_line(
+            alloc,
+            &mut reader,
+            schema,
+            engine,
+            &primary,
+            line,
+            &mut rows,
+        )?;
         room -= 1;
     }
     Ok(rows)
@@ -59,6 +69,7 @@ fn no_room(alloc: Global) -> Result<Refusal, AllocError>
 /// Takes the row of a line, where the table does.
 fn take_line(
     alloc: Global,
+    reader: &mut LineReader,
     schema: &TableSchema,
     engine: &TableEngine,
     primary: &[usize],
@@ -73,7 +84,7 @@ fn take_line(
         → AllByRecursion (IsTakenRow schema.now) rows.new.items) }
     ensures numbers { OnOk result (CountFrom 0 rows.old.items → CountFrom 0 rows.new.items) }
 {
-    let (kind, row) = row_at(alloc, schema.columns.as_slice(), line)?;
+    let (kind, row) = row_at(alloc, reader, schema.columns.as_slice(), line)?;
     match engine.verdict(alloc, kind)? {
         Verdict::Take => Ok(keep(alloc, primary, rows, kind, row)?),
         Verdict::Ignore => Ok(()),
