@@ -31,6 +31,7 @@ use crate::host::{Host, HostError, Kind};
 use crate::listing::shown_names;
 use crate::lock::locked;
 use crate::look::{is_absent, kind_at, make_folder, read_at};
+use crate::met::Met;
 use crate::owed::Owed;
 use crate::paths::{
     folder_of, has_folders, is_named_elsewhere, is_path, place_of, store_folder_of, without_end,
@@ -74,7 +75,7 @@ struct Way {
 #[derive(Drop)]
 struct Listing {
     folder: String,
-    names: BTreeSet<Txt>,
+    names: Vec<Txt>,
 }
 
 /// A folder, and what this process knows and owes of what is on the disk.
@@ -88,6 +89,7 @@ pub(crate) struct Disk<H: Host + Drop> {
     synced: Synced,
     owed: Owed,
     shown: Shown,
+    met: Met,
 }
 
 impl<H: Host + Drop> Drop for Disk<H> {
@@ -100,6 +102,7 @@ impl<H: Host + Drop> Drop for Disk<H> {
             synced,
             owed,
             shown,
+            met,
         } = self;
     }
 }
@@ -118,6 +121,7 @@ impl<H: Host + Drop> Disk<H> {
             synced: Synced::new(alloc),
             owed: Owed::new(alloc),
             shown: Shown::new(alloc),
+            met: Met::new(alloc),
         })
     }
 
@@ -132,7 +136,6 @@ impl<H: Host + Drop> Disk<H> {
             folder: reached,
             names,
         } = self.listing(alloc, folder)?;
-        let names = listed(alloc, names)?;
         if !is_named_elsewhere(folder) {
             self.settle(alloc, reached.as_str())?;
             self.shown.keep(alloc, folder, &names)?;
@@ -229,11 +232,12 @@ impl<H: Host + Drop> Disk<H> {
         }
     }
 
-    /// The way to a folder of the store. What is neither a file nor a folder on it is a fault; a file ends it.
+    /// The way to a folder of the store. What is neither a file nor a folder on it is a fault; a file ends it. What is
+    /// found on it shows that the store's own folder is there, which is looked at only where the way isn't whole.
     fn way(&mut self, alloc: Global, folder: &str) -> Result<Way, StoreFail> {
         let mut reached = String::from_str(alloc, self.root.as_str())?;
-        let mut is_whole = self.has_root()?;
-        if !is_whole || folder.is_empty() {
+        if folder.is_empty() {
+            let is_whole = self.has_root()?;
             return Ok(Way {
                 folder: reached,
                 is_whole,
@@ -244,15 +248,18 @@ impl<H: Host + Drop> Disk<H> {
             match kind_at(&mut self.host, next.as_str())? {
                 Some(Kind::Folder) => reached = next,
                 Some(Kind::File) | None => {
-                    is_whole = false;
-                    break;
+                    let _is_there = self.has_root()?;
+                    return Ok(Way {
+                        folder: reached,
+                        is_whole: false,
+                    });
                 }
                 Some(Kind::Other) => return Err(StoreFail::Failed),
             }
         }
         Ok(Way {
             folder: reached,
-            is_whole,
+            is_whole: true,
         })
     }
 
@@ -293,7 +300,11 @@ impl<H: Host + Drop> Disk<H> {
         if !self.way(alloc, store_folder_of(path))?.is_whole {
             return Ok(None);
         }
-        read_at(alloc, &mut self.host, full.as_str())
+        let found = read_at(alloc, &mut self.host, full.as_str())?;
+        if found.is_some() {
+            self.met.keep(alloc, full.as_str())?;
+        }
+        Ok(found)
     }
 
     /// Whether a path is to be written, as far as that shows before the lock is held. Two files are two looks, and
@@ -398,6 +409,7 @@ impl<H: Host + Drop> Disk<H> {
         if !is_replaced(condition) {
             self.make_folders(alloc, store_folder_of(path))?;
         }
+        self.met.keep(alloc, full)?;
         self.host.rename(begun.path.as_str(), full)?;
         begun.is_placed = true;
         if !is_owed {
@@ -535,7 +547,7 @@ impl<H: Host + Drop> Disk<H> {
     /// came after. The first on the way has the table's own name there, too, which so is there before any file.
     fn make_folder(&mut self, alloc: Global, above: &str, folder: &str) -> Result<(), StoreFail> {
         let is_new = make_folder(&mut self.host, folder)?;
-        if !is_new && !self.host.is_empty(folder)? {
+        if !is_new && !self.met.is_empty(&mut self.host, folder)? {
             return Ok(());
         }
         if above == self.root.as_str() {
@@ -571,7 +583,9 @@ impl<H: Host + Drop> Disk<H> {
     }
 
     /// The names in a folder of the store, read while no change is made. Without a lock file none was made yet.
-    fn listing(&mut self, alloc: Global, folder: &str) -> Result<Listing, StoreFail> {
+    fn listing(&mut self, alloc: Global, folder: &str) -> Result<Listing, StoreFail>
+        ensures { IfOk result (λ found. IsStrictlySortedBy (slice_cmp nat_cmp) found.names.items) }
+    {
         if !self.has_lock(alloc)? {
             let found = self.names_in(alloc, folder)?;
             if !self.has_lock(alloc)? {
@@ -585,18 +599,26 @@ impl<H: Host + Drop> Disk<H> {
     }
 
     /// The names in a folder of the store.
-    fn names_in(&mut self, alloc: Global, folder: &str) -> Result<Listing, StoreFail> {
+    fn names_in(&mut self, alloc: Global, folder: &str) -> Result<Listing, StoreFail>
+        ensures { IfOk result (λ found. IsStrictlySortedBy (slice_cmp nat_cmp) found.names.items) }
+    {
         let way = self.way(alloc, folder)?;
-        let names = if way.is_whole {
-            let reached = way.folder.as_str();
-            shown_names(alloc, &mut self.host, reached, has_folders(folder))?
-        } else {
-            BTreeSet::new(alloc)
-        };
+        let names = self.names_at(alloc, &way, folder)?;
         Ok(Listing {
             folder: way.folder,
             names,
         })
+    }
+
+    /// The names in the folder of the store that a way leads to; none where it isn't whole.
+    fn names_at(&mut self, alloc: Global, way: &Way, folder: &str) -> Result<Vec<Txt>, StoreFail>
+        ensures { IfOk result (λ names. IsStrictlySortedBy (slice_cmp nat_cmp) names.items) }
+    {
+        if !way.is_whole {
+            return Ok(listed(alloc, BTreeSet::new(alloc))?);
+        }
+        let reached = way.folder.as_str();
+        shown_names(alloc, &mut self.host, reached, has_folders(folder))
     }
 
     /// Whether anything stands where the lock file does.

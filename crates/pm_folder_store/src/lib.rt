@@ -14,6 +14,7 @@ mod host;
 mod listing;
 mod lock;
 mod look;
+mod met;
 mod names;
 mod owed;
 mod paths;

@@ -1,14 +1,17 @@
 //! The names that a listing of a folder shows. One that isn't UTF-8 is passed over, as is one that no file of the
 //! store can have.
 
+ghost use Rattle.std.specs.Prelude.{IfOk, OnOk};
+ghost use Rattle.std.specs.Cmp.Lexicographic.{slice_cmp};
+ghost use Rattle.std.specs.List.Sorted.{IsStrictlySortedBy};
+ghost use Rattle.std.specs.Ordering.{nat_cmp};
+
 use crate::host::{Host, Kind};
 use crate::look::kind_at;
 use crate::paths::{is_name, place_in, put_place};
 use pm_base::Txt;
 use pm_store::StoreFail;
-use std::alloc::Global;
-use std::collections::BTreeSet;
-use std::iter::FromIterator;
+use std::alloc::{AllocError, Global};
 
 /// The shown names in a folder that is there, put in order once. `has_folders` says that folders stand in it, and no
 /// files: killed writers may have left empty ones. In any other folder an empty folder stands where a file should.
@@ -17,10 +20,25 @@ pub(crate) fn shown_names<H: Host>(
     host: &mut H,
     folder: &str,
     has_folders: bool,
-) -> Result<BTreeSet<Txt>, StoreFail> {
+) -> Result<Vec<Txt>, StoreFail>
+    ensures { IfOk result (λ names. IsStrictlySortedBy (slice_cmp nat_cmp) names.items) }
+{
+    let mut shown = unordered(alloc, host, folder, has_folders)?;
+    put_in_order(&mut shown)?;
+    Ok(shown)
+}
+
+/// The shown names in a folder that is there, in any order.
+fn unordered<H: Host>(
+    alloc: Global,
+    host: &mut H,
+    folder: &str,
+    has_folders: bool,
+) -> Result<Vec<Txt>, StoreFail> {
+    let names = host.names(alloc, folder)?;
     let mut place = String::new(alloc);
-    let mut shown = Vec::new(alloc);
-    for name in host.names(alloc, folder)? {
+    let mut shown = Vec::with_capacity(alloc, names.len())?;
+    for name in names {
         if is_name(name.as_str()) {
             put_place(&mut place, folder, name.as_str())?;
             if is_shown(alloc, host, place.as_str(), has_folders)? {
@@ -28,7 +46,16 @@ pub(crate) fn shown_names<H: Host>(
             }
         }
     }
-    Ok(BTreeSet::from_iter(alloc, shown)?)
+    Ok(shown)
+}
+
+/// Puts names in order, each once.
+fn put_in_order(names: &mut Vec<Txt>) -> Result<(), AllocError>
+    ensures { OnOk result (IsStrictlySortedBy (slice_cmp nat_cmp) names.new.items) }
+{
+    names.sort()?;
+    names.dedup();
+    Ok(())
 }
 
 /// Whether a list shows what stands at a place: a file, or a folder that isn't empty. What is neither is a fault.

@@ -8,6 +8,9 @@ use std::alloc::Global;
 /// How often a file is looked at anew that others replace meanwhile.
 const LOOKS: u32 = 1000;
 
+/// For how many bytes there is room at the first read of a file. Most files of a table have no more.
+const FIRST_ROOM: usize = 2048;
+
 /// What stands at a path, or nothing.
 pub(crate) fn kind_at<H: Host>(host: &mut H, path: &str) -> Result<Option<Kind>, StoreFail> {
     match host.look(path) {
@@ -35,12 +38,22 @@ pub(crate) fn read_at<H: Host>(
         return Ok(None);
     };
     let mut bytes = Vec::new(alloc);
-    let read = host.read(&mut file, &mut bytes);
+    let read = read_rest(host, &mut file, &mut bytes);
     host.close(file);
     match read {
         Ok(()) => Ok(Some(Blob::new(bytes))),
         Err(e) => Err(StoreFail::from(e)),
     }
+}
+
+/// Reads the rest of a file, a short one by one read.
+fn read_rest<H: Host>(
+    host: &mut H,
+    file: &mut H::File,
+    into: &mut Vec<u8>,
+) -> Result<(), HostError> {
+    into.reserve(FIRST_ROOM)?;
+    host.read(file, into)
 }
 
 /// A file, opened for reading; none where there is none. No call refuses a link as it opens, so what was opened is

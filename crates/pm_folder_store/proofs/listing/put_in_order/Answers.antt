@@ -1,0 +1,14 @@
+use Rattle.std.proofs.Common.{rules, subst, sym}
+use Rattle.std.proofs.lemmas.List.Filters.{dedup_is}
+use Rattle.std.proofs.lemmas.List.Kept.{IsStrictlySortedBy-dedup}
+use Rattle.std.specs.Cmp.Lexicographic.{slice_cmp, nat_list_cmp_total}
+use Rattle.std.specs.Cmp.Rules.{comparing}
+use Rattle.std.specs.List.Sorted.{IsStrictlySortedBy}
+use Rattle.std.specs.Ordering.{nat_cmp}
+use Rattle.pm_folder_store.proofs.listing.put_in_order.Goals as goal
+
+pub returns : goal.returns
+returns c =
+    subst (IsStrictlySortedBy (slice_cmp nat_cmp)) (sym (dedup_is _ _ _ c.dedup.ensures.filtered))
+    (IsStrictlySortedBy-dedup nat_list_cmp_total (search (comparing, rules)) c.sort.new.self.items
+    c.in_ok-sort.ensures.sorted)
