@@ -4,7 +4,7 @@ use Rattle.std.specs.List.{AllByRecursion}
 use Rattle.pm_store.specs.declared.call.Op.{Op}
 use Rattle.pm_store.specs.Files.{Files, files_after}
 use Rattle.pm_store.specs.Store.{StoreView, IsAlone}
-use Rattle.pm_machine.specs.Moves.{Lasts, Moves}
+use Rattle.pm_machine.specs.Moves.{IsKept, Lasts, Moves}
 use Rattle.pm_machine.specs.Moves as moves
 use Rattle.pm_machine.proofs.Facts.{Stands-moves}
 use Rattle.pm_model_history.specs.Merge.{HistoryRow}
@@ -14,7 +14,6 @@ use Rattle.pm_model_folder.specs.Paths.{snapshot_file}
 use Rattle.pm_create.specs.Creator.{NewTable}
 use Rattle.pm_create.specs.Meaning as create
 use Rattle.pm_create.specs.declared.phase.Phase as creating
-use Rattle.pm_read_schema.specs.Meaning.{AreKept}
 use Rattle.pm_snapshots.specs.Meaning as snapshots
 use Rattle.pm_snapshots.specs.declared.phase.Phase as listing
 use Rattle.pm_scan.specs.Meaning as scan
@@ -28,7 +27,7 @@ use Rattle.pm_actors.specs.World.{AllKnow, AllKnowIn, AreAllApart, AreApart, Dif
 -- what the laws of the crates below say
 pub record KnownLaws : Type 0 where
   pub past : (me : Actor) (f after : Files) (p q : Past) → Stands f p → Advances me f p after q → Stands after q
-  pub same : (me : Actor) (f after : Files) (p later : Past) → AreKept f p after later → Advances me f p after later
+  pub same : (me : Actor) (f after : Files) (p later : Past) → IsKept f p after later → Advances me f p after later
   pub own : (me other : Actor) (path : List ℕ) → IsActor me → IsActor other → IsOwn me path → IsOwn other path → me ≡ other
   pub creates : (t : NewTable) (m : creating.Phase) (other : Actor) (f after : Files) (p q : Past) → Stands f p → Advances other f p after q
       → origin_name other ≢ origin_name t.me → create.Knows t m f p → create.Knows t m after q
@@ -53,7 +52,7 @@ commit_steps rows (Some o) f after p q makes = (owner.actor_of o, refl, makes.ad
 steps : KnownLaws → (a : Worker) (f after : Files) (p q : Past) → Leaves a f p after q → Steps a f p after q
 steps laws (creates t m) f after p q makes = (t.me, refl, makes.advances)
 steps laws (lists me m) f after p q kept = (me, refl, laws.same me f after p q kept)
-steps laws (scans me m) f after p q kept = (me, refl, laws.same me f after p q (record { files = kept.files; past = kept.past }))
+steps laws (scans me m) f after p q kept = (me, refl, laws.same me f after p q kept)
 steps laws (commits rows m) f after p q makes = commit_steps rows (commit.own_in m) f after p q makes
 
 -- ---- who knows

@@ -3,6 +3,7 @@ use Rattle.std.specs.Prelude.{◌≡◌, ◌≢◌, ◌⊎◌, List, [], ◌∷�
 use Rattle.std.specs.List.{AllByRecursion}
 use Rattle.pm_store.specs.Files.{Files, files_after}
 use Rattle.pm_store.specs.Store.{StoreView}
+use Rattle.pm_machine.specs.Moves.{IsKept}
 use Rattle.pm_model_history.specs.History.{History, IsTableOf}
 use Rattle.pm_model_history.specs.Merge.{HistoryRow}
 use Rattle.pm_schema.specs.declared.schema.TableSchema.{TableSchema}
@@ -18,7 +19,6 @@ use Rattle.pm_snapshots.specs.Meaning as snapshots
 use Rattle.pm_snapshots.specs.declared.phase.Phase as listing
 use Rattle.pm_snapshots.specs.declared.phase.Phase.TheVariants as listers
 use Rattle.pm_read_table.specs.Asked.{Asked}
-use Rattle.pm_read_table.specs.Meaning.{IsKept}
 use Rattle.pm_read_table.specs.declared.phase.Phase.TheVariants as readers
 use Rattle.pm_scan.specs.Meaning as scan
 use Rattle.pm_scan.specs.declared.phase.Phase as scanning
@@ -49,7 +49,7 @@ actor_of (commits rows m) = option_map owner.actor_of (commit.own_in m)
 -- the kinds of change that it may make
 abbrev pub Leaves : Worker → Files → Past → Files → Past → Type 0
 Leaves (creates t m) f p after later = create.Makes t f p after later
-Leaves (lists me m) f p after later = snapshots.Leaves m f p after later
+Leaves (lists me m) f p after later = IsKept f p after later
 Leaves (scans me m) f p after later = IsKept f p after later
 Leaves (commits rows m) f p after later = commit.MakesRows rows m f p after later
 

@@ -11,7 +11,7 @@ ghost use Rattle.pm_command_snapshots.specs.Snapshots.{made_of, DidSnapshots, Is
 use pm_command::{judge, print};
 use pm_io::Sink;
 use pm_read_schema::read_table_schema;
-use pm_snapshots::{Lister, list_snapshots};
+use pm_snapshots::{Lister, list_snapshots, list_text};
 use pm_store::FileStore;
 use pm_values::Refusal;
 use std::alloc::Global;
@@ -28,7 +28,7 @@ pub fn run_snapshots<W: Sink, F: FileStore>(
     ensures store_later { IsLater (F.seen store.old) (F.seen store.new) }
 {
     let lister = list_built(alloc, store)?;
-    let text = lister.text(alloc)?;
+    let text = list_text(alloc, &lister)?;
     print(out, &text, None)
 }
 

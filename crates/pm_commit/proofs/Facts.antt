@@ -14,7 +14,7 @@ use Rattle.pm_store.specs.declared.call.Call.TheVariants as calls
 use Rattle.pm_store.specs.declared.call.Effect.{Effect}
 use Rattle.pm_store.specs.declared.call.Effect.TheVariants as effects
 use Rattle.pm_store.proofs.ChangeLaws.{Answers-Changed}
-use Rattle.pm_machine.specs.Moves.{Changes, Leads, Sound}
+use Rattle.pm_machine.specs.Moves.{Changes, IsKept, Leads, Sound}
 use Rattle.pm_model_history.specs.Merge.{HistoryRow}
 use Rattle.pm_schema.specs.declared.schema.TableSchema.{TableSchema}
 use Rattle.pm_model_folder.specs.Ledger.{Past, Stands, count_of}
@@ -24,7 +24,6 @@ use Rattle.pm_model_folder.proofs.LedgerFacts.{stood-read}
 use Rattle.pm_read_schema.proofs.Facts.{list_effect, read_effect}
 use Rattle.pm_read_table.specs.Asked.{Asked, asked_of}
 use Rattle.pm_read_table.specs.Meaning as reader_meaning
-use Rattle.pm_read_table.specs.Meaning.{IsKept}
 use Rattle.pm_read_table.specs.Reader as reader
 use Rattle.pm_read_table.specs.declared.phase.Phase as view_phase
 use Rattle.pm_read_table.specs.declared.phase.Phase.TheVariants as readers
@@ -166,7 +165,7 @@ module _ (laws : Laws) (rows : List HistoryRow) where
   -- the reader of its view went on
   view-keeps : (own : OwnView) (s t : TableSchema) (m to : view_phase.Phase) (new : Phase) (f after : Files) (p : Past) → Stands f p
       → (answer : Answer) → reader.Goes m answer to → AfterReader own to (Ok new) → Reads m s → Reads m t → IsOwn t own → KnowsOwn own rows s p
-      → Leads (reader_meaning.LeavesFiles m) (reader_meaning.Knows to) f p after → HasOrigin to → Keeps own new f p after
+      → Leads IsKept (reader_meaning.Knows to) f p after → HasOrigin to → Keeps own new f p after
   view-keeps own s t m to new f after p stands answer goes on reads reads_t own_of known (later, kept, reading) origin =
       let same : t ≡ s = ap (λ (a : Asked). a.schema) (asked-same (newest_of t) (newest_of s) (sym reads_t.asked ∙ reads.asked)) in
       let reading_at : reader_meaning.Knows to after p = subst (λ (q : Past). reader_meaning.Knows to after q) kept.past reading in (

@@ -11,7 +11,7 @@ use Rattle.pm_store.specs.declared.answer.Answer.{Answer}
 use Rattle.pm_store.specs.declared.answer.Answer.TheVariants as answers
 use Rattle.pm_store.specs.declared.answer.Published.{Published}
 use Rattle.pm_store.specs.declared.answer.Published.TheVariants as published
-use Rattle.pm_machine.specs.Moves.{Leads}
+use Rattle.pm_machine.specs.Moves.{IsKept, Leads}
 use Rattle.pm_model_history.specs.History.{IsTableOf}
 use Rattle.pm_schema.specs.declared.schema.TableSchema.{TableSchema}
 use Rattle.pm_snapshot.specs.Names.{greatest}
@@ -136,7 +136,7 @@ manifests-newest n q x done (meta ∷ rest) entries kept to same is = subst (Rea
 
 -- none of its files is absent
 again-never : (f after : Files) (p : Past) (m : view_phase.Phase) (a : Asked) (id : ℕ) (path : List ℕ) (to : view_phase.Phase) → Stands f p
-    → id ≡ count_of p.history → to ≡ readers.Again a id path → Leads (reader_meaning.LeavesFiles m) (reader_meaning.Knows to) f p after → ⊥
+    → id ≡ count_of p.history → to ≡ readers.Again a id path → Leads IsKept (reader_meaning.Knows to) f p after → ⊥
 again-never f after p m a id path to stands same is (later, kept, known) =
     let gone : HasGone after later a.schema id = subst (λ (m : view_phase.Phase). reader_meaning.Knows m after later) is known in
     newest-never f p a.schema id stands (subst (λ (q : Past). IsTableOf a.schema q.history) kept.past gone.table) gone.known.after_origin same

@@ -1,5 +1,6 @@
 -- What a machine of phases proves of its steps and of its calls, from less.
-use Rattle.std.proofs.Common.{◌≡◌, ◌∙◌, ℕ, List, [], ◌∷◌, ◌++◌, Option, None, Some, IsSome, IfSome, refl, sym, subst}
+use Rattle.std.proofs.Common.{◌≡◌, ◌∙◌, ℕ, List, [], ◌∷◌, ◌++◌, Option, None, Some, IsSome, IfSome, refl, sym, ap, subst}
+use Rattle.std.specs.FinMap as map
 use Rattle.std.proofs.lemmas.Option.{IfSome_then}
 use Rattle.pm_base.specs.Faults.{Rose}
 use Rattle.pm_values.specs.declared.refusal.Refusal.{Refusal}
@@ -13,7 +14,7 @@ use Rattle.pm_store.specs.declared.call.Call.{Call}
 use Rattle.pm_store.specs.declared.call.Effect.{Effect}
 use Rattle.pm_store.specs.declared.call.Effect.TheVariants as effects
 use Rattle.pm_store.proofs.FileLaws.{effect_left}
-use Rattle.pm_machine.specs.Moves.{Leads, Sound}
+use Rattle.pm_machine.specs.Moves.{IsKept, Leads, Sound}
 use Rattle.pm_machine.specs.Running.{Refuses, Stops}
 use Rattle.pm_machine.specs.Step.{path_of}
 use Rattle.pm_machine.specs.Trace.{Event, IsFailed, MayEnd, Recounts, Traces, after_answer, before_call, answered, faulted}
@@ -25,13 +26,16 @@ use Rattle.pm_machine.proofs.Facts.{Traces-faulted}
 abbrev pub Spares : Files → Call → Type 0
 Spares f call = (effect : Effect) → after_effect call effect f ≡ f
 
+kept_same : {H : Type 0} (f after : Files) (h : H) → after ≡ f → IsKept f h after h
+kept_same f after h same = record { files = λ q. ap (λ (g : Files). map.get g q) same; past = refl }
+
 -- and so does a crash in it
-pub image_spared : {P : Type 0} (call_of : P → Option Call) (m : P) (call : Call) (f image : Files) → IfSome (call_of m) (Spares f) → call_of m ≡ Some call
-    → MayLeave call f image → image ≡ f
-image_spared call_of m call f image spared is left =
+pub image_spared : {P H : Type 0} (call_of : P → Option Call) (m : P) (call : Call) (f image : Files) (h : H) → IfSome (call_of m) (Spares f)
+    → call_of m ≡ Some call → MayLeave call f image → IsKept f h image h
+image_spared call_of m call f image h spared is left =
     let had = effect_left call f image left in
     let still = rw is at spared in
-    had.1 ∙ still had.0
+    kept_same f image h (had.1 ∙ still had.0)
 
 pub both_if : (next : Option Call) (P Q R : Call → Type 0) → ((call : Call) → P call → Q call → R call) → IfSome next P → IfSome next Q → IfSome next R
 both_if None P Q R both one two = tt
@@ -39,29 +43,28 @@ both_if (Some call) P Q R both one two = both call one two
 
 -- they are sound once an answer leads to what is known of the same files
 module _ {P H : Type 0} (call_of : P → Option Call) (Goes : P → Answer → P → Type 0) (Shown : P → Answer → Refusal → Type 0) (end : P)
-    (Folder : Files → H → Type 0) (Change : P → Files → H → Files → H → Type 0) (knows : P → Files → H → Type 0)
-    (kept : (m : P) (f after : Files) (h : H) → after ≡ f → Change m f h after h)
+    (Folder : Files → H → Type 0) (knows : P → Files → H → Type 0)
     (spares : (m : P) (f : Files) → IfSome (call_of m) (Spares f))
     (knows_next : (m : P) (answer : Answer) (new : P) (f : Files) (h : H) → Goes m answer new → Folder f h → knows m f h
     → IfSome (call_of m) (λ call. Answers call answer f → knows new f h))
     (knows_end : (f : Files) (h : H) → knows end f h) where
-  leads_still : (m new : P) (f after : Files) (h : H) → after ≡ f → knows new f h → Leads (Change m) (knows new) f h after
-  leads_still m new f after h same known = (h, kept m f after h same, subst (λ (g : Files). knows new g h) (sym same) known)
+  leads_still : (new : P) (f after : Files) (h : H) → after ≡ f → knows new f h → Leads IsKept (knows new) f h after
+  leads_still new f after h same known = (h, kept_same f after h same, subst (λ (g : Files). knows new g h) (sym same) known)
 
   over_knows : (new : P) (f : Files) (h : H) → new ≡ end → knows new f h
   over_knows new f h over = subst (λ (m : P). knows m f h) (sym over) (knows_end f h)
 
-  pub sound_of_spared : Sound call_of Goes (Refuses Shown end) (Stops end) Folder Change knows
+  pub sound_of_spared : Sound call_of Goes (Refuses Shown end) (Stops end) Folder (λ m. IsKept) knows
   sound_of_spared = record {
     changes = λ m f h folder known. IfSome_then (call_of m) (spares m f)
-        (λ call same effect. (h, kept m f (after_effect call effect f) h (same effect)));
+        (λ call same effect. (h, kept_same f (after_effect call effect f) h (same effect)));
     went = λ m new answer f h goes folder known. both_if (call_of m) _ _ _
-        (λ call same next told. leads_still m new f (carried call f) h (same effects.Whole) (next told))
+        (λ call same next told. leads_still new f (carried call f) h (same effects.Whole) (next told))
         (spares m f) (knows_next m answer new f h goes folder known);
     refused = λ m new answer refusal f h refuses folder known. IfSome_then (call_of m) (spares m f)
-        (λ call same told. leads_still m new f (carried call f) h (same effects.Whole) (over_knows new f h refuses.1));
+        (λ call same told. leads_still new f (carried call f) h (same effects.Whole) (over_knows new f h refuses.1));
     failed = λ m new effect f h stops folder known. IfSome_then (call_of m) (spares m f)
-        (λ call same may. leads_still m new f (after_effect call effect f) h (same effect) (over_knows new f h stops));
+        (λ call same may. leads_still new f (after_effect call effect f) h (same effect) (over_knows new f h stops));
     stopped = λ m new f h called stops folder known. over_knows new f h stops;
   }
 

@@ -1,6 +1,7 @@
 -- What a step means for the files and for what they stand for. H are the histories, Folder says which of them files
 -- stand for, and Change which changes of both a machine may make: the kinds of change, which depend on who makes them.
-use Rattle.std.specs.Prelude.{◌⊎◌, Option, IsSome, IfSome, IsSomeAnd}
+use Rattle.std.specs.Prelude.{◌≡◌, ◌⊎◌, ℕ, List, Option, IsSome, IfSome, IsSomeAnd}
+use Rattle.std.specs.FinMap as map
 use Rattle.pm_values.specs.declared.refusal.Refusal.{Refusal}
 use Rattle.pm_store.specs.declared.answer.Answer.{Answer}
 use Rattle.pm_store.specs.declared.call.Call.{Call}
@@ -9,6 +10,11 @@ use Rattle.pm_store.specs.declared.call.Op.{Op}
 use Rattle.pm_store.specs.Answers.{Answers, MayHave}
 use Rattle.pm_store.specs.Files.{Files, after_effect, after_op, carried, files_after}
 use Rattle.pm_store.specs.Store.{Meanwhile, Steps, StoreView}
+
+-- no path has another content, and what the files stand for stays
+pub record IsKept {H : Type 0} (f : Files) (h : H) (after : Files) (later : H) : Type 0 where
+  pub files : (path : List ℕ) → map.get after path ≡ map.get f path
+  pub past : later ≡ h
 
 -- whatever of the call is carried out, it is a change of some kind
 abbrev pub Changes : {H : Type 0} → (Files → H → Files → H → Type 0) → Call → Files → H → Type 0

@@ -1,6 +1,7 @@
 //! Phases of machines that change nothing.
 
 ghost use Rattle.std.specs.Prelude.{◌⊎◌, ◌<◌, ℕ, List};
+ghost use Rattle.pm_machine.specs.Moves.{IsKept};
 ghost use Rattle.pm_machine.specs.Trace.{Event};
 ghost use Rattle.pm_store.specs.Files.{Files};
 ghost use Rattle.pm_values.specs.declared.refusal.Refusal.{Refusal};
@@ -15,9 +16,6 @@ pub trait ReaderPhase: Phase {
 
     /// Which history they stand for.
     ghost Folder: { Files → History → Type 0 };
-
-    /// Which files, with what they stand for, are the same as others.
-    ghost Same: { Files → History → Files → History → Type 0 };
 
     /// What it knows of the files and of what they stand for.
     ghost knows: { Self → Files → History → Type 0 };
@@ -36,6 +34,9 @@ pub trait ReaderPhase: Phase {
 
     /// What it reads is there to be taken.
     ghost ready: { Self → Type 0 };
+
+    /// What of it stays where it goes on.
+    ghost keeps: { Self → Self → Type 0 } = { λ old new. Unit {0} };
 }
 
 impl<P: ReaderPhase> PhaseMeaning for P {
@@ -45,7 +46,7 @@ impl<P: ReaderPhase> PhaseMeaning for P {
 
     ghost Folder = { P.Folder };
 
-    ghost Change = { λ m. P.Same };
+    ghost Change = { λ m. IsKept };
 
     ghost knows = { P.knows };
 
@@ -61,7 +62,7 @@ impl<P: ReaderPhase> PhaseMeaning for P {
 
     ghost reaches = { λ step m. P.ready m ⊎ (0 < P.calls_left m) };
 
-    ghost keeps = { λ old new. Unit {0} };
+    ghost keeps = { P.keeps };
 
     fn reached(&self) {}
 }

@@ -13,7 +13,7 @@ use Rattle.pm_store.specs.declared.call.Call.TheVariants as calls
 use Rattle.pm_store.specs.Answers.{Answers, MayAnswer}
 use Rattle.pm_store.specs.Files.{Files}
 use Rattle.pm_store.specs.Images.{MayLeave}
-use Rattle.pm_machine.specs.Moves.{Sound}
+use Rattle.pm_machine.specs.Moves.{IsKept, Sound}
 use Rattle.pm_machine.specs.Running.{Refuses, Stops}
 use Rattle.pm_machine.specs.Trace.{Event, Recounts, after_answer, answered}
 use Rattle.pm_machine.proofs.PhaseFacts.{Spares, image_spared, recounts_of, sound_of_spared}
@@ -34,13 +34,13 @@ use Rattle.pm_read_log.specs.Log.{IsLogOf, LogAskedView, LogReadingView}
 use Rattle.pm_read_log.specs.LogMeaning.{IsLogIn, IsReadingOf, Knows}
 use Rattle.pm_read_log.specs.LogReader.{calls_left, next_call, Goes, GoesOn, IsLogReader, IsReady, Opens, Shown}
 use Rattle.pm_read_log.specs.LogTrace.{Did, DidSoFar, FindsList, Has, HasLog, HasPart, IsDamaged, MayTakeMemory, Misreads, Shows, bad_schema, bad_snapshot, gone_again, gone_first, has_other, is_absent, is_misread, lacks_list, lacks_manifest, misreads_list, misreads_manifest, of_list, without}
-use Rattle.pm_read_table.specs.Meaning.{HasGone, IsKept, LeavesFiles, Stood}
+use Rattle.pm_read_table.specs.Meaning.{HasGone, Stood}
 use Rattle.pm_read_table.specs.Reader.{most, IsListOf, IsManifestOf}
 use Rattle.pm_read_table.specs.Trace.{read_file}
 use Rattle.pm_read_log.specs.declared.log.Log.{Log}
 use Rattle.pm_read_log.specs.declared.log_phase.LogPhase.{LogPhase}
 use Rattle.pm_read_log.specs.declared.log_phase.LogPhase.TheVariants as phases
-use Rattle.pm_read_table.proofs.Facts.{OneList, damaged_other, entries_push, expired_other, fault_other, found_stood, gone_now, gone_still, have_at, kept_same, memory_other, one_list, read_push, some_there, stood_contents, stood_new, stood_still, table_still}
+use Rattle.pm_read_table.proofs.Facts.{OneList, damaged_other, entries_push, expired_other, fault_other, found_stood, gone_now, gone_still, have_at, memory_other, one_list, read_push, some_there, stood_contents, stood_new, stood_still, table_still}
 use Rattle.pm_read_table.proofs.FaultLemmas.{IsFileFault, file_fault}
 use Rattle.pm_read_table.proofs.ListedLemmas.{count_grows}
 
@@ -138,8 +138,8 @@ knows_next law (phases.Manifests r) (answers.Found (Some bytes)) new f p (own, r
     (AllByRecursion-append IsChangelogEntry r.changes own before each)
 knows_next law m answer new f p goes stands known = absurd goes
 
-pub sound : OneList → Sound next_call Goes (Refuses Shown phases.Over) (Stops phases.Over) Stands LeavesFiles Knows
-sound law = sound_of_spared next_call Goes Shown phases.Over Stands LeavesFiles Knows (λ m. kept_same) spares (knows_next law) (λ f p. tt)
+pub sound : OneList → Sound next_call Goes (Refuses Shown phases.Over) (Stops phases.Over) Stands (λ m. IsKept) Knows
+sound law = sound_of_spared next_call Goes Shown phases.Over Stands Knows spares (knows_next law) (λ f p. tt)
 
 -- ---- its calls
 
@@ -364,4 +364,4 @@ knows_still (phases.Ready l) other f after p q stands advances known = log_still
 knows_still phases.Over other f after p q stands advances known = tt
 
 pub images : (m : LogPhase) (call : Call) (f image : Files) (p : Past) → next_call m ≡ Some call → MayLeave call f image → IsKept f p image p
-images m call f image p is left = kept_same f image p (image_spared next_call m call f image (spares m f) is left)
+images m call f image p = image_spared next_call m call f image p (spares m f)

@@ -5,6 +5,7 @@ ghost use Rattle.std.specs.Prelude.{◌≡◌, ◌↔◌, ℕ, List, Contains, S
 ghost use Rattle.pm_model_folder.specs.Commits.{Names};
 ghost use Rattle.pm_model_folder.specs.Changes.{Actor};
 ghost use Rattle.pm_model_folder.specs.Ledger.{Advances, Past, Stands};
+ghost use Rattle.pm_machine.specs.Moves.{IsKept};
 ghost use Rattle.pm_store.specs.Answers.{Answers};
 ghost use Rattle.pm_store.specs.declared.answer.Answer.{Answer};
 ghost use Rattle.pm_store.specs.declared.call.Call.{Call};
@@ -17,7 +18,7 @@ ghost use Rattle.pm_read_log.specs.declared.log.Log.{Log as LogView};
 ghost use Rattle.pm_schema.specs.declared.schema.TableSchema.{TableSchema};
 ghost use Rattle.pm_snapshot.specs.declared.snapshot.Snapshot.{Snapshot};
 ghost use Rattle.pm_read_table.specs.Asked.{KeepsEntries};
-ghost use Rattle.pm_read_table.specs.Meaning.{IsKept, IsViewIn, MayRefuse};
+ghost use Rattle.pm_read_table.specs.Meaning.{IsViewIn, MayRefuse};
 ghost use Rattle.pm_read_table.specs.declared.view.View.{View as ViewView};
 ghost use Rattle.pm_read_log.specs.declared.log_phase.LogPhase.{LogPhase};
 ghost use Rattle.pm_values.specs.declared.refusal.Refusal.{Refusal};

@@ -1,5 +1,10 @@
 //! The phases of a reader of a changelog, and what they mean.
 
+ghost use Rattle.pm_model_folder.specs.Ledger as ledgers;
+ghost use Rattle.pm_read_log.specs.Log as logs;
+ghost use Rattle.pm_read_log.specs.LogMeaning.{Knows};
+ghost use Rattle.pm_read_log.specs.LogReader.{calls_left, next_call, Goes, IsLogReader, IsReady, Shown};
+ghost use Rattle.pm_read_log.specs.LogTrace.{Did, Shows};
 ghost use Rattle.pm_read_log.specs.declared.log_phase.LogPhase.TheVariants as phases;
 
 use crate::log_after::{after_again, after_list, after_manifest, after_snapshot};
@@ -11,8 +16,6 @@ use pm_values::Refusal;
 use std::alloc::{AllocError, Global};
 
 impl Phase for LogPhase {
-    ghost use Rattle.pm_read_log.specs.LogReader.{next_call, Goes, IsLogReader, Shown};
-
     ghost call_of = { next_call };
 
     ghost goes = { Goes };
@@ -67,18 +70,9 @@ impl Phase for LogPhase {
 }
 
 impl ReaderPhase for LogPhase {
-    ghost use Rattle.pm_model_folder.specs.Ledger as ledgers;
-    ghost use Rattle.pm_read_log.specs.Log as logs;
-    ghost use Rattle.pm_read_log.specs.LogMeaning.{Knows};
-    ghost use Rattle.pm_read_log.specs.LogReader.{calls_left, IsReady};
-    ghost use Rattle.pm_read_log.specs.LogTrace.{Did, Shows};
-    ghost use Rattle.pm_read_table.specs.Meaning.{IsKept};
-
     ghost History = { ledgers.Past };
 
     ghost Folder = { ledgers.Stands };
-
-    ghost Same = { IsKept };
 
     ghost knows = { Knows };
 

@@ -1,5 +1,5 @@
 -- All calls of a reader of a schema, and what they say where nobody else acts.
-use Rattle.std.proofs.Common.{◌≡◌, inl, inr, ℕ, ◌<◌, List, [], ◌∷◌, ◌++◌, codes, Option, None, Some, IsSome, Result, Ok, Err, refl, sym, subst}
+use Rattle.std.proofs.Common.{◌≡◌, ◌⊎◌, inl, inr, ℕ, ◌<◌, List, [], ◌∷◌, ◌++◌, codes, Option, None, Some, IsSome, Result, Ok, Err, refl, sym, subst}
 use Rattle.std.specs.FinMap as map
 use Rattle.pm_values.specs.declared.refusal.Refusal.{Refusal}
 use Rattle.pm_values.specs.declared.refusal.Refusal.TheVariants as refusals
@@ -7,7 +7,7 @@ use Rattle.pm_store.specs.declared.answer.Answer.TheVariants as answers
 use Rattle.pm_store.specs.declared.call.Call.TheVariants as calls
 use Rattle.pm_store.specs.Files.{Files}
 use Rattle.pm_store.specs.Store.{StoreView, IsLater, at_first_own}
-use Rattle.pm_machine.specs.Trace.{Event, HasTrace, Traces}
+use Rattle.pm_machine.specs.Trace.{Event, Acts, HasTrace, Traces}
 use Rattle.pm_machine.proofs.AloneLaws.{Traces-first}
 use Rattle.pm_machine.proofs.Facts.{HasTrace-acts, Traces-none}
 use Rattle.pm_machine.proofs.PhaseFacts.{failed_rose}
@@ -17,12 +17,10 @@ use Rattle.pm_model_folder.specs.Folder.{Folder}
 use Rattle.pm_model_folder.specs.Paths.{schema_folder, schema_path, snapshot_folder}
 use Rattle.pm_read_schema.specs.AllCalls.{DidRead, IsCaused, ReadsTables}
 use Rattle.pm_read_schema.specs.Meaning.{IsSchemaId, MayRefuse}
-use Rattle.pm_read_schema.specs.Reader.{next_call, calls_left, IsReady, Reaches}
-use Rattle.pm_read_schema.specs.Trace.{Names, listed_schemas, read_schema, listed_snapshots, Lists, Reads, Has, Looks, Misreads, LacksOrigin, DidSoFar, MayTakeMemory, Shows, Did, ReaderActed}
+use Rattle.pm_read_schema.specs.Reader.{next_call, calls_left, IsReady}
+use Rattle.pm_read_schema.specs.Trace.{Names, listed_schemas, read_schema, listed_snapshots, Lists, Reads, Has, Looks, Misreads, LacksOrigin, DidSoFar, MayTakeMemory, Shows, Did}
 use Rattle.pm_read_schema.specs.declared.phase.Phase.{Phase}
 use Rattle.pm_read_schema.specs.declared.phase.Phase.TheVariants as phases
-use Rattle.pm_read_schema.specs.declared.reader.SchemaStep.{SchemaStep}
-use Rattle.pm_read_schema.specs.declared.reader.SchemaStep.TheVariants as steps
 use Rattle.pm_read_schema.proofs.Facts.{list_effect, read_effect, led_schema, own_schema, cause_at, spares}
 use Rattle.pm_read_schema.proofs.StillLemmas.{IsStill, AreStill, IsTold, AreTold, calls_more, ended_still, failed_still, told_last, stayed}
 
@@ -159,19 +157,19 @@ read_history (Err refusal) before after (own, shows, trace) = λ alone f h has f
 pub begun : (store : StoreView) → HasTrace (Did phases.Schemas) store store
 begun store = ([], refl, Traces-none store)
 
-pub went_further : (old new : Phase) (first before after : StoreView) (step : SchemaStep) → HasTrace (Did old) first before
-    → ReaderActed old new before after (Ok step) → IsLater before after → HasTrace (Did new) first after
-went_further old new first before after step trace acted later =
+pub went_further : (old new : Phase) (first before after : StoreView) → HasTrace (Did old) first before
+    → Acts (Did old) (λ own. Did new own × Unit {0}) before after → IsLater before after → HasTrace (Did new) first after
+went_further old new first before after trace acted later =
     let t = HasTrace-acts {did = Did old} {before = before} trace acted later in
     (t.0, t.1.0, t.2)
 
 pub was_refused : (old new : Phase) (first before after : StoreView) (refusal : Refusal) → HasTrace (Did old) first before
-    → ReaderActed old new before after (Err refusal) → IsLater before after → HasTrace (DidRead (Err refusal)) first after
+    → Acts (Did old) (λ own. Did new own × Shows refusal own) before after → IsLater before after → HasTrace (DidRead (Err refusal)) first after
 was_refused old new first before after refusal trace acted later =
     let t = HasTrace-acts {did = Did old} {before = before} trace acted later in
     (t.0, t.1.1, t.2)
 
 -- a step that went on leaves a call, or the schema is ready
-pub call_left : (step : SchemaStep) (m : Phase) → Reaches step m → ¬ IsReady m → 0 < calls_left m
-call_left steps.More m reaches not = reaches
-call_left steps.Ready m reaches not = absurd (not reaches)
+pub call_left : (m : Phase) → IsReady m ⊎ (0 < calls_left m) → ¬ IsReady m → 0 < calls_left m
+call_left m (inl ready) not = absurd (not ready)
+call_left m (inr left) not = left

@@ -1,5 +1,5 @@
 -- A reader of a schema keeps the laws of machines.
-use Rattle.std.proofs.Common.{◌≡◌, inl, inr, ℕ, ◌<◌, ◌≤◌, List, [], ◌∷◌, ◌++◌, Option, None, Some, IsSome, IfSome, Ok, Err, refl, sym, ap, ◌∙◌, subst, arith}
+use Rattle.std.proofs.Common.{◌≡◌, ◌⊎◌, inl, inr, ℕ, ◌<◌, ◌≤◌, List, [], ◌∷◌, ◌++◌, Option, None, Some, IsSome, IfSome, Ok, Err, refl, sym, ap, ◌∙◌, subst, arith}
 use Rattle.std.specs.FinMap as map
 use Rattle.pm_values.specs.declared.refusal.Refusal.{Refusal}
 use Rattle.pm_values.specs.declared.refusal.Refusal.TheVariants as refusals
@@ -12,11 +12,10 @@ use Rattle.pm_store.specs.declared.call.Effect.TheVariants as effects
 use Rattle.pm_store.specs.Answers.{Answers, MayAnswer}
 use Rattle.pm_store.specs.Files.{Files, IsListing, after_effect}
 use Rattle.pm_store.specs.Images.{MayLeave}
-use Rattle.pm_store.proofs.FileLaws.{effect_left}
-use Rattle.pm_machine.specs.Moves.{Sound}
+use Rattle.pm_machine.specs.Moves.{IsKept, Sound}
 use Rattle.pm_machine.specs.Running.{Refuses, Stops}
 use Rattle.pm_machine.specs.Trace.{Event, Recounts, after_answer, answered}
-use Rattle.pm_machine.proofs.PhaseFacts.{Spares, recounts_of, sound_of_spared}
+use Rattle.pm_machine.proofs.PhaseFacts.{Spares, image_spared, recounts_of, sound_of_spared}
 use Rattle.pm_model_history.specs.History.{History, IsTableOf, no_table, table, GoesOn}
 use Rattle.pm_schema.specs.Reading.{schema_of}
 use Rattle.pm_schema.specs.declared.schema.TableSchema.{TableSchema}
@@ -30,16 +29,13 @@ use Rattle.pm_model_folder.proofs.LedgerFacts.{beside}
 use Rattle.pm_schema.proofs.Facts.{file_faults}
 use Rattle.pm_snapshot.specs.Names.{greatest, snapshot_name}
 use Rattle.pm_read_schema.specs.Names.{HasSnapshot}
-use Rattle.pm_read_schema.specs.Meaning.{AreKept, IsSchemaId, Leaves, Knows, KnowsOf, MayRefuse}
-use Rattle.pm_read_schema.specs.Reader.{schemas_call, schema_call, snapshots_call, next_call, calls_left, reached_at, with_origin, Goes, HasDeclared, Reaches, Shown}
+use Rattle.pm_read_schema.specs.Meaning.{IsSchemaId, Knows, KnowsOf, MayRefuse}
+use Rattle.pm_read_schema.specs.Reader.{schemas_call, schema_call, snapshots_call, next_call, calls_left, with_origin, Goes, IsReady, Shown}
 use Rattle.pm_read_schema.specs.Trace.{listed_schemas, read_schema, listed_snapshots, Has, Misreads, DidSoFar, MayTakeMemory, Shows, Did}
 use Rattle.pm_read_schema.specs.declared.phase.Phase.{Phase}
 use Rattle.pm_read_schema.specs.declared.phase.Phase.TheVariants as phases
 
 -- ---- its calls change nothing
-
-pub kept_same : (f after : Files) (p : Past) → after ≡ f → AreKept f p after p
-kept_same f after p same = record { files = λ q. ap (λ (g : Files). map.get g q) same; past = refl }
 
 pub list_effect : (folder : List ℕ) (effect : Effect) (f : Files) → after_effect (calls.List folder) effect f ≡ f
 list_effect folder effects.None f = refl
@@ -107,8 +103,8 @@ pub knows_next : (m : Phase) (answer : Answer) (new : Phase) (f : Files) (p : Pa
     → IfSome (next_call m) (λ call. Answers call answer f → Knows new f p)
 knows_next m answer new f p goes stands known = next_of m answer new f p.history goes stands.folder known
 
-pub sound : Sound next_call Goes (Refuses Shown phases.Over) (Stops phases.Over) Stands Leaves Knows
-sound = sound_of_spared next_call Goes Shown phases.Over Stands Leaves Knows (λ m. kept_same) spares knows_next (λ f p. tt)
+pub sound : Sound next_call Goes (Refuses Shown phases.Over) (Stops phases.Over) Stands (λ m. IsKept) Knows
+sound = sound_of_spared next_call Goes Shown phases.Over Stands Knows spares knows_next (λ f p. tt)
 
 -- ---- its calls
 
@@ -172,40 +168,28 @@ recounts = recounts_of next_call Goes Shown phases.Over DidSoFar Did MayTakeMemo
 
 -- ---- how far it has come
 
+-- fewer calls than that are left, and some if the schema isn't ready
+abbrev pub IsAhead : ℕ → Phase → Type 0
+IsAhead n m = (calls_left m < n) × (IsReady m ⊎ (0 < calls_left m))
+
+ahead_with : (o : Option (List ℕ)) (s : TableSchema) → IsAhead 2 (with_origin o s)
+ahead_with None s = (omega arith, inr (omega arith))
+ahead_with (Some origin) s = (omega arith, inl tt)
+
 -- an answer that it goes on with leaves fewer calls
-pub goes_fewer : (m : Phase) (answer : Answer) (new : Phase) → Goes m answer new → calls_left new < calls_left m
-goes_fewer phases.Schemas (answers.Listed names) new (id, newest, is) = subst (λ (new : Phase). calls_left new < 3) (sym is) (omega arith)
-goes_fewer (phases.Schema id) (answers.Found (Some bytes)) new (s, reads, is) = subst (λ (new : Phase). calls_left new < 2) (sym is) (fewer_with s.origin s)
-  where
-    fewer_with : (o : Option (List ℕ)) (s : TableSchema) → calls_left (with_origin o s) < 2
-    fewer_with None s = omega arith
-    fewer_with (Some origin) s = omega arith
-goes_fewer (phases.Snapshots s) (answers.Listed names) new (some, is) = subst (λ (new : Phase). calls_left new < 1) (sym is) (omega arith)
-goes_fewer m answer new goes = absurd goes
-
--- and the schema, or a call that is left
-goes_reaches : (m : Phase) (answer : Answer) (new : Phase) → Goes m answer new → Reaches (reached_at new) new
-goes_reaches phases.Schemas (answers.Listed names) new (id, newest, is) = subst (λ (new : Phase). Reaches (reached_at new) new) (sym is) (omega arith)
-goes_reaches (phases.Schema id) (answers.Found (Some bytes)) new (s, reads, is) =
-    subst (λ (new : Phase). Reaches (reached_at new) new) (sym is) (reaches_with s.origin s)
-  where
-    reaches_with : (o : Option (List ℕ)) (s : TableSchema) → Reaches (reached_at (with_origin o s)) (with_origin o s)
-    reaches_with None s = omega arith
-    reaches_with (Some origin) s = tt
-goes_reaches (phases.Snapshots s) (answers.Listed names) new (some, is) = subst (λ (new : Phase). Reaches (reached_at new) new) (sym is) tt
-goes_reaches m answer new goes = absurd goes
-
-pub goes : (m : Phase) (answer : Answer) (new : Phase) → HasDeclared m → Goes m answer new
-    → (calls_left new < calls_left m) × Reaches (reached_at new) new × Unit {0}
-goes m answer new is on = (goes_fewer m answer new on, goes_reaches m answer new on, tt)
+pub goes_ahead : (m : Phase) (answer : Answer) (new : Phase) → Goes m answer new → IsAhead (calls_left m) new
+goes_ahead phases.Schemas (answers.Listed names) new (id, newest, is) = subst (IsAhead 3) (sym is) (omega arith, inr (omega arith))
+goes_ahead (phases.Schema id) (answers.Found (Some bytes)) new (s, reads, is) = subst (IsAhead 2) (sym is) (ahead_with s.origin s)
+goes_ahead (phases.Snapshots s) (answers.Listed names) new (some, is) = subst (IsAhead 1) (sym is) (omega arith, inl tt)
+goes_ahead m answer new on = absurd on
 
 -- a reader with calls left has a next one
-pub has_call : (m : Phase) → HasDeclared m → 0 < calls_left m → IsSome (next_call m)
-has_call phases.Schemas is left = refl
-has_call (phases.Schema id) is left = refl
-has_call (phases.Snapshots s) is left = refl
-has_call (phases.Ready s) is left = absurd (omega (arith, left))
-has_call phases.Over is left = absurd (omega (arith, left))
+pub has_call : (m : Phase) → 0 < calls_left m → IsSome (next_call m)
+has_call phases.Schemas left = refl
+has_call (phases.Schema id) left = refl
+has_call (phases.Snapshots s) left = refl
+has_call (phases.Ready s) left = absurd (omega (arith, left))
+has_call phases.Over left = absurd (omega (arith, left))
 
 -- ---- what answers show where the files stand for a history
 
@@ -263,11 +247,8 @@ same_advances : (me : Actor) (f after : Files) (p : Past) → ((path : List ℕ)
 same_advances me f after p same =
     beside me f after p p.history (nothing same) refl (λ s path is none here. absurd (some-none (map.get after path) here (same path ∙ none)))
 
-pub kept_nothing : (me : Actor) (f after : Files) (p later : Past) → AreKept f p after later → Advances me f p after later
+pub kept_nothing : (me : Actor) (f after : Files) (p later : Past) → IsKept f p after later → Advances me f p after later
 kept_nothing me f after p later kept = subst (λ (later : Past). Advances me f p after later) (sym kept.past) (same_advances me f after p kept.files)
 
-pub images : (m : Phase) (call : Call) (f image : Files) (p : Past) → next_call m ≡ Some call → MayLeave call f image → AreKept f p image p
-images m call f image p is left =
-    let had = effect_left call f image left in
-    let still = rw is at (spares m f) in
-    kept_same f image p (had.1 ∙ still had.0)
+pub images : (m : Phase) (call : Call) (f image : Files) (p : Past) → next_call m ≡ Some call → MayLeave call f image → IsKept f p image p
+images m call f image p = image_spared next_call m call f image p (spares m f)

@@ -1,25 +1,13 @@
--- What a reader of a schema knows of the files, and what its steps mean for them.
-use Rattle.std.specs.Prelude.{◌≡◌, ℕ, List, None}
-use Rattle.std.specs.FinMap as map
+-- What a reader of a schema knows of the files, and which refusals come.
+use Rattle.std.specs.Prelude.{◌≡◌, ℕ, None}
 use Rattle.pm_values.specs.declared.refusal.Refusal.{Refusal}
 use Rattle.pm_values.specs.declared.refusal.Refusal.TheVariants as refusals
 use Rattle.pm_store.specs.Files.{Files}
-use Rattle.pm_store.specs.Store.{StoreView}
-use Rattle.pm_machine.specs.Moves.{Moves}
 use Rattle.pm_model_history.specs.History.{History, IsTableOf, no_table}
 use Rattle.pm_schema.specs.declared.schema.TableSchema.{TableSchema}
-use Rattle.pm_model_folder.specs.Ledger.{Past, Stands}
+use Rattle.pm_model_folder.specs.Ledger.{Past}
 use Rattle.pm_read_schema.specs.declared.phase.Phase.{Phase}
 use Rattle.pm_read_schema.specs.declared.phase.Phase.TheVariants as phases
-
--- no path has another content, and what is known stays
-pub record AreKept (f : Files) (p : Past) (after : Files) (later : Past) : Type 0 where
-  pub files : (path : List ℕ) → map.get after path ≡ map.get f path
-  pub past : later ≡ p
-
--- what a reader changes: nothing
-abbrev pub Leaves : Phase → Files → Past → Files → Past → Type 0
-Leaves phase f p after later = AreKept f p after later
 
 -- there is a table, and the id is that of its schema
 abbrev pub IsSchemaId : ℕ → History → Type 0
@@ -42,7 +30,3 @@ abbrev pub MayRefuse : History → Refusal → Type 0
 MayRefuse h refusals.Memory = Unit {0}
 MayRefuse h refusals.NoTable = h ≡ no_table
 MayRefuse h other = ⊥
-
--- a step changes nothing, and what the reader knows holds after it
-abbrev pub ReaderMoved : Phase → Phase → StoreView → StoreView → Type 0
-ReaderMoved old new before after = Moves Stands (Leaves old) (Knows old) (Knows new) before after

@@ -1,5 +1,5 @@
 -- A reader of a table's schema: its phases, its calls, and what each answer leads to.
-use Rattle.std.specs.Prelude.{◌≡◌, ◌⊎◌, ℕ, ◌<◌, List, [], codes, Option, None, Some, Ok, Err}
+use Rattle.std.specs.Prelude.{◌≡◌, ◌⊎◌, ℕ, List, [], codes, Option, None, Some, Ok, Err}
 use Rattle.pm_values.specs.declared.refusal.Refusal.{Refusal}
 use Rattle.pm_values.specs.declared.refusal.Refusal.TheVariants as refusals
 use Rattle.pm_store.specs.declared.answer.Answer.{Answer}
@@ -13,8 +13,6 @@ use Rattle.pm_model_folder.specs.Paths.{schema_folder, schema_path, snapshot_fol
 use Rattle.pm_read_schema.specs.Names.{IsNewest, HasNoSchema, HasSnapshot}
 use Rattle.pm_read_schema.specs.declared.phase.Phase.{Phase}
 use Rattle.pm_read_schema.specs.declared.phase.Phase.TheVariants as phases
-use Rattle.pm_read_schema.specs.declared.reader.SchemaStep.{SchemaStep}
-use Rattle.pm_read_schema.specs.declared.reader.SchemaStep.TheVariants as steps
 
 -- ---- its calls
 
@@ -82,12 +80,3 @@ Shown (phases.Schema id) (answers.Found (Some bytes)) refusal =
 Shown (phases.Snapshots s) (answers.Listed names) refusal =
     ((refusal ≡ refusals.Memory) ⊎ (refusal ≡ refusals.Unsupported (codes "origin") [])) × (¬ HasSnapshot names.items)
 Shown phase other refusal = ⊥
-
--- what a step that goes on has reached
-abbrev pub Reaches : SchemaStep → Phase → Type 0
-Reaches steps.More phase = 0 < calls_left phase
-Reaches steps.Ready phase = IsReady phase
-
-abbrev pub reached_at : Phase → SchemaStep
-reached_at (phases.Ready s) = steps.Ready
-reached_at other = steps.More

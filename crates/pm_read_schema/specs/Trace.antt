@@ -1,13 +1,11 @@
 -- The own calls of a reader of a schema, and what they show.
-use Rattle.std.specs.Prelude.{◌≡◌, ◌⊎◌, ℕ, List, [], ◌∷◌, ◌++◌, codes, Option, None}
-use Rattle.std.specs.Prelude.{Some, IsSome, Result, Ok, Err, IfErr, Vec}
+use Rattle.std.specs.Prelude.{◌≡◌, ◌⊎◌, ℕ, List, [], ◌∷◌, ◌++◌, codes, Option, None, Some, IsSome, Ok, Err, Vec}
 use Rattle.std.specs.Global.{Global}
 use Rattle.pm_values.specs.declared.refusal.Refusal.{Refusal}
 use Rattle.pm_values.specs.declared.refusal.Refusal.TheVariants as refusals
 use Rattle.pm_store.specs.declared.answer.Answer.TheVariants as answers
-use Rattle.pm_store.specs.Store.{StoreView}
 use Rattle.pm_store.specs.declared.answer.Answer.{Answer}
-use Rattle.pm_machine.specs.Trace.{Event, Acts, IsFailed, MayEnd, answered}
+use Rattle.pm_machine.specs.Trace.{Event, IsFailed, MayEnd, answered}
 use Rattle.pm_schema.specs.Reading.{schema_of}
 use Rattle.pm_schema.specs.declared.schema.TableSchema.{TableSchema}
 use Rattle.pm_model_folder.specs.Paths.{schema_path}
@@ -15,7 +13,6 @@ use Rattle.pm_read_schema.specs.Names.{IsNewest, HasNoSchema, HasSnapshot}
 use Rattle.pm_read_schema.specs.Reader.{schemas_call, schema_call, snapshots_call, next_call}
 use Rattle.pm_read_schema.specs.declared.phase.Phase.{Phase}
 use Rattle.pm_read_schema.specs.declared.phase.Phase.TheVariants as phases
-use Rattle.pm_read_schema.specs.declared.reader.SchemaStep.{SchemaStep}
 
 -- the names of a listing
 abbrev pub Names : Type 0
@@ -95,8 +92,3 @@ Shows other own = ⊥
 abbrev pub Did : Phase → List Event → Type 0
 Did phases.Over own = (refusal : Refusal) × Shows refusal own
 Did m own = DidSoFar m own
-
--- Its next call is the next event of its calls so far, or none was made; and a refusal is shown by the calls up to it.
-abbrev pub ReaderActed : Phase → Phase → StoreView → StoreView → Result SchemaStep Refusal → Type 0
-ReaderActed old new before after result =
-    Acts (Did old) (λ own. Did new own × IfErr result (λ refusal. Shows refusal own)) before after

@@ -6,7 +6,8 @@ ghost use Rattle.pm_schema.specs.Again.{IsDeclared};
 ghost use Rattle.pm_store.specs.Store.{IsLater};
 ghost use Rattle.pm_read_schema.specs.AllCalls.{DidRead, ReadsTables};
 
-use crate::reader::SchemaReader;
+use crate::reader::{into_schema, is_schema_ready, schema_reader};
+use pm_machine::take_step;
 use pm_schema::TableSchema;
 use pm_store::FileStore;
 use pm_values::Refusal;
@@ -28,9 +29,9 @@ fn make_calls<F: FileStore>(alloc: Global, store: &mut F) -> Result<TableSchema,
     ensures declared { IfOk result IsDeclared }
     ensures later { IsLater (F.seen store.old) (F.seen store.new) }
 {
-    let mut reader = SchemaReader::new();
-    while !reader.is_ready() {
-        match reader.step(alloc, store) {
+    let mut reader = schema_reader();
+    while !is_schema_ready(&reader) {
+        match take_step(alloc, &mut reader, store) {
             Ok(_) => {}
             Err(refusal) => {
                 drop(reader);
@@ -38,5 +39,5 @@ fn make_calls<F: FileStore>(alloc: Global, store: &mut F) -> Result<TableSchema,
             }
         }
     }
-    Ok(reader.into_schema())
+    Ok(into_schema(reader))
 }

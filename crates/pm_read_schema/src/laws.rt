@@ -1,6 +1,7 @@
 //! Laws of readers of a schema. Each holds with no call.
 
 ghost use Rattle.std.specs.Prelude.{◌≡◌, ◌↔◌, ℕ, ◌≤◌, List, Some};
+ghost use Rattle.pm_machine.specs.Moves.{IsKept};
 ghost use Rattle.pm_model_folder.specs.Changes.{Actor};
 ghost use Rattle.pm_model_folder.specs.Folder.{Folder};
 ghost use Rattle.pm_model_folder.specs.Ledger.{Advances, Past, Stands};
@@ -13,7 +14,7 @@ ghost use Rattle.pm_store.specs.declared.call.Call.{Call};
 ghost use Rattle.pm_store.specs.Files.{Files};
 ghost use Rattle.pm_store.specs.Images.{MayLeave};
 ghost use Rattle.pm_values.specs.declared.refusal.Refusal.{Refusal};
-ghost use Rattle.pm_read_schema.specs.Meaning.{AreKept, Knows, MayRefuse};
+ghost use Rattle.pm_read_schema.specs.Meaning.{Knows, MayRefuse};
 ghost use Rattle.pm_read_schema.specs.Names.{schema_id_in};
 ghost use Rattle.pm_read_schema.specs.Reader.{next_call, schemas_call, Goes, Shown};
 ghost use Rattle.pm_read_schema.specs.declared.phase.Phase.{Phase};
@@ -43,12 +44,12 @@ pub fn known_law()
 
 /// Where nothing changes, that is the least kind of change, whoever acts.
 pub fn nothing_law()
-    ensures { (me : Actor) (f after : Files) (p later : Past) → AreKept f p after later
+    ensures { (me : Actor) (f after : Files) (p later : Past) → IsKept f p after later
         → Advances me f p after later }
 {}
 
 /// Whatever a crash leaves of a reader's next call has the same content at each path.
 pub fn images_law()
     ensures { (m : Phase) (call : Call) (f image : Files) (p : Past) → next_call m ≡ Some call
-        → MayLeave call f image → AreKept f p image p }
+        → MayLeave call f image → IsKept f p image p }
 {}

@@ -23,4 +23,4 @@ pub use all_calls::read_table_schema;
 pub use laws::{causes_law, images_law, known_law, nothing_law, schema_name_law};
 pub use names::schema_id_of_name;
 pub use phase::Phase;
-pub use reader::{SchemaReader, SchemaStep};
+pub use reader::{SchemaReader, into_schema, is_schema_ready, schema_reader};

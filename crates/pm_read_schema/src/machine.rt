@@ -1,18 +1,20 @@
 //! The phases of a reader of a schema, and what they mean.
 
 ghost use Rattle.std.specs.Prelude.{◌≡◌, ◌⊎◌, [], codes, IfOk, IfErr};
+ghost use Rattle.pm_model_folder.specs.Ledger as ledgers;
 ghost use Rattle.pm_model_folder.specs.Paths.{schema_path};
 ghost use Rattle.pm_schema.specs.Again.{IsDeclared};
 ghost use Rattle.pm_store.specs.declared.answer.Answer.TheVariants as answers;
 ghost use Rattle.pm_values.specs.declared.refusal.Refusal.TheVariants as refusals;
-ghost use Rattle.pm_read_schema.specs.Reader.{with_origin, Goes, HasDeclared, Shown};
+ghost use Rattle.pm_read_schema.specs.Meaning.{Knows};
+ghost use Rattle.pm_read_schema.specs.Reader.{calls_left, next_call, with_origin, Goes, HasDeclared, IsReady, Shown};
+ghost use Rattle.pm_read_schema.specs.Trace.{Did, Shows};
 ghost use Rattle.pm_read_schema.specs.declared.phase.Phase.TheVariants as phases;
 
 use crate::names::{lists_snapshot, newest_schema};
 use crate::phase::Phase;
-use crate::reader::SchemaStep;
 use pm_base::{Blob, Txt};
-use pm_machine::PhaseMeaning;
+use pm_machine::ReaderPhase;
 use pm_paths::schema_path;
 use pm_schema::{TableSchema, declared_law, schema_law};
 use pm_schema_file::read_schema;
@@ -21,8 +23,6 @@ use pm_values::Refusal;
 use std::alloc::{AllocError, Global};
 
 impl pm_machine::Phase for Phase {
-    ghost use Rattle.pm_read_schema.specs.Reader.{next_call, Goes, HasDeclared, Shown};
-
     ghost call_of = { next_call };
 
     ghost goes = { Goes };
@@ -44,6 +44,10 @@ impl pm_machine::Phase for Phase {
         }
     }
 
+    fn over() -> Phase {
+        Phase::Over
+    }
+
     fn next(self, alloc: Global, answer: Answer) -> Result<Phase, Refusal> {
         match (self, answer) {
             (Phase::Schemas, Answer::Listed(names)) => after_schemas(names),
@@ -54,10 +58,24 @@ impl pm_machine::Phase for Phase {
             _ => unreachable!(),
         }
     }
+}
 
-    fn over() -> Phase {
-        Phase::Over
-    }
+impl ReaderPhase for Phase {
+    ghost History = { ledgers.Past };
+
+    ghost Folder = { ledgers.Stands };
+
+    ghost knows = { Knows };
+
+    ghost Asked = { Unit {0} };
+
+    ghost did = { λ asked. Did };
+
+    ghost shows = { λ asked. Shows };
+
+    ghost calls_left = { calls_left };
+
+    ghost ready = { IsReady };
 }
 
 /// The phase once the schemas were listed.
@@ -130,43 +148,5 @@ fn no_origin(alloc: Global) -> Refusal
     match Txt::from_str(alloc, "") {
         Ok(text) => Refusal::Unsupported { what, text },
         Err(_) => Refusal::Memory,
-    }
-}
-
-impl PhaseMeaning for Phase {
-    ghost use Rattle.pm_read_schema.specs.Meaning.{Knows, Leaves};
-    ghost use Rattle.pm_read_schema.specs.Reader.{calls_left, reached_at, Reaches};
-    ghost use Rattle.pm_read_schema.specs.Trace.{Did, Shows};
-    ghost use Rattle.pm_model_folder.specs.Ledger as ledgers;
-
-    type Step = SchemaStep;
-
-    ghost History = { ledgers.Past };
-
-    ghost Folder = { ledgers.Stands };
-
-    ghost Change = { Leaves };
-
-    ghost knows = { Knows };
-
-    ghost Asked = { Unit {0} };
-
-    ghost did = { λ asked. Did };
-
-    ghost shows = { λ asked. Shows };
-
-    ghost calls_left = { calls_left };
-
-    ghost reached_at = { reached_at };
-
-    ghost reaches = { Reaches };
-
-    ghost keeps = { λ old new. Unit {0} };
-
-    fn reached(&self) -> SchemaStep {
-        match self {
-            Phase::Ready { .. } => SchemaStep::Ready,
-            _ => SchemaStep::More,
-        }
     }
 }

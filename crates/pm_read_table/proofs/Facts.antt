@@ -13,7 +13,7 @@ use Rattle.pm_store.specs.declared.call.Call.TheVariants as calls
 use Rattle.pm_store.specs.Answers.{Answers, MayAnswer}
 use Rattle.pm_store.specs.Files.{Files, IsListing}
 use Rattle.pm_store.specs.Images.{MayLeave}
-use Rattle.pm_machine.specs.Moves.{Sound}
+use Rattle.pm_machine.specs.Moves.{IsKept, Sound}
 use Rattle.pm_machine.specs.Running.{Refuses, Stops}
 use Rattle.pm_machine.specs.Trace.{Event, Recounts, after_answer, answered}
 use Rattle.pm_machine.proofs.PhaseFacts.{Spares, image_spared, recounts_of, sound_of_spared}
@@ -49,7 +49,7 @@ use Rattle.pm_model_contents.specs.Named.{Contents, HasContents, IsNamed, base_l
 use Rattle.pm_model_contents.specs.Lists.{HasEntries, HaveEntries, IsList, IsManifest, manifest_path, none_live}
 use Rattle.pm_read_table.specs.Reader.{Goes, GoesOn, IsAsked, IsListOf, IsManifestOf, IsReady, IsViewer, Shown, calls_left, disorder, most, next_call, opening, overlap}
 use Rattle.pm_read_table.specs.Reading.{Filed, ReadingView, live_of}
-use Rattle.pm_read_table.specs.Meaning.{HasGone, IsKept, IsReadingOf, IsViewIn, view_origin, view_snapshot, Knows, KnowsSought, LeavesFiles, Stood}
+use Rattle.pm_read_table.specs.Meaning.{HasGone, IsReadingOf, IsViewIn, view_origin, view_snapshot, Knows, KnowsSought, Stood}
 use Rattle.pm_read_table.specs.declared.asked.Wanted.{Wanted}
 use Rattle.pm_read_table.specs.declared.asked.Wanted.TheVariants as wants
 use Rattle.pm_read_table.specs.Trace.{read_file, HasListed, HasSought, IsSought, Lists, ListsFor, Reads, Has, HaveRead, HasPart, HasView, of_origin, of_snapshot, lacks_base, lacks_delta, lacks_manifest, Misreads, misreads_base, misreads_delta, misreads_manifest, DidSoFar, MayTakeMemory, gone_origin, gone_snapshot, gone_again, IsDamaged, bad_snapshot, bad_schema, is_absent, is_misread, is_disordered, is_overlap, Shows, Did}
@@ -336,11 +336,8 @@ knows_next law one_law (phases.Manifests r) (answers.Found (Some bytes)) new f p
     (kept_more r entries own keeps) sought
 knows_next law one_law m answer new f p goes stands known = absurd goes
 
-pub kept_same : (f after : Files) (p : Past) → after ≡ f → IsKept f p after p
-kept_same f after p same = record { files = λ q. ap (λ (g : Files). map.get g q) same; past = refl }
-
-pub sound : Joined → OneList → Sound next_call Goes (Refuses Shown phases.Over) (Stops phases.Over) Stands LeavesFiles Knows
-sound law one_law = sound_of_spared next_call Goes Shown phases.Over Stands LeavesFiles Knows (λ m. kept_same) spares (knows_next law one_law) (λ f p. tt)
+pub sound : Joined → OneList → Sound next_call Goes (Refuses Shown phases.Over) (Stops phases.Over) Stands (λ m. IsKept) Knows
+sound law one_law = sound_of_spared next_call Goes Shown phases.Over Stands Knows spares (knows_next law one_law) (λ f p. tt)
 
 -- ---- its calls
 
@@ -766,4 +763,4 @@ pub again_absent : (a : Asked) (id : ℕ) (path : List ℕ) (found : Option (Lis
 again_absent a id path found f p gone told = told ∙ gone.absent
 
 pub images : (m : Phase) (call : Call) (f image : Files) (p : Past) → next_call m ≡ Some call → MayLeave call f image → IsKept f p image p
-images m call f image p is left = kept_same f image p (image_spared next_call m call f image (spares m f) is left)
+images m call f image p = image_spared next_call m call f image p (spares m f)

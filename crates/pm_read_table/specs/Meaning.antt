@@ -1,4 +1,4 @@
--- What a reader of a view knows of the snapshots, and what its steps mean for the files.
+-- What a reader of a view knows of the snapshots, and which refusals come.
 use Rattle.std.specs.Prelude.{◌≡◌, ℕ, ◌≤◌, ◌<◌, List, ◌∷◌, ◌++◌, Contains, None, IsSome}
 use Rattle.std.specs.FinMap as map
 use Rattle.pm_values.specs.declared.refusal.Refusal.{Refusal}
@@ -23,15 +23,6 @@ use Rattle.pm_read_table.specs.declared.asked.Wanted.TheVariants as wants
 use Rattle.pm_read_table.specs.declared.phase.Phase.{Phase}
 use Rattle.pm_read_table.specs.declared.phase.Phase.TheVariants as phases
 use Rattle.pm_read_table.specs.declared.view.View.{View}
-
--- no path has another content, and what is known stays
-pub record IsKept (f : Files) (p : Past) (after : Files) (later : Past) : Type 0 where
-  pub files : (path : List ℕ) → map.get after path ≡ map.get f path
-  pub past : later ≡ p
-
--- what a reader changes, in each of its phases: nothing
-abbrev pub LeavesFiles : {P : Type 0} → P → Files → Past → Files → Past → Type 0
-LeavesFiles {P} phase f p after later = IsKept f p after later
 
 -- the snapshot is one of the table's, and names its schema: it stood so when it was committed, whether or not it has
 -- gone since

@@ -1,5 +1,10 @@
 //! The phases of a reader of a view, and what they mean.
 
+ghost use Rattle.pm_model_folder.specs.Ledger as ledgers;
+ghost use Rattle.pm_read_table.specs.Asked as asks;
+ghost use Rattle.pm_read_table.specs.Meaning.{Knows};
+ghost use Rattle.pm_read_table.specs.Reader.{calls_left, next_call, Goes, IsReady, IsViewer, Shown};
+ghost use Rattle.pm_read_table.specs.Trace.{Did, Shows};
 ghost use Rattle.pm_read_table.specs.declared.phase.Phase.TheVariants as phases;
 
 use crate::after::{
@@ -13,8 +18,6 @@ use pm_values::Refusal;
 use std::alloc::{AllocError, Global};
 
 impl pm_machine::Phase for Phase {
-    ghost use Rattle.pm_read_table.specs.Reader.{next_call, Goes, IsViewer, Shown};
-
     ghost call_of = { next_call };
 
     ghost goes = { Goes };
@@ -82,17 +85,9 @@ impl pm_machine::Phase for Phase {
 }
 
 impl ReaderPhase for Phase {
-    ghost use Rattle.pm_model_folder.specs.Ledger as ledgers;
-    ghost use Rattle.pm_read_table.specs.Asked as asks;
-    ghost use Rattle.pm_read_table.specs.Meaning.{IsKept, Knows};
-    ghost use Rattle.pm_read_table.specs.Reader.{calls_left, IsReady};
-    ghost use Rattle.pm_read_table.specs.Trace.{Did, Shows};
-
     ghost History = { ledgers.Past };
 
     ghost Folder = { ledgers.Stands };
-
-    ghost Same = { IsKept };
 
     ghost knows = { Knows };
 

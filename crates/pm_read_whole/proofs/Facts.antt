@@ -11,7 +11,7 @@ use Rattle.pm_store.specs.declared.call.Call.TheVariants as calls
 use Rattle.pm_store.specs.Answers.{Answers, MayAnswer}
 use Rattle.pm_store.specs.Files.{Files}
 use Rattle.pm_store.specs.Images.{MayLeave}
-use Rattle.pm_machine.specs.Moves.{Sound}
+use Rattle.pm_machine.specs.Moves.{IsKept, Sound}
 use Rattle.pm_machine.specs.Running.{Refuses, Stops}
 use Rattle.pm_machine.specs.Step.{path_of}
 use Rattle.pm_machine.specs.Trace.{Event, Recounts, after_answer, answered, faulted}
@@ -30,7 +30,7 @@ use Rattle.pm_read_log.specs.LogMeaning as log_meaning
 use Rattle.pm_read_log.specs.LogReader as log
 use Rattle.pm_read_log.specs.LogTrace as log_trace
 use Rattle.pm_read_table.specs.Meaning as reader_meaning
-use Rattle.pm_read_table.specs.Meaning.{IsKept, IsViewIn, LeavesFiles, Stood, view_origin, view_snapshot}
+use Rattle.pm_read_table.specs.Meaning.{IsViewIn, Stood, view_origin, view_snapshot}
 use Rattle.pm_read_table.specs.Reader as reader
 use Rattle.pm_read_table.specs.Reader.{most}
 use Rattle.pm_read_table.specs.Trace as reader_trace
@@ -42,7 +42,7 @@ use Rattle.pm_read_table.specs.declared.phase.Phase as view_phase
 use Rattle.pm_read_table.specs.declared.phase.Phase.TheVariants as readers
 use Rattle.pm_read_table.specs.declared.view.View.{View}
 use Rattle.pm_read_table.proofs.Facts as reader_facts
-use Rattle.pm_read_table.proofs.Facts.{Joined, OneList, kept_same}
+use Rattle.pm_read_table.proofs.Facts.{Joined, OneList}
 use Rattle.pm_read_table.proofs.WithinLemmas.{with_reader}
 use Rattle.pm_read_log.proofs.LogFacts as log_facts
 use Rattle.pm_read_whole.specs.Meaning.{Knows}
@@ -106,8 +106,8 @@ knows_next law one (phases.Log v r) answer new f p (to, on, after) stands (viewe
     (λ call next told. log_known v to new f p after viewed (next told))
 knows_next law one m answer new f p goes stands known = absurd goes
 
-pub sound : Joined → OneList → Sound next_call Goes (Refuses Shown phases.Over) (Stops phases.Over) Stands LeavesFiles Knows
-sound law one = sound_of_spared next_call Goes Shown phases.Over Stands LeavesFiles Knows (λ m. kept_same) spares (knows_next law one) (λ f p. tt)
+pub sound : Joined → OneList → Sound next_call Goes (Refuses Shown phases.Over) (Stops phases.Over) Stands (λ m. IsKept) Knows
+sound law one = sound_of_spared next_call Goes Shown phases.Over Stands Knows spares (knows_next law one) (λ f p. tt)
 
 -- ---- its calls
 
@@ -342,4 +342,4 @@ knows_still (phases.Ready v l) other f after p q stands advances (viewed, known)
 knows_still phases.Over other f after p q stands advances known = tt
 
 pub images : (m : Phase) (call : Call) (f image : Files) (p : Past) → next_call m ≡ Some call → MayLeave call f image → IsKept f p image p
-images m call f image p is left = kept_same f image p (image_spared next_call m call f image (spares m f) is left)
+images m call f image p = image_spared next_call m call f image p (spares m f)

@@ -8,7 +8,7 @@ ghost use Rattle.pm_store.specs.declared.answer.Answer.{Answer};
 ghost use Rattle.pm_store.specs.declared.call.Call.{Call};
 ghost use Rattle.pm_store.specs.Files.{Files};
 ghost use Rattle.pm_store.specs.Images.{MayLeave};
-ghost use Rattle.pm_read_table.specs.Meaning.{IsKept};
+ghost use Rattle.pm_machine.specs.Moves.{IsKept};
 ghost use Rattle.pm_values.specs.declared.refusal.Refusal.{Refusal};
 ghost use Rattle.pm_read_whole.specs.Meaning.{AreNamed, Knows, MayRefuse};
 ghost use Rattle.pm_read_whole.specs.Whole.{next_call, paths_of, IsReady, IsWhole, Shown};

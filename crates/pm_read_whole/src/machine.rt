@@ -1,5 +1,10 @@
 //! The phases of a reader of a whole view, and what they mean.
 
+ghost use Rattle.pm_model_folder.specs.Ledger as ledgers;
+ghost use Rattle.pm_read_log.specs.Log as logs;
+ghost use Rattle.pm_read_whole.specs.Meaning.{Knows};
+ghost use Rattle.pm_read_whole.specs.Trace.{Did, Shows};
+ghost use Rattle.pm_read_whole.specs.Whole.{calls_left, next_call, Goes, IsReady, IsWhole, Shown};
 ghost use Rattle.pm_read_whole.specs.declared.phase.Phase.TheVariants as phases;
 
 use crate::after::after_answer;
@@ -11,8 +16,6 @@ use pm_values::Refusal;
 use std::alloc::{AllocError, Global};
 
 impl pm_machine::Phase for Phase {
-    ghost use Rattle.pm_read_whole.specs.Whole.{next_call, Goes, IsWhole, Shown};
-
     ghost call_of = { next_call };
 
     ghost goes = { Goes };
@@ -45,18 +48,9 @@ impl pm_machine::Phase for Phase {
 }
 
 impl ReaderPhase for Phase {
-    ghost use Rattle.pm_model_folder.specs.Ledger as ledgers;
-    ghost use Rattle.pm_read_log.specs.Log as logs;
-    ghost use Rattle.pm_read_table.specs.Meaning.{IsKept};
-    ghost use Rattle.pm_read_whole.specs.Meaning.{Knows};
-    ghost use Rattle.pm_read_whole.specs.Trace.{Did, Shows};
-    ghost use Rattle.pm_read_whole.specs.Whole.{calls_left, IsReady};
-
     ghost History = { ledgers.Past };
 
     ghost Folder = { ledgers.Stands };
-
-    ghost Same = { IsKept };
 
     ghost knows = { Knows };
 

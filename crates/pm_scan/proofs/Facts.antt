@@ -14,7 +14,7 @@ use Rattle.pm_store.specs.declared.call.Call.TheVariants as calls
 use Rattle.pm_store.specs.Answers.{Answers, MayAnswer}
 use Rattle.pm_store.specs.Files.{Files}
 use Rattle.pm_store.specs.Images.{MayLeave}
-use Rattle.pm_machine.specs.Moves.{Sound}
+use Rattle.pm_machine.specs.Moves.{IsKept, Sound}
 use Rattle.pm_machine.specs.Running.{Refuses, Stops}
 use Rattle.pm_machine.specs.Trace.{Event, Recounts, after_answer, answered}
 use Rattle.pm_machine.proofs.PhaseFacts.{Spares, ended, image_spared, recounts_of, sound_of_spared}
@@ -29,7 +29,7 @@ use Rattle.pm_model_folder.proofs.Facts.{goes_on}
 use Rattle.pm_read_schema.proofs.Facts.{read_effect}
 use Rattle.pm_read_table.specs.Asked.{Asked}
 use Rattle.pm_read_table.specs.Meaning as reader_meaning
-use Rattle.pm_read_table.specs.Meaning.{HasGone, IsKept, IsViewIn, LeavesFiles}
+use Rattle.pm_read_table.specs.Meaning.{HasGone, IsViewIn}
 use Rattle.pm_read_table.specs.Reader as reader
 use Rattle.pm_read_table.specs.Reader.{most}
 use Rattle.pm_read_table.specs.Trace as reader_trace
@@ -38,7 +38,7 @@ use Rattle.pm_read_table.specs.declared.phase.Phase as view_phase
 use Rattle.pm_read_table.specs.declared.phase.Phase.TheVariants as readers
 use Rattle.pm_read_table.specs.declared.view.View.{View}
 use Rattle.pm_read_table.proofs.Facts as reader_facts
-use Rattle.pm_read_table.proofs.Facts.{Joined, OneList, gone_still, kept_same}
+use Rattle.pm_read_table.proofs.Facts.{Joined, OneList, gone_still}
 use Rattle.pm_read_table.proofs.FaultLemmas.{IsFileFault}
 use Rattle.pm_read_table.proofs.WithinLemmas.{with_reader}
 use Rattle.pm_scan.specs.Collected.{Collected, Takes, nothing_of}
@@ -112,8 +112,8 @@ knows_next law one laws (phases.Files r) (answers.Found (Some bytes)) new f p (c
     file_known laws f p stands r known bytes c r.rest new (sym told) takes refl on
 knows_next law one laws m answer new f p goes stands known = absurd goes
 
-pub sound : Joined → OneList → FileLaws → Sound next_call Goes (Refuses Shown phases.Over) (Stops phases.Over) Stands LeavesFiles Knows
-sound law one laws = sound_of_spared next_call Goes Shown phases.Over Stands LeavesFiles Knows (λ m. kept_same) spares (knows_next law one laws) (λ f p. tt)
+pub sound : Joined → OneList → FileLaws → Sound next_call Goes (Refuses Shown phases.Over) (Stops phases.Over) Stands (λ m. IsKept) Knows
+sound law one laws = sound_of_spared next_call Goes Shown phases.Over Stands Knows spares (knows_next law one laws) (λ f p. tt)
 
 -- ---- its calls
 
@@ -282,4 +282,4 @@ knows_still (phases.Ready id text) other f after p q stands advances known = sca
 knows_still phases.Over other f after p q stands advances known = tt
 
 pub images : (m : Phase) (call : Call) (f image : Files) (p : Past) → next_call m ≡ Some call → MayLeave call f image → IsKept f p image p
-images m call f image p is left = kept_same f image p (image_spared next_call m call f image (spares m f) is left)
+images m call f image p = image_spared next_call m call f image p (spares m f)

@@ -1,5 +1,10 @@
 //! The phases of a scanner, and what they mean.
 
+ghost use Rattle.pm_model_folder.specs.Ledger as ledgers;
+ghost use Rattle.pm_read_table.specs.Asked as asks;
+ghost use Rattle.pm_scan.specs.Meaning.{Knows};
+ghost use Rattle.pm_scan.specs.Scanner.{calls_left, next_call, Goes, IsReady, IsScanner, Shown};
+ghost use Rattle.pm_scan.specs.Trace.{Did, Shows};
 ghost use Rattle.pm_scan.specs.declared.phase.Phase.TheVariants as phases;
 
 use crate::after::{after_again, after_file};
@@ -12,8 +17,6 @@ use pm_values::Refusal;
 use std::alloc::{AllocError, Global};
 
 impl pm_machine::Phase for Phase {
-    ghost use Rattle.pm_scan.specs.Scanner.{next_call, Goes, IsScanner, Shown};
-
     ghost call_of = { next_call };
 
     ghost goes = { Goes };
@@ -52,18 +55,9 @@ impl pm_machine::Phase for Phase {
 }
 
 impl ReaderPhase for Phase {
-    ghost use Rattle.pm_model_folder.specs.Ledger as ledgers;
-    ghost use Rattle.pm_read_table.specs.Asked as asks;
-    ghost use Rattle.pm_read_table.specs.Meaning.{IsKept};
-    ghost use Rattle.pm_scan.specs.Meaning.{Knows};
-    ghost use Rattle.pm_scan.specs.Scanner.{calls_left, IsReady};
-    ghost use Rattle.pm_scan.specs.Trace.{Did, Shows};
-
     ghost History = { ledgers.Past };
 
     ghost Folder = { ledgers.Stands };
-
-    ghost Same = { IsKept };
 
     ghost knows = { Knows };
 

@@ -1,5 +1,5 @@
 -- All calls of a lister, and what they say where nobody else acts.
-use Rattle.std.proofs.Common.{◌≡◌, inl, inr, ℕ, ◌<◌, ◌≤◌, List, [], ◌∷◌, ◌++◌, map, Option, None, Some, IfSome, IsSome, Result, Ok, Err, refl, sym, ap, ◌∙◌, subst, append-nil, append_assoc}
+use Rattle.std.proofs.Common.{◌≡◌, ◌⊎◌, inl, inr, ℕ, ◌<◌, ◌≤◌, List, [], ◌∷◌, ◌++◌, map, Option, None, Some, IfSome, IsSome, Result, Ok, Err, refl, sym, ap, ◌∙◌, subst, append-nil, append_assoc}
 use Rattle.std.specs.FinMap as finite
 use Rattle.std.specs.List.{AllByRecursion, AllZip}
 use Rattle.pm_values.specs.declared.refusal.Refusal.{Refusal}
@@ -29,13 +29,11 @@ use Rattle.pm_read_schema.proofs.AllCallsLemmas.{list_still, read_still}
 use Rattle.pm_read_schema.proofs.Facts as reader_facts
 use Rattle.pm_read_schema.proofs.StillLemmas.{AreStill, IsTold, AreTold, IsStill, calls_more, ended_still, failed_still, told_last, stayed}
 use Rattle.pm_snapshots.specs.AllCalls.{AreIdsOf, AreLinesOf, GoesOnFrom, DidList, ListsTables}
-use Rattle.pm_snapshots.specs.Lister.{IsDone, IsLister, KeepsSchema, Reaches, calls_left, lines_of, next_call, schema_at}
+use Rattle.pm_snapshots.specs.Lister.{IsDone, IsLister, KeepsSchema, calls_left, lines_of, next_call, schema_at}
 use Rattle.pm_snapshots.specs.Meaning.{IsLineAt}
 use Rattle.pm_snapshots.specs.Reading.{ReadingView, next_id}
-use Rattle.pm_snapshots.specs.Trace.{Has, read_snapshot, Lists, IsLineOf, HasRead, Meets, HasListed, DidSoFar, MayTakeMemory, ShowsOwn, Shows, Did, ListerActed}
+use Rattle.pm_snapshots.specs.Trace.{Has, read_snapshot, Lists, IsLineOf, HasRead, Meets, HasListed, DidSoFar, MayTakeMemory, ShowsOwn, Shows, Did}
 use Rattle.pm_snapshots.specs.declared.line.SnapshotLine.{SnapshotLine}
-use Rattle.pm_snapshots.specs.declared.lister.ListStep.{ListStep}
-use Rattle.pm_snapshots.specs.declared.lister.ListStep.TheVariants as steps
 use Rattle.pm_snapshots.specs.declared.phase.Phase.{Phase}
 use Rattle.pm_snapshots.specs.declared.phase.Phase.TheVariants as phases
 use Rattle.pm_snapshots.proofs.Facts.{printed, spares}
@@ -189,9 +187,9 @@ listed_history s (Err refusal) before after (own, (from, shows), trace) = λ alo
 same_some : (s t : TableSchema) → Some s ≡ Some t → s ≡ t
 same_some s t e = cc
 
-pub went_further : (old new : Phase) (first before after : StoreView) (step : ListStep) → HasTrace (Did old) first before
-    → ListerActed old new before after (Ok step) → IsLater before after → HasTrace (Did new) first after
-went_further old new first before after step trace acted later =
+pub went_further : (old new : Phase) (first before after : StoreView) → HasTrace (Did old) first before
+    → Acts (Did old) (λ own. Did new own × Unit {0}) before after → IsLater before after → HasTrace (Did new) first after
+went_further old new first before after trace acted later =
     let t = HasTrace-acts {did = Did old} {before = before} trace acted later in
     (t.0, t.1.0, t.2)
 
@@ -218,7 +216,7 @@ acts_from m s does before after had (inl (event, ended, next)) =
 acts_from m s does before after had (inr (meanwhile, next)) = inr (meanwhile, λ own did. (next own did, from_schema m s own had did))
 
 pub was_refused : (old new : Phase) (s : TableSchema) (first before after : StoreView) (refusal : Refusal) → schema_at old ≡ Some s
-    → HasTrace (Did old) first before → ListerActed old new before after (Err refusal) → IsLater before after
+    → HasTrace (Did old) first before → Acts (Did old) (λ own. Did new own × Shows refusal own) before after → IsLater before after
     → HasTrace (DidList s (Err refusal)) first after
 was_refused old new s first before after refusal had trace acted later =
     let t = HasTrace-acts {did = Did old} {before = before} trace (acts_from old s _ before after had acted) later in
@@ -229,9 +227,9 @@ pub was_done : (m : Phase) (s : TableSchema) (first after : StoreView) → IsLis
 was_done m s first after is done had (own, did, trace) = (own, printed m s own is done had did, trace)
 
 -- a step that went on leaves a call, or all snapshots were read
-pub call_left : (step : ListStep) (m : Phase) → Reaches step m → ¬ IsDone m → 0 < calls_left m
-call_left steps.More m reaches not = reaches
-call_left steps.Done m reaches not = absurd (not reaches)
+pub call_left : (m : Phase) → IsDone m ⊎ (0 < calls_left m) → ¬ IsDone m → 0 < calls_left m
+call_left m (inl done) not = absurd (not done)
+call_left m (inr left) not = left
 
 -- and the schema that was read
 pub still_had : (old new : Phase) (s : TableSchema) → schema_at old ≡ Some s → KeepsSchema old new → schema_at new ≡ Some s

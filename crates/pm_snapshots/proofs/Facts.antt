@@ -1,5 +1,5 @@
 -- A lister of snapshots keeps the laws of machines.
-use Rattle.std.proofs.Common.{◌≡◌, inl, inr, ℕ, zero, suc, ◌<◌, ◌≤◌, ◌+◌, List, [], ◌∷◌, ◌++◌, Contains, length, Option, None, Some, option_map, IsSome, IfSome, Ok, refl, sym, ap, ◌∙◌, subst, arith, append_assoc}
+use Rattle.std.proofs.Common.{◌≡◌, ◌⊎◌, inl, inr, ℕ, zero, suc, ◌<◌, ◌≤◌, ◌+◌, ◌-◌, List, [], ◌∷◌, ◌++◌, Contains, length, Option, None, Some, option_map, IsSome, IfSome, Ok, refl, sym, ap, ◌∙◌, subst, arith, append_assoc}
 use Rattle.std.specs.FinMap as map
 use Rattle.std.specs.List.{AllByRecursion, AllZip}
 use Rattle.std.proofs.lemmas.List.{append-nil, length_push}
@@ -12,11 +12,10 @@ use Rattle.pm_store.specs.declared.call.Call.{Call}
 use Rattle.pm_store.specs.Answers.{Answers, MayAnswer}
 use Rattle.pm_store.specs.Files.{Files, IsListing}
 use Rattle.pm_store.specs.Images.{MayLeave}
-use Rattle.pm_store.proofs.FileLaws.{effect_left}
-use Rattle.pm_machine.specs.Moves.{Sound}
+use Rattle.pm_machine.specs.Moves.{IsKept, Sound}
 use Rattle.pm_machine.specs.Running.{Refuses, Stops}
 use Rattle.pm_machine.specs.Trace.{Event, Recounts, after_answer, answered}
-use Rattle.pm_machine.proofs.PhaseFacts.{Spares, ended, recounts_of, sound_of_spared}
+use Rattle.pm_machine.proofs.PhaseFacts.{Spares, ended, image_spared, recounts_of, sound_of_spared}
 use Rattle.pm_model_history.specs.History.{IsTableOf}
 use Rattle.pm_schema.specs.declared.schema.TableSchema.{TableSchema}
 use Rattle.pm_snapshot.specs.Names.{greatest}
@@ -33,7 +32,6 @@ use Rattle.pm_paths.specs.Ids.{AreIds}
 use Rattle.pm_paths.proofs.IdLemmas.{ids_within}
 use Rattle.pm_paths.proofs.ListedLemmas.{ids_there}
 use Rattle.pm_read_schema.specs.Meaning as reader_meaning
-use Rattle.pm_read_schema.specs.Meaning.{AreKept}
 use Rattle.pm_read_schema.specs.Reader as reader
 use Rattle.pm_read_schema.specs.Reader.{snapshots_call}
 use Rattle.pm_read_schema.specs.Trace as reader_trace
@@ -41,10 +39,10 @@ use Rattle.pm_read_schema.specs.Trace.{Names, listed_snapshots}
 use Rattle.pm_read_schema.specs.declared.phase.Phase as schema_phase
 use Rattle.pm_read_schema.specs.declared.phase.Phase.TheVariants as readers
 use Rattle.pm_read_schema.proofs.Facts as reader_facts
-use Rattle.pm_read_schema.proofs.Facts.{kept_same, list_effect, read_effect, still_table}
+use Rattle.pm_read_schema.proofs.Facts.{list_effect, read_effect, still_table}
 use Rattle.pm_snapshots.specs.Lines.{line_of}
-use Rattle.pm_snapshots.specs.Lister.{snapshot_call, next_call, IsLister, calls_left, IsDone, lines_of, schema_at, KeepsSchema, after_reader, Goes, Shown, Reaches, done_at, reached_at}
-use Rattle.pm_snapshots.specs.Meaning.{Leaves, IsLineAt, IsLineIn, IsReadingIn, Knows}
+use Rattle.pm_snapshots.specs.Lister.{snapshot_call, next_call, IsLister, calls_left, IsDone, lines_of, schema_at, KeepsSchema, after_reader, Goes, Shown}
+use Rattle.pm_snapshots.specs.Meaning.{IsLineAt, IsLineIn, IsReadingIn, Knows}
 use Rattle.pm_snapshots.specs.Reading.{ReadingView, reading_of, next_id, add_line}
 use Rattle.pm_snapshots.specs.Trace.{read_snapshot, IsLineOf, HasRead, Meets, HasListed, DidSoFar, MayTakeMemory, Shows, Did}
 use Rattle.pm_snapshots.specs.declared.line.SnapshotLine.{SnapshotLine}
@@ -132,8 +130,8 @@ knows_next (phases.Read r) (answers.Found (Some bytes)) new f p (id, s, next, re
     (λ call knows told. subst (λ (m : Phase). Knows m f p) (sym is) (knows told))
 knows_next m answer new f p goes stands known = absurd goes
 
-pub sound : Sound next_call Goes (Refuses Shown phases.Over) (Stops phases.Over) Stands Leaves Knows
-sound = sound_of_spared next_call Goes Shown phases.Over Stands Leaves Knows (λ m. kept_same) spares knows_next (λ f p. tt)
+pub sound : Sound next_call Goes (Refuses Shown phases.Over) (Stops phases.Over) Stands (λ m. IsKept) Knows
+sound = sound_of_spared next_call Goes Shown phases.Over Stands Knows spares knows_next (λ f p. tt)
 
 -- ---- its calls
 
@@ -232,60 +230,44 @@ recounts = recounts_of next_call Goes Shown phases.Over DidSoFar Did MayTakeMemo
 
 -- ---- how far it has come
 
-reader_left : (r to : schema_phase.Phase) → reader.calls_left to < reader.calls_left r
-    → calls_left (after_reader to) < reader.calls_left r + (greatest + 2)
-reader_left r readers.Schemas fewer = omega (arith, fewer)
-reader_left r (readers.Schema id) fewer = omega (arith, fewer)
-reader_left r (readers.Snapshots s) fewer = omega (arith, fewer)
-reader_left r (readers.Ready s) fewer = omega (arith, fewer)
-reader_left r readers.Over fewer = omega (arith, fewer)
+-- fewer calls than that are left, and some if not all snapshots were read
+abbrev pub IsAhead : ℕ → Phase → Type 0
+IsAhead n m = (calls_left m < n) × (IsDone m ⊎ (0 < calls_left m))
 
-goes_fewer : (m : Phase) (answer : Answer) (new : Phase) → Goes m answer new → calls_left new < calls_left m
-goes_fewer (phases.Schema r) answer new (to, on, is) =
-    subst (λ (new : Phase). calls_left new < calls_left (phases.Schema r)) (sym is) (reader_left r to (reader_facts.goes_fewer r answer to on))
-goes_fewer (phases.List s) (answers.Listed names) new (ids, are, is) =
+reader_ahead : (r to : schema_phase.Phase) → reader.calls_left to < reader.calls_left r
+    → IsAhead (reader.calls_left r + (greatest + 2)) (after_reader to)
+reader_ahead r readers.Schemas fewer = (omega (arith, fewer), inr (omega arith))
+reader_ahead r (readers.Schema id) fewer = (omega (arith, fewer), inr (omega arith))
+reader_ahead r (readers.Snapshots s) fewer = (omega (arith, fewer), inr (omega arith))
+reader_ahead r (readers.Ready s) fewer = (omega (arith, fewer), inr (omega arith))
+reader_ahead r readers.Over fewer = (omega (arith, fewer), inr (omega arith))
+
+read_ahead : (r : ReadingView) (next : Option ℕ) (n : ℕ) → next_id r ≡ next → length r.ids - length r.lines < n → IsAhead n (phases.Read r)
+read_ahead r None n is fewer = (fewer, inl is)
+read_ahead r (Some id) n is fewer = (fewer, inr (let within = slice_get_within r.ids (length r.lines) id is in omega (arith, within)))
+
+-- an answer that it goes on with leaves fewer calls
+pub goes_ahead : (m : Phase) (answer : Answer) (new : Phase) → Goes m answer new → IsAhead (calls_left m) new
+goes_ahead (phases.Schema r) answer new (to, on, is) = subst (IsAhead (calls_left (phases.Schema r))) (sym is)
+    (reader_ahead r to (reader_facts.goes_ahead r answer to on).0)
+goes_ahead (phases.List s) (answers.Listed names) new (ids, are, is) =
     let within = ids_within names.items ids are in
-    subst (λ (new : Phase). calls_left new < greatest + 2) (sym is) (omega (arith, within))
-goes_fewer (phases.Read r) (answers.Found (Some bytes)) new (id, s, next, reads, is) =
+    let own = reading_of s ids [] in
+    subst (IsAhead (greatest + 2)) (sym is) (read_ahead own (next_id own) (greatest + 2) refl (omega (arith, within)))
+goes_ahead (phases.Read r) (answers.Found (Some bytes)) new (id, s, next, reads, is) =
     let within = slice_get_within r.ids (length r.lines) id next in
     let longer = length_push r.lines (line_of s) in
-    subst (λ (new : Phase). calls_left new < calls_left (phases.Read r)) (sym is) (omega (arith, within, longer))
-goes_fewer m answer new goes = absurd goes
-
-reader_reaches : (r : schema_phase.Phase) → Reaches (reached_at (after_reader r)) (after_reader r)
-reader_reaches readers.Schemas = omega arith
-reader_reaches (readers.Schema id) = omega arith
-reader_reaches (readers.Snapshots s) = omega arith
-reader_reaches (readers.Ready s) = omega arith
-reader_reaches readers.Over = omega arith
-
-read_reaches : (r : ReadingView) (next : Option ℕ) → next_id r ≡ next → Reaches (done_at next) (phases.Read r)
-read_reaches r None is = is
-read_reaches r (Some id) is = let within = slice_get_within r.ids (length r.lines) id is in omega (arith, within)
-
-goes_reaches : (m : Phase) (answer : Answer) (new : Phase) → Goes m answer new → Reaches (reached_at new) new
-goes_reaches (phases.Schema r) answer new (to, on, is) =
-    subst (λ (new : Phase). Reaches (reached_at new) new) (sym is) (reader_reaches to)
-goes_reaches (phases.List s) (answers.Listed names) new (ids, are, is) =
-    subst (λ (new : Phase). Reaches (reached_at new) new) (sym is) (read_reaches (reading_of s ids []) (next_id (reading_of s ids [])) refl)
-goes_reaches (phases.Read r) (answers.Found (Some bytes)) new (id, s, next, reads, is) =
-    subst (λ (new : Phase). Reaches (reached_at new) new) (sym is)
-    (read_reaches (add_line r (line_of s)) (next_id (add_line r (line_of s))) refl)
-goes_reaches m answer new goes = absurd goes
+    let own = add_line r (line_of s) in
+    subst (IsAhead (length r.ids - length r.lines)) (sym is)
+    (read_ahead own (next_id own) (length r.ids - length r.lines) refl (omega (arith, within, longer)))
+goes_ahead m answer new on = absurd on
 
 -- the schema that was read stays
-goes_kept : (m : Phase) (answer : Answer) (new : Phase) → Goes m answer new → KeepsSchema m new
-goes_kept (phases.Schema r) answer new goes = tt
-goes_kept (phases.List s) (answers.Listed names) new (ids, are, is) = ap schema_at is
-goes_kept (phases.Read r) (answers.Found (Some bytes)) new (id, s, next, reads, is) = ap schema_at is
-goes_kept m answer new goes = absurd goes
-
-reader_called : (r : schema_phase.Phase) → 0 < reader.calls_left r → IsSome (reader.next_call r)
-reader_called readers.Schemas left = refl
-reader_called (readers.Schema id) left = refl
-reader_called (readers.Snapshots s) left = refl
-reader_called (readers.Ready s) left = absurd (omega (arith, left))
-reader_called readers.Over left = absurd (omega (arith, left))
+pub keeps : (m : Phase) (answer : Answer) (new : Phase) → Goes m answer new → KeepsSchema m new
+keeps (phases.Schema r) answer new on = tt
+keeps (phases.List s) (answers.Listed names) new (ids, are, is) = ap schema_at is
+keeps (phases.Read r) (answers.Found (Some bytes)) new (id, s, next, reads, is) = ap schema_at is
+keeps m answer new on = absurd on
 
 read_called : (r : ReadingView) (next : Option ℕ) → next_id r ≡ next → length r.lines < length r.ids → IsSome (option_map snapshot_call next)
 read_called r None is left = absurd (let within = within_none r is in omega (arith, within, left))
@@ -293,15 +275,10 @@ read_called r (Some id) is left = refl
 
 -- a lister with calls left has a next one
 pub has_call : (m : Phase) → IsLister m → 0 < calls_left m → IsSome (next_call m)
-has_call (phases.Schema r) is left = reader_called r is
+has_call (phases.Schema r) is left = reader_facts.has_call r is
 has_call (phases.List s) is left = refl
 has_call (phases.Read r) is left = read_called r (next_id r) refl (omega (arith, left))
 has_call phases.Over is left = absurd (omega (arith, left))
-
--- a step that goes on leaves fewer calls, what it reached, and the schema
-pub goes : (m : Phase) (answer : Answer) (new : Phase) → IsLister m → Goes m answer new
-    → (calls_left new < calls_left m) × Reaches (reached_at new) new × KeepsSchema m new
-goes m answer new is on = (goes_fewer m answer new on, goes_reaches m answer new on, goes_kept m answer new on)
 
 -- ---- laws
 
@@ -332,11 +309,8 @@ knows_still (phases.List s) other f after p q stands advances known = table_stil
 knows_still (phases.Read r) other f after p q stands advances known = reading_still other f after p q advances r known
 knows_still phases.Over other f after p q stands advances known = tt
 
-pub images : (m : Phase) (call : Call) (f image : Files) (p : Past) → next_call m ≡ Some call → MayLeave call f image → AreKept f p image p
-images m call f image p is left =
-    let had = effect_left call f image left in
-    let still = rw is at (spares m f) in
-    kept_same f image p (had.1 ∙ still had.0)
+pub images : (m : Phase) (call : Call) (f image : Files) (p : Past) → next_call m ≡ Some call → MayLeave call f image → IsKept f p image p
+images m call f image p = image_spared next_call m call f image p (spares m f)
 
 pub printed : (m : Phase) (s : TableSchema) (own : List Event) → IsLister m → IsDone m → schema_at m ≡ Some s → Did m own
     → HasListed s (lines_of m) own

@@ -1,12 +1,11 @@
 -- The own calls of a lister of snapshots, and what they show.
-use Rattle.std.specs.Prelude.{◌≡◌, ◌⊎◌, ℕ, List, [], ◌∷◌, ◌++◌, map, Option, None, Some, Result, Ok, Err, IfErr}
+use Rattle.std.specs.Prelude.{◌≡◌, ◌⊎◌, ℕ, List, [], ◌∷◌, ◌++◌, map, Option, None, Some, Ok, Err}
 use Rattle.std.specs.List.{AllZip}
 use Rattle.pm_values.specs.declared.refusal.Refusal.{Refusal}
 use Rattle.pm_values.specs.declared.refusal.Refusal.TheVariants as refusals
 use Rattle.pm_store.specs.declared.answer.Answer.TheVariants as answers
-use Rattle.pm_store.specs.Store.{StoreView}
 use Rattle.pm_store.specs.declared.answer.Answer.{Answer}
-use Rattle.pm_machine.specs.Trace.{Event, Acts, IsFailed, MayEnd, answered}
+use Rattle.pm_machine.specs.Trace.{Event, IsFailed, MayEnd, answered}
 use Rattle.pm_schema.specs.declared.schema.TableSchema.{TableSchema}
 use Rattle.pm_snapshot.specs.Snapshot.{snapshot_in}
 use Rattle.pm_snapshot.specs.declared.fault.SnapFault.TheVariants as faults
@@ -20,7 +19,6 @@ use Rattle.pm_snapshots.specs.Lines.{line_of}
 use Rattle.pm_snapshots.specs.Lister.{next_call, snapshot_call}
 use Rattle.pm_snapshots.specs.Reading.{ReadingView, IsReading, next_id}
 use Rattle.pm_snapshots.specs.declared.line.SnapshotLine.{SnapshotLine}
-use Rattle.pm_snapshots.specs.declared.lister.ListStep.{ListStep}
 use Rattle.pm_snapshots.specs.declared.phase.Phase.{Phase}
 use Rattle.pm_snapshots.specs.declared.phase.Phase.TheVariants as phases
 
@@ -100,8 +98,3 @@ Shows refusal own = reader.Shows refusal own ⊎ ShowsOwn refusal own
 abbrev pub Did : Phase → List Event → Type 0
 Did phases.Over own = (refusal : Refusal) × Shows refusal own
 Did m own = DidSoFar m own
-
--- Its next call is the next event of its calls so far, or none was made; and a refusal is shown by the calls up to it.
-abbrev pub ListerActed : Phase → Phase → StoreView → StoreView → Result ListStep Refusal → Type 0
-ListerActed old new before after result =
-    Acts (Did old) (λ own. Did new own × IfErr result (λ refusal. Shows refusal own)) before after

@@ -8,7 +8,8 @@ ghost use Rattle.pm_snapshots.specs.AllCalls.{DidList, ListsTables};
 ghost use Rattle.pm_snapshots.specs.Lister.{calls_left, schema_at, IsDone};
 ghost use Rattle.pm_snapshots.specs.Trace.{Did, Has};
 
-use crate::lister::Lister;
+use crate::lister::{Lister, is_list_done, list_of};
+use pm_machine::take_step;
 use pm_schema::TableSchema;
 use pm_store::FileStore;
 use pm_values::Refusal;
@@ -28,7 +29,7 @@ pub fn list_snapshots<F: FileStore>(
         → ListsTables schema first (F.seen store.new) result }
     ensures later { IsLater (F.seen store.old) (F.seen store.new) }
 {
-    make_calls(alloc, Lister::of_table(schema), store)
+    make_calls(alloc, list_of(schema), store)
 }
 
 /// Makes all calls that are left, or those up to a refusal.
@@ -41,8 +42,8 @@ fn make_calls<F: FileStore>(alloc: Global, lister: Lister, store: &mut F) -> Res
     ensures later { IsLater (F.seen store.old) (F.seen store.new) }
 {
     let mut lister = lister;
-    while !lister.is_done() {
-        match lister.step(alloc, store) {
+    while !is_list_done(&lister) {
+        match take_step(alloc, &mut lister, store) {
             Ok(_) => {}
             Err(refusal) => {
                 drop(lister);

@@ -1,22 +1,25 @@
 //! The phases of a lister of snapshots, and what they mean.
 
 ghost use Rattle.std.specs.Prelude.{◌≡◌, Some, IfOk, IfErr, IsSome, IsSomeAnd};
+ghost use Rattle.pm_model_folder.specs.Ledger as ledgers;
 ghost use Rattle.pm_store.specs.Answers.{MayAnswer};
 ghost use Rattle.pm_store.specs.declared.answer.Answer.TheVariants as answers;
 ghost use Rattle.pm_values.specs.declared.refusal.Refusal.TheVariants as refusals;
 ghost use Rattle.pm_read_schema.specs.Reader as readers;
-ghost use Rattle.pm_snapshots.specs.Lister.{after_reader, Goes, GoesToRead, IsLister, MayRefuse, Shown};
+ghost use Rattle.pm_snapshots.specs.Lister.{after_reader, calls_left, next_call, Goes, GoesToRead, IsDone, IsLister};
+ghost use Rattle.pm_snapshots.specs.Lister.{KeepsSchema, MayRefuse, Shown};
+ghost use Rattle.pm_snapshots.specs.Meaning.{Knows};
 ghost use Rattle.pm_snapshots.specs.Reading.{next_id};
+ghost use Rattle.pm_snapshots.specs.Trace.{Did, Shows};
 ghost use Rattle.pm_snapshots.specs.declared.phase.Phase.TheVariants as phases;
 
 use crate::line::line_of;
-use crate::lister::ListStep;
 use crate::phase::Phase;
 use crate::reading::Reading;
 use pm_base::{Blob, Txt};
-use pm_machine::{Machine, PhaseMeaning, Running};
+use pm_machine::{Machine, ReaderPhase, Running};
 use pm_paths::{ids_of, snapshot_path};
-use pm_read_schema::Phase as SchemaPhase;
+use pm_read_schema::{Phase as SchemaPhase, SchemaReader};
 use pm_schema::TableSchema;
 use pm_snapshot::{SnapFault, read_snapshot};
 use pm_store::{Answer, Call};
@@ -24,8 +27,6 @@ use pm_values::Refusal;
 use std::alloc::{AllocError, Global};
 
 impl pm_machine::Phase for Phase {
-    ghost use Rattle.pm_snapshots.specs.Lister.{next_call, Goes, IsLister, Shown};
-
     ghost call_of = { next_call };
 
     ghost goes = { Goes };
@@ -50,6 +51,10 @@ impl pm_machine::Phase for Phase {
         }
     }
 
+    fn over() -> Phase {
+        Phase::Over
+    }
+
     fn next(self, alloc: Global, answer: Answer) -> Result<Phase, Refusal> {
         match (self, answer) {
             (Phase::Schema { reader }, answer) => after_schema(alloc, reader, answer),
@@ -58,18 +63,30 @@ impl pm_machine::Phase for Phase {
             _ => unreachable!(),
         }
     }
+}
 
-    fn over() -> Phase {
-        Phase::Over
-    }
+impl ReaderPhase for Phase {
+    ghost History = { ledgers.Past };
+
+    ghost Folder = { ledgers.Stands };
+
+    ghost knows = { Knows };
+
+    ghost Asked = { Unit {0} };
+
+    ghost did = { λ asked. Did };
+
+    ghost shows = { λ asked. Shows };
+
+    ghost calls_left = { calls_left };
+
+    ghost ready = { IsDone };
+
+    ghost keeps = { KeepsSchema };
 }
 
 /// The phase after an answer to a call of the schema's reader.
-fn after_schema(
-    alloc: Global,
-    reader: Running<SchemaPhase>,
-    answer: Answer,
-) -> Result<Phase, Refusal>
+fn after_schema(alloc: Global, reader: SchemaReader, answer: Answer) -> Result<Phase, Refusal>
     requires may { IsSomeAnd (readers.next_call reader) (λ call. MayAnswer call answer) }
     ensures goes { IfOk result (Goes (phases.Schema reader) answer) }
     ensures is_lister { IfOk result IsLister }
@@ -86,7 +103,7 @@ fn after_schema(
 }
 
 /// The phase with this reader of the schema: the snapshots are to be listed once it is ready.
-fn after_reader(reader: Running<SchemaPhase>) -> Phase
+fn after_reader(reader: SchemaReader) -> Phase
     ensures { result ≡ after_reader reader }
 {
     match reader.into_phase() {
@@ -160,46 +177,5 @@ fn damaged(alloc: Global, id: u64, fault: SnapFault) -> Refusal
             Ok(path) => Refusal::Damaged { path, place: 0 },
             Err(_) => Refusal::Memory,
         },
-    }
-}
-
-impl PhaseMeaning for Phase {
-    ghost use Rattle.pm_snapshots.specs.Lister.{calls_left, reached_at, KeepsSchema, Reaches};
-    ghost use Rattle.pm_snapshots.specs.Meaning.{Knows, Leaves};
-    ghost use Rattle.pm_snapshots.specs.Trace.{Did, Shows};
-    ghost use Rattle.pm_model_folder.specs.Ledger as ledgers;
-
-    type Step = ListStep;
-
-    ghost History = { ledgers.Past };
-
-    ghost Folder = { ledgers.Stands };
-
-    ghost Change = { Leaves };
-
-    ghost knows = { Knows };
-
-    ghost Asked = { Unit {0} };
-
-    ghost did = { λ asked. Did };
-
-    ghost shows = { λ asked. Shows };
-
-    ghost calls_left = { calls_left };
-
-    ghost reached_at = { reached_at };
-
-    ghost reaches = { Reaches };
-
-    ghost keeps = { KeepsSchema };
-
-    fn reached(&self) -> ListStep {
-        match self {
-            Phase::Read { reading } => match reading.next() {
-                Some(_) => ListStep::More,
-                None => ListStep::Done,
-            },
-            _ => ListStep::More,
-        }
     }
 }

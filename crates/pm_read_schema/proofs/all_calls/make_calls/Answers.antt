@@ -6,14 +6,14 @@ pub loop-alloc-preserved : goal.loop-alloc-preserved
 loop-alloc-preserved g c =
     let seen = g.F.FileStore.seen in
     record {
-      trace = went_further c.loop-alloc.reader c.step.new.self (seen c.args.store.now) (seen c.loop-alloc.store) (seen c.step.new.store)
-          c.in-Ok.field-0 c.loop-alloc.invariant.trace c.in-Ok.ensures.acts c.step.ensures.later;
-      left = call_left c.in-Ok.field-0 c.step.new.self c.in-Ok.ensures.reaches;
+      trace = went_further c.loop-alloc.reader c.take_step.new.reader (seen c.args.store.now) (seen c.loop-alloc.store) (seen c.take_step.new.store)
+          c.loop-alloc.invariant.trace (c.in-Ok.ensures.acts tt) c.take_step.ensures.later;
+      left = call_left c.take_step.new.reader c.in-Ok.ensures.reaches;
       later = search rules;
     }
 
 pub returns-in-Err-clause-trace : goal.returns-in-Err-clause-trace
 returns-in-Err-clause-trace g c =
     let seen = g.F.FileStore.seen in
-    was_refused c.loop-alloc.reader c.step.new.self (seen c.args.store.now) (seen c.loop-alloc.store) (seen c.step.new.store)
-    c.in-Err.refusal c.loop-alloc.invariant.trace c.in-Err.ensures.acts c.step.ensures.later
+    was_refused c.loop-alloc.reader c.take_step.new.reader (seen c.args.store.now) (seen c.loop-alloc.store) (seen c.take_step.new.store)
+    c.in-Err.refusal c.loop-alloc.invariant.trace (c.in-Err.ensures.acts tt) c.take_step.ensures.later

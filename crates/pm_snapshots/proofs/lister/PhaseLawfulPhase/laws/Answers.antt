@@ -1,0 +1,17 @@
+use Rattle.pm_snapshots.proofs.Facts.{sound, recounts, goes_ahead, keeps, has_call}
+use Rattle.pm_snapshots.proofs.lister.PhaseLawfulPhase.laws.Goals as goal
+
+pub returns-clause-sound : goal.returns-clause-sound
+returns-clause-sound c = sound
+
+pub returns-clause-recounts : goal.returns-clause-recounts
+returns-clause-recounts c = λ asked. recounts
+
+pub returns-clause-goes : goal.returns-clause-goes
+returns-clause-goes c = λ m answer new is. goes_ahead m answer new
+
+pub returns-clause-keeps : goal.returns-clause-keeps
+returns-clause-keeps c = keeps
+
+pub returns-clause-has_call : goal.returns-clause-has_call
+returns-clause-has_call c = has_call
