@@ -8,7 +8,7 @@ ghost use Rattle.pm_store.specs.Answers.{MayAnswer};
 ghost use Rattle.pm_read_table.specs.View.{HaveGroups};
 ghost use Rattle.pm_read_log.specs.LogReader as logs;
 ghost use Rattle.pm_values.specs.declared.refusal.Refusal.TheVariants as refusals;
-ghost use Rattle.pm_read_whole.specs.Whole.{AfterLog, BeginsLog, Goes, IsLogOf, IsOpened, IsWholeView, IsWhole, Shown};
+ghost use Rattle.pm_read_whole.specs.Whole.{AfterLog, Goes, IsLogOf, IsOpened, IsWholeView, IsWhole, Shown};
 ghost use Rattle.pm_read_whole.specs.declared.phase.Phase.TheVariants as phases;
 
 use crate::copy::copied;
@@ -36,24 +36,12 @@ impl OpensView for Phase {
     }
 
     fn open(alloc: Global, view: View) -> Result<Phase, Refusal> {
-        open_log(alloc, view)
-    }
-}
-
-/// The phase with the changelog of this view's snapshot to be read.
-fn open_log(alloc: Global, view: View) -> Result<Phase, Refusal>
-    requires whole { IsWholeView view }
-    requires groups { HaveGroups view.schema view.live.items }
-    requires declared { IsDeclared view.schema }
-    ensures goes { IfOk result (BeginsLog view) }
-    ensures is_whole { IfOk result IsWhole }
-    ensures memory { IfErr result (λ e. e ≡ refusals.Memory) }
-{
-    match log_of(alloc, &view) {
-        Ok(reader) => Ok(after_log(view, reader)),
-        Err(_) => {
-            drop(view);
-            Err(Refusal::Memory)
+        match log_of(alloc, &view) {
+            Ok(reader) => Ok(after_log(view, reader)),
+            Err(_) => {
+                drop(view);
+                Err(Refusal::Memory)
+            }
         }
     }
 }

@@ -12,9 +12,8 @@ ghost use Rattle.pm_values.specs.GroupOrder.{group_cmp};
 ghost use Rattle.pm_values.specs.declared.group.Group.{Group as GroupView};
 ghost use Rattle.pm_engines.specs.TableEngine.{HasEngine};
 ghost use Rattle.pm_store.specs.declared.answer.Answer.TheVariants as answers;
-ghost use Rattle.pm_read_table.specs.View.{HasFolders};
 ghost use Rattle.pm_values.specs.declared.refusal.Refusal.TheVariants as refusals;
-ghost use Rattle.pm_scan.specs.Scanner.{Goes, GoesOn, IsScanner, Shown, Starts};
+ghost use Rattle.pm_scan.specs.Scanner.{Goes, GoesOn, IsScanner, Shown};
 ghost use Rattle.pm_scan.specs.declared.phase.Phase.TheVariants as phases;
 
 use crate::collected::Collected;
@@ -45,37 +44,26 @@ impl OpensView for Phase {
     }
 
     fn open(alloc: Global, view: View) -> Result<Phase, Refusal> {
-        start(alloc, view)
-    }
-}
-
-/// The phase with the files of this view to be read.
-fn start(alloc: Global, view: View) -> Result<Phase, Refusal>
-    requires engine { HasEngine view.schema }
-    requires folders { HasFolders view }
-    ensures goes { IfOk result (Starts view) }
-    ensures is_scanner { IfOk result IsScanner }
-    ensures memory { IfErr result (λ e. e ≡ refusals.Memory) }
-{
-    let View {
-        id,
-        snapshot,
-        schema,
-        listed,
-        groups,
-        manifests,
-        live,
-        ..
-    } = view;
-    drop(snapshot);
-    drop(listed);
-    drop(manifests);
-    drop(live);
-    let begun = begin(alloc, &schema, groups);
-    drop(schema);
-    match begun {
-        Ok((collected, jobs)) => go_on(alloc, id, collected, jobs),
-        Err(refusal) => Err(refusal),
+        let View {
+            id,
+            snapshot,
+            schema,
+            listed,
+            groups,
+            manifests,
+            live,
+            ..
+        } = view;
+        drop(snapshot);
+        drop(listed);
+        drop(manifests);
+        drop(live);
+        let begun = begin(alloc, &schema, groups);
+        drop(schema);
+        match begun {
+            Ok((collected, jobs)) => go_on(alloc, id, collected, jobs),
+            Err(refusal) => Err(refusal),
+        }
     }
 }
 
