@@ -2,7 +2,7 @@
 
 ghost use Rattle.std.specs.Prelude.{◌≡◌, ◌⊎◌, ◌++◌, ◌∷◌, [], ◌≤◌, length, Some, IfOk, IfErr, OnOk, IsTrue, ◌↔◌};
 ghost use Rattle.std.specs.List.{AllByRecursion};
-ghost use Rattle.pm_model_contents.specs.Lists.{manifest_path, IsChangelogEntry};
+ghost use Rattle.pm_model_contents.specs.Lists.{IsChangelogEntry};
 ghost use Rattle.pm_store.specs.declared.answer.Answer.TheVariants as answers;
 ghost use Rattle.pm_read_table.specs.View.{HaveGroups};
 ghost use Rattle.pm_read_log.specs.LogReader.{Goes, GoesOn, IsLogReader, Opens, Shown, TakesOwn};
@@ -207,16 +207,21 @@ pub(crate) fn after_manifest(
     ensures is_reader { IfOk result IsLogReader }
     ensures refuses { IfErr result (Shown (phases.Manifests reading) (answers.Found found)) }
 {
-    let path = match manifest_path(alloc, &reading.next.name) {
-        Ok(path) => path,
-        Err(_) => {
-            drop(reading);
-            return Err(Refusal::Memory);
-        }
+    read_entry_law();
+    folder_law();
+    let Ok(path) = manifest_path(alloc, &reading.next.name) else {
+        drop(reading);
+        return Err(Refusal::Memory);
     };
-    match found {
-        Some(bytes) => after_file(alloc, reading, path, bytes),
-        None => Ok(again(reading, path)),
+    let Some(bytes) = found else {
+        return Ok(again(reading, path));
+    };
+    match read_manifest(alloc, path.as_str(), reading.asked.schema(), bytes) {
+        Ok(entries) => after_entries(reading, path, entries),
+        Err(refusal) => {
+            drop(reading);
+            Err(refusal)
+        }
     }
 }
 
@@ -238,29 +243,6 @@ fn again(reading: LogReading, path: Txt) -> LogPhase
     drop(rest);
     drop(changes);
     LogPhase::Again { asked, path }
-}
-
-/// The phase once these bytes were found at the path of the next manifest.
-fn after_file(
-    alloc: Global,
-    reading: LogReading,
-    path: Txt,
-    bytes: Blob,
-) -> Result<LogPhase, Refusal>
-    requires { path ≡ manifest_path reading.next.name }
-    ensures goes { IfOk result (Goes (phases.Manifests reading) (answers.Found (Some bytes))) }
-    ensures is_reader { IfOk result IsLogReader }
-    ensures refuses { IfErr result (Shown (phases.Manifests reading) (answers.Found (Some bytes))) }
-{
-    read_entry_law();
-    folder_law();
-    match read_manifest(alloc, path.as_str(), reading.asked.schema(), bytes) {
-        Ok(entries) => after_entries(reading, path, entries),
-        Err(refusal) => {
-            drop(reading);
-            Err(refusal)
-        }
-    }
 }
 
 /// The phase once these entries of the next manifest, which is at this path, were read.
