@@ -1,0 +1,4 @@
+pub mod Making
+pub mod Meaning
+pub mod Putter
+pub mod Trace
