@@ -61,7 +61,7 @@ use Rattle.pm_append.specs.Commit.{AreBase, AreBaseIf, Attempt, Grows, HasAppend
 use Rattle.pm_append.specs.Files.{AreLists, AreManifests, HasBase, IsAppendOf, IsNewList, IsNewManifest, after_names, data_file, empty, kept, merged}
 use Rattle.pm_append.specs.Refusals.{above_files, above_id, above_numbers, fence_of, is_fenced, no_files, no_id, passed, refusal_of}
 use Rattle.pm_append.specs.Snapshot.{added_entry, appends_of, full_of, new_snapshot}
-use Rattle.pm_append.specs.declared.newest.CommitFile.{CommitFile}
+use Rattle.pm_put.specs.declared.putting.CommitFile.{CommitFile}
 use Rattle.pm_append.specs.declared.newest.Newest.{Newest}
 use Rattle.pm_append.proofs.CountLemmas.{bears}
 use Rattle.pm_append.proofs.FileLemmas.{OwnFile, apart-files, are-adds, entry-file, file-entry, files-many, named-file, next-above, none-rows, own-file, some-count}

@@ -13,7 +13,7 @@ use Rattle.pm_manifest.specs.declared.entry.Entry.{Entry}
 use Rattle.pm_manifest.specs.declared.entry.ManifestMeta.{ManifestMeta}
 use Rattle.pm_model_contents.specs.Lists.{manifest_path}
 use Rattle.pm_append.specs.Files.{AreLists, AreManifests, HasBase, IsNewList, IsNewManifest, empty, kept, merged, merges}
-use Rattle.pm_append.specs.declared.newest.CommitFile.{CommitFile}
+use Rattle.pm_put.specs.declared.putting.CommitFile.{CommitFile}
 use Rattle.pm_append.specs.declared.newest.Newest.{Newest}
 use Rattle.pm_append.specs.declared.snapshot.ListNames.{ListNames}
 

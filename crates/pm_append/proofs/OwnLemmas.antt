@@ -13,7 +13,7 @@ use Rattle.pm_write.specs.declared.files.NewFile.{NewFile}
 use Rattle.pm_append.specs.Commit.{Attempt, IsBuilt, MakesNames}
 use Rattle.pm_append.specs.Files.{AreLists, HasBase, IsAppendOf, after_names, data_file, empty, kept, merged}
 use Rattle.pm_append.specs.Snapshot.{added_entry}
-use Rattle.pm_append.specs.declared.newest.CommitFile.{CommitFile}
+use Rattle.pm_put.specs.declared.putting.CommitFile.{CommitFile}
 use Rattle.pm_append.specs.declared.newest.Newest.{Newest}
 use Rattle.pm_append.proofs.FileLemmas.{files-many, named-file}
 use Rattle.pm_append.proofs.ListLemmas.{in-head, in-tail}

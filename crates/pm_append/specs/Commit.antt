@@ -36,7 +36,7 @@ use Rattle.pm_append.specs.Refusals.{refusal_of}
 use Rattle.pm_append.specs.Snapshot.{added_entry, new_snapshot}
 use Rattle.pm_append.specs.declared.newest.Append.{Append}
 use Rattle.pm_append.specs.declared.newest.Author.{Author}
-use Rattle.pm_append.specs.declared.newest.CommitFile.{CommitFile}
+use Rattle.pm_put.specs.declared.putting.CommitFile.{CommitFile}
 use Rattle.pm_append.specs.declared.newest.Newest.{Newest}
 use Rattle.pm_append.specs.declared.snapshot.ListNames.{ListNames}
 

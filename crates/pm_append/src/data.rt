@@ -7,9 +7,9 @@ ghost use Rattle.pm_write.specs.declared.files.NewFile.{NewFile as FileView};
 ghost use Rattle.pm_append.specs.Files.{data_file};
 ghost use Rattle.pm_append.specs.Snapshot.{added_entry};
 
-use crate::newest::CommitFile;
 use pm_manifest::Entry;
 use pm_model_contents::data_path;
+use pm_put::CommitFile;
 use pm_schema::TableSchema;
 use pm_write::NewFile;
 use std::alloc::{AllocError, Global};

@@ -11,7 +11,7 @@ ghost use Rattle.pm_model_folder.specs.Changes.{Actor, IsOwn, NamesOwn};
 ghost use Rattle.pm_model_folder.specs.Commits.{IsCommit};
 ghost use Rattle.pm_model_folder.specs.Paths.{snapshot_path};
 ghost use Rattle.pm_append.specs.Files.{IsAppendOf};
-ghost use Rattle.pm_append.specs.declared.newest.CommitFile.{CommitFile as FileView};
+ghost use Rattle.pm_put.specs.declared.putting.CommitFile.{CommitFile as FileView};
 ghost use Rattle.pm_append.specs.Commit.{Attempt, Grows, HasAppended, IsAsMade, IsBuilt, IsReady};
 ghost use Rattle.pm_append.specs.Commit.{MakesNames};
 

@@ -19,4 +19,4 @@ mod snapshot;
 
 pub use laws::{append_law, own_files_law};
 pub use making::append;
-pub use newest::{Append, Author, CommitFile, Newest};
+pub use newest::{Append, Author, Newest};

@@ -5,14 +5,15 @@ ghost use Rattle.pm_values.specs.Names.{counted};
 ghost use Rattle.pm_values.specs.declared.refusal.Refusal.TheVariants.{Memory};
 ghost use Rattle.pm_manifest.specs.declared.entry.Entry.{Entry as EntryView};
 ghost use Rattle.pm_append.specs.Files.{merges, AreLists, AreManifests, HasBase, IsNewList, IsNewManifest};
-ghost use Rattle.pm_append.specs.declared.newest.CommitFile.{CommitFile as FileView};
+ghost use Rattle.pm_put.specs.declared.putting.CommitFile.{CommitFile as FileView};
 
-use crate::newest::{CommitFile, Newest};
+use crate::newest::Newest;
 use crate::snapshot::ListNames;
 use pm_base::{Blob, Txt};
 use pm_manifest::{Entry, ManifestMeta};
 use pm_manifest_writer::{write_list, write_manifest};
 use pm_paths::manifest_path;
+use pm_put::CommitFile;
 use pm_schema::TableSchema;
 use pm_values::{Names, Refusal};
 use std::alloc::Global;

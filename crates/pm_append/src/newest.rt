@@ -2,6 +2,7 @@
 
 use pm_base::{Blob, Txt};
 use pm_manifest::{Entry, ManifestMeta};
+use pm_put::CommitFile;
 use pm_snapshot::Snapshot;
 
 /// The table as a commit finds it.
@@ -48,13 +49,6 @@ impl Drop for Author {
             time,
         } = self;
     }
-}
-
-/// A file that isn't in the store yet.
-#[derive(Drop)]
-pub struct CommitFile {
-    pub path: Txt,
-    pub bytes: Blob,
 }
 
 /// What a commit puts into the folder.

@@ -2,38 +2,31 @@
 use Rattle.std.proofs.Common.{◌≡◌, ℕ, ◌+◌, length, Bool, true, false, List, [], ◌∷◌, Option, None, Some, IfSome, Ok, option_map, refl, sym, ap, subst}
 use Rattle.pm_store.specs.declared.answer.Answer.{Answer}
 use Rattle.pm_store.specs.declared.answer.Answer.TheVariants as answers
-use Rattle.pm_store.specs.declared.answer.Made.TheVariants as creates
-use Rattle.pm_store.specs.declared.answer.Published.TheVariants as published
 use Rattle.pm_model_folder.specs.Changes.{Actor}
 use Rattle.pm_read_table.specs.declared.phase.Phase as view_phase
 use Rattle.pm_read_table.specs.declared.phase.Phase.TheVariants as readers
 use Rattle.pm_read_table.specs.declared.view.View.{View}
-use Rattle.pm_append.specs.declared.newest.CommitFile.{CommitFile}
-use Rattle.pm_commit.specs.Committer.{AfterReader, Goes, Hears, Makes, Seeks, Tries, TriesIf, create_next, found_in, publishing_of}
+use Rattle.pm_commit.specs.Committer.{AfterPutter, AfterReader, Goes, Hears, Makes, Seeks, Tries, TriesIf, found_in}
 use Rattle.pm_commit.specs.Meaning.{own_in}
-use Rattle.pm_commit.specs.Own.{OwnView, actor_of, begun, with_named}
+use Rattle.pm_commit.specs.Own.{OwnView, actor_of, begun}
 use Rattle.pm_commit.specs.Search.{older_ids, seen_in, seen_of}
 use Rattle.pm_commit.specs.declared.found.Found.{Found}
-use Rattle.pm_commit.specs.declared.making.Publishing.{Publishing}
+use Rattle.pm_put.specs.declared.phase.Phase as put_phase
+use Rattle.pm_put.specs.declared.phase.Phase.TheVariants as puts
+use Rattle.pm_schema.specs.declared.schema.TableSchema.{TableSchema}
 use Rattle.pm_commit.specs.declared.phase.Phase.{Phase}
 use Rattle.pm_commit.specs.declared.phase.Phase.TheVariants as phases
 use Rattle.pm_commit.specs.declared.search.Seen.{Seen}
 use Rattle.pm_commit.specs.declared.search.Seen.TheVariants as seen
 use Rattle.pm_commit.proofs.AloneCauseLemmas.{begun-actor}
-use Rattle.pm_commit.proofs.CommitterLemmas.{ok-err, ok-same}
+use Rattle.pm_commit.proofs.CommitterLemmas.{ok-same}
 
 -- the actor runs it, or nobody does
 abbrev IsRunBy : Actor → Phase → Type 0
 IsRunBy me m = IfSome (own_in m) (λ own. actor_of own ≡ me)
 
-create-run : (own : OwnView) (x : Publishing) (files : List CommitFile) → IsRunBy (actor_of own) (create_next own x files)
-create-run own x [] = refl
-create-run own x (file ∷ files) = refl
-
 makes-run : (own : OwnView) (found : Found) (later : Phase) → Makes own found (Ok later) → IsRunBy (actor_of own) later
-makes-run own found later (made, is_made, allowed, is) =
-    subst (IsRunBy (actor_of own)) (sym is)
-    (create-run (with_named (own.names.count + length made.files.items) own) (publishing_of found.schema made) made.files.items)
+makes-run own found later (made, is_made, allowed, is) = subst (IsRunBy (actor_of own)) (sym is) refl
 
 seeks-run : (own : OwnView) (found : Found) (left : List ℕ) (later : Phase) → Seeks own found left (Ok later) → IsRunBy (actor_of own) later
 seeks-run own found [] later on = makes-run own found later on
@@ -56,6 +49,11 @@ reader-run own (readers.Ready v) later on =
     subst (λ (me : Actor). IsRunBy me later) (begun-actor own v.id) (tries-run (begun v.id own) v later on)
 reader-run own m later is = subst (IsRunBy (actor_of own)) (sym (ok-same later _ is)) refl
 
+putter-run : (own : OwnView) (s : TableSchema) (id : ℕ) (m : put_phase.Phase) (later : Phase) → AfterPutter own s id m (Ok later) → IsRunBy (actor_of own) later
+putter-run own s id puts.Published later is = subst (IsRunBy (actor_of own)) (sym (ok-same later _ is)) tt
+putter-run own s id puts.Lost later (few, is) = subst (IsRunBy (actor_of own)) (sym is) refl
+putter-run own s id m later is = subst (IsRunBy (actor_of own)) (sym (ok-same later _ is)) refl
+
 -- what an answer leads to is run by whoever ran it before
 abbrev StillRun : Phase → Phase → Type 0
 StillRun m later = IfSome (option_map actor_of (own_in later)) (λ me. option_map actor_of (own_in m) ≡ Some me)
@@ -74,13 +72,5 @@ still-run (phases.View own m) answer later (new, goes, after) = by-actor (actor_
 still-run (phases.Search own q) (answers.Found None) later on = by-actor (actor_of own) later (makes-run own q.found later on)
 still-run (phases.Search own q) (answers.Found (Some bytes)) later (x, reads, on) =
     by-actor (actor_of own) later (hears-run own q.found q.left (seen_of own.author x) later on)
-still-run (phases.Create own making) (answers.Made creates.Created) later is =
-    by-actor (actor_of own) later (subst (IsRunBy (actor_of own)) (sym (ok-same later _ is)) (create-run own making.publishing making.rest))
-still-run (phases.Create own making) (answers.Made creates.Exists) later is = absurd (ok-err later _ is)
-still-run (phases.Publish own x) (answers.Published published.Created) later is =
-    by-actor (actor_of own) later (subst (IsRunBy (actor_of own)) (sym (ok-same later _ is)) tt)
-still-run (phases.Publish own x) (answers.Published published.Exists) later (few, is) =
-    by-actor (actor_of own) later (subst (IsRunBy (actor_of own)) (sym is) refl)
-still-run (phases.Publish own x) (answers.Published published.AfterGone) later (few, is) =
-    by-actor (actor_of own) later (subst (IsRunBy (actor_of own)) (sym is) refl)
+still-run (phases.Put own s id m) answer later (to, goes, on) = by-actor (actor_of own) later (putter-run own s id to later on)
 still-run m answer later goes = absurd goes

@@ -1,5 +1,6 @@
 -- What follows the answers to a committer's calls.
-use Rattle.std.proofs.Common.{◌≡◌, inr, ℕ, ◌+◌, List, length, None, Ok, Err, IfOk, ap, ◌∙◌, subst}
+use Rattle.std.proofs.Common.{◌≡◌, inl, inr, ◌+◌, length, None, Ok, Err, IfOk, IfErr, ap, ◌∙◌, subst}
+use Rattle.pm_values.specs.declared.refusal.Refusal.TheVariants as refusals
 use Rattle.pm_store.specs.declared.answer.Answer.{Answer}
 use Rattle.pm_schema.specs.declared.schema.TableSchema.{TableSchema}
 use Rattle.pm_read_table.specs.Reader as reader
@@ -7,29 +8,24 @@ use Rattle.pm_read_table.specs.declared.phase.Phase as view_phase
 use Rattle.pm_append.specs.Files.{IsAppendOf}
 use Rattle.pm_append.specs.Refusals.{refusal_of}
 use Rattle.pm_append.specs.declared.newest.Append.{Append}
-use Rattle.pm_append.specs.declared.newest.CommitFile.{CommitFile}
-use Rattle.pm_commit.specs.Committer.{After, AfterReader, AfterView, Goes, IsCommitter, IsViewing, Makes, Outcome, Reads, create_next, publishing_of}
+use Rattle.pm_commit.specs.Committer.{After, AfterReader, AfterView, Goes, IsCommitter, IsViewing, Makes, Outcome, Reads, publishing_of}
 use Rattle.pm_commit.specs.Own.{IsOwn, OwnView, with_named}
 use Rattle.pm_commit.specs.declared.found.Found.{Found}
-use Rattle.pm_commit.specs.declared.making.Publishing.{Publishing}
+use Rattle.pm_put.specs.Putter.{create_next as put_next}
+use Rattle.pm_put.specs.declared.putting.Publishing.{Publishing}
 use Rattle.pm_commit.specs.declared.phase.Phase.{Phase}
+use Rattle.pm_commit.specs.declared.phase.Phase.TheVariants as phases
 use Rattle.pm_commit.proofs.ReadsLemmas.{EntriesRead, reads-on}
 
--- the files of what was made are to be created
-pub makes-on : (own next : OwnView) (found : Found) (made : Append) (id : ℕ) (text : List ℕ) (files : List CommitFile) (later : Phase)
-    → IsAppendOf found.schema found.newest own.author own.batch own.names made → refusal_of found.newest own.author own.batch ≡ None
-    → next ≡ with_named (own.names.count + length made.files.items) own → id ≡ made.id → text ≡ made.text → files ≡ made.files.items
-    → later ≡ create_next next (record { schema = found.schema; id = id; text = text }) files → Makes own found (Ok later)
-makes-on own next found made id text files later is_made allowed named is_id is_text are is =
-    let x : Publishing = record { schema = found.schema; id = id; text = text } in
-    let same : x ≡ publishing_of found.schema made = λ i. record { schema = found.schema; id = is_id i; text = is_text i } in
-    let count : ℕ = own.names.count + length made.files.items in (
-      made,
-      is_made,
-      allowed,
-      is ∙ ap (λ (o : OwnView). create_next o x files) named ∙ ap (λ (x : Publishing). create_next (with_named count own) x files) same
-          ∙ ap (create_next (with_named count own) (publishing_of found.schema made)) are,
-    )
+-- what was made is to be put
+pub makes-put : (own next : OwnView) (found : Found) (made : Append) (outcome : Outcome) → IsAppendOf found.schema found.newest own.author own.batch own.names made
+    → refusal_of found.newest own.author own.batch ≡ None → next ≡ with_named (own.names.count + length made.files.items) own
+    → IfOk outcome (λ later. later ≡ phases.Put next found.schema made.id (put_next (publishing_of found.schema made.id made.text) made.files.items))
+    → IfErr outcome (λ refusal. refusal ≡ refusals.Memory) → Makes own found outcome
+makes-put own next found made (Ok later) is_made allowed named is memory =
+    let x : Publishing = publishing_of found.schema made.id made.text in
+    (made, is_made, allowed, is ∙ ap (λ (o : OwnView). phases.Put o found.schema made.id (put_next x made.files.items)) named)
+makes-put own next found made (Err refusal) is_made allowed named is memory = inl memory
 
 -- the reader of the view went on
 pub still-reads : EntriesRead → (own : OwnView) (m : view_phase.Phase) (answer : Answer) (new : view_phase.Phase) → IsViewing own m → reader.Goes m answer new

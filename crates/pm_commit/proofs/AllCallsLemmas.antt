@@ -35,7 +35,6 @@ use Rattle.pm_commit.specs.Trace.{CommitterActed, Did}
 use Rattle.pm_commit.specs.declared.all_calls.Appended.{Appended}
 use Rattle.pm_commit.specs.declared.all_calls.Appended.TheVariants as appends
 use Rattle.pm_commit.specs.declared.committer.CommitStep.{CommitStep}
-use Rattle.pm_commit.specs.declared.making.Publishing.{Publishing}
 use Rattle.pm_commit.specs.declared.phase.Phase.{Phase}
 use Rattle.pm_commit.specs.declared.phase.Phase.TheVariants as phases
 use Rattle.pm_commit.proofs.AloneCauseLemmas.{begun-actor}
@@ -105,8 +104,8 @@ begun-own b o is = record {
   actor = ap actor_of is ∙ begun-actor b.own (newest_id b);
 }
 
-try-own : (b : Beginning) (o : OwnView) (x : Publishing) → IsTryAt b o x → IsOwnOf b o
-try-own b o x ((count, is), at, reason) = record {
+try-own : (b : Beginning) (o : OwnView) (id : ℕ) → IsTryAt b o id → IsOwnOf b o
+try-own b o id ((count, is), at, reason) = record {
   entry = ap (λ (o : OwnView). entry_of o.author b.rows) is ∙ begun-entry b (newest_id b);
   actor = ap actor_of is ∙ begun-actor b.own (newest_id b);
 }
@@ -116,9 +115,7 @@ own-in : (b : Beginning) (m : Phase) (own : OwnView) (f : Files) (now : History)
 own-in b (phases.Names o s) own f now is (same, (unchanged, is_own)) = (same, own-as b o own (let e : o ≡ own = cc in e) (first-own b o is_own))
 own-in b (phases.View o m) own f now is (same, (unchanged, is_own, reads)) = (same, own-as b o own (let e : o ≡ own = cc in e) (first-own b o is_own))
 own-in b (phases.Search o q) own f now is (same, (unchanged, is_own, sees, asked)) = (same, own-as b o own (let e : o ≡ own = cc in e) (begun-own b o is_own))
-own-in b (phases.Create o making) own f now is (same, (try, untouched)) =
-    (same, own-as b o own (let e : o ≡ own = cc in e) (try-own b o making.publishing try))
-own-in b (phases.Publish o x) own f now is (same, try) = (same, own-as b o own (let e : o ≡ own = cc in e) (try-own b o x try))
+own-in b (phases.Put o s id m) own f now is (same, (try, untouched)) = (same, own-as b o own (let e : o ≡ own = cc in e) (try-own b o id try))
 own-in b (phases.Committed author id) own f now is at = absurd (let clash = is in cc)
 own-in b (phases.Already author) own f now is at = absurd (let clash = is in cc)
 own-in b phases.Over own f now is at = absurd (let clash = is in cc)
@@ -129,8 +126,7 @@ either-at b (phases.Committed author id) f now at = inr at.0
 either-at b (phases.Names own s) f now at = inl at.0
 either-at b (phases.View own m) f now at = inl at.0
 either-at b (phases.Search own q) f now at = inl at.0
-either-at b (phases.Create own making) f now at = inl at.0
-either-at b (phases.Publish own x) f now at = inl at.0
+either-at b (phases.Put own s id m) f now at = inl at.0
 either-at b (phases.Already author) f now at = inl at.0
 either-at b phases.Over f now at = inl at.0
 

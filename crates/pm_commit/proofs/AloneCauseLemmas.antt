@@ -9,7 +9,6 @@ use Rattle.pm_store.specs.declared.answer.Answer.{Answer}
 use Rattle.pm_store.specs.declared.answer.Answer.TheVariants as answers
 use Rattle.pm_store.specs.declared.answer.Made.TheVariants as created
 use Rattle.pm_store.specs.declared.call.Call.{Call}
-use Rattle.pm_store.specs.declared.call.Call.TheVariants as calls
 use Rattle.pm_model_history.specs.History.{History, IsTableOf}
 use Rattle.pm_model_history.specs.Merge.{HistoryRow}
 use Rattle.pm_schema.specs.declared.schema.TableSchema.{TableSchema}
@@ -24,7 +23,9 @@ use Rattle.pm_read_table.specs.declared.view.View.{View}
 use Rattle.pm_append.specs.Refusals.{refusal_of}
 use Rattle.pm_commit.specs.Alone.{AloneIn, AloneRefused, Beginning, GivesReason, IsUnchanged, KnewAlone, ReadsNewest, SeesNewest, begun_at, newest_id}
 use Rattle.pm_commit.specs.Committer.{After, AfterReader, Makes, Reads, found_in, next_call}
-use Rattle.pm_commit.specs.Making.{MakingView}
+use Rattle.pm_put.specs.Making.{MakingView}
+use Rattle.pm_put.specs.Putter.{create_call}
+use Rattle.pm_put.specs.declared.phase.Phase.TheVariants as puts
 use Rattle.pm_commit.specs.Marks.{FindsUsed}
 use Rattle.pm_commit.specs.Meaning.{HasOrigin, IsFoundIn, KnowsOwn, KnowsTry, entry_of}
 use Rattle.pm_commit.specs.Own.{IsTried, OwnView, actor_of, begun, begun_after}
@@ -33,9 +34,9 @@ use Rattle.pm_commit.specs.declared.found.Found.{Found}
 use Rattle.pm_commit.specs.declared.phase.Phase.{Phase}
 use Rattle.pm_commit.specs.declared.phase.Phase.TheVariants as phases
 use Rattle.pm_commit.proofs.CauseLemmas.{IsNone, ReaderCauses, good-snapshot, hears-any, met-at, shown-none, tries-any, view-found}
-use Rattle.pm_commit.proofs.CommitterLemmas.{err-ok, err-same, ready-schema}
+use Rattle.pm_commit.proofs.CommitterLemmas.{err-ok, ready-schema}
 use Rattle.pm_commit.proofs.CreateLemmas.{create-named}
-use Rattle.pm_commit.proofs.Facts.{Laws, NoPublish}
+use Rattle.pm_commit.proofs.Facts.{Laws, NoPublish, next-not}
 use Rattle.pm_commit.proofs.FoundLemmas.{found-same, found-there}
 use Rattle.pm_commit.proofs.NewestLemmas.{IsOfNewest, expired-never, newest-at, reads-newest, shown-newest}
 use Rattle.pm_commit.proofs.ReadsLemmas.{reads-on}
@@ -162,14 +163,15 @@ module _ (laws : Laws) (b : Beginning) (f : Files) (p : Past) (stands : Stands f
     ready-caused readers.Over goes newest on = absurd (err-ok refusal _ on)
 
 -- a create meets a file that was there at the beginning
-met-caused : (laws : Laws) (b : Beginning) (own : OwnView) (making : MakingView) (f : Files) (p : Past) → IsTried making.publishing.schema own
-    → KnowsOwn own b.rows making.publishing.schema p → KnowsTry own b.rows making.publishing (making.next ∷ making.rest) f p → p.history ≡ b.history → AloneIn b (phases.Create own making) f
+met-caused : (laws : Laws) (b : Beginning) (own : OwnView) (s : TableSchema) (id : ℕ) (making : MakingView) (f : Files) (p : Past) → IsTried s own
+    → KnowsOwn own b.rows s p → KnowsTry own b.rows s id (puts.Create making) f p → p.history ≡ b.history
+    → AloneIn b (phases.Put own s id (puts.Create making)) f
     → created.Exists ≡ made_at (map.get f making.next.path) → AloneRefused b (refusals.SessionUsed making.next.path) f p
-met-caused laws b own making f p tried known is_try same (((count, is), next, gives), (untouched, rest)) told =
+met-caused laws b own s id making f p tried known is_try same (((count, is), next, gives), (untouched, rest)) told =
     let met = met-at (map.get f making.next.path) told in
     let was : map.get b.files making.next.path ≡ Some met.0 = sym untouched ∙ met.1 in
     let actor : actor_of own ≡ actor_of b.own = ap actor_of is ∙ begun-actor b.own (newest_id b) in
-    let by = create-named laws.own_files own b.rows making.publishing making.next making.rest f p tried known is_try in
+    let by = create-named laws.own_files own b.rows s id making f p tried known is_try in
     (same, inr (subst (λ (me : Actor). IsNamedBy me making.next.path) actor by, subst (λ (o : Option (List ℕ)). IsSome o) (sym was) refl))
 
 -- ---- each phase
@@ -212,9 +214,12 @@ calm-caused laws causes b (phases.Search own q) (answers.Found (Some bytes)) ref
 calm-caused laws causes b (phases.Search own q) (answers.Found (Some bytes)) refusal f p calm stands (known, (same, (unchanged, is, sees, asked))) (inr (inr (x, reads, on))) = λ told.
     hears-any (AloneRefused b refusal f p) own q.found q.left (seen_of own.author x) refusal
     (make-caused laws b f p stands same own q.found refusal unchanged is sees) on
-calm-caused laws causes b (phases.Create own making) (answers.Made created.Created) refusal f p calm stands known on = absurd (err-ok refusal _ on)
-calm-caused laws causes b (phases.Create own making) (answers.Made created.Exists) refusal f p calm stands (((tried, few), (known, is_try)), (same, alone)) on = λ told.
-    subst (λ (r : Refusal). AloneRefused b r (carried (calls.Create making.next.path making.next.bytes) f) p) (sym (err-same refusal _ on))
-    (met-caused laws b own making f p tried known is_try same alone told)
-calm-caused laws causes b (phases.Publish own x) answer refusal f p calm stands known after = absurd calm
+calm-caused laws causes b (phases.Put own s id (puts.Publish x)) answer refusal f p calm stands known after = absurd calm
+calm-caused laws causes b (phases.Put own s id (puts.Create making)) (answers.Made created.Created) refusal f p calm stands known (inr (to, goes, on)) =
+    absurd (next-not own s id making.publishing making.rest to refusal goes on)
+calm-caused laws causes b (phases.Put own s id (puts.Create making)) (answers.Made created.Exists) refusal f p calm stands (((tried, some, few), (known, is_try)), (same, alone)) (inl is) = λ told.
+    subst (λ (r : Refusal). AloneRefused b r (carried (create_call making.next) f) p) (sym is)
+    (met-caused laws b own s id making f p tried known is_try same alone told)
+calm-caused laws causes b (phases.Put own s id m) answer refusal f p calm stands known (inl shown) = absurd shown
+calm-caused laws causes b (phases.Put own s id m) answer refusal f p calm stands known (inr (to, goes, on)) = absurd goes
 calm-caused laws causes b m answer refusal f p calm stands known after = absurd after

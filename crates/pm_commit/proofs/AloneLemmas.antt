@@ -12,7 +12,6 @@ use Rattle.pm_store.specs.declared.answer.Made.TheVariants as creates
 use Rattle.pm_store.specs.declared.answer.Published.{Published}
 use Rattle.pm_store.specs.declared.answer.Published.TheVariants as published
 use Rattle.pm_store.specs.declared.call.Call.{Call}
-use Rattle.pm_store.specs.declared.call.Call.TheVariants as calls
 use Rattle.pm_store.specs.declared.call.Effect.{Effect}
 use Rattle.pm_store.specs.declared.call.Effect.TheVariants as effects
 use Rattle.pm_store.specs.declared.call.Op.{Op}
@@ -31,15 +30,20 @@ use Rattle.pm_read_table.specs.declared.phase.Phase.TheVariants as readers
 use Rattle.pm_read_table.specs.declared.view.View.{View}
 use Rattle.pm_machine.proofs.PhaseFacts.{both_if}
 use Rattle.pm_append.specs.Refusals.{refusal_of}
-use Rattle.pm_append.specs.declared.newest.CommitFile.{CommitFile}
+use Rattle.pm_put.specs.declared.putting.CommitFile.{CommitFile}
+use Rattle.pm_schema.specs.declared.schema.TableSchema.{TableSchema}
 use Rattle.pm_commit.specs.Alone.{AloneAt, AloneRefused, AreUntouched, Beginning, IsTryAt, IsUnchanged, KnewAlone, KnowsAlone, ReadsNewest, SeesNewest, begun_at, newest_id, own_entry, with_entry}
-use Rattle.pm_commit.specs.Committer.{After, AfterReader, Goes, Hears, Makes, Outcome, Refuses, Seeks, Stops, Tries, TriesIf, create_next, first_of_try, found_in, next_call, publish_call, publishing_of}
+use Rattle.pm_commit.specs.Committer.{After, AfterReader, Goes, Hears, Makes, Outcome, Refuses, Seeks, Stops, Tries, TriesIf, first_of_try, found_in, next_call, publishing_of}
 use Rattle.pm_commit.specs.Meaning.{Appends, KnowsTry, MakesRows, entry_of}
 use Rattle.pm_commit.specs.Own.{OwnView, begun, begun_after, with_named}
 use Rattle.pm_commit.specs.Search.{older_ids, seen_in, seen_of}
-use Rattle.pm_commit.specs.Trace.{IsLost}
+use Rattle.pm_put.specs.Putter as put
+use Rattle.pm_put.specs.Putter.{create_call, publish_call}
+use Rattle.pm_put.specs.Trace.{IsLost}
+use Rattle.pm_put.specs.declared.phase.Phase as put_phase
+use Rattle.pm_put.specs.declared.phase.Phase.TheVariants as puts
+use Rattle.pm_put.specs.declared.putting.Publishing.{Publishing}
 use Rattle.pm_commit.specs.declared.found.Found.{Found}
-use Rattle.pm_commit.specs.declared.making.Publishing.{Publishing}
 use Rattle.pm_commit.specs.declared.phase.Phase.{Phase}
 use Rattle.pm_commit.specs.declared.phase.Phase.TheVariants as phases
 use Rattle.pm_commit.specs.declared.search.Seen.{Seen}
@@ -47,8 +51,8 @@ use Rattle.pm_commit.specs.declared.search.Seen.TheVariants as seen
 use Rattle.pm_commit.proofs.AloneCauseLemmas.{begun-entry, begun-same, calm-caused, some-each, view-rests, view-sees}
 use Rattle.pm_commit.proofs.ApartLemmas.{PathParts, rest-apart, untouched-puts}
 use Rattle.pm_commit.proofs.CauseLemmas.{ReaderCauses}
-use Rattle.pm_commit.proofs.CommitterLemmas.{ok-err, ok-same, still-committer}
-use Rattle.pm_commit.proofs.Facts.{Laws, NoPublish, changes-on, keeps-on, makes-on, published-leads}
+use Rattle.pm_commit.proofs.CommitterLemmas.{err-ok, ok-same, still-committer}
+use Rattle.pm_commit.proofs.Facts.{Laws, NoPublish, changes-on, keeps-on, makes-on, next-on, published-leads, putter-at}
 use Rattle.pm_commit.proofs.MadeLemmas.{allowed-id}
 use Rattle.pm_commit.proofs.NewestLemmas.{never-lost, reads-newest}
 use Rattle.pm_commit.proofs.TraceLemmas.{some-at}
@@ -59,9 +63,10 @@ module _ (b : Beginning) (f : Files) (now : History) (same : now ≡ b.history) 
   to-alone : (to new : Phase) → new ≡ to → AloneAt b to f now → AloneAt b new f now
   to-alone to new is at = subst (λ (m : Phase). AloneAt b m f now) (sym is) at
 
-  create-alone : (own : OwnView) (x : Publishing) (files : List CommitFile) → IsTryAt b own x → AreUntouched b files f → AloneAt b (create_next own x files) f now
-  create-alone own x [] is untouched = (same, is)
-  create-alone own x (file ∷ files) is untouched = (same, (is, untouched))
+  put-alone : (own : OwnView) (s : TableSchema) (id : ℕ) (x : Publishing) (files : List CommitFile) → IsTryAt b own id → AreUntouched b files f
+      → AloneAt b (phases.Put own s id (put.create_next x files)) f now
+  put-alone own s id x [] is untouched = (same, (is, tt))
+  put-alone own s id x (file ∷ files) is untouched = (same, (is, untouched))
 
   -- before the first file is created
   module _ (unchanged : IsUnchanged b f) where
@@ -73,7 +78,7 @@ module _ (b : Beginning) (f : Files) (now : History) (same : now ≡ b.history) 
     makes-alone own found new is sees (made, is_made, allowed, to) =
         let count : ℕ = own.names.count + length made.files.items in
         to-alone _ new to
-        (create-alone (with_named count own) (publishing_of found.schema made) made.files.items (
+        (put-alone (with_named count own) found.schema made.id (publishing_of found.schema made.id made.text) made.files.items (
           (count, ap (with_named count) is),
           is_made.id ∙ ap (λ (id : ℕ). id + 1) sees.id,
           (found, sees, subst (λ (o : OwnView). refusal_of found.newest o.author o.batch ≡ None) is allowed),
@@ -130,15 +135,14 @@ calm-same : (b : Beginning) (m : Phase) (f : Files) (now : History) → IsSome (
 calm-same b (phases.Names own s) f now some alone = alone.0
 calm-same b (phases.View own m) f now some alone = alone.0
 calm-same b (phases.Search own q) f now some alone = alone.0
-calm-same b (phases.Create own making) f now some alone = alone.0
-calm-same b (phases.Publish own x) f now some alone = alone.0
+calm-same b (phases.Put own s id m) f now some alone = alone.0
 calm-same b (phases.Committed author id) f now some alone = absurd (let clash = some in cc)
 calm-same b (phases.Already author) f now some alone = absurd (let clash = some in cc)
 calm-same b phases.Over f now some alone = absurd (let clash = some in cc)
 
 -- the entry of a commit whose try has named its files
-entry-same : (b : Beginning) (own : OwnView) (x : Publishing) → IsTryAt b own x → entry_of own.author b.rows ≡ own_entry b
-entry-same b own x ((count, is), next, gives) = ap (λ (o : OwnView). entry_of o.author b.rows) is ∙ begun-entry b.own (newest_id b) b.rows
+entry-same : (b : Beginning) (own : OwnView) (id : ℕ) → IsTryAt b own id → entry_of own.author b.rows ≡ own_entry b
+entry-same b own id ((count, is), next, gives) = ap (λ (o : OwnView). entry_of o.author b.rows) is ∙ begun-entry b.own (newest_id b) b.rows
 
 -- the history has the entry more, or stays
 either-way : (b : Beginning) (now later : History) (own : OwnView) → now ≡ b.history → entry_of own.author b.rows ≡ own_entry b → Appends own b.rows now later
@@ -148,18 +152,25 @@ either-way b now later own same is (inr (s, es, at, appended)) =
     inr (appended ∙ ap (λ (x : Entry). table s (es ++ x ∷ [])) is ∙ ap (with_entry (own_entry b)) (sym at ∙ same))
 
 -- the id of a publish may stand in a name
-try-bound : (own : OwnView) (rows : List HistoryRow) (x : Publishing) (left : List CommitFile) (f : Files) (p : Past) → KnowsTry own rows x left f p → x.id ≤ greatest
-try-bound own rows x left f p is_try =
-    let id = ap (λ (x : Publishing). x.id) is_try.is ∙ is_try.made.id in
+try-bound : (own : OwnView) (rows : List HistoryRow) (s : TableSchema) (id : ℕ) (m : put_phase.Phase) (f : Files) (p : Past) → KnowsTry own rows s id m f p
+    → id ≤ greatest
+try-bound own rows s id m f p is_try =
+    let next = is_try.is ∙ is_try.made.id in
     let below = allowed-id is_try.attempt.newest is_try.attempt.author is_try.attempt.batch is_try.allowed in
-    omega (arith, id, below)
+    omega (arith, next, below)
+
+-- what is published is the snapshot with that id, after the one before it
+try-last : (own : OwnView) (rows : List HistoryRow) (s : TableSchema) (id : ℕ) (x : Publishing) (f : Files) (p : Past)
+    → (is_try : KnowsTry own rows s id (puts.Publish x) f p) → x ≡ publishing_of s id is_try.attempt.made.text
+try-last own rows s id x f p is_try = is_try.put.0 ∙ ap (λ (n : ℕ). publishing_of s n is_try.attempt.made.text) (sym is_try.is)
 
 module _ (laws : Laws) (causes : ReaderCauses) (parts : PathParts) (b : Beginning) where
   -- no try is lost
-  lost-never : (own : OwnView) (x : Publishing) (answer : Published) (f : Files) (p : Past) → Stands f p → KnewAlone b (phases.Publish own x) f p
-      → Answers (publish_call x) (answers.Published answer) f → IsLost answer → ⊥
-  lost-never own x answer f p stands ((tried, (known, is_try)), (same, (count, next, gives))) told lost =
-      never-lost f p x answer stands known.is_table (next ∙ ap (λ (h : History). count_of h + 1) (sym same)) (try-bound own b.rows x [] f p is_try) told lost
+  lost-never : (own : OwnView) (s : TableSchema) (id : ℕ) (x : Publishing) (answer : Published) (f : Files) (p : Past) → Stands f p
+      → KnewAlone b (phases.Put own s id (puts.Publish x)) f p → Answers (publish_call x) (answers.Published answer) f → IsLost answer → ⊥
+  lost-never own s id x answer f p stands ((putting, (known, is_try)), (same, (is, untouched))) told lost =
+      never-lost f p s id is_try.attempt.made.text x answer stands known.is_table (is.1 ∙ ap (λ (h : History). count_of h + 1) (sym same))
+      (try-bound own b.rows s id (puts.Publish x) f p is_try) (try-last own b.rows s id x f p is_try) told lost
 
   -- what is so after an answer before the publish
   alone-on : (m : Phase) (answer : Answer) (new : Phase) (f : Files) (p : Past) → NoPublish m → After m answer (Ok new) → Stands f p → KnewAlone b m f p
@@ -178,15 +189,15 @@ module _ (laws : Laws) (causes : ReaderCauses) (parts : PathParts) (b : Beginnin
       makes-alone b f p.history same unchanged own q.found new is sees on
   alone-on (phases.Search own q) (answers.Found (Some bytes)) new f p calm (x, reads, on) stands (known, (same, (unchanged, is, sees, asked))) = λ told.
       hears-alone b f p.history same unchanged own q.found q.left (seen_of own.author x) new is sees asked on
-  alone-on (phases.Create own making) (answers.Made creates.Created) new f p calm to stands ((tried, (known, is_try)), (same, (is, untouched))) = λ told.
-      let call : Call = calls.Create making.next.path making.next.bytes in
-      let puts : Puts f making.next.path (Some making.next.bytes) (carried call f) = Answers-Changed call (answers.Made creates.Created) f told in
-      let apart = rest-apart parts own b.rows making.publishing making.next making.rest f p is_try in
-      to-alone b (carried call f) p.history same _ new (ok-same new _ to)
-      (create-alone b (carried call f) p.history same own making.publishing making.rest is
-      (untouched-puts f b.files (carried call f) making.next.path making.next.bytes making.rest puts apart untouched.1))
-  alone-on (phases.Create own making) (answers.Made creates.Exists) new f p calm to stands known = absurd (ok-err new _ to)
-  alone-on (phases.Publish own x) answer new f p calm after stands known = absurd calm
+  alone-on (phases.Put own s id (puts.Publish x)) answer new f p calm after stands known = absurd calm
+  alone-on (phases.Put own s id (puts.Create making)) (answers.Made creates.Created) new f p calm (to, goes, on) stands ((putting, (known, is_try)), (same, (is, untouched))) = λ told.
+      let call : Call = create_call making.next in
+      let put_at : Puts f making.next.path (Some making.next.bytes) (carried call f) = Answers-Changed call (answers.Made creates.Created) f told in
+      let apart = rest-apart parts own b.rows s id making f p is_try in
+      to-alone b (carried call f) p.history same _ new (next-on laws b.rows own s id making.publishing making.rest to new goes on)
+      (put-alone b (carried call f) p.history same own s id making.publishing making.rest is
+      (untouched-puts f b.files (carried call f) making.next.path making.next.bytes making.rest put_at apart untouched.1))
+  alone-on (phases.Put own s id m) answer new f p calm (to, goes, on) stands known = absurd goes
   alone-on m answer new f p calm after stands known = absurd after
 
   abbrev WentAlone : Phase → Phase → Files → Past → Files → Type 0
@@ -203,27 +214,29 @@ module _ (laws : Laws) (causes : ReaderCauses) (parts : PathParts) (b : Beginnin
 
   went-on : (m : Phase) (answer : Answer) (new : Phase) (f : Files) (p : Past) → After m answer (Ok new) → Stands f p
       → KnewAlone b m f p → IfSome (next_call m) (λ call. Answers call answer f → WentAlone m new f p (carried call f))
-  went-on (phases.Publish own x) (answers.Published published.Created) new f p is stands ((tried, known), (same, at)) = λ told.
-      let leads = published-leads laws b.rows own x new f p is stands tried known.0 known.1 told in
-      let appended = leads.2.1 ∙ ap (λ (x : Entry). with_entry x p.history) (entry-same b own x at) ∙ ap (with_entry (own_entry b)) same in
-      let id = leads.2.2 ∙ ap (λ (h : History). count_of h + 1) same in
+  went-on (phases.Put own s id (puts.Publish x)) (answers.Published published.Created) new f p (to, goes, on) stands ((putting, known), (same, (at, untouched))) = λ told.
+      let is = putter-at own s id to puts.Published (Ok new) goes on in
+      let leads = published-leads laws b.rows own s id x new f p is stands putting.0 known.0 known.1 told in
+      let appended = leads.2.1 ∙ ap (λ (x : Entry). with_entry x p.history) (entry-same b own id at) ∙ ap (with_entry (own_entry b)) same in
+      let next = leads.2.2 ∙ ap (λ (h : History). count_of h + 1) same in
       let author = ap (λ (o : OwnView). o.author) at.0.1 in (
         leads.0,
         leads.1,
         (
-          (still-committer laws.read (phases.Publish own x) (answers.Published published.Created) new tried is, leads.2.0),
-          subst (λ (m : Phase). AloneAt b m (carried (publish_call x) f) leads.0.history) (sym (ok-same new _ is)) (appended, (author, id, at.2)),
+          (still-committer laws.read (phases.Put own s id (puts.Publish x)) (answers.Published published.Created) new putting (to, goes, on), leads.2.0),
+          subst (λ (m : Phase). AloneAt b m (carried (publish_call x) f) leads.0.history) (sym (ok-same new _ is)) (appended, (author, next, at.2)),
         ),
       )
-  went-on (phases.Publish own x) (answers.Published published.Exists) new f p on stands known = λ told.
-      absurd (lost-never own x published.Exists f p stands known told tt)
-  went-on (phases.Publish own x) (answers.Published published.AfterGone) new f p on stands known = λ told.
-      absurd (lost-never own x published.AfterGone f p stands known told tt)
-  went-on (phases.Publish own x) answer new f p after stands known = absurd after
+  went-on (phases.Put own s id (puts.Publish x)) (answers.Published published.Exists) new f p on stands known = λ told.
+      absurd (lost-never own s id x published.Exists f p stands known told tt)
+  went-on (phases.Put own s id (puts.Publish x)) (answers.Published published.AfterGone) new f p on stands known = λ told.
+      absurd (lost-never own s id x published.AfterGone f p stands known told tt)
   went-on (phases.Names own s) answer new f p after stands known = went-calm (phases.Names own s) answer new f p tt after stands known
   went-on (phases.View own m) answer new f p after stands known = went-calm (phases.View own m) answer new f p tt after stands known
   went-on (phases.Search own q) answer new f p after stands known = went-calm (phases.Search own q) answer new f p tt after stands known
-  went-on (phases.Create own making) answer new f p after stands known = went-calm (phases.Create own making) answer new f p tt after stands known
+  went-on (phases.Put own s id (puts.Create making)) answer new f p after stands known =
+      went-calm (phases.Put own s id (puts.Create making)) answer new f p tt after stands known
+  went-on (phases.Put own s id m) answer new f p (to, goes, on) stands known = absurd goes
   went-on (phases.Committed author id) answer new f p after stands known = absurd after
   went-on (phases.Already author) answer new f p after stands known = absurd after
   went-on phases.Over answer new f p after stands known = absurd after
@@ -240,16 +253,20 @@ module _ (laws : Laws) (causes : ReaderCauses) (parts : PathParts) (b : Beginnin
 
   refused-on : (m : Phase) (answer : Answer) (refusal : Refusal) (f : Files) (p : Past) → After m answer (Err refusal) → Stands f p
       → KnewAlone b m f p → IfSome (next_call m) (λ call. Answers call answer f → RefusedAlone m refusal f p (carried call f))
-  refused-on (phases.Publish own x) (answers.Published published.Created) refusal f p is stands known = absurd (let clash = is in cc)
-  refused-on (phases.Publish own x) (answers.Published published.Exists) refusal f p on stands known = λ told.
-      absurd (lost-never own x published.Exists f p stands known told tt)
-  refused-on (phases.Publish own x) (answers.Published published.AfterGone) refusal f p on stands known = λ told.
-      absurd (lost-never own x published.AfterGone f p stands known told tt)
-  refused-on (phases.Publish own x) answer refusal f p after stands known = absurd after
+  refused-on (phases.Put own s id (puts.Publish x)) (answers.Published published.Created) refusal f p (inl shown) stands known = absurd shown
+  refused-on (phases.Put own s id (puts.Publish x)) (answers.Published published.Created) refusal f p (inr (to, goes, on)) stands known =
+      absurd (err-ok refusal _ (putter-at own s id to puts.Published (Err refusal) goes on))
+  refused-on (phases.Put own s id (puts.Publish x)) (answers.Published published.Exists) refusal f p on stands known = λ told.
+      absurd (lost-never own s id x published.Exists f p stands known told tt)
+  refused-on (phases.Put own s id (puts.Publish x)) (answers.Published published.AfterGone) refusal f p on stands known = λ told.
+      absurd (lost-never own s id x published.AfterGone f p stands known told tt)
   refused-on (phases.Names own s) answer refusal f p after stands known = refused-calm (phases.Names own s) answer refusal f p tt after stands known
   refused-on (phases.View own m) answer refusal f p after stands known = refused-calm (phases.View own m) answer refusal f p tt after stands known
   refused-on (phases.Search own q) answer refusal f p after stands known = refused-calm (phases.Search own q) answer refusal f p tt after stands known
-  refused-on (phases.Create own making) answer refusal f p after stands known = refused-calm (phases.Create own making) answer refusal f p tt after stands known
+  refused-on (phases.Put own s id (puts.Create making)) answer refusal f p after stands known =
+      refused-calm (phases.Put own s id (puts.Create making)) answer refusal f p tt after stands known
+  refused-on (phases.Put own s id m) answer refusal f p (inl shown) stands known = absurd shown
+  refused-on (phases.Put own s id m) answer refusal f p (inr (to, goes, on)) stands known = absurd goes
   refused-on (phases.Committed author id) answer refusal f p after stands known = absurd after
   refused-on (phases.Already author) answer refusal f p after stands known = absurd after
   refused-on phases.Over answer refusal f p after stands known = absurd after
@@ -265,20 +282,25 @@ module _ (laws : Laws) (causes : ReaderCauses) (parts : PathParts) (b : Beginnin
 
   failed-on : (m : Phase) (effect : Effect) (f : Files) (p : Past) → IsSome (next_call m) → Stands f p → KnewAlone b m f p
       → IfSome (next_call m) (λ call. FailedAlone m call f p (after_effect call effect f))
-  failed-on (phases.Publish own x) effect f p some stands ((tried, known), (same, at)) =
-      let change = changes-on laws b.rows (phases.Publish own x) f p stands tried known effect in
-      let either = either-way b p.history change.0.history own same (entry-same b own x at) change.1.appends in (
+  failed-on (phases.Put own s id (puts.Publish x)) effect f p some stands ((putting, known), (same, (at, untouched))) =
+      let change = changes-on laws b.rows (phases.Put own s id (puts.Publish x)) f p stands putting known effect in
+      let either = either-way b p.history change.0.history own same (entry-same b own id at) change.1.appends in
+      let last = try-last own b.rows s id x f p known.1 in (
         change.0,
         change.1,
-        elim either as (λ _. AloneRefused b (refusals.StoreFault (snapshot_path x.id)) (after_effect (publish_call x) effect f) change.0) [
+        elim either as (λ _. AloneRefused b (refusals.StoreFault x.path) (after_effect (publish_call x) effect f) change.0) [
           | inl stays ↦ inl stays
-          | inr more ↦ inr (more, ap snapshot_path at.1)
+          | inr more ↦ inr (more, ap (λ (y : Publishing). y.path) last ∙ ap snapshot_path at.1)
         ],
       )
   failed-on (phases.Names own s) effect f p some stands known = failed-calm (phases.Names own s) effect f p some tt stands known
   failed-on (phases.View own m) effect f p some stands known = failed-calm (phases.View own m) effect f p some tt stands known
   failed-on (phases.Search own q) effect f p some stands known = failed-calm (phases.Search own q) effect f p some tt stands known
-  failed-on (phases.Create own making) effect f p some stands known = failed-calm (phases.Create own making) effect f p some tt stands known
+  failed-on (phases.Put own s id (puts.Create making)) effect f p some stands known =
+      failed-calm (phases.Put own s id (puts.Create making)) effect f p some tt stands known
+  failed-on (phases.Put own s id puts.Published) effect f p some stands known = tt
+  failed-on (phases.Put own s id puts.Lost) effect f p some stands known = tt
+  failed-on (phases.Put own s id puts.Over) effect f p some stands known = tt
   failed-on (phases.Committed author id) effect f p some stands known = tt
   failed-on (phases.Already author) effect f p some stands known = tt
   failed-on phases.Over effect f p some stands known = tt

@@ -20,11 +20,12 @@ use Rattle.pm_append.specs.Commit.{Attempt}
 use Rattle.pm_append.specs.Files.{HasBase, IsAppendOf, data_file, empty, kept, merged}
 use Rattle.pm_append.specs.declared.newest.Append.{Append}
 use Rattle.pm_append.specs.declared.newest.Author.{Author}
-use Rattle.pm_append.specs.declared.newest.CommitFile.{CommitFile}
+use Rattle.pm_put.specs.declared.putting.CommitFile.{CommitFile}
 use Rattle.pm_append.specs.declared.newest.Newest.{Newest}
 use Rattle.pm_commit.specs.Meaning.{KnowsTry}
 use Rattle.pm_commit.specs.Own.{OwnView}
-use Rattle.pm_commit.specs.declared.making.Publishing.{Publishing}
+use Rattle.pm_put.specs.Making.{MakingView}
+use Rattle.pm_put.specs.declared.phase.Phase.TheVariants as puts
 use Rattle.pm_commit.proofs.MadeLemmas.{made-few}
 
 -- what the law of paths says
@@ -160,17 +161,18 @@ module _ (t : Naming) where
   )
 
 -- the files of a try that are left have other paths than the one before them
-pub rest-apart : PathParts → (own : OwnView) (rows : List HistoryRow) (x : Publishing) (file : CommitFile) (left : List CommitFile) (f : Files) (p : Past)
-    → KnowsTry own rows x (file ∷ left) f p → AllByRecursion (λ (other : CommitFile). other.path ≢ file.path) left
-rest-apart parts own rows x file left f p is_try =
+pub rest-apart : PathParts → (own : OwnView) (rows : List HistoryRow) (s : TableSchema) (id : ℕ) (making : MakingView) (f : Files) (p : Past)
+    → KnowsTry own rows s id (puts.Create making) f p → AllByRecursion (λ (other : CommitFile). other.path ≢ making.next.path) making.rest
+rest-apart parts own rows s id making f p is_try =
     let t : Attempt = is_try.attempt in
-    let few = made-few x.schema t.newest t.author t.batch t.names t.made is_try.made in
+    let has = is_try.put.1 in
+    let few = made-few s t.newest t.author t.batch t.names t.made is_try.made in
     let room = is_try.names.room in
-    let all : length t.made.files.items ≡ length is_try.done + suc (length left) = ap length is_try.files ∙ length-append is_try.done (file ∷ left) in
-    let n : ℕ = t.names.count + length is_try.done in
-    let are = counted-later t.names t.names.count is_try.done (file ∷ left)
-    (subst (AreCounted t.names t.names.count) is_try.files (made-counted t.names x.schema t.newest t.author t.batch t.made is_try.made)) in
-    counted-apart t.names parts is_try.names.may n (n + 1) file.path left (omega arith) (omega (arith, few, room, all)) are.0 are.1
+    let all : length t.made.files.items ≡ length has.done + suc (length making.rest) = ap length has.files ∙ length-append has.done (making.next ∷ making.rest) in
+    let n : ℕ = t.names.count + length has.done in
+    let are = counted-later t.names t.names.count has.done (making.next ∷ making.rest)
+    (subst (AreCounted t.names t.names.count) has.files (made-counted t.names s t.newest t.author t.batch t.made is_try.made)) in
+    counted-apart t.names parts is_try.names.may n (n + 1) making.next.path making.rest (omega arith) (omega (arith, few, room, all)) are.0 are.1
 
 -- ---- a file appears
 

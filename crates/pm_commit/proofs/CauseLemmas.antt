@@ -8,7 +8,9 @@ use Rattle.pm_store.specs.Files.{Files}
 use Rattle.pm_store.specs.declared.answer.Answer.{Answer}
 use Rattle.pm_store.specs.declared.answer.Answer.TheVariants as answers
 use Rattle.pm_store.specs.declared.answer.Made.TheVariants as created
-use Rattle.pm_store.specs.declared.answer.Published.TheVariants as published
+use Rattle.pm_put.specs.Putter.{create_call}
+use Rattle.pm_put.specs.declared.phase.Phase as put_phase
+use Rattle.pm_put.specs.declared.phase.Phase.TheVariants as puts
 use Rattle.pm_store.specs.declared.call.Call.{Call}
 use Rattle.pm_store.specs.declared.call.Call.TheVariants as calls
 use Rattle.pm_model_history.specs.Merge.{HistoryRow}
@@ -40,7 +42,7 @@ use Rattle.pm_read_table.specs.declared.phase.Phase.TheVariants as readers
 use Rattle.pm_read_table.specs.declared.view.View.{View}
 use Rattle.pm_read_table.proofs.Facts as reader_facts
 use Rattle.pm_read_table.proofs.FaultLemmas.{IsFileFault, file_fault}
-use Rattle.pm_commit.specs.Committer.{After, AfterReader, Hears, IsCommitter, Loses, Makes, Reads, Refuses, Tries, TriesIf, found_in, manifests_call, newest_of, next_call}
+use Rattle.pm_commit.specs.Committer.{After, AfterPutter, AfterReader, Hears, IsCommitter, Loses, Makes, Reads, Refuses, Tries, TriesIf, found_in, manifests_call, newest_of, next_call}
 use Rattle.pm_commit.specs.Meaning.{HasOrigin, IsDenied, IsFoundIn, Knows, KnowsIn, MayRefuse, MayRefuseOwn}
 use Rattle.pm_commit.specs.Own.{OwnView, begun, begun_after}
 use Rattle.pm_commit.specs.Search.{older_ids, seen_in, seen_of}
@@ -50,7 +52,7 @@ use Rattle.pm_commit.specs.declared.found.Found.{Found}
 use Rattle.pm_commit.specs.declared.phase.Phase.{Phase}
 use Rattle.pm_commit.specs.declared.phase.Phase.TheVariants as phases
 use Rattle.pm_commit.proofs.Facts.{Laws}
-use Rattle.pm_commit.proofs.CommitterLemmas.{asked-same, err-ok, err-same}
+use Rattle.pm_commit.proofs.CommitterLemmas.{asked-same, err-ok}
 use Rattle.pm_commit.proofs.OriginLemmas.{origin-on}
 use Rattle.pm_commit.proofs.ReadsLemmas.{reads-on}
 use Rattle.pm_commit.proofs.TraceLemmas.{IsReason, is-reason, some-at}
@@ -217,6 +219,14 @@ lost-caused own s id f p refusal (last, is) =
     let many = length-append own.lost (id ∷ []) in
     subst (MayRefuseOwn own f p) (sym is) (id, refl, (let eleven = last in omega (arith, many, eleven)))
 
+putter-caused : (own : OwnView) (s : TableSchema) (id : ℕ) (to : put_phase.Phase) (f : Files) (p : Past) (refusal : Refusal) → AfterPutter own s id to (Err refusal)
+    → MayRefuseOwn own f p refusal
+putter-caused own s id (puts.Create making) f p refusal on = absurd (err-ok refusal _ on)
+putter-caused own s id (puts.Publish x) f p refusal on = absurd (err-ok refusal _ on)
+putter-caused own s id puts.Published f p refusal on = absurd (err-ok refusal _ on)
+putter-caused own s id puts.Lost f p refusal on = lost-caused own s id f p refusal on
+putter-caused own s id puts.Over f p refusal on = absurd (err-ok refusal _ on)
+
 -- what an answer that shows a refusal needs
 caused-on : (laws : Laws) (causes : ReaderCauses) (rows : List HistoryRow) (m : Phase) (call : Call) (answer : Answer) (refusal : Refusal) (f : Files) (p : Past)
     → Stands f p → IsCommitter m → KnowsIn rows m f p → next_call m ≡ Some call → Answers call answer f → After m answer (Err refusal) → MayRefuse m f p refusal
@@ -235,15 +245,11 @@ caused-on laws causes rows (phases.Search own q) call (answers.Found (Some bytes
     (told-at (calls.Read (snapshot_path q.id)) call (answers.Found (Some bytes)) f at told) bad)
 caused-on laws causes rows (phases.Search own q) call (answers.Found (Some bytes)) refusal f p stands is (known, is_found) at told (inr (inr (x, reads, on))) =
     hears-any (MayRefuseOwn own f p refusal) own q.found q.left (seen_of own.author x) refusal (make-caused own q.found f p refusal is_found) on
-caused-on laws causes rows (phases.Create own making) call (answers.Made created.Created) refusal f p stands is known at told on = absurd (err-ok refusal _ on)
-caused-on laws causes rows (phases.Create own making) call (answers.Made created.Exists) refusal f p stands is known at told on =
-    subst (MayRefuseOwn own f p) (sym (err-same refusal _ on))
-    (inr (met-at (map.get f making.next.path) (told-at (calls.Create making.next.path making.next.bytes) call (answers.Made created.Exists) f at told)))
-caused-on laws causes rows (phases.Publish own x) call (answers.Published published.Created) refusal f p stands is known at told on = absurd (err-ok refusal _ on)
-caused-on laws causes rows (phases.Publish own x) call (answers.Published published.Exists) refusal f p stands is known at told on =
-    lost-caused own x.schema x.id f p refusal on
-caused-on laws causes rows (phases.Publish own x) call (answers.Published published.AfterGone) refusal f p stands is known at told on =
-    lost-caused own x.schema x.id f p refusal on
+caused-on laws causes rows (phases.Put own s id (puts.Create making)) call (answers.Made created.Exists) refusal f p stands is known at told (inl shown) =
+    subst (MayRefuseOwn own f p) (sym shown)
+    (inr (met-at (map.get f making.next.path) (told-at (create_call making.next) call (answers.Made created.Exists) f at told)))
+caused-on laws causes rows (phases.Put own s id m) call answer refusal f p stands is known at told (inl shown) = absurd shown
+caused-on laws causes rows (phases.Put own s id m) call answer refusal f p stands is known at told (inr (to, goes, on)) = putter-caused own s id to f p refusal on
 caused-on laws causes rows m call answer refusal f p stands is known at told on = absurd on
 
 pub caused : Laws → ReaderCauses → (rows : List HistoryRow) (m new : Phase) (call : Call) (answer : Answer) (refusal : Refusal) (f : Files) (p : Past)

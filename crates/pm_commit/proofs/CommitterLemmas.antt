@@ -6,8 +6,6 @@ use Rattle.pm_values.specs.declared.refusal.Refusal.{Refusal}
 use Rattle.pm_snapshot.specs.Names.{greatest}
 use Rattle.pm_store.specs.declared.answer.Answer.{Answer}
 use Rattle.pm_store.specs.declared.answer.Answer.TheVariants as answers
-use Rattle.pm_store.specs.declared.answer.Made.TheVariants as creates
-use Rattle.pm_store.specs.declared.answer.Published.TheVariants as published
 use Rattle.pm_schema.specs.declared.schema.TableSchema.{TableSchema}
 use Rattle.pm_read_table.specs.Asked.{Asked, asked_of}
 use Rattle.pm_read_table.specs.Reader as reader
@@ -16,14 +14,18 @@ use Rattle.pm_read_table.specs.declared.phase.Phase.TheVariants as readers
 use Rattle.pm_read_table.specs.declared.view.View.{View}
 use Rattle.pm_append.specs.Files.{IsAppendOf}
 use Rattle.pm_append.specs.declared.newest.Append.{Append}
-use Rattle.pm_append.specs.declared.newest.CommitFile.{CommitFile}
-use Rattle.pm_commit.specs.Committer.{AreIds, After, AfterReader, Hears, IsCommitter, Makes, MayMake, Outcome, Reads, Seeks, Tries, TriesIf, create_next, first_of_try, found_in, newest_of, publishing_of}
+use Rattle.pm_put.specs.declared.putting.CommitFile.{CommitFile}
+use Rattle.pm_commit.specs.Committer.{AreIds, After, AfterPutter, AfterReader, Hears, IsCommitter, IsPutting, Makes, MayMake, Outcome, Reads, Seeks, Tries, TriesIf, first_of_try, found_in, newest_of, publishing_of}
 use Rattle.pm_commit.specs.Own.{IsOwn, IsTried, OwnView, begun, begun_after, most_files, tries, with_lost, with_named}
 use Rattle.pm_commit.specs.Search.{older_ids, seen_in, seen_of}
 use Rattle.pm_commit.specs.declared.search.Seen.{Seen}
 use Rattle.pm_commit.specs.declared.search.Seen.TheVariants as seen
 use Rattle.pm_commit.specs.declared.found.Found.{Found}
-use Rattle.pm_commit.specs.declared.making.Publishing.{Publishing}
+use Rattle.pm_put.proofs.Facts as put_facts
+use Rattle.pm_put.specs.Putter as put
+use Rattle.pm_put.specs.declared.phase.Phase as put_phase
+use Rattle.pm_put.specs.declared.phase.Phase.TheVariants as puts
+use Rattle.pm_put.specs.declared.putting.Publishing.{Publishing}
 use Rattle.pm_commit.specs.declared.phase.Phase.{Phase}
 use Rattle.pm_commit.specs.declared.phase.Phase.TheVariants as phases
 use Rattle.pm_commit.proofs.MadeLemmas.{made-few}
@@ -109,16 +111,16 @@ older-are listed all = without-first (reverse listed) (all-reversed listed all)
 
 -- ---- each is a committer
 
-create-committer : (own : OwnView) (x : Publishing) (files : List CommitFile) → IsTried x.schema own → length files ≤ most_files → IsCommitter (create_next own x files)
-create-committer own x [] tried few = tried
-create-committer own x (file ∷ files) tried few = (tried, omega (arith, few))
+put-committer : (own : OwnView) (s : TableSchema) (id : ℕ) (x : Publishing) (files : List CommitFile) → IsTried s own → length files ≤ most_files
+    → IsCommitter (phases.Put own s id (put.create_next x files))
+put-committer own s id x files tried few = let left = put_facts.next_left x files in (tried, omega (arith, left), omega (arith, left, few))
 
 makes-committer : (own : OwnView) (found : Found) (later : Phase) → IsOwn found.schema own → Makes own found (Ok later) → IsCommitter later
 makes-committer own found later own_of (made, is_made, allowed, is) =
     let few = made-few found.schema found.newest own.author own.batch own.names made is_made in
     let one = own_of.one_group in
     subst IsCommitter (sym is)
-    (create-committer (with_named (own.names.count + length made.files.items) own) (publishing_of found.schema made) made.files.items
+    (put-committer (with_named (own.names.count + length made.files.items) own) found.schema made.id (publishing_of found.schema made.id made.text) made.files.items
     (made-tried own found made is_made own_of) (omega (arith, few, one)))
 
 seeks-committer : (own : OwnView) (found : Found) (left : List ℕ) (later : Phase) → MayMake own found → AreIds left → Seeks own found left (Ok later) → IsCommitter later
@@ -165,6 +167,24 @@ reader-committer own s readers.Over later on own_of is = view-committer own s re
 first-committer : (own : OwnView) (s : TableSchema) (later : Phase) → IsOwn s own → later ≡ first_of_try own s → IsCommitter later
 first-committer own s later own_of is = subst IsCommitter (sym is) (omega arith, (s, record { asked = refl; numbers = tt; ids = tt }, own_of))
 
+-- the putter goes on
+as-putting : (own : OwnView) (s : TableSchema) (id : ℕ) (m : put_phase.Phase) (later : Phase) → IsTried s own → 0 < put.calls_left m
+    → put.calls_left m ≤ most_files + 1 → ◌≡◌ {A = Outcome} (Ok later) (Ok (phases.Put own s id m)) → IsCommitter later
+as-putting own s id m later tried some few is = subst IsCommitter (sym (ok-same later _ is)) (tried, some, few)
+
+putter-committer : (own : OwnView) (s : TableSchema) (id : ℕ) (m to : put_phase.Phase) (answer : Answer) (later : Phase) → IsPutting s own m → put.Goes m answer to
+    → AfterPutter own s id to (Ok later) → IsCommitter later
+putter-committer own s id m (puts.Create making) answer later (tried, some, few) goes is =
+    let on = put_facts.goes m answer (puts.Create making) goes in
+    let fewer = on.0 in
+    as-putting own s id (puts.Create making) later tried on.1 (omega (arith, fewer, few)) is
+putter-committer own s id m (puts.Publish x) answer later (tried, some, few) goes is = as-putting own s id (puts.Publish x) later tried (omega arith) (omega arith) is
+putter-committer own s id m puts.Published answer later (tried, some, few) goes is = subst IsCommitter (sym (ok-same later _ is)) tt
+putter-committer own s id m puts.Lost answer later (tried, some, few) goes (left, is) =
+    first-committer (with_lost id own) s later (lost-own s own id left tried) is
+putter-committer own s id m puts.Over answer later (tried, some, few) goes is =
+    let none : 0 < 0 = (put_facts.goes m answer puts.Over goes).1 in absurd (omega (arith, none))
+
 pub still-committer : EntriesRead → (m : Phase) (answer : Answer) (later : Phase) → IsCommitter m → After m answer (Ok later) → IsCommitter later
 still-committer law (phases.Names own s) (answers.Listed names) later own_of (none, is) = first-committer own s later own_of is
 still-committer law (phases.View own m) answer later (left, (s, reads, own_of)) (new, goes, after) =
@@ -172,12 +192,5 @@ still-committer law (phases.View own m) answer later (left, (s, reads, own_of)) 
 still-committer law (phases.Search own q) (answers.Found None) later (may, few, ids) on = makes-committer own q.found later may.own_of on
 still-committer law (phases.Search own q) (answers.Found (Some bytes)) later (may, few, ids) (x, reads, on) =
     hears-committer own q.found q.left (seen_of own.author x) later may ids.1 on
-still-committer law (phases.Create own making) (answers.Made creates.Created) later (tried, few) is =
-    subst IsCommitter (sym (ok-same later _ is)) (create-committer own making.publishing making.rest tried (omega (arith, few)))
-still-committer law (phases.Create own making) (answers.Made creates.Exists) later known is = absurd (ok-err later _ is)
-still-committer law (phases.Publish own x) (answers.Published published.Created) later tried is = subst IsCommitter (sym (ok-same later _ is)) tt
-still-committer law (phases.Publish own x) (answers.Published published.Exists) later tried (left, is) =
-    first-committer (with_lost x.id own) x.schema later (lost-own x.schema own x.id left tried) is
-still-committer law (phases.Publish own x) (answers.Published published.AfterGone) later tried (left, is) =
-    first-committer (with_lost x.id own) x.schema later (lost-own x.schema own x.id left tried) is
+still-committer law (phases.Put own s id m) answer later putting (to, goes, on) = putter-committer own s id m to answer later putting goes on
 still-committer law m answer later known after = absurd after

@@ -1,7 +1,8 @@
 -- A committer keeps the laws of machines.
-use Rattle.std.proofs.Common.{◌≡◌, ◌+◌, List, [], codes, None, Some, IfSome, Ok, refl, sym, ap, ◌∙◌, subst, arith}
+use Rattle.std.proofs.Common.{◌≡◌, inr, ℕ, ◌+◌, List, [], ◌∷◌, codes, None, Some, IfSome, Ok, Err, refl, sym, ap, ◌∙◌, subst, arith}
 use Rattle.std.specs.FinMap as map
 use Rattle.std.proofs.lemmas.Option.{IfSome_then}
+use Rattle.pm_values.specs.declared.refusal.Refusal.{Refusal}
 use Rattle.pm_store.specs.Answers.{Answers}
 use Rattle.pm_store.specs.Files.{Files, Puts, after_effect, carried}
 use Rattle.pm_store.specs.declared.answer.Answer.{Answer}
@@ -32,22 +33,29 @@ use Rattle.pm_read_table.proofs.Facts as reader_facts
 use Rattle.pm_machine.proofs.PhaseFacts.{both_if}
 use Rattle.pm_read_table.proofs.Facts.{Joined, OneList}
 use Rattle.pm_commit.specs.Alone.{with_entry}
-use Rattle.pm_commit.specs.Committer.{After, AfterReader, Goes, IsCommitter, Loses, Outcome, Reads, Refuses, Stops, Tries, after_path, first_of_try, found_in, manifests_call, newest_of, next_call, publish_call}
+use Rattle.pm_commit.specs.Committer.{After, AfterPutter, AfterReader, Goes, IsCommitter, Loses, Outcome, Reads, Refuses, Stops, Tries, first_of_try, found_in, manifests_call, newest_of, next_call}
 use Rattle.pm_commit.specs.Meaning.{HasOrigin, IsFoundIn, Knows, KnowsIn, KnowsOwn, KnowsTry, MakesOwn, MakesRows, entry_of}
 use Rattle.pm_commit.specs.Own.{IsOwn, IsTried, OwnView, begun, with_lost}
 use Rattle.pm_commit.specs.Search.{seen_of}
-use Rattle.pm_commit.specs.Trace.{IsLost}
-use Rattle.pm_commit.specs.declared.making.Publishing.{Publishing}
+use Rattle.pm_put.proofs.Facts as put_facts
+use Rattle.pm_put.proofs.Facts.{created_absent}
+use Rattle.pm_put.specs.Putter as put
+use Rattle.pm_put.specs.Putter.{create_call, publish_call}
+use Rattle.pm_put.specs.Trace.{IsLost}
+use Rattle.pm_put.specs.declared.phase.Phase as put_phase
+use Rattle.pm_put.specs.declared.phase.Phase.TheVariants as puts
+use Rattle.pm_put.specs.declared.putting.CommitFile.{CommitFile}
+use Rattle.pm_put.specs.declared.putting.Publishing.{Publishing}
 use Rattle.pm_commit.specs.declared.phase.Phase.{Phase}
 use Rattle.pm_commit.specs.declared.phase.Phase.TheVariants as phases
 use Rattle.pm_commit.proofs.AdvanceLemmas.{NamedPaths}
-use Rattle.pm_commit.proofs.CommitterLemmas.{asked-same, begun-own, ok-err, ok-same, ready-schema, still-committer}
-use Rattle.pm_commit.proofs.CreateLemmas.{create-keeps, created-absent, created-try, put-makes}
+use Rattle.pm_commit.proofs.CommitterLemmas.{asked-same, begun-own, err-ok, ok-same, ready-schema, still-committer}
+use Rattle.pm_commit.proofs.CreateLemmas.{create-makes, created-try}
 use Rattle.pm_commit.proofs.StillLemmas.{OwnFiles}
 use Rattle.pm_commit.proofs.FoundLemmas.{LiveEntries}
-use Rattle.pm_commit.proofs.KnownLemmas.{begun-known, count-bound, create-known, hears-known, lost-known, makes-known, tries-known, view-within}
+use Rattle.pm_commit.proofs.KnownLemmas.{begun-known, count-bound, hears-known, lost-known, makes-known, tries-known, view-within}
 use Rattle.pm_commit.proofs.OriginLemmas.{origin-on}
-use Rattle.pm_commit.proofs.PublishLemmas.{AppendsTry, IsNewest, NamesNone, own-same, publish-whole}
+use Rattle.pm_commit.proofs.PublishLemmas.{AppendsTry, IsNewest, NamesNone, own-same, publish-makes, published-whole}
 use Rattle.pm_commit.proofs.ReadsLemmas.{EntriesRead, reads-on}
 
 -- what the laws of lower crates say
@@ -68,11 +76,25 @@ pub record Laws : Type 0 where
 
 -- the phase isn't that of the publish
 abbrev pub NoPublish : Phase → Type 0
-NoPublish (phases.Publish own x) = ⊥
+NoPublish (phases.Put own s id (puts.Publish x)) = ⊥
 NoPublish m = Unit {0}
 
 still : (own : OwnView) (rows : List HistoryRow) (f after : Files) (p : Past) → after ≡ f → MakesOwn own rows f p after p
 still own rows f after p same = own-same own rows f after p (λ q. ap (λ (g : Files). map.get g q) same)
+
+-- what follows with the putter that an answer leads to
+pub putter-at : (own : OwnView) (s : TableSchema) (id : ℕ) (to m : put_phase.Phase) (outcome : Outcome) → to ≡ m → AfterPutter own s id to outcome
+    → AfterPutter own s id m outcome
+putter-at own s id to m outcome is on = subst (λ (to : put_phase.Phase). AfterPutter own s id to outcome) is on
+
+-- with files left to create it doesn't refuse
+pub next-not : (own : OwnView) (s : TableSchema) (id : ℕ) (x : Publishing) (files : List CommitFile) (to : put_phase.Phase) (refusal : Refusal)
+    → to ≡ put.create_next x files → AfterPutter own s id to (Err refusal) → ⊥
+next-not own s id x files to refusal is on = at files (putter-at own s id to (put.create_next x files) (Err refusal) is on)
+  where
+    at : (files : List CommitFile) → AfterPutter own s id (put.create_next x files) (Err refusal) → ⊥
+    at [] on = err-ok refusal _ on
+    at (file ∷ files) on = err-ok refusal _ on
 
 -- what was made with the history as it is
 at-past : (own : OwnView) (rows : List HistoryRow) (call : Call) (f : Files) (p : Past)
@@ -88,30 +110,35 @@ module _ (laws : Laws) (rows : List HistoryRow) where
       IfSome_then (reader.next_call m) ((reader_facts.sound laws.joined laws.lists).changes m f p stands reading)
       (λ call changes effect. own-same own rows f (after_effect call effect f) p (changes effect).1.files)
   makes-on (phases.Search own q) f p calm stands is known = λ effect. still own rows f _ p (read_effect (snapshot_path q.id) effect f)
-  makes-on (phases.Create own making) f p calm stands (tried, few) (known, is_try) =
-      create-keeps laws.own_files own rows making.publishing making.next making.rest f p tried known is_try
-  makes-on (phases.Publish own x) f p calm stands is known = absurd calm
+  makes-on (phases.Put own s id (puts.Create making)) f p calm stands (tried, some, few) (known, is_try) = λ effect.
+      create-makes laws.own_files own rows s id making f p tried known is_try (after_effect (create_call making.next) effect f)
+      (put_facts.call_makes (puts.Create making) f effect)
+  makes-on (phases.Put own s id (puts.Publish x)) f p calm stands is known = absurd calm
+  makes-on (phases.Put own s id puts.Published) f p calm stands is known = tt
+  makes-on (phases.Put own s id puts.Lost) f p calm stands is known = tt
+  makes-on (phases.Put own s id puts.Over) f p calm stands is known = tt
   makes-on (phases.Committed author id) f p calm stands is known = tt
   makes-on (phases.Already author) f p calm stands is known = tt
   makes-on phases.Over f p calm stands is known = tt
 
   -- the publish appends, or leaves the history
-  publish-changes : (own : OwnView) (x : Publishing) (f : Files) (p : Past) → Stands f p → IsTried x.schema own → KnowsOwn own rows x.schema p
-      → KnowsTry own rows x [] f p → Changes (MakesOwn own rows) (publish_call x) f p
-  publish-changes own x f p stands tried known is_try effects.None = (p, own-same own rows f f p (λ q. refl))
-  publish-changes own x f p stands tried known is_try (effects.Part found) = (p, own-same own rows f f p (λ q. refl))
-  publish-changes own x f p stands tried known is_try effects.Whole =
-      let all = publish-whole laws.one laws.same laws.paths laws.live laws.newest laws.unnamed laws.append own rows x f p stands tried known is_try
-      (map.get f (snapshot_path x.id)) (map.get f (after_path x.schema x.id)) refl refl in
-      (all.0, all.1)
+  publish-changes : (own : OwnView) (s : TableSchema) (id : ℕ) (x : Publishing) (f : Files) (p : Past) → Stands f p → IsTried s own → KnowsOwn own rows s p
+      → KnowsTry own rows s id (puts.Publish x) f p → Changes (MakesOwn own rows) (publish_call x) f p
+  publish-changes own s id x f p stands tried known is_try effect =
+      publish-makes laws.one laws.same laws.paths laws.live laws.newest laws.unnamed laws.append own rows s id x f p stands tried known is_try
+      (after_effect (publish_call x) effect f) (put_facts.call_makes (puts.Publish x) f effect)
 
   pub changes-on : (m : Phase) (f : Files) (p : Past) → Stands f p → IsCommitter m → KnowsIn rows m f p → IfSome (next_call m) (λ call. Changes (MakesRows rows m) call f p)
   changes-on (phases.Names own s) f p stands is known = at-past own rows manifests_call f p (makes-on (phases.Names own s) f p tt stands is known)
   changes-on (phases.View own m) f p stands is known =
       IfSome_then (reader.next_call m) (makes-on (phases.View own m) f p tt stands is known) (λ call makes. at-past own rows call f p makes)
   changes-on (phases.Search own q) f p stands is known = at-past own rows (calls.Read (snapshot_path q.id)) f p (makes-on (phases.Search own q) f p tt stands is known)
-  changes-on (phases.Create own making) f p stands is known = at-past own rows (calls.Create making.next.path making.next.bytes) f p (makes-on (phases.Create own making) f p tt stands is known)
-  changes-on (phases.Publish own x) f p stands tried (known, is_try) = publish-changes own x f p stands tried known is_try
+  changes-on (phases.Put own s id (puts.Create making)) f p stands is known =
+      at-past own rows (create_call making.next) f p (makes-on (phases.Put own s id (puts.Create making)) f p tt stands is known)
+  changes-on (phases.Put own s id (puts.Publish x)) f p stands is (known, is_try) = publish-changes own s id x f p stands is.0 known is_try
+  changes-on (phases.Put own s id puts.Published) f p stands is known = tt
+  changes-on (phases.Put own s id puts.Lost) f p stands is known = tt
+  changes-on (phases.Put own s id puts.Over) f p stands is known = tt
   changes-on (phases.Committed author id) f p stands is known = tt
   changes-on (phases.Already author) f p stands is known = tt
   changes-on phases.Over f p stands is known = tt
@@ -149,6 +176,15 @@ module _ (laws : Laws) (rows : List HistoryRow) where
   reader-known own s (readers.Again a id path) new f g p stands reads own_of known reading origin is = as-known own s (readers.Again a id path) new g p reads known reading origin is
   reader-known own s (readers.Ready v) new f g p stands reads own_of known reading origin tried = ready-known own s v new f g p stands reads own_of known reading origin tried
   reader-known own s readers.Over new f g p stands reads own_of known reading origin is = as-known own s readers.Over new g p reads known reading origin is
+
+  -- its putter goes on
+  pub next-on : (own : OwnView) (s : TableSchema) (id : ℕ) (x : Publishing) (files : List CommitFile) (to : put_phase.Phase) (new : Phase)
+      → to ≡ put.create_next x files → AfterPutter own s id to (Ok new) → new ≡ phases.Put own s id (put.create_next x files)
+  next-on own s id x files to new is on = at files (subst (λ (to : put_phase.Phase). AfterPutter own s id to (Ok new)) is on)
+    where
+      at : (files : List CommitFile) → AfterPutter own s id (put.create_next x files) (Ok new) → new ≡ phases.Put own s id (put.create_next x files)
+      at [] on = ok-same new _ on
+      at (file ∷ files) on = ok-same new _ on
 
   -- a try begins
   first-known : (own : OwnView) (s : TableSchema) (new : Phase) (g : Files) (p : Past) → KnowsOwn own rows s p → new ≡ first_of_try own s → KnowsIn rows new g p
@@ -194,17 +230,16 @@ module _ (laws : Laws) (rows : List HistoryRow) where
       keeps-still own new f (carried (calls.Read (snapshot_path q.id)) f) p (read_effect (snapshot_path q.id) effects.Whole f)
       (hears-known rows f p own q.found q.left (seen_of own.author x) new may.own_of known is_found
       (λ reached. record { id = q.id; known = read.0; snapshot = x; stood = read.1; reached = reached }) on)
-  keeps-on (phases.Create own making) (answers.Made creates.Created) new f p calm is stands (tried, few) (known, is_try) = λ told.
-      let call : Call = calls.Create making.next.path making.next.bytes in
-      let puts : Puts f making.next.path (Some making.next.bytes) (carried call f) = Answers-Changed call (answers.Made creates.Created) f told in
-      let absent = created-absent (map.get f making.next.path) told in (
-        put-makes laws.own_files own rows making.publishing making.next making.rest f p tried known is_try (carried call f) making.next.bytes absent puts,
-        subst (λ (m : Phase). KnowsIn rows m (carried call f) p) (sym (ok-same new _ is))
-            (create-known rows (carried call f) p own making.publishing making.rest known
-            (created-try laws.own_files own rows making.publishing making.next making.rest f p tried known is_try (carried call f) absent puts)),
+  keeps-on (phases.Put own s id (puts.Publish x)) answer new f p calm after stands committer known = absurd calm
+  keeps-on (phases.Put own s id (puts.Create making)) (answers.Made creates.Created) new f p calm (to, goes, on) stands (tried, some, few) (known, is_try) = λ told.
+      let call : Call = create_call making.next in
+      let put_at : Puts f making.next.path (Some making.next.bytes) (carried call f) = Answers-Changed call (answers.Made creates.Created) f told in
+      let absent = created_absent (map.get f making.next.path) told in (
+        create-makes laws.own_files own rows s id making f p tried known is_try (carried call f) (inr (making.next.bytes, (absent, put_at))),
+        subst (λ (m : Phase). KnowsIn rows m (carried call f) p) (sym (next-on own s id making.publishing making.rest to new goes on))
+            (known, created-try laws.own_files own rows s id making f p tried known is_try (carried call f) absent put_at),
       )
-  keeps-on (phases.Create own making) (answers.Made creates.Exists) new f p calm is stands committer known = absurd (ok-err new _ is)
-  keeps-on (phases.Publish own x) answer new f p calm after stands committer known = absurd calm
+  keeps-on (phases.Put own s id m) answer new f p calm (to, goes, on) stands committer known = absurd goes
   keeps-on m answer new f p calm after stands committer known = absurd after
 
   -- an answer by which nothing is published
@@ -216,39 +251,39 @@ module _ (laws : Laws) (rows : List HistoryRow) where
   lost-keeps own x published.AfterGone f p lost told =
       own-same own rows f (carried (publish_call x) f) p (Answers-Changed (publish_call x) (answers.Published published.AfterGone) f told)
 
-  pub lost-leads : (own : OwnView) (x : Publishing) (answer : Published) (new : Phase) (f : Files) (p : Past) → IsLost answer
-      → Loses own x.schema x.id (Ok new) → KnowsOwn own rows x.schema p → Answers (publish_call x) (answers.Published answer) f
+  pub lost-leads : (own : OwnView) (s : TableSchema) (id : ℕ) (x : Publishing) (answer : Published) (new : Phase) (f : Files) (p : Past) → IsLost answer
+      → Loses own s id (Ok new) → KnowsOwn own rows s p → Answers (publish_call x) (answers.Published answer) f
       → Keeps own new f p (carried (publish_call x) f)
-  lost-leads own x answer new f p lost (left, is) known told = (
+  lost-leads own s id x answer new f p lost (left, is) known told = (
     lost-keeps own x answer f p lost told,
-    first-known (with_lost x.id own) x.schema new (carried (publish_call x) f) p (lost-known rows x.schema p own x.id known) is,
+    first-known (with_lost id own) s new (carried (publish_call x) f) p (lost-known rows s p own id known) is,
   )
 
   -- the answer by which it is
-  pub published-leads : (own : OwnView) (x : Publishing) (new : Phase) (f : Files) (p : Past) → ◌≡◌ {A = Outcome} (Ok new) (Ok (phases.Committed own.author x.id))
-      → Stands f p → IsTried x.schema own → KnowsOwn own rows x.schema p → KnowsTry own rows x [] f p
+  pub published-leads : (own : OwnView) (s : TableSchema) (id : ℕ) (x : Publishing) (new : Phase) (f : Files) (p : Past)
+      → ◌≡◌ {A = Outcome} (Ok new) (Ok (phases.Committed own.author id))
+      → Stands f p → IsTried s own → KnowsOwn own rows s p → KnowsTry own rows s id (puts.Publish x) f p
       → Answers (publish_call x) (answers.Published published.Created) f
       → Leads (MakesOwn own rows) (λ g q. KnowsIn rows new g q × (q.history ≡ with_entry (entry_of own.author rows) p.history)
-      × (x.id ≡ count_of p.history + 1)) f p (carried (publish_call x) f)
-  published-leads own x new f p is stands tried known is_try told =
-      let all = publish-whole laws.one laws.same laws.paths laws.live laws.newest laws.unnamed laws.append own rows x f p stands tried known is_try
-      (map.get f (snapshot_path x.id)) (map.get f (after_path x.schema x.id)) refl refl in
-      let next = all.2 told in
-      (all.0, all.1, (subst (λ (m : Phase). KnowsIn rows m (carried (publish_call x) f) all.0) (sym (ok-same new _ is)) next.0, next.1.0, next.1.1))
+      × (id ≡ count_of p.history + 1)) f p (carried (publish_call x) f)
+  published-leads own s id x new f p is stands tried known is_try told =
+      let all = published-whole laws.one laws.same laws.paths laws.live laws.newest laws.unnamed laws.append own rows s id x f p stands tried known is_try told in
+      (all.0, all.1, (subst (λ (m : Phase). KnowsIn rows m (carried (publish_call x) f) all.0) (sym (ok-same new _ is)) all.2, all.3.0, all.3.1))
 
   leads-at : (own : OwnView) (new : Phase) (f after : Files) (p : Past) → Keeps own new f p after → Leads (MakesOwn own rows) (KnowsIn rows new) f p after
   leads-at own new f after p (makes, known) = (p, makes, known)
 
   leads-on : (m : Phase) (answer : Answer) (new : Phase) (f : Files) (p : Past) → After m answer (Ok new) → Stands f p → IsCommitter m → KnowsIn rows m f p
       → IfSome (next_call m) (λ call. Answers call answer f → Leads (MakesRows rows m) (KnowsIn rows new) f p (carried call f))
-  leads-on (phases.Publish own x) (answers.Published published.Created) new f p is stands tried (known, is_try) = λ told.
-      let leads = published-leads own x new f p is stands tried known is_try told in
+  leads-on (phases.Put own s id (puts.Publish x)) (answers.Published published.Created) new f p (to, goes, on) stands putting (known, is_try) = λ told.
+      let leads = published-leads own s id x new f p (putter-at own s id to puts.Published (Ok new) goes on) stands putting.0 known is_try told in
       (leads.0, leads.1, leads.2.0)
-  leads-on (phases.Publish own x) (answers.Published published.Exists) new f p on stands tried (known, is_try) = λ told.
-      leads-at own new f (carried (publish_call x) f) p (lost-leads own x published.Exists new f p tt on known told)
-  leads-on (phases.Publish own x) (answers.Published published.AfterGone) new f p on stands tried (known, is_try) = λ told.
-      leads-at own new f (carried (publish_call x) f) p (lost-leads own x published.AfterGone new f p tt on known told)
-  leads-on (phases.Publish own x) answer new f p after stands tried known = absurd after
+  leads-on (phases.Put own s id (puts.Publish x)) (answers.Published published.Exists) new f p (to, goes, on) stands putting (known, is_try) = λ told.
+      leads-at own new f (carried (publish_call x) f) p
+      (lost-leads own s id x published.Exists new f p tt (putter-at own s id to puts.Lost (Ok new) goes on) known told)
+  leads-on (phases.Put own s id (puts.Publish x)) (answers.Published published.AfterGone) new f p (to, goes, on) stands putting (known, is_try) = λ told.
+      leads-at own new f (carried (publish_call x) f) p
+      (lost-leads own s id x published.AfterGone new f p tt (putter-at own s id to puts.Lost (Ok new) goes on) known told)
   leads-on (phases.Names own s) answer new f p after stands committer known = λ told.
       leads-at own new f (carried manifests_call f) p (keeps-on (phases.Names own s) answer new f p tt after stands committer known told)
   leads-on (phases.View own m) answer new f p after stands committer known =
@@ -256,8 +291,9 @@ module _ (laws : Laws) (rows : List HistoryRow) where
       (λ call keeps told. leads-at own new f (carried call f) p (keeps told))
   leads-on (phases.Search own q) answer new f p after stands committer known = λ told.
       leads-at own new f (carried (calls.Read (snapshot_path q.id)) f) p (keeps-on (phases.Search own q) answer new f p tt after stands committer known told)
-  leads-on (phases.Create own making) answer new f p after stands committer known = λ told.
-      leads-at own new f (carried (calls.Create making.next.path making.next.bytes) f) p (keeps-on (phases.Create own making) answer new f p tt after stands committer known told)
+  leads-on (phases.Put own s id (puts.Create making)) answer new f p after stands committer known = λ told.
+      leads-at own new f (carried (create_call making.next) f) p (keeps-on (phases.Put own s id (puts.Create making)) answer new f p tt after stands committer known told)
+  leads-on (phases.Put own s id m) answer new f p (to, goes, on) stands committer known = absurd goes
   leads-on (phases.Committed author id) answer new f p after stands committer known = absurd after
   leads-on (phases.Already author) answer new f p after stands committer known = absurd after
   leads-on phases.Over answer new f p after stands committer known = absurd after

@@ -11,15 +11,14 @@ use Rattle.pm_read_table.specs.Meaning.{IsViewIn, view_origin, view_snapshot}
 use Rattle.pm_read_table.specs.declared.view.View.{View}
 use Rattle.pm_append.specs.Commit.{Attempt}
 use Rattle.pm_append.specs.declared.newest.Author.{Author}
-use Rattle.pm_append.specs.declared.newest.CommitFile.{CommitFile}
-use Rattle.pm_commit.specs.Committer.{Hears, Makes, Seeks, Tries, TriesIf, create_next, found_in, publishing_of}
-use Rattle.pm_commit.specs.Meaning.{HasEarlier, IsFoundIn, KnowsIn, KnowsOwn, KnowsTry}
+use Rattle.pm_commit.specs.Committer.{Hears, Makes, Seeks, Tries, TriesIf, found_in, put_of}
+use Rattle.pm_commit.specs.Meaning.{AreThere, HasEarlier, IsFoundIn, KnowsIn, KnowsOwn}
 use Rattle.pm_commit.specs.Own.{IsOwn, OwnView, begun, begun_after, with_lost, with_named}
 use Rattle.pm_commit.specs.Search.{older_ids, seen_in}
 use Rattle.pm_commit.specs.declared.search.Seen.{Seen}
 use Rattle.pm_commit.specs.declared.search.Seen.TheVariants as seen
 use Rattle.pm_commit.specs.declared.found.Found.{Found}
-use Rattle.pm_commit.specs.declared.making.Publishing.{Publishing}
+use Rattle.pm_put.proofs.Facts.{at_first}
 use Rattle.pm_commit.specs.declared.phase.Phase.{Phase}
 use Rattle.pm_commit.proofs.CommitterLemmas.{made-tried, ok-same}
 
@@ -93,11 +92,6 @@ module _ (rows : List HistoryRow) (s : TableSchema) (p : Past) where
 -- ---- what a try leads to
 
 module _ (rows : List HistoryRow) (f : Files) (p : Past) where
-  pub create-known : (own : OwnView) (x : Publishing) (files : List CommitFile) → KnowsOwn own rows x.schema p → KnowsTry own rows x files f p
-      → KnowsIn rows (create_next own x files) f p
-  create-known own x [] known try_known = (known, try_known)
-  create-known own x (file ∷ files) known try_known = (known, try_known)
-
   pub makes-known : (own : OwnView) (found : Found) (later : Phase) → IsOwn found.schema own → KnowsOwn own rows found.schema p → IsFoundIn p found
       → Makes own found (Ok later) → KnowsIn rows later f p
   makes-known own found later own_of known is_found (made, is_made, allowed, is) =
@@ -108,28 +102,27 @@ module _ (rows : List HistoryRow) (f : Files) (p : Past) where
       let attempt : Attempt = record { rows = rows; batch = own.batch; author = own.author; newest = found.newest; names = own.names; made = made } in
       let total : ℕ = own.names.count + length made.files.items in
       let next : OwnView = with_named total own in
-      subst (λ (m : Phase). KnowsIn rows m f p) (sym is)
-      (create-known next (publishing_of found.schema made) made.files.items
-      (named-known rows found.schema p own total (omega (arith, count, within)) known) (record {
-        attempt = attempt;
-        same_rows = refl;
-        same_batch = refl;
-        same_author = refl;
-        found = is_found;
-        names = record {
-          session = refl;
-          actor = refl;
-          based = own_of.same_base;
-          may = known.may;
-          room = (let one = own_of.one_group in omega (arith, named, within, one));
-        };
-        made = is_made;
-        allowed = allowed;
-        is = refl;
-        done = [];
-        files = refl;
-        there = inr tt;
-      }))
+      subst (λ (m : Phase). KnowsIn rows m f p) (sym is) (
+        named-known rows found.schema p own total (omega (arith, count, within)) known,
+        record {
+          attempt = attempt;
+          same_rows = refl;
+          same_batch = refl;
+          same_author = refl;
+          found = is_found;
+          names = record {
+            session = refl;
+            actor = refl;
+            based = own_of.same_base;
+            may = known.may;
+            room = (let one = own_of.one_group in omega (arith, named, within, one));
+          };
+          made = is_made;
+          allowed = allowed;
+          is = refl;
+          put = at_first (put_of found.schema made) (AreThere next f p) (inr tt);
+        },
+      )
 
   -- the newest snapshot is an earlier commit of the author's
   newest-earlier : (author : Author) (v : View) → IsFoundIn p (found_in v) → seen_in author v.snapshot ≡ seen.Reached → HasEarlier author p

@@ -19,7 +19,7 @@ use Rattle.pm_append.specs.Snapshot.{added_entry}
 use Rattle.pm_append.specs.Refusals.{above_files, above_id, above_numbers, is_fenced, no_files, no_id, passed, refusal_of}
 use Rattle.pm_append.specs.declared.newest.Append.{Append}
 use Rattle.pm_append.specs.declared.newest.Author.{Author}
-use Rattle.pm_append.specs.declared.newest.CommitFile.{CommitFile}
+use Rattle.pm_put.specs.declared.putting.CommitFile.{CommitFile}
 use Rattle.pm_append.specs.declared.newest.Newest.{Newest}
 use Rattle.pm_write.specs.Files.{no_sequence}
 use Rattle.pm_commit.proofs.PathLemmas.{InTable, in-bucket, in-manifests}

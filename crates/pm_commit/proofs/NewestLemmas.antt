@@ -45,9 +45,10 @@ use Rattle.pm_read_table.proofs.Facts as reader_facts
 use Rattle.pm_read_table.proofs.Facts.{Joined, OneList}
 use Rattle.pm_read_table.proofs.FaultLemmas.{IsFileFault, file_fault}
 use Rattle.pm_commit.specs.Alone.{ReadsNewest}
-use Rattle.pm_commit.specs.Committer.{Reads, after_path, newest_of, publish_call}
-use Rattle.pm_commit.specs.Trace.{IsLost}
-use Rattle.pm_commit.specs.declared.making.Publishing.{Publishing}
+use Rattle.pm_commit.specs.Committer.{Reads, after_path, newest_of, publishing_of}
+use Rattle.pm_put.specs.Putter.{publish_call}
+use Rattle.pm_put.specs.Trace.{IsLost}
+use Rattle.pm_put.specs.declared.putting.Publishing.{Publishing}
 use Rattle.pm_commit.proofs.CommitterLemmas.{asked-same}
 use Rattle.pm_commit.proofs.OriginLemmas.{asked-latest}
 
@@ -106,13 +107,14 @@ created-at None None answer none there told = absurd (let clash = there in cc)
 created-at None (Some bytes) answer none there told = told
 created-at (Some bytes) b answer none there told = absurd (let clash = none in cc)
 
-pub never-lost : (f : Files) (p : Past) (x : Publishing) (answer : Published) → Stands f p → IsTableOf x.schema p.history → x.id ≡ count_of p.history + 1
-    → x.id ≤ greatest → Answers (publish_call x) (answers.Published answer) f → IsLost answer → ⊥
-never-lost f p x answer stands table is bound told lost =
-    let absent = next-absent f p x.schema x.id stands table is bound in
-    let there : IsSome (map.get f (after_path x.schema x.id)) =
-    subst (λ (n : ℕ). IsSome (map.get f (after_path x.schema n))) (sym is) (after-there f x.schema (count_of p.history) (newest-at f p x.schema stands table)) in
-    subst IsLost (created-at (map.get f (snapshot_path x.id)) (map.get f (after_path x.schema x.id)) answer absent there told) lost
+pub never-lost : (f : Files) (p : Past) (s : TableSchema) (id : ℕ) (text : List ℕ) (x : Publishing) (answer : Published) → Stands f p → IsTableOf s p.history
+    → id ≡ count_of p.history + 1 → id ≤ greatest → x ≡ publishing_of s id text → Answers (publish_call x) (answers.Published answer) f → IsLost answer → ⊥
+never-lost f p s id text x answer stands table is bound last told lost =
+    let absent = next-absent f p s id stands table is bound in
+    let there : IsSome (map.get f (after_path s id)) =
+    subst (λ (n : ℕ). IsSome (map.get f (after_path s n))) (sym is) (after-there f s (count_of p.history) (newest-at f p s stands table)) in
+    let told_at = subst (λ (y : Publishing). Answers (publish_call y) (answers.Published answer) f) last told in
+    subst IsLost (created-at (map.get f (snapshot_path id)) (map.get f (after_path s id)) answer absent there told_at) lost
 
 -- ---- a reader reads it
 

@@ -39,13 +39,17 @@ use Rattle.pm_write.specs.Files.{no_sequence}
 use Rattle.pm_append.specs.Refusals.{above_files, above_id, above_numbers, fence_of, next_number, no_files, no_id}
 use Rattle.pm_append.specs.declared.newest.Append.{Append}
 use Rattle.pm_append.specs.declared.newest.Author.{Author}
-use Rattle.pm_append.specs.declared.newest.CommitFile.{CommitFile}
+use Rattle.pm_put.specs.Meaning.{Putting}
+use Rattle.pm_put.specs.Trace as puts
+use Rattle.pm_put.specs.Trace.{all_created, all_put, creates, publishes}
+use Rattle.pm_put.specs.declared.phase.Phase.TheVariants as put_phases
+use Rattle.pm_put.specs.declared.putting.CommitFile.{CommitFile}
 use Rattle.pm_commit.specs.AllCalls.{DidAppend, Ends, Has}
-use Rattle.pm_commit.specs.Committer.{newest_of, next_call, publishing_of}
+use Rattle.pm_commit.specs.Committer.{newest_of, next_call, put_of}
 use Rattle.pm_commit.specs.Marks.{FindsUsed, HaveNone, mark_of}
 use Rattle.pm_commit.specs.Own.{AreAlike, OwnView, begun, begun_after, counts_of, tries}
 use Rattle.pm_commit.specs.Search.{older_ids, seen_in, seen_of}
-use Rattle.pm_commit.specs.Trace.{AfterLost, Commits, DidSoFar, FindsDone, FindsReason, HasSearch, HasTry, HaveCreated, HaveLost, HavePassed, IsLost, IsUsed, LosesLast, LosesTry, MayCommit, MeetsFile, Meets, Misreads, Searched, Shows, ShowsOwn, Views, at_newest, at_older, creates, has_listed, has_lost, is_absent, is_below, is_none, listed_manifests, lost_by, not_asked, publishes}
+use Rattle.pm_commit.specs.Trace.{AfterLost, Commits, DidSoFar, FindsDone, FindsReason, HasSearch, HasTry, HaveLost, HavePassed, IsUsed, LosesLast, LosesTry, MayCommit, MeetsFile, Meets, Misreads, Searched, ShowsOwn, Views, at_newest, at_older, has_listed, has_lost, is_absent, is_below, is_none, listed_manifests, lost_by, not_asked}
 use Rattle.pm_commit.specs.declared.all_calls.Appended.{Appended}
 use Rattle.pm_commit.specs.declared.all_calls.Appended.TheVariants as appends
 use Rattle.pm_commit.specs.declared.search.Seen.{Seen}
@@ -220,9 +224,37 @@ module _ (p : OwnView) (v : View) where
       led Step own (earlier ++ read_file (snapshot_path id) None ∷ []) begin (ready_for reason) is
       (lead_step Step earlier begin (seeking id left) (ready_for reason) (read_file (snapshot_path id) None) (searched_lead (id ∷ left) earlier searched) refl)
 
-  created_lead : (files : List CommitFile) (own : List Event) → HaveCreated files own → Leads Step own making making
-  created_lead [] own none = led Step own [] making making none refl
-  created_lead (file ∷ files) own (later, is, rest) = led Step own (creates file makes.Created ∷ later) making making is (making, refl, created_lead files later rest)
+  created_lead : (files : List CommitFile) → Leads Step (all_created files) making making
+  created_lead [] = refl
+  created_lead (file ∷ files) = (making, refl, created_lead files)
+
+  -- and then the publish is answered so
+  abbrev published_by : Published → Place
+  published_by published.Created = committed
+  published_by published.Exists = lost
+  published_by published.AfterGone = lost
+
+  put_lead : (put : Putting) (answer : Published) → Leads Step (all_put put answer) making (published_by answer)
+  put_lead put published.Created =
+      lead_step Step (all_created put.files) making making committed (publishes put.last published.Created) (created_lead put.files) refl
+  put_lead put published.Exists =
+      lead_step Step (all_created put.files) making making lost (publishes put.last published.Exists) (created_lead put.files) refl
+  put_lead put published.AfterGone =
+      lead_step Step (all_created put.files) making making lost (publishes put.last published.AfterGone) (created_lead put.files) refl
+
+  published_lead : (put : Putting) (own : List Event) → puts.Did put put_phases.Published own → Leads Step own making committed
+  published_lead put own is = led Step own (all_put put published.Created) making committed is (put_lead put published.Created)
+
+  lost_lead : (put : Putting) (own : List Event) → puts.Did put put_phases.Lost own → Leads Step own making lost
+  lost_lead put own (published.Created, gone, is) = absurd gone
+  lost_lead put own (published.Exists, gone, is) = led Step own (all_put put published.Exists) making lost is (put_lead put published.Exists)
+  lost_lead put own (published.AfterGone, gone, is) = led Step own (all_put put published.AfterGone) making lost is (put_lead put published.AfterGone)
+
+  met_lead : (put : Putting) (path : List ℕ) (own : List Event) → puts.MeetsFile put path own → Leads Step own making (over (refusals.SessionUsed path))
+  met_lead put path own (created, file, left, parts, path_is, is) =
+      led Step own (all_created created ++ creates file makes.Exists ∷ []) making (over (refusals.SessionUsed path)) is
+      (lead_step Step (all_created created) making making (over (refusals.SessionUsed path)) (creates file makes.Exists) (created_lead created)
+      (ap (λ (path : List ℕ). over (refusals.SessionUsed path)) path_is))
 
 -- ---- what it answers
 
@@ -285,17 +317,18 @@ module _ (laws : view.OneLaws) (s : TableSchema) where
   search_at o v Ended n own (views, searches, viewed, ended, is) leads =
       record { views = views; rest = searches; is = is; viewed = viewed; reach = leads searches ended }
 
-  try_at : (o : OwnView) (v : View) (made : Append) (left : List CommitFile) (own : List Event) → HasTry s o v made left own → TryAt (begun v.id o) v own making
-  try_at o v made left own t =
+  try_at : (o : OwnView) (v : View) (made : Append) (Puts : List Event → Type 0) (n : Place) (own : List Event)
+      → ((puts : List Event) → Puts puts → Leads (Step (begun v.id o) v) puts making n) → HasTry s o v made Puts own → TryAt (begun v.id o) v own n
+  try_at o v made Puts n own leads t =
       let p = begun v.id o in
       let first : TryAt p v t.searches (ready_for (reason p v)) = search_at o v MayCommit (ready_for (reason p v)) t.searches t.searched (may_lead p v) in
       let at : ready_for (reason p v) ≡ making = ap ready_for t.allowed in
       let made_at : TryAt p v t.searches making = subst (TryAt p v t.searches) at first in record {
         views = made_at.views;
-        rest = made_at.rest ++ t.creates;
-        is = t.is ∙ ap (λ (own : List Event). own ++ t.creates) made_at.is ∙ append_assoc made_at.views made_at.rest t.creates;
+        rest = made_at.rest ++ t.puts;
+        is = t.is ∙ ap (λ (own : List Event). own ++ t.puts) made_at.is ∙ append_assoc made_at.views made_at.rest t.puts;
         viewed = made_at.viewed;
-        reach = lead_join (Step p v) made_at.rest t.creates (begin p v) making making made_at.reach (created_lead p v t.done t.creates t.created);
+        reach = lead_join (Step p v) made_at.rest t.puts (begin p v) making n made_at.reach (leads t.puts t.put_so);
       }
 
   -- ---- by what is known of the commit before the try
@@ -528,15 +561,9 @@ module _ (laws : view.OneLaws) (s : TableSchema) where
       is : earlier ≡ listed_manifests names ∷ rest
       follows : (later : List Event) (made : Result Appended Refusal) → Tries author ids later made → Tries first.author first.lost (rest ++ later) made
 
-    lost_event : (made : Append) (answer : Published) (own : List Event) (p : OwnView) (v : View) (before own_all : List Event) → IsLost answer → TryAt p v before making
-        → own_all ≡ before ++ publishes (publishing_of s made) answer ∷ [] → TryAt p v own_all lost
-    lost_event made published.Created own p v before own_all absent t is = absurd absent
-    lost_event made published.Exists own p v before own_all absent t is = try_step p v before own_all (publishes (publishing_of s made) published.Exists) making lost t is refl
-    lost_event made published.AfterGone own p v before own_all absent t is = try_step p v before own_all (publishes (publishing_of s made) published.AfterGone) making lost t is refl
-
     loses_at : (o : OwnView) (v : View) (made : Append) (own : List Event) → LosesTry s o v made own → TryAt (begun v.id o) v own lost × (made.id ≡ v.id + 1)
-    loses_at o v made own (answer, tried_own, has, gone, is) =
-        (lost_event made answer own (begun v.id o) v tried_own own gone (try_at o v made [] tried_own has) is, has.is_made.id)
+    loses_at o v made own has =
+        (try_at o v made (puts.Did (put_of s made) put_phases.Lost) lost own (lost_lead (begun v.id o) v (put_of s made)) has, has.is_made.id)
 
     left_of : (o : OwnView) (earlier : List Event) → HaveLost s first o earlier → Left o earlier
     left_of o earlier (has_listed names none) = record {
@@ -579,10 +606,9 @@ module _ (laws : view.OneLaws) (s : TableSchema) where
 
     commits : (by : Author) (id : ℕ) (o : OwnView) (author : Author) (ids : List ℕ) (own : List Event) → Is first.batch first.check o author ids → Commits s by id o own
         → Tries author ids own (Ok (appends.Committed id))
-    commits by id o author ids own is (v, made, tried_own, has, who, id_is, at) =
-        let event : Event = publishes (publishing_of s made) published.Created in
+    commits by id o author ids own is (v, made, who, id_is, has) =
         ends_so (Ok (appends.Committed id)) o author ids v own committed is
-        (try_step (begun v.id o) v tried_own own event making committed (try_at o v made [] tried_own has) at refl) (id_is ∙ has.is_made.id)
+        (try_at o v made (puts.Did (put_of s made) put_phases.Published) committed own (published_lead (begun v.id o) v (put_of s made)) has) (id_is ∙ has.is_made.id)
 
     finds_done : (by : Author) (o : OwnView) (author : Author) (ids : List ℕ) (own : List Event) → Is first.batch first.check o author ids → FindsDone s by o own
         → Tries author ids own (Ok appends.Already)
@@ -593,11 +619,10 @@ module _ (laws : view.OneLaws) (s : TableSchema) where
 
     meets_file : (path : List ℕ) (o : OwnView) (author : Author) (ids : List ℕ) (own : List Event) → Is first.batch first.check o author ids → MeetsFile s path o own
         → Tries author ids own (Err (refusals.SessionUsed path))
-    meets_file path o author ids own is (v, made, file, left, earlier, has, path_is, at) =
+    meets_file path o author ids own is (v, made, has) =
         let e : Refusal = refusals.SessionUsed path in
-        let event : Event = creates file makes.Exists in
         ends_so (Err e) o author ids v own (over e) is
-        (try_step (begun v.id o) v earlier own event making (over e) (try_at o v made (file ∷ left) earlier has) at (ap (λ (path : List ℕ). over (refusals.SessionUsed path)) path_is)) refl
+        (try_at o v made (puts.MeetsFile (put_of s made) path) (over e) own (met_lead (begun v.id o) v (put_of s made) path) has) refl
 
     finds_reason : (e : Refusal) (o : OwnView) (author : Author) (ids : List ℕ) (own : List Event) → Is first.batch first.check o author ids → FindsReason s e o own
         → Tries author ids own (Err e)

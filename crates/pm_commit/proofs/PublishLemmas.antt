@@ -1,13 +1,13 @@
 -- The publish of a try whose files are all there appends its entry to the history, while the newest snapshot stands.
-use Rattle.std.proofs.Common.{◌≡◌, inl, inr, ℕ, zero, suc, ◌+◌, ◌-◌, ◌<◌, ◌≤◌, nat_le, Bool, true, false, ◌&&◌, if◌then◌else◌, List, [], ◌∷◌, ◌++◌, length, length-append, Option, None, Some, is_none, is_some, IsSome, IsSomeAnd, refl, sym, ap, ◌∙◌, subst, arith}
+use Rattle.std.proofs.Common.{◌≡◌, inl, inr, ℕ, zero, suc, ◌+◌, ◌-◌, ◌<◌, ◌≤◌, nat_le, Bool, true, false, if◌then◌else◌, List, [], ◌∷◌, ◌++◌, length, length-append, Option, None, Some, IsSome, IsSomeAnd, refl, sym, ap, ◌∙◌, subst, arith}
 use Rattle.std.specs.FinMap as map
 use Rattle.std.specs.List.{AllByRecursion}
 use Rattle.std.proofs.lemmas.Bool.Decides.{nat_tests}
-use Rattle.std.proofs.lemmas.List.{append-nil}
-use Rattle.pm_store.specs.Files.{Files, Puts}
-use Rattle.pm_store.specs.Answers.{published_at}
+use Rattle.pm_store.specs.Files.{Files, Puts, carried}
+use Rattle.pm_store.specs.Answers.{Answers}
+use Rattle.pm_store.specs.declared.answer.Answer.TheVariants as answers
 use Rattle.pm_store.specs.declared.answer.Published.TheVariants as published
-use Rattle.pm_store.proofs.ChangeLaws.{Puts-insert}
+use Rattle.pm_store.proofs.ChangeLaws.{Answers-Changed}
 use Rattle.pm_values.specs.declared.group.Group.{Group}
 use Rattle.pm_model_history.specs.History.{Entry, History, IsTableOf, append, table}
 use Rattle.pm_model_history.specs.Merge.{HistoryRow}
@@ -29,11 +29,16 @@ use Rattle.pm_append.specs.Commit.{Attempt, Grows, HasAppended, IsAsMade, IsFoun
 use Rattle.pm_append.specs.declared.newest.Author.{Author}
 use Rattle.pm_append.specs.declared.newest.Newest.{Newest}
 use Rattle.pm_commit.specs.Alone.{with_entry}
-use Rattle.pm_commit.specs.Committer.{after_path, newest_in}
-use Rattle.pm_commit.specs.Meaning.{HasCommitted, HasEntry, IsFenced, IsPut, KnowsOwn, KnowsTry, MakesOwn, entry_of}
+use Rattle.pm_commit.specs.Committer.{after_path, newest_in, publishing_of}
+use Rattle.pm_commit.specs.Meaning.{HasCommitted, HasEntry, IsFenced, KnowsOwn, KnowsTry, MakesOwn, entry_of}
 use Rattle.pm_commit.specs.Own.{IsTried, OwnView, actor_of}
 use Rattle.pm_commit.specs.declared.found.Found.{Found}
-use Rattle.pm_commit.specs.declared.making.Publishing.{Publishing}
+use Rattle.pm_put.proofs.Facts.{published_absent, published_there}
+use Rattle.pm_put.specs.Meaning as put
+use Rattle.pm_put.specs.Meaning.{IsPut}
+use Rattle.pm_put.specs.Putter.{publish_call}
+use Rattle.pm_put.specs.declared.phase.Phase.TheVariants as putters
+use Rattle.pm_put.specs.declared.putting.Publishing.{Publishing}
 use Rattle.pm_commit.proofs.AdvanceLemmas.{NamedPaths, append-advances, later_past, same-advances}
 use Rattle.pm_commit.proofs.FenceLemmas.{newest-fence, not-fenced}
 use Rattle.pm_commit.proofs.FoundLemmas.{LiveEntries, found-there}
@@ -89,11 +94,8 @@ before-there f s (suc k) origin there =
 -- ---- a try that is published
 
 module _ (one : OneContents) (same : SameContents) (paths : NamedPaths) (live_law : LiveEntries) (newest_law : IsNewest) (none_law : NamesNone) (append_law : AppendsTry)
-    (own : OwnView) (rows : List HistoryRow) (x : Publishing) (f : Files) (p : Past) (stands : Stands f p) (tried : IsTried x.schema own)
-    (known : KnowsOwn own rows x.schema p) (is_try : KnowsTry own rows x [] f p) where
-  abbrev s : TableSchema
-  s = x.schema
-
+    (own : OwnView) (rows : List HistoryRow) (s : TableSchema) (id : ℕ) (x : Publishing) (f : Files) (p : Past) (stands : Stands f p)
+    (tried : IsTried s own) (known : KnowsOwn own rows s p) (is_try : KnowsTry own rows s id (putters.Publish x) f p) where
   abbrev t : Attempt
   t = is_try.attempt
 
@@ -115,11 +117,11 @@ module _ (one : OneContents) (same : SameContents) (paths : NamedPaths) (live_la
   same-newest : t.newest ≡ newest_in v
   same-newest = ap (λ (found : Found). found.newest) is_try.found.is
 
-  id-is : x.id ≡ t.newest.id + 1
-  id-is = ap (λ (x : Publishing). x.id) is_try.is ∙ is_try.made.id
+  id-is : id ≡ t.newest.id + 1
+  id-is = is_try.is ∙ is_try.made.id
 
-  text-is : x.text ≡ t.made.text
-  text-is = ap (λ (x : Publishing). x.text) is_try.is
+  last-is : x ≡ publishing_of s id t.made.text
+  last-is = is_try.put.0 ∙ ap (λ (n : ℕ). publishing_of s n t.made.text) (sym is_try.is)
 
   below : t.newest.id < greatest
   below = allowed-id t.newest t.author t.batch is_try.allowed
@@ -130,9 +132,10 @@ module _ (one : OneContents) (same : SameContents) (paths : NamedPaths) (live_la
 
   -- the history has the entry more, and the id is the next
   abbrev IsNext : Past → Type 0
-  IsNext later = (later.history ≡ with_entry (entry_of own.author rows) p.history) × (x.id ≡ count_of p.history + 1)
+  IsNext later = (later.history ≡ with_entry (entry_of own.author rows) p.history) × (id ≡ count_of p.history + 1)
 
-  module _ (absent : map.get f (snapshot_path x.id) ≡ None) (there : IsSome (map.get f (after_path s x.id))) where
+  module _ (after : Files) (absent : map.get f (snapshot_path id) ≡ None) (there : IsSome (map.get f (after_path s id)))
+      (puts_at : Puts f (snapshot_path id) (Some t.made.text) after) where
     before : HasSnapshotAt f s t.newest.id
     before = before-there f s t.newest.id origin (subst (λ (n : ℕ). IsSome (map.get f (after_path s n))) id-is there)
 
@@ -140,7 +143,7 @@ module _ (one : OneContents) (same : SameContents) (paths : NamedPaths) (live_la
     newest-is = newest_law f s entries t.newest.id own-table.2 before (omega (arith, below))
         (subst (λ (n : ℕ). map.get f (snapshot_path n) ≡ None) id-is absent)
 
-    next-is : x.id ≡ suc (length entries)
+    next-is : id ≡ suc (length entries)
     next-is = let one_more = id-is in let last = newest-is in omega (arith, one_more, last)
 
     newest-there : HasSnapshotAt f s (length entries)
@@ -151,12 +154,12 @@ module _ (one : OneContents) (same : SameContents) (paths : NamedPaths) (live_la
     found-here = found-there same live_law f p (record { schema = s; newest = t.newest }) stands is_try.found before
 
     all-there : AllByRecursion (IsPut f) t.made.files.items
-    all-there = elim is_try.there as (λ _. AllByRecursion (IsPut f) t.made.files.items) [
+    all-there = elim is_try.put.1 as (λ _. AllByRecursion (IsPut f) t.made.files.items) [
       | inl fenced ↦ absurd (not-fenced t.newest t.author t.batch s entries is_try.allowed
           (newest-fence f p s entries stands own-table.1 (record { schema = s; newest = t.newest }) is_try.found newest-is)
           (subst (λ (h : History). IsFenced t.author.base h) own-table.1
           (subst (λ (a : Author). IsFenced a.base p.history) (sym is_try.same_author) fenced)))
-      | inr there ↦ subst (AllByRecursion (IsPut f)) (sym (is_try.files ∙ append-nil is_try.done)) there
+      | inr all ↦ all
     ]
 
     batch-of : IsBatchOf s t.rows t.batch
@@ -184,15 +187,11 @@ module _ (one : OneContents) (same : SameContents) (paths : NamedPaths) (live_la
           none_law (actor_of own) f p s id path stands known.is_table (let bound = own-table.2.snapshots.within in omega (arith, high, bound)) known.unnamed named by;
     }
 
-    abbrev after : Files
-    after = map.insert f (snapshot_path x.id) x.text
-
     absent-next : map.get f (snapshot_path (suc (length entries))) ≡ None
     absent-next = subst (λ (n : ℕ). map.get f (snapshot_path n) ≡ None) next-is absent
 
     puts : Puts f (snapshot_path (suc (length entries))) (Some t.made.text) after
-    puts = subst (λ (n : ℕ). Puts f (snapshot_path n) (Some t.made.text) after) next-is
-        (subst (λ (text : List ℕ). Puts f (snapshot_path x.id) (Some text) after) text-is (Puts-insert f (snapshot_path x.id) x.text))
+    puts = subst (λ (n : ℕ). Puts f (snapshot_path n) (Some t.made.text) after) next-is puts_at
 
     abbrev e : Entry
     e = entry_of own.author rows
@@ -225,17 +224,17 @@ module _ (one : OneContents) (same : SameContents) (paths : NamedPaths) (live_la
     bound = let last = newest-is in let low = below in omega (arith, last, low)
 
     -- the snapshot wasn't known, and is the commit's
-    committed : (q : Past) → Advances (actor_of own) f p after q → q.history ≡ table s (entries ++ e ∷ []) → HasEntry own.author rows x.id q
-        → HasCommitted own.author rows x.id q
+    committed : (q : Past) → Advances (actor_of own) f p after q → q.history ≡ table s (entries ++ e ∷ []) → HasEntry own.author rows id q
+        → HasCommitted own.author rows id q
     committed q advances now has =
         let size : count_of q.history ≡ suc (length entries) =
         ap count_of now ∙ length-append entries (e ∷ []) ∙ (let more : length entries + 1 ≡ suc (length entries) = omega arith in more) in
-        let known : IsKnown q x.id = record {
+        let known : IsKnown q id = record {
           after_origin = (let next = next-is in omega (arith, next));
           from = (let start = own-table.3.start in let first = advances.first in let next = next-is in omega (arith, start, first, next));
           to = (let next = next-is in omega (arith, next, size));
         } in
-        let fresh : IsKnown p x.id → ⊥ = λ was. (let high = was.to in let next = next-is in let size = many in absurd (omega (arith, high, next, size))) in
+        let fresh : IsKnown p id → ⊥ = λ was. (let high = was.to in let next = next-is in let size = many in absurd (omega (arith, high, next, size))) in
         record {
           entry = has;
           known = known;
@@ -243,10 +242,10 @@ module _ (one : OneContents) (same : SameContents) (paths : NamedPaths) (live_la
           is_found = found-still (actor_of own) f after p q advances (record { schema = s; newest = t.newest }) is_try.found;
           is_table = subst (IsTableOf s) (sym now) refl;
           next = id-is;
-          stood = subst (λ (g : Files). HasAppended g s t.newest own.author (length rows)) (sym (advances.stood x.id known fresh)) appends.2;
+          stood = subst (λ (g : Files). HasAppended g s t.newest own.author (length rows)) (sym (advances.stood id known fresh)) appends.2;
         }
 
-    pub published-makes : (later : Past) × MakesOwn own rows f p after later × HasCommitted own.author rows x.id later × IsNext later
+    published-makes : (later : Past) × MakesOwn own rows f p after later × HasCommitted own.author rows id later × IsNext later
     published-makes =
         let q = later_past p s entries e after runs_now in
         let change = commits s entries e t.made.text newest-there bound absent-next puts known.fit appends.0 appends.1 in
@@ -264,12 +263,22 @@ module _ (one : OneContents) (same : SameContents) (paths : NamedPaths) (live_la
           ),
         )
 
-  -- the publish, carried out whole
-  pub publish-whole : (a b : Option (List ℕ)) → map.get f (snapshot_path x.id) ≡ a → map.get f (after_path s x.id) ≡ b
-      → (later : Past) × MakesOwn own rows f p (if is_none a && is_some b then map.insert f (snapshot_path x.id) x.text else f) later
-      × (published.Created ≡ published_at a b → HasCommitted own.author rows x.id later × IsNext later)
-  publish-whole (Some found) b is_a is_b = (p, own-same own rows f f p (λ q. refl), λ told. absurd (let clash = told in cc))
-  publish-whole None None is_a is_b = (p, own-same own rows f f p (λ q. refl), λ told. absurd (let clash = told in cc))
-  publish-whole None (Some present) is_a is_b =
-      let all = published-makes is_a (subst (λ (o : Option (List ℕ)). IsSome o) (sym is_b) refl) in
-      (all.0, all.1, λ told. (all.2, all.3))
+  -- what it is to publish appears, after what has to stand
+  publish-makes-own : (after : Files) → IsSome (map.get f x.after) → map.get f x.path ≡ None → Puts f x.path (Some x.bytes) after
+      → (later : Past) × MakesOwn own rows f p after later × HasCommitted own.author rows id later × IsNext later
+  publish-makes-own after there absent puts =
+      published-makes after (subst (λ (y : Publishing). map.get f y.path ≡ None) last-is absent)
+      (subst (λ (y : Publishing). IsSome (map.get f y.after)) last-is there)
+      (subst (λ (y : Publishing). Puts f y.path (Some y.bytes) after) last-is puts)
+
+  pub publish-makes : (after : Files) → put.Makes (putters.Publish x) f after → (later : Past) × MakesOwn own rows f p after later
+  publish-makes after (inl same) = (p, own-same own rows f after p same)
+  publish-makes after (inr (there, (absent, puts))) = let all = publish-makes-own after there absent puts in (all.0, all.1)
+
+  -- and that is answered
+  pub published-whole : Answers (publish_call x) (answers.Published published.Created) f
+      → (later : Past) × MakesOwn own rows f p (carried (publish_call x) f) later × HasCommitted own.author rows id later × IsNext later
+  published-whole told =
+      publish-makes-own (carried (publish_call x) f) (published_there (map.get f x.path) (map.get f x.after) told)
+      (published_absent (map.get f x.path) (map.get f x.after) told)
+      (Answers-Changed (publish_call x) (answers.Published published.Created) f told)

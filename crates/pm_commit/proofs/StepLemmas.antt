@@ -4,8 +4,6 @@ use Rattle.pm_values.specs.declared.refusal.Refusal.{Refusal}
 use Rattle.pm_store.specs.Store.{StoreView}
 use Rattle.pm_store.specs.declared.answer.Answer.{Answer}
 use Rattle.pm_store.specs.declared.answer.Answer.TheVariants as answers
-use Rattle.pm_store.specs.declared.answer.Made.TheVariants as created
-use Rattle.pm_store.specs.declared.answer.Published.TheVariants as published
 use Rattle.pm_store.specs.declared.call.Call.{Call}
 use Rattle.pm_machine.specs.Step.{Answered, Stepped, Rested, Went, Refused, Stopped, Failed}
 use Rattle.pm_schema.specs.declared.schema.TableSchema.{TableSchema}
@@ -15,17 +13,21 @@ use Rattle.pm_read_table.specs.declared.phase.Phase as view_phase
 use Rattle.pm_read_table.specs.declared.phase.Phase.TheVariants as readers
 use Rattle.pm_read_table.specs.declared.view.View.{View}
 use Rattle.pm_read_table.proofs.Facts as reader_facts
-use Rattle.pm_append.specs.declared.newest.CommitFile.{CommitFile}
-use Rattle.pm_commit.specs.Committer.{After, AfterReader, Goes, Hears, IsCommitter, Makes, MayMake, Outcome, Reaches, Reads, Refuses, Seeks, Stops, Tries, TriesIf, calls_left, create_next, first_of_try, found_in, later_tries, most_of_try, next_call, publishing_of, reached_at}
+use Rattle.pm_put.specs.declared.putting.CommitFile.{CommitFile}
+use Rattle.pm_commit.specs.Committer.{After, AfterPutter, AfterReader, Goes, Hears, IsCommitter, Makes, MayMake, Outcome, Reaches, Reads, Refuses, Seeks, Stops, Tries, TriesIf, calls_left, first_of_try, found_in, later_tries, most_of_try, next_call, publishing_of, reached_at}
 use Rattle.pm_commit.specs.Own.{IsOwn, OwnView, begun, most_files, tries, with_lost, with_named}
 use Rattle.pm_commit.specs.Search.{older_ids, seen_in, seen_of}
 use Rattle.pm_commit.specs.declared.search.Seen.{Seen}
 use Rattle.pm_commit.specs.declared.search.Seen.TheVariants as seen
 use Rattle.pm_commit.specs.declared.found.Found.{Found}
-use Rattle.pm_commit.specs.declared.making.Publishing.{Publishing}
+use Rattle.pm_put.proofs.Facts as put_facts
+use Rattle.pm_put.specs.Putter as put
+use Rattle.pm_put.specs.declared.phase.Phase as put_phase
+use Rattle.pm_put.specs.declared.phase.Phase.TheVariants as puts
+use Rattle.pm_put.specs.declared.putting.Publishing.{Publishing}
 use Rattle.pm_commit.specs.declared.phase.Phase.{Phase}
 use Rattle.pm_commit.specs.declared.phase.Phase.TheVariants as phases
-use Rattle.pm_commit.proofs.CommitterLemmas.{begun-lost, ok-err, ok-same, ready-may}
+use Rattle.pm_commit.proofs.CommitterLemmas.{begun-lost, ok-same, ready-may}
 use Rattle.pm_commit.proofs.MadeLemmas.{made-few}
 use Rattle.pm_commit.proofs.ReadsLemmas.{EntriesRead, reads-on}
 
@@ -33,13 +35,9 @@ use Rattle.pm_commit.proofs.ReadsLemmas.{EntriesRead, reads-on}
 abbrev IsAhead : ℕ → Phase → Type 0
 IsAhead n m = (calls_left m < n) × Reaches (reached_at m) m
 
-create-ahead : (own : OwnView) (x : Publishing) (files : List CommitFile) (n : ℕ) → length files + 1 + later_tries own < n → IsAhead n (create_next own x files)
-create-ahead own x [] n below =
-    let one : 0 + 1 + later_tries own < n = below in
-    (omega (arith, one), omega arith)
-create-ahead own x (file ∷ files) n below =
-    let one : suc (length files) + 1 + later_tries own < n = below in
-    (omega (arith, one), omega arith)
+put-ahead : (own : OwnView) (s : TableSchema) (id : ℕ) (x : Publishing) (files : List CommitFile) (n : ℕ) → length files + 1 + later_tries own < n
+    → IsAhead n (phases.Put own s id (put.create_next x files))
+put-ahead own s id x files n below = let left = put_facts.next_left x files in (omega (arith, left, below), omega (arith, left))
 
 makes-ahead : (own : OwnView) (found : Found) (later : Phase) (n : ℕ) → IsOwn found.schema own → most_files + 1 + later_tries own < n → Makes own found (Ok later)
     → IsAhead n later
@@ -47,7 +45,7 @@ makes-ahead own found later n own_of below (made, is_made, allowed, is) =
     let few = made-few found.schema found.newest own.author own.batch own.names made is_made in
     let one = own_of.one_group in
     subst (IsAhead n) (sym is)
-    (create-ahead (with_named (own.names.count + length made.files.items) own) (publishing_of found.schema made) made.files.items n
+    (put-ahead (with_named (own.names.count + length made.files.items) own) found.schema made.id (publishing_of found.schema made.id made.text) made.files.items n
     (omega (arith, few, one, below)))
 
 -- the ids that are left are few enough, wherever one is read next
@@ -124,6 +122,27 @@ lost-ahead own s id new left is =
     let longer = length-append own.lost (id ∷ []) in
     first-ahead (with_lost id own) s new (1 + later_tries own) (omega (arith, longer, left)) is
 
+as-ahead : (own : OwnView) (s : TableSchema) (id : ℕ) (m to : put_phase.Phase) (new : Phase) → put.calls_left to < put.calls_left m → 0 < put.calls_left to
+    → ◌≡◌ {A = Outcome} (Ok new) (Ok (phases.Put own s id to)) → IsAhead (put.calls_left m + later_tries own) new
+as-ahead own s id m to new fewer some is =
+    subst (IsAhead (put.calls_left m + later_tries own)) (sym (ok-same new _ is)) (omega (arith, fewer), omega (arith, some))
+
+putter-ahead : (own : OwnView) (s : TableSchema) (id : ℕ) (m to : put_phase.Phase) (answer : Answer) (new : Phase) → put.Goes m answer to
+    → AfterPutter own s id to (Ok new) → IsAhead (put.calls_left m + later_tries own) new
+putter-ahead own s id m (puts.Create making) answer new goes is =
+    let on = put_facts.goes m answer (puts.Create making) goes in as-ahead own s id m (puts.Create making) new on.0 on.1 is
+putter-ahead own s id m (puts.Publish x) answer new goes is =
+    let on = put_facts.goes m answer (puts.Publish x) goes in as-ahead own s id m (puts.Publish x) new on.0 on.1 is
+putter-ahead own s id m puts.Published answer new goes is =
+    let on = put_facts.goes m answer puts.Published goes in
+    let fewer = on.0 in
+    subst (IsAhead (put.calls_left m + later_tries own)) (sym (ok-same new _ is)) (omega (arith, fewer), (own.author, refl))
+putter-ahead own s id m puts.Lost answer new goes (left, is) =
+    let on = put_facts.goes m answer puts.Lost goes in
+    subst (λ (k : ℕ). IsAhead (k + later_tries own) new) on.2 (lost-ahead own s id new left is)
+putter-ahead own s id m puts.Over answer new goes is =
+    let none : 0 < 0 = (put_facts.goes m answer puts.Over goes).1 in absurd (omega (arith, none))
+
 goes-ahead : EntriesRead → (m : Phase) (answer : Answer) (new : Phase) (call : Call) (before after : StoreView) → next_call m ≡ Some call → Answered call answer before after
     → After m answer (Ok new) → IsCommitter m → IsAhead (calls_left m) new
 goes-ahead law (phases.Names own s) (answers.Listed names) new call before after at came (none, is) own_of =
@@ -136,14 +155,7 @@ goes-ahead law (phases.Search own q) (answers.Found None) new call before after 
 goes-ahead law (phases.Search own q) (answers.Found (Some bytes)) new call before after at came (x, reads, on) (may, few, ids) =
     hears-ahead own q.found q.left (seen_of own.author x) new (length q.left + 1 + (most_files + 1) + later_tries own) may.own_of (omega arith)
     (rest-few own q.left (length q.left + 1 + (most_files + 1) + later_tries own) (omega arith)) on
-goes-ahead law (phases.Create own making) (answers.Made created.Created) new call before after at came is known =
-    subst (IsAhead (length making.rest + 2 + later_tries own)) (sym (ok-same new _ is))
-    (create-ahead own making.publishing making.rest (length making.rest + 2 + later_tries own) (omega arith))
-goes-ahead law (phases.Create own making) (answers.Made created.Exists) new call before after at came is known = absurd (ok-err new _ is)
-goes-ahead law (phases.Publish own x) (answers.Published published.Created) new call before after at came is known =
-    subst (IsAhead (1 + later_tries own)) (sym (ok-same new _ is)) (omega arith, (own.author, refl))
-goes-ahead law (phases.Publish own x) (answers.Published published.Exists) new call before after at came (left, is) known = lost-ahead own x.schema x.id new left is
-goes-ahead law (phases.Publish own x) (answers.Published published.AfterGone) new call before after at came (left, is) known = lost-ahead own x.schema x.id new left is
+goes-ahead law (phases.Put own s id m) answer new call before after at came (to, goes, on) known = putter-ahead own s id m to answer new goes on
 goes-ahead law m answer new call before after at came on known = absurd on
 
 reader-call : (r : view_phase.Phase) → 0 < reader.calls_left r → IsSome (reader.next_call r)
@@ -162,8 +174,7 @@ has-call : (m : Phase) → IsCommitter m → 0 < calls_left m → IsSome (next_c
 has-call (phases.Names own s) is left = refl
 has-call (phases.View own m) (has, reads) left = reader-call m has
 has-call (phases.Search own q) is left = refl
-has-call (phases.Create own making) is left = refl
-has-call (phases.Publish own x) is left = refl
+has-call (phases.Put own s id m) is left = put_facts.has_call m is.1
 has-call (phases.Committed author id) is left = absurd (let none : 0 < 0 = left in omega (arith, none))
 has-call (phases.Already author) is left = absurd (let none : 0 < 0 = left in omega (arith, none))
 has-call phases.Over is left = absurd (let none : 0 < 0 = left in omega (arith, none))

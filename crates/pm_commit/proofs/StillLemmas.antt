@@ -18,12 +18,14 @@ use Rattle.pm_read_table.proofs.Facts as reader_facts
 use Rattle.pm_append.specs.Commit.{Attempt, HasAppended, IsBuilt, MakesNames}
 use Rattle.pm_append.specs.Files.{IsAppendOf}
 use Rattle.pm_append.specs.declared.newest.Author.{Author}
-use Rattle.pm_append.specs.declared.newest.CommitFile.{CommitFile}
-use Rattle.pm_commit.specs.Meaning.{HasCommitted, HasEarlier, HasEntry, IsFenced, IsFoundIn, IsOtherThan, IsPut, Knows, KnowsIn, KnowsOwn, KnowsTry, entry_of}
-use Rattle.pm_commit.specs.Committer.{IsCommitter}
+use Rattle.pm_put.proofs.Facts.{at_weaker}
+use Rattle.pm_put.specs.Meaning.{IsPut}
+use Rattle.pm_put.specs.declared.phase.Phase as put_phase
+use Rattle.pm_put.specs.declared.putting.CommitFile.{CommitFile}
+use Rattle.pm_commit.specs.Meaning.{AreThere, HasCommitted, HasEarlier, HasEntry, IsFoundIn, IsOtherThan, Knows, KnowsIn, KnowsOwn, KnowsTry, entry_of}
+use Rattle.pm_commit.specs.Committer.{IsCommitter, put_of}
 use Rattle.pm_commit.specs.Own.{IsTried, OwnView, actor_of}
 use Rattle.pm_commit.specs.declared.found.Found.{Found}
-use Rattle.pm_commit.specs.declared.making.Publishing.{Publishing}
 use Rattle.pm_commit.specs.declared.phase.Phase.{Phase}
 use Rattle.pm_commit.specs.declared.phase.Phase.TheVariants as phases
 use Rattle.pm_commit.proofs.FenceLemmas.{fenced-later}
@@ -104,30 +106,28 @@ module _ (law : OthersNone) (own_files : OwnFiles) (rows : List HistoryRow) (oth
         let origin = no-origin p.history file.path at in
         (own-stays me other f after p q file.path stands advances own origin none there ∙ is, puts-still files made rest)
 
-    there-still : (base : ℕ) (files : List CommitFile) → AllByRecursion (IsMadeBy me) files → IsFenced base p.history ⊎ AllByRecursion (IsPut f) files
-        → IsFenced base q.history ⊎ AllByRecursion (IsPut after) files
-    there-still base files made (inl fenced) =
-        inl (fenced-later base p.history q.history (goes_on other f after p.history q.history advances.change) fenced)
-    there-still base files made (inr there) = inr (puts-still files made there)
+  there-still : (own : OwnView) (files : List CommitFile) → HasNamedNone (actor_of own) p → AllByRecursion (IsMadeBy (actor_of own)) files → AreThere own f p files
+      → AreThere own after q files
+  there-still own files none made (inl fenced) =
+      inl (fenced-later own.author.base p.history q.history (goes_on other f after p.history q.history advances.change) fenced)
+  there-still own files none made (inr there) = inr (puts-still (actor_of own) none files made there)
 
-  try-still : (own : OwnView) (x : Publishing) (left : List CommitFile) → IsTried x.schema own → KnowsOwn own rows x.schema p → KnowsTry own rows x left f p
-      → KnowsTry own rows x left after q
-  try-still own x left tried known is_try = record {
+  try-still : (own : OwnView) (s : TableSchema) (id : ℕ) (m : put_phase.Phase) → IsTried s own → KnowsOwn own rows s p → KnowsTry own rows s id m f p
+      → KnowsTry own rows s id m after q
+  try-still own s id m tried known is_try = record {
     attempt = is_try.attempt;
     same_rows = is_try.same_rows;
     same_batch = is_try.same_batch;
     same_author = is_try.same_author;
-    found = found-still other f after p q advances (record { schema = x.schema; newest = is_try.attempt.newest }) is_try.found;
+    found = found-still other f after p q advances (record { schema = s; newest = is_try.attempt.newest }) is_try.found;
     names = is_try.names;
     made = is_try.made;
     allowed = is_try.allowed;
     is = is_try.is;
-    done = is_try.done;
-    files = is_try.files;
-    there = there-still (actor_of own) known.unnamed own.author.base is_try.done
-        (first-of (IsMadeBy (actor_of own)) is_try.done left
-        (subst (AllByRecursion (IsMadeBy (actor_of own))) is_try.files (tried-made own_files (actor_of own) x.schema is_try.attempt tried.built is_try.names is_try.made)))
-        is_try.there;
+    put = at_weaker (put_of s is_try.attempt.made) (AreThere own f p) (AreThere own after q) m
+        (λ done left files. there-still own done known.unnamed (first-of (IsMadeBy (actor_of own)) done left
+        (subst (AllByRecursion (IsMadeBy (actor_of own))) files (tried-made own_files (actor_of own) s is_try.attempt tried.built is_try.names is_try.made))))
+        is_try.put;
   }
 
   entry-still : (author : Author) (id : ℕ) → HasEntry author rows id p → HasEntry author rows id q
@@ -171,11 +171,7 @@ module _ (law : OthersNone) (own_files : OwnFiles) (rows : List HistoryRow) (oth
       (s, reads, own-still own s apart known, reader_facts.knows_still m other f after p q stands advances reading, origin)
   in-still (phases.Search own searching) is apart (known, is_found) =
       (own-still own searching.found.schema apart known, found-still other f after p q advances searching.found is_found)
-  in-still (phases.Create own making) is apart (known, is_try) = (
-    own-still own making.publishing.schema apart known,
-    try-still own making.publishing (making.next ∷ making.rest) is.0 known is_try,
-  )
-  in-still (phases.Publish own x) is apart (known, is_try) = (own-still own x.schema apart known, try-still own x [] is known is_try)
+  in-still (phases.Put own s id m) is apart (known, is_try) = (own-still own s apart known, try-still own s id m is.0 known is_try)
   in-still (phases.Committed author id) is apart known = committed-still author id known
   in-still (phases.Already author) is apart known = earlier-still author known
   in-still phases.Over is apart known = tt

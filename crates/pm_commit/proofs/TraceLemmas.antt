@@ -8,12 +8,9 @@ use Rattle.pm_store.specs.Answers.{MayAnswer}
 use Rattle.pm_store.specs.declared.answer.Answer.{Answer}
 use Rattle.pm_store.specs.declared.answer.Answer.TheVariants as answers
 use Rattle.pm_store.specs.declared.answer.Made.TheVariants as created
-use Rattle.pm_store.specs.declared.answer.Published.{Published}
-use Rattle.pm_store.specs.declared.answer.Published.TheVariants as published
 use Rattle.pm_store.specs.declared.call.Call.{Call}
 use Rattle.pm_store.specs.declared.call.Call.TheVariants as calls
-use Rattle.pm_machine.specs.Step.{path_of}
-use Rattle.pm_machine.specs.Trace.{Event, Recounts, answered, faulted, after_answer}
+use Rattle.pm_machine.specs.Trace.{Event, Recounts, answered, after_answer}
 use Rattle.pm_machine.proofs.PhaseFacts.{recounts_of}
 use Rattle.pm_schema.specs.declared.schema.TableSchema.{TableSchema}
 use Rattle.pm_snapshot.specs.Snapshot.{snapshot_in}
@@ -34,20 +31,24 @@ use Rattle.pm_append.specs.Refusals.{above_files, above_id, above_numbers, is_fe
 use Rattle.pm_write.specs.Files.{no_sequence}
 use Rattle.pm_append.specs.declared.newest.Append.{Append}
 use Rattle.pm_append.specs.declared.newest.Author.{Author}
-use Rattle.pm_append.specs.declared.newest.CommitFile.{CommitFile}
 use Rattle.pm_append.specs.declared.newest.Newest.{Newest}
-use Rattle.pm_commit.specs.Committer.{After, AfterReader, Goes, Hears, Loses, Makes, Outcome, Refuses, Seeks, Shown, Stops, Tries, TriesIf, create_next, first_of_try, found_in, manifests_call, newest_in, newest_of, next_call, publish_call, publishing_of}
+use Rattle.pm_commit.specs.Committer.{After, AfterPutter, AfterReader, Goes, Hears, Loses, Makes, Outcome, Refuses, Seeks, Shown, Stops, Tries, TriesIf, first_of_try, found_in, manifests_call, newest_in, newest_of, next_call, publishing_of, put_of}
 use Rattle.pm_commit.specs.Marks.{FindsUsed}
 use Rattle.pm_commit.specs.Own.{OwnView, begun, begun_after, tries, with_lost}
 use Rattle.pm_commit.specs.Search.{SearchingView, older_ids, seen_in, seen_of}
-use Rattle.pm_commit.specs.Trace.{AfterLost, Did, DidInTry, DidSoFar, FindsReason, HasSearch, HasTry, HaveCreated, HaveLost, HavePassed, IsLost, MayTakeMemory, LosesTry, MayCommit, Meets, Searched, Shows, ShowsOwn, Views, at_newest, at_older, creates, has_listed, has_lost, is_absent, is_below, is_none, listed_manifests, lost_by, named_by, not_asked, publishes}
+use Rattle.pm_commit.specs.Trace.{AfterLost, Did, DidInTry, DidSoFar, FindsReason, HasPut, HasSearch, HasTry, HaveLost, HavePassed, LosesTry, MayCommit, MayTakeMemory, Meets, Searched, Shows, ShowsOwn, Views, at_newest, at_older, has_listed, has_lost, is_absent, is_below, is_none, listed_manifests, lost_by, named_by, not_asked}
 use Rattle.pm_commit.specs.declared.search.Seen.{Seen}
 use Rattle.pm_commit.specs.declared.search.Seen.TheVariants as seen
 use Rattle.pm_commit.specs.declared.found.Found.{Found}
-use Rattle.pm_commit.specs.declared.making.Publishing.{Publishing}
+use Rattle.pm_put.proofs.Facts as put_facts
+use Rattle.pm_put.specs.Putter as putters
+use Rattle.pm_put.specs.Putter.{create_next as put_next}
+use Rattle.pm_put.specs.Trace as put
+use Rattle.pm_put.specs.declared.phase.Phase as put_phase
+use Rattle.pm_put.specs.declared.phase.Phase.TheVariants as puts
 use Rattle.pm_commit.specs.declared.phase.Phase.{Phase}
 use Rattle.pm_commit.specs.declared.phase.Phase.TheVariants as phases
-use Rattle.pm_commit.proofs.CommitterLemmas.{err-ok, err-same, ok-err, ok-same}
+use Rattle.pm_commit.proofs.CommitterLemmas.{err-ok, ok-same}
 
 -- ---- one event more
 
@@ -59,15 +60,6 @@ passed-push a [] id bytes x own quiet reads other =
 passed-push a (first ∷ ids) id bytes x own (some, y, later, has, others, is, rest) reads other =
     let event : Event = read_file (snapshot_path id) (Some bytes) in
     (some, y, later ++ event ∷ [], has, others, ap (λ (own : List Event). own ++ event ∷ []) is, passed-push a ids id bytes x later rest reads other)
-
-created-push : (files : List CommitFile) (file : CommitFile) (own : List Event) → HaveCreated files own
-    → HaveCreated (files ++ file ∷ []) (own ++ creates file created.Created ∷ [])
-created-push [] file own quiet = ([], ap (λ (own : List Event). own ++ creates file created.Created ∷ []) quiet, refl)
-created-push (first ∷ files) file own (later, is, rest) = (
-  later ++ creates file created.Created ∷ [],
-  ap (λ (own : List Event). own ++ creates file created.Created ∷ []) is,
-  created-push files file later rest,
-)
 
 searched-more : (o : OwnView) (v : View) (id : ℕ) (left bytes : List ℕ) (x : Snapshot) (own : List Event) → Searched o v (id ∷ left) own → snapshot_in id bytes ≡ Ok x
     → seen_of o.author x ≡ seen.Other → Searched o v left (own ++ read_file (snapshot_path id) (Some bytes) ∷ [])
@@ -167,28 +159,28 @@ module _ (s : TableSchema) where
 
   -- ---- a try
 
-  did-create : (p : OwnView) (v : View) (made : Append) (files : List CommitFile) (own : List Event) → v.schema ≡ s → HasTry s p v made files own
-      → DidInTry s (create_next (named_by p v made) (publishing_of v.schema made) files) p own
-  did-create p v made [] own same has = (v, made, refl, ap (λ (t : TableSchema). publishing_of t made) same, has)
-  did-create p v made (file ∷ files) own same has = (v, made, refl, ap (λ (t : TableSchema). publishing_of t made) same, has)
-
   did-make : (p : OwnView) (v : View) (new : Phase) (own : List Event) → HasSearch s p v MayCommit own → Makes (begun v.id p) (found_in v) (Ok new)
       → DidInTry s new p own
   did-make p v new own searched (made, is_made, allowed, is) =
       let same = search-views p v MayCommit own searched in
       let own_of = begun v.id p in
-      subst (λ (m : Phase). DidInTry s m p own) (sym is)
-      (did-create p v made made.files.items own same (record {
-        searches = own;
-        creates = [];
-        searched = searched;
-        is_made = subst (λ (t : TableSchema). IsAppendOf t (newest_in v) own_of.author own_of.batch own_of.names made) same is_made;
-        allowed = allowed;
-        done = [];
-        files = refl;
-        created = refl;
-        is = sym (append-nil own);
-      }))
+      subst (λ (m : Phase). DidInTry s m p own) (sym is) (
+        v,
+        made,
+        refl,
+        same,
+        refl,
+        record {
+          searches = own;
+          puts = [];
+          searched = searched;
+          is_made = subst (λ (t : TableSchema). IsAppendOf t (newest_in v) own_of.author own_of.batch own_of.names made) same is_made;
+          allowed = allowed;
+          put_so = subst (λ (t : TableSchema). put.Did (put_of s made) (put_next (publishing_of t made.id made.text) made.files.items) []) (sym same)
+              (put_facts.first_did (put_of s made));
+          is = sym (append-nil own);
+        },
+      )
 
   did-seek : (p : OwnView) (v : View) (left : List ℕ) (new : Phase) (own : List Event) → HasSearch s p v (λ o v. Searched o v left) own
       → Seeks (begun v.id p) (found_in v) left (Ok new) → DidInTry s new p own
@@ -261,24 +253,18 @@ module _ (s : TableSchema) where
       search-push p v (λ o v. Searched o v (id ∷ left)) MayCommit own (read_file (snapshot_path id) None)
       (λ searches so_far. is_absent id left searches so_far refl) searched
 
-  try-more : (p : OwnView) (v : View) (made : Append) (file : CommitFile) (left : List CommitFile) (own : List Event) → HasTry s p v made (file ∷ left) own
-      → HasTry s p v made left (own ++ creates file created.Created ∷ [])
-  try-more p v made file left own has = record {
+  -- the putter of a try went on, or showed a refusal
+  try-push : (p : OwnView) (v : View) (made : Append) (P Q : List Event → Type 0) (own : List Event) (event : Event) → (has : HasTry s p v made P own)
+      → Q (has.puts ++ event ∷ []) → HasTry s p v made Q (own ++ event ∷ [])
+  try-push p v made P Q own event has so = record {
     searches = has.searches;
-    creates = has.creates ++ creates file created.Created ∷ [];
+    puts = has.puts ++ event ∷ [];
     searched = has.searched;
     is_made = has.is_made;
     allowed = has.allowed;
-    done = has.done ++ file ∷ [];
-    files = has.files ∙ sym (append_assoc has.done (file ∷ []) left);
-    created = created-push has.done file has.creates has.created;
-    is = ap (λ (own : List Event). own ++ creates file created.Created ∷ []) has.is ∙ append_assoc has.searches has.creates (creates file created.Created ∷ []);
+    put_so = so;
+    is = ap (λ (own : List Event). own ++ event ∷ []) has.is ∙ append_assoc has.searches has.puts (event ∷ []);
   }
-
-  did-next : (p : OwnView) (v : View) (made : Append) (o : OwnView) (x : Publishing) (files : List CommitFile) (own : List Event) → o ≡ named_by p v made
-      → x ≡ publishing_of s made → HasTry s p v made files own → DidInTry s (create_next o x files) p own
-  did-next p v made o x [] own same is has = (v, made, same, is, has)
-  did-next p v made o x (file ∷ files) own same is has = (v, made, same, is, has)
 
   -- a snapshot's search, of what the phase holds
   search-went : (p o : OwnView) (q : SearchingView) (v : View) (bytes : List ℕ) (x : Snapshot) (new : Phase) (own : List Event) → o ≡ begun v.id p → q.found ≡ found_in v
@@ -319,8 +305,7 @@ module _ (s : TableSchema) where
     in-try (phases.Names o t) own (p, earlier, later, lost, tried, is) = absurd tried
     in-try (phases.View o m) own after = after
     in-try (phases.Search o q) own after = after
-    in-try (phases.Create o making) own after = after
-    in-try (phases.Publish o x) own after = after
+    in-try (phases.Put o t id m) own after = after
     in-try (phases.Committed author id) own after = after
     in-try (phases.Already author) own after = after
     in-try phases.Over own (p, earlier, later, lost, tried, is) = absurd tried
@@ -328,12 +313,6 @@ module _ (s : TableSchema) where
     -- the next try begins
     begin-try : (p : OwnView) (own : List Event) → HaveLost s first p own → Did s first (first_of_try p s) own
     begin-try p own lost = (p, own, [], lost, (refl, (refl, refl, tt)), sym (append-nil own))
-
-    -- a publish was lost
-    lost-try : (p : OwnView) (v : View) (made : Append) (x : Publishing) (answer : Published) (later : List Event) → HasTry s p v made [] later
-        → x ≡ publishing_of s made → IsLost answer → LosesTry s p v made (later ++ publishes x answer ∷ [])
-    lost-try p v made x answer later tried same is_lost =
-        (answer, later, tried, is_lost, ap (λ (x : Publishing). later ++ publishes x answer ∷ []) same)
 
     lost-calls : (event : Event) (earlier later own : List Event) → own ≡ earlier ++ later → own ++ event ∷ [] ≡ earlier ++ (later ++ event ∷ [])
     lost-calls event earlier later own is = ap (λ (own : List Event). own ++ event ∷ []) is ∙ append_assoc earlier later (event ∷ [])
@@ -349,28 +328,33 @@ module _ (s : TableSchema) where
     same-lost : (p : OwnView) (v : View) (made : Append) (o : OwnView) → o ≡ named_by p v made → o.lost ≡ p.lost
     same-lost p v made o same = ap (λ (o : OwnView). o.lost) same ∙ begun-lost v.id p
 
-    lose : (p : OwnView) (v : View) (made : Append) (x : Publishing) (answer : Published) (earlier later own : List Event) → length p.lost + 1 < tries
-        → HaveLost s first p earlier → HasTry s p v made [] later → x ≡ publishing_of s made → IsLost answer → own ≡ earlier ++ later
-        → HaveLost s first (lost_by p v made) (own ++ publishes x answer ∷ [])
-    lose p v made x answer earlier later own few lost tried same is_lost is =
-        subst (HaveLost s first (lost_by p v made)) (sym (lost-calls (publishes x answer) earlier later own is))
-        (has_lost p v made earlier (later ++ publishes x answer ∷ []) few lost (lost-try p v made x answer later tried same is_lost))
-
-    lost-same : (p : OwnView) (v : View) (made : Append) (o : OwnView) (x : Publishing) → o ≡ named_by p v made → x ≡ publishing_of s made
-        → with_lost x.id o ≡ lost_by p v made
-    lost-same p v made o x same is = ap (λ (o : OwnView). with_lost x.id o) same ∙ ap (λ (x : Publishing). with_lost x.id (named_by p v made)) is
-
-    lost-on : (o : OwnView) (x : Publishing) (answer : Published) (new : Phase) (own : List Event) → IsLost answer → length o.lost + 1 < tries
-        → AfterLost s first (DidInTry s (phases.Publish o x)) own → new ≡ first_of_try (with_lost x.id o) x.schema
-        → Did s first new (own ++ publishes x answer ∷ [])
-    lost-on o x answer new own is_lost left (p, earlier, later, lost, (v, made, same, is_x, tried), is) on =
+    lost-on : (o : OwnView) (t : TableSchema) (id : ℕ) (new : Phase) (p : OwnView) (v : View) (made : Append) (earlier later own : List Event)
+        → o ≡ named_by p v made → t ≡ s → id ≡ made.id → HaveLost s first p earlier → own ≡ earlier ++ later → LosesTry s p v made later
+        → Loses o t id (Ok new) → Did s first new own
+    lost-on o t id new p v made earlier later own same is_t is_id lost is loses_it (left, on) =
         let few : length p.lost + 1 < tries = subst (λ (ids : List ℕ). length ids + 1 < tries) (same-lost p v made o same) left in
         let next : OwnView = lost_by p v made in
         let is_next : new ≡ first_of_try next s =
-        on ∙ ap (λ (t : TableSchema). first_of_try (with_lost x.id o) t) (ap (λ (x : Publishing). x.schema) is_x)
-        ∙ ap (λ (o : OwnView). first_of_try o s) (lost-same p v made o x same is_x) in
-        subst (λ (m : Phase). Did s first m (own ++ publishes x answer ∷ [])) (sym is_next)
-        (begin-try next (own ++ publishes x answer ∷ []) (lose p v made x answer earlier later own few lost tried is_x is_lost is))
+        on ∙ ap (first_of_try (with_lost id o)) is_t
+        ∙ ap (λ (o : OwnView). first_of_try o s) (ap (with_lost id) same ∙ ap (λ (id : ℕ). with_lost id (named_by p v made)) is_id) in
+        subst (λ (m : Phase). Did s first m own) (sym is_next)
+        (begin-try next own (subst (HaveLost s first next) (sym is) (has_lost p v made earlier later few lost loses_it)))
+
+    -- the putter of a try came so far
+    did-putter : (o : OwnView) (t : TableSchema) (id : ℕ) (to : put_phase.Phase) (new : Phase) (p : OwnView) (v : View) (made : Append) (earlier later own : List Event)
+        → o ≡ named_by p v made → t ≡ s → id ≡ made.id → HaveLost s first p earlier → own ≡ earlier ++ later → HasPut s p v made to later
+        → AfterPutter o t id to (Ok new) → Did s first new own
+    did-putter o t id (puts.Create making) new p v made earlier later own same is_t is_id lost is tried on =
+        subst (λ (m : Phase). Did s first m own) (sym (ok-same new _ on)) (p, earlier, later, lost, (v, made, same, is_t, is_id, tried), is)
+    did-putter o t id (puts.Publish x) new p v made earlier later own same is_t is_id lost is tried on =
+        subst (λ (m : Phase). Did s first m own) (sym (ok-same new _ on)) (p, earlier, later, lost, (v, made, same, is_t, is_id, tried), is)
+    did-putter o t id puts.Published new p v made earlier later own same is_t is_id lost is tried on =
+        subst (λ (m : Phase). Did s first m own) (sym (ok-same new _ on))
+        (p, earlier, later, lost, (v, made, ap (λ (o : OwnView). o.author) same, is_id, tried), is)
+    did-putter o t id puts.Lost new p v made earlier later own same is_t is_id lost is tried on =
+        lost-on o t id new p v made earlier later own same is_t is_id lost is tried on
+    did-putter o t id puts.Over new p v made earlier later own same is_t is_id lost is tried on =
+        subst (λ (m : Phase). Did s first m own) (sym (ok-same new _ on)) (p, earlier, later, lost, (v, made, same, is_t, is_id, tried), is)
 
     went-on : Joined → (m : Phase) (answer : Answer) (new : Phase) (own : List Event) → After m answer (Ok new) → Did s first m own
         → IfSome (next_call m) (λ call. MayAnswer call answer → Did s first new (own ++ answered call answer ∷ []))
@@ -397,27 +381,11 @@ module _ (s : TableSchema) where
     went-on law (phases.Search o q) (answers.Found (Some bytes)) new own (x, reads, on) did = λ may.
         in-try new _ (after-push (DidInTry s (phases.Search o q)) (DidInTry s new) own (read_file (snapshot_path q.id) (Some bytes))
         (λ p later did_now. let (v, same, is_found, searched) = did_now in search-went p o q v bytes x new later same is_found searched reads on) did)
-    went-on law (phases.Create o making) (answers.Made created.Created) new own is did = λ may.
-        in-try new _ (after-push (DidInTry s (phases.Create o making)) (DidInTry s new) own (creates making.next created.Created)
-        (λ p later did_now. let (v, made, same, is_x, tried) = did_now in
-        subst (λ (m : Phase). DidInTry s m p (later ++ creates making.next created.Created ∷ [])) (sym (ok-same new _ is))
-        (did-next p v made o making.publishing making.rest (later ++ creates making.next created.Created ∷ []) same is_x
-        (try-more p v made making.next making.rest later tried))) did)
-    went-on law (phases.Create o making) (answers.Made created.Exists) new own is did = absurd (ok-err new _ is)
-    went-on law (phases.Publish o x) (answers.Published published.Created) new own is did = λ may.
-        in-try new _ (after-push (DidInTry s (phases.Publish o x)) (DidInTry s new) own (publishes x published.Created)
-        (λ p later did_now. let (v, made, same, is_x, tried) = did_now in
-        subst (λ (m : Phase). DidInTry s m p (later ++ publishes x published.Created ∷ [])) (sym (ok-same new _ is)) (
-          v,
-          made,
-          later,
-          tried,
-          ap (λ (o : OwnView). o.author) same,
-          ap (λ (x : Publishing). x.id) is_x,
-          ap (λ (x : Publishing). later ++ publishes x published.Created ∷ []) is_x,
-        )) did)
-    went-on law (phases.Publish o x) (answers.Published published.Exists) new own (left, is) did = λ may. lost-on o x published.Exists new own tt left did is
-    went-on law (phases.Publish o x) (answers.Published published.AfterGone) new own (left, is) did = λ may. lost-on o x published.AfterGone new own tt left did is
+    went-on law (phases.Put o t id m) answer new own (to, goes, on) (p, earlier, later, lost, (v, made, same, is_t, is_id, tried), is) =
+        IfSome_then (putters.next_call m) ((put_facts.recounts (put_of s made)).went m to answer tried.puts goes tried.put_so)
+        (λ call did may. did-putter o t id to new p v made earlier (later ++ answered call answer ∷ []) (own ++ answered call answer ∷ []) same is_t is_id lost
+        (lost-calls (answered call answer) earlier later own is)
+        (try-push p v made (put.Did (put_of s made) m) (put.Did (put_of s made) to) later (answered call answer) tried (did may)) on)
     went-on law m answer new own after did = absurd after
 
     -- ---- refusals
@@ -494,21 +462,25 @@ module _ (s : TableSchema) where
         refused-ready m call answer p v refusal earlier later own did at may none lost is did_to (subst (λ (o : OwnView). Tries (begun v.id o) v (Err refusal)) same on)
     refused-reader m call answer p o readers.Over refusal earlier later own did at may none lost is same did_to on = absurd (err-ok refusal _ on)
 
-    -- eleven tries were lost
-    refused-lost : (o : OwnView) (x : Publishing) (answer : Published) (refusal : Refusal) (own : List Event) → IsLost answer
-        → AfterLost s first (DidInTry s (phases.Publish o x)) own → Loses o x.schema x.id (Err refusal) → Shows s first refusal (own ++ publishes x answer ∷ [])
-    refused-lost o x answer refusal own is_lost (p, earlier, later, lost, (v, made, same, is_x, tried), is) (last, contended) =
+    -- eleven tries were lost, or it refuses nothing
+    refused-putter : (o : OwnView) (t : TableSchema) (id : ℕ) (to : put_phase.Phase) (refusal : Refusal) (p : OwnView) (v : View) (made : Append)
+        (earlier later own : List Event) → o ≡ named_by p v made → id ≡ made.id → HaveLost s first p earlier → own ≡ earlier ++ later → HasPut s p v made to later
+        → AfterPutter o t id to (Err refusal) → Shows s first refusal own
+    refused-putter o t id puts.Lost refusal p v made earlier later own same is_id lost is tried (last, contended) =
         let ids_are : o.lost ≡ p.lost = same-lost p v made o same in
-        let ids : o.lost ++ x.id ∷ [] ≡ p.lost ++ made.id ∷ [] =
-        ap (λ (ids : List ℕ). ids ++ x.id ∷ []) ids_are ∙ ap (λ (x : Publishing). p.lost ++ x.id ∷ []) is_x in
-        as-shown refusal (refusals.Contended (o.lost ++ x.id ∷ [])) _ contended (
-          p,
-          earlier,
-          later ++ publishes x answer ∷ [],
-          lost,
-          (v, made, lost-try p v made x answer later tried is_x is_lost, subst (λ (ids : List ℕ). length ids + 1 ≡ tries) ids_are last, ids),
-          lost-calls (publishes x answer) earlier later own is,
-        )
+        let ids : o.lost ++ id ∷ [] ≡ p.lost ++ made.id ∷ [] =
+        ap (λ (ids : List ℕ). ids ++ id ∷ []) ids_are ∙ ap (λ (id : ℕ). p.lost ++ id ∷ []) is_id in
+        as-shown refusal (refusals.Contended (o.lost ++ id ∷ [])) _ contended
+        (p, earlier, later, lost, (v, made, tried, subst (λ (ids : List ℕ). length ids + 1 ≡ tries) ids_are last, ids), is)
+    refused-putter o t id (puts.Create making) refusal p v made earlier later own same is_id lost is tried on = absurd (err-ok refusal _ on)
+    refused-putter o t id (puts.Publish x) refusal p v made earlier later own same is_id lost is tried on = absurd (err-ok refusal _ on)
+    refused-putter o t id puts.Published refusal p v made earlier later own same is_id lost is tried on = absurd (err-ok refusal _ on)
+    refused-putter o t id puts.Over refusal p v made earlier later own same is_id lost is tried on = absurd (err-ok refusal _ on)
+
+    -- a putter refuses where a create met a file
+    put-met : (m : put_phase.Phase) (answer : Answer) (refusal : Refusal) → putters.Shown m answer refusal → (path : List ℕ) × (refusal ≡ refusals.SessionUsed path)
+    put-met (puts.Create making) (answers.Made created.Exists) refusal is = (making.next.path, is)
+    put-met m answer refusal shown = absurd shown
 
     refused-on : Joined → (m : Phase) (call : Call) (answer : Answer) (refusal : Refusal) (own : List Event) → After m answer (Err refusal) → Did s first m own
         → next_call m ≡ Some call → MayAnswer call answer → Shows s first refusal (own ++ answered call answer ∷ [])
@@ -564,28 +536,26 @@ module _ (s : TableSchema) where
         (subst (λ (e : Event). HasSearch s p v (λ o v. Meets o v (seen_of (begun v.id p).author x)) (later ++ e ∷ [])) event_is
         (older-meets p v q.id q.left bytes x later searched reads))
         (subst (λ (found : Found). Hears (begun v.id p) found q.left (seen_of (begun v.id p).author x) (Err refusal)) is_found on_own)
-    refused-on law (phases.Create o making) call (answers.Made created.Created) refusal own is did at may = absurd (err-ok refusal _ is)
-    refused-on law (phases.Create o making) call (answers.Made created.Exists) refusal own is did at may =
-        let (p, earlier, later, lost, tried, is_own) = did in
-        let (v, made, same, is_x, has) = tried in
-        let event_is : answered call (answers.Made created.Exists) ≡ creates making.next created.Exists =
-        ap (λ (call : Call). answered call (answers.Made created.Exists)) (sym (call-same (calls.Create making.next.path making.next.bytes) call at)) in
-        as-shown refusal (refusals.SessionUsed making.next.path) _ (err-same refusal _ is) (inr (
+    refused-on law (phases.Put o t id m) call answer refusal own (inl shown) (p, earlier, later, lost, (v, made, same, is_t, is_id, tried), is) at may =
+        let (path, used) = put-met m answer refusal shown in
+        let shows = some-at (putters.next_call m) call _ at
+        ((put_facts.recounts (put_of s made)).refused m puts.Over answer refusal tried.puts (shown, refl) tried.put_so) may in
+        let event : Event = answered call answer in
+        let met : put.MeetsFile (put_of s made) path (tried.puts ++ event ∷ []) =
+        subst (λ (e : Refusal). put.Shows (put_of s made) e (tried.puts ++ event ∷ [])) used shows.1 in
+        as-shown refusal (refusals.SessionUsed path) _ used (inr (
           p,
           earlier,
-          later ++ answered call (answers.Made created.Exists) ∷ [],
+          later ++ event ∷ [],
           lost,
-          (v, made, making.next, making.rest, later, has, refl, ap (λ (e : Event). later ++ e ∷ []) event_is),
-          ap (λ (own : List Event). own ++ answered call (answers.Made created.Exists) ∷ []) is_own
-              ∙ append_assoc earlier later (answered call (answers.Made created.Exists) ∷ []),
+          (v, made, try-push p v made (put.Did (put_of s made) m) (put.MeetsFile (put_of s made) path) later event tried met),
+          lost-calls event earlier later own is,
         ))
-    refused-on law (phases.Publish o x) call (answers.Published published.Created) refusal own is did at may = absurd (err-ok refusal _ is)
-    refused-on law (phases.Publish o x) call (answers.Published published.Exists) refusal own on did at may =
-        subst (λ (call : Call). Shows s first refusal (own ++ answered call (answers.Published published.Exists) ∷ [])) (call-same (publish_call x) call at)
-        (refused-lost o x published.Exists refusal own tt did on)
-    refused-on law (phases.Publish o x) call (answers.Published published.AfterGone) refusal own on did at may =
-        subst (λ (call : Call). Shows s first refusal (own ++ answered call (answers.Published published.AfterGone) ∷ [])) (call-same (publish_call x) call at)
-        (refused-lost o x published.AfterGone refusal own tt did on)
+    refused-on law (phases.Put o t id m) call answer refusal own (inr (to, goes, on)) (p, earlier, later, lost, (v, made, same, is_t, is_id, tried), is) at may =
+        let event : Event = answered call answer in
+        let did = some-at (putters.next_call m) call _ at ((put_facts.recounts (put_of s made)).went m to answer tried.puts goes tried.put_so) may in
+        refused-putter o t id to refusal p v made earlier (later ++ event ∷ []) (own ++ event ∷ []) same is_id lost (lost-calls event earlier later own is)
+        (try-push p v made (put.Did (put_of s made) m) (put.Did (put_of s made) to) later event tried did) on
     refused-on law m call answer refusal own after did at may = absurd after
 
     -- before its end
@@ -593,8 +563,7 @@ module _ (s : TableSchema) where
     so-far (phases.Names o t) own called did = did
     so-far (phases.View o m) own called did = did
     so-far (phases.Search o q) own called did = did
-    so-far (phases.Create o making) own called did = did
-    so-far (phases.Publish o x) own called did = did
+    so-far (phases.Put o t id m) own called did = did
     so-far (phases.Committed author id) own called did = did
     so-far (phases.Already author) own called did = did
     so-far phases.Over own called did = absurd (let clash = called in cc)

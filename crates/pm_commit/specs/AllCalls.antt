@@ -20,7 +20,6 @@ use Rattle.pm_model_folder.specs.Ledger.{HasNamedNone, IsKnown, Past, Stands, co
 use Rattle.pm_model_folder.specs.Meaning.{SnapshotAt}
 use Rattle.pm_model_folder.specs.Paths.{snapshot_path}
 use Rattle.pm_read_schema.specs.AllCalls.{HasFiles}
-use Rattle.pm_read_schema.specs.Reader.{schemas_call}
 use Rattle.pm_read_schema.specs.Trace as schema
 use Rattle.pm_read_schema.specs.declared.phase.Phase.TheVariants as readers
 use Rattle.pm_write.specs.Batch.{IsBatchOf}

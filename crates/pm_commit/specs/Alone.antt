@@ -8,6 +8,8 @@ use Rattle.pm_values.specs.declared.refusal.Refusal.TheVariants as refusals
 use Rattle.pm_store.specs.Files.{Files, IsListing}
 use Rattle.pm_store.specs.Store.{StoreView}
 use Rattle.pm_machine.specs.Moves.{Moves}
+use Rattle.pm_put.specs.declared.phase.Phase as put_phase
+use Rattle.pm_put.specs.declared.phase.Phase.TheVariants as puts
 use Rattle.pm_model_history.specs.History.{Entry, History, IsTableOf, no_table, table}
 use Rattle.pm_model_history.specs.Merge.{HistoryRow}
 use Rattle.pm_model_folder.specs.Changes.{IsNamedBy}
@@ -17,13 +19,12 @@ use Rattle.pm_read_table.specs.declared.phase.Phase as view_phase
 use Rattle.pm_read_table.specs.declared.phase.Phase.TheVariants as readers
 use Rattle.pm_append.specs.Commit.{IsFoundAs}
 use Rattle.pm_append.specs.Refusals.{refusal_of}
-use Rattle.pm_append.specs.declared.newest.CommitFile.{CommitFile}
+use Rattle.pm_put.specs.declared.putting.CommitFile.{CommitFile}
 use Rattle.pm_commit.specs.Marks.{FindsUsed}
 use Rattle.pm_commit.specs.Meaning.{Knows, MakesRows, entry_of}
 use Rattle.pm_commit.specs.Own.{OwnView, actor_of, begun, with_named}
 use Rattle.pm_commit.specs.declared.committer.CommitStep.{CommitStep}
 use Rattle.pm_commit.specs.declared.found.Found.{Found}
-use Rattle.pm_commit.specs.declared.making.Publishing.{Publishing}
 use Rattle.pm_commit.specs.declared.phase.Phase.{Phase}
 use Rattle.pm_commit.specs.declared.phase.Phase.TheVariants as phases
 
@@ -87,9 +88,14 @@ ReadsNewest newest readers.Over = ⊥
 
 -- the files of the commit's one try have their names, and its snapshot is the one after the newest, which gives no
 -- reason against it
-abbrev pub IsTryAt : Beginning → OwnView → Publishing → Type 0
-IsTryAt b own x =
-    ((count : ℕ) × (own ≡ with_named count (begun_at b))) × (x.id ≡ newest_id b + 1) × GivesReason b None
+abbrev pub IsTryAt : Beginning → OwnView → ℕ → Type 0
+IsTryAt b own id =
+    ((count : ℕ) × (own ≡ with_named count (begun_at b))) × (id ≡ newest_id b + 1) × GivesReason b None
+
+-- the files that a putter is yet to create
+abbrev pub left_of : put_phase.Phase → List CommitFile
+left_of (puts.Create making) = making.next ∷ making.rest
+left_of m = []
 
 -- What is true in each phase, where nobody else acted since the beginning: no try was lost, the newest snapshot is the
 -- one that was there, and a file that is yet to be created wasn't created since.
@@ -98,9 +104,7 @@ AloneIn b (phases.Names own s) f = IsUnchanged b f × (own ≡ b.own)
 AloneIn b (phases.View own m) f = IsUnchanged b f × (own ≡ b.own) × ReadsNewest (newest_id b) m
 AloneIn b (phases.Search own q) f =
     IsUnchanged b f × (own ≡ begun_at b) × SeesNewest b q.found × (b.own.check ≡ true)
-AloneIn b (phases.Create own making) f =
-    IsTryAt b own making.publishing × AreUntouched b (making.next ∷ making.rest) f
-AloneIn b (phases.Publish own x) f = IsTryAt b own x
+AloneIn b (phases.Put own s id m) f = IsTryAt b own id × AreUntouched b (left_of m) f
 AloneIn b (phases.Committed author id) f =
     (author ≡ (begun_at b).author) × (id ≡ newest_id b + 1) × GivesReason b None
 AloneIn b (phases.Already author) f = IsUnchanged b f × (author ≡ (begun_at b).author) × (b.own.check ≡ true)

@@ -6,11 +6,14 @@ use Rattle.pm_values.specs.declared.refusal.Refusal.{Refusal}
 use Rattle.pm_values.specs.declared.refusal.Refusal.TheVariants as refusals
 use Rattle.pm_store.specs.declared.answer.Answer.{Answer}
 use Rattle.pm_store.specs.declared.answer.Answer.TheVariants as answers
-use Rattle.pm_store.specs.declared.answer.Made.TheVariants as makes
-use Rattle.pm_store.specs.declared.answer.Published.TheVariants as published
 use Rattle.pm_store.specs.declared.call.Call.{Call}
 use Rattle.pm_store.specs.declared.call.Call.TheVariants as calls
 use Rattle.pm_machine.specs.Running as machine
+use Rattle.pm_put.specs.Meaning.{Putting}
+use Rattle.pm_put.specs.Putter as put
+use Rattle.pm_put.specs.declared.phase.Phase as put_phase
+use Rattle.pm_put.specs.declared.phase.Phase.TheVariants as puts
+use Rattle.pm_put.specs.declared.putting.Publishing.{Publishing}
 use Rattle.pm_schema.specs.declared.schema.TableSchema.{TableSchema}
 use Rattle.pm_snapshot.specs.Names.{greatest}
 use Rattle.pm_snapshot.specs.Snapshot.{snapshot_in}
@@ -31,16 +34,13 @@ use Rattle.pm_append.specs.Files.{IsAppendOf}
 use Rattle.pm_append.specs.Refusals.{refusal_of}
 use Rattle.pm_append.specs.declared.newest.Append.{Append}
 use Rattle.pm_append.specs.declared.newest.Author.{Author}
-use Rattle.pm_append.specs.declared.newest.CommitFile.{CommitFile}
 use Rattle.pm_append.specs.declared.newest.Newest.{Newest}
-use Rattle.pm_commit.specs.Making.{making_of}
 use Rattle.pm_commit.specs.Marks.{FindsUsed}
 use Rattle.pm_commit.specs.Own.{IsOwn, IsTried, OwnView, begun, most_files, tries, with_lost, with_named}
 use Rattle.pm_commit.specs.Search.{SearchingView, older_ids, searching_of, seen_in, seen_of}
 use Rattle.pm_commit.specs.declared.search.Seen.{Seen}
 use Rattle.pm_commit.specs.declared.search.Seen.TheVariants as seen
 use Rattle.pm_commit.specs.declared.found.Found.{Found}
-use Rattle.pm_commit.specs.declared.making.Publishing.{Publishing}
 use Rattle.pm_commit.specs.declared.committer.CommitStep.{CommitStep}
 use Rattle.pm_commit.specs.declared.committer.CommitStep.TheVariants as steps
 use Rattle.pm_commit.specs.declared.phase.Phase.{Phase}
@@ -48,8 +48,17 @@ use Rattle.pm_commit.specs.declared.phase.Phase.TheVariants as phases
 
 -- ---- a try
 
-abbrev pub publishing_of : TableSchema → Append → Publishing
-publishing_of s made = record { schema = s; id = made.id; text = made.text }
+-- the path of the snapshot before the one with an id: the origin before the first
+abbrev pub after_path : TableSchema → ℕ → List ℕ
+after_path s id = if nat_le id 1 then origin_path s else snapshot_path (id - 1)
+
+-- the snapshot is published after the one before it
+abbrev pub publishing_of : TableSchema → ℕ → List ℕ → Publishing
+publishing_of s id text = record { after = after_path s id; path = snapshot_path id; bytes = text }
+
+-- what is put of a try: its files, and then its snapshot
+abbrev pub put_of : TableSchema → Append → Putting
+put_of s made = record { files = made.files.items; last = publishing_of s made.id made.text }
 
 -- the table as a view has it
 abbrev pub newest_in : View → Newest
@@ -64,20 +73,12 @@ found_in v = record { schema = v.schema; newest = newest_in v }
 abbrev pub manifests_call : Call
 manifests_call = calls.List (codes "manifest")
 
--- the path of the snapshot before the one with an id: the origin before the first
-abbrev pub after_path : TableSchema → ℕ → List ℕ
-after_path s id = if nat_le id 1 then origin_path s else snapshot_path (id - 1)
-
-abbrev pub publish_call : Publishing → Call
-publish_call x = calls.Publish (after_path x.schema x.id) (snapshot_path x.id) x.text
-
 -- its next call, or none at its end
 abbrev pub next_call : Phase → Option Call
 next_call (phases.Names own s) = Some manifests_call
 next_call (phases.View own m) = reader.next_call m
 next_call (phases.Search own q) = Some (calls.Read (snapshot_path q.id))
-next_call (phases.Create own making) = Some (calls.Create making.next.path making.next.bytes)
-next_call (phases.Publish own x) = Some (publish_call x)
+next_call (phases.Put own s id m) = put.next_call m
 next_call (phases.Committed author id) = None
 next_call (phases.Already author) = None
 next_call phases.Over = None
@@ -95,8 +96,7 @@ abbrev pub calls_left : Phase → ℕ
 calls_left (phases.Names own s) = 1 + most_of_try + later_tries own
 calls_left (phases.View own m) = reader.calls_left m + (most + (most_files + 1)) + later_tries own
 calls_left (phases.Search own q) = length q.left + 1 + (most_files + 1) + later_tries own
-calls_left (phases.Create own making) = length making.rest + 2 + later_tries own
-calls_left (phases.Publish own x) = 1 + later_tries own
+calls_left (phases.Put own s id m) = put.calls_left m + later_tries own
 calls_left (phases.Committed author id) = 0
 calls_left (phases.Already author) = 0
 calls_left phases.Over = 0
@@ -160,13 +160,16 @@ pub record MayMake (own : OwnView) (found : Found) : Type 0 where
   pub own_of : IsOwn found.schema own
   pub numbers : AreNumbered found.newest.live.items
 
+-- the putter of a try has a call left, and few enough
+abbrev pub IsPutting : TableSchema → OwnView → put_phase.Phase → Type 0
+IsPutting s own m = IsTried s own × (0 < put.calls_left m) × (put.calls_left m ≤ most_files + 1)
+
 -- a committer: in each phase its commit is one of its table, and few enough calls are left in the try
 abbrev pub IsCommitter : Phase → Type 0
 IsCommitter (phases.Names own s) = IsOwn s own
 IsCommitter (phases.View own m) = IsViewing own m
 IsCommitter (phases.Search own q) = MayMake own q.found × (length q.left < most) × AreIds (q.id ∷ q.left)
-IsCommitter (phases.Create own making) = IsTried making.publishing.schema own × (length making.rest < most_files)
-IsCommitter (phases.Publish own x) = IsTried x.schema own
+IsCommitter (phases.Put own s id m) = IsPutting s own m
 IsCommitter other = Unit {0}
 
 -- ---- what answers lead to
@@ -179,18 +182,18 @@ Outcome = Result Phase Refusal
 abbrev pub first_of_try : OwnView → TableSchema → Phase
 first_of_try own s = phases.View own (readers.List (newest_of s))
 
--- the next of these files is to be created, or all were
-abbrev pub create_next : OwnView → Publishing → List CommitFile → Phase
-create_next own x [] = phases.Publish own x
-create_next own x (file ∷ files) = phases.Create own (making_of x file files)
+-- the phase once a try has named its files, and what it makes is to be put
+abbrev pub first_of_put : OwnView → TableSchema → Append → Phase
+first_of_put own s made =
+    phases.Put (with_named (own.names.count + length made.files.items) own) s made.id
+    (put.create_next (publishing_of s made.id made.text) made.files.items)
 
 -- the files of a try are to be created; or there is a reason against them, or memory ran out
 abbrev pub Makes : OwnView → Found → Outcome → Type 0
 Makes own found (Ok later) = (made : Append)
     × IsAppendOf found.schema found.newest own.author own.batch own.names made
     × (refusal_of found.newest own.author own.batch ≡ None)
-    × (later ≡ create_next (with_named (own.names.count + length made.files.items) own)
-    (publishing_of found.schema made) made.files.items)
+    × (later ≡ first_of_put own found.schema made)
 Makes own found (Err refusal) =
     (refusal ≡ refusals.Memory) ⊎ (refusal_of found.newest own.author own.batch ≡ Some refusal)
 
@@ -250,20 +253,26 @@ Loses own s id (Ok later) = (length own.lost + 1 < tries) × (later ≡ first_of
 Loses own s id (Err refusal) =
     (length own.lost + 1 ≡ tries) × (refusal ≡ refusals.Contended (own.lost ++ id ∷ []))
 
+-- with this putter the try goes on, until its snapshot was published, or that was lost
+abbrev pub AfterPutter : OwnView → TableSchema → ℕ → put_phase.Phase → Outcome → Type 0
+AfterPutter own s id puts.Published outcome = outcome ≡ Ok (phases.Committed own.author id)
+AfterPutter own s id puts.Lost outcome = Loses own s id outcome
+AfterPutter own s id m outcome = outcome ≡ Ok (phases.Put own s id m)
+
+-- the putter goes on, or refuses
+abbrev pub AfterPut : OwnView → TableSchema → ℕ → put_phase.Phase → Answer → Outcome → Type 0
+AfterPut own s id m answer (Ok later) =
+    (new : put_phase.Phase) × put.Goes m answer new × AfterPutter own s id new (Ok later)
+AfterPut own s id m answer (Err refusal) = put.Shown m answer refusal
+    ⊎ ((new : put_phase.Phase) × put.Goes m answer new × AfterPutter own s id new (Err refusal))
+
 -- What an answer leads to. A search ends where an older snapshot is absent.
 abbrev pub After : Phase → Answer → Outcome → Type 0
 After (phases.Names own s) (answers.Listed names) outcome = AfterNames own s names.items outcome
 After (phases.View own m) answer outcome = AfterView own m answer outcome
 After (phases.Search own q) (answers.Found None) outcome = Makes own q.found outcome
 After (phases.Search own q) (answers.Found (Some bytes)) outcome = AfterOlder own q bytes outcome
-After (phases.Create own making) (answers.Made makes.Created) outcome =
-    outcome ≡ Ok (create_next own making.publishing making.rest)
-After (phases.Create own making) (answers.Made makes.Exists) outcome =
-    outcome ≡ Err (refusals.SessionUsed making.next.path)
-After (phases.Publish own x) (answers.Published published.Created) outcome =
-    outcome ≡ Ok (phases.Committed own.author x.id)
-After (phases.Publish own x) (answers.Published published.Exists) outcome = Loses own x.schema x.id outcome
-After (phases.Publish own x) (answers.Published published.AfterGone) outcome = Loses own x.schema x.id outcome
+After (phases.Put own s id m) answer outcome = AfterPut own s id m answer outcome
 After phase other outcome = ⊥
 
 abbrev pub Goes : Phase → Answer → Phase → Type 0

@@ -1,7 +1,6 @@
 pub mod AllCalls
 pub mod Alone
 pub mod Committer
-pub mod Making
 pub mod Marks
 pub mod Meaning
 pub mod Own

@@ -8,6 +8,8 @@ use Rattle.pm_values.specs.declared.refusal.Refusal.TheVariants as refusals
 use Rattle.pm_store.specs.Files.{Files, IsListing}
 use Rattle.pm_store.specs.Store.{StoreView}
 use Rattle.pm_machine.specs.Moves.{Moves}
+use Rattle.pm_put.specs.Meaning.{IsAt, IsPut}
+use Rattle.pm_put.specs.declared.phase.Phase as put_phase
 use Rattle.pm_model_history.specs.History.{Entry, History, IsTableOf, append, no_table, table}
 use Rattle.pm_model_history.specs.Merge.{HistoryRow}
 use Rattle.pm_schema.specs.declared.schema.TableSchema.{TableSchema}
@@ -29,14 +31,13 @@ use Rattle.pm_append.specs.Commit.{Attempt, HasAppended, MakesNames}
 use Rattle.pm_append.specs.Files.{IsAppendOf}
 use Rattle.pm_append.specs.Refusals.{refusal_of}
 use Rattle.pm_append.specs.declared.newest.Author.{Author}
-use Rattle.pm_append.specs.declared.newest.CommitFile.{CommitFile}
-use Rattle.pm_commit.specs.Committer.{IsCommitter, Reads, found_in, publishing_of}
+use Rattle.pm_put.specs.declared.putting.CommitFile.{CommitFile}
+use Rattle.pm_commit.specs.Committer.{IsCommitter, Reads, found_in, put_of}
 use Rattle.pm_commit.specs.Marks.{FindsUsed}
 use Rattle.pm_commit.specs.Own.{OwnView, actor_of, tries}
 use Rattle.pm_commit.specs.Search.{seen_of}
 use Rattle.pm_commit.specs.declared.search.Seen.TheVariants as seen
 use Rattle.pm_commit.specs.declared.found.Found.{Found}
-use Rattle.pm_commit.specs.declared.making.Publishing.{Publishing}
 use Rattle.pm_commit.specs.declared.phase.Phase.{Phase}
 use Rattle.pm_commit.specs.declared.phase.Phase.TheVariants as phases
 
@@ -47,8 +48,7 @@ abbrev pub own_in : Phase → Option OwnView
 own_in (phases.Names own s) = Some own
 own_in (phases.View own m) = Some own
 own_in (phases.Search own q) = Some own
-own_in (phases.Create own making) = Some own
-own_in (phases.Publish own x) = Some own
+own_in (phases.Put own s id m) = Some own
 own_in (phases.Committed author id) = None
 own_in (phases.Already author) = None
 own_in phases.Over = None
@@ -106,31 +106,28 @@ HasOrigin (readers.Origin q) = IsSome q.asked.schema.origin
 HasOrigin (readers.Ready v) = HasOriginAt v.schema v.id
 HasOrigin m = Unit {0}
 
--- the file is there
-abbrev pub IsPut : Files → CommitFile → Type 0
-IsPut f file = map.get f file.path ≡ Some file.bytes
-
 -- the base of a commit is at most the fence of the newest snapshot, so that it can't come any more
 abbrev pub IsFenced : ℕ → History → Type 0
 IsFenced base no_table = ⊥
 IsFenced base (table s entries) = int_le (pos base) (fence_at entries (length entries)) ≡ true
 
--- Of a try, what was made of what it found: the files that are left are yet to be created, and the others are there,
--- but where its base is fenced.
-pub record KnowsTry (own : OwnView) (rows : List HistoryRow) (x : Publishing) (left : List CommitFile) (f : Files)
-    (p : Past) : Type 0 where
+-- files that a commit created are there, but where its base is fenced
+abbrev pub AreThere : OwnView → Files → Past → List CommitFile → Type 0
+AreThere own f p done = IsFenced own.author.base p.history ⊎ AllByRecursion (IsPut f) done
+
+-- Of a try, what was made of what it found: its putter is one of that, and the files that it created are there.
+pub record KnowsTry (own : OwnView) (rows : List HistoryRow) (s : TableSchema) (id : ℕ) (m : put_phase.Phase)
+    (f : Files) (p : Past) : Type 0 where
   pub attempt : Attempt
   pub same_rows : attempt.rows ≡ rows
   pub same_batch : attempt.batch ≡ own.batch
   pub same_author : attempt.author ≡ own.author
-  pub found : IsFoundIn p (record { schema = x.schema; newest = attempt.newest })
+  pub found : IsFoundIn p (record { schema = s; newest = attempt.newest })
   pub names : MakesNames (actor_of own) attempt
-  pub made : IsAppendOf x.schema attempt.newest attempt.author attempt.batch attempt.names attempt.made
+  pub made : IsAppendOf s attempt.newest attempt.author attempt.batch attempt.names attempt.made
   pub allowed : refusal_of attempt.newest attempt.author attempt.batch ≡ None
-  pub is : x ≡ publishing_of x.schema attempt.made
-  pub done : List CommitFile
-  pub files : attempt.made.files.items ≡ done ++ left
-  pub there : IsFenced own.author.base p.history ⊎ AllByRecursion (IsPut f) done
+  pub is : id ≡ attempt.made.id
+  pub put : IsAt (put_of s attempt.made) (AreThere own f p) m
 
 -- the entry with this id is the commit's
 abbrev pub HasEntry : Author → List HistoryRow → ℕ → Past → Type 0
@@ -162,9 +159,7 @@ KnowsIn rows (phases.Names own s) f p = KnowsOwn own rows s p
 KnowsIn rows (phases.View own m) f p =
     (s : TableSchema) × Reads m s × KnowsOwn own rows s p × reader.Knows m f p × HasOrigin m
 KnowsIn rows (phases.Search own q) f p = KnowsOwn own rows q.found.schema p × IsFoundIn p q.found
-KnowsIn rows (phases.Create own making) f p = KnowsOwn own rows making.publishing.schema p
-    × KnowsTry own rows making.publishing (making.next ∷ making.rest) f p
-KnowsIn rows (phases.Publish own x) f p = KnowsOwn own rows x.schema p × KnowsTry own rows x [] f p
+KnowsIn rows (phases.Put own s id m) f p = KnowsOwn own rows s p × KnowsTry own rows s id m f p
 KnowsIn rows (phases.Committed author id) f p = HasCommitted author rows id p
 KnowsIn rows (phases.Already author) f p = HasEarlier author p
 KnowsIn rows phases.Over f p = Unit {0}

@@ -5,14 +5,11 @@ use Rattle.pm_values.specs.declared.refusal.Refusal.{Refusal}
 use Rattle.pm_values.specs.declared.refusal.Refusal.TheVariants as refusals
 use Rattle.pm_store.specs.declared.answer.Answer.{Answer}
 use Rattle.pm_store.specs.declared.answer.Answer.TheVariants as answers
-use Rattle.pm_store.specs.declared.answer.Made.{Made}
-use Rattle.pm_store.specs.declared.answer.Made.TheVariants as makes
-use Rattle.pm_store.specs.declared.answer.Published.{Published}
-use Rattle.pm_store.specs.declared.answer.Published.TheVariants as published
-use Rattle.pm_store.specs.declared.call.Call.{Call}
-use Rattle.pm_store.specs.declared.call.Call.TheVariants as calls
 use Rattle.pm_store.specs.Store.{StoreView}
 use Rattle.pm_machine.specs.Trace.{Acts, Event, IsFailed, MayEnd, answered}
+use Rattle.pm_put.specs.Trace as put
+use Rattle.pm_put.specs.declared.phase.Phase as put_phase
+use Rattle.pm_put.specs.declared.phase.Phase.TheVariants as puts
 use Rattle.pm_schema.specs.declared.schema.TableSchema.{TableSchema}
 use Rattle.pm_snapshot.specs.Snapshot.{snapshot_in}
 use Rattle.pm_snapshot.specs.declared.fault.SnapFault.TheVariants as faults
@@ -26,16 +23,13 @@ use Rattle.pm_append.specs.Files.{IsAppendOf}
 use Rattle.pm_append.specs.Refusals.{refusal_of}
 use Rattle.pm_append.specs.declared.newest.Append.{Append}
 use Rattle.pm_append.specs.declared.newest.Author.{Author}
-use Rattle.pm_append.specs.declared.newest.CommitFile.{CommitFile}
-use Rattle.pm_commit.specs.Committer.{found_in, manifests_call, newest_in, newest_of, next_call, publish_call}
-use Rattle.pm_commit.specs.Committer.{publishing_of}
+use Rattle.pm_commit.specs.Committer.{found_in, manifests_call, newest_in, newest_of, next_call, put_of}
 use Rattle.pm_commit.specs.Marks.{FindsUsed}
 use Rattle.pm_commit.specs.Own.{OwnView, begun, tries, with_lost, with_named}
 use Rattle.pm_commit.specs.Search.{older_ids, seen_in, seen_of}
 use Rattle.pm_commit.specs.declared.search.Seen.{Seen}
 use Rattle.pm_commit.specs.declared.search.Seen.TheVariants as seen
 use Rattle.pm_commit.specs.declared.committer.CommitStep.{CommitStep}
-use Rattle.pm_commit.specs.declared.making.Publishing.{Publishing}
 use Rattle.pm_commit.specs.declared.phase.Phase.{Phase}
 use Rattle.pm_commit.specs.declared.phase.Phase.TheVariants as phases
 
@@ -43,12 +37,6 @@ use Rattle.pm_commit.specs.declared.phase.Phase.TheVariants as phases
 
 abbrev pub listed_manifests : Names → Event
 listed_manifests names = answered manifests_call (answers.Listed names)
-
-abbrev pub creates : CommitFile → Made → Event
-creates file answer = answered (calls.Create file.path file.bytes) (answers.Made answer)
-
-abbrev pub publishes : Publishing → Published → Event
-publishes x answer = answered (publish_call x) (answers.Published answer)
 
 -- ---- a search
 
@@ -94,25 +82,16 @@ abbrev pub HasSearch : TableSchema → OwnView → View → (OwnView → View �
 HasSearch s o v Ended own = (views searches : List Event) × Views s v views × Ended (begun v.id o) v searches
     × (own ≡ views ++ searches)
 
--- each of the files was created, in their order
-abbrev pub HaveCreated : List CommitFile → List Event → Type 0
-HaveCreated [] own = own ≡ []
-HaveCreated (file ∷ files) own =
-    (later : List Event) × (own ≡ creates file makes.Created ∷ later) × HaveCreated files later
-
--- A try up to its publish: the view and the search, what was made of them, and the files that were created, of which
--- these are left.
-pub record HasTry (s : TableSchema) (o : OwnView) (v : View) (made : Append) (left : List CommitFile) (own : List Event)
-    : Type 0 where
+-- A try up to now: the view and the search, what was made of them, and the calls of its putter, which are these.
+pub record HasTry (s : TableSchema) (o : OwnView) (v : View) (made : Append) (Puts : List Event → Type 0)
+    (own : List Event) : Type 0 where
   pub searches : List Event
-  pub creates : List Event
+  pub puts : List Event
   pub searched : HasSearch s o v MayCommit searches
   pub is_made : IsAppendOf s (newest_in v) (begun v.id o).author (begun v.id o).batch (begun v.id o).names made
   pub allowed : refusal_of (newest_in v) (begun v.id o).author (begun v.id o).batch ≡ None
-  pub done : List CommitFile
-  pub files : made.files.items ≡ done ++ left
-  pub created : HaveCreated done creates
-  pub is : own ≡ searches ++ creates
+  pub put_so : Puts puts
+  pub is : own ≡ searches ++ puts
 
 -- ---- all tries
 
@@ -123,16 +102,13 @@ named_by o v made = with_named ((begun v.id o).names.count + length made.files.i
 abbrev pub lost_by : OwnView → View → Append → OwnView
 lost_by o v made = with_lost made.id (named_by o v made)
 
--- the answer of a publish that is lost
-abbrev pub IsLost : Published → Type 0
-IsLost published.Created = ⊥
-IsLost published.Exists = Unit {0}
-IsLost published.AfterGone = Unit {0}
+-- a try whose putter came so far
+abbrev pub HasPut : TableSchema → OwnView → View → Append → put_phase.Phase → List Event → Type 0
+HasPut s o v made m own = HasTry s o v made (put.Did (put_of s made) m) own
 
 -- a try was made, and its publish lost
 abbrev pub LosesTry : TableSchema → OwnView → View → Append → List Event → Type 0
-LosesTry s o v made own = (answer : Published) × (tried : List Event) × HasTry s o v made [] tried × IsLost answer
-    × (own ≡ tried ++ publishes (publishing_of s made) answer ∷ [])
+LosesTry s o v made own = HasPut s o v made puts.Lost own
 
 -- The manifests were listed and had no name of the actor's, and then each try was lost, and a try is left: this is the
 -- commit after them.
@@ -151,9 +127,8 @@ AfterLost s first Tried own = (o : OwnView) × (earlier later : List Event) × H
 
 -- the snapshot was published, with all files of its try
 abbrev pub Commits : TableSchema → Author → ℕ → OwnView → List Event → Type 0
-Commits s author id o own = (v : View) × (made : Append) × (tried : List Event) × HasTry s o v made [] tried
-    × (author ≡ (begun v.id o).author) × (id ≡ made.id)
-    × (own ≡ tried ++ publishes (publishing_of s made) published.Created ∷ [])
+Commits s author id o own = (v : View) × (made : Append) × (author ≡ (begun v.id o).author) × (id ≡ made.id)
+    × HasPut s o v made puts.Published own
 
 -- the user had committed this before: its last commit that was found has no smaller identifier
 abbrev pub FindsDone : TableSchema → Author → OwnView → List Event → Type 0
@@ -162,9 +137,7 @@ FindsDone s author o own = (v : View) × (author ≡ (begun v.id o).author)
 
 -- a create met a file of the try
 abbrev pub MeetsFile : TableSchema → List ℕ → OwnView → List Event → Type 0
-MeetsFile s path o own = (v : View) × (made : Append) × (file : CommitFile) × (left : List CommitFile)
-    × (earlier : List Event) × HasTry s o v made (file ∷ left) earlier × (path ≡ file.path)
-    × (own ≡ earlier ++ creates file makes.Exists ∷ [])
+MeetsFile s path o own = (v : View) × (made : Append) × HasTry s o v made (put.MeetsFile (put_of s made) path) own
 
 -- a file of the actor's name was there before: one that was listed, or one that a create met
 abbrev pub IsUsed : TableSchema → OwnView → List ℕ → List Event → Type 0
@@ -199,10 +172,8 @@ DidInTry s (phases.Names o t) p own = ⊥
 DidInTry s (phases.View o m) p own = (o ≡ p) × reader.Did (newest_of s) m own
 DidInTry s (phases.Search o q) p own = (v : View) × (o ≡ begun v.id p) × (q.found ≡ found_in v)
     × HasSearch s p v (λ p v. Searched p v (q.id ∷ q.left)) own
-DidInTry s (phases.Create o making) p own = (v : View) × (made : Append) × (o ≡ named_by p v made)
-    × (making.publishing ≡ publishing_of s made) × HasTry s p v made (making.next ∷ making.rest) own
-DidInTry s (phases.Publish o x) p own = (v : View) × (made : Append) × (o ≡ named_by p v made)
-    × (x ≡ publishing_of s made) × HasTry s p v made [] own
+DidInTry s (phases.Put o t id m) p own = (v : View) × (made : Append) × (o ≡ named_by p v made) × (t ≡ s)
+    × (id ≡ made.id) × HasPut s p v made m own
 DidInTry s (phases.Committed author id) p own = Commits s author id p own
 DidInTry s (phases.Already author) p own = FindsDone s author p own
 DidInTry s phases.Over p own = ⊥

@@ -8,21 +8,20 @@ ghost use Rattle.pm_store.specs.declared.answer.Answer.TheVariants as answers;
 ghost use Rattle.pm_read_table.specs.Reader as readers;
 ghost use Rattle.pm_read_table.specs.Reader.{most};
 ghost use Rattle.pm_read_table.specs.declared.phase.Phase.TheVariants as reader_phases;
-ghost use Rattle.pm_commit.specs.Committer.{After, AfterReader, Hears, Loses, Makes, Reads, Seeks};
-ghost use Rattle.pm_commit.specs.Committer.{create_next, first_of_try, IsViewing, MayMake, Misreads};
-ghost use Rattle.pm_commit.specs.Own.{tries, IsOwn, IsTried};
+ghost use Rattle.pm_commit.specs.Committer.{After, AfterReader, Hears, Makes, Reads, Seeks};
+ghost use Rattle.pm_commit.specs.Committer.{first_of_try, IsViewing, MayMake, Misreads};
+ghost use Rattle.pm_commit.specs.Own.{IsOwn};
 ghost use Rattle.pm_schema.specs.Again.{IsDeclared};
 ghost use Rattle.pm_schema.specs.declared.schema.TableSchema.{TableSchema as SchemaView};
 ghost use Rattle.pm_commit.specs.declared.phase.Phase.TheVariants as phases;
 
 use crate::found::Found;
-use crate::lost::TRIES;
-use crate::making::{Making, Publishing};
 use crate::marks::used_path;
 use crate::own::Own;
 use crate::phase::Phase;
+use crate::put::put;
 use crate::search::{Searching, Seen, older_ids, seen_in, seen_of};
-use pm_append::{Append, CommitFile, Newest};
+use pm_append::Newest;
 use pm_base::{Blob, Txt};
 use pm_machine::Machine;
 use pm_manifest::read_entry_law;
@@ -30,7 +29,7 @@ use pm_paths::snapshot_path;
 use pm_read_table::{View, ViewReader, into_view, is_view_ready, newest_entries};
 use pm_schema::TableSchema;
 use pm_snapshot::{SnapFault, read_snapshot};
-use pm_store::{Answer, Made, Published};
+use pm_store::Answer;
 use pm_values::Refusal;
 use std::alloc::Global;
 use std::collections::VecDeque;
@@ -63,7 +62,7 @@ pub(crate) fn after_names(
 }
 
 /// The phase at the beginning of a try.
-fn begin(own: Own, schema: TableSchema) -> Phase
+pub(crate) fn begin(own: Own, schema: TableSchema) -> Phase
     requires { IsDeclared schema }
     ensures { result ≡ first_of_try own schema }
 {
@@ -243,7 +242,7 @@ fn misread(alloc: Global, id: u64, fault: SnapFault) -> Refusal
     }
 }
 
-/// What follows once nothing keeps the try from its commit: its files are to be created.
+/// What follows once nothing keeps the try from its commit: what it makes is to be put.
 fn make(alloc: Global, own: Own, found: Found) -> Result<Phase, Refusal>
     requires { MayMake own found }
     ensures { Makes own found result }
@@ -253,107 +252,11 @@ fn make(alloc: Global, own: Own, found: Found) -> Result<Phase, Refusal>
     let Found { schema, newest } = found;
     drop(newest);
     match made {
-        Ok(Append { id, files, text }) => {
-            let publishing = Publishing { schema, id, text };
-            Ok(create_next(own, publishing, VecDeque::from(files)))
-        }
+        Ok(made) => put(alloc, own, schema, made),
         Err(refusal) => {
             drop(own);
             drop(schema);
             Err(refusal)
         }
     }
-}
-
-/// The phase in which the next of these files is to be created, or all were.
-fn create_next(own: Own, publishing: Publishing, files: VecDeque<CommitFile>) -> Phase
-    ensures { result ≡ create_next own publishing files.items }
-{
-    let mut rest = files;
-    match rest.pop_front() {
-        Some(next) => Phase::Create {
-            own,
-            making: Making {
-                publishing,
-                next,
-                rest,
-            },
-        },
-        None => {
-            drop(rest);
-            Phase::Publish { own, publishing }
-        }
-    }
-}
-
-/// What follows once the create of a file was answered.
-pub(crate) fn after_create(own: Own, making: Making, made: Made) -> Result<Phase, Refusal>
-    ensures { After (phases.Create own making) (answers.Made made) result }
-{
-    let Making {
-        publishing,
-        next,
-        rest,
-    } = making;
-    let CommitFile { path, bytes } = next;
-    drop(bytes);
-    match made {
-        Made::Created => {
-            drop(path);
-            Ok(create_next(own, publishing, rest))
-        }
-        Made::Exists => {
-            drop(own);
-            drop(publishing);
-            drop(rest);
-            Err(Refusal::SessionUsed { path })
-        }
-    }
-}
-
-/// What follows once the publish was answered. It takes no memory.
-pub(crate) fn after_publish(
-    own: Own,
-    publishing: Publishing,
-    published: Published,
-) -> Result<Phase, Refusal>
-    requires { IsTried publishing.schema own }
-    ensures { After (phases.Publish own publishing) (answers.Published published) result }
-{
-    let Publishing { schema, id, text } = publishing;
-    drop(text);
-    match published {
-        Published::Created => {
-            drop(schema);
-            let Own {
-                batch,
-                author,
-                names,
-                lost,
-                ..
-            } = own;
-            drop(batch);
-            drop(names);
-            drop(lost);
-            Ok(Phase::Committed { author, id })
-        }
-        Published::Exists | Published::AfterGone => after_lost(own, schema, id),
-    }
-}
-
-/// What follows once this id was lost to others.
-fn after_lost(own: Own, schema: TableSchema, id: u64) -> Result<Phase, Refusal>
-    requires declared { IsDeclared schema }
-    requires left { length own.lost < tries }
-    ensures { Loses own schema id result }
-{
-    let mut own = own;
-    own.lost.push(id);
-    if own.lost.len() < TRIES {
-        return Ok(begin(own, schema));
-    }
-    let ids = own.lost.ids();
-    drop(own);
-    drop(schema);
-    Err(Refusal::Contended { ids })
 }

@@ -2,14 +2,13 @@
 
 ghost use Rattle.std.specs.Prelude.{◌≡◌, IfOk, IsSomeAnd};
 ghost use Rattle.pm_store.specs.Answers.{MayAnswer};
-ghost use Rattle.pm_commit.specs.Committer.{next_call, publish_call, After, IsCommitter};
+ghost use Rattle.pm_commit.specs.Committer.{next_call, After, IsCommitter};
 ghost use Rattle.pm_commit.specs.declared.phase.Phase.TheVariants as phases;
 
-use crate::after::{after_create, after_names, after_publish, after_search, after_view};
+use crate::after::{after_names, after_search, after_view};
 use crate::laws::committer_law;
-use crate::making::Publishing;
-use crate::paths::after_path;
 use crate::phase::Phase;
+use crate::put::after_put;
 use pm_machine::Machine;
 use pm_paths::snapshot_path;
 use pm_store::{Answer, Call};
@@ -36,11 +35,7 @@ impl pm_machine::Phase for Phase {
             Phase::Search { searching, .. } => Ok(Some(Call::Read {
                 path: snapshot_path(alloc, searching.id)?,
             })),
-            Phase::Create { making, .. } => {
-                let file = &making.next;
-                Ok(Some(Call::create(alloc, file.path.as_str(), file.bytes.as_bytes())?))
-            }
-            Phase::Publish { publishing, .. } => Ok(Some(publish_call(alloc, publishing)?)),
+            Phase::Put { putter, .. } => putter.call(alloc),
             Phase::Committed { .. } | Phase::Already { .. } | Phase::Over => Ok(None),
         }
     }
@@ -55,20 +50,6 @@ impl pm_machine::Phase for Phase {
     fn over() -> Phase {
         Phase::Over
     }
-}
-
-/// The call that publishes a snapshot after the one before it.
-fn publish_call(alloc: Global, publishing: &Publishing) -> Result<Call, AllocError>
-    ensures { IfOk result (λ call. call ≡ publish_call publishing.now) }
-{
-    let after = after_path(alloc, &publishing.schema, publishing.id)?;
-    let path = snapshot_path(alloc, publishing.id)?;
-    Call::publish(
-        alloc,
-        after.as_str(),
-        path.as_str(),
-        publishing.text.as_bytes(),
-    )
 }
 
 /// The phase after an answer, or the refusal that it shows.
@@ -87,10 +68,15 @@ fn next_phase(alloc: Global, phase: Phase, answer: Answer) -> Result<Phase, Refu
         (Phase::Search { own, searching }, Answer::Found(bytes)) => {
             after_search(alloc, own, searching, bytes)
         }
-        (Phase::Create { own, making }, Answer::Made(made)) => after_create(own, making, made),
-        (Phase::Publish { own, publishing }, Answer::Published(published)) => {
-            after_publish(own, publishing, published)
-        }
+        (
+            Phase::Put {
+                own,
+                schema,
+                id,
+                putter,
+            },
+            answer,
+        ) => { after_put(alloc, own, schema, id, putter, answer) }
         _ => unreachable!(),
     }
 }
