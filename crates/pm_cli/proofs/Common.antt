@@ -1,18 +1,24 @@
 -- Of files that a store leaves, and of what is known of an execution.
-use Rattle.std.proofs.Common.{◌≡◌, ◌≤◌, List, ◌++◌, length, Option, None, Some, IsSomeAnd, inl, refl, sym, subst, ap, ◌∙◌, length-append, take_all, arith}
+use Rattle.std.proofs.Common.{◌≡◌, ◌≤◌, ◌+◌, ℕ, nat_lt, Bool, true, false, if◌then◌else◌, List, [], ◌∷◌, ◌++◌, length, Option, None, Some, IsSomeAnd, ◌==◌, ◌⊎◌, codes, decimal, inl, inr, refl, sym, subst, ap, ◌∙◌, length-append, take_all, arith}
+use Rattle.std.specs.Option.{option_or}
+use Rattle.std.proofs.lemmas.Bool.Decides.{nat_tests}
 use Rattle.pm_values.specs.declared.refusal.Refusal.{Refusal}
 use Rattle.pm_values.specs.declared.refusal.Refusal.TheVariants as refusals
 use Rattle.pm_store.specs.declared.call.Op.{Op}
 use Rattle.pm_store.specs.Files.{Files, files_after}
 use Rattle.pm_store.specs.Images.{AllImages, Extends}
 use Rattle.pm_store.specs.Store.{StoreView}
-use Rattle.pm_model_history.specs.History.{History}
+use Rattle.pm_model_history.specs.History.{Entry, History, no_table, table}
+use Rattle.pm_schema.specs.declared.schema.TableSchema.{TableSchema}
 use Rattle.pm_model_folder.specs.Changes.{Actor}
+use Rattle.pm_options.specs.declared.kinds.Producer.{Producer}
+use Rattle.pm_options.specs.declared.kinds.Producer.TheVariants as producers
 use Rattle.pm_create.specs.Making.{LeavesFiles}
+use Rattle.pm_draft.specs.Built.{unbuilt, unbuilt_bucket, unbuilt_partition, unbuilt_producer}
 use Rattle.pm_words.specs.declared.command.Command.{Command}
 use Rattle.pm_command.specs.Outside.{actor}
 use Rattle.pm_cli.specs.Promise.{Execution, HasMade, MayMake, StandsForOthers}
-use Rattle.pm_cli.specs.Start.{HaveOtherNames, IsNew}
+use Rattle.pm_cli.specs.Start.{HaveOtherNames, IsNew, snapshot_made}
 
 -- the execution with this command in its place
 abbrev pub with_command : Command → Execution → Execution
@@ -130,6 +136,66 @@ StandsForSomeFreely e h first f = (later : History) × MayMake e h later × Stan
 abbrev pub WasNew : Execution → History → StoreView → Actor → Type 0
 WasNew e h first other = HaveOtherNames (actor e.start) other × LeavesFiles (IsNew other h) first
 
+abbrev IsUnsupported : Refusal → Type 0
+IsUnsupported (refusals.Unsupported what text) = Unit {0}
+IsUnsupported other = ⊥
+
+some_of : (one other : Refusal) → Some one ≡ Some other → one ≡ other
+some_of one other is = cc
+
+-- ---- the snapshot that was made
+
+-- none, where the history stays
+pub none_made : (h : History) → None ≡ snapshot_made h h
+none_made no_table = refl
+none_made (table s es) =
+    let less : nat_lt (length es) (length es) ≡ false = grind (arith, nat_tests) in
+    ap (λ (b : Bool). if b then Some (length es) else None) (sym less)
+
+-- that of one entry more
+pub one_made : (s : TableSchema) (es : List Entry) (e : Entry) (id : ℕ) → id ≡ length es + 1 → Some id ≡ snapshot_made (table s es) (table s (es ++ e ∷ []))
+one_made s es e id is =
+    let count : length (es ++ e ∷ []) ≡ length es + 1 = length-append es (e ∷ []) in
+    let more : nat_lt (length es) (length (es ++ e ∷ [])) ≡ true = grind (arith, nat_tests, count) in
+    ap Some (is ∙ sym count) ∙ ap (λ (b : Bool). if b then Some (length (es ++ e ∷ [])) else None) (sym more)
+
+-- no table is refused by a fault of the sink
+not_producer : (p : Producer) (e : Refusal) → unbuilt_producer p ≡ Some e → IsUnsupported e
+not_producer producers.None e is = cc
+not_producer p e is = subst IsUnsupported (some_of _ e is) tt
+
+not_bucket : (n : ℕ) (e : Refusal) → unbuilt_bucket n ≡ Some e → IsUnsupported e
+not_bucket n e = by (n == 1)
+  where
+    by : (one : Bool) → (if one then None else Some (refusals.Unsupported (codes "bucket") (decimal n))) ≡ Some e → IsUnsupported e
+    by true is = cc
+    by false is = subst IsUnsupported (some_of _ e is) tt
+
+not_partition : (names : List (List ℕ)) (e : Refusal) → unbuilt_partition names ≡ Some e → IsUnsupported e
+not_partition [] e is = cc
+not_partition (name ∷ names) e is = subst IsUnsupported (some_of _ e is) tt
+
+either_of : (o p : Option Refusal) (e : Refusal) → option_or o p ≡ Some e → (o ≡ Some e) ⊎ (p ≡ Some e)
+either_of None p e is = inr is
+either_of (Some d) p e is = inl is
+
+unsupported : (s : TableSchema) (e : Refusal) → unbuilt s ≡ Some e → IsUnsupported e
+unsupported s e is =
+    elim (either_of (unbuilt_producer s.options.producer) (option_or (unbuilt_bucket s.options.bucket) (unbuilt_partition s.partition)) e is) as (λ _. IsUnsupported e) [
+      | inl producer ↦ not_producer s.options.producer e producer
+      | inr rest ↦ elim (either_of (unbuilt_bucket s.options.bucket) (unbuilt_partition s.partition) e rest) as (λ _. IsUnsupported e) [
+        | inl bucket ↦ not_bucket s.options.bucket e bucket
+        | inr partition ↦ not_partition s.partition e partition
+      ]
+    ]
+
+pub schema_not : (s : TableSchema) (snapshot : Option ℕ) → (refusals.SinkFault snapshot ≡ refusals.Memory) ⊎ (unbuilt s ≡ Some (refusals.SinkFault snapshot)) → ⊥
+schema_not s snapshot (inl memory) = cc
+schema_not s snapshot (inr why) = unsupported s (refusals.SinkFault snapshot) why
+
+pub sink_same : (one other : Option ℕ) → refusals.SinkFault one ≡ refusals.SinkFault other → one ≡ other
+sink_same one other is = cc
+
 -- ---- refusals but that of the sink
 
 abbrev pub NotSink : Refusal → Type 0
@@ -139,5 +205,5 @@ NotSink other = Unit {0}
 -- where it was refused, but by the sink, and nothing was printed, it may have made nothing
 pub makes_nothing : (e : Execution) (h : History) (refusal : Refusal) → NotSink refusal → e.after.out ≡ e.before.out → HasMade e h (Some refusal) h
 makes_nothing e h (refusals.SinkFault snapshot) not out = absurd not
-makes_nothing e h (refusals.StoreFault path) not out = (inl refl, out)
+makes_nothing e h (refusals.StoreFault path) not out = (inl refl, inl refl, out)
 makes_nothing e h other not out = (refl, out)

@@ -1,5 +1,5 @@
 -- The promise of `create`.
-use Rattle.std.proofs.Common.{◌≡◌, ◌↔◌, inl, inr, ℕ, ℤ, List, [], codes, Option, None, Some, Result, Ok, Err, refl, sym, subst, ap, ◌∙◌, arith}
+use Rattle.std.proofs.Common.{◌≡◌, ◌⊎◌, ◌↔◌, inl, inr, ℕ, ℤ, List, [], codes, Option, None, Some, Result, Ok, Err, refl, sym, subst, ap, ◌∙◌, arith}
 use Rattle.std.proofs.lemmas.List.{append_cancel_left}
 use Rattle.std.specs.Result.{result_err}
 use Rattle.pm_base.specs.Outcome.{◌>>=◌}
@@ -33,11 +33,11 @@ use Rattle.pm_words.specs.declared.command.Command.TheVariants as commands
 use Rattle.pm_command.specs.Outside.{Outside, Prints, actor}
 use Rattle.pm_command.specs.declared.start.Start.{Start}
 use Rattle.pm_command_create.specs.Create as create
-use Rattle.pm_command_create.specs.Create.{ActsCreate, CreatesTable, IsDraftOf, LeavesTable, StandsForDraft, StandsForEither, created_text, its_table}
+use Rattle.pm_command_create.specs.Create.{ActsCreate, CreatesTable, IsDraftOf, IsImage, LeavesTable, StandsForEither, created_text, its_table}
 use Rattle.pm_cli.specs.InTurn.{IsExecuted}
 use Rattle.pm_cli.specs.Promise.{Does, Execution, HasMade, Keeps, KeepsIt, MayMake, StandsForOthers, creates}
-use Rattle.pm_cli.specs.Start.{HaveOtherNames, IsNew}
-use Rattle.pm_cli.proofs.Common.{NotSink, StandsForSomeFreely, WasNew, any_files, extends_each, leaves_both, leaves_each, leaves_some, leaves_weaker, makes_nothing, with_command}
+use Rattle.pm_cli.specs.Start.{HaveOtherNames, IsNew, changed_path, snapshot_made}
+use Rattle.pm_cli.proofs.Common.{NotSink, StandsForSomeFreely, WasNew, any_files, extends_each, leaves_both, leaves_each, leaves_some, leaves_weaker, makes_nothing, sink_same, with_command}
 use Rattle.pm_cli.proofs.Origin.{FolderKept, IsKept, all_kept, create_calls}
 use Rattle.pm_cli.proofs.Resting.{unprinted}
 
@@ -64,6 +64,18 @@ took_prefix start before after snapshot (inl (e, is, may, untouched)) =
     absurd (subst (MayRefuseDraft (create.making start) before.input after.input) (some_same (refusals.SinkFault snapshot) e is) may)
 took_prefix start before after snapshot (inr (s, draft, (made, trace, prints))) = made_prefix (its_table start s) made before after snapshot trace prints
 
+made_none : (t : NewTable) (made : Result (Unit {0}) Refusal) (before after : Outside) (snapshot : Option ℕ)
+    → HasTrace (DidMake t made) before.store after.store
+    → Prints created_text None (result_err made) before.out after.out (Some (refusals.SinkFault snapshot)) → snapshot ≡ None
+made_none t (Ok x) before after snapshot trace (is, failed, took) = sink_same snapshot None is
+made_none t (Err e) before after snapshot trace (is, out) =
+    absurd (not_shown t e snapshot before.store after.store (some_same (refusals.SinkFault snapshot) e is) trace)
+
+unnamed : (start : Start) (before after : Outside) (snapshot : Option ℕ) → ActsCreate start before after (Some (refusals.SinkFault snapshot)) → snapshot ≡ None
+unnamed start before after snapshot (inl (e, is, may, untouched)) =
+    absurd (subst (MayRefuseDraft (create.making start) before.input after.input) (some_same (refusals.SinkFault snapshot) e is) may)
+unnamed start before after snapshot (inr (s, draft, (made, trace, prints))) = made_none (its_table start s) made before after snapshot trace prints
+
 nothing_printed : (start : Start) (before after : Outside) (e : Refusal) → NotSink e → ActsCreate start before after (Some e) → after.out ≡ before.out
 nothing_printed start before after e not (inl (other, is, may, untouched)) = untouched.out
 nothing_printed start before after e not (inr (s, draft, (made, trace, prints))) = unprinted created_text (result_err made) before.out after.out e not prints
@@ -84,9 +96,14 @@ module _ (e : Execution) (h : History) where
   may_stand f (inl folder) = (h, inl refl, folder)
   may_stand f (inr (none, (s, draft, folder))) = (table s [], inr (created_text, does s none draft), folder)
 
-  after_fault : (path : List ℕ) (f : Files) → LeavesTable e.start e.input (Some (refusals.StoreFault path)) h f → StandsForEither e.start e.input h f
-  after_fault path f (inl folder) = inl folder
-  after_fault path f (inr (at, none, stands)) = inr (none, stands)
+  after_fault : (path : List ℕ) (f : Files) → LeavesTable e.start e.input (Some (refusals.StoreFault path)) h f
+      → (later : History) × (MayMake it h later × ((later ≡ h) ⊎ (path ≡ changed_path commands.Create h))) × Folder f later
+  after_fault path f (inl folder) = (h, (inl refl, inl refl), folder)
+  after_fault path f (inr (at, none, (s, draft, folder))) = (table s [], (inr (created_text, does s none draft), inr at), folder)
+
+  -- a table that is made has no snapshot
+  none_yet : (s : TableSchema) (snapshot : Option ℕ) → h ≡ no_table → snapshot ≡ None → snapshot ≡ snapshot_made h (table s [])
+  none_yet s snapshot none is = is ∙ ap (λ (h : History). snapshot_made h (table s [])) (sym none)
 
   ended : (answer : Option Refusal) → ActsCreate e.start e.before e.after answer → (first : StoreView)
       → CreatesTable e.start h e.input first e.before e.after answer → LeavesFiles (IsEnd answer) e.after.store
@@ -98,13 +115,14 @@ module _ (e : Execution) (h : History) where
       leaves_weaker (LeavesTable e.start e.input (Some (refusals.SinkFault snapshot)) h) (IsEnd (Some (refusals.SinkFault snapshot))) e.after.store
       (λ f (none, (s, draft, folder)).
       let done = does s none draft in
-      (table s [], ((created_text, done, took_prefix e.start e.before e.after snapshot acts), inr (created_text, done)), folder))
+      let named = none_yet s snapshot none (unnamed e.start e.before e.after snapshot acts) in
+      (table s [], ((created_text, done, took_prefix e.start e.before e.after snapshot acts, named), inr (created_text, done)), folder))
       was.leaves
   ended (Some (refusals.StoreFault path)) acts first was =
       leaves_weaker (LeavesTable e.start e.input (Some (refusals.StoreFault path)) h) (IsEnd (Some (refusals.StoreFault path))) e.after.store
       (λ f is.
-      let stands = may_stand f (after_fault path f is) in
-      (stands.0, ((stands.1, nothing_printed e.start e.before e.after (refusals.StoreFault path) tt acts), stands.1), stands.2))
+      let stands = after_fault path f is in
+      (stands.0, ((stands.1.0, stands.1.1, nothing_printed e.start e.before e.after (refusals.StoreFault path) tt acts), stands.1.0), stands.2))
       was.leaves
   ended (Some refusal) acts first was =
       leaves_weaker (λ f. Folder f h) (IsEnd (Some refusal)) e.after.store
@@ -237,7 +255,8 @@ module _ (kept : FolderKept) (stay : ContentsStay) (one : OneContents) (law : Dr
         later = end.0;
         makes = end.1.0;
         ends = ends_freely h end.0 alone may end.1.1 end.2;
-        images = images_freely h alone may was.images;
+        images = images_freely h alone may
+            (Extends-weaker (IsImage e.start e.input h) (StandsForEither e.start e.input h) first.ops after.ops (λ f is. is.either) was.images);
       }
 
 pub keeps : FolderKept → ContentsStay → OneContents → DraftLaw → (e : Execution) → IsExecuted (with_command commands.Create e) → Keeps (with_command commands.Create e)

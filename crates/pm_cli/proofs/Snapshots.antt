@@ -1,10 +1,12 @@
 -- The promise of `snapshots`.
-use Rattle.std.proofs.Common.{◌≡◌, ◌≢◌, ℕ, zero, suc, ◌-◌, ◌≤◌, List, [], ◌∷◌, length, map, take, slice_get, Contains, Option, None, Some, IsSome, refl, sym, subst, ap, ◌∙◌, arith}
+use Rattle.std.proofs.Common.{◌≡◌, ◌≢◌, ℕ, zero, suc, ◌-◌, ◌≤◌, List, [], ◌∷◌, length, map, take, slice_get, Contains, Option, None, Some, IsSome, Result, Ok, Err, inl, inr, refl, sym, subst, ap, ◌∙◌, arith}
 use Rattle.std.specs.FinMap as finite
 use Rattle.std.specs.List.{AllByRecursion}
 use Rattle.std.specs.Result.{result_err}
 use Rattle.pm_values.specs.declared.refusal.Refusal.{Refusal}
 use Rattle.pm_values.specs.declared.refusal.Refusal.TheVariants as refusals
+use Rattle.pm_io.specs.Sink.{SinkView}
+use Rattle.pm_machine.specs.Trace.{Event}
 use Rattle.pm_store.specs.Files.{Files}
 use Rattle.pm_store.specs.Store.{StoreView, at_first_own}
 use Rattle.pm_model_history.specs.History.{Entry, append, compaction, fence, History, no_table, table}
@@ -24,10 +26,11 @@ use Rattle.pm_snapshots.specs.Lines.{line_of, snapshots_text}
 use Rattle.pm_snapshots.specs.Meaning.{IsLineAt}
 use Rattle.pm_snapshots.specs.declared.line.SnapshotLine.{SnapshotLine}
 use Rattle.pm_words.specs.declared.command.Command.TheVariants as commands
-use Rattle.pm_command_snapshots.specs.Snapshots.{AnswersHistory, ListsSnapshots, text_of}
+use Rattle.pm_command.specs.Outside.{Prints}
+use Rattle.pm_command_snapshots.specs.Snapshots.{AnswersHistory, DidSnapshots, ListsSnapshots, text_of}
 use Rattle.pm_cli.specs.InTurn.{IsExecuted}
 use Rattle.pm_cli.specs.Promise.{AreLines, Does, Execution, Keeps, LineBears, HasMade, lists}
-use Rattle.pm_cli.proofs.Common.{any_both, with_command, makes_nothing}
+use Rattle.pm_cli.proofs.Common.{any_both, makes_nothing, none_made, schema_not, sink_same, with_command}
 use Rattle.pm_cli.proofs.Resting.{SameStarts, resting, unprinted}
 
 -- ---- what lines bear of a history
@@ -118,11 +121,25 @@ does e (table s es) lines first some are stands =
     lists s es lines
     (any_both (λ f. Folder f (table s es)) (λ f. AreLinesOf f lines) (AreLines es lines) first (λ f folder are. lines_are f s es lines folder are) stands are)
 
+-- no calls of a listing show a fault of the sink
+not_shown : (own : List Event) (snapshot : Option ℕ) → DidSnapshots (Err (refusals.SinkFault snapshot)) own → ⊥
+not_shown own snapshot (inl shows) = shows
+not_shown own snapshot (inr (inl (s, why, has))) = schema_not s snapshot why
+not_shown own snapshot (inr (inr (s, built, from, inl shows))) = shows
+not_shown own snapshot (inr (inr (s, built, from, inr shows))) = shows
+
+none_named : (made : Result (List SnapshotLine) Refusal) (own : List Event) (before after : SinkView) (snapshot : Option ℕ) → DidSnapshots made own
+    → Prints (text_of made) None (result_err made) before after (Some (refusals.SinkFault snapshot)) → snapshot ≡ None
+none_named (Ok lines) own before after snapshot did says = sink_same snapshot None says.0
+none_named (Err e) own before after snapshot did says =
+    absurd (not_shown own snapshot (subst (λ (e : Refusal). DidSnapshots (Err e) own) (let same : e ≡ refusals.SinkFault snapshot = cc in same) did))
+
 makes : (e : Execution) (h : History) (first : StoreView) (answer : Option Refusal) → ListsSnapshots e.before e.after answer
     → LeavesFiles (λ f. Folder f h) first → AnswersHistory h first e.before e.after answer → HasMade (with_command commands.Snapshots e) h answer h
 makes e h first None acts stands (some, (lines, are, taken)) = (snapshots_text lines, does e h lines first some are stands, taken)
-makes e h first (Some (refusals.SinkFault snapshot)) acts stands (failed, some, (lines, are, taken)) =
-    (snapshots_text lines, does e h lines first some are stands, taken)
+makes e h first (Some (refusals.SinkFault snapshot)) (made, (own, did, traces), says) stands (failed, some, (lines, are, taken)) =
+    let none = none_named made own e.before.out e.after.out snapshot did says in
+    (snapshots_text lines, does e h lines first some are stands, taken, none ∙ none_made h)
 makes e h first (Some refusal) (made, trace, prints) stands may =
     makes_nothing (with_command commands.Snapshots e) h refusal tt (unprinted (text_of made) (result_err made) e.before.out e.after.out refusal tt prints)
 

@@ -29,15 +29,15 @@ use Rattle.pm_words.specs.declared.command.Command.TheVariants as commands
 use Rattle.pm_command.specs.Outside.{actor}
 use Rattle.pm_command.specs.declared.start.Start.{Start}
 use Rattle.pm_command_write.specs.Input.{RefusesInput}
-use Rattle.pm_command_write.specs.Write.{AnswersHistory, AnswersLines, Becomes, BeginsWith, HasRows, HasRowsAs, IsImage, Lines, MayStartAfter, Spoils, StandsAfterFault, TakesRows, WritesTable, author_of, entry_by, text_of, writer_of}
+use Rattle.pm_command_write.specs.Write.{AnswersHistory, AnswersLines, Becomes, BeginsWith, HasRows, HasRowsAs, IsImage, Lines, MayStartAfter, Spoils, StandsAfterFault, TakesRows, WritesTable, author_of, entry_by, next_path, snapshot_of, text_of, writer_of}
 use Rattle.pm_command_write.specs.declared.writer.Writer.{Writer}
 use Rattle.pm_command_write.specs.declared.write.Written.{Written}
 use Rattle.pm_command_write.specs.declared.write.Written.TheVariants as written
 use Rattle.pm_io.specs.Source.{SourceView}
 use Rattle.pm_cli.specs.InTurn.{IsExecuted}
 use Rattle.pm_cli.specs.Promise.{Does, Execution, HasReached, Keeps, KeepsIt, HasMade, MayMake, StandsForOthers, commits, has_already, takes_none}
-use Rattle.pm_cli.specs.Start.{HaveOtherNames, IsNew}
-use Rattle.pm_cli.proofs.Common.{NotSink, StandsForSome, StandsForSomeFreely, WasNew, any_both, any_files, extends_each, extends_end, leaves_each, leaves_some, leaves_weaker, makes_nothing, with_command}
+use Rattle.pm_cli.specs.Start.{HaveOtherNames, IsNew, snapshot_made}
+use Rattle.pm_cli.proofs.Common.{NotSink, StandsForSome, StandsForSomeFreely, WasNew, any_both, any_files, extends_each, extends_end, leaves_each, leaves_some, leaves_weaker, makes_nothing, none_made, one_made, with_command}
 use Rattle.pm_cli.proofs.Snapshots.{bears_entry, from_there}
 
 -- ---- an earlier commit of the user
@@ -119,22 +119,23 @@ module _ (user : Option (List ℕ)) (number : Option ℕ) (e : Execution) where
   taken_by t s rows same = subst (λ (s : TableSchema). all_taken s lines ≡ Ok rows) (sym same)
 
   -- so stand files for what it does
-  abbrev DoneAs : (History → Files → Type 0) → History → List ℕ → Files → Type 0
-  DoneAs Stands h text f = (later : History) × Done h later text × Stands later f
+  abbrev DoneAs : (History → Files → Type 0) → History → ℕ → Files → Type 0
+  DoneAs Stands h id f = (later : History) × (Done h later (text_of (Ok (written.Committed id))) × (Some id ≡ snapshot_made h later)) × Stands later f
 
   rows_done : (Stands : History → Files → Type 0) (h : History) (id : ℕ) (f : Files) → id ≡ count_of h + 1 → HasRowsAs Stands e.start w lines h f
-      → DoneAs Stands h (text_of (Ok (written.Committed id))) f
+      → DoneAs Stands h id f
   rows_done Stands no_table id f is has = absurd has.takes.1
   rows_done Stands (table t es) id f is has =
       let took = taken_by t has.takes.0 has.rows has.takes.1 has.takes.2 in
       let later : History = table t (es ++ entry_by e.start w has.rows ∷ []) in
       let next : suc (length es) ≡ id = omega (arith, is) in
-      (later, subst (λ (id : ℕ). Done (table t es) later (text_of (Ok (written.Committed id)))) next (commits user number t es has.rows took has.some), has.stands)
+      let done = subst (λ (id : ℕ). Done (table t es) later (text_of (Ok (written.Committed id)))) next (commits user number t es has.rows took has.some) in
+      (later, (done, one_made t es (entry_by e.start w has.rows) id is), has.stands)
 
   may_have : (Stands : History → Files → Type 0) (h : History) (f : Files) → HasRowsAs Stands e.start w lines h f → StandsForSome Stands it h f
   may_have Stands h f has =
       let done = rows_done Stands h (count_of h + 1) f refl has in
-      (done.0, inr (text_of (Ok (written.Committed (count_of h + 1))), done.1), done.2)
+      (done.0, inr (text_of (Ok (written.Committed (count_of h + 1))), done.1.0), done.2)
 
   either : (Stands : History → Files → Type 0) (h : History) (f : Files) → Stands h f ⊎ HasRowsAs Stands e.start w lines h f → StandsForSome Stands it h f
   either Stands h f (inl stands) = (h, inl refl, stands)
@@ -195,34 +196,40 @@ module _ (user : Option (List ℕ)) (number : Option ℕ) (e : Execution) (h : H
   -- ---- what became of the lines
 
   abbrev Did : Written → Type 0
-  Did done = (later : History) × Done user number e h later (text_of (Ok done)) × LeavesFiles (λ f. Folder f later) after
+  Did done = (later : History) × (Done user number e h later (text_of (Ok done)) × (snapshot_of (Ok done) ≡ snapshot_made h later)) × LeavesFiles (λ f. Folder f later) after
 
   did : (done : Written) → Becomes e.start (w user number e) (lines user number e) h first after done → Did done
-  did written.Nothing becomes = (h, none_done user number e h becomes.0, becomes.1.folder)
-  did written.Already becomes = (h, already_done user number e h first becomes.0 becomes.1 stands, becomes.2.folder)
+  did written.Nothing becomes = (h, (none_done user number e h becomes.0, none_made h), becomes.1.folder)
+  did written.Already becomes = (h, (already_done user number e h first becomes.0 becomes.1 stands, none_made h), becomes.2.folder)
   did (written.Committed id) becomes =
-      leaves_some (λ later. Done user number e h later (text_of (Ok (written.Committed id)))) (λ later f. Folder f later) after
-      (leaves_weaker (HasRows e.start (w user number e) (lines user number e) h) (DoneAs user number e (λ h f. Folder f h) h (text_of (Ok (written.Committed id)))) after
+      leaves_some (λ later. Done user number e h later (text_of (Ok (written.Committed id))) × (Some id ≡ snapshot_made h later)) (λ later f. Folder f later) after
+      (leaves_weaker (HasRows e.start (w user number e) (lines user number e) h) (DoneAs user number e (λ h f. Folder f h) h id) after
       (λ f has. rows_done user number e (λ h f. Folder f h) h id f becomes.0 has) becomes.2)
 
   abbrev IsEnd : Option Refusal → Type 0
   IsEnd answer = (later : History) × (HasMade (it user number e) h answer later × MayMake (it user number e) h later) × LeavesFiles (λ f. Folder f later) after
 
+  -- what it may make where a call at the path failed
+  abbrev MadeAt : List ℕ → History → Type 0
+  MadeAt path later = MayMake (it user number e) h later × ((later ≡ h) ⊎ (path ≡ next_path h))
+
   after_fault : (path : List ℕ) (f : Files) → StandsAfterFault e.start (w user number e) (lines user number e) h path f
-      → StandsForSome (λ h f. Folder f h) (it user number e) h f
-  after_fault path f (inl folder) = either user number e (λ h f. Folder f h) h f (inl folder)
-  after_fault path f (inr (at, has)) = either user number e (λ h f. Folder f h) h f (inr has)
+      → (later : History) × MadeAt path later × Folder f later
+  after_fault path f (inl folder) = (h, (inl refl, inl refl), folder)
+  after_fault path f (inr (at, has)) =
+      let made = may_have user number e (λ h f. Folder f h) h f has in
+      (made.0, (made.1, inr at), made.2)
 
   ended_lines : (answer : Option Refusal) → AnswersLines e.start (w user number e) (lines user number e) h first e.before e.after answer → IsEnd answer
-  ended_lines None (done, becomes, taken) = let all = did done becomes in (all.0, ((text_of (Ok done), all.1, taken), inr (text_of (Ok done), all.1)), all.2)
+  ended_lines None (done, becomes, taken) = let all = did done becomes in (all.0, ((text_of (Ok done), all.1.0, taken), inr (text_of (Ok done), all.1.0)), all.2)
   ended_lines (Some (refusals.SinkFault snapshot)) (done, becomes, is, failed, took) =
       let all = did done becomes in
-      (all.0, ((text_of (Ok done), all.1, took), inr (text_of (Ok done), all.1)), all.2)
+      (all.0, ((text_of (Ok done), all.1.0, took, is ∙ all.1.1), inr (text_of (Ok done), all.1.0)), all.2)
   ended_lines (Some (refusals.StoreFault path)) ((rose, left), out) =
-      let all = leaves_some (MayMake (it user number e) h) (λ later f. Folder f later) after
-      (leaves_weaker (StandsAfterFault e.start (w user number e) (lines user number e) h path) (StandsForSome (λ h f. Folder f h) (it user number e) h) after
+      let all = leaves_some (MadeAt path) (λ later f. Folder f later) after
+      (leaves_weaker (StandsAfterFault e.start (w user number e) (lines user number e) h path) (λ f. (later : History) × MadeAt path later × Folder f later) after
       (λ f is. after_fault path f is) left) in
-      (all.0, ((all.1, out), all.1), all.2)
+      (all.0, ((all.1.0, all.1.1, out), all.1.0), all.2)
   ended_lines (Some refusal) answers =
       (h, (makes_nothing (it user number e) h refusal tt answers.1, inl refl), stays e.start (w user number e) (lines user number e) h first after refusal tt answers.0)
 

@@ -30,9 +30,8 @@ use Rattle.pm_command.specs.Outside.{actor, Outside}
 use Rattle.pm_command.specs.declared.start.Start.{Start}
 use Rattle.pm_command_create.specs.Create.{IsDraftOf}
 use Rattle.pm_command_write.specs.Write.{entry_by, identifier_of, writer_of}
-use Rattle.pm_cli.specs.Start.{HasInput, HaveOtherNames, IsNew, MayStart}
+use Rattle.pm_cli.specs.Start.{HasInput, HaveOtherNames, IsNew, MayStart, changed_path, snapshot_made}
 
--- ---- what a command does
 -- a line of a snapshot bears the user and the identifier of its entry, where that is one of rows
 abbrev pub LineBears : Option Entry → SnapshotLine → Type 0
 LineBears (Some (append user identifier rows)) l = (l.user ≡ user) × (l.ident ≡ identifier)
@@ -74,7 +73,6 @@ pub data Does (start : Start) (bytes : List ℕ) : Command → History → Histo
       (table s (es ++ entry_by start (writer_of user number) rows ∷ []))
       (line (codes "snapshot " ++ decimal (suc (length es))))
 
--- ---- what is so of all commands
 -- a command that was executed: what it was given, what was outside before and after, and why it was refused, if it was
 pub record Execution : Type 0 where
   pub command : Command
@@ -88,14 +86,16 @@ pub record Execution : Type 0 where
 abbrev pub MayMake : Execution → History → History → Type 0
 MayMake e h later = (later ≡ h) ⊎ ((text : List ℕ) × Does e.start e.input e.command h later text)
 
--- What it made, by its answer. After success or a fault of the sink it did it, and the text was printed or a prefix of
--- it; after a fault of the store it did it or nothing, after any other refusal nothing, and nothing was printed.
+-- What it made, by its answer. After success or a fault of the sink it did it, and printed its text or a prefix of it;
+-- else it did nothing, or in the call that failed all of it, and printed nothing.
 abbrev pub HasMade : Execution → History → Option Refusal → History → Type 0
 HasMade e h None later = (text : List ℕ) × Does e.start e.input e.command h later text
     × (e.after.out.taken ≡ and_then e.before.out.taken text)
 HasMade e h (Some (refusals.SinkFault snapshot)) later = (text : List ℕ)
     × Does e.start e.input e.command h later text × TookPrefix e.before.out.taken e.after.out.taken text
-HasMade e h (Some (refusals.StoreFault path)) later = MayMake e h later × (e.after.out ≡ e.before.out)
+    × (snapshot ≡ snapshot_made h later)
+HasMade e h (Some (refusals.StoreFault path)) later =
+    MayMake e h later × ((later ≡ h) ⊎ (path ≡ changed_path e.command h)) × (e.after.out ≡ e.before.out)
 HasMade e h (Some other) later = (later ≡ h) × (e.after.out ≡ e.before.out)
 
 -- Files stand for the history, and each other actor that was new to the one at first is new to it.

@@ -1,12 +1,14 @@
--- Where a command may start, and what it reads.
-use Rattle.std.specs.Prelude.{◌≡◌, ◌≢◌, ℕ, List, Option, Some}
+-- Where a command may start, what it reads, and by which call it makes what it makes.
+use Rattle.std.specs.Prelude.{◌≡◌, ◌≢◌, ℕ, List, [], length, nat_lt, if◌then◌else◌, Option, Some, None}
 use Rattle.pm_store.specs.Files.{Files}
-use Rattle.pm_model_history.specs.History.{History}
+use Rattle.pm_model_history.specs.History.{History, table}
 use Rattle.pm_model_folder.specs.Changes.{Actor, IsNoOrigin, origin_name}
 use Rattle.pm_model_folder.specs.Folder.{Folder}
+use Rattle.pm_model_folder.specs.Paths.{schema_path}
 use Rattle.pm_create.specs.Creator.{own_origin}
 use Rattle.pm_create.specs.Making as making
 use Rattle.pm_commit.specs.AllCalls as commit
+use Rattle.pm_command_write.specs.Write.{next_path}
 use Rattle.pm_words.specs.declared.command.Command.{Command}
 use Rattle.pm_words.specs.declared.command.Command.TheVariants as commands
 
@@ -23,6 +25,18 @@ HasInput commands.Create bytes left = left ≡ Some bytes
 HasInput (commands.Scan at) bytes left = Unit {0}
 HasInput commands.Snapshots bytes left = Unit {0}
 HasInput (commands.Write user identifier) bytes left = left ≡ Some bytes
+
+-- the path of the call by which it makes what it makes of a history, where it makes another one
+abbrev pub changed_path : Command → History → List ℕ
+changed_path commands.Create h = schema_path 0
+changed_path (commands.Write user identifier) h = next_path h
+changed_path other h = []
+
+-- the snapshot that was made: that of the entry which the later history has more
+abbrev pub snapshot_made : History → History → Option ℕ
+snapshot_made (table s entries) (table t more) =
+    if nat_lt (length entries) (length more) then Some (length more) else None
+snapshot_made h later = None
 
 -- Files that stand for the history, to which the actor is new: neither the origin of the table nor a file that a
 -- snapshot names bears its name.

@@ -1,5 +1,6 @@
 -- Laws of `create`: what is so of its input, of its calls, and of a history.
-use Rattle.std.proofs.Common.{◌≡◌, inl, inr, ℕ, List, [], Option, None, Some, IfSome, IsSomeAnd, Result, Ok, Err, refl, sym, ◌∙◌, subst}
+use Rattle.std.proofs.Common.{◌≡◌, inl, inr, ℕ, List, [], Option, None, Some, IfSome, IsSome, IsSomeAnd, Result, Ok, Err, refl, sym, ◌∙◌, subst, arith}
+use Rattle.std.specs.FinMap as map
 use Rattle.std.specs.Result.{result_err}
 use Rattle.pm_values.specs.declared.refusal.Refusal.{Refusal}
 use Rattle.pm_values.specs.declared.refusal.Refusal.TheVariants as refusals
@@ -16,11 +17,12 @@ use Rattle.pm_model_history.specs.History.{History, no_table, table}
 use Rattle.pm_schema.specs.declared.schema.TableSchema.{TableSchema}
 use Rattle.pm_model_folder.specs.Changes.{Actor}
 use Rattle.pm_model_folder.specs.Folder.{Folder}
+use Rattle.pm_model_folder.specs.Paths.{schema_path}
 use Rattle.pm_create.specs.Creator.{CreatorView, NewTable, new_creator, new_table}
 use Rattle.pm_create.specs.Making as making
-use Rattle.pm_create.specs.Making.{DidMake, LeavesFiles, LeavesHistory, IsThere, IsAbsent, IsCaused, IsMadeOrMemory, MakesTables}
+use Rattle.pm_create.specs.Making.{DidMake, LeavesFiles, LeavesHistory, IsThere, IsCaused, IsMadeOrMemory, MakesTables}
 use Rattle.pm_draft.specs.Input.{AnswersDraft, ReadsDraft, RefusesDraft}
-use Rattle.pm_command_create.specs.Create.{CreatesTable, CreatesTables, HadCause, IsDraftOf, IsMade, LeavesTable, MakesAndPrints, SettlesTable, StandsForDraft, StandsForEither, created_text, its_table, making as draft_making}
+use Rattle.pm_command_create.specs.Create.{CreatesTable, CreatesTables, HadCause, IsDraftOf, IsImage, IsMade, LeavesTable, MakesAndPrints, StandsForDraft, StandsForEither, created_text, its_table, making as draft_making}
 use Rattle.pm_command.specs.Outside.{IsServed, Outside, Prints, actor, outside}
 use Rattle.pm_command.specs.declared.start.Start.{Start}
 use Rattle.pm_command.proofs.Uncalled.{at_known, uncalled}
@@ -107,16 +109,24 @@ refusal_leaves start (refusals.SinkFault snapshot) bytes h before after f refuse
 refusal_leaves start (refusals.StoreFault path) bytes h before after f refuses folder = absurd refuses
 refusal_leaves start e bytes h before after f refuses folder = folder
 
-refusal_settles : (start : Start) (e : Refusal) (bytes : List ℕ) (before after : SourceView) (store : StoreView)
-    → RefusesDraft (draft_making start) bytes before after e → SettlesTable start bytes (Some e) store
-refusal_settles start (refusals.SinkFault snapshot) bytes before after store refuses = absurd refuses
-refusal_settles start e bytes before after store refuses = tt
-
 refusal_cause : (start : Start) (e : Refusal) (bytes : List ℕ) (h : History) (before after : SourceView) (store : StoreView)
     → RefusesDraft (draft_making start) bytes before after e → HadCause start h store (Some e)
 refusal_cause start refusals.TableExists bytes h before after store refuses = absurd refuses
 refusal_cause start (refusals.SessionUsed path) bytes h before after store refuses = absurd refuses
 refusal_cause start e bytes h before after store refuses = tt
+
+-- where a schema is, there is a table
+schema_there : (o : Option (List ℕ)) → o ≡ None → IsSome o → ⊥
+schema_there o none some = cc
+
+imaged : (start : Start) (bytes : List ℕ) (h : History) (f : Files) → StandsForEither start bytes h f → IsImage start bytes h f
+imaged start bytes h f (inr (none, stands)) = record { either = inr (none, stands); made = λ empty there. stands }
+imaged start bytes h f (inl folder) = record {
+  either = inl folder;
+  made = λ empty there.
+      let nothing : Folder f no_table = subst (Folder f) empty folder in
+      absurd (schema_there (map.get f (schema_path 0)) (nothing.schemas 0 (omega arith)) there);
+}
 
 refused_table : (start : Start) (h : History) (bytes : List ℕ) (before after : SourceView) (out : SinkView) (store : StoreView) (e : Refusal)
     → RefusesDraft (draft_making start) bytes before after e → LeavesFiles (λ f. Folder f h) store
@@ -124,8 +134,7 @@ refused_table : (start : Start) (h : History) (bytes : List ℕ) (before after :
 refused_table start h bytes before after out store e refuses folder = record {
   done = λ none. absurd (some_none e none);
   leaves = leaves_weaker (λ f. Folder f h) (LeavesTable start bytes (Some e) h) (λ f is. refusal_leaves start e bytes h before after f refuses is) store folder;
-  settles = refusal_settles start e bytes before after store refuses;
-  images = images_left (λ f. Folder f h) (StandsForEither start bytes h) (λ f is. inl is) store folder;
+  images = images_left (λ f. Folder f h) (IsImage start bytes h) (λ f is. imaged start bytes h f (inl is)) store folder;
   cause = refusal_cause start e bytes h before after store refuses;
   complete = λ s is none absent no_fault. draft_served start e s bytes before after is no_fault.input refuses;
 }
@@ -174,8 +183,7 @@ module _ (start : Start) (bytes : List ℕ) (s : TableSchema) (draft : IsDraftOf
   done_table before after None left makes prints = record {
     done = λ none. (left, prints);
     leaves = leaves_weaker (LeavesHistory s h (Ok tt)) (LeavesTable start bytes None h) made_leaves after.store makes.leaves;
-    settles = Extends-weaker (λ f. Folder f (table s [])) (StandsForDraft start bytes) after.store.ops after.store.ops (draft_stands start bytes s draft) makes.settles;
-    images = Extends-weaker (making.StandsForEither s h) (StandsForEither start bytes h) first.ops after.store.ops either makes.images;
+    images = Extends-weaker (making.StandsForEither s h) (IsImage start bytes h) first.ops after.store.ops (λ f is. imaged start bytes h f (either f is)) makes.images;
     cause = tt;
     complete = λ other is none absent no_fault. tt;
   }
@@ -183,8 +191,7 @@ module _ (start : Start) (bytes : List ℕ) (s : TableSchema) (draft : IsDraftOf
       subst (λ (e : Refusal). CreatesTable start h bytes first before after (Some e)) (sym fault) (record {
         done = λ none. absurd (some_none (refusals.SinkFault None) none);
         leaves = leaves_weaker (LeavesHistory s h (Ok tt)) (LeavesTable start bytes (Some (refusals.SinkFault None)) h) made_leaves after.store makes.leaves;
-        settles = Extends-weaker (λ f. Folder f (table s [])) (StandsForDraft start bytes) after.store.ops after.store.ops (draft_stands start bytes s draft) makes.settles;
-        images = Extends-weaker (making.StandsForEither s h) (StandsForEither start bytes h) first.ops after.store.ops either makes.images;
+        images = Extends-weaker (making.StandsForEither s h) (IsImage start bytes h) first.ops after.store.ops (λ f is. imaged start bytes h f (either f is)) makes.images;
         cause = tt;
         complete = λ other is none absent no_fault. no_fault.out failed;
       })
@@ -196,10 +203,6 @@ module _ (start : Start) (bytes : List ℕ) (s : TableSchema) (draft : IsDraftOf
   not_leaves (refusals.StoreFault path) after caused f (inl folder) = inl folder
   not_leaves (refusals.StoreFault path) after caused f (inr (at, none, folder)) = inr (at, none, draft_stands start bytes s draft f folder)
   not_leaves e after caused f leaves = leaves
-
-  not_settles : (e : Refusal) (after : StoreView) → IsCaused (its_table start s) h first after (Err e) → SettlesTable start bytes (Some e) after
-  not_settles (refusals.SinkFault snapshot) after caused = absurd caused
-  not_settles e after caused = tt
 
   not_cause : (e : Refusal) (after : StoreView) → IsCaused (its_table start s) h first after (Err e) → HadCause start h first (Some e)
   not_cause refusals.TableExists after caused = caused
@@ -215,8 +218,7 @@ module _ (start : Start) (bytes : List ℕ) (s : TableSchema) (draft : IsDraftOf
   not_table before after e makes = record {
     done = λ none. absurd (some_none e none);
     leaves = leaves_weaker (LeavesHistory s h (Err e)) (LeavesTable start bytes (Some e) h) (not_leaves e after.store makes.cause) after.store makes.leaves;
-    settles = not_settles e after.store makes.cause;
-    images = Extends-weaker (making.StandsForEither s h) (StandsForEither start bytes h) first.ops after.store.ops either makes.images;
+    images = Extends-weaker (making.StandsForEither s h) (IsImage start bytes h) first.ops after.store.ops (λ f is. imaged start bytes h f (either f is)) makes.images;
     cause = not_cause e after.store makes.cause;
     complete = λ other is none absent no_fault. not_served e (makes.complete none absent no_fault.store);
   }

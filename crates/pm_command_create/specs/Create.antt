@@ -1,5 +1,6 @@
 -- What the command `create` answers, what it prints, and what it does to a folder.
-use Rattle.std.specs.Prelude.{◌≡◌, ◌≢◌, ◌⊎◌, ℕ, List, [], codes, Option, None, Some, Result, Ok}
+use Rattle.std.specs.Prelude.{◌≡◌, ◌≢◌, ◌⊎◌, ℕ, List, [], codes, Option, None, Some, IsSome, Result, Ok}
+use Rattle.std.specs.FinMap as map
 use Rattle.std.specs.Result.{result_err}
 use Rattle.pm_base.specs.Known.{and_then}
 use Rattle.pm_base.specs.Newline.{line}
@@ -86,16 +87,15 @@ LeavesTable start bytes (Some (refusals.StoreFault path)) h f =
     Folder f h ⊎ ((path ≡ schema_path 0) × (h ≡ no_table) × StandsForDraft start bytes f)
 LeavesTable start bytes (Some other) h f = Folder f h
 
--- where the table stands for sure each image from then on stands for it
-abbrev pub SettlesTable : Start → List ℕ → Option Refusal → StoreView → Type 0
-SettlesTable start bytes None after = Extends (StandsForDraft start bytes) after.ops after.ops
-SettlesTable start bytes (Some (refusals.SinkFault snapshot)) after =
-    Extends (StandsForDraft start bytes) after.ops after.ops
-SettlesTable start bytes (Some other) after = Unit {0}
-
 -- files stand for a history, or for the table of a draft where there was none
 abbrev pub StandsForEither : Start → List ℕ → History → Files → Type 0
 StandsForEither start bytes h f = Folder f h ⊎ ((h ≡ no_table) × StandsForDraft start bytes f)
+
+-- What a crash may leave: files that stand for a history, or for the table of a draft where there was none; and for the
+-- latter from the swap on, which put its schema there.
+pub record IsImage (start : Start) (bytes : List ℕ) (h : History) (f : Files) : Type 0 where
+  pub either : StandsForEither start bytes h f
+  pub made : h ≡ no_table → IsSome (map.get f (schema_path 0)) → StandsForDraft start bytes f
 
 -- what was so where a refusal came: a table stood, or a file had the origin's name
 abbrev pub HadCause : Start → History → StoreView → Option Refusal → Type 0
@@ -105,14 +105,13 @@ HadCause start h first (Some (refusals.SessionUsed path)) =
 HadCause start h first other = Unit {0}
 
 -- What `create` does to a history. At the end of the work there was no table, and the folder stands for the draft's;
--- else what the refusal leaves stands. Once the table stands each image has it, and before that each image has it or
--- not. A good draft is served where there is no table, no file of the origin's name and no fault.
+-- else what the refusal leaves stands. Each image has the table once its schema is there, and not before. A good draft
+-- is served where there is no table, no file of the origin's name and no fault.
 pub record CreatesTable (start : Start) (h : History) (bytes : List ℕ) (first : StoreView) (before after : Outside)
     (answer : Option Refusal) : Type 0 where
   pub done : answer ≡ None → (after.input.left ≡ Some []) × (after.out.taken ≡ and_then before.out.taken created_text)
   pub leaves : LeavesFiles (LeavesTable start bytes answer h) after.store
-  pub settles : SettlesTable start bytes answer after.store
-  pub images : Extends (StandsForEither start bytes h) first.ops after.store.ops
+  pub images : Extends (IsImage start bytes h) first.ops after.store.ops
   pub cause : HadCause start h first answer
   pub complete : (s : TableSchema) → IsDraftOf start bytes s → h ≡ no_table → IsAbsent (own_origin (actor start)) first
       → HasNoFault before first after → IsServed answer
