@@ -5,9 +5,9 @@
 //! finds what is refused: reading holds one decoded block then. All calls take time linear in the bytes but for the
 //! test that names of fields differ, which takes the square of how many there are, once for a file.
 //!
-//! All rows of such a file may be judged first, none of which is kept (`RunReader::judged`). What is known then of a `JudgedFile` stands in `specs/Judged.antt`: it has these rows and no
-//! others, and is seen as them. They are given one after another where they lie in its bytes (`FileRows` of
-//! `pm_run_bytes`).
+//! All rows of such a file may be judged first, none of which is kept (`RunReader::judged`). What is known then of a
+//! `JudgedFile` stands in `specs/Judged.antt`: it has these rows and no others, and is seen as them. They are given one
+//! after another where they lie in its bytes (`FileRows` of `pm_run_bytes`).
 //!
 //! The names of a schema's columns differ by its rules. Where those of some other schema don't, calls answer that
 //! memory ran out.
