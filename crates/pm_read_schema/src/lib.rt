@@ -7,7 +7,7 @@
 //! calls.
 //!
 //! `specs/Reader.antt` has its phases, its calls and what each answer leads to, `specs/Names.antt` what a listing says;
-//! `specs/Meaning.antt` what it knows of the files in each phase, what a step means for them, and which refusals come;
+//! `specs/Meaning.antt` what it knows of the files in each phase, and which refusals come;
 //! `specs/Trace.antt` which calls it made, and which show a refusal; `specs/AllCalls.antt` what all of them do where
 //! nobody else acts.
 #![tactic(auto)]

@@ -9,8 +9,8 @@
 //! is damaged.
 //!
 //! `specs/Reader.antt` has the phases, the calls and what each answer leads to, and `specs/View.antt` what a view says
-//! of the live files; `specs/Meaning.antt` what a reader knows of the snapshots in each phase, what a step means for
-//! the files, and which refusals a folder that stands can show; `specs/Trace.antt` which calls it made, and which show
+//! of the live files; `specs/Meaning.antt` what a reader knows of the snapshots in each phase,
+//! and which refusals a folder that stands can show; `specs/Trace.antt` which calls it made, and which show
 //! a refusal; `specs/Named.antt` lists the paths that a snapshot names. `pm_read_log` reads the changelog of a
 //! snapshot.
 #![tactic(auto)]
