@@ -86,13 +86,17 @@ class Disk:
     """A folder, as the calls of a trace change it."""
 
     def __init__(self, root):
-        self.around = root.parent
+        self.root, self.around = root, root.parent
         self.top = Directory({root.name: load(root)} if root.exists() else {})
         self.open = {}
 
+    def whole(self, path):
+        """A path from the top: a command enters the folder, so one that doesn't begin there begins in it."""
+        return os.path.normpath(os.path.join(self.root, path))
+
     def find(self, path):
         """What stands at a path; nothing where it isn't below the folder."""
-        path = os.path.normpath(path)
+        path = self.whole(path)
         if not path.startswith(os.fspath(self.around)):
             return None
         found = self.top
@@ -102,7 +106,7 @@ class Disk:
 
     def place(self, path):
         """The folder that a path stands in, and its name there."""
-        folder, name = os.path.split(os.path.normpath(path))
+        folder, name = os.path.split(self.whole(path))
         return self.find(folder), name
 
     def follow(self, process, call, texts, rest, answer):

@@ -21,7 +21,7 @@ from trials import DRAFT, Tally, copy, fault_of, random_of, read_arguments, run,
 
 CHANGES = ("openat", "write", "fsync", "fdatasync", "rename", "renameat", "renameat2", "unlink", "unlinkat", "mkdir")
 CHANGES += ("mkdirat", "rmdir", "flock", "fchmod", "ftruncate")
-LOOKS = ("open", "read", "getdents64", "statx", "stat", "lstat", "fstat", "newfstatat", "close")
+LOOKS = ("chdir", "open", "read", "getdents64", "statx", "stat", "lstat", "fstat", "newfstatat", "close")
 ERRORS = ("EIO", "ENOSPC")
 MERGING = DRAFT[:-1] + b',"options":{"manifest.merge-min-count":"2"}}'
 

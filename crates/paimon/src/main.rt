@@ -71,12 +71,16 @@ fn run_command(rt: &HostRuntime, folder: &Txt, words: &[Txt]) -> u8 {
     status.code
 }
 
-/// A store on a folder.
+/// A store on a folder. Where the process can enter that, paths are looked up from within, which takes less time.
 fn open_store(
     rt: &HostRuntime,
     folder: &Txt,
 ) -> Result<FolderStore<System<HostRuntime>>, StoreFail> {
-    FolderStore::open(rt.alloc(), System::new(rt.clone()?), folder.as_str())
+    let root = match env::set_current_dir(rt, folder.as_str()) {
+        Ok(()) => ".",
+        Err(_) => folder.as_str(),
+    };
+    FolderStore::open(rt.alloc(), System::new(rt.clone()?), root)
 }
 
 /// The words of the command line after the program's name.
