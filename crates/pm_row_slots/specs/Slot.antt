@@ -1,5 +1,5 @@
 -- The row of a place, and how those of two compare.
-use Rattle.std.specs.Prelude.{◌≡◌, Bool, true, false, Option, None, Some}
+use Rattle.std.specs.Prelude.{◌≡◌, ℕ, max, Bool, true, false, Option, None, Some}
 use Rattle.std.specs.declared.cmp.Ordering.{Ordering}
 use Rattle.std.specs.declared.cmp.Ordering.TheVariants.{Less, Greater}
 use Rattle.pm_values.specs.Order.{key_cmp}
@@ -13,6 +13,15 @@ use Rattle.pm_row_slots.specs.declared.slot.SeenRow.{SeenRow}
 abbrev pub row_in : Bool → SeenRow → Option Stamped → Option Stamped
 row_in true seen own = Some (seen_row seen)
 row_in false seen own = own
+
+-- the number of the row of a place, or 0
+abbrev pub number_of : Option Stamped → ℕ
+number_of (Some s) = s.seq
+number_of None = 0
+
+-- the stored row, with the number where this is greater than its own
+abbrev pub raised : ℕ → Stamped → Stamped
+raised number s = record { key = s.key; seq = max s.seq number; kind = s.kind; row = s.row }
 
 -- the row of a place, where it stands
 abbrev pub placed_row : PlacedRow → Stamped

@@ -3,7 +3,7 @@
 ghost use Rattle.std.specs.Prelude.{◌≡◌, [], None, Some, IfOk, OnErr, OnOk, is_none, map, option_map};
 ghost use Rattle.pm_values.specs.declared.record.Stamped.{Stamped as StampedView};
 ghost use Rattle.pm_row_slots.specs.Seen.{seen_row, seen_value};
-ghost use Rattle.pm_row_slots.specs.Slot.{OrdersFirst, placed_row};
+ghost use Rattle.pm_row_slots.specs.Slot.{OrdersFirst, number_of, placed_row, raised};
 
 use crate::order::{order_before, order_of, order_with};
 use crate::seen::{Seen, lend_values, values_of};
@@ -162,6 +162,30 @@ impl<'b> RowSlot<'b> {
     {
         self.lies = false;
         self.own = None;
+    }
+
+    /// The number of the row that stands in it, or 0.
+    pub fn number(&self) -> u64
+        ensures { result ≡ number_of self.now }
+    {
+        if self.lies {
+            return self.seen.seq;
+        }
+        match &self.own {
+            Some(own) => own.seq,
+            None => 0,
+        }
+    }
+
+    /// Gives the row that stands in it the number, where this is greater than its own.
+    pub fn raise(&mut self, number: u64)
+        ensures { self.new ≡ option_map (raised number) self.old }
+    {
+        if self.lies {
+            self.seen.seq = self.seen.seq.max(number);
+        } else if let Some(own) = &mut self.own {
+            own.seq = own.seq.max(number);
+        }
     }
 
     /// The row, which leaves the place, in memory of its own.
