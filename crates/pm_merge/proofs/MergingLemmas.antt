@@ -2,7 +2,7 @@
 use Rattle.std.proofs.Common.{◌≡◌, ◌≤◌, ◌+◌, ℕ, List, [], ◌∷◌, ◌++◌, map, take, drop, length, arith, Option, Some, None, Bool, true, false, cond, refl, sym, ap, subst, ◌∙◌, append-nil, inl, inr}
 use Rattle.std.specs.Prelude.{option_to_list, is_none, ◌≢◌, IfErr, OnOk, Result, Ok, Err, ⊤}
 use Rattle.std.specs.List.{AllByRecursion}
-use Rattle.std.specs.Option.{option_or}
+use Rattle.std.specs.Option.{option_map, option_or}
 use Rattle.std.specs.Ordering.{eq_by_cmp, is_eq, ordering_reverse}
 use Rattle.std.specs.declared.cmp.Ordering.TheVariants.{Less, Equal, Greater}
 use Rattle.std.proofs.lemmas.Grind.{flat_map-append}
@@ -14,10 +14,12 @@ use Rattle.pm_values.specs.declared.refusal.Refusal.{Refusal}
 use Rattle.pm_values.specs.declared.refusal.Refusal.TheVariants.{Memory}
 use Rattle.pm_engine.specs.Covers.{Run}
 use Rattle.pm_engine.specs.Meaning.{Meaning}
+use Rattle.pm_engine.specs.Needed.{IsNeeded, raised}
 use Rattle.pm_engine.specs.Reducing.{IsCombined}
+use Rattle.pm_engine.specs.declared.needed.Needed.TheVariants as needed
 use Rattle.pm_engine.proofs.Rising.{apart, tied, ties_itself}
 use Rattle.pm_merge.specs.Merging.{AreCombined, BeginsFrom, Chooses, CombineFirst, GaveFirst, GivesLeast, GivesOne, HaveNoRow, IsBelow, alone, both_go, first_of_key, first_refusal, joined, newer_goes, none_goes, older_goes, refusal_now, rest_past, rests_of, rows_past, runs_in}
-use Rattle.pm_row_slots.specs.Slot.{OrdersFirst}
+use Rattle.pm_row_slots.specs.Slot.{OrdersFirst, number_of}
 use Rattle.pm_merge.specs.Source.{Fills, HandsOut, Rest}
 use Rattle.pm_merge.proofs.GivenLemmas.{AllFrom, firsts, past}
 
@@ -271,6 +273,25 @@ module _ (m : Meaning) where
   both_chosen (Some x) None s order both = cc
   both_chosen None (Some y) s order both = cc
   both_chosen None None s order both = cc
+
+  -- the row of one alone is needed
+  pub older_kept : (a b s : Option Stamped) → OrdersFirst a b (Some Equal) → IsNeeded m needed.Older → s ≡ option_map (raised (number_of b)) a → CombineFirst m a b s
+  older_kept (Some x) (Some y) s order is_needed is = (raised y.seq x, is, is_needed x y (tied x.key y.key (ap is_eq equal)))
+    where
+      equal : key_cmp x.key y.key ≡ Equal
+      equal = cc
+  older_kept (Some x) None s order is_needed is = cc
+  older_kept None (Some y) s order is_needed is = cc
+  older_kept None None s order is_needed is = cc
+
+  pub newer_kept : (a b s : Option Stamped) → OrdersFirst a b (Some Equal) → IsNeeded m needed.Newer → s ≡ option_map (raised (number_of a)) b → CombineFirst m a b s
+  newer_kept (Some x) (Some y) s order is_needed is = (raised x.seq y, is, is_needed x y (tied x.key y.key (ap is_eq equal)))
+    where
+      equal : key_cmp x.key y.key ≡ Equal
+      equal = cc
+  newer_kept (Some x) None s order is_needed is = cc
+  newer_kept None (Some y) s order is_needed is = cc
+  newer_kept None None s order is_needed is = cc
 
   pub none_chosen : (a b : Option Stamped) → OrdersFirst a b None → Chooses m a b None a b
   none_chosen None None order = none_goes

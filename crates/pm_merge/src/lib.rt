@@ -11,7 +11,7 @@
 //! Rows come from a `RowSource`, which has a list of them and may refuse after it, and go from place to place
 //! (`RowPlace`), and no run is made on the way. A source is asked for a row only where that has to be known, so its
 //! refusal comes no earlier. A `RowSlot` of `pm_row_slots` is such a place: a row that lies in bytes stays there, and
-//! is copied only where it is combined or taken.
+//! is copied only where it is taken, or combined by an engine that needs both rows.
 #![tactic(auto)]
 
 mod drops;

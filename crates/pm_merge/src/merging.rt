@@ -1,17 +1,20 @@
 //! Runs that are made into one run, row by row.
 
 ghost use Rattle.std.specs.Prelude.{◌≡◌, ◌≢◌, ◌+◌, ◌≤◌, List, None, Some, IfErr, IfOk, OnErr, OnOk, length, map};
-ghost use Rattle.std.specs.Prelude.{option_to_list};
+ghost use Rattle.std.specs.Prelude.{option_map, option_to_list};
+ghost use Rattle.std.specs.declared.cmp.Ordering.TheVariants.{Equal};
 ghost use Rattle.std.specs.Vec.{vec_len};
 ghost use Rattle.pm_engine.specs.Meaning.{Meaning};
+ghost use Rattle.pm_engine.specs.Needed.{raised};
 ghost use Rattle.pm_merge.specs.Merging.{Chooses, CombineFirst, GivesOne, HasLeft, HaveNoRow};
 ghost use Rattle.pm_merge.specs.Merging.{first_refusal, rows_left};
 ghost use Rattle.pm_merge.specs.Source.{Rest};
+ghost use Rattle.pm_row_slots.specs.Slot.{OrdersFirst, number_of};
 ghost use Rattle.pm_values.specs.declared.refusal.Refusal.TheVariants.{Memory};
 
 use crate::place::RowPlace;
 use crate::source::RowSource;
-use pm_engine::{MergeEngine, combined};
+use pm_engine::{MergeEngine, Needed, combined};
 use pm_values::Refusal;
 use std::alloc::{AllocError, Global};
 use std::cmp::Ordering;
@@ -169,16 +172,45 @@ fn choose<P: RowPlace, E: MergeEngine>(
     match older.order(newer) {
         Some(Ordering::Less) => mem::swap(slot, older),
         Some(Ordering::Greater) => mem::swap(slot, newer),
-        Some(Ordering::Equal) => combine(
-            alloc,
-            engine,
-            older.as_mut(),
-            newer.as_mut(),
-            slot.as_mut(),
-        )?,
+        Some(Ordering::Equal) => join(alloc, engine, older, newer, slot)?,
         None => {}
     }
     Ok(())
+}
+
+/// Puts two rows of one key into an empty place, as one: the row that is needed where it is one alone, which is moved
+/// by its pointer, and else what both are combined to.
+fn join<P: RowPlace, E: MergeEngine>(
+    alloc: Global,
+    engine: &E,
+    older: &mut Box<P>,
+    newer: &mut Box<P>,
+    slot: &mut Box<P>,
+) -> Result<(), AllocError>
+    requires none { P.held slot.old.value ≡ None }
+    requires same { OrdersFirst (P.held older.old.value) (P.held newer.old.value) (Some Equal) }
+    ensures combines { OnOk result (CombineFirst (E.meaning engine.now) (P.held older.old.value)
+        (P.held newer.old.value) (P.held slot.new.value)) }
+    ensures takes { OnOk result ((P.held older.new.value ≡ None) × (P.held newer.new.value ≡ None)) }
+{
+    match engine.needed() {
+        Needed::Older => keep(older, newer, slot),
+        Needed::Newer => keep(newer, older, slot),
+        Needed::Both => combine(alloc, engine, older.as_mut(), newer.as_mut(), slot.as_mut())?,
+    }
+    Ok(())
+}
+
+/// Puts the row that is needed into an empty place, with the greater number of both, and lets the other go.
+fn keep<P: RowPlace>(needed: &mut Box<P>, other: &mut Box<P>, slot: &mut Box<P>)
+    requires { P.held slot.old.value ≡ None }
+    ensures keeps { P.held slot.new.value
+        ≡ option_map (raised (number_of (P.held other.old.value))) (P.held needed.old.value) }
+    ensures takes { (P.held needed.new.value ≡ None) × (P.held other.new.value ≡ None) }
+{
+    needed.raise(other.number());
+    other.clear();
+    mem::swap(slot, needed);
 }
 
 /// Puts two rows of one key into an empty place, as one, and takes them from theirs. It isn't inlined, so that

@@ -1,7 +1,8 @@
 //! Places for rows, between which rows are moved.
 
-ghost use Rattle.std.specs.Prelude.{◌≡◌, None, Some, Option, IfOk, OnOk, is_none};
-ghost use Rattle.pm_row_slots.specs.Slot.{OrdersFirst};
+ghost use Rattle.std.specs.Prelude.{◌≡◌, None, Some, Option, IfOk, OnOk, is_none, option_map};
+ghost use Rattle.pm_engine.specs.Needed.{raised};
+ghost use Rattle.pm_row_slots.specs.Slot.{OrdersFirst, number_of};
 
 use pm_row_slots::RowSlot;
 use pm_values::Stamped;
@@ -27,6 +28,18 @@ pub trait RowPlace: Drop {
     /// have none.
     fn order(&self, other: &Self) -> Option<Ordering>
         ensures { OrdersFirst (held self.now) (held other.now) result };
+
+    /// The number of its row, or 0.
+    fn number(&self) -> u64
+        ensures { result ≡ number_of (held self.now) };
+
+    /// Gives its row the number, where this is greater than the row's own.
+    fn raise(&mut self, number: u64)
+        ensures { held self.new ≡ option_map (raised number) (held self.old) };
+
+    /// No row stands in it any more.
+    fn clear(&mut self)
+        ensures { held self.new ≡ None };
 
     /// The row, which leaves the place, in memory of its own.
     fn take(&mut self, alloc: Global) -> Result<Option<Stamped>, AllocError>
@@ -55,6 +68,21 @@ impl<'b> RowPlace for RowSlot<'b> {
     #[inline]
     fn order(&self, other: &RowSlot<'b>) -> Option<Ordering> {
         RowSlot::order(self, other)
+    }
+
+    #[inline]
+    fn number(&self) -> u64 {
+        RowSlot::number(self)
+    }
+
+    #[inline]
+    fn raise(&mut self, number: u64) {
+        RowSlot::raise(self, number);
+    }
+
+    #[inline]
+    fn clear(&mut self) {
+        RowSlot::clear(self);
     }
 
     #[inline]

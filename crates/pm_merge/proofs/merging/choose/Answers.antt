@@ -16,12 +16,11 @@ returns-in-Some-Greater g c =
     (rw (c.in-Some-Greater.field-0-is, c.deref.ensures, c.deref-2.ensures) at c.in-Some-Greater.ensures))
 
 -- both, of one key
-pub returns-in_ok-combine-in-Some-Equal : goal.returns-in_ok-combine-in-Some-Equal
-returns-in_ok-combine-in-Some-Equal g c =
-    rw (c.in_ok-combine-in-Some-Equal.ensures.takes.0, c.in_ok-combine-in-Some-Equal.ensures.takes.1)
-    (both_chosen (g.E.MergeEngine.meaning c.args.engine.now) (g.P.RowPlace.held c.args.older.now.value) (g.P.RowPlace.held c.args.newer.now.value) (g.P.RowPlace.held c.combine.new.slot)
-    (rw (c.in-Some-Equal.field-0-is, c.deref.ensures, c.deref-2.ensures) at c.in-Some-Equal.ensures)
-    (rw (c.as_mut.ensures.value, c.as_mut-in-Some-Equal.ensures.value) at c.in_ok-combine-in-Some-Equal.ensures.combines))
+pub returns-in_ok-join-in-Some-Equal : goal.returns-in_ok-join-in-Some-Equal
+returns-in_ok-join-in-Some-Equal g c =
+    rw (c.in_ok-join-in-Some-Equal.ensures.takes.0, c.in_ok-join-in-Some-Equal.ensures.takes.1)
+    (both_chosen (g.E.MergeEngine.meaning c.args.engine.now) (g.P.RowPlace.held c.args.older.now.value) (g.P.RowPlace.held c.args.newer.now.value) (g.P.RowPlace.held c.join.new.slot.value)
+    (rw (c.in-Some-Equal.field-0-is, c.deref.ensures, c.deref-2.ensures) at c.in-Some-Equal.ensures) c.in_ok-join-in-Some-Equal.ensures.combines)
 
 -- none
 pub returns-in-None : goal.returns-in-None
