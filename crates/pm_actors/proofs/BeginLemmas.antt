@@ -1,10 +1,9 @@
 -- Machines may begin, in a folder that is found and beside others.
-use Rattle.std.proofs.Common.{◌≡◌, ◌⊎◌, inl, inr, ℕ, List, [], ◌∷◌, Option, None, Some, IsSomeAnd, sym, subst, arith}
+use Rattle.std.proofs.Common.{◌≡◌, inl, inr, ℕ, List, [], ◌∷◌, ◌++◌, sym, subst, arith}
 use Rattle.std.specs.List.{AllByRecursion}
 use Rattle.pm_store.specs.declared.call.Op.{Op}
 use Rattle.pm_store.specs.Files.{Files, files_after}
-use Rattle.pm_store.specs.Store.{StoreView}
-use Rattle.pm_model_history.specs.History.{History, IsTableOf}
+use Rattle.pm_model_history.specs.History.{History}
 use Rattle.pm_model_history.specs.Merge.{HistoryRow}
 use Rattle.pm_model_folder.specs.Changes.{Actor, IsNoOrigin}
 use Rattle.pm_model_folder.specs.Commits.{Names}
@@ -23,7 +22,8 @@ use Rattle.pm_commit.specs.Meaning as commit
 use Rattle.pm_commit.specs.Meaning.{KnowsOwn}
 use Rattle.pm_commit.specs.Own as owner
 use Rattle.pm_commit.specs.declared.phase.Phase as committing
-use Rattle.pm_actors.specs.World.{AllKnow, AreAllApart, BeginsCommit, IsWorld, Knows, MayBegin, MayComeTo, MayJoin, Worker, commits, creates, lists, scans}
+use Rattle.pm_actors.specs.World.{AllKnow, Begins, BeginsCommit, IsWorld, KeepsActor, Knows, MayBegin, MayFollow, MayJoin, Worker, commits, creates, lists, scans, waits}
+use Rattle.pm_actors.proofs.WorldLemmas.{replaced}
 
 -- what the law of a folder that is found says
 abbrev pub Found : Type 0
@@ -50,20 +50,38 @@ module _ (f : Files) (p : Past) where
       (begins.is_committer, subst (λ (m : committing.Phase). commit.KnowsIn rows m f p) (sym begins.is) own)
 
   pub joined : (w : Worker) → MayJoin p w → Knows w f p
+  joined (waits me) named = named
   joined (creates t m) (is, left, other) = creator_begins t m is left other
   joined (lists me m) (inl is) = subst (λ (m : listing.Phase). snapshots.Knows m f p) (sym is) tt
   joined (lists me m) (inr (s, is, table)) = subst (λ (m : listing.Phase). snapshots.Knows m f p) (sym is) table
   joined (scans me m) (a, is, table) = subst (λ (m : scanning.Phase). scan.Knows m f p) (sym is) table
   joined (commits rows m) begins = commit_begins rows m begins
 
--- so it comes into their world
-pub came : (workers : List Worker) (w : Worker) (store : StoreView) → AreAllApart (w ∷ workers) → MayComeTo workers w store → IsWorld (w ∷ workers) store
-came workers w store apart may = (apart, at store.ops may)
-  where
-    at : (known : Option (List Op)) → IsSomeAnd known (λ ops. (p : Past) × Stands (files_after ops) p × AllKnow workers (files_after ops) p × MayJoin p w)
-        → IsSomeAnd known (λ ops. (p : Past) × Stands (files_after ops) p × AllKnow (w ∷ workers) (files_after ops) p)
-    at None none = none
-    at (Some ops) (p, stands, known, joins) = (p, stands, (joined (files_after ops) p w joins, known))
+-- who waited goes on as a machine that begins
+module _ (me : Actor) (p : Past) (named : HasNamedNone me p) where
+  one_may_join : (w : Worker) → Begins (λ other. other ≡ me) p.history w → MayJoin p w
+  one_may_join (waits other) is = subst (λ (other : Actor). HasNamedNone other p) (sym is) named
+  one_may_join (creates t m) may = may
+  one_may_join (lists other m) may = may
+  one_may_join (scans other m) may = may
+  one_may_join (commits rows m) may = record {
+    begun = may.begun;
+    schema = may.schema;
+    is = may.is;
+    is_committer = may.is_committer;
+    table = may.table;
+    fit = may.fit;
+    batch = may.batch;
+    may = may.may;
+    no_base = may.no_base;
+    none_lost = may.none_lost;
+    unnamed = subst (λ (other : Actor). HasNamedNone other p) (sym may.unnamed) named;
+  }
+
+pub came : (before later : List Worker) (me : Actor) (w : Worker) (ops : List Op) → KeepsActor (waits me) w → MayFollow me w ops
+    → IsWorld (before ++ waits me ∷ later) ops → IsWorld (before ++ w ∷ later) ops
+came before later me w ops keeps follows =
+    replaced before later (waits me) w ops keeps (λ p stands named. joined (files_after ops) p w (one_may_join me p named w (follows p stands)))
 
 -- what the law of those that join says
 abbrev pub Joins : Type 0
@@ -76,6 +94,7 @@ module _ (joins : Joins) (f : Files) (p : Past) (stood : (id : ℕ) → p.stood 
       none s id path is known.after_origin known.to (subst (λ (g : Files). Names g s id path) (stood id) named) by
 
   may_join : (w : Worker) → MayBegin f p.history w → MayJoin p w
+  may_join (waits me) may = names_none me may
   may_join (creates t m) may = may
   may_join (lists me m) may = may
   may_join (scans me m) may = may

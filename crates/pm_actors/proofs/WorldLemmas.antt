@@ -1,15 +1,15 @@
 -- Whichever machine steps, the others know what they knew.
-use Rattle.std.proofs.Common.{◌≡◌, ◌≢◌, ℕ, List, [], ◌∷◌, ◌++◌, Option, None, Some, IfSome, IsSomeAnd, option_map, refl, sym, ap, subst}
+use Rattle.std.proofs.Common.{◌≡◌, ◌≢◌, ℕ, List, [], ◌∷◌, ◌++◌, Option, None, Some, IfSome, option_map, refl, sym, ap, subst}
 use Rattle.std.specs.List.{AllByRecursion}
 use Rattle.pm_store.specs.declared.call.Op.{Op}
-use Rattle.pm_store.specs.Files.{Files, files_after}
-use Rattle.pm_store.specs.Store.{StoreView, IsAlone}
-use Rattle.pm_machine.specs.Moves.{IsKept, Lasts, Moves}
-use Rattle.pm_machine.specs.Moves as moves
-use Rattle.pm_machine.proofs.Facts.{Stands-moves}
+use Rattle.pm_store.specs.Files.{Files, after_effect, after_op, files_after}
+use Rattle.pm_store.specs.Store.{own_op}
+use Rattle.pm_store.specs.declared.call.Effect.{Effect}
+use Rattle.pm_store.proofs.FileLaws.{files_after-push}
+use Rattle.pm_machine.specs.Moves.{IsKept, Keeps, Lasts}
 use Rattle.pm_model_history.specs.Merge.{HistoryRow}
 use Rattle.pm_model_folder.specs.Changes.{Actor, IsActor, IsOwn, its_origin, origin_name}
-use Rattle.pm_model_folder.specs.Ledger.{Advances, Past, Stands}
+use Rattle.pm_model_folder.specs.Ledger.{Advances, HasNamedNone, Past, Stands}
 use Rattle.pm_model_folder.specs.Paths.{snapshot_file}
 use Rattle.pm_create.specs.Creator.{NewTable}
 use Rattle.pm_create.specs.Meaning as create
@@ -22,13 +22,14 @@ use Rattle.pm_commit.specs.Meaning as commit
 use Rattle.pm_commit.specs.Own as owner
 use Rattle.pm_commit.specs.Own.{OwnView}
 use Rattle.pm_commit.specs.declared.phase.Phase as committing
-use Rattle.pm_actors.specs.World.{AllKnow, AllKnowIn, AreAllApart, AreApart, Differ, IsWorld, KeepsActor, Knows, Leaves, Worker, actor_of, commits, creates, lists, scans}
+use Rattle.pm_actors.specs.World.{AllKnow, AreAllApart, AreApart, Differ, IsWorld, KeepsActor, Knows, Leaves, Worker, actor_of, commits, creates, lists, scans, waits}
 
 -- what the laws of the crates below say
 pub record KnownLaws : Type 0 where
   pub past : (me : Actor) (f after : Files) (p q : Past) → Stands f p → Advances me f p after q → Stands after q
   pub same : (me : Actor) (f after : Files) (p later : Past) → IsKept f p after later → Advances me f p after later
   pub own : (me other : Actor) (path : List ℕ) → IsActor me → IsActor other → IsOwn me path → IsOwn other path → me ≡ other
+  pub waits : (me other : Actor) (f after : Files) (p q : Past) → Stands f p → Advances other f p after q → me ≢ other → HasNamedNone me p → HasNamedNone me q
   pub creates : (t : NewTable) (m : creating.Phase) (other : Actor) (f after : Files) (p q : Past) → Stands f p → Advances other f p after q
       → origin_name other ≢ origin_name t.me → create.Knows t m f p → create.Knows t m after q
   pub lists : (m : listing.Phase) (other : Actor) (f after : Files) (p q : Past) → Stands f p → Advances other f p after q
@@ -50,6 +51,7 @@ commit_steps rows None f after p q makes = absurd makes
 commit_steps rows (Some o) f after p q makes = (owner.actor_of o, refl, makes.advances)
 
 steps : KnownLaws → (a : Worker) (f after : Files) (p q : Past) → Leaves a f p after q → Steps a f p after q
+steps laws (waits me) f after p q kept = (me, refl, laws.same me f after p q kept)
 steps laws (creates t m) f after p q makes = (t.me, refl, makes.advances)
 steps laws (lists me m) f after p q kept = (me, refl, laws.same me f after p q kept)
 steps laws (scans me m) f after p q kept = (me, refl, laws.same me f after p q kept)
@@ -68,6 +70,8 @@ other_commit me (Some o) differ = λ same. differ.apart (sym same)
 
 knows_still : KnownLaws → (b : Worker) (me : Actor) (f after : Files) (p q : Past) → IfSome (actor_of b) (λ other. Differ me other) → Stands f p
     → Advances me f p after q → Knows b f p → Knows b after q
+knows_still laws (waits other) me f after p q differ stands advances known =
+    laws.waits other me f after p q stands advances (λ same. differ.apart (sym same)) known
 knows_still laws (creates t m) me f after p q differ stands advances known =
     laws.creates t m me f after p q stands advances (origins_apart laws me t.me differ) known
 knows_still laws (lists other m) me f after p q differ stands advances known = laws.lists m me f after p q stands advances known
@@ -161,41 +165,42 @@ put_in (b ∷ before) later a f p known own = (known.0, put_in before later a f 
 abbrev pub OthersKnow : Type 0
 OthersKnow = (a : Worker) (others : List Worker) → AllByRecursion (AreApart a) others → Lasts Stands (Leaves a) (AllKnow others)
 
-abbrev OneApart : List Worker → Worker → StoreView → Type 0
-OneApart others a store = moves.Stands Stands (λ f p. AllKnow others f p × Knows a f p) store
+-- an operation of one of them, and the others then
+module _ (law : OthersKnow) (before later : List Worker) (a : Worker) (ops : List Op) where
+  -- after a change of some kind
+  others_then : (after : Files) (p q : Past) → AreAllApart (before ++ a ∷ later) → Stands (files_after ops) p → AllKnow (before ++ a ∷ later) (files_after ops) p
+      → Leaves a (files_after ops) p after q → Stands after q × AllKnow (before ++ later) after q
+  others_then after p q apart stands known change =
+      law a (before ++ later) (apart_rest before later a apart) (files_after ops) after p q stands (taken_out before later a (files_after ops) p known).0 change
 
-one_apart : (before later : List Worker) (a : Worker) (store : StoreView) → AllKnowIn (before ++ a ∷ later) store → OneApart (before ++ later) a store
-one_apart before later a store = at store.ops
-  where
-    at : (known : Option (List Op)) → IsSomeAnd known (λ ops. (p : Past) × Stands (files_after ops) p × AllKnow (before ++ a ∷ later) (files_after ops) p)
-        → IsSomeAnd known (λ ops. (p : Past) × Stands (files_after ops) p × (AllKnow (before ++ later) (files_after ops) p × Knows a (files_after ops) p))
-    at None world = world
-    at (Some ops) (p, stands, known) = (p, stands, taken_out before later a (files_after ops) p known)
+  pub stepped : (new : Worker) (op : Op) → KeepsActor a new → Keeps Stands (Leaves a) (Knows a) (Knows new) op (files_after ops) → IsWorld (before ++ a ∷ later) ops
+      → IsWorld (before ++ new ∷ later) (ops ++ op ∷ [])
+  stepped new op keeps moved (apart, (p, stands, known)) =
+      let leads = (moved p stands (taken_out before later a (files_after ops) p known).1).1 in
+      let then = others_then (after_op op (files_after ops)) p leads.0 apart stands known leads.1 in (
+        still_apart a new keeps before later apart,
+        subst (λ (f : Files). (q : Past) × Stands f q × AllKnow (before ++ new ∷ later) f q) (sym (files_after-push ops op))
+            (leads.0, then.0, put_in before later new (after_op op (files_after ops)) leads.0 then.1 leads.2),
+      )
 
-all_again : (before later : List Worker) (a : Worker) (store : StoreView) → OneApart (before ++ later) a store → AllKnowIn (before ++ a ∷ later) store
-all_again before later a store = at store.ops
-  where
-    at : (known : Option (List Op))
-        → IsSomeAnd known (λ ops. (p : Past) × Stands (files_after ops) p × (AllKnow (before ++ later) (files_after ops) p × Knows a (files_after ops) p))
-        → IsSomeAnd known (λ ops. (p : Past) × Stands (files_after ops) p × AllKnow (before ++ a ∷ later) (files_after ops) p)
-    at None world = world
-    at (Some ops) (p, stands, known) = (p, stands, put_in before later a (files_after ops) p known.0 known.1)
+  pub cut_off : (new : Worker) (op : Op) (effect : Effect) → Keeps Stands (Leaves a) (Knows a) (Knows new) op (files_after ops) → IsWorld (before ++ a ∷ later) ops
+      → IsWorld (before ++ later) (ops ++ own_op op.call effect ∷ [])
+  cut_off new op effect moved (apart, (p, stands, known)) =
+      let change = (moved p stands (taken_out before later a (files_after ops) p known).1).0 effect in
+      let then = others_then (after_effect op.call effect (files_after ops)) p change.0 apart stands known change.1 in (
+        left_apart before later a apart,
+        subst (λ (f : Files). (q : Past) × Stands f q × AllKnow (before ++ later) f q) (sym (files_after-push ops (own_op op.call effect)))
+            (change.0, then.0, then.1),
+      )
 
-pub world : OthersKnow → (before later : List Worker) (a new : Worker) (first after : StoreView) → KeepsActor a new
-    → IsAlone first after → Moves Stands (Leaves a) (Knows a) (Knows new) first after → IsWorld (before ++ a ∷ later) first
-    → IsWorld (before ++ new ∷ later) after
-world law before later a new first after keeps alone moved (apart, was) = (
-  still_apart a new keeps before later apart,
-  all_again before later new after
-      (Stands-moves Stands (Leaves a) (AllKnow (before ++ later)) (Knows a) (Knows new) (law a (before ++ later) (apart_rest before later a apart)) first after
-      alone moved (one_apart before later a first was)),
-)
+-- one of them in the place of another, of which it knows what it has to
+module _ (before later : List Worker) (a new : Worker) (ops : List Op) (keeps : KeepsActor a new) where
+  pub replaced : ((p : Past) → Stands (files_after ops) p → Knows a (files_after ops) p → Knows new (files_after ops) p) → IsWorld (before ++ a ∷ later) ops
+      → IsWorld (before ++ new ∷ later) ops
+  replaced knows (apart, (p, stands, known)) =
+      let out = taken_out before later a (files_after ops) p known in
+      (still_apart a new keeps before later apart, (p, stands, put_in before later new (files_after ops) p out.0 (knows p stands out.1)))
 
 -- where one of them stops
-pub left : (before later : List Worker) (a : Worker) (store : StoreView) → IsWorld (before ++ a ∷ later) store → IsWorld (before ++ later) store
-left before later a store (apart, was) = (left_apart before later a apart, at store.ops was)
-  where
-    at : (known : Option (List Op)) → IsSomeAnd known (λ ops. (p : Past) × Stands (files_after ops) p × AllKnow (before ++ a ∷ later) (files_after ops) p)
-        → IsSomeAnd known (λ ops. (p : Past) × Stands (files_after ops) p × AllKnow (before ++ later) (files_after ops) p)
-    at None world = world
-    at (Some ops) (p, stands, known) = (p, stands, (taken_out before later a (files_after ops) p known).0)
+pub left : (before later : List Worker) (a : Worker) (ops : List Op) → IsWorld (before ++ a ∷ later) ops → IsWorld (before ++ later) ops
+left before later a ops (apart, (p, stands, known)) = (left_apart before later a apart, (p, stands, (taken_out before later a (files_after ops) p known).0))

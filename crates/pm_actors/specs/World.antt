@@ -1,8 +1,8 @@
 -- Machines of commands beside each other on one folder, each run by an actor: what each may change, and what it knows.
-use Rattle.std.specs.Prelude.{◌≡◌, ◌≢◌, ◌⊎◌, List, [], ◌∷◌, Option, Some, IfSome, IsSomeAnd, option_map}
+use Rattle.std.specs.Prelude.{◌≡◌, ◌≢◌, ◌⊎◌, List, [], ◌∷◌, Option, Some, IfSome, option_map}
 use Rattle.std.specs.List.{AllByRecursion}
 use Rattle.pm_store.specs.Files.{Files, files_after}
-use Rattle.pm_store.specs.Store.{StoreView}
+use Rattle.pm_store.specs.declared.call.Op.{Op}
 use Rattle.pm_machine.specs.Moves.{IsKept}
 use Rattle.pm_model_history.specs.History.{History, IsTableOf}
 use Rattle.pm_model_history.specs.Merge.{HistoryRow}
@@ -32,8 +32,10 @@ use Rattle.pm_commit.specs.Own.{OwnView}
 use Rattle.pm_commit.specs.declared.phase.Phase as committing
 use Rattle.pm_commit.specs.declared.phase.Phase.TheVariants as committers
 
--- a machine of a command, by its phase: with the table that it makes, the rows that it commits, or who runs it
+-- an actor whose command has no machine yet; or a machine of a command, by its phase: with the table that it makes, the
+-- rows that it commits, or who runs it
 pub data Worker : Type 0 where
+  waits : Actor → Worker
   creates : NewTable → creating.Phase → Worker
   lists : Actor → listing.Phase → Worker
   scans : Actor → scanning.Phase → Worker
@@ -41,6 +43,7 @@ pub data Worker : Type 0 where
 
 -- who runs it; of a commit that is over nobody
 abbrev pub actor_of : Worker → Option Actor
+actor_of (waits me) = Some me
 actor_of (creates t m) = Some t.me
 actor_of (lists me m) = Some me
 actor_of (scans me m) = Some me
@@ -48,13 +51,16 @@ actor_of (commits rows m) = option_map owner.actor_of (commit.own_in m)
 
 -- the kinds of change that it may make
 abbrev pub Leaves : Worker → Files → Past → Files → Past → Type 0
+Leaves (waits me) f p after later = IsKept f p after later
 Leaves (creates t m) f p after later = create.Makes t f p after later
 Leaves (lists me m) f p after later = IsKept f p after later
 Leaves (scans me m) f p after later = IsKept f p after later
 Leaves (commits rows m) f p after later = commit.MakesRows rows m f p after later
 
--- what it knows of the files and of what they stand for
+-- what it knows of the files and of what they stand for: before its command begins that no known snapshot names a file
+-- of its actor, also of those that have gone, which nobody can read any more
 abbrev pub Knows : Worker → Files → Past → Type 0
+Knows (waits me) f p = HasNamedNone me p
 Knows (creates t m) f p = create.Knows t m f p
 Knows (lists me m) f p = snapshots.Knows m f p
 Knows (scans me m) f p = scan.Knows m f p
@@ -86,14 +92,11 @@ KeepsActor a new = IfSome (actor_of new) (λ me. actor_of a ≡ Some me)
 
 -- ---- all of them
 
--- the store's operations are known, and leave files that stand; each of the machines knows what it knows
-abbrev pub AllKnowIn : List Worker → StoreView → Type 0
-AllKnowIn workers store =
-    IsSomeAnd store.ops (λ ops. (p : Past) × Stands (files_after ops) p × AllKnow workers (files_after ops) p)
-
--- so of machines that different actors run
-abbrev pub IsWorld : List Worker → StoreView → Type 0
-IsWorld workers store = AreAllApart workers × AllKnowIn workers store
+-- Operations on a store, through whichever handle, left files that stand, of which each of the machines knows what it
+-- knows; different actors run them.
+abbrev pub IsWorld : List Worker → List Op → Type 0
+IsWorld workers ops = AreAllApart workers
+    × ((p : Past) × Stands (files_after ops) p × AllKnow workers (files_after ops) p)
 
 -- ---- where they begin
 
@@ -112,9 +115,11 @@ pub record BeginsCommit (Named : Actor → Type 0) (h : History) (rows : List Hi
     pub none_lost : begun.lost ≡ []
     pub unnamed : Named (owner.actor_of begun)
 
--- A machine has made no call on a table with the history: a creator's origin isn't that table's, a lister has yet to
+-- A machine has made no call on a table with the history: who waits is one that named nothing, a creator's origin isn't
+-- that table's, a lister has yet to
 -- read the schema or has read it, and a scanner or a committer has read it.
 abbrev pub Begins : (Actor → Type 0) → History → Worker → Type 0
+Begins Named h (waits me) = Named me
 Begins Named h (creates t m) = IsCreator t m × (calls_left m ≡ 2) × IsNoOrigin h (own_origin t.me)
 Begins Named h (lists me m) =
     (m ≡ listers.Schema schema_readers.Schemas) ⊎ ((s : TableSchema) × (m ≡ listers.List s) × IsTableOf s h)
@@ -129,8 +134,6 @@ MayBegin f h w = Begins (λ me. NamesNone me h f) h w
 abbrev pub MayJoin : Past → Worker → Type 0
 MayJoin p w = Begins (λ me. HasNamedNone me p) p.history w
 
--- the store's operations leave files of which each of the machines knows what it knows, and where this one may begin
-abbrev pub MayComeTo : List Worker → Worker → StoreView → Type 0
-MayComeTo workers w store =
-    IsSomeAnd store.ops
-    (λ ops. (p : Past) × Stands (files_after ops) p × AllKnow workers (files_after ops) p × MayJoin p w)
+-- so it may in whatever past the operations' files stand for, run by one who waited
+abbrev pub MayFollow : Actor → Worker → List Op → Type 0
+MayFollow me w ops = (p : Past) → Stands (files_after ops) p → Begins (λ other. other ≡ me) p.history w

@@ -1,24 +1,28 @@
 //! Laws of machines beside each other. Each holds with no call but of the laws of crates below.
 
-ghost use Rattle.std.specs.Prelude.{◌≡◌, List, ◌∷◌, ◌++◌};
+ghost use Rattle.std.specs.Prelude.{◌≡◌, List, [], ◌∷◌, ◌++◌};
 ghost use Rattle.std.specs.List.{AllByRecursion};
-ghost use Rattle.pm_actors.specs.World.{AllKnow, AreAllApart, AreApart, IsWorld, KeepsActor, Knows, Leaves};
-ghost use Rattle.pm_actors.specs.World.{MayBegin, MayComeTo, MayJoin, Worker};
-ghost use Rattle.pm_machine.specs.Moves.{Lasts, Moves};
+ghost use Rattle.pm_actors.specs.World.{AllKnow, AreApart, IsWorld, KeepsActor, Knows, Leaves, MayBegin, MayFollow};
+ghost use Rattle.pm_actors.specs.World.{MayJoin, Worker, waits};
+ghost use Rattle.pm_machine.specs.Moves.{Keeps, Lasts};
+ghost use Rattle.pm_model_folder.specs.Changes.{Actor};
 ghost use Rattle.pm_model_folder.specs.Folder.{Folder};
 ghost use Rattle.pm_model_folder.specs.Ledger.{Past, Stands};
 ghost use Rattle.pm_model_history.specs.History.{History};
-ghost use Rattle.pm_store.specs.Files.{Files};
-ghost use Rattle.pm_store.specs.Store.{StoreView, IsAlone};
+ghost use Rattle.pm_store.specs.Files.{Files, files_after};
+ghost use Rattle.pm_store.specs.Store.{own_op};
+ghost use Rattle.pm_store.specs.declared.call.Effect.{Effect};
+ghost use Rattle.pm_store.specs.declared.call.Op.{Op};
 
-use pm_model_folder::{found_law, own_law, past_law};
+use pm_model_folder::{found_law, own_law, past_law, unnamed_law};
 use pm_read_schema::nothing_law;
 
-/// A machine that begins beside others knows what it has to. So where another actor runs it, it comes into their world.
+/// A machine that begins beside others knows what it has to. So where its actor waited in their world, it comes in the
+/// place of the one that waited.
 pub fn joins_law()
     ensures knows { (f : Files) (p : Past) (w : Worker) → MayJoin p w → Knows w f p }
-    ensures world { (workers : List Worker) (w : Worker) (store : StoreView) → AreAllApart (w ∷ workers)
-        → MayComeTo workers w store → IsWorld (w ∷ workers) store }
+    ensures comes { (before later : List Worker) (me : Actor) (w : Worker) (ops : List Op) → KeepsActor (waits me) w
+        → MayFollow me w ops → IsWorld (before ++ waits me ∷ later) ops → IsWorld (before ++ w ∷ later) ops }
 {}
 
 /// In a folder that is found machines may begin: of its files and the past that they have each knows what it has to.
@@ -38,25 +42,35 @@ pub fn others_law()
     past_law();
     nothing_law();
     own_law();
+    unnamed_law();
     pm_create::known_law();
     pm_snapshots::known_law();
     pm_scan::known_law();
     pm_commit::known_law();
 }
 
-/// A step of one of them, where nobody else uses the store meanwhile, leads from a world of them to one with the
-/// machine as it is then in its place, which the same actor runs.
+/// A step of one of them leads from a world of them to one with the machine as it is then in its place, which the same
+/// actor runs. Its operation comes after any that others had before it, through this handle or through others: `Moves`,
+/// the clause of each step, says `Keeps` of it on the files as they were up to it. Where it made no call, the world of
+/// that moment stays.
 pub fn world_law()
-    ensures { (before later : List Worker) (a new : Worker) (first after : StoreView)
-        → KeepsActor a new → IsAlone first after
-        → Moves Stands (Leaves a) (Knows a) (Knows new) first after
-        → IsWorld (before ++ a ∷ later) first → IsWorld (before ++ new ∷ later) after }
+    ensures steps { (before later : List Worker) (a new : Worker) (ops : List Op) (op : Op) → KeepsActor a new
+        → Keeps Stands (Leaves a) (Knows a) (Knows new) op (files_after ops)
+        → IsWorld (before ++ a ∷ later) ops → IsWorld (before ++ new ∷ later) (ops ++ op ∷ []) }
+    ensures rests { (before later : List Worker) (a new : Worker) (ops : List Op) → KeepsActor a new
+        → ((f : Files) (p : Past) → Stands f p → Knows a f p → Knows new f p)
+        → IsWorld (before ++ a ∷ later) ops → IsWorld (before ++ new ∷ later) ops }
 {
     others_law();
 }
 
-/// Where one of them stops, at whichever step, the others are a world.
+/// Where one of them stops, between two calls or within one, whatever of that was carried out, the others are a world.
 pub fn stops_law()
-    ensures { (before later : List Worker) (a : Worker) (store : StoreView) → IsWorld (before ++ a ∷ later) store
-        → IsWorld (before ++ later) store }
-{}
+    ensures between { (before later : List Worker) (a : Worker) (ops : List Op) → IsWorld (before ++ a ∷ later) ops
+        → IsWorld (before ++ later) ops }
+    ensures within { (before later : List Worker) (a new : Worker) (ops : List Op) (op : Op) (effect : Effect)
+        → Keeps Stands (Leaves a) (Knows a) (Knows new) op (files_after ops)
+        → IsWorld (before ++ a ∷ later) ops → IsWorld (before ++ later) (ops ++ own_op op.call effect ∷ []) }
+{
+    others_law();
+}

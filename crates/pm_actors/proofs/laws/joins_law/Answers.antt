@@ -4,5 +4,5 @@ use Rattle.pm_actors.proofs.laws.joins_law.Goals as goal
 pub returns-clause-knows : goal.returns-clause-knows
 returns-clause-knows c = joined
 
-pub returns-clause-world : goal.returns-clause-world
-returns-clause-world c = came
+pub returns-clause-comes : goal.returns-clause-comes
+returns-clause-comes c = came

@@ -7,6 +7,7 @@ returns c =
       past = c.past_law.ensures;
       same = c.nothing_law.ensures;
       own = c.own_law.ensures.own;
+      waits = c.unnamed_law.ensures.others;
       creates = c.known_law.ensures;
       lists = c.known_law-2.ensures;
       scans = c.known_law-3.ensures;
