@@ -2,6 +2,8 @@
 //! error. It ends with 0, or with the number of the refusal.
 #![tactic(auto)]
 
+ghost use Rattle.std.specs.Prelude.{◌≡◌, codes, true, false};
+
 use pm_cli::{Start, run};
 use pm_folder_store::{FolderStore, System};
 use pm_io::{StdSink, StdSource};
@@ -71,16 +73,23 @@ fn run_command(rt: &HostRuntime, folder: &Txt, words: &[Txt]) -> u8 {
     status.code
 }
 
-/// A store on a folder. Where the process can enter that, paths are looked up from within, which takes less time.
+/// A store on a folder. Where the process can enter that, paths are looked up from within, which takes less time; the
+/// command then stays in it, where the folder's name leads to another one meanwhile.
 fn open_store(
     rt: &HostRuntime,
     folder: &Txt,
 ) -> Result<FolderStore<System<HostRuntime>>, StoreFail> {
-    let root = match env::set_current_dir(rt, folder.as_str()) {
-        Ok(()) => ".",
-        Err(_) => folder.as_str(),
-    };
+    let is_inside = env::set_current_dir(rt, folder.as_str()).is_ok();
+    let root = root_of(is_inside, folder.as_str());
     FolderStore::open(rt.alloc(), System::new(rt.clone()?), root)
+}
+
+/// The root of a store: the folder that the process is in, or the folder by its name.
+fn root_of(is_inside: bool, folder: &str) -> &str
+    ensures inside { is_inside ≡ true → result.now ≡ codes "." }
+    ensures outside { is_inside ≡ false → result ≡ folder.entry }
+{
+    if is_inside { "." } else { folder }
 }
 
 /// The words of the command line after the program's name.
