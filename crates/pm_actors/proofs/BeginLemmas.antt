@@ -57,26 +57,30 @@ module _ (f : Files) (p : Past) where
   joined (scans me m) (a, is, table) = subst (λ (m : scanning.Phase). scan.Knows m f p) (sym is) table
   joined (commits rows m) begins = commit_begins rows m begins
 
+-- who may begin where of its actor more is asked may begin where less is
+begins_by : (P Q : Actor → Type 0) (h : History) → ((me : Actor) → P me → Q me) → (w : Worker) → Begins P h w → Begins Q h w
+begins_by P Q h more (waits me) may = more me may
+begins_by P Q h more (creates t m) may = may
+begins_by P Q h more (lists me m) may = may
+begins_by P Q h more (scans me m) may = may
+begins_by P Q h more (commits rows m) may = record {
+  begun = may.begun;
+  schema = may.schema;
+  is = may.is;
+  is_committer = may.is_committer;
+  table = may.table;
+  fit = may.fit;
+  batch = may.batch;
+  may = may.may;
+  no_base = may.no_base;
+  none_lost = may.none_lost;
+  unnamed = more (owner.actor_of may.begun) may.unnamed;
+}
+
 -- who waited goes on as a machine that begins
-module _ (me : Actor) (p : Past) (named : HasNamedNone me p) where
-  one_may_join : (w : Worker) → Begins (λ other. other ≡ me) p.history w → MayJoin p w
-  one_may_join (waits other) is = subst (λ (other : Actor). HasNamedNone other p) (sym is) named
-  one_may_join (creates t m) may = may
-  one_may_join (lists other m) may = may
-  one_may_join (scans other m) may = may
-  one_may_join (commits rows m) may = record {
-    begun = may.begun;
-    schema = may.schema;
-    is = may.is;
-    is_committer = may.is_committer;
-    table = may.table;
-    fit = may.fit;
-    batch = may.batch;
-    may = may.may;
-    no_base = may.no_base;
-    none_lost = may.none_lost;
-    unnamed = subst (λ (other : Actor). HasNamedNone other p) (sym may.unnamed) named;
-  }
+one_may_join : (me : Actor) (p : Past) → HasNamedNone me p → (w : Worker) → Begins (λ other. other ≡ me) p.history w → MayJoin p w
+one_may_join me p named =
+    begins_by (λ other. other ≡ me) (λ other. HasNamedNone other p) p.history (λ other is. subst (λ (other : Actor). HasNamedNone other p) (sym is) named)
 
 pub came : (before later : List Worker) (me : Actor) (w : Worker) (ops : List Op) → KeepsActor (waits me) w → MayFollow me w ops
     → IsWorld (before ++ waits me ∷ later) ops → IsWorld (before ++ w ∷ later) ops
@@ -94,23 +98,7 @@ module _ (joins : Joins) (f : Files) (p : Past) (stood : (id : ℕ) → p.stood 
       none s id path is known.after_origin known.to (subst (λ (g : Files). Names g s id path) (stood id) named) by
 
   may_join : (w : Worker) → MayBegin f p.history w → MayJoin p w
-  may_join (waits me) may = names_none me may
-  may_join (creates t m) may = may
-  may_join (lists me m) may = may
-  may_join (scans me m) may = may
-  may_join (commits rows m) may = record {
-    begun = may.begun;
-    schema = may.schema;
-    is = may.is;
-    is_committer = may.is_committer;
-    table = may.table;
-    fit = may.fit;
-    batch = may.batch;
-    may = may.may;
-    no_base = may.no_base;
-    none_lost = may.none_lost;
-    unnamed = names_none (owner.actor_of may.begun) may.unnamed;
-  }
+  may_join = begins_by (λ me. NamesNone me p.history f) (λ me. HasNamedNone me p) p.history names_none
 
   all_begin : (workers : List Worker) → AllByRecursion (MayBegin f p.history) workers → AllKnow workers f p
   all_begin [] all = tt
