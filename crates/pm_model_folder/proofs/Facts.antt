@@ -14,7 +14,7 @@ use Rattle.pm_snapshot.specs.Names.{floor_name, greatest, snapshot_name}
 use Rattle.pm_snapshot.specs.declared.snapshot.Snapshot.{Snapshot}
 use Rattle.pm_model_folder.specs.Changes.{Actor, IsNoOrigin, IsOwn, Change, nothing, own_file, schema, committed}
 use Rattle.pm_model_folder.specs.Commits.{BeginsOn, FollowsOn, IsCommit, IsCommitted, Names, Needs, NeverReturn}
-use Rattle.pm_model_folder.specs.Folder.{AreEntriesOf, Folder, HasCommits, HasFloor, HaveFiles, HasNoTable, HasTable, IsEntryAfter, IsFrom, IsRowOf}
+use Rattle.pm_model_folder.specs.Folder.{AreEntriesOf, Folder, HasCommits, HasFloor, HaveFiles, HasNoTable, HasTable, IsEntryAfter, IsFrom, IsRowOf, NamesGroups}
 use Rattle.pm_model_folder.specs.Meaning.{SchemaAt, SnapshotAt, HasSnapshotAt, LeadsTo}
 use Rattle.pm_model_folder.specs.Paths.{consumer_file, consumer_folder, floor_folder, schema_folder, schema_name, schema_path, snapshot_folder, snapshot_file, snapshot_path, consumer_path, tag_path, changelog_path, floor_path}
 use Rattle.pm_model_folder.proofs.HoldLemmas.{Holds, ContentsStay, OneContents, commit-was, committed-held, names-held, names-were}
@@ -337,7 +337,7 @@ kept-schema f after s bytes folder there puts reads = record {
     only = λ id other within. puts.others (schema_path id) (other-schema id within other) ∙ folder.schemas id within;
     origin = new-origin f s.origin folder there;
   };
-  history = record { rows = tt; bases = tt; fences = λ n x is. no-entry n _ is };
+  history = record { rows = tt; bases = tt; groups = tt; fences = λ n x is. no-entry n _ is };
   snapshots = record {
     least = 0;
     some = omega arith;
@@ -571,6 +571,11 @@ entry-rows s entries (append user identifier rows) is = is
 entry-rows s entries (compaction base groups) is = tt
 entry-rows s entries (fence number) is = tt
 
+entry-groups : (s : TableSchema) (entries : List Entry) (e : Entry) → IsEntryAfter s entries e → NamesGroups e
+entry-groups s entries (append user identifier rows) is = tt
+entry-groups s entries (compaction base groups) (some, within, named, above, rise) = (named, rise)
+entry-groups s entries (fence number) is = tt
+
 fence-same : (a b : ℤ) → fence a ≡ fence b → a ≡ b
 fence-same a b e = cc
 
@@ -591,6 +596,7 @@ rows-append s entries e are is = record {
       (AllByRecursion-append (IsRowOf s) (flat_map entry_rows entries) (entry_rows e ++ []) are.rows
       (subst (AllByRecursion (IsRowOf s)) (sym (append-nil (entry_rows e))) (entry-rows s entries e is)));
   bases = bases-append 1 entries e (entry-below s entries e is) are.bases;
+  groups = AllByRecursion-append NamesGroups entries (e ∷ []) are.groups (entry-groups s entries e is, tt);
   fences = λ n x at. at-number (0 + n) n x (omega arith) (fences-more s entries e are is n x at);
 }
 

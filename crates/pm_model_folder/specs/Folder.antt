@@ -62,21 +62,32 @@ pub record IsRowOf (s : TableSchema) (r : HistoryRow) : Type 0 where
   pub fits : Fits s.columns r.1
   pub taken : verdict s r.0 ≡ Take
 
+-- the groups that a compaction names rise, so none stands twice
+abbrev pub GroupsRise : List (Group × Bool) → Type 0
+GroupsRise groups = IsStrictlySortedBy group_cmp (each_of (λ (p : Group × Bool). p.0) groups)
+
+-- what an entry names of groups, where it is a compaction: some, and they rise
+abbrev pub NamesGroups : Entry → Type 0
+NamesGroups (append user identifier rows) = Unit {0}
+NamesGroups (compaction base groups) = (groups ≢ []) × GroupsRise groups
+NamesGroups (fence number) = Unit {0}
+
 -- An entry that may come after these: its rows are rows of the table; or its base is the snapshot of one of them, above
 -- their fence, and it names groups, which rise; or the fence that it raises is above theirs and below its own number.
 abbrev pub IsEntryAfter : TableSchema → List Entry → Entry → Type 0
 IsEntryAfter s entries (append user identifier rows) = AllByRecursion (IsRowOf s) rows
 IsEntryAfter s entries (compaction base groups) = (1 ≤ base) × (base ≤ length entries) × (groups ≢ [])
     × (int_lt (fence_at entries (length entries)) (pos base) ≡ true)
-    × IsStrictlySortedBy group_cmp (each_of (λ (p : Group × Bool). p.0) groups)
+    × GroupsRise groups
 IsEntryAfter s entries (fence number) = (int_lt (fence_at entries (length entries)) number ≡ true)
     × (int_lt number (pos (suc (length entries))) ≡ true)
 
--- entries that a table may have: their rows are rows of the table, a compaction's base is an earlier snapshot, and a
--- fence is below its own number
+-- entries that a table may have: their rows are rows of the table, a compaction's base is an earlier snapshot and its
+-- groups rise, and a fence is below its own number
 pub record AreEntriesOf (s : TableSchema) (entries : List Entry) : Type 0 where
   pub rows : AllByRecursion (IsRowOf s) (flat_map entry_rows entries)
   pub bases : HaveBases 1 entries
+  pub groups : AllByRecursion NamesGroups entries
   pub fences : (n : ℕ) (x : ℤ) → slice_get entries n ≡ Some (fence x) → int_lt x (pos (suc n)) ≡ true
 
 -- The snapshots that are there, the origin counted as 0, are all from some id on to the newest, which is as great as
