@@ -1,13 +1,13 @@
--- The files of a commit bear the name of the actor that made it, and stand in folders of the table.
+-- The files of a commit bear the name of the actor that made it and its base, and stand in folders of the table.
 use Rattle.pm_base.proofs.Laws.{AllByRecursion-append}
 use Rattle.std.proofs.Common.{◌≡◌, ◌≢◌, ℕ, ◌+◌, ◌<◌, ◌^◌, List, [], ◌∷◌, ◌++◌, codes, length, map, Contains, sym, ap, subst, ◌∙◌, arith}
 use Rattle.std.specs.List.{AllByRecursion}
 use Rattle.pm_values.specs.Names.{Naming, counted, name_of}
 use Rattle.pm_schema.specs.Folder.{folder_text}
 use Rattle.pm_schema.specs.declared.schema.TableSchema.{TableSchema}
-use Rattle.pm_snapshot.specs.Names.{manifest, manifest_list, prefix_of, rows_file, suffix_of}
+use Rattle.pm_snapshot.specs.Names.{BasedFile, manifest, manifest_list, prefix_of, rows_file, suffix_of}
 use Rattle.pm_model_contents.specs.Lists.{manifest_path}
-use Rattle.pm_model_folder.specs.Changes.{Actor, HavePlainNames, IsOwn, bucket, its_file, manifests}
+use Rattle.pm_model_folder.specs.Changes.{Actor, HavePlainNames, IsOwnFile, bucket, manifests}
 use Rattle.pm_manifest.specs.declared.entry.ManifestMeta.{ManifestMeta}
 use Rattle.pm_write.specs.declared.files.NewFile.{NewFile}
 use Rattle.pm_append.specs.Commit.{Attempt, IsBuilt, MakesNames}
@@ -21,43 +21,40 @@ use Rattle.pm_append.proofs.MadeLemmas.{IsMaker, later-maker, next-maker}
 
 module _ (me : Actor) (base : ℕ) where
   abbrev Own : CommitFile → Type 0
-  Own file = IsOwn me file.path
+  Own file = IsOwnFile me base file.path
 
   own-data : (s : TableSchema) (x : NewFile) (names : Naming) → HavePlainNames s → IsMaker me base names
       → x.meta.name ≡ name_of (prefix_of rows_file) (suffix_of rows_file) names → Own (data_file s x)
-  own-data s x names plain is named = its_file (record {
-    folder = folder_text s x.group;
-    file = rows_file;
-    names = names;
-    may = is.may;
-    session = is.session;
-    actor = is.actor;
-    is = ap (λ (text : List ℕ). folder_text s x.group ++ 47 ∷ text) named;
-  }) (bucket s x.group plain)
+  own-data s x names plain is named = record {
+    by = record {
+      folder = folder_text s x.group;
+      file = rows_file;
+      names = names;
+      may = is.may;
+      session = is.session;
+      actor = is.actor;
+      is = ap (λ (text : List ℕ). folder_text s x.group ++ 47 ∷ text) named;
+    };
+    in_table = bucket s x.group plain;
+    based = is.based;
+  }
 
-  own-manifest : (names : Naming) (name : List ℕ) (file : CommitFile) → IsMaker me base names
-      → name ≡ name_of (prefix_of manifest) (suffix_of manifest) names → file.path ≡ manifest_path name → Own file
-  own-manifest names name file is named at = its_file (record {
-    folder = codes "manifest";
-    file = manifest;
-    names = names;
-    may = is.may;
-    session = is.session;
-    actor = is.actor;
-    is = at ∙ ap manifest_path named;
-  }) manifests
-
-  own-list : (names : Naming) (name : List ℕ) (file : CommitFile) → IsMaker me base names
-      → name ≡ name_of (prefix_of manifest_list) (suffix_of manifest_list) names → file.path ≡ manifest_path name → Own file
-  own-list names name file is named at = its_file (record {
-    folder = codes "manifest";
-    file = manifest_list;
-    names = names;
-    may = is.may;
-    session = is.session;
-    actor = is.actor;
-    is = at ∙ ap manifest_path named;
-  }) manifests
+  -- a manifest, or a list of them
+  own-manifest : (kind : BasedFile) (names : Naming) (name : List ℕ) (file : CommitFile) → IsMaker me base names
+      → name ≡ name_of (prefix_of kind) (suffix_of kind) names → file.path ≡ manifest_path name → Own file
+  own-manifest kind names name file is named at = record {
+    by = record {
+      folder = codes "manifest";
+      file = kind;
+      names = names;
+      may = is.may;
+      session = is.session;
+      actor = is.actor;
+      is = at ∙ ap manifest_path named;
+    };
+    in_table = manifests;
+    based = is.based;
+  }
 
   all-data : (s : TableSchema) (xs : List NewFile) → ((x : NewFile) → Contains xs x → Own (data_file s x)) → AllByRecursion Own (map (data_file s) xs)
   all-data s [] each = tt
@@ -74,13 +71,13 @@ module _ (me : Actor) (base : ℕ) (s : TableSchema) (newest : Newest) (names : 
   left-of metas files left (kept few) = record { own = tt; maker = is; room = omega (arith, enough) }
   left-of metas files left (empty many none) = record { own = tt; maker = is; room = omega (arith, enough) }
   left-of metas files left (merged m file many some made) = record {
-    own = (own-manifest me base names m.name file is made.named made.path, tt);
+    own = (own-manifest me base manifest names m.name file is made.named made.path, tt);
     maker = next-maker me base names is (omega (arith, enough));
     room = omega (arith, enough);
   }
 
 pub own-files : (me : Actor) (s : TableSchema) (t : Attempt) → IsBuilt s → MakesNames me t
-    → IsAppendOf s t.newest t.author t.batch t.names t.made → AllByRecursion (λ (file : CommitFile). IsOwn me file.path) t.made.files.items
+    → IsAppendOf s t.newest t.author t.batch t.names t.made → AllByRecursion (λ (file : CommitFile). IsOwnFile me t.author.base file.path) t.made.files.items
 own-files me s t built makes made =
     subst (AllByRecursion (Own me b)) (sym made.files) (AllByRecursion-append (Own me b) (map (data_file s) made.new_files) made.list_files data_files lists)
   where
@@ -127,10 +124,10 @@ own-files me s t built makes made =
         parts = made.are_manifests.are_lists
 
         own_delta : Own me b parts.delta_file
-        own_delta = own-manifest me b made.are_manifests.left parts.delta.name parts.delta_file left.maker parts.is_delta.named parts.is_delta.path
+        own_delta = own-manifest me b manifest made.are_manifests.left parts.delta.name parts.delta_file left.maker parts.is_delta.named parts.is_delta.path
 
         own_delta_list : Own me b parts.delta_list
-        own_delta_list = own-list me b (counted made.are_manifests.left) made.lists.delta parts.delta_list second parts.is_delta_list.named parts.is_delta_list.path
+        own_delta_list = own-manifest me b manifest_list (counted made.are_manifests.left) made.lists.delta parts.delta_list second parts.is_delta_list.named parts.is_delta_list.path
 
         own_base_list : Own me b parts.base_list
-        own_base_list = own-list me b (counted (counted made.are_manifests.left)) made.lists.base parts.base_list third parts.is_base_list.named parts.is_base_list.path
+        own_base_list = own-manifest me b manifest_list (counted (counted made.are_manifests.left)) made.lists.base parts.base_list third parts.is_base_list.named parts.is_base_list.path

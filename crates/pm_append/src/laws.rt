@@ -7,7 +7,7 @@ ghost use Rattle.pm_store.specs.Files.{Files, Puts};
 ghost use Rattle.pm_values.specs.declared.group.Group.{Group};
 ghost use Rattle.pm_model_history.specs.History.{Entry, append as append_entry};
 ghost use Rattle.pm_schema.specs.declared.schema.TableSchema.{TableSchema};
-ghost use Rattle.pm_model_folder.specs.Changes.{Actor, IsOwn, NamesOwn};
+ghost use Rattle.pm_model_folder.specs.Changes.{Actor, IsOwnFile, NamesOwn};
 ghost use Rattle.pm_model_folder.specs.Commits.{IsCommit};
 ghost use Rattle.pm_model_folder.specs.Paths.{snapshot_path};
 ghost use Rattle.pm_append.specs.Files.{IsAppendOf};
@@ -53,9 +53,9 @@ pub fn append_law()
     written_law();
 }
 
-/// The files of a commit are ones that its actor alone makes.
+/// The files of a commit are ones that its actor alone makes, among those that snapshots name, from the commit's base.
 pub fn own_files_law()
     ensures { (me : Actor) (s : TableSchema) (t : Attempt) → IsBuilt s → MakesNames me t →
         IsAppendOf s t.newest t.author t.batch t.names t.made →
-        AllByRecursion (λ (file : FileView). IsOwn me file.path) t.made.files.items }
+        AllByRecursion (λ (file : FileView). IsOwnFile me t.author.base file.path) t.made.files.items }
 {}

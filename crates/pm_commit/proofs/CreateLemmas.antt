@@ -5,7 +5,7 @@ use Rattle.std.specs.List.{AllByRecursion}
 use Rattle.pm_store.specs.Files.{Files, Puts}
 use Rattle.pm_model_history.specs.Merge.{HistoryRow}
 use Rattle.pm_schema.specs.declared.schema.TableSchema.{TableSchema}
-use Rattle.pm_model_folder.specs.Changes.{IsNamedBy, IsOwn}
+use Rattle.pm_model_folder.specs.Changes.{IsNamedBy, IsOwn, IsOwnFile, its_file}
 use Rattle.pm_model_folder.specs.Ledger.{Past}
 use Rattle.pm_append.specs.Commit.{Attempt}
 use Rattle.pm_put.proofs.Facts.{at_next, put-more}
@@ -20,7 +20,7 @@ use Rattle.pm_commit.specs.Meaning.{AreThere, KnowsOwn, KnowsTry, MakesOwn}
 use Rattle.pm_commit.specs.Own.{IsTried, OwnView, actor_of}
 use Rattle.pm_commit.proofs.AdvanceLemmas.{own-advances}
 use Rattle.pm_commit.proofs.MadeLemmas.{IsInTable, made-in}
-use Rattle.pm_commit.proofs.PathLemmas.{InTable, named-by, no-origin}
+use Rattle.pm_commit.proofs.PathLemmas.{InTable, no-origin}
 use Rattle.pm_commit.proofs.PublishLemmas.{own-same}
 use Rattle.pm_commit.proofs.StillLemmas.{OwnFiles}
 
@@ -36,10 +36,13 @@ module _ (own_files : OwnFiles) (own : OwnView) (rows : List HistoryRow) (s : Ta
   abbrev has : HasDone (put_of s t.made) (AreThere own f p) (making.next ∷ making.rest)
   has = is_try.put.1
 
-  is-own : IsOwn (actor_of own) making.next.path
-  is-own = all-at (λ (file : CommitFile). IsOwn (actor_of own) file.path) has.done making.rest making.next
-      (subst (AllByRecursion (λ (file : CommitFile). IsOwn (actor_of own) file.path)) has.files
+  is-file : IsOwnFile (actor_of own) t.author.base making.next.path
+  is-file = all-at (λ (file : CommitFile). IsOwnFile (actor_of own) t.author.base file.path) has.done making.rest making.next
+      (subst (AllByRecursion (λ (file : CommitFile). IsOwnFile (actor_of own) t.author.base file.path)) has.files
       (own_files (actor_of own) s t tried.built is_try.names is_try.made))
+
+  is-own : IsOwn (actor_of own) making.next.path
+  is-own = its_file is-file.by is-file.in_table
 
   is-in : InTable making.next.path
   is-in = all-at IsInTable has.done making.rest making.next
@@ -47,7 +50,7 @@ module _ (own_files : OwnFiles) (own : OwnView) (rows : List HistoryRow) (s : Ta
 
   -- it bears the actor's name
   pub create-named : IsNamedBy (actor_of own) making.next.path
-  create-named = named-by (actor_of own) making.next.path is-own is-in
+  create-named = is-file.by
 
   -- it appears, with some content
   put-makes : (after : Files) (content : List ℕ) → map.get f making.next.path ≡ None → Puts f making.next.path (Some content) after → MakesOwn own rows f p after p

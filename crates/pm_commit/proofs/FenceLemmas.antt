@@ -8,7 +8,7 @@ use Rattle.pm_values.specs.declared.refusal.Refusal.{Refusal}
 use Rattle.pm_model_history.specs.History.{Entry, GoesOn, History, append, compaction, fence, no_table, table}
 use Rattle.pm_schema.specs.declared.schema.TableSchema.{TableSchema}
 use Rattle.pm_snapshot.specs.declared.snapshot.Snapshot.{Snapshot}
-use Rattle.pm_model_folder.specs.Entries.{fence_at, raised}
+use Rattle.pm_model_folder.specs.Entries.{IsFenced, fence_at, raised}
 use Rattle.pm_model_folder.specs.Ledger.{Past, Stands}
 use Rattle.pm_model_folder.proofs.HoldLemmas.{one-snapshot}
 use Rattle.pm_model_folder.proofs.LedgerFacts.{at-table}
@@ -18,7 +18,7 @@ use Rattle.pm_write.specs.Batch.{Groups}
 use Rattle.pm_append.specs.Refusals.{fence_of, is_fenced, passed, refusal_of}
 use Rattle.pm_append.specs.declared.newest.Author.{Author}
 use Rattle.pm_append.specs.declared.newest.Newest.{Newest}
-use Rattle.pm_commit.specs.Meaning.{IsFenced, IsFoundIn}
+use Rattle.pm_commit.specs.Meaning.{IsFoundIn}
 use Rattle.pm_commit.specs.declared.found.Found.{Found}
 
 -- ---- it stays fenced

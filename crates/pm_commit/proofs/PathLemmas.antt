@@ -1,5 +1,5 @@
 -- The paths of files that snapshots name are in no folder of snapshots or schemas.
-use Rattle.std.proofs.Common.{◌≡◌, ◌≢◌, ◌⊎◌, inl, inr, ℕ, ◌≤◌, List, [], ◌∷◌, ◌++◌, get_or, codes, refl, sym, ap, ◌∙◌, arith}
+use Rattle.std.proofs.Common.{◌≡◌, ◌≢◌, ◌⊎◌, inl, inr, ℕ, ◌≤◌, List, [], ◌∷◌, ◌++◌, get_or, codes, refl, ap, ◌∙◌, arith}
 use Rattle.std.specs.Fmt.{decimal}
 use Rattle.std.proofs.lemmas.Fmt.{decimal_injective}
 use Rattle.std.proofs.lemmas.List.{append_cancel_left}
@@ -13,7 +13,7 @@ use Rattle.pm_snapshot.specs.declared.snapshot.Snapshot.{Snapshot}
 use Rattle.pm_model_contents.specs.Lists.{manifest_path}
 use Rattle.pm_model_contents.specs.Named.{Contents, IsNamed, base_list, changelog_list, changes_file, data_file, delta_list, manifest}
 use Rattle.pm_model_contents.specs.Runs.{data_path}
-use Rattle.pm_model_folder.specs.Changes.{Actor, IsNamedBy, IsNoOrigin, IsOwn, its_file, its_origin, origin_name}
+use Rattle.pm_model_folder.specs.Changes.{IsNoOrigin}
 use Rattle.pm_model_folder.specs.Commits.{Names}
 use Rattle.pm_model_folder.specs.Paths.{schema_path, snapshot_file, snapshot_path}
 
@@ -60,9 +60,3 @@ named-in s x c path none (changes_file e own) = in-bucket s e.group e.file.name 
 
 pub names-in : (f : Files) (s : TableSchema) (id : ℕ) (path : List ℕ) → s.partition ≡ [] → Names f s id path → InTable path
 names-in f s id path none (x, c, has, named) = named-in s x c path none named
-
--- ---- an actor's own files
-
-pub named-by : (me : Actor) (path : List ℕ) → IsOwn me path → InTable path → IsNamedBy me path
-named-by me path (its_origin own) at = absurd (not-snapshot (origin_name me) path at (sym own))
-named-by me path (its_file by folder) at = by

@@ -15,6 +15,7 @@ use Rattle.pm_schema.specs.declared.schema.TableSchema.{TableSchema}
 use Rattle.pm_snapshot.specs.Names.{greatest}
 use Rattle.pm_model_folder.specs.Changes.{Actor, IsNamedBy, NamesOwn, committed as commits}
 use Rattle.pm_model_folder.specs.Commits.{IsCommit, Names}
+use Rattle.pm_model_folder.specs.Entries.{IsFenced}
 use Rattle.pm_model_folder.specs.Folder.{Folder, HasTable}
 use Rattle.pm_model_folder.specs.Ledger.{Advances, HasNamedNone, IsKnown, KnowsTable, Past, Stands, count_of}
 use Rattle.pm_model_folder.specs.Meaning.{HasSnapshotAt}
@@ -30,7 +31,7 @@ use Rattle.pm_append.specs.declared.newest.Author.{Author}
 use Rattle.pm_append.specs.declared.newest.Newest.{Newest}
 use Rattle.pm_commit.specs.Alone.{with_entry}
 use Rattle.pm_commit.specs.Committer.{after_path, newest_in, publishing_of}
-use Rattle.pm_commit.specs.Meaning.{HasCommitted, HasEntry, IsFenced, KnowsOwn, KnowsTry, MakesOwn, entry_of}
+use Rattle.pm_commit.specs.Meaning.{HasCommitted, HasEntry, KnowsOwn, KnowsTry, MakesOwn, entry_of}
 use Rattle.pm_commit.specs.Own.{IsTried, OwnView, actor_of}
 use Rattle.pm_commit.specs.declared.found.Found.{Found}
 use Rattle.pm_put.proofs.Facts.{published_absent, published_there}

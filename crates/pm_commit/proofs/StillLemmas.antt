@@ -6,7 +6,8 @@ use Rattle.pm_store.specs.Files.{Files}
 use Rattle.pm_model_history.specs.History.{GoesOn, History, IsTableOf, no_table, table}
 use Rattle.pm_model_history.specs.Merge.{HistoryRow}
 use Rattle.pm_schema.specs.declared.schema.TableSchema.{TableSchema}
-use Rattle.pm_model_folder.specs.Changes.{Actor, IsOwn}
+use Rattle.pm_model_folder.specs.Changes.{Actor, IsOwnFile}
+use Rattle.pm_model_folder.specs.Entries.{IsFenced}
 use Rattle.pm_model_folder.specs.Ledger.{Advances, HasNamedNone, Past, Stands, count_of}
 use Rattle.pm_model_folder.specs.Meaning.{SnapshotAt}
 use Rattle.pm_model_folder.proofs.Facts.{goes_on}
@@ -29,8 +30,6 @@ use Rattle.pm_commit.specs.declared.found.Found.{Found}
 use Rattle.pm_commit.specs.declared.phase.Phase.{Phase}
 use Rattle.pm_commit.specs.declared.phase.Phase.TheVariants as phases
 use Rattle.pm_commit.proofs.FenceLemmas.{fenced-later}
-use Rattle.pm_commit.proofs.MadeLemmas.{IsInTable, made-in}
-use Rattle.pm_commit.proofs.PathLemmas.{no-origin}
 
 -- what the law of others' names says
 abbrev pub OthersNone : Type 0
@@ -39,26 +38,28 @@ OthersNone = (me other : Actor) (f after : Files) (p q : Past) → Stands f p �
 -- what the law of a commit's own files says
 abbrev pub OwnFiles : Type 0
 OwnFiles = (me : Actor) (s : TableSchema) (t : Attempt) → IsBuilt s → MakesNames me t → IsAppendOf s t.newest t.author t.batch t.names t.made
-    → AllByRecursion (λ (file : CommitFile). IsOwn me file.path) t.made.files.items
+    → AllByRecursion (λ (file : CommitFile). IsOwnFile me t.author.base file.path) t.made.files.items
 
 first-of : (P : CommitFile → Type 0) (before later : List CommitFile) → AllByRecursion P (before ++ later) → AllByRecursion P before
 first-of P [] later all = tt
 first-of P (file ∷ before) later all = (all.0, first-of P before later all.1)
 
--- a file of the actor's own, in a folder of files that snapshots name
-abbrev IsMadeBy : Actor → CommitFile → Type 0
-IsMadeBy me file = IsOwn me file.path × IsInTable file
+-- a file of the actor's own among those that snapshots name, with this base
+abbrev IsMadeBy : Actor → ℕ → CommitFile → Type 0
+IsMadeBy me base file = IsOwnFile me base file.path
 
-made-by : (me : Actor) (files : List CommitFile) → AllByRecursion (λ (file : CommitFile). IsOwn me file.path) files → AllByRecursion IsInTable files
-    → AllByRecursion (IsMadeBy me) files
-made-by me [] own at = tt
-made-by me (file ∷ files) (own, owns) (at, ats) = ((own, at), made-by me files owns ats)
+-- so is each file of a try, with the commit's
+tried-made : OwnFiles → (own : OwnView) (s : TableSchema) (t : Attempt) → t.author ≡ own.author → IsBuilt s → MakesNames (actor_of own) t
+    → IsAppendOf s t.newest t.author t.batch t.names t.made → AllByRecursion (IsMadeBy (actor_of own) own.author.base) t.made.files.items
+tried-made own_files own s t same built names made =
+    subst (λ (author : Author). AllByRecursion (IsMadeBy (actor_of own) author.base) t.made.files.items) same
+    (own_files (actor_of own) s t built names made)
 
--- so is each file of a try
-tried-made : OwnFiles → (me : Actor) (s : TableSchema) (t : Attempt) → IsBuilt s → MakesNames me t
-    → IsAppendOf s t.newest t.author t.batch t.names t.made → AllByRecursion (IsMadeBy me) t.made.files.items
-tried-made own_files me s t built names made =
-    made-by me t.made.files.items (own_files me s t built names made) (made-in s t.newest t.author t.batch t.names t.made made built.no_partition)
+-- of two, each of which holds unless the same does, both do
+both-unless : {A B C : Type 0} → A ⊎ B → A ⊎ C → A ⊎ (B × C)
+both-unless (inl a) right = inl a
+both-unless (inr b) (inl a) = inl a
+both-unless (inr b) (inr c) = inr (b, c)
 
 count-grows : (h later : History) → GoesOn h later → count_of h ≤ count_of later
 count-grows no_table later goes = omega arith
@@ -97,20 +98,26 @@ module _ (law : OthersNone) (own_files : OwnFiles) (rows : List HistoryRow) (oth
         omega (arith, low, more));
   }
 
-  -- the files that an actor made are there
-  module _ (me : Actor) (none : HasNamedNone me p) where
-    puts-still : (files : List CommitFile) → AllByRecursion (IsMadeBy me) files → AllByRecursion (IsPut f) files → AllByRecursion (IsPut after) files
-    puts-still [] made all = tt
-    puts-still (file ∷ files) ((own, at), made) (is, rest) =
-        let there : IsSome (map.get f file.path) = subst (λ (o : Option (List ℕ)). IsSome o) (sym is) refl in
-        let origin = no-origin p.history file.path at in
-        (own-stays me other f after p q file.path stands advances own origin none there ∙ is, puts-still files made rest)
+  -- the files that an actor made are there, or their base is fenced
+  module _ (me : Actor) (base : ℕ) (none : HasNamedNone me p) where
+    put-still : (file : CommitFile) → IsMadeBy me base file → IsPut f file → IsFenced base q.history ⊎ IsPut after file
+    put-still file own is = at (own-stays me other base f after p q file.path stands advances own none
+        (subst (λ (o : Option (List ℕ)). IsSome o) (sym is) refl))
+      where
+        at : IsFenced base q.history ⊎ (map.get after file.path ≡ map.get f file.path) → IsFenced base q.history ⊎ IsPut after file
+        at (inl fenced) = inl fenced
+        at (inr same) = inr (same ∙ is)
 
-  there-still : (own : OwnView) (files : List CommitFile) → HasNamedNone (actor_of own) p → AllByRecursion (IsMadeBy (actor_of own)) files → AreThere own f p files
-      → AreThere own after q files
+    puts-still : (files : List CommitFile) → AllByRecursion (IsMadeBy me base) files → AllByRecursion (IsPut f) files
+        → IsFenced base q.history ⊎ AllByRecursion (IsPut after) files
+    puts-still [] made all = inr tt
+    puts-still (file ∷ files) (own, made) (is, rest) = both-unless (put-still file own is) (puts-still files made rest)
+
+  there-still : (own : OwnView) (files : List CommitFile) → HasNamedNone (actor_of own) p → AllByRecursion (IsMadeBy (actor_of own) own.author.base) files
+      → AreThere own f p files → AreThere own after q files
   there-still own files none made (inl fenced) =
       inl (fenced-later own.author.base p.history q.history (goes_on other f after p.history q.history advances.change) fenced)
-  there-still own files none made (inr there) = inr (puts-still (actor_of own) none files made there)
+  there-still own files none made (inr there) = puts-still (actor_of own) own.author.base none files made there
 
   try-still : (own : OwnView) (s : TableSchema) (id : ℕ) (m : put_phase.Phase) → IsTried s own → KnowsOwn own rows s p → KnowsTry own rows s id m f p
       → KnowsTry own rows s id m after q
@@ -125,8 +132,9 @@ module _ (law : OthersNone) (own_files : OwnFiles) (rows : List HistoryRow) (oth
     allowed = is_try.allowed;
     is = is_try.is;
     put = at_weaker (put_of s is_try.attempt.made) (AreThere own f p) (AreThere own after q) m
-        (λ done left files. there-still own done known.unnamed (first-of (IsMadeBy (actor_of own)) done left
-        (subst (AllByRecursion (IsMadeBy (actor_of own))) files (tried-made own_files (actor_of own) s is_try.attempt tried.built is_try.names is_try.made))))
+        (λ done left files. there-still own done known.unnamed (first-of (IsMadeBy (actor_of own) own.author.base) done left
+        (subst (AllByRecursion (IsMadeBy (actor_of own) own.author.base)) files
+        (tried-made own_files own s is_try.attempt is_try.same_author tried.built is_try.names is_try.made))))
         is_try.put;
   }
 

@@ -1,6 +1,6 @@
 -- What a committer knows of the table, and what its steps mean for the files.
 use Rattle.std.specs.Prelude.{◌≡◌, ◌≢◌, ◌⊎◌, ℕ, ◌≤◌, List, [], ◌∷◌, ◌++◌, ◌+◌, length, codes}
-use Rattle.std.specs.Prelude.{Option, None, Some, IfSome, IsSome, pos, int_le, true}
+use Rattle.std.specs.Prelude.{Option, None, Some, IfSome, IsSome}
 use Rattle.std.specs.FinMap as map
 use Rattle.std.specs.List.{AllByRecursion}
 use Rattle.pm_values.specs.declared.refusal.Refusal.{Refusal}
@@ -10,13 +10,13 @@ use Rattle.pm_store.specs.Store.{StoreView}
 use Rattle.pm_machine.specs.Moves.{Moves}
 use Rattle.pm_put.specs.Meaning.{IsAt, IsPut}
 use Rattle.pm_put.specs.declared.phase.Phase as put_phase
-use Rattle.pm_model_history.specs.History.{Entry, History, IsTableOf, append, no_table, table}
+use Rattle.pm_model_history.specs.History.{Entry, History, IsTableOf, append, table}
 use Rattle.pm_model_history.specs.Merge.{HistoryRow}
 use Rattle.pm_schema.specs.declared.schema.TableSchema.{TableSchema}
 use Rattle.pm_snapshot.specs.Names.{MayName}
 use Rattle.pm_snapshot.specs.declared.snapshot.Snapshot.{Snapshot}
 use Rattle.pm_model_folder.specs.Changes.{Actor}
-use Rattle.pm_model_folder.specs.Entries.{fence_at}
+use Rattle.pm_model_folder.specs.Entries.{IsFenced}
 use Rattle.pm_model_folder.specs.Folder.{IsRowOf}
 use Rattle.pm_model_folder.specs.Ledger.{Advances, HasNamedNone, IsKnown, Past, Stands, count_of}
 use Rattle.pm_model_folder.specs.Meaning.{SnapshotAt}
@@ -105,11 +105,6 @@ abbrev pub HasOrigin : view_phase.Phase → Type 0
 HasOrigin (readers.Origin q) = IsSome q.asked.schema.origin
 HasOrigin (readers.Ready v) = HasOriginAt v.schema v.id
 HasOrigin m = Unit {0}
-
--- the base of a commit is at most the fence of the newest snapshot, so that it can't come any more
-abbrev pub IsFenced : ℕ → History → Type 0
-IsFenced base no_table = ⊥
-IsFenced base (table s entries) = int_le (pos base) (fence_at entries (length entries)) ≡ true
 
 -- files that a commit created are there, but where its base is fenced
 abbrev pub AreThere : OwnView → Files → Past → List CommitFile → Type 0

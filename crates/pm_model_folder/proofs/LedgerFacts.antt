@@ -12,8 +12,9 @@ use Rattle.pm_snapshot.specs.Names.{greatest}
 use Rattle.pm_snapshot.specs.Snapshot.{snapshot_in}
 use Rattle.pm_snapshot.specs.declared.snapshot.Snapshot.{Snapshot}
 use Rattle.pm_model_contents.specs.Named.{Contents, HasContents}
-use Rattle.pm_model_folder.specs.Changes.{Actor, Change, IsNoOrigin, IsOwn, nothing, own_file, schema, committed}
+use Rattle.pm_model_folder.specs.Changes.{Actor, Change, IsOwnFile, nothing, own_file, schema, committed}
 use Rattle.pm_model_folder.specs.Commits.{HasCommit, IsCommitted, Names, Needs, live_in}
+use Rattle.pm_model_folder.specs.Entries.{IsFenced}
 use Rattle.pm_model_folder.specs.Folder.{Folder, HasTable, IsEntryAfter, IsFrom}
 use Rattle.pm_model_folder.specs.Ledger.{Past, Advances, HasNamedNone, IsKnown, IsOldOrUnnamed, IsUnnamed, KeepsFiles, KnowsNone, KnowsPast, KnowsRuns, KnowsTable, Stands, count_of}
 use Rattle.pm_model_folder.specs.Meaning.{HasSnapshotAt, SnapshotAt}
@@ -256,11 +257,12 @@ module _ (me : Actor) (f after : Files) (p q : Past) (s : TableSchema) (entries 
       (past.gone early middle late path first low high last (subst (λ (g : Files). Names g s early path) (advances.same early first) here)
       (subst (λ (g : Files). Names g s late path) (advances.same late last) there))
 
--- what an actor made stays, whoever acts, while no known snapshot names a file of the actor
-pub own-stays : (me other : Actor) (f after : Files) (p q : Past) (path : List ℕ) → Stands f p → Advances other f p after q → IsOwn me path
-    → IsNoOrigin p.history path → HasNamedNone me p → IsSome (map.get f path) → map.get after path ≡ map.get f path
-own-stays me other f after p q path stands advances own origin none there =
-    stays other f after p.history q.history path stands.folder advances.change there
+-- what an actor made stays, whoever acts, while no known snapshot names a file of the actor, or its base is fenced:
+-- no kind of change removes a file
+pub own-stays : (me other : Actor) (base : ℕ) (f after : Files) (p q : Past) (path : List ℕ) → Stands f p → Advances other f p after q
+    → IsOwnFile me base path → HasNamedNone me p → IsSome (map.get f path) → IsFenced base q.history ⊎ (map.get after path ≡ map.get f path)
+own-stays me other base f after p q path stands advances own none there =
+    inr (stays other f after p.history q.history path stands.folder advances.change there)
 
 pub is-table : (p : Past) (s : TableSchema) (entries : List Entry) → p.history ≡ table s entries → IsTableOf s p.history
 is-table p s entries same = subst (λ (h : History). IsTableOf s h) (sym same) refl

@@ -57,6 +57,12 @@ pub data IsOwn (me : Actor) (path : List ℕ) : Type 0 where
   its_origin : path ≡ snapshot_file (origin_name me) → IsOwn me path
   its_file : (by : IsNamedBy me path) → IsTableFolder by.folder → IsOwn me path
 
+-- the file is one among those that snapshots name, and bears the actor's name, with this base
+pub record IsOwnFile (me : Actor) (base : ℕ) (path : List ℕ) : Type 0 where
+  pub by : IsNamedBy me path
+  pub in_table : IsTableFolder by.folder
+  pub based : by.names.base ≡ base
+
 -- what the snapshot after the newest names and that doesn't was named by the actor
 abbrev pub NamesOwn : Actor → Files → Files → TableSchema → ℕ → Type 0
 NamesOwn me f after s newest =

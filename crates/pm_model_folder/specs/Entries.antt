@@ -1,9 +1,9 @@
 -- What a snapshot bears of its entry, and of the entries before it.
-use Rattle.std.specs.Prelude.{◌≡◌, ◌↔◌, ℕ, ◌-◌, ◌^◌, ℤ, pos, negsuc, ◌-ℤ◌, int_le, List, Contains}
-use Rattle.std.specs.Prelude.{filter, take, not, Option, Some, None, unwrap_or, slice_get, if◌then◌else◌}
+use Rattle.std.specs.Prelude.{◌≡◌, ◌↔◌, ℕ, ◌-◌, ◌^◌, ℤ, pos, negsuc, ◌-ℤ◌, int_le, List, length, Contains}
+use Rattle.std.specs.Prelude.{filter, take, not, Option, Some, None, unwrap_or, slice_get, if◌then◌else◌, true}
 use Rattle.std.specs.List.{AllPairs, fold, sum_by}
 use Rattle.pm_store.specs.Files.{Files}
-use Rattle.pm_model_history.specs.History.{Entry, append, compaction, fence}
+use Rattle.pm_model_history.specs.History.{Entry, History, append, compaction, fence, no_table, table}
 use Rattle.pm_schema.specs.declared.schema.TableSchema.{TableSchema}
 use Rattle.pm_snapshot.specs.declared.snapshot.Snapshot.{Snapshot}
 use Rattle.pm_manifest.specs.Live.{Live, id_of}
@@ -33,6 +33,11 @@ raised old entry = old
 -- the fence after the first so many entries: the greatest that was raised, -1 before any
 abbrev pub fence_at : List Entry → ℕ → ℤ
 fence_at entries count = fold raised (negsuc 0) (take count entries)
+
+-- the base is at most the fence of the newest snapshot, so that no commit from it can come any more
+abbrev pub IsFenced : ℕ → History → Type 0
+IsFenced base no_table = ⊥
+IsFenced base (table s entries) = int_le (pos base) (fence_at entries (length entries)) ≡ true
 
 -- ---- counts of rows
 

@@ -1,6 +1,6 @@
 //! Laws of folders. Each holds with no call.
 
-ghost use Rattle.std.specs.Prelude.{◌≡◌, ◌≢◌, ◌↔◌, ℕ, ◌+◌, ◌≤◌, List, length, Contains, None, IsSome};
+ghost use Rattle.std.specs.Prelude.{◌≡◌, ◌≢◌, ◌↔◌, ◌⊎◌, ℕ, ◌+◌, ◌≤◌, List, length, Contains, None, IsSome};
 ghost use Rattle.std.specs.FinMap as map;
 ghost use Rattle.pm_store.specs.Files.{Files, IsListing};
 ghost use Rattle.pm_values.specs.declared.group.Group.{Group};
@@ -9,12 +9,14 @@ ghost use Rattle.pm_schema.specs.declared.schema.TableSchema.{TableSchema};
 ghost use Rattle.pm_snapshot.specs.Names.{greatest};
 ghost use Rattle.pm_snapshot.specs.declared.snapshot.Snapshot.{Snapshot};
 ghost use Rattle.pm_model_contents.specs.Named.{Contents};
-ghost use Rattle.pm_model_folder.specs.Changes.{Actor, Change, IsActor, IsNamedBy, IsNoOrigin, IsOwn};
+ghost use Rattle.pm_model_folder.specs.Changes.{Actor, Change, IsActor, IsNamedBy, IsNoOrigin, IsOwn, IsOwnFile};
+ghost use Rattle.pm_model_folder.specs.Changes.{origin_name};
 ghost use Rattle.pm_model_folder.specs.Commits.{HasCommit, Names, Needs, live_in};
+ghost use Rattle.pm_model_folder.specs.Entries.{IsFenced};
 ghost use Rattle.pm_model_folder.specs.Folder.{Folder};
 ghost use Rattle.pm_model_folder.specs.Ledger.{Advances, HasNamedNone, IsUnnamed, Past, Stands, count_of};
 ghost use Rattle.pm_model_folder.specs.Meaning.{HasSnapshotAt};
-ghost use Rattle.pm_model_folder.specs.Paths.{schema_folder, schema_name, snapshot_path};
+ghost use Rattle.pm_model_folder.specs.Paths.{schema_folder, schema_name, snapshot_file, snapshot_path};
 ghost use Rattle.pm_model_folder.specs.Runs.{HaveLiveFiles};
 ghost use Rattle.pm_runs.specs.Succession.{IsTaken, StillStands, Taking};
 
@@ -38,16 +40,21 @@ pub fn goes_on_law()
     ensures { (me : Actor) (f after : Files) (h later : History) → Change me f h after later → GoesOn h later }
 {}
 
-/// What a snapshot needs stays as it is while that snapshot is there. What an actor made stays, whoever acts, while no
-/// known snapshot names a file of the actor.
+/// What a snapshot needs stays as it is while that snapshot is there. While no known snapshot names a file of an actor,
+/// one that it made among those that snapshots name stays, whoever acts, unless its base is fenced by then. So does an
+/// actor's origin that isn't the table's, which has no base.
 pub fn stays_law()
     ensures needed { (me : Actor) (f after : Files) (s : TableSchema) (entries : List Entry) (later : History) (id : ℕ)
         (path : List ℕ) → Folder f (table s entries) → Change me f (table s entries) after later
         → HasSnapshotAt after s id → Needs f s id path → IsSome (map.get f path)
         → map.get after path ≡ map.get f path }
-    ensures own { (me other : Actor) (f after : Files) (p q : Past) (path : List ℕ) → Stands f p
-        → Advances other f p after q → IsOwn me path → IsNoOrigin p.history path → HasNamedNone me p
-        → IsSome (map.get f path) → map.get after path ≡ map.get f path }
+    ensures own { (me other : Actor) (base : ℕ) (f after : Files) (p q : Past) (path : List ℕ) → Stands f p
+        → Advances other f p after q → IsOwnFile me base path → HasNamedNone me p → IsSome (map.get f path)
+        → IsFenced base q.history ⊎ (map.get after path ≡ map.get f path) }
+    ensures origin { (me other : Actor) (f after : Files) (h later : History) → Folder f h
+        → Change other f h after later → IsNoOrigin h (snapshot_file (origin_name me))
+        → IsSome (map.get f (snapshot_file (origin_name me)))
+        → map.get after (snapshot_file (origin_name me)) ≡ map.get f (snapshot_file (origin_name me)) }
 {}
 
 /// A file bears the name of one actor at most.
