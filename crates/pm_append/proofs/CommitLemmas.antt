@@ -45,7 +45,7 @@ use Rattle.pm_write.specs.Batch.{GroupRows, Groups, IsBatchOf, held_of, numbered
 use Rattle.pm_write.specs.Files.{AreNewFiles, AreWritten, IsWritten, exceeds, next_of, no_sequence}
 use Rattle.pm_write.specs.declared.files.NewFile.{NewFile}
 use Rattle.pm_model_folder.specs.Changes.{Actor, IsNamedBy, NamesOwn}
-use Rattle.pm_model_folder.specs.Commits.{BeginsOn, FollowsOn, HasCommit, IsCommit, IsCommitted, IsFresh, Names, live_in}
+use Rattle.pm_model_folder.specs.Commits.{BeginsOn, CountsAppends, FollowsOn, HasCommit, IsCommit, IsCommitted, IsFresh, Names, live_in}
 use Rattle.pm_model_folder.specs.Entries.{AreLive, BearsEntry, entry_at, fence_at, raised}
 use Rattle.pm_model_folder.specs.Folder.{HasTable, IsFrom}
 use Rattle.pm_model_folder.specs.Meaning.{HasSnapshotAt, SnapshotAt}
@@ -55,7 +55,7 @@ use Rattle.pm_model_folder.specs.Stored.{HasGroup, HasRun}
 use Rattle.pm_runs.specs.Stand.{top_of}
 use Rattle.pm_runs.specs.Succession.{KnownRun}
 use Rattle.pm_model_folder.proofs.Facts.{same-or-other, some-none}
-use Rattle.pm_model_folder.proofs.HoldLemmas.{ContentsStay, Holds, OneContents, commit-held, entries-held, group-held, names-held, names-were, one-commit}
+use Rattle.pm_model_folder.proofs.HoldLemmas.{ContentsStay, Holds, OneContents, commit-held, entries-held, group-held, names-held, names-were, one-commit, one-snapshot}
 use Rattle.pm_model_folder.proofs.RunFacts.{none-stand}
 use Rattle.pm_append.specs.Commit.{AreBase, AreBaseIf, Attempt, Grows, HasAppended, IsAsMade, IsFoundAs, IsReady, grows, stays}
 use Rattle.pm_append.specs.Files.{AreLists, AreManifests, HasBase, IsAppendOf, IsNewList, IsNewManifest, after_names, data_file, empty, kept, merged}
@@ -247,6 +247,8 @@ module _ (facts : Facts) (f : Files) (s : TableSchema) (entries : List Entry) (f
     pub data_named : (e : files.Entry) → IsLive (live_after none_live entries0) e → (1 ≤ n) × Names f s n (data_path s e.group e.file.name)
     pub runs_at : (g : Group) (runs : List RunView) → AreRunsAt f s n g runs → AreRunsOf (live_after none_live entries0) g runs
     pub bounds : Bounds o newest.id
+    pub none : n ≡ 0 → appends_of o ≡ 0
+    pub counts : (z : Snapshot) → 1 ≤ n → SnapshotAt f n z → appends_of o ≡ z.appends
 
   -- the origin
   old-none : newest.id ≡ 0 → newest.manifests.items ≡ [] → newest.live.items ≡ [] → Old None
@@ -272,6 +274,8 @@ module _ (facts : Facts) (f : Files) (s : TableSchema) (entries : List Entry) (f
     data_named = λ e is. absurd (some-no e is);
     runs_at = λ g runs at. subst (AreRunsOf none_live g) (sym (subst (λ (k : ℕ). AreRunsAt f s k g runs) none at)) (no-runs g);
     bounds = record { least = omega arith; below = omega arith; appends = omega arith; full = omega arith };
+    none = λ _. refl;
+    counts = λ z some at. absurd (omega (arith, some, none));
   }
     where
       none : n ≡ 0
@@ -332,6 +336,8 @@ module _ (facts : Facts) (f : Files) (s : TableSchema) (entries : List Entry) (f
         appends = (let within = consistent.appends_within in omega (arith, within, own_id, is_id));
         full = consistent.full_within;
       };
+      none = λ none. absurd (omega (arith, some, none));
+      counts = λ z _ at. ap (λ (x : Snapshot). x.appends) (one-snapshot f n x z at_n.0 at);
     }
       where
         runs-at : (g : Group) (runs : List RunView) (k : ℕ) → n ≡ k → AreRunsAt f s k g runs → AreRunsOf (live_after none_live c.entries) g runs
@@ -901,9 +907,24 @@ module _ (facts : Facts) (me : Actor) (f after : Files) (s : TableSchema) (entri
     | inr x ↦ stays x.none (λ runs are. (y, contents, has-commit, same-runs live0 (live_in contents) g runs x.same (old.runs_at g runs are)))
   ]
 
+  -- it bears one append more than the newest
+  one-more : CountsAppends f after (length entries) e
+  one-more = at (length entries) refl
+    where
+      own : (m : ℕ) (z : Snapshot) → length entries ≡ m → SnapshotAt after (suc m) z → appends_of t.newest.snapshot + 1 ≡ z.appends
+      own m z is there = ap (λ (x : Snapshot). x.appends) (one-snapshot after (suc k) y z at_y (subst (λ (m : ℕ). SnapshotAt after (suc m) z) (sym is) there))
+
+      at : (m : ℕ) → length entries ≡ m → CountsAppends f after m e
+      at zero is = λ z new. let one = own zero z is new in let none = old.none is in omega (arith, one, none)
+      at (suc m) is = λ x z here new.
+          let one = own (suc m) z is new in
+          let was = old.counts x (omega (arith, is)) (subst (λ (m : ℕ). SnapshotAt f m x) (sym is) here) in
+          omega (arith, one, was)
+
   appends : IsCommit f after s entries e
   appends = record {
     committed = committed;
+    appends = one-more;
     begins = first-begins;
     next = follows;
     gone = never-returns;

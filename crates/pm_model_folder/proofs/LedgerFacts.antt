@@ -13,10 +13,10 @@ use Rattle.pm_snapshot.specs.Snapshot.{snapshot_in}
 use Rattle.pm_snapshot.specs.declared.snapshot.Snapshot.{Snapshot}
 use Rattle.pm_model_contents.specs.Named.{Contents, HasContents}
 use Rattle.pm_model_folder.specs.Changes.{Actor, Change, IsOwnFile, nothing, own_file, schema, committed}
-use Rattle.pm_model_folder.specs.Commits.{HasCommit, IsCommitted, Names, Needs, live_in}
-use Rattle.pm_model_folder.specs.Entries.{IsFenced}
+use Rattle.pm_model_folder.specs.Commits.{CountsAppends, HasCommit, IsCommit, IsCommitted, Names, Needs, live_in}
+use Rattle.pm_model_folder.specs.Entries.{IsFenced, appends_in}
 use Rattle.pm_model_folder.specs.Folder.{Folder, HasTable, IsEntryAfter, IsFrom}
-use Rattle.pm_model_folder.specs.Ledger.{Past, Advances, HasNamedNone, IsKnown, IsOldOrUnnamed, IsUnnamed, KeepsFiles, KnowsNone, KnowsPast, KnowsRuns, KnowsTable, Stands, count_of}
+use Rattle.pm_model_folder.specs.Ledger.{Past, Advances, HasNamedNone, IsKnown, IsOldOrUnnamed, IsUnnamed, KeepsFiles, KnowsAppends, KnowsNone, KnowsPast, KnowsRuns, KnowsTable, Stands, count_of}
 use Rattle.pm_model_folder.specs.Meaning.{HasSnapshotAt, SnapshotAt}
 use Rattle.pm_model_folder.specs.Paths.{schema_path, snapshot_path}
 use Rattle.pm_model_folder.specs.Runs.{AreInFiles, HaveLiveFiles}
@@ -72,6 +72,13 @@ module _ (law : RunsFound) (f : Files) (s : TableSchema) (entries : List Entry) 
     succession = λ g. law s g entries (found-runs f s entries folder g).runs folder.history.bases (found-runs f s entries folder g).known;
   }
 
+  -- the newest is the only one of which it is known
+  known-appends : KnowsAppends entries newest_past
+  known-appends early late x y low least le high at there =
+      let same : early ≡ late = one-number early late le (omega (arith, low, high)) in
+      let one : x ≡ y = one-snapshot f late x y (subst (λ (n : ℕ). SnapshotAt f n x) same at) there in
+      let equal : x.appends ≡ y.appends = ap (λ (z : Snapshot). z.appends) one in omega (arith, equal)
+
   found-table : KnowsTable f s entries newest_past
   found-table =
       let least : ℕ = folder.snapshots.least in
@@ -85,6 +92,7 @@ module _ (law : RunsFound) (f : Files) (s : TableSchema) (entries : List Entry) 
             folder.commits.gone early (was-from least (length entries) early first.after_origin first.from first.to) early middle late path (omega arith) low high
             last.to here there;
         runs = known-runs;
+        appends = known-appends;
       }
 
 pub found : RunsFound → (f : Files) (h : History) → Folder f h
@@ -328,6 +336,21 @@ module _ (laws : RunLaws) (me : Actor) (f after : Files) (p q : Past) (advances 
           (λ n within. runs-were n g within) (advances.follows s entries e g was now).follow);
     }
 
+-- ---- and that counts of appends never fell
+
+-- up to the snapshots that were known
+old-appends : (me : Actor) (f after : Files) (p q : Past) → Advances me f p after q → (s : TableSchema) (entries : List Entry) → KnowsRuns s entries p → KnowsAppends entries p
+    → ((n : ℕ) → n ≤ length entries → n ≤ count_of p.history) → KnowsAppends entries q
+old-appends me f after p q advances s entries runs appends counted early late x y low least le high at there =
+    let since = advances.since in
+    let was_low : p.since ≤ early = omega (arith, low, since) in
+    appends early late x y was_low least le high
+    (subst (λ (g : Files). SnapshotAt g early x) (advances.same early (known early least was_low (omega (arith, le, high)))) at)
+    (subst (λ (g : Files). SnapshotAt g late y) (advances.same late (known late (omega (arith, least, le)) (omega (arith, was_low, le)) high)) there)
+  where
+    known : (id : ℕ) → 1 ≤ id → p.since ≤ id → id ≤ length entries → IsKnown p id
+    known id least low high = record { after_origin = least; from = runs.from id least low; to = counted id high }
+
 -- where a table begins
 runs-begin : RunLaws → (p q : Past) (s : TableSchema) → KnowsNone p → q.since ≡ p.since → q.first ≡ p.first → ((g : Group) → q.runs 0 g ≡ p.runs 0 g) → KnowsRuns s [] q
 runs-begin laws p q s none since first same = record {
@@ -371,6 +394,7 @@ module _ (laws : RunLaws) (me : Actor) (f after : Files) (p q : Past) (stands : 
         gone = λ early middle late path first low high last here there.
             old-gone me f after p q s entries entries stands advances is past [] whole early middle late path (before early first) low high (before late last) here there;
         runs = runs-same laws me f after p q advances s entries was past.runs;
+        appends = old-appends me f after p q advances s entries past.runs past.appends (λ n within. (let many = count-is p s entries was in omega (arith, within, many)));
       }
     where
       there-before : (s : TableSchema) (entries : List Entry) → p.history ≡ table s entries → (id : ℕ) → 1 ≤ id → id ≤ length entries
@@ -394,11 +418,12 @@ module _ (laws : RunLaws) (me : Actor) (f after : Files) (p q : Past) (stands : 
         kept = λ id known. none (KeepsFiles after s (q.stood id) id) id known;
         gone = λ early middle late path first low high last here there. none (Names (q.stood middle) s middle path) early first;
         runs = runs-begin laws p q s past advances.since advances.first (λ g. advances.runs 0 g (omega arith));
+        appends = λ early late x y low least le high at there. absurd (omega (arith, least, le, high));
       }
 
   -- an entry comes
   module _ (s : TableSchema) (entries : List Entry) (e : Entry) (was : p.history ≡ table s entries) (now : q.history ≡ table s (entries ++ e ∷ []))
-      (past : KnowsTable f s entries p) (committed : IsCommitted after s (entries ++ e ∷ []) (suc (length entries))) (folder : HasTable f s entries)
+      (past : KnowsTable f s entries p) (commit : IsCommit f after s entries e) (folder : HasTable f s entries) (newest : HasSnapshotAt f s (length entries))
       (fit : IsEntryAfter s entries e) where
     longer : length (entries ++ e ∷ []) ≡ suc (length entries)
     longer = length-append entries (e ∷ []) ∙ (let more : length entries + 1 ≡ suc (length entries) = omega arith in more)
@@ -426,7 +451,7 @@ module _ (laws : RunLaws) (me : Actor) (f after : Files) (p q : Past) (stands : 
     committed-now id known = elim (split-last (length entries) id (within id known)) as (λ _. IsCommitted (q.stood id) s (take id (entries ++ e ∷ [])) id) [
       | inl low ↦ old-committed me f after p q s entries (entries ++ e ∷ []) stands advances was-table past (e ∷ []) refl id (known-before id known low) low
       | inr is ↦ subst (λ (g : Files). IsCommitted g s (take id (entries ++ e ∷ [])) id) (sym (stood-now id known is))
-          (subst (λ (es : List Entry). IsCommitted after s es id) (sym (whole id is)) (subst (λ (n : ℕ). IsCommitted after s (entries ++ e ∷ []) n) (sym is) committed))
+          (subst (λ (es : List Entry). IsCommitted after s es id) (sym (whole id is)) (subst (λ (n : ℕ). IsCommitted after s (entries ++ e ∷ []) n) (sym is) commit.committed))
     ]
       where
         whole : (id : ℕ) → id ≡ suc (length entries) → take id (entries ++ e ∷ []) ≡ entries ++ e ∷ []
@@ -481,6 +506,59 @@ module _ (laws : RunLaws) (me : Actor) (f after : Files) (p q : Past) (stands : 
       | inr is ↦ (let start = past.start in let same = advances.first in omega (arith, start, same, is))
     ]
 
+    -- the new snapshot bears at least as many appends as the newest before it, and this one as those known before
+    appends-now : KnowsAppends (entries ++ e ∷ []) q
+    appends-now early late x y low least le high at there =
+        elim (split-last (length entries) late (omega (arith, high, longer))) as (λ _. x.appends ≤ y.appends) [
+          | inl before ↦ were early late x y low least le before at there
+          | inr last ↦ elim (split-last (length entries) early (omega (arith, le, last))) as (λ _. x.appends ≤ y.appends) [
+            | inl before ↦ by_new (length entries) refl before (subst (λ (n : ℕ). SnapshotAt (q.stood n) n y) last there)
+            | inr same ↦ same-one (subst (λ (n : ℕ). SnapshotAt (q.stood n) n y) (last ∙ sym same) there)
+          ]
+        ]
+      where
+        were : KnowsAppends entries q
+        were = old-appends me f after p q advances s entries past.runs past.appends (λ n within. (let many = count-is p s entries was in omega (arith, within, many)))
+
+        same-one : SnapshotAt (q.stood early) early y → x.appends ≤ y.appends
+        same-one here = let equal : x.appends ≡ y.appends = ap (λ (z : Snapshot). z.appends) (one-snapshot (q.stood early) early x y at here) in omega (arith, equal)
+
+        by_new : (n : ℕ) → n ≡ length entries → early ≤ length entries → SnapshotAt (q.stood (suc (length entries))) (suc (length entries)) y → x.appends ≤ y.appends
+        by_new zero is before new = absurd (omega (arith, least, before, is))
+        by_new (suc k) is before new =
+            let id : ℕ = suc k in
+            let known : IsKnown p id = record {
+              after_origin = omega arith;
+              from = past.runs.from id (omega arith) (let since = advances.since in omega (arith, low, since, before, is));
+              to = (let many = count-is p s entries was in omega (arith, many, is));
+            } in
+            let then : IsCommitted (p.stood id) s (take id entries) id = past.committed id known in
+            let there : HasSnapshotAt f s id = subst (HasSnapshotAt f s) (sym is) newest in
+            let stays : map.get f (snapshot_path id) ≡ map.get (p.stood id) (snapshot_path id) = (past.kept id known).there there (snapshot_path id) (inl refl) in
+            let here : SnapshotAt f id then.snapshot = (then.there.0, stays ∙ then.there.1, then.there.2) in
+            let rose = were-to id known before is then.snapshot then.there in
+            let counts : CountsAppends f after id e = subst (λ (n : ℕ). CountsAppends f after n e) (sym is) commit.appends in
+            let one : y.appends ≡ then.snapshot.appends + appends_in e = counts then.snapshot y here
+            (subst (λ (g : Files). SnapshotAt g (suc id) y) (stood-now (suc id) new_known (ap suc is)) (subst (λ (n : ℕ). SnapshotAt (q.stood n) n y) (ap suc (sym is)) new)) in
+            omega (arith, rose, one)
+          where
+            new_known : IsKnown q (suc (suc k))
+            new_known = record {
+              after_origin = omega arith;
+              from = (let start = past.start in let first = advances.first in omega (arith, start, first, is));
+              to = (let many = count-is q s (entries ++ e ∷ []) now in omega (arith, many, longer, is));
+            }
+
+            were-to : (id : ℕ) → IsKnown p id → early ≤ length entries → id ≡ length entries → (z : Snapshot) → SnapshotAt (p.stood id) id z → x.appends ≤ z.appends
+            were-to id known before is z there =
+                let since = advances.since in
+                past.appends early id x z (omega (arith, low, since)) least (omega (arith, before, is)) (omega (arith, is))
+                (subst (λ (g : Files). SnapshotAt g early x) (advances.same early (record {
+                  after_origin = least;
+                  from = past.runs.from early least (omega (arith, low, since));
+                  to = (let many = count-is p s entries was in omega (arith, before, many));
+                })) at) there
+
     newest-known : IsKnown q (suc (length entries))
     newest-known = record {
       after_origin = omega arith;
@@ -495,6 +573,7 @@ module _ (laws : RunLaws) (me : Actor) (f after : Files) (p q : Past) (stands : 
       committed = committed-now;
       kept = kept-now;
       gone = gone-now;
+      appends = appends-now;
       runs = runs-more laws me f after p q advances s entries was past.runs e now (laws.high (schema_path 0) folder.schema.first.0 s folder.schema.first.2)
           (rows-append s entries e folder.history fit).bases (stood-now (suc (length entries)) newest-known refl);
     }
@@ -513,7 +592,7 @@ module _ (laws : RunLaws) (me : Actor) (f after : Files) (p q : Past) (stands : 
   past-kept (table s entries) later was now folder (own_file path content own other none puts) past = same-past s entries was now past
   past-kept h later was now folder (schema s bytes origin named puts reads) past = new-past s now past
   past-kept h later was now folder (committed s entries e bytes newest bound none puts fit commit own) past =
-      longer-past s entries _ was now past commit.committed folder fit
+      longer-past s entries _ was now past commit folder newest fit
 
 pub stands-kept : OneContents → ContentsStay → RunLaws → (me : Actor) (f after : Files) (p q : Past) → Stands f p → Advances me f p after q → Stands after q
 stands-kept one stay laws me f after p q stands advances = record {
@@ -603,3 +682,11 @@ still-past one laws f p s entries g t x c stands was took commit have =
     let here = live-shows one (p.stood n) s n x c g t.taken (p.runs n g) (omega (arith, some, within)) (known.stood n g known.since (omega arith)) commit have in
     laws.still s g entries p.since (λ n. p.runs n g) t (known.succession g) took
     (laws.there s g entries p.since (λ n. p.runs n g) t (known.succession g) took here)
+
+-- ---- counts of appends
+
+pub never-falls : (f : Files) (p : Past) (s : TableSchema) (entries : List Entry) (early late : ℕ) (x y : Snapshot) → Stands f p → p.history ≡ table s entries
+    → p.since ≤ early → 1 ≤ early → early ≤ late → late ≤ length entries → SnapshotAt (p.stood early) early x → SnapshotAt (p.stood late) late y
+    → x.appends ≤ y.appends
+never-falls f p s entries early late x y stands was =
+    (subst (λ (h : History). KnowsPast f h p) was stands.past).appends early late x y

@@ -1,5 +1,5 @@
 -- What a live snapshot is, and how the next one follows it.
-use Rattle.std.specs.Prelude.{◌≡◌, ◌⊎◌, ℕ, suc, ◌+◌, ◌<◌, ◌≤◌, ℤ, pos, negsuc, int_lt, true}
+use Rattle.std.specs.Prelude.{◌≡◌, ◌⊎◌, ℕ, zero, suc, ◌+◌, ◌<◌, ◌≤◌, ℤ, pos, negsuc, int_lt, true}
 use Rattle.std.specs.Prelude.{List, [], ◌++◌, ◌∷◌, length}
 use Rattle.pm_store.specs.Files.{Files}
 use Rattle.pm_values.specs.Names.{Naming, name_of}
@@ -11,7 +11,7 @@ use Rattle.pm_snapshot.specs.declared.snapshot.Snapshot.{Snapshot}
 use Rattle.pm_manifest.specs.Live.{Live, live_after}
 use Rattle.pm_model_contents.specs.Lists.{none_live}
 use Rattle.pm_model_contents.specs.Named.{Contents, HasContents, IsNamed}
-use Rattle.pm_model_folder.specs.Entries.{BearsCounts, BearsEntry, entry_at, fence_at}
+use Rattle.pm_model_folder.specs.Entries.{BearsCounts, BearsEntry, appends_in, entry_at, fence_at}
 use Rattle.pm_model_folder.specs.Meaning.{HasSnapshotAt, SnapshotAt}
 use Rattle.pm_model_folder.specs.Paths.{schema_path, snapshot_path}
 use Rattle.pm_model_folder.specs.Stored.{HasGroup, HoldsChange}
@@ -91,10 +91,17 @@ NeverReturn f s first last = (early middle late : ℕ) (path : List ℕ) → fir
 
 -- ---- an entry comes
 
--- What the snapshot after the newest meets: it is that of its entry, what it names and the newest didn't is new, and a
--- path that left doesn't return with it.
+-- the snapshot after this one bears as many appends, and one more where its entry appends rows; the origin bears none
+abbrev pub CountsAppends : Files → Files → ℕ → Entry → Type 0
+CountsAppends f after zero e = (y : Snapshot) → SnapshotAt after 1 y → y.appends ≡ appends_in e
+CountsAppends f after (suc n) e = (x y : Snapshot) → SnapshotAt f (suc n) x → SnapshotAt after (suc (suc n)) y
+    → y.appends ≡ x.appends + appends_in e
+
+-- What the snapshot after the newest meets: it is that of its entry, it counts the appends on, what it names and the
+-- newest didn't is new, and a path that left doesn't return with it.
 pub record IsCommit (f after : Files) (s : TableSchema) (entries : List Entry) (e : Entry) : Type 0 where
   pub committed : IsCommitted after s (entries ++ e ∷ []) (suc (length entries))
+  pub appends : CountsAppends f after (length entries) e
   pub begins : length entries ≡ 0 → BeginsOn after s
   pub next : 1 ≤ length entries → FollowsOn after s (length entries)
   pub gone : (early middle : ℕ) (path : List ℕ) → 1 ≤ early → HasSnapshotAt f s early → early < middle

@@ -39,6 +39,14 @@ abbrev pub IsFenced : ℕ → History → Type 0
 IsFenced base no_table = ⊥
 IsFenced base (table s entries) = int_le (pos base) (fence_at entries (length entries)) ≡ true
 
+-- ---- counts of commits
+
+-- how many commits an entry is that append rows: one or none
+abbrev pub appends_in : Entry → ℕ
+appends_in (append user identifier rows) = 1
+appends_in (compaction base groups) = 0
+appends_in (fence number) = 0
+
 -- ---- counts of rows
 
 -- the rows that files have by their entries

@@ -6,10 +6,11 @@ use Rattle.pm_store.specs.Files.{Files}
 use Rattle.pm_values.specs.declared.group.Group.{Group}
 use Rattle.pm_model_history.specs.History.{Entry, History, IsTableOf, no_table, table}
 use Rattle.pm_schema.specs.declared.schema.TableSchema.{TableSchema}
+use Rattle.pm_snapshot.specs.declared.snapshot.Snapshot.{Snapshot}
 use Rattle.pm_model_folder.specs.Changes.{Actor, Change, IsNamedBy}
 use Rattle.pm_model_folder.specs.Commits.{IsCommitted, Names, Needs}
 use Rattle.pm_model_folder.specs.Folder.{Folder}
-use Rattle.pm_model_folder.specs.Meaning.{HasSnapshotAt}
+use Rattle.pm_model_folder.specs.Meaning.{HasSnapshotAt, SnapshotAt}
 use Rattle.pm_model_folder.specs.Runs.{AreInFiles}
 use Rattle.pm_runs.specs.Succession.{Follows, IsSuccession, KnownRun}
 
@@ -48,8 +49,15 @@ pub record KnowsRuns (s : TableSchema) (entries : List Entry) (p : Past) : Type 
   pub stood : (id : ℕ) (g : Group) → p.since ≤ id → id ≤ length entries → AreInFiles (p.stood id) s id g (p.runs id g)
   pub succession : (g : Group) → IsSuccession s g entries p.since (λ n. p.runs n g)
 
+-- the count of appends that a snapshot bore never fell, from the one on that was the newest when the folder was found
+abbrev pub KnowsAppends : List Entry → Past → Type 0
+KnowsAppends entries p = (early late : ℕ) (x y : Snapshot) → p.since ≤ early → 1 ≤ early → early ≤ late
+    → late ≤ length entries → SnapshotAt (p.stood early) early x → SnapshotAt (p.stood late) late y
+    → x.appends ≤ y.appends
+
 -- What is known of a table's snapshots: all that are there are known, each was that of its entry, its files are kept,
--- a path that one names and a later one too is named by those between, and the groups' runs are known.
+-- a path that one names and a later one too is named by those between, the groups' runs are known, and that counts of
+-- appends never fell.
 pub record KnowsTable (f : Files) (s : TableSchema) (entries : List Entry) (p : Past) : Type 0 where
   pub start : p.first ≤ length entries + 1
   pub reaches : (id : ℕ) → 1 ≤ id → id ≤ length entries → HasSnapshotAt f s id → p.first ≤ id
@@ -59,6 +67,7 @@ pub record KnowsTable (f : Files) (s : TableSchema) (entries : List Entry) (p : 
       → IsKnown p late → Names (p.stood early) s early path → Names (p.stood late) s late path
       → Names (p.stood middle) s middle path
   pub runs : KnowsRuns s entries p
+  pub appends : KnowsAppends entries p
 
 -- where there is no table nothing is known of snapshots, and no group has a run
 pub record KnowsNone (p : Past) : Type 0 where

@@ -15,7 +15,7 @@ ghost use Rattle.pm_model_folder.specs.Commits.{HasCommit, Names, Needs, live_in
 ghost use Rattle.pm_model_folder.specs.Entries.{IsFenced};
 ghost use Rattle.pm_model_folder.specs.Folder.{Folder};
 ghost use Rattle.pm_model_folder.specs.Ledger.{Advances, HasNamedNone, IsUnnamed, Past, Stands, count_of};
-ghost use Rattle.pm_model_folder.specs.Meaning.{HasSnapshotAt};
+ghost use Rattle.pm_model_folder.specs.Meaning.{HasSnapshotAt, SnapshotAt};
 ghost use Rattle.pm_model_folder.specs.Paths.{schema_folder, schema_name, snapshot_file, snapshot_path};
 ghost use Rattle.pm_model_folder.specs.Runs.{HaveLiveFiles};
 ghost use Rattle.pm_runs.specs.Succession.{IsTaken, StillStands, Taking};
@@ -144,3 +144,12 @@ pub fn unnamed_law()
     same_law();
     snapshot_law();
 }
+
+/// The count of appends that a snapshot bears never falls, from the one on that was the newest when the folder was
+/// found, whether or not it has gone.
+pub fn appends_law()
+    ensures { (f : Files) (p : Past) (s : TableSchema) (entries : List Entry) (early late : ℕ) (x y : Snapshot)
+        → Stands f p → p.history ≡ table s entries → p.since ≤ early → 1 ≤ early → early ≤ late
+        → late ≤ length entries → SnapshotAt (p.stood early) early x → SnapshotAt (p.stood late) late y
+        → x.appends ≤ y.appends }
+{}

@@ -17,11 +17,12 @@
 //! each next one follow. `found_law` leads from a folder that is found to one with such a past, and `past_law` says
 //! that each change keeps it. `beside_law` says that each change which adds no entry, and makes no file that a known
 //! snapshot needs, is a step of it, and `still_law` where those runs stand that a compaction took at a snapshot of it.
+//! `appends_law` says that from that snapshot on the count of appends which a snapshot bears never falls.
 #![tactic(auto)]
 
 mod laws;
 
 pub use laws::{
-    beside_law, found_law, goes_on_law, kept_law, listed_law, newest_law, own_law, past_law,
-    stays_law, still_law, unnamed_law,
+    appends_law, beside_law, found_law, goes_on_law, kept_law, listed_law, newest_law, own_law,
+    past_law, stays_law, still_law, unnamed_law,
 };
