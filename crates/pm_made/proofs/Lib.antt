@@ -1,0 +1,4 @@
+mod CountLemmas
+mod DeltaLemmas
+mod ManifestLemmas
+mod NumberLemmas

@@ -1,0 +1,74 @@
+-- What a commit is for, and which entry it adds.
+use Rattle.std.specs.Prelude.{◌≡◌, ℕ, ◌+◌, ◌*◌, ℤ, List, [], ◌++◌, length, Bool, if◌then◌else◌}
+use Rattle.std.specs.List.{AllByRecursion}
+use Rattle.pm_values.specs.declared.group.Group.{Group}
+use Rattle.pm_model_history.specs.History.{Entry, append, compaction, entry_rows, fence}
+use Rattle.pm_schema.specs.Folder.{FitsPartition}
+use Rattle.pm_schema.specs.declared.schema.TableSchema.{TableSchema}
+use Rattle.pm_manifest.specs.declared.entry.Entry as files
+use Rattle.pm_model_folder.specs.Folder.{IsRowOf}
+use Rattle.pm_write.specs.Batch.{GroupRows, Groups, IsBatchOf}
+use Rattle.pm_write.specs.declared.files.NewFile.{NewFile}
+use Rattle.pm_made.specs.declared.intent.Intent.{Intent}
+use Rattle.pm_made.specs.declared.intent.Intent.TheVariants as intents
+use Rattle.pm_made.specs.declared.newest.Author.{Author}
+
+-- ---- its parts
+
+-- the batch whose rows are appended; of others an empty one
+abbrev pub batch_of : Intent → Groups
+batch_of (intents.Append batch) = batch
+batch_of other = []
+
+-- the live files that are to go
+abbrev pub removed_of : Intent → List files.Entry
+removed_of (intents.Compact plan) = plan.removed.items
+removed_of other = []
+
+-- the files of rows that were made, and named, before any try: data files first
+abbrev pub given_files : Intent → List NewFile
+given_files (intents.Compact plan) = plan.added.items ++ plan.changes.items
+given_files other = []
+
+-- so many of them a try creates: all at the first one
+abbrev pub given_count : Bool → Intent → ℕ
+given_count first (intents.Compact plan) =
+    if first then length plan.added.items + length plan.changes.items else 0
+given_count first other = 0
+
+-- the groups of its batch, or of the files that it was given, fit the table
+abbrev pub FitsGroups : TableSchema → Intent → Type 0
+FitsGroups s (intents.Append batch) = AllByRecursion (λ (e : Group × GroupRows). FitsPartition s e.0) batch
+FitsGroups s (intents.Compact plan) = AllByRecursion (λ (x : NewFile). FitsPartition s x.group) plan.added.items
+    × AllByRecursion (λ (x : NewFile). FitsPartition s x.group) plan.changes.items
+FitsGroups s (intents.Fence number) = Unit {0}
+
+-- how many files a try creates at most: of each group a data file and a changelog file, or those that were given; and
+-- three manifests and three lists
+abbrev pub most_files : Intent → ℕ
+most_files (intents.Append batch) = 2 * length batch + 6
+most_files (intents.Compact plan) = length plan.added.items + length plan.changes.items + 6
+most_files (intents.Fence number) = 6
+
+-- commits are made of appends and compactions
+abbrev pub IsMadeFor : Intent → Type 0
+IsMadeFor (intents.Fence number) = ⊥
+IsMadeFor other = Unit {0}
+
+-- ---- the entry
+
+-- the entry appends rows, for a user with an identifier
+abbrev pub IsAppendFor : List ℕ → ℤ → Entry → Type 0
+IsAppendFor user identifier e = e ≡ append user identifier (entry_rows e)
+
+-- the entry appends rows of the table, for a user with an identifier, and this is their batch
+pub record AppendsBatch (s : TableSchema) (user : List ℕ) (identifier : ℤ) (batch : Groups) (e : Entry) : Type 0 where
+  pub is : IsAppendFor user identifier e
+  pub fit : AllByRecursion (IsRowOf s) (entry_rows e)
+  pub groups : IsBatchOf s (entry_rows e) batch
+
+-- the entry is the one that a commit adds, by its author and by what it is for
+abbrev pub Means : TableSchema → Author → Intent → Entry → Type 0
+Means s author (intents.Append batch) e = AppendsBatch s author.user author.identifier batch e
+Means s author (intents.Compact plan) e = e ≡ compaction author.base plan.groups.items
+Means s author (intents.Fence number) e = e ≡ fence number

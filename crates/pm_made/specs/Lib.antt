@@ -1,0 +1,5 @@
+pub mod Delta
+pub mod Files
+pub mod Intent
+pub mod Refusals
+pub mod Snapshot

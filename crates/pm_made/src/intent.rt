@@ -1,0 +1,28 @@
+//! What a commit is for.
+
+use pm_manifest::Entry;
+use pm_values::Group;
+use pm_write::{Batch, NewFile};
+
+/// What a commit is for: rows are appended, or runs are compacted, or a fence is raised.
+#[derive(Drop)]
+pub enum Intent {
+    Append { batch: Batch },
+    Compact { plan: Plan },
+    Fence { fence: i64 },
+}
+
+/// What a compaction puts in the place of what.
+#[derive(Drop)]
+pub struct Plan {
+    /// The groups whose runs it takes, rising, each with whether all of its runs go into one at the top level.
+    pub groups: Vec<(Group, bool)>,
+    /// The files of the runs that it took, as they were live in its view: by group, and newest run first.
+    pub removed: Vec<Entry>,
+    /// The data files that it made.
+    pub added: Vec<NewFile>,
+    /// The changelog files that it made.
+    pub changes: Vec<NewFile>,
+    /// Where it was asked in full, the appends of its view.
+    pub full: Option<u64>,
+}

@@ -1,0 +1,26 @@
+//! What a commit puts into the folder, whatever it is for: its files, in the order in which they are created, and the
+//! text of its snapshot.
+//!
+//! `make` is told the table as the newest snapshot has it, who commits and when, and what for: rows are appended, or
+//! runs are compacted (`specs/Intent.antt`). It makes a delta of that, which says which live files go and which come
+//! (`specs/Delta.antt`): an append makes its data files at each try, and a compaction has made its files before, which
+//! are created at the first try alone. Then come a manifest of all live entries where the newest snapshot has many
+//! manifests, a manifest of the delta and one of changelog files, where there are any, and the lists of them
+//! (`specs/Files.antt`); `specs/Snapshot.antt` has what the snapshot is. It is refused where its base is at most the
+//! fence, where a file that it takes away isn't live any more, and where a limit would be exceeded
+//! (`specs/Refusals.antt`). It calls no store, so a commit that lost is made anew from the snapshot that won.
+#![tactic(auto)]
+
+mod data;
+mod intent;
+mod limits;
+mod making;
+mod manifests;
+mod newest;
+mod numbers;
+mod snapshot;
+mod taken;
+
+pub use intent::{Intent, Plan};
+pub use making::make;
+pub use newest::{Author, Made, Newest};
