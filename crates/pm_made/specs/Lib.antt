@@ -1,3 +1,4 @@
+pub mod Commit
 pub mod Delta
 pub mod Files
 pub mod Intent

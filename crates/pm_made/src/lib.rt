@@ -9,10 +9,12 @@
 //! (`specs/Files.antt`); `specs/Snapshot.antt` has what the snapshot is. It is refused where its base is at most the
 //! fence, where a file that it takes away isn't live any more, and where a limit would be exceeded
 //! (`specs/Refusals.antt`). It calls no store, so a commit that lost is made anew from the snapshot that won.
+//! `src/laws.rt` has what a commit that is published means, whatever it is for (`specs/Commit.antt`).
 #![tactic(auto)]
 
 mod data;
 mod intent;
+mod laws;
 mod limits;
 mod making;
 mod manifests;
@@ -22,5 +24,6 @@ mod snapshot;
 mod taken;
 
 pub use intent::{Intent, Plan};
+pub use laws::{commit_law, made_law, own_files_law};
 pub use making::make;
 pub use newest::{Author, Made, Newest};

@@ -1,0 +1,46 @@
+-- Who names the files of a try: at each of them the names that are left are the actor's.
+use Rattle.std.proofs.Common.{ℕ}
+use Rattle.pm_values.specs.Names.{counted}
+use Rattle.pm_schema.specs.declared.schema.TableSchema.{TableSchema}
+use Rattle.pm_model_folder.specs.Changes.{Actor}
+use Rattle.pm_made.specs.Commit.{Attempt, MakesNames}
+use Rattle.pm_made.specs.Files.{AreLists, AreManifests, IsMadeOf}
+use Rattle.pm_made.specs.Delta.{entries_of}
+use Rattle.pm_made.specs.Intent.{most_files}
+use Rattle.pm_made.proofs.DeltaFilesLemmas.{delta-left}
+use Rattle.pm_made.proofs.ListedLemmas.{base-left, list-left, manifest-left}
+use Rattle.pm_made.proofs.MadeLemmas.{MayGive, give-next}
+
+module _ (me : Actor) (s : TableSchema) (t : Attempt) (makes : MakesNames me t) (made : IsMadeOf s t.newest t.author t.intent t.first t.names t.made) where
+  abbrev base : ℕ
+  base = t.author.base
+
+  abbrev lists : AreManifests s t.newest made.left (entries_of made.delta) made.delta.changes made.lists made.list_files
+  lists = made.are_manifests
+
+  abbrev own : AreLists s lists.left (entries_of made.delta) made.delta.changes lists.base made.lists lists.list_files
+  own = lists.are_lists
+
+  pub first-names : MayGive me base (most_files t.intent) t.names
+  first-names = record {
+    maker = record { may = makes.may; session = makes.session; actor = makes.actor; based = makes.based };
+    room = makes.room;
+  }
+
+  pub manifest-names : MayGive me base 6 made.left
+  manifest-names = delta-left s t.newest t.first t.names me base t.intent made.delta made.row_files made.left made.has_delta first-names
+
+  pub delta-names : MayGive me base 5 lists.left
+  delta-names = base-left me base s 5 t.newest made.left lists.base lists.base_files lists.left lists.has_base manifest-names
+
+  pub changes-names : MayGive me base 4 own.after_delta
+  changes-names = manifest-left me base s 4 lists.left (entries_of made.delta) own.delta own.delta_files own.after_delta own.has_delta delta-names
+
+  pub delta_list-names : MayGive me base 3 own.after_changes
+  delta_list-names = manifest-left me base s 3 own.after_delta made.delta.changes own.changes own.changes_files own.after_changes own.has_changes changes-names
+
+  pub changes_list-names : MayGive me base 2 (counted own.after_changes)
+  changes_list-names = give-next me base 2 own.after_changes delta_list-names
+
+  pub base_list-names : MayGive me base 1 own.after_list
+  base_list-names = list-left me base s 1 (counted own.after_changes) own.changes made.lists.changes own.changes_list own.after_list own.has_changes_list changes_list-names
