@@ -31,12 +31,12 @@ use crate::host::{Host, HostError, Kind};
 use crate::listing::shown_names;
 use crate::lock::locked;
 use crate::look::{is_absent, kind_at, make_folder, read_at};
-use crate::met::Met;
 use crate::owed::Owed;
 use crate::paths::{
     folder_of, has_folders, is_named_elsewhere, is_path, place_of, store_folder_of, without_end,
 };
 use crate::shown::Shown;
+use crate::standing::Standing;
 use crate::syncing::Synced;
 use crate::temporary::{Begun, begin_file};
 use pm_base::{Blob, Txt};
@@ -89,7 +89,7 @@ pub(crate) struct Disk<H: Host + Drop> {
     synced: Synced,
     owed: Owed,
     shown: Shown,
-    met: Met,
+    standing: Standing,
 }
 
 impl<H: Host + Drop> Drop for Disk<H> {
@@ -102,7 +102,7 @@ impl<H: Host + Drop> Drop for Disk<H> {
             synced,
             owed,
             shown,
-            met,
+            standing,
         } = self;
     }
 }
@@ -121,7 +121,7 @@ impl<H: Host + Drop> Disk<H> {
             synced: Synced::new(alloc),
             owed: Owed::new(alloc),
             shown: Shown::new(alloc),
-            met: Met::new(alloc),
+            standing: Standing::new(alloc),
         })
     }
 
@@ -302,7 +302,7 @@ impl<H: Host + Drop> Disk<H> {
         }
         let found = read_at(alloc, &mut self.host, full.as_str())?;
         if found.is_some() {
-            self.met.keep(alloc, full.as_str())?;
+            self.standing.keep(alloc, full.as_str())?;
         }
         Ok(found)
     }
@@ -409,7 +409,7 @@ impl<H: Host + Drop> Disk<H> {
         if !is_replaced(condition) {
             self.make_folders(alloc, store_folder_of(path))?;
         }
-        self.met.keep(alloc, full)?;
+        self.standing.keep(alloc, full)?;
         self.host.rename(begun.path.as_str(), full)?;
         begun.is_placed = true;
         if !is_owed {
@@ -547,7 +547,7 @@ impl<H: Host + Drop> Disk<H> {
     /// came after. The first on the way has the table's own name there, too, which so is there before any file.
     fn make_folder(&mut self, alloc: Global, above: &str, folder: &str) -> Result<(), StoreFail> {
         let is_new = make_folder(&mut self.host, folder)?;
-        if !is_new && !self.met.is_empty(&mut self.host, folder)? {
+        if !is_new && !self.standing.is_empty(&mut self.host, folder)? {
             return Ok(());
         }
         if above == self.root.as_str() {

@@ -1,5 +1,5 @@
-//! A file of each folder in which this process met one. While it stands there the folder isn't empty, and one look
-//! shows that; to read the folder takes far longer where it has many names.
+//! Of each folder the last file that this process read or put in it. While it stands there the folder isn't empty, and
+//! one look shows that; to read the folder takes far longer where it has many names.
 
 use crate::host::Host;
 use crate::look::kind_at;
@@ -9,31 +9,29 @@ use std::alloc::{AllocError, Global};
 use std::collections::BTreeMap;
 
 /// Such files by their folders, each by where it stands in the file system.
-pub(crate) struct Met {
+pub(crate) struct Standing {
     files: BTreeMap<String, String>,
 }
 
-impl Drop for Met {
+impl Drop for Standing {
     fn drop(self) {
-        let Met { files } = self;
+        let Standing { files } = self;
     }
 }
 
-impl Met {
+impl Standing {
     /// No file.
-    pub(crate) fn new(alloc: Global) -> Met {
-        Met {
+    pub(crate) fn new(alloc: Global) -> Standing {
+        Standing {
             files: BTreeMap::new(alloc),
         }
     }
 
-    /// Keeps a file, unless one of its folder is kept.
+    /// Keeps a file, in the place of an older one of its folder, which may have gone.
     pub(crate) fn keep(&mut self, alloc: Global, file: &str) -> Result<(), AllocError> {
-        let folder = folder_of(file);
-        if self.files.get(folder).is_none() {
-            let file = String::from_str(alloc, file)?;
-            self.files.insert(String::from_str(alloc, folder)?, file)?;
-        }
+        let folder = String::from_str(alloc, folder_of(file))?;
+        let file = String::from_str(alloc, file)?;
+        self.files.insert(folder, file)?;
         Ok(())
     }
 
