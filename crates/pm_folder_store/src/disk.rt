@@ -233,7 +233,8 @@ impl<H: Host + Drop> Disk<H> {
     }
 
     /// The way to a folder of the store. What is neither a file nor a folder on it is a fault; a file ends it. What is
-    /// found on it shows that the store's own folder is there, which is looked at only where the way isn't whole.
+    /// found on it shows that the store's own folder is there: that one is looked at only where it is asked for itself,
+    /// or the way isn't whole.
     fn way(&mut self, alloc: Global, folder: &str) -> Result<Way, StoreFail> {
         let mut reached = String::from_str(alloc, self.root.as_str())?;
         if folder.is_empty() {

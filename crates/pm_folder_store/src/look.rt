@@ -46,7 +46,7 @@ pub(crate) fn read_at<H: Host>(
     }
 }
 
-/// Reads the rest of a file, a short one by one read.
+/// Reads the rest of a file, a short one by two reads: the second finds its end.
 fn read_rest<H: Host>(
     host: &mut H,
     file: &mut H::File,
