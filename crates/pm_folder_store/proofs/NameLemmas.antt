@@ -1,10 +1,15 @@
--- Names as texts, and names that are put to others one after another.
-use Rattle.std.proofs.Common.{◌≡◌, ◌++◌, ◌∷◌, [], ◌∙◌, ℕ, List, Bool, true, false, map, ap, refl, sym, append_assoc, append-nil}
+-- Names as texts, names that are put to others one after another, and names that are put in order.
+use Rattle.std.proofs.Common.{◌≡◌, ◌↔◌, ◌++◌, ◌∷◌, [], ◌∙◌, ℕ, List, Bool, Contains, true, false, map, ap, refl, subst, sym, append_assoc, append-nil}
 use Rattle.std.specs.Prelude.{if◌then◌else◌, IsUtf8}
 use Rattle.std.specs.Str.{is_utf8}
 use Rattle.std.proofs.lemmas.Str.{IsUtf8-from_is_utf8, is_utf8-from_IsUtf8}
 use Rattle.std.specs.Borrow.{Bor}
-use Rattle.std.specs.List.{flat_map}
+use Rattle.std.specs.Cmp.Lexicographic.{bytes_decides, nat_list_eq_equiv, pointwise}
+use Rattle.std.specs.List.{dedup, flat_map}
+use Rattle.std.specs.List.Sorted.{IsPermutation}
+use Rattle.std.proofs.Math.Dec.{eqb}
+use Rattle.std.proofs.lemmas.List.Kept.{Contains-dedup, Contains-from_dedup}
+use Rattle.std.proofs.lemmas.List.Sorted.{Contains-permutation, IsPermutation-sym}
 use Rattle.pm_folder_store.specs.Names.{name_of, readable}
 
 -- a name in UTF-8 is its own text
@@ -36,3 +41,13 @@ one_more parts part before now later is put =
     put ∙ ap (λ names. names ++ name_of part.now) is
     ∙ append_assoc before (flat_map name_of (map (λ x. x.now) parts)) (name_of part.now)
     ∙ ap (λ names. before ++ names) (sym (last_more parts part))
+
+-- names that are put in order, each once, are the same names
+pub same_names : (names sorted once : List (List ℕ)) → IsPermutation names sorted → once ≡ dedup (pointwise eqb) sorted → (name : List ℕ)
+    → Contains once name ↔ Contains names name
+same_names names sorted once moved is name = (
+  λ has. Contains-permutation sorted names name (IsPermutation-sym names sorted moved)
+      (Contains-from_dedup (pointwise eqb) sorted name (subst (λ (xs : List (List ℕ)). Contains xs name) is has)),
+  λ has. subst (λ (xs : List (List ℕ)). Contains xs name) (sym is)
+      (Contains-dedup nat_list_eq_equiv (λ x y same. (bytes_decides x y).0 same) sorted name (Contains-permutation names sorted name moved has)),
+)

@@ -1,7 +1,7 @@
 //! The names that a listing of a folder shows. One that isn't UTF-8 is passed over, as is one that no file of the
 //! store can have.
 
-ghost use Rattle.std.specs.Prelude.{IfOk, OnOk};
+ghost use Rattle.std.specs.Prelude.{◌↔◌, ℕ, List, Contains, IfOk, OnOk};
 ghost use Rattle.std.specs.Cmp.Lexicographic.{slice_cmp};
 ghost use Rattle.std.specs.List.Sorted.{IsStrictlySortedBy};
 ghost use Rattle.std.specs.Ordering.{nat_cmp};
@@ -51,7 +51,8 @@ fn unordered<H: Host>(
 
 /// Puts names in order, each once.
 fn put_in_order(names: &mut Vec<Txt>) -> Result<(), AllocError>
-    ensures { OnOk result (IsStrictlySortedBy (slice_cmp nat_cmp) names.new.items) }
+    ensures order { OnOk result (IsStrictlySortedBy (slice_cmp nat_cmp) names.new.items) }
+    ensures same { OnOk result ((name : List ℕ) → Contains names.new.items name ↔ Contains names.old.items name) }
 {
     names.sort()?;
     names.dedup();
