@@ -28,7 +28,7 @@ not_shown : (at : Option ℕ) (own : List Event) (snapshot : Option ℕ) → Did
 not_shown at own snapshot (inl shows) = shows
 not_shown at own snapshot (inr (inl (s, why, has))) = schema_not s snapshot why
 not_shown at own snapshot (inr (inr (s, built, (earlier, later, has, is, inl shows)))) = shows
-not_shown at own snapshot (inr (inr (s, built, (earlier, later, has, is, inr shows)))) = shows
+not_shown at own snapshot (inr (inr (s, built, (earlier, later, has, is, inr (v, shows))))) = shows.so
 
 none_named : (at : Option ℕ) (made : Result (List ℕ) Refusal) (own : List Event) (before after : SinkView) (snapshot : Option ℕ) → DidScan at made own
     → Prints (text_of made) None (result_err made) before after (Some (refusals.SinkFault snapshot)) → snapshot ≡ None

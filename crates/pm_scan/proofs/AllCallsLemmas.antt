@@ -1,6 +1,7 @@
 -- All calls of a scanner, and what they say where nobody else acts.
 use Rattle.std.proofs.Common.{◌≡◌, ◌≢◌, ◌⊎◌, inl, inr, ℕ, ◌<◌, ◌≤◌, List, [], ◌∷◌, ◌++◌, length, take, Option, None, Some, IfSome, IsSome, Result, Ok, Err, IfErr, Vec, refl, sym, ap, subst, ◌∙◌, arith, append_assoc, append-nil}
 use Rattle.std.specs.FinMap as map
+use Rattle.std.specs.List.{AllByRecursion}
 use Rattle.std.specs.Global.{Global}
 use Rattle.pm_base.specs.Faults.{Rose}
 use Rattle.pm_values.specs.declared.group.Group.{Group}
@@ -19,97 +20,75 @@ use Rattle.pm_schema.specs.declared.schema.TableSchema.{TableSchema}
 use Rattle.pm_engine.specs.OfSchema.{meaning_of}
 use Rattle.pm_scan_rows.specs.Shown.{PrintsGroups}
 use Rattle.pm_model_contents.specs.Groups.{GroupRuns}
-use Rattle.pm_model_contents.specs.Runs.{data_path}
 use Rattle.pm_model_folder.specs.Folder.{Folder, HasTable}
 use Rattle.pm_model_folder.specs.Ledger.{count_of}
 use Rattle.pm_model_folder.specs.Meaning.{HasSnapshotAt}
-use Rattle.pm_model_folder.specs.Paths.{origin_path, snapshot_folder, snapshot_path}
+use Rattle.pm_model_folder.specs.Paths.{origin_path, snapshot_folder}
 use Rattle.pm_model_folder.specs.Stored.{HasGroup}
 use Rattle.pm_model_folder.proofs.Facts.{newest-there}
 use Rattle.pm_paths.proofs.ListedLemmas.{latest_is}
 use Rattle.pm_read_schema.proofs.AllCallsLemmas as schema
-use Rattle.pm_read_schema.proofs.AllCallsLemmas.{read_still}
-use Rattle.pm_read_schema.proofs.StillLemmas.{AreStill, AreTold, ended_still, failed_still, stayed, told_last}
+use Rattle.pm_read_schema.proofs.StillLemmas.{AreStill, AreTold, ended_still, failed_still, stayed}
 use Rattle.pm_read_table.specs.Asked.{Asked, ListsFirst}
 use Rattle.pm_read_table.specs.Reader.{IsAbove, IsAsked}
 use Rattle.pm_read_table.specs.Trace as reader
-use Rattle.pm_read_table.specs.Trace.{HasView, of_origin, of_snapshot, read_file}
+use Rattle.pm_read_table.specs.Trace.{HasView, of_origin, of_snapshot}
 use Rattle.pm_read_table.specs.declared.phase.Phase.TheVariants as readers
 use Rattle.pm_read_table.specs.declared.view.View.{View}
 use Rattle.pm_read_table.proofs.Facts as reader_facts
 use Rattle.pm_scan.specs.AllCalls.{DidScan, Ends, Has, IsCaused, IsThere, PrintsScan, ScansTables, asked_at, id_of, path_of, wanted_of}
-use Rattle.pm_scan.specs.Collected.{Collected, RefusesFile, nothing_of}
-use Rattle.pm_scan.specs.Jobs.{all_jobs, job_of}
-use Rattle.pm_scan.specs.Meaning.{HaveTaken}
+use Rattle.pm_group_files.specs.Collected.{Collected, HaveTaken, nothing_of, with_groups}
+use Rattle.pm_group_files.specs.Jobs.{all_jobs}
+use Rattle.pm_group_files.specs.Meaning.{HasRuns}
+use Rattle.pm_group_files.specs.Trace as files_trace
+use Rattle.pm_group_files.specs.declared.job.Job.{Job}
+use Rattle.pm_group_files.proofs.StillLemmas as files_still
+use Rattle.pm_group_files.proofs.TakenLemmas.{taken-schema}
+use Rattle.pm_scan.specs.Meaning.{all_of}
 use Rattle.pm_scan.specs.Scanner.{next_call, calls_left, IsReady}
-use Rattle.pm_scan.specs.Trace.{HaveRead, HasPart, FindsNext, LacksFile, ReadsAgain, HasScan, DidSoFar, MayTakeMemory, Misreads, IsDamaged, ShowsOfFiles, Shows, Did}
-use Rattle.pm_scan.specs.declared.job.Job.{Job}
+use Rattle.pm_scan.specs.Trace.{AfterView, HasScan, DidSoFar, MayTakeMemory, ShowsOfFiles, Shows, Did}
 use Rattle.pm_scan.specs.declared.phase.Phase.{Phase}
 use Rattle.pm_scan.specs.declared.phase.Phase.TheVariants as phases
-use Rattle.pm_scan.proofs.KnownLemmas.{taken-schema}
-use Rattle.pm_scan.proofs.NextLemmas.{FollowsOn, next-group}
-use Rattle.pm_scan.proofs.ScanLemmas.{each-own}
-use Rattle.pm_scan.proofs.TakenLemmas.{Laws, file-refused}
-use Rattle.pm_scan.proofs.ViewCallsLemmas.{FailsLast, ViewLaws, absent_gone, asked_up_to, committed, entries_of, live_of_part, part_at, path_is, reads_at, still_join, still_more, told_join, view_damaged_at, view_did_still, view_gone_at, view_misreads_at, view_shows_still, view_still}
+use Rattle.pm_scan.proofs.ScanLemmas.{Laws, all-have, each-own}
+use Rattle.pm_scan.proofs.ViewCallsLemmas.{FailsLast, ViewLaws, absent_gone, asked_up_to, committed, entries_of, live_of_part, part_at, path_is, reads_at, still_join, told_join, view_damaged_at, view_did_still, view_gone_at, view_misreads_at, view_shows_still, view_still}
 use Rattle.pm_scan.proofs.ViewLemmas.{no-groups, scanned-origin, scanned-view}
 
 -- ---- they change nothing, and the first lists the schemas
 
-files_still : (jobs : List Job) (old new : Collected) (own : List Event) → HaveRead jobs old new own → AreStill own
-files_still [] old new own (same, is) = subst AreStill (sym is) tt
-files_still (job ∷ jobs) old new own (bytes, middle, events, takes, is, rest) =
-    subst AreStill (sym is) (read_still job.path, files_still jobs middle new events rest)
-
-part_still : (a : Asked) (v : View) (c : Collected) (rest : List Job) (own : List Event) → HasPart a v c rest own → AreStill own
-part_still a v c rest own part =
-    subst AreStill (sym part.is) (still_join part.first part.reads (view_still a v part.first part.viewed) (files_still part.done (nothing_of v.schema) c part.reads part.read))
-
-next_still : (a : Asked) (v : View) (c : Collected) (job : Job) (rest : List Job) (found : Option (List ℕ)) (own : List Event) → FindsNext a v c job rest found own → AreStill own
-next_still a v c job rest found own (earlier, part, is) =
-    still_more earlier own (read_file job.path found) is (part_still a v c (job ∷ rest) earlier part) (read_still job.path)
-
-lacks_still : (a : Asked) (id : ℕ) (path : List ℕ) (own : List Event) → LacksFile a id path own → AreStill own
-lacks_still a id path own lacks = next_still a lacks.view lacks.collected lacks.job lacks.rest None own lacks.absent
-
-again_still : (a : Asked) (id : ℕ) (path : List ℕ) (found : Option (List ℕ)) (own : List Event) → ReadsAgain a id path found own → AreStill own
-again_still a id path found own (earlier, lacks, is) =
-    still_more earlier own (read_file (snapshot_path id) found) is (lacks_still a id path earlier lacks) (read_still (snapshot_path id))
+-- the view was read, and what came after that changes nothing either
+after_still : (a : Asked) (v : View) (P : List Event → Type 0) (own : List Event) → ((reads : List Event) → P reads → AreStill reads) → AfterView a v P own → AreStill own
+after_still a v P own still after = subst AreStill (sym after.is) (still_join after.first after.reads (view_still a v after.first after.viewed) (still after.reads after.so))
 
 call_still : (m : Phase) (f : Files) → IfSome (next_call m) (Spares f)
 call_still (phases.View r) f = reader_facts.spares r f
-call_still (phases.Files r) f = λ effect. read_still r.next.path f effect
-call_still (phases.Again id path) f = λ effect. read_still (snapshot_path id) f effect
+call_still (phases.Files id r) f = files_still.call_still r f
 call_still (phases.Ready id text) f = tt
 call_still phases.Over f = tt
 
+scan_still : (a : Asked) (id : ℕ) (text : List ℕ) (own : List Event) → HasScan a id text own → AreStill own
+scan_still a id text own scan =
+    after_still a scan.view (files_trace.HasPart (all_of scan.view) scan.collected []) own
+    (λ reads part. files_still.part_still (all_of scan.view) scan.collected [] reads part) scan.all_read
+
 so_far_still : (a : Asked) (m : Phase) (own : List Event) → IsSome (next_call m) → DidSoFar a m own → AreStill own
 so_far_still a (phases.View r) own called did = view_did_still a r own called did
-so_far_still a (phases.Files r) own called (v, same, part) = part_still a v r.collected (r.next ∷ r.rest) own part
-so_far_still a (phases.Again id path) own called lacks = lacks_still a id path own lacks
-so_far_still a (phases.Ready id text) own called scan = part_still a scan.view scan.collected [] own scan.all_read
+so_far_still a (phases.Files id r) own called (v, same, did) =
+    after_still a v (files_trace.DidSoFar (all_of v) r) own (λ reads did. files_still.so_far_still (all_of v) r reads did) did
+so_far_still a (phases.Ready id text) own called scan = scan_still a id text.items own scan
 so_far_still a phases.Over own called did = absurd did
-
-misreads_still : (a : Asked) (refusal : Refusal) (own : List Event) → Misreads a refusal own → AreStill own
-misreads_still a refusal own (v, c, job, rest, bytes, refuses, finds) = next_still a v c job rest (Some bytes) own finds
-
-damaged_still : (a : Asked) (path : List ℕ) (place : ℕ) (own : List Event) → IsDamaged a path place own → AreStill own
-damaged_still a path place own (inl (first, id, bytes, again)) = again_still a id path (Some bytes) own again
-damaged_still a path place own (inr misreads) = misreads_still a (refusals.Damaged path place) own misreads
 
 files_shows_still : (a : Asked) (refusal : Refusal) (own : List Event) → ShowsOfFiles a refusal own → AreStill own
 files_shows_still a refusals.Memory own ends = ended_still next_call (DidSoFar a) MayTakeMemory call_still (so_far_still a) own ends
 files_shows_still a (refusals.StoreFault path) own failed = failed_still next_call (DidSoFar a) MayTakeMemory call_still (so_far_still a) path own failed
-files_shows_still a (refusals.Expired id) own (path, again) = again_still a id path None own again
-files_shows_still a (refusals.Damaged path place) own shows = damaged_still a path place own shows
-files_shows_still a (refusals.Unsupported what text) own shows = misreads_still a (refusals.Unsupported what text) own shows
-files_shows_still a other own shows = absurd shows
+files_shows_still a other own (v, after) =
+    after_still a v (files_trace.Shows (all_of v) other) own (λ reads shows. files_still.shows_still (all_of v) other reads shows) after
 
 shows_still : (a : Asked) (refusal : Refusal) (own : List Event) → Shows a refusal own → AreStill own
 shows_still a refusal own (inl shows) = view_shows_still a refusal own shows
 shows_still a refusal own (inr shows) = files_shows_still a refusal own shows
 
 ends_still : (a : Asked) (result : Result (List ℕ) Refusal) (own : List Event) → Ends a result own → AreStill own
-ends_still a (Ok text) own (id, scan) = part_still a scan.view scan.collected [] own scan.all_read
+ends_still a (Ok text) own (id, scan) = scan_still a id text own scan
 ends_still a (Err refusal) own shows = shows_still a refusal own shows
 
 did_still : (s : TableSchema) (at : Option ℕ) (result : Result (List ℕ) Refusal) (own : List Event) → DidScan s at result own → AreStill own
@@ -155,77 +134,53 @@ module _ (laws : AllLaws) (f : Files) (s : TableSchema) (entries : List Entry) (
   abbrev a : Asked
   a = asked_at s at
 
-  files_at : (jobs : List Job) (old new : Collected) (own : List Event) → HaveRead jobs old new own → AreTold f own → HaveTaken f jobs old new
-  files_at [] old new own (same, is) told = same
-  files_at (job ∷ jobs) old new own (bytes, middle, events, takes, is, rest) told =
-      let parts : (Some bytes ≡ map.get f job.path) × AreTold f events = subst (AreTold f) is told in
-      (bytes, middle, sym parts.0, takes, files_at jobs middle new events rest parts.1)
+  -- ---- the groups of a view are there
 
-  halves : (v : View) (c : Collected) (rest : List Job) (own : List Event) → (part : HasPart a v c rest own) → AreTold f own → AreTold f part.first × AreTold f part.reads
-  halves v c rest own part told = told_join f part.first part.reads (subst (AreTold f) part.is told)
+  halves : (v : View) (P : List Event → Type 0) (own : List Event) → (after : AfterView a v P own) → AreTold f own → AreTold f after.first × AreTold f after.reads
+  halves v P own after told = told_join f after.first after.reads (subst (AreTold f) after.is told)
 
-  taken_at : (v : View) (c : Collected) (rest : List Job) (own : List Event) → (part : HasPart a v c rest own) → AreTold f own → HaveTaken f part.done (nothing_of v.schema) c
-  taken_at v c rest own part told = files_at part.done (nothing_of v.schema) c part.reads part.read (halves v c rest own part told).1
-
-  -- ---- the next file is there
-
-  follows_in : (v : View) (c : Collected) (job : Job) (rest : List Job) (own : List Event) → (part : HasPart a v c (job ∷ rest) own) → HaveTaken f part.done (nothing_of v.schema) c
-      → HasView a v part.first → AreTold f part.first → (v.schema ≡ s) × FollowsOn f s job c
-  follows_in v c job rest own part taken (of_origin bytes view reads) told =
-      let none : all_jobs v.schema v.groups.entries ≡ [] = ap (all_jobs v.schema) (no-groups v.groups.entries view.groups) in
-      absurd (no_more part.done job rest (sym none ∙ part.parts))
-    where
-      no_more : (done : List Job) (job : Job) (rest : List Job) → [] ≡ done ++ job ∷ rest → ⊥
-      no_more [] job rest e = cc
-      no_more (first ∷ done) job rest e = cc
-  follows_in v c job rest own part taken (of_snapshot x metas es live read left view) told =
+  groups_at : (v : View) (own : List Event) → HasView a v own → AreTold f own → (v.schema ≡ s) × AllByRecursion (HasRuns f v.schema) v.groups.entries
+  groups_at v own (of_origin bytes view reads) told =
+      (view.schema, subst (AllByRecursion (HasRuns f v.schema)) (sym (no-groups v.groups.entries view.groups)) tt)
+  groups_at v own (of_snapshot x metas es live read left view) told =
       let w = wanted_of at in
-      let p = part_at laws.views f s entries folder w (begins at) x metas [] es part.first read told in
+      let p = part_at laws.views f s entries folder w (begins at) x metas [] es own read told in
       let is = committed laws.views f s entries folder w (begins at) x p.at in
       let same = live_of_part laws.views f s entries folder w (begins at) x metas es live p left in
       let has : (g : Group) → HasGroup f s (take x.id entries) x.id live g = λ g. subst (λ l. HasGroup f s (take x.id entries) x.id l g) same (is.groups g) in
       let each = each-own live v.groups.entries view.order (λ g runs found. subst (GroupRuns live g) found (view.groups g)) in (
         view.schema,
-        next-group laws.scans f s (take x.id entries) x.id live has v.groups.entries [] part.done job rest c each
-            (subst (λ (t : TableSchema). all_jobs t v.groups.entries ≡ part.done ++ job ∷ rest) view.schema part.parts)
-            (subst (λ (t : TableSchema). HaveTaken f part.done (nothing_of t) c) view.schema taken),
+        subst (λ (t : TableSchema). AllByRecursion (HasRuns f t) v.groups.entries) (sym view.schema) (all-have laws.scans f s (take x.id entries) x.id live has v.groups.entries each),
       )
 
-  follows_at : (v : View) (c : Collected) (job : Job) (rest : List Job) (found : Option (List ℕ)) (own : List Event) → FindsNext a v c job rest found own → AreTold f own
-      → (c.schema ≡ s) × FollowsOn f s job c × (found ≡ map.get f job.path)
-  follows_at v c job rest found own (earlier, part, is) told =
-      let parts = told_last f earlier (read_file job.path found) (subst (AreTold f) is told) in
-      let taken = taken_at v c (job ∷ rest) earlier part parts.0 in
-      let follows = follows_in v c job rest earlier part taken part.viewed (halves v c (job ∷ rest) earlier part parts.0).0 in
-      (taken-schema f part.done (nothing_of v.schema) c taken ∙ follows.0, follows.1, parts.1)
+  -- so no refusal comes of its files
+  unsupported_not : (what text : List ℕ) → refusals.Unsupported what text ≢ refusals.Memory
+  unsupported_not what text e = cc
 
-  lacks_at : (id : ℕ) (path : List ℕ) (own : List Event) → LacksFile a id path own → AreTold f own → ⊥
-  lacks_at id path own lacks told =
-      let got = follows_at lacks.view lacks.collected lacks.job lacks.rest None own lacks.absent told in
-      let n = got.1 in
-      some_gone (map.get f (data_path s n.group n.file.name)) n.has.bytes n.has.there (got.2 ∙ ap (λ (job : Job). map.get f job.path) n.is)
+  expired_at : (v : View) (id : ℕ) (own : List Event) → AfterView a v (files_trace.Shows (all_of v) (refusals.Expired id)) own → AreTold f own → ⊥
+  expired_at v id own after told =
+      let parts = halves v (files_trace.Shows (all_of v) (refusals.Expired id)) own after told in
+      files_still.again_at laws.scans.rows f (all_of v) (groups_at v after.first after.viewed parts.0).1 id after.so.0 None after.reads after.so.1 parts.1
 
-  again_at : (id : ℕ) (path : List ℕ) (found : Option (List ℕ)) (own : List Event) → ReadsAgain a id path found own → AreTold f own → ⊥
-  again_at id path found own (earlier, lacks, is) told =
-      lacks_at id path earlier lacks (told_last f earlier (read_file (snapshot_path id) found) (subst (AreTold f) is told)).0
+  unsupported_at : (v : View) (what text : List ℕ) (own : List Event) → AfterView a v (files_trace.Shows (all_of v) (refusals.Unsupported what text)) own → AreTold f own → ⊥
+  unsupported_at v what text own after told =
+      let parts = halves v (files_trace.Shows (all_of v) (refusals.Unsupported what text)) own after told in
+      files_still.misreads_at laws.scans.rows f (all_of v) (groups_at v after.first after.viewed parts.0).1 (refusals.Unsupported what text) after.reads (unsupported_not what text)
+      after.so parts.1
 
-  misreads_at : (refusal : Refusal) (own : List Event) → refusal ≢ refusals.Memory → Misreads a refusal own → AreTold f own → ⊥
-  misreads_at refusal own other (v, c, job, rest, bytes, refuses, finds) told =
-      let got = follows_at v c job rest (Some bytes) own finds told in
-      let n = got.1 in
-      let of_table : RefusesFile s job bytes c.rows refusal = subst (λ (t : TableSchema). RefusesFile t job bytes c.rows refusal) got.0 refuses in
-      let of_file : RefusesFile s (job_of s n.group n.end n.file) bytes c.rows refusal = subst (λ (j : Job). RefusesFile s j bytes c.rows refusal) n.is of_table in
-      other (file-refused laws.scans.rows f s n.group n.file n.own n.end bytes c.rows refusal n.has
-      (sym (got.2 ∙ ap (λ (job : Job). map.get f job.path) n.is)) n.rising of_file)
+  damaged_at : (v : View) (path : List ℕ) (place : ℕ) (own : List Event) → AfterView a v (files_trace.Shows (all_of v) (refusals.Damaged path place)) own → AreTold f own → ⊥
+  damaged_at v path place own after told =
+      let parts = halves v (files_trace.Shows (all_of v) (refusals.Damaged path place)) own after told in
+      files_still.damaged_at laws.scans.rows f (all_of v) (groups_at v after.first after.viewed parts.0).1 path place after.reads after.so parts.1
 
   -- ---- the text
 
-  view_text : (v : View) (c : Collected) (text : List ℕ) (own : List Event) → (part : HasPart a v c [] own) → HaveTaken f (all_jobs v.schema v.groups.entries) (nothing_of v.schema) c
-      → PrintsGroups (meaning_of v.schema) c.groups text → HasView a v part.first → AreTold f part.first
+  view_text : (v : View) (c : Collected) (text : List ℕ) (first : List Event) → HaveTaken f (all_jobs v.schema v.groups.entries) (nothing_of v.schema) c
+      → PrintsGroups (meaning_of v.schema) c.groups text → HasView a v first → AreTold f first
       → IsAsked (wanted_of at) (length entries) v.id × IsSome (map.get f (path_of s v.id)) × (text ≡ scan_text s (rows_up_to entries v.id))
-  view_text v c text own part taken prints (of_origin bytes view reads) told =
+  view_text v c text first taken prints (of_origin bytes view reads) told =
       let w = wanted_of at in
-      let origin = reads_at laws.views f s entries folder w (begins at) 0 (origin_path s) (Some bytes) part.first reads told in (
+      let origin = reads_at laws.views f s entries folder w (begins at) 0 (origin_path s) (Some bytes) first reads told in (
         subst (IsAsked w (length entries)) (sym view.id) origin.0,
         subst (λ (id : ℕ). IsSome (map.get f (path_of s id))) (sym view.id) (some_there f (origin_path s) bytes (sym origin.1)),
         scanned-origin laws.scans f s entries v.groups.entries c text declared view.groups
@@ -233,9 +188,9 @@ module _ (laws : AllLaws) (f : Files) (s : TableSchema) (entries : List Entry) (
             (subst (λ (t : TableSchema). PrintsGroups (meaning_of t) c.groups text) view.schema prints)
             ∙ ap (λ (id : ℕ). scan_text s (rows_up_to entries id)) (sym view.id),
       )
-  view_text v c text own part taken prints (of_snapshot x metas es live read left view) told =
+  view_text v c text first taken prints (of_snapshot x metas es live read left view) told =
       let w = wanted_of at in
-      let p = part_at laws.views f s entries folder w (begins at) x metas [] es part.first read told in
+      let p = part_at laws.views f s entries folder w (begins at) x metas [] es first read told in
       let is = committed laws.views f s entries folder w (begins at) x p.at in (
         subst (IsAsked w (length entries)) (sym view.id) p.at.asked,
         subst (λ (id : ℕ). IsSome (map.get f (path_of s id))) (sym view.id)
@@ -252,14 +207,15 @@ module _ (laws : AllLaws) (f : Files) (s : TableSchema) (entries : List Entry) (
       → IsThere f s (table s entries) (id_of at (length entries)) × PrintsScan (table s entries) at text
   text_at id text own scan told =
       let v = scan.view in
-      let c = scan.collected in
-      let part = scan.all_read in
-      let read = taken_at v c [] own part told in
-      let taken : HaveTaken f (all_jobs v.schema v.groups.entries) (nothing_of v.schema) c =
-      subst (λ (jobs : List Job). HaveTaken f jobs (nothing_of v.schema) c) (sym (part.parts ∙ append-nil part.done)) read in
-      let prints : PrintsGroups (meaning_of v.schema) c.groups text =
-      subst (λ (t : TableSchema). PrintsGroups (meaning_of t) c.groups text) (taken-schema f part.done (nothing_of v.schema) c read) scan.prints in
-      let got = view_text v c text own part taken prints part.viewed (halves v c [] own part told).0 in
+      let after = scan.all_read in
+      let whole = with_groups [] scan.collected in
+      let parts = halves v (files_trace.HasPart (all_of v) scan.collected []) own after told in
+      let read = files_still.taken_at f (all_of v) scan.collected [] after.reads after.so parts.1 in
+      let taken : HaveTaken f (all_jobs v.schema v.groups.entries) (nothing_of v.schema) whole =
+      subst (λ (jobs : List Job). HaveTaken f jobs (nothing_of v.schema) whole) (sym (after.so.parts ∙ append-nil after.so.done)) read in
+      let prints : PrintsGroups (meaning_of v.schema) whole.groups text =
+      subst (λ (t : TableSchema). PrintsGroups (meaning_of t) whole.groups text) (taken-schema f after.so.done (nothing_of v.schema) whole read) scan.prints in
+      let got = view_text v whole text after.first taken prints after.viewed parts.0 in
       let same : v.id ≡ id_of at (length entries) = asked_id at (length entries) v.id got.0 in (
         (
           subst (λ (id : ℕ). id ≤ length entries) same (asked_up_to (wanted_of at) (length entries) v.id got.0),
@@ -273,12 +229,6 @@ module _ (laws : AllLaws) (f : Files) (s : TableSchema) (entries : List Entry) (
   asked_gone : (at : Option ℕ) (id : ℕ) → IsAsked (wanted_of at) (length entries) id → (HasSnapshotAt f s id → ⊥) → at ≡ Some id
   asked_gone None id is gone = absurd (gone (subst (HasSnapshotAt f s) (sym is) (newest-there f s entries folder)))
   asked_gone (Some asked) id (is, within) gone = ap Some (sym is)
-
-  unsupported_not : (what text : List ℕ) → refusals.Unsupported what text ≢ refusals.Memory
-  unsupported_not what text e = cc
-
-  damaged_not : (path : List ℕ) (place : ℕ) → refusals.Damaged path place ≢ refusals.Memory
-  damaged_not path place e = cc
 
   view_caused : (first after : StoreView) (refusal : Refusal) (own : List Event) → reader.Shows a refusal own → AreTold f own → (FailsLast own → Rose first.faults after.faults)
       → IsCaused f s (table s entries) at first after refusal
@@ -302,13 +252,10 @@ module _ (laws : AllLaws) (f : Files) (s : TableSchema) (entries : List Entry) (
       → IsCaused f s (table s entries) at first after refusal
   files_caused first after refusals.Memory own shows told rose = tt
   files_caused first after (refusals.StoreFault path) own shows told rose = rose (shows.earlier, shows.call, shows.is)
-  files_caused first after (refusals.Expired id) own (path, again) told rose = absurd (again_at id path None own again told)
-  files_caused first after (refusals.Damaged path place) own (inl (zero, id, bytes, again)) told rose = absurd (again_at id path (Some bytes) own again told)
-  files_caused first after (refusals.Damaged path place) own (inr misreads) told rose =
-      absurd (misreads_at (refusals.Damaged path place) own (damaged_not path place) misreads told)
-  files_caused first after (refusals.Unsupported what text) own shows told rose =
-      absurd (misreads_at (refusals.Unsupported what text) own (unsupported_not what text) shows told)
-  files_caused first after other own shows told rose = absurd shows
+  files_caused first after (refusals.Expired id) own (v, shows) told rose = absurd (expired_at v id own shows told)
+  files_caused first after (refusals.Damaged path place) own (v, shows) told rose = absurd (damaged_at v path place own shows told)
+  files_caused first after (refusals.Unsupported what text) own (v, shows) told rose = absurd (unsupported_at v what text own shows told)
+  files_caused first after other own (v, shows) told rose = absurd shows.so
 
   pub caused : (first after : StoreView) (refusal : Refusal) (own : List Event) → Shows a refusal own → AreTold f own → (FailsLast own → Rose first.faults after.faults)
       → IsCaused f s (table s entries) at first after refusal

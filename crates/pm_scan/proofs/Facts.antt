@@ -1,104 +1,110 @@
 -- A scanner keeps the laws of machines.
-use Rattle.std.proofs.Common.{◌≡◌, ◌⊎◌, inl, inr, ℕ, ◌<◌, ◌+◌, suc, List, [], ◌∷◌, ◌++◌, length, None, Some, IsSome, IfSome, refl, sym, ap, ◌∙◌, subst, arith, append_assoc}
-use Rattle.std.specs.BTreeMap.{IsOrdered}
-use Rattle.std.specs.FinMap as map
+use Rattle.std.proofs.Common.{◌≡◌, ◌⊎◌, inl, inr, ℕ, ◌<◌, ◌+◌, List, [], ◌∷◌, ◌++◌, Some, IsSome, IfSome, refl, sym, ap, ◌∙◌, subst, arith, append_assoc}
 use Rattle.std.proofs.lemmas.List.{append-nil}
 use Rattle.std.proofs.lemmas.Option.{IfSome_then}
-use Rattle.pm_values.specs.GroupOrder.{group_cmp}
 use Rattle.pm_values.specs.declared.refusal.Refusal.{Refusal}
 use Rattle.pm_values.specs.declared.refusal.Refusal.TheVariants as refusals
 use Rattle.pm_store.specs.declared.answer.Answer.{Answer}
-use Rattle.pm_store.specs.declared.answer.Answer.TheVariants as answers
 use Rattle.pm_store.specs.declared.call.Call.{Call}
-use Rattle.pm_store.specs.declared.call.Call.TheVariants as calls
 use Rattle.pm_store.specs.Answers.{Answers, MayAnswer}
 use Rattle.pm_store.specs.Files.{Files}
 use Rattle.pm_store.specs.Images.{MayLeave}
 use Rattle.pm_machine.specs.Moves.{IsKept, Sound}
 use Rattle.pm_machine.specs.Running.{Refuses, Stops}
-use Rattle.pm_machine.specs.Trace.{Event, Recounts, after_answer, answered}
+use Rattle.pm_machine.specs.Trace.{Event, Recounts, answered}
 use Rattle.pm_machine.proofs.PhaseFacts.{Spares, ended, image_spared, recounts_of, sound_of_spared}
-use Rattle.pm_model_history.specs.History.{IsTableOf}
-use Rattle.pm_schema.specs.declared.schema.TableSchema.{TableSchema}
 use Rattle.pm_engine.specs.OfSchema.{meaning_of}
 use Rattle.pm_scan_rows.specs.Shown.{PrintsGroups}
 use Rattle.pm_model_folder.specs.Changes.{Actor}
 use Rattle.pm_model_folder.specs.Ledger.{Advances, Past, Stands}
-use Rattle.pm_model_folder.specs.Paths.{snapshot_path}
 use Rattle.pm_model_folder.proofs.Facts.{goes_on}
-use Rattle.pm_read_schema.proofs.Facts.{read_effect}
 use Rattle.pm_read_table.specs.Asked.{Asked}
 use Rattle.pm_read_table.specs.Meaning as reader_meaning
-use Rattle.pm_read_table.specs.Meaning.{HasGone, IsViewIn}
 use Rattle.pm_read_table.specs.Reader as reader
 use Rattle.pm_read_table.specs.Reader.{most}
 use Rattle.pm_read_table.specs.Trace as reader_trace
-use Rattle.pm_read_table.specs.Trace.{HasView, read_file}
+use Rattle.pm_read_table.specs.Trace.{HasView}
 use Rattle.pm_read_table.specs.declared.phase.Phase as view_phase
 use Rattle.pm_read_table.specs.declared.phase.Phase.TheVariants as readers
 use Rattle.pm_read_table.specs.declared.view.View.{View}
 use Rattle.pm_read_table.proofs.Facts as reader_facts
-use Rattle.pm_read_table.proofs.Facts.{Joined, OneList, gone_still}
-use Rattle.pm_read_table.proofs.FaultLemmas.{IsFileFault}
+use Rattle.pm_read_table.proofs.Facts.{Joined, OneList}
 use Rattle.pm_read_table.proofs.WithinLemmas.{with_reader}
-use Rattle.pm_scan.specs.Collected.{Collected, Takes, nothing_of}
-use Rattle.pm_scan.specs.Jobs.{all_jobs}
-use Rattle.pm_scan.specs.Meaning.{HaveTaken, IsReadingOf, IsScan, Knows}
-use Rattle.pm_scan.specs.Reading.{ReadingView, reading_of}
-use Rattle.pm_scan.specs.Scanner.{next_call, calls_left, IsReady, IsScanner, GoesOn, AfterReader, Goes, Shown, Starts}
-use Rattle.pm_scan.specs.Trace.{HaveRead, HasPart, DidSoFar, MayTakeMemory, Misreads, ShowsOfFiles, Shows, Did}
-use Rattle.pm_scan.specs.declared.job.Job.{Job}
+use Rattle.pm_group_files.specs.Collected.{Collected, HaveTaken, nothing_of, with_groups}
+use Rattle.pm_group_files.specs.Jobs.{all_jobs}
+use Rattle.pm_group_files.specs.Meaning as files_meaning
+use Rattle.pm_group_files.specs.Meaning.{HasTaken, IsChosen}
+use Rattle.pm_group_files.specs.Reader as files
+use Rattle.pm_group_files.specs.Reader.{read_next}
+use Rattle.pm_group_files.specs.Trace as files_trace
+use Rattle.pm_group_files.specs.declared.job.Job.{Job}
+use Rattle.pm_group_files.specs.declared.phase.Phase as files_phase
+use Rattle.pm_group_files.specs.declared.phase.Phase.TheVariants as group_readers
+use Rattle.pm_group_files.proofs.Facts as files_facts
+use Rattle.pm_group_files.proofs.Facts.{next_ahead, next_known, part_none}
+use Rattle.pm_group_files.proofs.FaultLemmas.{IsOfFiles, damaged, expired, shown_as, unsupported}
+use Rattle.pm_group_files.proofs.ReadLemmas.{first-taken}
+use Rattle.pm_scan.specs.Meaning.{all_of, IsScan, IsTableView, Knows}
+use Rattle.pm_scan.specs.Scanner.{next_call, calls_left, AfterFiles, AfterReader, Goes, IsReady, IsScanner, Shown, Starts}
+use Rattle.pm_scan.specs.Trace.{AfterView, DidSoFar, MayTakeMemory, ShowsOfFiles, Shows, Did}
 use Rattle.pm_scan.specs.declared.phase.Phase.{Phase}
 use Rattle.pm_scan.specs.declared.phase.Phase.TheVariants as phases
-use Rattle.pm_scan.proofs.FaultLemmas.{refuses_fault}
-use Rattle.pm_scan.proofs.KeptLemmas.{reading-kept, scan-kept}
+use Rattle.pm_scan.proofs.FilesLemmas.{may_print, with_files}
+use Rattle.pm_scan.proofs.KeptLemmas.{scan-kept, table-view-kept}
 
 -- what the law of a view's files says
 pub record FileLaws : Type 0 where
-  pub first : (p : Past) (v : View) (job : Job) (jobs : List Job) → IsTableOf v.schema p.history → IsViewIn p v → IsOrdered group_cmp v.groups
-      → all_jobs v.schema v.groups.entries ≡ job ∷ jobs → IsReadingOf p (reading_of v.id (nothing_of v.schema) job jobs)
-  pub all : (f : Files) (p : Past) (v : View) → Stands f p → IsTableOf v.schema p.history → IsViewIn p v → IsOrdered group_cmp v.groups → (c : Collected) (text : List ℕ)
+  pub chosen : (f : Files) (p : Past) (v : View) (job : Job) (jobs : List Job) → Stands f p → IsTableView p v → all_jobs v.schema v.groups.entries ≡ job ∷ jobs → IsChosen p (all_of v)
+  pub all : (f : Files) (p : Past) (v : View) → Stands f p → IsTableView p v → (c : Collected) (text : List ℕ)
       → HaveTaken (p.stood v.id) (all_jobs v.schema v.groups.entries) (nothing_of v.schema) c → PrintsGroups (meaning_of c.schema) c.groups text → IsScan p v.id text
-  pub more : (f : Files) (p : Past) → Stands f p → (r : ReadingView) → IsReadingOf p r → (bytes : List ℕ) (c : Collected) (job : Job) (jobs : List Job)
-      → map.get f r.next.path ≡ Some bytes → Takes r.next bytes r.collected c → r.rest ≡ job ∷ jobs → IsReadingOf p (reading_of r.id c job jobs)
-  pub last : (f : Files) (p : Past) → Stands f p → (r : ReadingView) → IsReadingOf p r → (bytes : List ℕ) (c : Collected) (text : List ℕ)
-      → map.get f r.next.path ≡ Some bytes → Takes r.next bytes r.collected c → r.rest ≡ [] → PrintsGroups (meaning_of c.schema) c.groups text → IsScan p r.id text
-  pub gone : (f : Files) (p : Past) → Stands f p → (r : ReadingView) → IsReadingOf p r → map.get f r.next.path ≡ None → (s : TableSchema) × HasGone f p s r.id
 
 -- ---- its calls change nothing
 
 spares : (m : Phase) (f : Files) → IfSome (next_call m) (Spares f)
 spares (phases.View r) f = reader_facts.spares r f
-spares (phases.Files r) f = λ effect. read_effect r.next.path effect f
-spares (phases.Again id path) f = λ effect. read_effect (snapshot_path id) effect f
+spares (phases.Files id r) f = files_facts.spares r f
 spares (phases.Ready id text) f = tt
 spares phases.Over f = tt
 
 -- ---- what it knows
 
--- once the view is ready
-start_known : FileLaws → (v : View) (jobs : List Job) (new : Phase) (f : Files) (p : Past) → Stands f p → IsOrdered group_cmp v.groups → IsTableOf v.schema p.history
-    → IsViewIn p v → all_jobs v.schema v.groups.entries ≡ jobs → GoesOn v.id (nothing_of v.schema) jobs new → Knows new f p
-start_known laws v [] new f p stands order table is_view parts (text, prints, is) =
+-- all files were read, and this is what they print
+text_known : FileLaws → (f : Files) (p : Past) (v : View) (c : Collected) (text : List ℕ) → Stands f p → IsTableView p v → HasTaken p (all_of v) c []
+    → PrintsGroups (meaning_of c.schema) c.groups text → IsScan p v.id text
+text_known laws f p v c text stands is taken prints =
+    let jobs : all_jobs v.schema v.groups.entries ≡ taken.done = taken.parts ∙ append-nil taken.done in
+    laws.all f p v stands is (with_groups [] c) text
+    (subst (λ (jobs : List Job). HaveTaken (p.stood v.id) jobs (nothing_of v.schema) (with_groups [] c)) (sym jobs) taken.taken) prints
+
+-- with a reader of the view's files
+files_known : FileLaws → (f : Files) (p : Past) (v : View) (id : ℕ) (m : files_phase.Phase) (new : Phase) → Stands f p → IsTableView p v → id ≡ v.id
+    → AfterFiles id m new → files_meaning.Knows (all_of v) m f p → Knows new f p
+files_known laws f p v id m new stands is same after known =
+    with_files (λ (m : files_phase.Phase). files_meaning.Knows (all_of v) m f p) (Knows new f p) id m new after known
+    (λ none held. subst (λ (m : Phase). Knows m f p) (sym held) (v, same, is, known))
+    (λ c text taken prints printed. subst (λ (m : Phase). Knows m f p) (sym printed)
+        (subst (λ (id : ℕ). IsScan p id text.items) (sym same) (text_known laws f p v c text.items stands is taken prints)))
+
+-- the reader of a view's files where these are they: none at all, so that nothing is asked of the snapshot, or some
+first_known : FileLaws → (f : Files) (p : Past) (v : View) (jobs : List Job) (new : Phase) → Stands f p → IsTableView p v
+    → all_jobs v.schema v.groups.entries ≡ jobs → AfterFiles v.id (read_next v.id (nothing_of v.schema) jobs) new → Knows new f p
+first_known laws f p v [] new stands is parts (text, prints, printed) =
     let none : HaveTaken (p.stood v.id) (all_jobs v.schema v.groups.entries) (nothing_of v.schema) (nothing_of v.schema) =
     subst (λ (jobs : List Job). HaveTaken (p.stood v.id) jobs (nothing_of v.schema) (nothing_of v.schema)) (sym parts) refl in
-    subst (λ (m : Phase). Knows m f p) (sym is) (laws.all f p v stands table is_view order (nothing_of v.schema) text.items none prints)
-start_known laws v (job ∷ jobs) new f p stands order table is_view parts is =
-    subst (λ (m : Phase). Knows m f p) (sym is) (laws.first p v job jobs table is_view order parts)
+    subst (λ (m : Phase). Knows m f p) (sym printed) (laws.all f p v stands is (nothing_of v.schema) text.items none prints)
+first_known laws f p v (job ∷ jobs) new stands is parts after =
+    let chosen = laws.chosen f p v job jobs stands is parts in
+    let taken : HasTaken p (all_of v) (nothing_of v.schema) (job ∷ jobs) =
+    subst (HasTaken p (all_of v) (nothing_of v.schema)) parts (first-taken p (all_of v) chosen refl) in
+    files_known laws f p v v.id (read_next v.id (nothing_of v.schema) (job ∷ jobs)) new stands is refl after
+    (next_known (all_of v) v.id (nothing_of v.schema) (job ∷ jobs) f p refl taken)
 
 after_known : FileLaws → (to : view_phase.Phase) (new : Phase) (f : Files) (p : Past) → Stands f p → AfterReader to new → reader_meaning.Knows to f p → Knows new f p
 after_known laws to new f p stands after known =
     with_reader (λ m. phases.View m) Starts (λ m. reader_meaning.Knows m f p) (Knows new f p) to new after known
     (λ is. subst (λ (m : Phase). Knows m f p) (sym is) known)
-    (λ v viewed starts. start_known laws v (all_jobs v.schema v.groups.entries) new f p stands starts.0 viewed.0 viewed.1 refl starts.2)
-
--- once the next file was read
-file_known : FileLaws → (f : Files) (p : Past) → Stands f p → (r : ReadingView) → IsReadingOf p r → (bytes : List ℕ) (c : Collected) (jobs : List Job) (new : Phase)
-    → map.get f r.next.path ≡ Some bytes → Takes r.next bytes r.collected c → r.rest ≡ jobs → GoesOn r.id c jobs new → Knows new f p
-file_known laws f p stands r known bytes c [] new there takes rest (text, prints, is) =
-    subst (λ (m : Phase). Knows m f p) (sym is) (laws.last f p stands r known bytes c text.items there takes rest prints)
-file_known laws f p stands r known bytes c (job ∷ jobs) new there takes rest is =
-    subst (λ (m : Phase). Knows m f p) (sym is) (laws.more f p stands r known bytes c job jobs there takes rest)
+    (λ v viewed starts. first_known laws f p v (all_jobs v.schema v.groups.entries) new stands
+        (record { is_view = viewed.1; order = starts.0; table = viewed.0 }) refl starts.2)
 
 -- what an answer leads to is known of the same files
 knows_next : Joined → OneList → FileLaws → (m : Phase) (answer : Answer) (new : Phase) (f : Files) (p : Past) → Goes m answer new → Stands f p → Knows m f p
@@ -106,10 +112,9 @@ knows_next : Joined → OneList → FileLaws → (m : Phase) (answer : Answer) (
 knows_next law one laws (phases.View r) answer new f p (to, on, after) stands known =
     IfSome_then (reader.next_call r) (reader_facts.knows_next law one r answer to f p on stands known)
     (λ call next told. after_known laws to new f p stands after (next told))
-knows_next law one laws (phases.Files r) (answers.Found None) new f p is stands known = λ told.
-    subst (λ (m : Phase). Knows m f p) (sym is) (laws.gone f p stands r known (sym told))
-knows_next law one laws (phases.Files r) (answers.Found (Some bytes)) new f p (c, takes, on) stands known = λ told.
-    file_known laws f p stands r known bytes c r.rest new (sym told) takes refl on
+knows_next law one laws (phases.Files id r) answer new f p (to, on, after) stands (v, same, is, known) =
+    IfSome_then (files.next_call r) (files_facts.knows_next (all_of v) r answer to f p on stands known)
+    (λ call next told. files_known laws f p v id to new stands is same after (next told))
 knows_next law one laws m answer new f p goes stands known = absurd goes
 
 pub sound : Joined → OneList → FileLaws → Sound next_call Goes (Refuses Shown phases.Over) (Stops phases.Over) Stands (λ m. IsKept) Knows
@@ -117,75 +122,88 @@ sound law one laws = sound_of_spared next_call Goes Shown phases.Over Stands Kno
 
 -- ---- its calls
 
-read_push : (jobs : List Job) (job : Job) (old middle new : Collected) (bytes : List ℕ) (events : List Event) → HaveRead jobs old middle events → Takes job bytes middle new
-    → HaveRead (jobs ++ job ∷ []) old new (events ++ read_file job.path (Some bytes) ∷ [])
-read_push [] job old middle new bytes events (same, quiet) takes =
-    let event : Event = read_file job.path (Some bytes) in
-    (bytes, new, [], subst (λ (c : Collected). Takes job bytes c new) same takes, ap (λ (own : List Event). own ++ event ∷ []) quiet, (refl, refl))
-read_push (first ∷ jobs) job old middle new bytes events (own, here, rest, took, comes, more) takes =
-    let event : Event = read_file job.path (Some bytes) in
-    (own, here, rest ++ event ∷ [], took, ap (λ (own : List Event). own ++ event ∷ []) comes, read_push jobs job here middle new bytes rest more takes)
+-- all files were read
+whole_view : (a : Asked) (v : View) (c : Collected) (own : List Event) → AfterView a v (files_trace.DidSoFar (all_of v) (group_readers.Ready c)) own
+    → AfterView a v (files_trace.HasPart (all_of v) c []) own
+whole_view a v c own after = record { first = after.first; viewed = after.viewed; reads = after.reads; so = after.so; is = after.is }
 
--- one file more was read
-part_more : (a : Asked) (v : View) (c new : Collected) (job : Job) (rest : List Job) (bytes : List ℕ) (own : List Event) → HasPart a v c (job ∷ rest) own
-    → Takes job bytes c new → HasPart a v new rest (own ++ read_file job.path (Some bytes) ∷ [])
-part_more a v c new job rest bytes own part takes =
-    let event : Event = read_file job.path (Some bytes) in record {
-      first = part.first;
-      viewed = part.viewed;
-      done = part.done ++ job ∷ [];
-      parts = part.parts ∙ sym (append_assoc part.done (job ∷ []) rest);
-      reads = part.reads ++ event ∷ [];
-      read = read_push part.done job (nothing_of v.schema) c new bytes part.reads part.read takes;
-      is = ap (λ (own : List Event). own ++ event ∷ []) part.is ∙ append_assoc part.first part.reads (event ∷ []);
-    }
+-- with a reader of the view's files after these calls
+did_files : (a : Asked) (v : View) (id : ℕ) (m : files_phase.Phase) (new : Phase) (own : List Event) → id ≡ v.id → AfterFiles id m new
+    → AfterView a v (files_trace.DidSoFar (all_of v) m) own → Did a new own
+did_files a v id m new own same after did =
+    with_files (λ (m : files_phase.Phase). AfterView a v (files_trace.DidSoFar (all_of v) m) own) (Did a new own) id m new after did
+    (λ none held. subst (λ (m : Phase). Did a m own) (sym held) (v, same, did))
+    (λ c text all prints printed. subst (λ (m : Phase). Did a m own) (sym printed)
+        (record { view = v; collected = c; is_id = same; all_read = whole_view a v c own all; prints = prints }))
 
 -- none was read yet
-part_none : (a : Asked) (v : View) (own : List Event) → HasView a v own → HasPart a v (nothing_of v.schema) (all_jobs v.schema v.groups.entries) own
-part_none a v own viewed = record {
+none_read : (a : Asked) (v : View) (own : List Event) → HasView a v own
+    → AfterView a v (files_trace.DidSoFar (all_of v) (read_next v.id (nothing_of v.schema) (all_jobs v.schema v.groups.entries))) own
+none_read a v own viewed = record {
   first = own;
   viewed = viewed;
-  done = [];
-  parts = refl;
   reads = [];
-  read = (refl, refl);
+  so = first_did (all_jobs v.schema v.groups.entries) (part_none (all_of v) refl);
   is = sym (append-nil own);
 }
-
-did_on : (a : Asked) (v : View) (id : ℕ) (c : Collected) (jobs : List Job) (new : Phase) (own : List Event) → id ≡ v.id → GoesOn id c jobs new
-    → HasPart a v c jobs own → Did a new own
-did_on a v id c [] new own same (text, prints, is) part =
-    subst (λ (m : Phase). Did a m own) (sym is) (record { view = v; collected = c; is_id = same; all_read = part; prints = prints })
-did_on a v id c (job ∷ jobs) new own same is part = subst (λ (m : Phase). Did a m own) (sym is) (v, same, part)
+  where
+    first_did : (jobs : List Job) → files_trace.HasPart (all_of v) (nothing_of v.schema) jobs [] → files_trace.DidSoFar (all_of v) (read_next v.id (nothing_of v.schema) jobs) []
+    first_did [] part = part
+    first_did (job ∷ jobs) part = (refl, part)
 
 did_after : (a : Asked) (to : view_phase.Phase) (new : Phase) (own : List Event) → AfterReader to new → reader_trace.Did a to own → Did a new own
 did_after a to new own after did =
     with_reader (λ m. phases.View m) Starts (λ m. reader_trace.Did a m own) (Did a new own) to new after did
     (λ is. subst (λ (m : Phase). Did a m own) (sym is) did)
-    (λ v viewed starts. did_on a v v.id (nothing_of v.schema) (all_jobs v.schema v.groups.entries) new own refl starts.2 (part_none a v own viewed.0))
+    (λ v viewed starts. did_files a v v.id (read_next v.id (nothing_of v.schema) (all_jobs v.schema v.groups.entries)) new own refl starts.2
+        (none_read a v own viewed.0))
+
+-- one call more after the view was read
+one_more : (a : Asked) (v : View) (P Q : List Event → Type 0) (event : Event) (own : List Event) → (after : AfterView a v P own)
+    → (P after.reads → Q (after.reads ++ event ∷ [])) → AfterView a v Q (own ++ event ∷ [])
+one_more a v P Q event own after more = record {
+  first = after.first;
+  viewed = after.viewed;
+  reads = after.reads ++ event ∷ [];
+  so = more after.so;
+  is = ap (λ (own : List Event). own ++ event ∷ []) after.is ∙ append_assoc after.first after.reads (event ∷ []);
+}
+
+-- a reader of files that made calls so far, and isn't over
+as_did : (m : files_phase.Phase) (v : View) (own : List Event) → files_trace.DidSoFar (all_of v) m own → files_trace.Did (all_of v) m own
+as_did (group_readers.Files r) v own did = did
+as_did (group_readers.Again id path) v own did = did
+as_did (group_readers.Ready c) v own did = did
+as_did group_readers.Over v own did = absurd did
+
+-- it went on, so it isn't over
+as_so_far : (m : files_phase.Phase) (answer : Answer) (new : files_phase.Phase) (v : View) (own : List Event) → files.Goes m answer new → files_trace.Did (all_of v) new own
+    → files_trace.DidSoFar (all_of v) new own
+as_so_far m answer (group_readers.Files r) v own goes did = did
+as_so_far m answer (group_readers.Again id path) v own goes did = did
+as_so_far m answer (group_readers.Ready c) v own goes did = did
+as_so_far m answer group_readers.Over v own goes did = absurd (files_facts.goes_on_not_over m answer goes)
 
 went_on : Joined → (a : Asked) (m : Phase) (answer : Answer) (new : Phase) (own : List Event) → Goes m answer new → Did a m own
     → IfSome (next_call m) (λ call. MayAnswer call answer → Did a new (own ++ answered call answer ∷ []))
 went_on law a (phases.View r) answer new own (to, on, after) did =
     IfSome_then (reader.next_call r) ((reader_facts.recounts law a).went r to answer own on did)
     (λ call did may. did_after a to new (own ++ answered call answer ∷ []) after (did may))
-went_on law a (phases.Files r) (answers.Found None) new own is (v, same, part) = λ may.
-    subst (λ (m : Phase). Did a m (own ++ read_file r.next.path None ∷ [])) (sym is)
-    (record { view = v; collected = r.collected; job = r.next; rest = r.rest; is_id = same; is_path = refl; absent = (own, part, refl) })
-went_on law a (phases.Files r) (answers.Found (Some bytes)) new own (c, takes, on) (v, same, part) = λ may.
-    did_on a v r.id c r.rest new (own ++ read_file r.next.path (Some bytes) ∷ []) same on (part_more a v r.collected c r.next r.rest bytes own part takes)
+went_on law a (phases.Files id r) answer new own (to, on, after) (v, same, did) =
+    IfSome_then (files.next_call r) ((files_facts.recounts (all_of v)).went r to answer did.reads on (as_did r v did.reads did.so))
+    (λ call next may. did_files a v id to new (own ++ answered call answer ∷ []) same after
+        (one_more a v (files_trace.DidSoFar (all_of v) r) (files_trace.DidSoFar (all_of v) to) (answered call answer) own did
+        (λ so. as_so_far r answer to v (did.reads ++ answered call answer ∷ []) on (next may))))
 went_on law a m answer new own goes did = absurd goes
 
 shows_as : (a : Asked) (refusal defined : Refusal) (own : List Event) → refusal ≡ defined → ShowsOfFiles a defined own → Shows a refusal own
 shows_as a refusal defined own is shows = inr (subst (λ (e : Refusal). ShowsOfFiles a e own) (sym is) shows)
 
--- a file was refused so
-misread_as : (a : Asked) (refusal : Refusal) (own : List Event) → IsFileFault refusal → ShowsOfFiles a refusals.Memory own → Misreads a refusal own
-    → ShowsOfFiles a refusal own
-misread_as a refusals.Memory own fault ends bad = ends
-misread_as a (refusals.Damaged path place) own fault ends bad = inr bad
-misread_as a (refusals.Unsupported what text) own fault ends bad = bad
-misread_as a other own fault ends bad = absurd fault
+-- a refusal of the files is shown
+of_files : (a : Asked) (v : View) (refusal : Refusal) (own : List Event) → IsOfFiles refusal → AfterView a v (files_trace.Shows (all_of v) refusal) own → Shows a refusal own
+of_files a v refusal own (expired id) shows = inr (v, shows)
+of_files a v refusal own (damaged path place) shows = inr (v, shows)
+of_files a v refusal own (unsupported what text) shows = inr (v, shows)
 
 refused_on : Joined → (a : Asked) (m : Phase) (answer : Answer) (refusal : Refusal) (own : List Event) → Shown m answer refusal → Did a m own
     → IfSome (next_call m) (λ call. MayAnswer call answer → Shows a refusal (own ++ answered call answer ∷ []))
@@ -196,23 +214,24 @@ refused_on law a (phases.View r) answer refusal own (inl (is, v, engine, on)) di
 refused_on law a (phases.View r) answer refusal own (inr shown) did =
     IfSome_then (reader.next_call r) ((reader_facts.recounts law a).refused r readers.Over answer refusal own (shown, refl) did)
     (λ call shows may. inl (shows may).1)
-refused_on law a (phases.Files r) (answers.Found (Some bytes)) refusal own (inl is) did = λ may.
-    shows_as a refusal refusals.Memory _ is
-    (after_answer (phases.Files r) (calls.Read r.next.path) (answers.Found (Some bytes)) own did refl may tt refl)
-refused_on law a (phases.Files r) (answers.Found (Some bytes)) refusal own (inr bad) (v, same, part) = λ may.
-    inr (misread_as a refusal _ (refuses_fault r.collected.schema r.next bytes r.collected.rows refusal bad)
-    (after_answer (phases.Files r) (calls.Read r.next.path) (answers.Found (Some bytes)) own (v, same, part) refl may tt refl)
-    (v, r.collected, r.next, r.rest, bytes, bad, (own, part, refl)))
-refused_on law a (phases.Again id path) (answers.Found None) refusal own is lacks = λ may.
-    shows_as a refusal (refusals.Expired id) _ is (path, (own, lacks, refl))
-refused_on law a (phases.Again id path) (answers.Found (Some bytes)) refusal own is lacks = λ may.
-    shows_as a refusal (refusals.Damaged path 0) _ is (inl (refl, id, bytes, (own, lacks, refl)))
+refused_on law a (phases.Files id r) answer refusal own (inl (is, c, on)) did =
+    IfSome_then (files.next_call r)
+    (ended next_call (DidSoFar a) MayTakeMemory (phases.Files id r) (files.next_call r) answer own refl did (may_print r answer c on))
+    (λ call ends may. shows_as a refusal refusals.Memory (own ++ answered call answer ∷ []) is (ends may))
+refused_on law a (phases.Files id r) answer refusal own (inr shown) (v, same, did) = elim (shown_as r answer refusal shown) [
+  | inl memory ↦ IfSome_then (files.next_call r)
+      (ended next_call (DidSoFar a) MayTakeMemory (phases.Files id r) (files.next_call r) answer own refl (v, same, did) memory.1)
+      (λ call ends may. shows_as a refusal refusals.Memory (own ++ answered call answer ∷ []) memory.0 (ends may))
+  | inr fault ↦ IfSome_then (files.next_call r)
+      ((files_facts.recounts (all_of v)).refused r group_readers.Over answer refusal did.reads (shown, refl) (as_did r v did.reads did.so))
+      (λ call shows may. of_files a v refusal (own ++ answered call answer ∷ []) fault
+          (one_more a v (files_trace.DidSoFar (all_of v) r) (files_trace.Shows (all_of v) refusal) (answered call answer) own did (λ so. (shows may).1)))
+]
 refused_on law a m answer refusal own shown did = absurd shown
 
 so_far : (a : Asked) (m : Phase) (own : List Event) → IsSome (next_call m) → Did a m own → DidSoFar a m own
 so_far a (phases.View r) own called did = did
-so_far a (phases.Files r) own called did = did
-so_far a (phases.Again id path) own called did = did
+so_far a (phases.Files id r) own called did = did
 so_far a (phases.Ready id text) own called did = did
 so_far a phases.Over own called did = absurd (let clash = called in cc)
 
@@ -226,16 +245,17 @@ recounts law a = recounts_of next_call Goes Shown phases.Over (DidSoFar a) (Did 
 abbrev IsAhead : ℕ → Phase → Type 0
 IsAhead n m = (calls_left m < n) × (IsReady m ⊎ (0 < calls_left m))
 
-on_ahead : (id : ℕ) (c : Collected) (jobs : List Job) (new : Phase) (n : ℕ) → length jobs + 1 < n → GoesOn id c jobs new → IsAhead n new
-on_ahead id c [] new n below (text, prints, is) =
-    let one : 0 + 1 < n = below in
-    let less : 0 < n = omega (arith, one) in
-    subst (IsAhead n) (sym is) (less, inl tt)
-on_ahead id c (job ∷ jobs) new n below is =
-    let one : suc (length jobs) + 1 < n = below in
-    let less : length jobs + 2 < n = omega (arith, one) in
-    let some : 0 < length jobs + 2 = omega arith in
-    subst (IsAhead n) (sym is) (less, inr some)
+-- with a reader of files that has fewer calls left
+files_ahead : (n id : ℕ) (m : files_phase.Phase) (new : Phase) → 0 < n → AfterFiles id m new
+    → (files.calls_left m < n) × (files.IsReady m ⊎ (0 < files.calls_left m)) → IsAhead n new
+files_ahead n id m new some after ahead =
+    with_files (λ m. Unit {0}) (IsAhead n new) id m new after tt
+    (λ none held. subst (IsAhead n) (sym held) (ahead.0, inr (some_left none ahead.1)))
+    (λ c text so prints printed. subst (IsAhead n) (sym printed) (some, inl tt))
+  where
+    some_left : (files.IsReady m → ⊥) → files.IsReady m ⊎ (0 < files.calls_left m) → 0 < files.calls_left m
+    some_left none (inl ready) = absurd (none ready)
+    some_left none (inr more) = more
 
 view_ahead : (r to : view_phase.Phase) (new : Phase) → reader.calls_left to < reader.calls_left r → new ≡ phases.View to → IsAhead (reader.calls_left r + (most + 2)) new
 view_ahead r to new fewer is =
@@ -245,18 +265,17 @@ view_ahead r to new fewer is =
 
 starts_ahead : (n : ℕ) (v : View) (new : Phase) → Starts v new → IsAhead (n + (most + 2)) new
 starts_ahead n v new (order, within, on) =
-    on_ahead v.id (nothing_of v.schema) (all_jobs v.schema v.groups.entries) new (n + (most + 2)) (omega (arith, within)) on
+    files_ahead (n + (most + 2)) v.id (read_next v.id (nothing_of v.schema) (all_jobs v.schema v.groups.entries)) new (omega arith) on
+    (next_ahead v.id (nothing_of v.schema) (all_jobs v.schema v.groups.entries) (n + (most + 2)) (omega (arith, within)))
 
 goes_ahead : (m : Phase) (answer : Answer) (new : Phase) → Goes m answer new → IsAhead (calls_left m) new
 goes_ahead (phases.View r) answer new (to, on, then) =
     with_reader (λ m. phases.View m) Starts (λ m. Unit {0}) (IsAhead (reader.calls_left r + (most + 2)) new) to new then tt
     (view_ahead r to new (reader_facts.goes_ahead r answer to on).0) (λ v none starts. starts_ahead (reader.calls_left r) v new starts)
-goes_ahead (phases.Files r) (answers.Found None) new is =
-    let less : 1 < length r.rest + 2 = omega arith in
-    let some : 0 < 1 = omega arith in
-    subst (IsAhead (length r.rest + 2)) (sym is) (less, inr some)
-goes_ahead (phases.Files r) (answers.Found (Some bytes)) new (c, takes, on) =
-    on_ahead r.id c r.rest new (length r.rest + 2) (omega arith) on
+goes_ahead (phases.Files id r) answer new (to, on, after) =
+    let ahead = files_facts.goes_ahead r answer to on in
+    let less : files.calls_left to < files.calls_left r = ahead.0 in
+    files_ahead (files.calls_left r) id to new (omega (arith, less)) after ahead
 goes_ahead m answer new goes = absurd goes
 
 -- an answer that it goes on with leaves fewer calls
@@ -267,8 +286,7 @@ goes m answer new is on = goes_ahead m answer new on
 -- a scanner with calls left has a next one
 pub has_call : (m : Phase) → IsScanner m → 0 < calls_left m → IsSome (next_call m)
 has_call (phases.View r) (has, engine) left = reader_facts.has_call r has
-has_call (phases.Files r) is left = refl
-has_call (phases.Again id path) is left = refl
+has_call (phases.Files id r) is left = files_facts.has_call r left
 has_call (phases.Ready id text) is left = absurd (let none : 0 < 0 = left in omega (arith, none))
 has_call phases.Over is left = absurd (let none : 0 < 0 = left in omega (arith, none))
 
@@ -276,8 +294,12 @@ has_call phases.Over is left = absurd (let none : 0 < 0 = left in omega (arith, 
 
 pub knows_still : (m : Phase) (other : Actor) (f after : Files) (p q : Past) → Stands f p → Advances other f p after q → Knows m f p → Knows m after q
 knows_still (phases.View r) other f after p q stands advances known = reader_facts.knows_still r other f after p q stands advances known
-knows_still (phases.Files r) other f after p q stands advances known = reading-kept goes_on other f after p q advances r known
-knows_still (phases.Again id path) other f after p q stands advances (s, gone) = (s, gone_still other f after p q s id stands advances gone)
+knows_still (phases.Files id r) other f after p q stands advances (v, same, is, known) = (
+  v,
+  same,
+  table-view-kept goes_on other f after p q advances v is,
+  files_facts.knows_still (all_of v) r other f after p q stands advances known,
+)
 knows_still (phases.Ready id text) other f after p q stands advances known = scan-kept goes_on other f after p q advances id text.items known
 knows_still phases.Over other f after p q stands advances known = tt
 

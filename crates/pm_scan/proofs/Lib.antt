@@ -1,15 +1,11 @@
 pub mod Facts
 mod AfterLemmas
 mod CauseLemmas
-mod FaultLemmas
-mod JobLemmas
-mod RowLemmas
+mod FilesLemmas
 mod KeptLemmas
 mod KnownLemmas
 mod ScanLemmas
-mod TakenLemmas
 mod ViewLemmas
 mod AllCallsLemmas
-mod NextLemmas
 mod ViewCallsLemmas
 pub mod OneLemmas

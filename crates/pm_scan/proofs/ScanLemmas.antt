@@ -1,5 +1,5 @@
--- What a scanner has collected of the files of a view covers its rows, so the groups print the scan of the table.
-use Rattle.std.proofs.Common.{◌≡◌, ◌≢◌, ℕ, ◌<◌, List, [], ◌∷◌, ◌++◌, length, map, filter, reverse, true, false, cond, Contains, Some, None, Less, refl, sym, ap, subst, ◌∙◌, append_assoc, append-nil, arith}
+-- What was collected of the files of a view covers its rows, so the groups print the scan of the table.
+use Rattle.std.proofs.Common.{◌≡◌, ◌≢◌, ℕ, ◌<◌, List, [], ◌∷◌, ◌++◌, length, map, filter, reverse, true, false, cond, Contains, Some, None, Less, refl, sym, ap, subst, ◌∙◌, arith}
 use Rattle.std.specs.BTreeMap.{is_at}
 use Rattle.std.specs.Cmp.{tied_itself}
 use Rattle.std.specs.List.{AllByRecursion, AllZip}
@@ -17,22 +17,32 @@ use Rattle.pm_values.proofs.Lemmas.{group_cmp-IsAntisymmetric}
 use Rattle.pm_schema.specs.Again.{IsDeclared}
 use Rattle.pm_schema.specs.declared.schema.TableSchema.{TableSchema}
 use Rattle.pm_model_history.specs.History.{Entry, rows_up_to}
+use Rattle.pm_model_history.specs.Merge.{HistoryRow}
 use Rattle.pm_model_history.specs.Merged.{scan_text}
 use Rattle.pm_engine.specs.Covers.{Covers, Run}
 use Rattle.pm_engine.specs.OfSchema.{meaning_of}
 use Rattle.pm_model_following.specs.Groups.{rows_in}
 use Rattle.pm_scan_rows.specs.Shown.{GroupRuns as Covered, GroupsCover, PrintsGroups}
-use Rattle.pm_levels.specs.Runs.{IsRun, RunView, files_of}
+use Rattle.pm_levels.specs.Runs.{RunView, files_of}
 use Rattle.pm_manifest.specs.Live.{Live}
 use Rattle.pm_manifest.specs.declared.entry.Entry as files
 use Rattle.pm_model_contents.specs.Groups.{GroupRuns}
 use Rattle.pm_model_contents.specs.Runs.{AreRunsOf, IsLive}
 use Rattle.pm_model_folder.specs.Stored.{HasGroup, HasRun}
 use Rattle.pm_runs.specs.Stand.{StoredRun, oldest_first}
-use Rattle.pm_scan.specs.Collected.{Collected, collected_of, nothing_of}
-use Rattle.pm_scan.specs.Jobs.{Grouped, all_jobs, run_jobs}
-use Rattle.pm_scan.specs.Meaning.{HaveTaken}
-use Rattle.pm_scan.proofs.TakenLemmas.{Laws, group-taken, taken-split}
+use Rattle.pm_group_files.specs.Collected.{Collected, HaveTaken, nothing_of}
+use Rattle.pm_group_files.specs.Jobs.{Grouped, all_jobs}
+use Rattle.pm_group_files.specs.Meaning.{HasRuns}
+use Rattle.pm_group_files.proofs.TakenLemmas.{RowLaws, all_stored, groups-taken}
+
+-- ---- the laws of the crates below
+
+-- of the rows of files, of the runs of groups, and of scans
+pub record Laws : Type 0 where
+  pub rows : RowLaws
+  pub one_runs : (live : Live) (g : Group) (runs others : List RunView) → AreRunsOf live g runs → AreRunsOf live g others → runs ≡ others
+  pub scan : (s : TableSchema) (rows : List HistoryRow) (groups : List Covered) (text : List ℕ) → IsDeclared s → GroupsCover s groups rows
+      → PrintsGroups (meaning_of s) (map (λ (p : Covered). p.1) groups) text → text ≡ scan_text s rows
 
 -- ---- the groups of a view
 
@@ -102,36 +112,34 @@ filter-every [] = refl
 filter-every (x ∷ xs) = ap (λ ys. x ∷ ys) (filter-every xs)
 
 module _ (laws : Laws) (f : Files) (s : TableSchema) (entries : List Entry) (id : ℕ) (live : Live) (has : (g : Group) → HasGroup f s entries id live g) where
-  -- the stored runs of a group, the oldest first
-  abbrev pub stored_runs : Group → List Run
-  stored_runs g = reverse (map (λ (r : StoredRun). r.rows) (has g).stored)
+  -- the runs of a group were there
+  pub has-runs : (e : Grouped) → HasOwn live e → HasRuns f s e
+  has-runs e own =
+      let same : (has e.0).runs ≡ e.1 = laws.one_runs live e.0 (has e.0).runs e.1 (has e.0).own own.0 in record {
+        some = own.1;
+        each = own.0.made.each;
+        stored = (has e.0).stored;
+        read = subst (λ (runs : List RunView). AllZip (HasRun f s e.0) runs (has e.0).stored) same (has e.0).read;
+      }
 
-  all_stored : (g : Group) → oldest_first (λ level. true) (has g).stored ≡ stored_runs g
-  all_stored g = ap (λ stored. reverse (map (λ (r : StoredRun). r.rows) stored)) (filter-every (has g).stored)
+  pub all-have : (groups : List Grouped) → AllByRecursion (HasOwn live) groups → AllByRecursion (HasRuns f s) groups
+  all-have [] own = tt
+  all-have (e ∷ groups) own = (has-runs e own.0, all-have groups own.1)
+
+  -- its stored runs, the oldest first
+  abbrev own_runs : Group → List Run
+  own_runs g = reverse (map (λ (r : StoredRun). r.rows) (has g).stored)
+
+  oldest_are : (g : Group) → oldest_first (λ level. true) (has g).stored ≡ own_runs g
+  oldest_are g = ap (λ stored. reverse (map (λ (r : StoredRun). r.rows) stored)) (filter-every (has g).stored)
 
   abbrev covered : List Grouped → List Covered
-  covered groups = map (λ (e : Grouped). (e.0, stored_runs e.0)) groups
+  covered groups = map (λ (e : Grouped). (e.0, own_runs e.0)) groups
 
-  by_runs : (g : Group) (runs : List RunView) (kept : List (List Run)) (new : Collected) → runs ≢ [] → AllByRecursion IsRun runs → AllZip (HasRun f s g) runs (has g).stored
-      → HaveTaken f (run_jobs s g runs) (collected_of s kept [] []) new → new ≡ collected_of s (kept ++ stored_runs g ∷ []) [] []
-  by_runs g [] kept new some each read taken = absurd (some refl)
-  by_runs g (run ∷ older) kept new some each read taken = group-taken laws.rows f s g run older (has g).stored kept [] new each read taken
-
-  pub one-group : (e : Grouped) (kept : List (List Run)) (new : Collected) → HasOwn live e → HaveTaken f (run_jobs s e.0 e.1) (collected_of s kept [] []) new
-      → new ≡ collected_of s (kept ++ stored_runs e.0 ∷ []) [] []
-  one-group e kept new own taken =
-      let same : (has e.0).runs ≡ e.1 = laws.one_runs live e.0 (has e.0).runs e.1 (has e.0).own own.0 in
-      by_runs e.0 e.1 kept new own.1 own.0.made.each (subst (λ runs. AllZip (HasRun f s e.0) runs (has e.0).stored) same (has e.0).read) taken
-
-  groups-taken : (groups : List Grouped) (kept : List (List Run)) (final : Collected) → AllByRecursion (HasOwn live) groups → HaveTaken f (all_jobs s groups) (collected_of s kept [] []) final
-      → final ≡ collected_of s (kept ++ map (λ (p : Covered). p.1) (covered groups)) [] []
-  groups-taken [] kept final each taken = taken ∙ ap (λ l. collected_of s l [] []) (sym (append-nil kept))
-  groups-taken (e ∷ groups) kept final each taken =
-      let parts = taken-split f (run_jobs s e.0 e.1) (all_jobs s groups) (collected_of s kept [] []) final taken in
-      let one = one-group e kept parts.0 each.0 parts.1 in
-      let rest : HaveTaken f (all_jobs s groups) (collected_of s (kept ++ stored_runs e.0 ∷ []) [] []) final = subst (λ c. HaveTaken f (all_jobs s groups) c final) one parts.2 in
-      let later = groups-taken groups (kept ++ stored_runs e.0 ∷ []) final each.1 rest in
-      later ∙ ap (λ l. collected_of s l [] []) (append_assoc kept (stored_runs e.0 ∷ []) (map (λ (p : Covered). p.1) (covered groups)))
+  stored_are : (groups : List Grouped) (own : AllByRecursion (HasOwn live) groups) → all_stored f s groups (all-have groups own) ≡ map (λ (p : Covered). p.1) (covered groups)
+  unfolding has-runs all-have all_stored
+  stored_are [] own = refl
+  stored_are (e ∷ groups) own = ap (λ (runs : List (List Run)). own_runs e.0 ∷ runs) (stored_are groups own.1)
 
   -- ---- the groups cover the rows
 
@@ -141,7 +149,7 @@ module _ (laws : Laws) (f : Files) (s : TableSchema) (entries : List Entry) (id 
 
   covered-each : (groups : List Grouped) → AllByRecursion (λ (p : Covered). Covers (meaning_of s) p.1 (rows_in s p.0 (rows_up_to entries id))) (covered groups)
   covered-each [] = tt
-  covered-each (e ∷ groups) = (subst (λ runs. Covers (meaning_of s) runs (rows_in s e.0 (rows_up_to entries id))) (all_stored e.0) (has e.0).stand.all, covered-each groups)
+  covered-each (e ∷ groups) = (subst (λ runs. Covers (meaning_of s) runs (rows_in s e.0 (rows_up_to entries id))) (oldest_are e.0) (has e.0).stand.all, covered-each groups)
 
   others-covered : (g : Group) (groups : List Grouped) → AllByRecursion (λ (p : Covered). p.0 ≢ g) (covered groups) → AllByRecursion (λ (e : Grouped). e.0 ≢ g) groups
   others-covered g [] others = tt
@@ -172,5 +180,6 @@ module _ (laws : Laws) (f : Files) (s : TableSchema) (entries : List Entry) (id 
       → text ≡ scan_text s (rows_up_to entries id)
   scanned groups final text declared rising runs taken prints =
       let each = each-own live groups rising (λ g own found. subst (GroupRuns live g) found (runs g)) in
-      let kept : final.groups ≡ map (λ (p : Covered). p.1) (covered groups) = ap (λ (c : Collected). c.groups) (groups-taken groups [] final each taken) in
+      let kept : final.groups ≡ map (λ (p : Covered). p.1) (covered groups) =
+      ap (λ (c : Collected). c.groups) (groups-taken laws.rows f s groups (all-have groups each) [] final taken) ∙ stored_are groups each in
       laws.scan s (rows_up_to entries id) (covered groups) text declared (groups-cover groups rising runs) (subst (λ l. PrintsGroups (meaning_of s) l text) kept prints)

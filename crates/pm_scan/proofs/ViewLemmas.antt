@@ -1,5 +1,5 @@
 -- What the view of a snapshot, and the files that it names, are in the files as they stood when it was committed.
-use Rattle.std.proofs.Common.{◌≡◌, ℕ, List, [], ◌∷◌, ◌++◌, take, cond, Contains, Some, None, Ok, inl, inr, refl, sym, ap, subst, ◌∙◌, arith, take-take}
+use Rattle.std.proofs.Common.{◌≡◌, ℕ, List, [], ◌∷◌, take, cond, Contains, Some, None, Ok, inl, inr, refl, sym, ap, subst, ◌∙◌, arith, take-take}
 use Rattle.std.specs.BTreeMap.{is_at}
 use Rattle.std.specs.Cmp.{tied_itself}
 use Rattle.std.specs.List.{AllByRecursion, flat_map}
@@ -31,14 +31,13 @@ use Rattle.pm_model_contents.specs.Runs.{AreRunsOf, IsLive, data_path}
 use Rattle.pm_model_folder.specs.Commits.{IsCommitted, Needs, live_in}
 use Rattle.pm_model_folder.specs.Meaning.{SnapshotAt}
 use Rattle.pm_model_folder.specs.Stored.{HasGroup}
-use Rattle.pm_scan.specs.Collected.{Collected, nothing_of}
-use Rattle.pm_scan.specs.Jobs.{Grouped, all_jobs, file_jobs, run_jobs}
-use Rattle.pm_scan.specs.Meaning.{HaveTaken}
-use Rattle.pm_scan.specs.declared.job.Ends.{Ends}
-use Rattle.pm_scan.specs.declared.job.Ends.TheVariants as ends
-use Rattle.pm_scan.specs.declared.job.Job.{Job}
-use Rattle.pm_scan.proofs.ScanLemmas.{HasOwn, each-own, scanned}
-use Rattle.pm_scan.proofs.TakenLemmas.{Laws}
+use Rattle.pm_group_files.specs.Collected.{Collected, HaveTaken, nothing_of}
+use Rattle.pm_group_files.specs.Jobs.{Grouped, all_jobs, file_jobs, run_jobs}
+use Rattle.pm_group_files.specs.declared.job.Ends.{Ends}
+use Rattle.pm_group_files.specs.declared.job.Ends.TheVariants as ends
+use Rattle.pm_group_files.specs.declared.job.Job.{Job}
+use Rattle.pm_group_files.proofs.ReadLemmas.{all-joined, all-parts}
+use Rattle.pm_scan.proofs.ScanLemmas.{HasOwn, Laws, scanned}
 
 -- ---- the live files of a snapshot
 
@@ -107,20 +106,12 @@ scanned-origin laws f s entries groups final text declared none taken prints =
 
 -- ---- the files of a view are named
 
-pub all-joined : {X : Type 0} (P : X → Type 0) (xs ys : List X) → AllByRecursion P xs → AllByRecursion P ys → AllByRecursion P (xs ++ ys)
-all-joined P [] ys a b = b
-all-joined P (x ∷ xs) ys a b = (a.0, all-joined P xs ys a.1 b)
-
-pub all-parts : {X : Type 0} (P : X → Type 0) (xs ys : List X) → AllByRecursion P (xs ++ ys) → AllByRecursion P xs × AllByRecursion P ys
-all-parts P [] ys a = (tt, a)
-all-parts P (x ∷ xs) ys a = let rest = all-parts P xs ys a.1 in ((a.0, rest.0), rest.1)
-
 module _ (s : TableSchema) (live : Live) where
   -- a file is that of an entry that is live
   abbrev IsOfLive : Group → FileMeta → Type 0
   IsOfLive g m = (e : files.Entry) × IsLive live e × (e.group ≡ g) × (e.file ≡ m)
 
-  abbrev IsAtLive : Job → Type 0
+  abbrev pub IsAtLive : Job → Type 0
   IsAtLive job = (e : files.Entry) × IsLive live e × (data_path s e.group e.file.name ≡ job.path)
 
   file-at : (g : Group) (m : FileMeta) → IsOfLive g m → (e : files.Entry) × IsLive live e × (data_path s e.group e.file.name ≡ data_path s g m.name)
@@ -144,18 +135,22 @@ module _ (s : TableSchema) (live : Live) where
       (λ m here. (are.own.exact m).0 (Contains-permutation (files_of runs) are.files m (IsPermutation-sym are.files (files_of runs) are.made.whole) here))
       (files_of runs) (All-contains_itself (files_of runs)))
 
-  groups-at : (groups : List Grouped) → AllByRecursion (HasOwn live) groups → AllByRecursion IsAtLive (all_jobs s groups)
-  groups-at [] own = tt
-  groups-at (e ∷ groups) own = all-joined IsAtLive (run_jobs s e.0 e.1) (all_jobs s groups) (runs-at e.0 e.1 (of-live e.0 e.1 own.0.0)) (groups-at groups own.1)
+  pub group-at : (e : Grouped) → HasOwn live e → AllByRecursion IsAtLive (run_jobs s e.0 e.1)
+  group-at e own = runs-at e.0 e.1 (of-live e.0 e.1 own.0)
+
+all-weaker : {X : Type 0} (P Q : X → Type 0) (xs : List X) → ((x : X) → P x → Q x) → AllByRecursion P xs → AllByRecursion Q xs
+all-weaker P Q [] weaker all = tt
+all-weaker P Q (x ∷ xs) weaker all = (weaker x all.0, all-weaker P Q xs weaker all.1)
 
 -- each of them is one that the snapshot needs
-pub needed : OneContents → (f : Files) (s : TableSchema) (entries : List Entry) (id : ℕ) (x : Snapshot) (base delta : List ManifestMeta) (es : List files.Entry) (live : Live) (groups : List Grouped)
-    (done : List Job) (job : Job) (rest : List Job) → IsCommitted f s entries id → SnapshotAt f id x → HasEntries f s x base delta es → Leaves none_live es live → IsStrictlySortedBy group_cmp (keys_of groups)
-    → ((g : Group) → GroupRuns live g (lookup (is_at (group_cmp g)) groups)) → all_jobs s groups ≡ done ++ job ∷ rest → Needs f s id job.path
-needed one f s entries id x base delta es live groups done job rest committed there has left rising runs parts =
-    let same = same-live one f s entries id x base delta es live committed there has left in
-    let own = each-own live groups rising (λ g own found. subst (GroupRuns live g) found (runs g)) in
-    let at : AllByRecursion (IsAtLive s live) (done ++ job ∷ rest) = subst (AllByRecursion (IsAtLive s live)) parts (groups-at s live groups own) in
-    let here : IsAtLive s live job = (all-parts (IsAtLive s live) done (job ∷ rest) at).1.0 in
-    let alive : IsLive (live_in committed.contents) here.0 = subst (λ l. IsLive l here.0) (sym same) here.1 in
-    inr (inr (committed.snapshot, committed.contents, (committed.there, committed.has), subst (IsNamed s committed.snapshot committed.contents) here.2 (data_file here.0 alive)))
+pub needed : OneContents → (f : Files) (s : TableSchema) (entries : List Entry) (id : ℕ) (x : Snapshot) (base delta : List ManifestMeta) (es : List files.Entry) (live : Live)
+    → IsCommitted f s entries id → SnapshotAt f id x → HasEntries f s x base delta es → Leaves none_live es live → (e : Grouped) → HasOwn live e
+    → AllByRecursion (λ (job : Job). Needs f s id job.path) (run_jobs s e.0 e.1)
+needed one f s entries id x base delta es live committed there has left e own =
+    all-weaker (IsAtLive s live) (λ (job : Job). Needs f s id job.path) (run_jobs s e.0 e.1) at (group-at s live e own)
+  where
+    at : (job : Job) → IsAtLive s live job → Needs f s id job.path
+    at job here =
+        let same = same-live one f s entries id x base delta es live committed there has left in
+        let alive : IsLive (live_in committed.contents) here.0 = subst (λ l. IsLive l here.0) (sym same) here.1 in
+        inr (inr (committed.snapshot, committed.contents, (committed.there, committed.has), subst (IsNamed s committed.snapshot committed.contents) here.2 (data_file here.0 alive)))

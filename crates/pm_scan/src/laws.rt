@@ -1,11 +1,7 @@
 //! Laws of scanners.
 
-ghost use Rattle.std.specs.Prelude.{◌≡◌, ◌⊎◌, List, [], ◌∷◌, ◌++◌, ℕ, Option, None, Some, Result, Err};
-ghost use Rattle.std.specs.BTreeMap.{IsOrdered};
-ghost use Rattle.std.specs.FinMap as map;
-ghost use Rattle.pm_values.specs.GroupOrder.{group_cmp};
+ghost use Rattle.std.specs.Prelude.{◌≡◌, ◌⊎◌, List, [], ◌∷◌, ◌++◌, ℕ, Option, Some, Result, Err};
 ghost use Rattle.pm_engine.specs.OfSchema.{meaning_of};
-ghost use Rattle.pm_model_history.specs.History.{IsTableOf};
 ghost use Rattle.pm_schema.specs.declared.schema.TableSchema.{TableSchema};
 ghost use Rattle.pm_scan_rows.specs.Shown.{PrintsGroups};
 ghost use Rattle.pm_model_folder.specs.Changes.{Actor};
@@ -15,7 +11,7 @@ ghost use Rattle.pm_store.specs.declared.answer.Answer.{Answer};
 ghost use Rattle.pm_store.specs.declared.call.Call.{Call};
 ghost use Rattle.pm_store.specs.Files.{Files};
 ghost use Rattle.pm_store.specs.Images.{MayLeave};
-ghost use Rattle.pm_read_table.specs.Meaning.{HasGone, IsViewIn, MayRefuse};
+ghost use Rattle.pm_read_table.specs.Meaning.{MayRefuse};
 ghost use Rattle.pm_read_table.specs.declared.view.View.{View};
 ghost use Rattle.pm_machine.specs.Moves.{IsKept};
 ghost use Rattle.pm_machine.specs.Step.{path_of};
@@ -25,12 +21,12 @@ ghost use Rattle.pm_store.specs.Store.{StoreView};
 ghost use Rattle.pm_values.specs.declared.refusal.Refusal.{Refusal};
 ghost use Rattle.pm_values.specs.declared.refusal.Refusal.TheVariants as refusals;
 ghost use Rattle.pm_scan.specs.AllCalls.{DidScan, PrintAlike, ScansTables};
-ghost use Rattle.pm_scan.specs.Collected.{Collected, Takes, nothing_of};
-ghost use Rattle.pm_scan.specs.Jobs.{all_jobs};
-ghost use Rattle.pm_scan.specs.Meaning.{HaveTaken, IsReadingOf, IsScan, Knows};
-ghost use Rattle.pm_scan.specs.Reading.{ReadingView, reading_of};
+ghost use Rattle.pm_group_files.specs.Collected.{Collected, HaveTaken, nothing_of};
+ghost use Rattle.pm_group_files.specs.Jobs.{all_jobs};
+ghost use Rattle.pm_group_files.specs.Meaning.{IsChosen};
+ghost use Rattle.pm_group_files.specs.declared.job.Job.{Job};
+ghost use Rattle.pm_scan.specs.Meaning.{all_of, IsScan, IsTableView, Knows};
 ghost use Rattle.pm_scan.specs.Scanner.{next_call, Shown};
-ghost use Rattle.pm_scan.specs.declared.job.Job.{Job};
 ghost use Rattle.pm_scan.specs.declared.phase.Phase.{Phase};
 
 use pm_avro_file::one_opening_law;
@@ -61,14 +57,7 @@ pub fn causes_law()
         → MayRefuse f p refusal }
 {
     pm_read_table::causes_law();
-    declared_law();
-    schema_law();
-    one_contents_law();
-    one_runs_law();
-    one_list_law();
-    order_law();
-    pm_run::reading_law();
-    scan_law();
+    pm_group_files::causes_law();
 }
 
 /// The same calls of a scan show one answer at most, but that memory may have run out, and that their text is one of
@@ -91,25 +80,14 @@ pub fn one_answer_law()
     one_list_law();
 }
 
-/// What is known of a view and of its files, whatever others do: once the view was read; once its next file was; once
-/// that is absent, so that the snapshot has gone; and once all were read, so that the text is the scan of the table.
+/// What is known of a view and of its files, whatever others do: its groups, if there are any, stood at the snapshot,
+/// which needs their files; and once all were read, what the groups print is the scan of the table.
 pub(crate) fn files_law()
-    ensures first { (p : Past) (v : View) (job : Job) (jobs : List Job) → IsTableOf v.schema p.history → IsViewIn p v
-        → IsOrdered group_cmp v.groups → all_jobs v.schema v.groups.entries ≡ job ∷ jobs
-        → IsReadingOf p (reading_of v.id (nothing_of v.schema) job jobs) }
-    ensures all { (f : Files) (p : Past) (v : View) → Stands f p → IsTableOf v.schema p.history → IsViewIn p v
-        → IsOrdered group_cmp v.groups → (c : Collected) (text : List ℕ)
+    ensures chosen { (f : Files) (p : Past) (v : View) (job : Job) (jobs : List Job) → Stands f p → IsTableView p v
+        → all_jobs v.schema v.groups.entries ≡ job ∷ jobs → IsChosen p (all_of v) }
+    ensures all { (f : Files) (p : Past) (v : View) → Stands f p → IsTableView p v → (c : Collected) (text : List ℕ)
         → HaveTaken (p.stood v.id) (all_jobs v.schema v.groups.entries) (nothing_of v.schema) c
         → PrintsGroups (meaning_of c.schema) c.groups text → IsScan p v.id text }
-    ensures more { (f : Files) (p : Past) → Stands f p → (r : ReadingView) → IsReadingOf p r
-        → (bytes : List ℕ) (c : Collected) (job : Job) (jobs : List Job) → map.get f r.next.path ≡ Some bytes
-        → Takes r.next bytes r.collected c → r.rest ≡ job ∷ jobs → IsReadingOf p (reading_of r.id c job jobs) }
-    ensures last { (f : Files) (p : Past) → Stands f p → (r : ReadingView) → IsReadingOf p r
-        → (bytes : List ℕ) (c : Collected) (text : List ℕ) → map.get f r.next.path ≡ Some bytes
-        → Takes r.next bytes r.collected c → r.rest ≡ [] → PrintsGroups (meaning_of c.schema) c.groups text
-        → IsScan p r.id text }
-    ensures gone { (f : Files) (p : Past) → Stands f p → (r : ReadingView) → IsReadingOf p r
-        → map.get f r.next.path ≡ None → (s : TableSchema) × HasGone f p s r.id }
 {
     declared_law();
     schema_law();

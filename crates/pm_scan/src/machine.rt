@@ -7,10 +7,9 @@ ghost use Rattle.pm_scan.specs.Scanner.{calls_left, next_call, Goes, IsReady, Is
 ghost use Rattle.pm_scan.specs.Trace.{Did, Shows};
 ghost use Rattle.pm_scan.specs.declared.phase.Phase.TheVariants as phases;
 
-use crate::after::{after_again, after_file};
+use crate::after::after_files;
 use crate::phase::Phase;
 use pm_machine::{Machine, ReaderPhase};
-use pm_paths::snapshot_path;
 use pm_read_table::after_view;
 use pm_store::{Answer, Call};
 use pm_values::Refusal;
@@ -30,12 +29,7 @@ impl pm_machine::Phase for Phase {
     fn call(&self, alloc: Global) -> Result<Option<Call>, AllocError> {
         match self {
             Phase::View { reader } => reader.call(alloc),
-            Phase::Files { reading } => Ok(Some(Call::Read {
-                path: reading.next.path.copy(alloc)?,
-            })),
-            Phase::Again { id, .. } => Ok(Some(Call::Read {
-                path: snapshot_path(alloc, *id)?,
-            })),
+            Phase::Files { files, .. } => files.call(alloc),
             Phase::Ready { .. } | Phase::Over => Ok(None),
         }
     }
@@ -47,8 +41,7 @@ impl pm_machine::Phase for Phase {
     fn next(self, alloc: Global, answer: Answer) -> Result<Phase, Refusal> {
         match (self, answer) {
             (Phase::View { reader }, answer) => after_view(alloc, reader, answer),
-            (Phase::Files { reading }, Answer::Found(found)) => after_file(alloc, reading, found),
-            (Phase::Again { id, path }, Answer::Found(found)) => Err(after_again(id, path, found)),
+            (Phase::Files { id, files }, answer) => after_files(alloc, id, files, answer),
             _ => unreachable!(),
         }
     }

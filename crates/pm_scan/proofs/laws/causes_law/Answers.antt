@@ -1,22 +1,5 @@
 use Rattle.pm_scan.proofs.CauseLemmas.{causes}
-use Rattle.pm_scan.proofs.KnownLemmas.{Tells}
-use Rattle.pm_scan.proofs.TakenLemmas.{Laws}
-use Rattle.pm_scan.proofs.ViewLemmas.{OneContents}
 use Rattle.pm_scan.proofs.laws.causes_law.Goals as goal
 
 pub returns : goal.returns
-returns c =
-    let laws : Laws = record {
-      rows = record {
-        one_rows = c.one_list_law.ensures.follow;
-        in_order = c.order_law.ensures.follow;
-        after_other = c.order_law.ensures.other;
-        gives = c.reading_law.ensures.gives;
-        opens = c.reading_law.ensures.opens;
-      };
-      one_runs = c.one_runs_law.ensures;
-      scan = c.scan_law.ensures;
-    } in
-    let one : OneContents = c.one_contents_law.ensures in
-    let tells : Tells = record { exact = c.schema_law.ensures.exact; declared = c.declared_law.ensures.file } in
-    causes c.causes_law.ensures laws one tells
+returns c = causes c.causes_law.ensures c.causes_law-2.ensures

@@ -1,5 +1,5 @@
-use Rattle.pm_scan.proofs.KnownLemmas.{Tells, next-gone, next-last, next-more, view-first, view-scan}
-use Rattle.pm_scan.proofs.TakenLemmas.{Laws}
+use Rattle.pm_scan.proofs.KnownLemmas.{Tells, view-chosen, view-scan}
+use Rattle.pm_scan.proofs.ScanLemmas.{Laws}
 use Rattle.pm_scan.proofs.ViewLemmas.{OneContents}
 use Rattle.pm_scan.proofs.laws.files_law.Goals as goal
 
@@ -18,10 +18,4 @@ returns c =
     } in
     let one : OneContents = c.one_contents_law.ensures in
     let tells : Tells = record { exact = c.schema_law.ensures.exact; declared = c.declared_law.ensures.file } in
-    record {
-      first = view-first;
-      all = view-scan laws one tells;
-      more = λ f p stands r reading. next-more laws one tells f p stands r reading;
-      last = next-last laws one tells;
-      gone = λ f p stands r reading none. (reading.view.schema, next-gone laws one tells f p stands r reading none);
-    }
+    record { chosen = view-chosen laws one tells; all = view-scan laws one tells }

@@ -10,7 +10,6 @@ returns c =
         manifests = c.one_reading_law-2.ensures;
       };
       runs = c.one_runs_law.ensures;
-      opening = c.one_opening_law.ensures;
-      rows = c.one_list_law.ensures.follow;
+      read = record { opening = c.one_opening_law.ensures; rows = c.one_list_law.ensures.follow };
     } in
     record { one = one_answer laws; failed = failed_scan laws }

@@ -3,13 +3,7 @@ use Rattle.pm_scan.proofs.scanner.PhaseLawfulPhase.laws.Goals as goal
 
 pub returns-clause-sound : goal.returns-clause-sound
 returns-clause-sound c =
-    let files : FileLaws = record {
-      first = c.files_law.ensures.first;
-      all = c.files_law.ensures.all;
-      more = c.files_law.ensures.more;
-      last = c.files_law.ensures.last;
-      gone = c.files_law.ensures.gone;
-    } in
+    let files : FileLaws = record { chosen = c.files_law.ensures.chosen; all = c.files_law.ensures.all } in
     sound (c.joined_law.ensures.left, c.joined_law.ensures.order) c.one_reading_law.ensures files
 
 pub returns-clause-recounts : goal.returns-clause-recounts
