@@ -7,6 +7,9 @@ pub mod KeptLemmas
 mod NextLemmas
 pub mod OneLemmas
 pub mod ReadLemmas
+mod PrefixLemmas
 mod RowLemmas
 pub mod StillLemmas
 pub mod TakenLemmas
+pub mod ViewLemmas
+mod WholeLemmas

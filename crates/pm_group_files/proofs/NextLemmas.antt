@@ -41,18 +41,18 @@ rising-first xs ys rising = sorted-first (keys_of xs) (keys_of ys) (subst (IsStr
 
 -- ---- where a file stands
 
-no-job : (done : List Job) (job : Job) (rest : List Job) → [] ≡ done ++ job ∷ rest → ⊥
+pub no-job : (done : List Job) (job : Job) (rest : List Job) → [] ≡ done ++ job ∷ rest → ⊥
 no-job [] job rest e = cc
 no-job (first ∷ done) job rest e = cc
 
-job-head : (a b : Job) (more others : List Job) → a ∷ more ≡ b ∷ others → a ≡ b
+pub job-head : (a b : Job) (more others : List Job) → a ∷ more ≡ b ∷ others → a ≡ b
 job-head a b more others e = cc
 
-job-tail : (a b : Job) (more others : List Job) → a ∷ more ≡ b ∷ others → more ≡ others
+pub job-tail : (a b : Job) (more others : List Job) → a ∷ more ≡ b ∷ others → more ≡ others
 job-tail a b more others e = cc
 
 -- it is one of the first files, or one of the later ones
-where-is : (xs ys done : List Job) (job : Job) (rest : List Job) → xs ++ ys ≡ done ++ job ∷ rest
+pub where-is : (xs ys done : List Job) (job : Job) (rest : List Job) → xs ++ ys ≡ done ++ job ∷ rest
     → ((more : List Job) × (xs ≡ done ++ job ∷ more)) ⊎ ((later : List Job) × (done ≡ xs ++ later) × (ys ≡ later ++ job ∷ rest))
 where-is [] ys done job rest e = inr (done, refl, e)
 where-is (x ∷ xs) ys [] job rest e = inl (xs, ap (λ (first : Job). first ∷ xs) (job-head x job (xs ++ ys) rest e))

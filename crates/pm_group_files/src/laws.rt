@@ -1,22 +1,31 @@
 //! Laws of readers of files.
 
-ghost use Rattle.std.specs.Prelude.{◌≡◌, ◌++◌, List, Some};
+ghost use Rattle.std.specs.Prelude.{◌≡◌, ◌≤◌, ◌++◌, ℕ, List, [], Some, take};
 ghost use Rattle.pm_engine.specs.Covers.{Run};
 ghost use Rattle.pm_model_folder.specs.Changes.{Actor};
-ghost use Rattle.pm_model_folder.specs.Ledger.{Advances, Past, Stands};
+ghost use Rattle.pm_model_folder.specs.Ledger.{Advances, IsKnown, Past, Stands};
 ghost use Rattle.pm_store.specs.Answers.{Answers};
 ghost use Rattle.pm_store.specs.declared.answer.Answer.{Answer};
 ghost use Rattle.pm_store.specs.declared.call.Call.{Call};
 ghost use Rattle.pm_store.specs.Files.{Files};
 ghost use Rattle.pm_store.specs.Images.{MayLeave};
 ghost use Rattle.pm_machine.specs.Moves.{IsKept};
+ghost use Rattle.pm_levels.specs.Runs.{RunView};
 ghost use Rattle.pm_read_table.specs.Meaning.{MayRefuse};
+ghost use Rattle.pm_read_table.specs.View.{runs_at};
+ghost use Rattle.pm_read_table.specs.declared.view.View.{View};
+ghost use Rattle.pm_schema.specs.declared.schema.TableSchema.{TableSchema};
+ghost use Rattle.pm_values.specs.declared.group.Group.{Group};
 ghost use Rattle.pm_values.specs.declared.refusal.Refusal.{Refusal};
 ghost use Rattle.pm_group_files.specs.Chosen.{Chosen, chosen_of};
-ghost use Rattle.pm_group_files.specs.Meaning.{Knows};
-ghost use Rattle.pm_group_files.specs.Reader.{next_call, HandsOut, Shown};
+ghost use Rattle.pm_group_files.specs.Collected.{Collected, nothing_of};
+ghost use Rattle.pm_group_files.specs.Jobs.{all_jobs};
+ghost use Rattle.pm_group_files.specs.Meaning.{AreReadAs, HasTaken, IsChosen, IsTableView, Knows, StoodAt};
+ghost use Rattle.pm_group_files.specs.Reader.{next_call, read_next, HandsOut, Shown};
+ghost use Rattle.pm_group_files.specs.declared.job.Job.{Job};
 ghost use Rattle.pm_group_files.specs.declared.phase.Phase.{Phase};
 
+use pm_model_contents::{one_contents_law, one_runs_law};
 use pm_run::{one_list_law, order_law};
 
 /// What a reader of files knows stays true through each kind of change of every actor.
@@ -43,8 +52,40 @@ pub fn causes_law()
     pm_run::reading_law();
 }
 
+/// What it knows where it begins, once what is asked for stood at the snapshot.
+pub fn begins_law()
+    ensures { (a : Chosen) (f : Files) (p : Past) → IsChosen p a → a.given ≡ []
+        → Knows a (read_next a.id (nothing_of a.schema) (all_jobs a.schema a.groups)) f p }
+{}
+
 /// What it knows once it has handed out the groups that were whole.
 pub fn handed_law()
     ensures { (a : Chosen) (m new : Phase) (groups : List (List Run)) (f : Files) (p : Past) → HandsOut m groups new
         → Knows a m f p → Knows (chosen_of a.schema a.id a.groups (a.given ++ groups)) new f p }
+{}
+
+/// Of the groups that are asked for the first are whole, and their runs, as they stood at the snapshot, are those that
+/// were handed out and then those that weren't. Once no file is left all groups are.
+pub fn whole_law()
+    ensures { (p : Past) (a : Chosen) (c : Collected) (left : List Job) → HasTaken p a c left
+        → AreReadAs (p.stood a.id) a.schema a.groups left (a.given ++ c.groups) }
+{
+    one_list_law();
+    order_law();
+    pm_run::reading_law();
+}
+
+/// The runs of a group of a view of the table stood at its snapshot, which needs their files.
+pub fn view_law()
+    ensures { (f : Files) (p : Past) (v : View) (g : Group) (runs : List RunView) → Stands f p → IsTableView p v
+        → runs_at v g ≡ Some runs → IsKnown p v.id × StoodAt p v.schema v.id (g, runs) }
+{
+    one_contents_law();
+    one_runs_law();
+}
+
+/// Where all runs of a group stood, the newest of them did.
+pub fn prefix_law()
+    ensures { (p : Past) (s : TableSchema) (id : ℕ) (g : Group) (runs : List RunView) (n : ℕ)
+        → StoodAt p s id (g, runs) → 1 ≤ n → StoodAt p s id (g, take n runs) }
 {}

@@ -25,7 +25,9 @@ mod reading;
 
 pub use collected::Collected;
 pub use job::{Ends, Job, all_jobs, push_runs};
-pub use laws::{causes_law, handed_law, images_law, known_law};
+pub use laws::{
+    begins_law, causes_law, handed_law, images_law, known_law, prefix_law, view_law, whole_law,
+};
 pub use phase::Phase;
 pub use reader::{GroupReader, are_files_read, has_group, into_collected, read_files, take_groups};
 pub use reading::Reading;

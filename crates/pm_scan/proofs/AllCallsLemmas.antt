@@ -49,7 +49,8 @@ use Rattle.pm_scan.specs.Scanner.{next_call, calls_left, IsReady}
 use Rattle.pm_scan.specs.Trace.{AfterView, HasScan, DidSoFar, MayTakeMemory, ShowsOfFiles, Shows, Did}
 use Rattle.pm_scan.specs.declared.phase.Phase.{Phase}
 use Rattle.pm_scan.specs.declared.phase.Phase.TheVariants as phases
-use Rattle.pm_scan.proofs.ScanLemmas.{Laws, all-have, each-own}
+use Rattle.pm_group_files.proofs.ViewLemmas.{each-own}
+use Rattle.pm_scan.proofs.ScanLemmas.{Laws, all-have}
 use Rattle.pm_scan.proofs.ViewCallsLemmas.{FailsLast, ViewLaws, absent_gone, asked_up_to, committed, entries_of, live_of_part, part_at, path_is, reads_at, still_join, told_join, view_damaged_at, view_did_still, view_gone_at, view_misreads_at, view_shows_still, view_still}
 use Rattle.pm_scan.proofs.ViewLemmas.{no-groups, scanned-origin, scanned-view}
 

@@ -33,7 +33,7 @@ use Rattle.pm_read_table.proofs.WithinLemmas.{with_reader}
 use Rattle.pm_group_files.specs.Collected.{Collected, HaveTaken, nothing_of, with_groups}
 use Rattle.pm_group_files.specs.Jobs.{all_jobs}
 use Rattle.pm_group_files.specs.Meaning as files_meaning
-use Rattle.pm_group_files.specs.Meaning.{HasTaken, IsChosen}
+use Rattle.pm_group_files.specs.Meaning.{HasTaken, IsChosen, IsTableView}
 use Rattle.pm_group_files.specs.Reader as files
 use Rattle.pm_group_files.specs.Reader.{read_next}
 use Rattle.pm_group_files.specs.Trace as files_trace
@@ -44,7 +44,7 @@ use Rattle.pm_group_files.proofs.Facts as files_facts
 use Rattle.pm_group_files.proofs.Facts.{next_ahead, next_known, part_none}
 use Rattle.pm_group_files.proofs.FaultLemmas.{IsOfFiles, damaged, expired, shown_as, unsupported}
 use Rattle.pm_group_files.proofs.ReadLemmas.{first-taken}
-use Rattle.pm_scan.specs.Meaning.{all_of, IsScan, IsTableView, Knows}
+use Rattle.pm_scan.specs.Meaning.{all_of, IsScan, Knows}
 use Rattle.pm_scan.specs.Scanner.{next_call, calls_left, AfterFiles, AfterReader, Goes, IsReady, IsScanner, Shown, Starts}
 use Rattle.pm_scan.specs.Trace.{AfterView, DidSoFar, MayTakeMemory, ShowsOfFiles, Shows, Did}
 use Rattle.pm_scan.specs.declared.phase.Phase.{Phase}
@@ -83,7 +83,7 @@ files_known laws f p v id m new stands is same after known =
     with_files (λ (m : files_phase.Phase). files_meaning.Knows (all_of v) m f p) (Knows new f p) id m new after known
     (λ none held. subst (λ (m : Phase). Knows m f p) (sym held) (v, same, is, known))
     (λ c text taken prints printed. subst (λ (m : Phase). Knows m f p) (sym printed)
-        (subst (λ (id : ℕ). IsScan p id text.items) (sym same) (text_known laws f p v c text.items stands is taken prints)))
+    (subst (λ (id : ℕ). IsScan p id text.items) (sym same) (text_known laws f p v c text.items stands is taken prints)))
 
 -- the reader of a view's files where these are they: none at all, so that nothing is asked of the snapshot, or some
 first_known : FileLaws → (f : Files) (p : Past) (v : View) (jobs : List Job) (new : Phase) → Stands f p → IsTableView p v
@@ -104,7 +104,7 @@ after_known laws to new f p stands after known =
     with_reader (λ m. phases.View m) Starts (λ m. reader_meaning.Knows m f p) (Knows new f p) to new after known
     (λ is. subst (λ (m : Phase). Knows m f p) (sym is) known)
     (λ v viewed starts. first_known laws f p v (all_jobs v.schema v.groups.entries) new stands
-        (record { is_view = viewed.1; order = starts.0; table = viewed.0 }) refl starts.2)
+    (record { is_view = viewed.1; order = starts.0; table = viewed.0 }) refl starts.2)
 
 -- what an answer leads to is known of the same files
 knows_next : Joined → OneList → FileLaws → (m : Phase) (answer : Answer) (new : Phase) (f : Files) (p : Past) → Goes m answer new → Stands f p → Knows m f p
@@ -134,7 +134,7 @@ did_files a v id m new own same after did =
     with_files (λ (m : files_phase.Phase). AfterView a v (files_trace.DidSoFar (all_of v) m) own) (Did a new own) id m new after did
     (λ none held. subst (λ (m : Phase). Did a m own) (sym held) (v, same, did))
     (λ c text all prints printed. subst (λ (m : Phase). Did a m own) (sym printed)
-        (record { view = v; collected = c; is_id = same; all_read = whole_view a v c own all; prints = prints }))
+    (record { view = v; collected = c; is_id = same; all_read = whole_view a v c own all; prints = prints }))
 
 -- none was read yet
 none_read : (a : Asked) (v : View) (own : List Event) → HasView a v own
@@ -156,7 +156,7 @@ did_after a to new own after did =
     with_reader (λ m. phases.View m) Starts (λ m. reader_trace.Did a m own) (Did a new own) to new after did
     (λ is. subst (λ (m : Phase). Did a m own) (sym is) did)
     (λ v viewed starts. did_files a v v.id (read_next v.id (nothing_of v.schema) (all_jobs v.schema v.groups.entries)) new own refl starts.2
-        (none_read a v own viewed.0))
+    (none_read a v own viewed.0))
 
 -- one call more after the view was read
 one_more : (a : Asked) (v : View) (P Q : List Event → Type 0) (event : Event) (own : List Event) → (after : AfterView a v P own)
@@ -192,8 +192,8 @@ went_on law a (phases.View r) answer new own (to, on, after) did =
 went_on law a (phases.Files id r) answer new own (to, on, after) (v, same, did) =
     IfSome_then (files.next_call r) ((files_facts.recounts (all_of v)).went r to answer did.reads on (as_did r v did.reads did.so))
     (λ call next may. did_files a v id to new (own ++ answered call answer ∷ []) same after
-        (one_more a v (files_trace.DidSoFar (all_of v) r) (files_trace.DidSoFar (all_of v) to) (answered call answer) own did
-        (λ so. as_so_far r answer to v (did.reads ++ answered call answer ∷ []) on (next may))))
+    (one_more a v (files_trace.DidSoFar (all_of v) r) (files_trace.DidSoFar (all_of v) to) (answered call answer) own did
+    (λ so. as_so_far r answer to v (did.reads ++ answered call answer ∷ []) on (next may))))
 went_on law a m answer new own goes did = absurd goes
 
 shows_as : (a : Asked) (refusal defined : Refusal) (own : List Event) → refusal ≡ defined → ShowsOfFiles a defined own → Shows a refusal own
@@ -225,7 +225,7 @@ refused_on law a (phases.Files id r) answer refusal own (inr shown) (v, same, di
   | inr fault ↦ IfSome_then (files.next_call r)
       ((files_facts.recounts (all_of v)).refused r group_readers.Over answer refusal did.reads (shown, refl) (as_did r v did.reads did.so))
       (λ call shows may. of_files a v refusal (own ++ answered call answer ∷ []) fault
-          (one_more a v (files_trace.DidSoFar (all_of v) r) (files_trace.Shows (all_of v) refusal) (answered call answer) own did (λ so. (shows may).1)))
+      (one_more a v (files_trace.DidSoFar (all_of v) r) (files_trace.Shows (all_of v) refusal) (answered call answer) own did (λ so. (shows may).1)))
 ]
 refused_on law a m answer refusal own shown did = absurd shown
 

@@ -10,7 +10,8 @@ use Rattle.pm_model_folder.specs.Changes.{Actor}
 use Rattle.pm_model_folder.specs.Ledger.{Advances, IsKnown, Past, count_of}
 use Rattle.pm_model_folder.specs.Meaning.{SnapshotAt}
 use Rattle.pm_group_files.proofs.KeptLemmas.{Going, goes, known-kept, stood-kept, table-kept}
-use Rattle.pm_scan.specs.Meaning.{IsScan, IsTableView}
+use Rattle.pm_group_files.specs.Meaning.{IsTableView}
+use Rattle.pm_scan.specs.Meaning.{IsScan}
 use Rattle.pm_read_table.specs.Meaning.{IsViewIn, view_origin, view_snapshot}
 use Rattle.pm_read_table.specs.declared.view.View.{View}
 

@@ -1,19 +1,15 @@
 -- What was collected of the files of a view covers its rows, so the groups print the scan of the table.
-use Rattle.std.proofs.Common.{◌≡◌, ◌≢◌, ℕ, ◌<◌, List, [], ◌∷◌, ◌++◌, length, map, filter, reverse, true, false, cond, Contains, Some, None, Less, refl, sym, ap, subst, ◌∙◌, arith}
+use Rattle.std.proofs.Common.{◌≡◌, ◌≢◌, ℕ, ◌<◌, List, [], ◌∷◌, ◌++◌, length, map, filter, reverse, true, false, cond, Contains, Some, None, refl, sym, ap, subst, ◌∙◌, arith}
 use Rattle.std.specs.BTreeMap.{is_at}
-use Rattle.std.specs.Cmp.{tied_itself}
 use Rattle.std.specs.List.{AllByRecursion, AllZip}
 use Rattle.std.specs.List.Sorted.{IsStrictlySortedBy}
 use Rattle.std.specs.Map.{keys_of, lookup}
-use Rattle.std.specs.Ordering.{is_eq}
-use Rattle.std.specs.declared.cmp.Ordering.TheVariants as orders
 use Rattle.std.proofs.lemmas.List.Elements.{Contains-get_or}
 use Rattle.std.proofs.lemmas.List.Sorted.{Contains-permutation, IsPermutation-sym}
 use Rattle.pm_store.specs.Files.{Files}
-use Rattle.pm_values.specs.GroupOrder.{group_cmp, group_total}
+use Rattle.pm_values.specs.GroupOrder.{group_cmp}
 use Rattle.pm_values.specs.declared.file_meta.FileMeta.{FileMeta}
 use Rattle.pm_values.specs.declared.group.Group.{Group}
-use Rattle.pm_values.proofs.Lemmas.{group_cmp-IsAntisymmetric}
 use Rattle.pm_schema.specs.Again.{IsDeclared}
 use Rattle.pm_schema.specs.declared.schema.TableSchema.{TableSchema}
 use Rattle.pm_model_history.specs.History.{Entry, rows_up_to}
@@ -34,55 +30,18 @@ use Rattle.pm_group_files.specs.Collected.{Collected, HaveTaken, nothing_of}
 use Rattle.pm_group_files.specs.Jobs.{Grouped, all_jobs}
 use Rattle.pm_group_files.specs.Meaning.{HasRuns}
 use Rattle.pm_group_files.proofs.TakenLemmas.{RowLaws, all_stored, groups-taken}
+use Rattle.pm_group_files.proofs.ViewLemmas.{HasOwn, OneRuns, at-one, each-own, has-runs}
 
 -- ---- the laws of the crates below
 
 -- of the rows of files, of the runs of groups, and of scans
 pub record Laws : Type 0 where
   pub rows : RowLaws
-  pub one_runs : (live : Live) (g : Group) (runs others : List RunView) → AreRunsOf live g runs → AreRunsOf live g others → runs ≡ others
+  pub one_runs : OneRuns
   pub scan : (s : TableSchema) (rows : List HistoryRow) (groups : List Covered) (text : List ℕ) → IsDeclared s → GroupsCover s groups rows
       → PrintsGroups (meaning_of s) (map (λ (p : Covered). p.1) groups) text → text ≡ scan_text s rows
 
 -- ---- the groups of a view
-
--- groups at which a query stands are one
-at-one : (g h : Group) → is_at (group_cmp g) h ≡ true → g ≡ h
-at-one g h e =
-    elim (group_cmp g h) as (λ o. group_cmp g h ≡ o → is_eq o ≡ true → g ≡ h) [
-      | orders.Less ↦ λ p q. cc
-      | orders.Equal ↦ λ p q. group_cmp-IsAntisymmetric g h p
-      | orders.Greater ↦ λ p q. cc
-    ] refl e
-
--- a group below all others isn't among them
-below-none : (g : Group) (groups : List Grouped) → AllByRecursion (λ h. group_cmp g h ≡ Less) (keys_of groups) → lookup (is_at (group_cmp g)) groups ≡ None
-below-none g [] below = refl
-below-none g (e ∷ groups) below = ap (λ o. cond (is_eq o) (Some e.1) (lookup (is_at (group_cmp g)) groups)) below.0 ∙ below-none g groups below.1
-
--- what is found of a group among the later ones is found among all
-found-later : (g : Group) (e : Grouped) (groups : List Grouped) (runs : List RunView) → AllByRecursion (λ h. group_cmp e.0 h ≡ Less) (keys_of groups) → lookup (is_at (group_cmp g)) groups ≡ Some runs
-    → lookup (is_at (group_cmp g)) (e ∷ groups) ≡ Some runs
-found-later g e groups runs below found =
-    elim (is_at (group_cmp g) e.0) as (λ b. is_at (group_cmp g) e.0 ≡ b → cond b (Some e.1) (lookup (is_at (group_cmp g)) groups) ≡ Some runs) [
-      | true ↦ λ at.
-          let none : lookup (is_at (group_cmp g)) groups ≡ None = subst (λ h. lookup (is_at (group_cmp h)) groups ≡ None) (sym (at-one g e.0 at)) (below-none e.0 groups below) in
-          cc
-      | false ↦ λ at. found
-    ] refl
-
--- each of them has its runs, at least one
-abbrev pub HasOwn : Live → Grouped → Type 0
-HasOwn live e = AreRunsOf live e.0 e.1 × (e.1 ≢ [])
-
-pub each-own : (live : Live) (groups : List Grouped) → IsStrictlySortedBy group_cmp (keys_of groups)
-    → ((g : Group) (runs : List RunView) → lookup (is_at (group_cmp g)) groups ≡ Some runs → HasOwn live (g, runs)) → AllByRecursion (HasOwn live) groups
-unfolding IsStrictlySortedBy
-each-own live [] rising own = tt
-each-own live (e ∷ groups) rising own = (
-  own e.0 e.1 (ap (λ o. cond (is_eq o) (Some e.1) (lookup (is_at (group_cmp e.0)) groups)) (tied_itself group_total e.0)),
-  each-own live groups rising.1 (λ g runs found. own g runs (found-later g e groups runs rising.0 found)),
-)
 
 -- a group that is none of them isn't found
 none-found : (g : Group) (groups : List Grouped) → AllByRecursion (λ (e : Grouped). e.0 ≢ g) groups → lookup (is_at (group_cmp g)) groups ≡ None
@@ -112,19 +71,9 @@ filter-every [] = refl
 filter-every (x ∷ xs) = ap (λ ys. x ∷ ys) (filter-every xs)
 
 module _ (laws : Laws) (f : Files) (s : TableSchema) (entries : List Entry) (id : ℕ) (live : Live) (has : (g : Group) → HasGroup f s entries id live g) where
-  -- the runs of a group were there
-  pub has-runs : (e : Grouped) → HasOwn live e → HasRuns f s e
-  has-runs e own =
-      let same : (has e.0).runs ≡ e.1 = laws.one_runs live e.0 (has e.0).runs e.1 (has e.0).own own.0 in record {
-        some = own.1;
-        each = own.0.made.each;
-        stored = (has e.0).stored;
-        read = subst (λ (runs : List RunView). AllZip (HasRun f s e.0) runs (has e.0).stored) same (has e.0).read;
-      }
-
   pub all-have : (groups : List Grouped) → AllByRecursion (HasOwn live) groups → AllByRecursion (HasRuns f s) groups
   all-have [] own = tt
-  all-have (e ∷ groups) own = (has-runs e own.0, all-have groups own.1)
+  all-have (e ∷ groups) own = (has-runs laws.one_runs f s entries id live e (has e.0) own.0, all-have groups own.1)
 
   -- its stored runs, the oldest first
   abbrev own_runs : Group → List Run

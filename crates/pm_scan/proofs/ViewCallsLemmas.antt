@@ -50,7 +50,7 @@ use Rattle.pm_read_table.specs.declared.view.View.{View}
 use Rattle.pm_read_table.proofs.Facts.{Joined, OneList, spares}
 use Rattle.pm_read_table.proofs.TwoLemmas.{first_in, two_in}
 use Rattle.pm_scan.specs.AllCalls.{path_of}
-use Rattle.pm_scan.proofs.ViewLemmas.{OneContents, same-live}
+use Rattle.pm_group_files.proofs.ViewLemmas.{OneContents, same-live}
 
 -- ---- they change nothing
 

@@ -1,29 +1,21 @@
 -- What a scanner knows of the snapshots, and what its steps mean for the files.
 use Rattle.std.specs.Prelude.{◌≡◌, ◌⊎◌, ℕ, List, []}
-use Rattle.std.specs.BTreeMap.{IsOrdered}
-use Rattle.pm_values.specs.GroupOrder.{group_cmp}
 use Rattle.pm_store.specs.Files.{Files}
-use Rattle.pm_model_history.specs.History.{Entry, IsTableOf, rows_up_to, table}
+use Rattle.pm_model_history.specs.History.{Entry, rows_up_to, table}
 use Rattle.pm_model_history.specs.Merged.{scan_text}
 use Rattle.pm_schema.specs.declared.schema.TableSchema.{TableSchema}
 use Rattle.pm_model_folder.specs.Ledger.{IsKnown, Past}
 use Rattle.pm_read_table.specs.Meaning as reader
-use Rattle.pm_read_table.specs.Meaning.{IsViewIn}
 use Rattle.pm_read_table.specs.declared.view.View.{View}
 use Rattle.pm_group_files.specs.Chosen.{Chosen, chosen_of}
 use Rattle.pm_group_files.specs.Meaning as files
+use Rattle.pm_group_files.specs.Meaning.{IsTableView}
 use Rattle.pm_scan.specs.declared.phase.Phase.{Phase}
 use Rattle.pm_scan.specs.declared.phase.Phase.TheVariants as phases
 
 -- what is asked of the reader of the files of a view: all groups, of which none was handed out
 abbrev pub all_of : View → Chosen
 all_of v = chosen_of v.schema v.id v.groups.entries []
-
--- the view is that of the table at a snapshot
-pub record IsTableView (p : Past) (v : View) : Type 0 where
-  pub is_view : IsViewIn p v
-  pub order : IsOrdered group_cmp v.groups
-  pub table : IsTableOf v.schema p.history
 
 -- the text is the scan of the table at the snapshot
 pub record IsScan (p : Past) (id : ℕ) (text : List ℕ) : Type 0 where

@@ -23,13 +23,14 @@ ghost use Rattle.pm_values.specs.declared.refusal.Refusal.TheVariants as refusal
 ghost use Rattle.pm_scan.specs.AllCalls.{DidScan, PrintAlike, ScansTables};
 ghost use Rattle.pm_group_files.specs.Collected.{Collected, HaveTaken, nothing_of};
 ghost use Rattle.pm_group_files.specs.Jobs.{all_jobs};
-ghost use Rattle.pm_group_files.specs.Meaning.{IsChosen};
+ghost use Rattle.pm_group_files.specs.Meaning.{IsChosen, IsTableView};
 ghost use Rattle.pm_group_files.specs.declared.job.Job.{Job};
-ghost use Rattle.pm_scan.specs.Meaning.{all_of, IsScan, IsTableView, Knows};
+ghost use Rattle.pm_scan.specs.Meaning.{all_of, IsScan, Knows};
 ghost use Rattle.pm_scan.specs.Scanner.{next_call, Shown};
 ghost use Rattle.pm_scan.specs.declared.phase.Phase.{Phase};
 
 use pm_avro_file::one_opening_law;
+use pm_group_files::view_law;
 use pm_manifest::{Entry, ManifestMeta, joined_law};
 use pm_model_contents::{one_contents_law, one_runs_law};
 use pm_record::one_reading_law;
@@ -89,6 +90,7 @@ pub(crate) fn files_law()
         → HaveTaken (p.stood v.id) (all_jobs v.schema v.groups.entries) (nothing_of v.schema) c
         → PrintsGroups (meaning_of c.schema) c.groups text → IsScan p v.id text }
 {
+    view_law();
     declared_law();
     schema_law();
     one_contents_law();

@@ -1,6 +1,6 @@
+use Rattle.pm_group_files.proofs.ViewLemmas.{OneContents}
 use Rattle.pm_scan.proofs.KnownLemmas.{Tells, view-chosen, view-scan}
 use Rattle.pm_scan.proofs.ScanLemmas.{Laws}
-use Rattle.pm_scan.proofs.ViewLemmas.{OneContents}
 use Rattle.pm_scan.proofs.laws.files_law.Goals as goal
 
 pub returns : goal.returns
@@ -18,4 +18,7 @@ returns c =
     } in
     let one : OneContents = c.one_contents_law.ensures in
     let tells : Tells = record { exact = c.schema_law.ensures.exact; declared = c.declared_law.ensures.file } in
-    record { chosen = view-chosen laws one tells; all = view-scan laws one tells }
+    record {
+      chosen = λ f p v job jobs stands is parts. view-chosen c.view_law.ensures f p v stands is job jobs parts;
+      all = view-scan laws one tells;
+    }
