@@ -37,6 +37,6 @@ left_in (left.Decoded rest) = rest.now
 abbrev pub run_left : StoredRows → Run
 run_left r = left_in r.own ++ all_of r.files.now
 
--- Private: what a run still gives: all of it was read, so no refusal comes
+-- what a run still gives: all of it was read, so no refusal comes
 abbrev pub rest_of : StoredRows → Rest
 rest_of r = whole_rest (run_left r)

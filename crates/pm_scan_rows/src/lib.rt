@@ -24,4 +24,5 @@ mod stored_run;
 pub use laws::{scan_law, shows_by_kind_law};
 pub use print::print_groups;
 pub use rows::StoredRows;
+pub use shown::sources;
 pub use stored_run::StoredRun;

@@ -33,6 +33,15 @@ pub(crate) fn sources_of<'b>(
     Ok(sources)
 }
 
+/// The rows of runs, each where it lies.
+pub fn sources<'b>(alloc: Global, runs: &'b [StoredRun]) -> Result<Vec<StoredRows<'b>>, AllocError>
+    ensures { IfOk result (λ sources. map run_left sources.items ≡ runs.now) }
+{
+    let mut sources = Vec::new(alloc);
+    push_sources(&mut sources, runs)?;
+    Ok(sources)
+}
+
 /// Adds the rows of runs.
 fn push_sources<'b>(
     sources: &mut Vec<StoredRows<'b>>,
