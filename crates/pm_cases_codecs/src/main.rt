@@ -42,6 +42,8 @@
 //! | `write-changes` | a draft, row lines | the file, with what is read of it; or the refusal |
 //! | `long-run` | a count, a limit | the files, each with what is read of it; or the refusal |
 //! | `timed-run` | a count | in how many milliseconds such a run is written and read, for a script of `bench/` |
+//! | `long-merge` | a count, how many runs, `spread` or `same` | the files that they become, as of `long-run` |
+//! | `timed-merge` | the same | their sums; in how many milliseconds they are read and rewritten; the sums then |
 //! | `merge` | a draft, `keep` or `drop`, runs | the rows of the run that they are made into; or `nothing` |
 //!
 //! The argument of `live` is manifests with `;` between them. The entries of one are words: `+NAME@LEVEL/BUCKET` adds a
@@ -71,6 +73,11 @@
 //! each two. Runs have `;` between each two, the oldest first, and the keys of each rise; where no TAB follows `keep`
 //! or `drop`, there is no run. The rows of `write-changes` have the numbers from 0 on. Those of `long-run` have the
 //! keys from 1 on, each its key as its number, and `v` and its key as its text.
+//!
+//! The runs of `long-merge` have so many rows together, and a file each. Their keys count from 1 on: where they are
+//! `spread` each stands in one run, which a hash of it tells, else all stand in each run. The rows are numbered from 1
+//! on, run by run, and the text of each is `v` and its number. They are rewritten at level 5, without the droppable
+//! ones. The sums of files are how many rows, bytes and files they are, and a sum of their checksums.
 //!
 //! What is read of a file of rows is each row and a TAB, then `end` or the refusal; and after a TAB each block, as
 //! `OFFSET:ROWS` and a blank, and again `end` or the refusal. A row is printed as `KEY NUMBER:LINE`; a key as the array
@@ -174,7 +181,9 @@ fn answer_table(rt: &HostRuntime, case: &mut Case, codec: &str, arguments: &str)
         | "write-run"
         | "write-changes"
         | "merge" => table::answer(rt, case, codec, first, rest),
-        "long-run" | "timed-run" => table::answer(rt, case, codec, DRAFT, arguments),
+        "long-run" | "timed-run" | "long-merge" | "timed-merge" => {
+            table::answer(rt, case, codec, DRAFT, arguments)
+        }
         _ => case.reject(),
     }
 }

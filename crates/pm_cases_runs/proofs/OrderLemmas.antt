@@ -1,5 +1,5 @@
 -- Rows in the order of a data file rise.
-use Rattle.std.proofs.Common.{◌≡◌, true, false, List, [], ◌∷◌, None, Some, refl}
+use Rattle.std.proofs.Common.{◌≡◌, true, false, List, [], ◌∷◌, ◌++◌, None, Some, refl, sym, ap, ◌∙◌, subst}
 use Rattle.std.specs.List.{AllByRecursion}
 use Rattle.std.specs.List.Sorted.{IsStrictlySortedBy}
 use Rattle.std.specs.Ordering.{is_lt}
@@ -8,7 +8,7 @@ use Rattle.std.specs.declared.cmp.Ordering.TheVariants.{Less, Equal, Greater}
 use Rattle.std.proofs.lemmas.Bool.{and_parts}
 use Rattle.pm_values.specs.Order.{Values, key_cmp, key_total}
 use Rattle.pm_values.specs.declared.record.Stamped.{Stamped}
-use Rattle.pm_run.specs.Order.{are_in_order, keys_of, may_follow}
+use Rattle.pm_run.specs.Order.{are_in_order, keys_of, last_key, may_follow}
 use Rattle.pm_run.specs.Writing.{AreRising}
 
 is_less : (r : Ordering) → is_lt r ≡ true → r ≡ Less
@@ -41,3 +41,9 @@ in_order_rising (x ∷ rows) e =
     let parts = and_parts (may_follow false None x.key) (are_in_order false (Some x.key) rows) e in
     let later = rises_after x.key rows parts.1 in
     (later.above, later.rising)
+
+-- rows in order that stand after none rise
+pub rising_first : (before after more : List Stamped) → before ≡ [] → after ≡ before ++ more → are_in_order false (last_key None before) more ≡ true → AreRising after
+rising_first before after more none is order =
+    subst AreRising (sym (is ∙ ap (λ rows. rows ++ more) none))
+    (in_order_rising more (subst (λ rows. are_in_order false (last_key None rows) more ≡ true) none order))

@@ -1,14 +1,38 @@
 -- Runs whose keys rise.
-use Rattle.std.proofs.Common.{◌≡◌, [], ◌∷◌, ◌++◌, List, Vec, All, sym, subst}
+use Rattle.std.proofs.Common.{◌≡◌, [], ◌∷◌, ◌++◌, List, Vec, All, map, refl, ap, sym, subst}
 use Rattle.std.specs.declared.alloc.Global.{Global}
 use Rattle.std.proofs.lemmas.List.{map-append}
 use Rattle.std.proofs.lemmas.List.Elements.{All-push}
 use Rattle.pm_values.specs.declared.record.Stamped.{Stamped}
-use Rattle.pm_engine.specs.Covers.{IsRising}
+use Rattle.pm_options.specs.declared.kinds.EngineKind.TheVariants as engines
+use Rattle.pm_schema.specs.declared.schema.TableSchema.{TableSchema}
+use Rattle.pm_engine.specs.Covers.{IsRising, Run}
+use Rattle.pm_engines.specs.TableEngine.{HasEngine, Serves}
 use Rattle.pm_merge.specs.Merge.{runs_of}
+use Rattle.pm_merge.specs.Merging.{runs_in}
+use Rattle.pm_scan_rows.specs.Stored.{rest_of, run_left}
+use Rattle.pm_scan_rows.specs.declared.rows.StoredRows.{StoredRows}
 
 -- one run more
 pub rising_push : (runs new : List (Vec Stamped Global)) (run : Vec Stamped Global) → new ≡ runs ++ run ∷ [] → All IsRising (runs_of runs) → IsRising run.items → All IsRising (runs_of new)
 rising_push runs new run items before rising =
     subst (λ rs. All IsRising (runs_of rs)) (sym items)
     (subst (All IsRising) (sym (map-append (λ (run : Vec Stamped Global). run.items) runs (run ∷ []))) (All-push IsRising (runs_of runs) run.items before rising))
+
+-- so of runs that were read
+pub rising_next : (runs new : List Run) (run : Run) → new ≡ runs ++ run ∷ [] → All IsRising runs → IsRising run → All IsRising new
+rising_next runs new run is before rising = subst (All IsRising) (sym is) (All-push IsRising runs run before rising)
+
+rows_left_in : (sources : List StoredRows) → runs_in (map rest_of sources) ≡ map run_left sources
+rows_left_in [] = refl
+rows_left_in (r ∷ sources) = ap (λ (runs : List Run). run_left r ∷ runs) (rows_left_in sources)
+
+-- what is left of rising runs rises
+pub rising_sources : (sources : List StoredRows) (runs : List Run) → map run_left sources ≡ runs → All IsRising runs → All IsRising (runs_in (map rest_of sources))
+rising_sources sources runs are rising = subst (All IsRising) (sym (rows_left_in sources)) (subst (All IsRising) (sym are) rising)
+
+-- ---- the engine
+
+-- a schema that names the engine of last rows has one
+pub serves_last : (s : TableSchema) → s.options.engine ≡ engines.Deduplicate → HasEngine s
+serves_last s is = subst (λ kind. Serves kind s) (sym is) tt

@@ -1,13 +1,15 @@
-//! Cases of files of rows, of changelogs and of merged runs, which `pm_cases_codecs` answers: what a line of it says of
-//! them stands in the head of that program.
+//! Cases of files of rows, of changelogs, and of runs that are merged or rewritten, which `pm_cases_codecs` answers: what
+//! a line of it says of them stands in the head of that program.
 #![tactic(auto)]
 
+mod long_merge;
 mod long_run;
 mod merge;
 mod order;
 mod rows;
 mod run_file;
 mod table;
+mod timed_merge;
 mod timed_run;
 mod written;
 

@@ -60,7 +60,7 @@ fn say_run(case: &mut Case, table: Table, rows: &[Stamped], limit: usize)
 }
 
 /// Says the files of a run.
-fn say_files(case: &mut Case, table: Table, files: Vec<RunFile>) {
+pub fn say_files(case: &mut Case, table: Table, files: Vec<RunFile>) {
     let mut is_later = false;
     for file in files {
         say_between(case, is_later, "\t");

@@ -44,7 +44,7 @@ fn time_run(rt: &HostRuntime, case: &mut Case, table: Table, rows: Vec<Stamped>)
 }
 
 /// Says how many milliseconds have passed.
-fn say_elapsed(rt: &HostRuntime, case: &mut Case, what: &str, start: io::Result<Instant>) {
+pub fn say_elapsed(rt: &HostRuntime, case: &mut Case, what: &str, start: io::Result<Instant>) {
     let passed = match start {
         Ok(start) => start.elapsed(rt),
         Err(error) => Err(error),
