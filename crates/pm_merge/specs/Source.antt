@@ -12,13 +12,13 @@ pub record Rest : Type 0 where
   pub refusal : Option Refusal
 
 -- What one call makes of it: the first row stands in the place and the others are left; or there is neither a row nor a
--- refusal, and nothing changes; or no row is left, and the refusal comes: no row stands in the place, and none comes
--- after it. Where memory ran out, nothing is said.
+-- refusal, and nothing changes; or no row is left, and the refusal comes: no row stands in the place, and nothing
+-- changes, so that the refusal comes each time. Where memory ran out, nothing is said.
 abbrev pub Fills : Rest → Result (Unit {0}) Refusal → Rest → Option Stamped → Type 0
 Fills old (Ok done) new None = (old.rows ≡ []) × (old.refusal ≡ None) × (new ≡ old)
 Fills old (Ok done) new (Some s) = (old.rows ≡ s ∷ new.rows) × (new.refusal ≡ old.refusal)
 Fills old (Err e) new held =
-    e ≢ Memory → (old.rows ≡ []) × (old.refusal ≡ Some e) × (new.rows ≡ []) × (held ≡ None)
+    e ≢ Memory → (old.rows ≡ []) × (old.refusal ≡ Some e) × (new ≡ old) × (held ≡ None)
 
 -- the same of a call that hands the row out
 abbrev pub HandsOut : Rest → Result (Option Stamped) Refusal → Rest → Type 0

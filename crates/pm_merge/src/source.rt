@@ -16,8 +16,8 @@ pub trait RowSource<P: RowPlace>: Drop {
     /// What it has still to give.
     ghost rest: { Self → Rest };
 
-    /// Puts the next row into an empty place, or none at the end. After a refusal no row is left, and none stands in
-    /// the place. Where memory runs out, nothing is said of what is left.
+    /// Puts the next row into an empty place, or none at the end. Where it refuses, no row is left, none stands in the
+    /// place, and it refuses each time. Where memory runs out, nothing is said of what is left.
     fn fill(&mut self, alloc: Global, slot: &mut P) -> Result<(), Refusal>
         requires { P.held slot.old ≡ None }
         ensures { Fills (rest self.old) result (rest self.new) (P.held slot.new) };
