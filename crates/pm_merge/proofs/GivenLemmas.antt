@@ -289,3 +289,12 @@ given_same one m first last run other stored given none merges = one-merge one m
 pub given_more : (m : Meaning) (first old new : List Rest) (run : Run) (s : Stamped) → GivesAll m first run old → GivesLeast m old s new → GivesAll m first (run ++ s ∷ []) new
 given_more m first old new [] s given least = (new, subst (λ (rs : List Rest). GivesLeast m rs s new) given least, refl)
 given_more m first old new (x ∷ run) s (later, goes, given) least = (later, goes, given_more m later old new run s given least)
+
+-- ---- no row is given where none is left
+
+no_first : (key : Values) (rests : List Rest) → HaveNoRow rests → flat_map (λ (r : Rest). first_of_key key r.rows) rests ≡ []
+no_first key [] none = refl
+no_first key (r ∷ rests) none = ap (λ (rows : Run). first_of_key key rows ++ firsts key rests) none.0 ∙ no_first key rests none.1
+
+pub given_some : (m : Meaning) (old new : List Rest) (s : Stamped) → GivesLeast m old s new → HaveNoRow old → ⊥
+given_some m old new s gives none = some_rows m (flat_map (λ (r : Rest). first_of_key s.key r.rows) old) s gives.combined (no_first s.key old none)

@@ -1,10 +1,10 @@
 -- Of runs of stored rows there is one merge: each key has the stored row of its rows.
-use Rattle.std.proofs.Common.{◌≡◌, ◌≢◌, zero, List, [], ◌∷◌, ◌++◌, map, All, true, false, refl, sym, ap, subst, ◌∙◌, arith}
+use Rattle.std.proofs.Common.{◌≡◌, ◌≢◌, zero, List, [], ◌∷◌, ◌++◌, map, All, true, false, refl, sym, ap, subst, ◌∙◌, append-nil, arith}
 use Rattle.std.specs.List.{AllByRecursion, AllZip, flat_map}
 use Rattle.std.specs.Ordering.{eq_by_cmp, is_eq, ordering_reverse}
 use Rattle.std.specs.declared.cmp.Ordering.TheVariants.{Less, Equal, Greater}
 use Rattle.std.proofs.lemmas.List.{map-append}
-use Rattle.std.proofs.lemmas.List.Elements.{All-tail, filter-append}
+use Rattle.std.proofs.lemmas.List.Elements.{All-cons, All-nil, All-tail, filter-append}
 use Rattle.pm_base.proofs.Laws.{AllByRecursion-append, AllByRecursion-parts}
 use Rattle.pm_values.specs.Order.{Values, key_cmp, key_total}
 use Rattle.pm_values.specs.declared.record.Stamped.{Stamped}
@@ -43,6 +43,14 @@ all_hold m key (run ∷ runs) rising speak =
     let parts = AllByRecursion-parts (λ (s : Stamped). SpeaksFor m s.key (row_of s) (row_of s ∷ [])) run (all_rows runs) speak in
     (holds_own m key run (rising zero run (omega arith)) parts.0, all_hold m key runs (All-tail IsRising run runs rising) parts.1)
 
+-- a row of a merge that is alone of its key speaks for what the runs have of it
+merged_speaks : (m : Meaning) (runs : List Run) (run : Run) → AreStored m runs → IsMerge m runs run → (s : Stamped) → of_key s.key run ≡ s ∷ []
+    → SpeaksFor m s.key (row_of s) (map row_of (of_key s.key (all_rows runs)))
+merged_speaks m runs run stored is s own =
+    let rows : List HistoryRow = map row_of (of_key s.key (all_rows runs)) in
+    let before : CoversKey m s.key runs [] rows = record { parts = map (λ (run : Run). map row_of (of_key s.key run)) runs; split = split_rows s.key runs; holds = all_hold m s.key runs stored.rising stored.speak } in
+    subst (λ o. Holds m s.key o rows) own (whole_part m s.key run rows (is.covers s.key [] rows before))
+
 abbrev pub IsOne : Type 0
 IsOne = (m : Meaning) (key : Values) (stored : HistoryRow) (rows : List HistoryRow) → SpeaksFor m key stored rows → stored.0 ≡ m.kind rows → stored ≡ stored_of m rows
 
@@ -53,15 +61,9 @@ merged-stored one m runs run stored is = each run (alone run is.rising) (each_of
     has_kind : (s : Stamped) → HasOwnKinds m s (of_key s.key (all_rows runs)) → HasKindOf m s (of_key s.key (all_rows runs))
     has_kind s of_own = of_own (all-filter (λ (t : Stamped). t.kind ≡ m.kind (row_of t ∷ [])) (λ (t : Stamped). eq_by_cmp key_cmp s.key t.key) (all_rows runs) stored.kinds)
 
-    speaks : (s : Stamped) → of_key s.key run ≡ s ∷ [] → SpeaksFor m s.key (row_of s) (map row_of (of_key s.key (all_rows runs)))
-    speaks s own =
-        let rows : List HistoryRow = map row_of (of_key s.key (all_rows runs)) in
-        let before : CoversKey m s.key runs [] rows = record { parts = map (λ (run : Run). map row_of (of_key s.key run)) runs; split = split_rows s.key runs; holds = all_hold m s.key runs stored.rising stored.speak } in
-        subst (λ o. Holds m s.key o rows) own (whole_part m s.key run rows (is.covers s.key [] rows before))
-
     each : (ss : Run) → AllByRecursion (λ (s : Stamped). of_key s.key run ≡ s ∷ []) ss → AllByRecursion (λ (s : Stamped). HasKindOf m s (of_key s.key (all_rows runs))) ss → AreStoredRows m ss (all_rows runs)
     each [] own kinds = tt
-    each (s ∷ ss) own kinds = (one m s.key (row_of s) (map row_of (of_key s.key (all_rows runs))) (speaks s own.0) kinds.0.kind, each ss own.1 kinds.1)
+    each (s ∷ ss) own kinds = (one m s.key (row_of s) (map row_of (of_key s.key (all_rows runs))) (merged_speaks m runs run stored is s own.0) kinds.0.kind, each ss own.1 kinds.1)
 
 -- ---- the keys
 
@@ -178,3 +180,16 @@ pub found-stored : IsItself → (m : Meaning) (runs : List Run) (rows : List His
 found-stored itself m runs rows own rising covers =
     let speak = all_speak itself m runs rising (each_holds m runs (λ key. let at = (covers key).2 in (at.parts, at.holds))) in
     record { rising = rising; speak = speak; kinds = own_kinds m (all_rows runs) own speak }
+
+-- ---- a merge as a run of stored rows
+
+-- with kinds that are their own, a merge of runs of stored rows is one
+pub merged-again : IsItself → (m : Meaning) (runs : List Run) (run : Run) → KindsAreOwn m → AreStored m runs → IsMerge m runs run → AreStored m (run ∷ [])
+merged-again itself m runs run own stored is =
+    let speak = subst (AllByRecursion (λ (s : Stamped). SpeaksFor m s.key (row_of s) (row_of s ∷ []))) (sym (append-nil run)) each in
+    record { rising = All-cons IsRising run [] is.rising (All-nil IsRising); speak = speak; kinds = own_kinds m (all_rows (run ∷ [])) own speak }
+  where
+    each : AllByRecursion (λ (s : Stamped). SpeaksFor m s.key (row_of s) (row_of s ∷ [])) run
+    each =
+        each_of (λ (s : Stamped). of_key s.key run ≡ s ∷ []) (λ (s : Stamped). SpeaksFor m s.key (row_of s) (row_of s ∷ []))
+        (λ s at. itself m s.key (row_of s) (map row_of (of_key s.key (all_rows runs))) (merged_speaks m runs run stored is s at)) run (alone run is.rising)

@@ -20,13 +20,14 @@ pub fn one_run_law()
     ensures { (m : Meaning) (run : Run) → IsRising run → IsMerge m (run ∷ []) run }
 {}
 
-/// Rows that are given one after another are a run, once no row is left: the rows that were there at first, if they
-/// rose, are merged into it. So of stored rows it is the one run that `merge_runs` gives (`merged_law`), and those
-/// given so far are its first ones. Where they end without a refusal no source had one, and one that comes is that of a
-/// source: where none has one, the only refusal is that memory ran out.
+/// Rows that are given one after another are a run, once no row is left and so none is given any more: the rows that
+/// were there at first, if they rose, are merged into it. So of stored rows it is the one run that `merge_runs` gives
+/// (`merged_law`), and those given so far are its first ones. Where they end without a refusal no source had one, and
+/// one that comes is that of a source: where none has one, the only refusal is that memory ran out.
 pub fn given_law()
     ensures more { (m : Meaning) (first old new : List Rest) (run : Run) (s : Stamped) → GivesAll m first run old →
         GivesLeast m old s new → GivesAll m first (run ++ s ∷ []) new }
+    ensures some { (m : Meaning) (old new : List Rest) (s : Stamped) → GivesLeast m old s new → HaveNoRow old → ⊥ }
     ensures all { (m : Meaning) (first last : List Rest) (run : Run) → All IsRising (runs_in first) →
         GivesAll m first run last → HaveNoRow last → IsMerge m (runs_in first) run }
     ensures same { (m : Meaning) (first last : List Rest) (run merged : Run) → AreStored m (runs_in first) →
@@ -45,7 +46,8 @@ pub fn given_law()
 }
 
 /// Runs that cover rows are of stored rows, where kinds are their own, as in each table (`own_kind_law`). What such
-/// runs are merged into has of each key the stored row of their rows, and so there is one such run.
+/// runs are merged into has of each key the stored row of their rows, and so there is one such run; where kinds are
+/// their own, it is one of stored rows again.
 pub fn merged_law()
     ensures found { (m : Meaning) (runs : List Run) (rows : List HistoryRow) → KindsAreOwn m → All IsRising runs →
         Covers m runs rows → AreStored m runs }
@@ -53,6 +55,8 @@ pub fn merged_law()
         AreStoredRows m run (all_rows runs) }
     ensures one { (m : Meaning) (runs : List Run) (one other : Run) → AreStored m runs → IsMerge m runs one →
         IsMerge m runs other → one ≡ other }
+    ensures again { (m : Meaning) (runs : List Run) (run : Run) → KindsAreOwn m → AreStored m runs →
+        IsMerge m runs run → AreStored m (run ∷ []) }
 {
     stored_law();
 }
