@@ -15,7 +15,7 @@ use Rattle.pm_run.specs.declared.run.RunFile.{RunFile}
 use Rattle.pm_runs.specs.Stand.{top_of}
 use Rattle.pm_runs.specs.Succession.{KnownRun, MayTakePlace, TakeOldestPlace, TakePlace, from_oldest, unless_empty}
 use Rattle.pm_compact.specs.Made.{IsMadeAt, IsRunOf, TakesPlace, made_run}
-use Rattle.pm_compact.specs.Rewritten.{AreRewritten, IsRewritten, most_rows}
+use Rattle.pm_compact.specs.Rewritten.{AreRewritten, IsRewritten, most_in_file}
 
 -- ---- parts of rows
 
@@ -35,7 +35,7 @@ within_most a b c first second = omega arith
 -- ---- files
 
 -- no files are those of no rows
-none_made : (s : TableSchema) (level : ℕ) (names : Naming) (run : Run) (files : List RunFile) → AreFilesOf s most_rows level names run files → (files ≡ []) ↔ (run ≡ [])
+none_made : (s : TableSchema) (level : ℕ) (names : Naming) (run : Run) (files : List RunFile) → AreFilesOf s most_in_file level names run files → (files ≡ []) ↔ (run ≡ [])
 none_made s level names run [] are = (λ _. are, λ _. refl)
 none_made s level names [] (f ∷ files) are = absurd (omega (arith, are.0))
 none_made s level names (x ∷ run) (f ∷ files) are = (λ none. cc, λ none. cc)
@@ -45,19 +45,19 @@ pub rewritten_none : (s : TableSchema) (m : Meaning) (drop : Bool) (level : ℕ)
 rewritten_none s m drop level names rests files are = none_made s level names are.run files are.files
 
 -- what each file tells
-files_made : (s : TableSchema) (most level : ℕ) (names : Naming) (run : Run) (files : List RunFile) → 1 ≤ most → most ≤ most_rows → AreFilesOf s most level names run files → AllByRecursion (IsMadeAt level) files
+files_made : (s : TableSchema) (most level : ℕ) (names : Naming) (run : Run) (files : List RunFile) → 1 ≤ most → most ≤ most_in_file → AreFilesOf s most level names run files → AllByRecursion (IsMadeAt level) files
 files_made s most level names run [] positive within are = tt
 files_made s most level names run (f ∷ files) positive within are =
     let count = are.1.meta.count in
     let least = taken_some most run positive are.0 in
     let greatest = taken_within most run in (
-      record { level_is = are.1.meta.levelled; some = subst (λ (n : ℕ). 1 ≤ n) (sym count) least; most = subst (λ (n : ℕ). n ≤ most_rows) (sym count) (within_most (length (take most run)) most most_rows greatest within) },
+      record { level_is = are.1.meta.levelled; some = subst (λ (n : ℕ). 1 ≤ n) (sym count) least; most = subst (λ (n : ℕ). n ≤ most_in_file) (sym count) (within_most (length (take most run)) most most_in_file greatest within) },
       files_made s most level (counted names) (drop most run) files positive within are.2,
     )
 
 pub rewritten_told : (s : TableSchema) (m : Meaning) (drop : Bool) (level : ℕ) (names : Naming) (rests : List Rest) (files : List RunFile) → AreRewritten s m drop level names rests files
     → AllByRecursion (IsMadeAt level) files
-rewritten_told s m drop level names rests files are = files_made s most_rows level names are.run files (omega arith) (omega arith) are.files
+rewritten_told s m drop level names rests files are = files_made s most_in_file level names are.run files (omega arith) (omega arith) are.files
 
 -- at most one run, with these files
 pub rewritten_one : (level newest : ℕ) (run : Run) (files : List RunFile) → (length (made_run level newest run files) ≤ 1) × AllByRecursion (IsRunOf level newest run files) (made_run level newest run files)
@@ -65,7 +65,7 @@ rewritten_one level newest run [] = (omega arith, tt)
 rewritten_one level newest run (f ∷ files) = (omega arith, (record { level_is = refl; newest_is = refl; rows_are = refl; files_are = refl; some = λ none. cc }, tt))
 
 -- the rows of the run that files are
-made_rows : (s : TableSchema) (level newest : ℕ) (names : Naming) (run : Run) (files : List RunFile) → AreFilesOf s most_rows level names run files → from_oldest (made_run level newest run files) ≡ unless_empty run
+made_rows : (s : TableSchema) (level newest : ℕ) (names : Naming) (run : Run) (files : List RunFile) → AreFilesOf s most_in_file level names run files → from_oldest (made_run level newest run files) ≡ unless_empty run
 made_rows s level newest names [] [] are = refl
 made_rows s level newest names (x ∷ run) [] are = cc
 made_rows s level newest names [] (f ∷ files) are = absurd (omega (arith, are.0))

@@ -1,3 +1,4 @@
+mod GivenLemmas
 mod LawLemmas
 mod ReadLemmas
 mod RewriteLemmas

@@ -10,7 +10,7 @@ use Rattle.pm_engine.specs.OfSchema.{meaning_of}
 use Rattle.pm_merge.specs.Merge.{AreStored, IsMerge, without_droppable}
 use Rattle.pm_run.specs.Row.{IsOfFile}
 use Rattle.pm_compact.specs.Rewritten.{HaveFileNumbers, kept_rows}
-use Rattle.pm_compact.proofs.ReadLemmas.{kept_of_file}
+use Rattle.pm_compact.proofs.ReadLemmas.{OwnKinds, StoredAgain, kept_of_file}
 
 -- nothing is kept of no rows
 pub kept_none : (m : Meaning) (drop : Bool) → kept_rows m drop [] ≡ []
@@ -46,8 +46,8 @@ kept_rises rising m true run is = rising m run is
 kept_rises rising m false run is = is
 
 -- the rows that are kept of runs of a table's stored rows are ones that its data files can have
-pub kept_readable : (s : TableSchema) (m : Meaning) (drop : Bool) (runs : List Run) (run : Run) → IsMerge m runs run → m ≡ meaning_of s → AreStored m runs → HaveFileNumbers runs
-    → AllByRecursion (IsOfFile s false) (kept_rows m drop run)
-kept_readable s m drop runs run merge same stored numbered =
+pub kept_readable : OwnKinds → StoredAgain → (s : TableSchema) (m : Meaning) (drop : Bool) (runs : List Run) (run : Run) → IsMerge m runs run → m ≡ meaning_of s → AreStored m runs
+    → HaveFileNumbers runs → AllByRecursion (IsOfFile s false) (kept_rows m drop run)
+kept_readable own_kinds again s m drop runs run merge same stored numbered =
     subst (λ (n : Meaning). AllByRecursion (IsOfFile s false) (kept_rows n drop run)) (sym same)
-    (kept_of_file s runs run (subst (λ (n : Meaning). AreStored n runs) same stored) (subst (λ (n : Meaning). IsMerge n runs run) same merge) drop numbered)
+    (kept_of_file own_kinds again s runs run (subst (λ (n : Meaning). AreStored n runs) same stored) (subst (λ (n : Meaning). IsMerge n runs run) same merge) drop numbered)

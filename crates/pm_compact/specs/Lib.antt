@@ -1,2 +1,3 @@
 pub mod Made
+pub mod Rewriting
 pub mod Rewritten

@@ -5,7 +5,7 @@ use Rattle.pm_engine.specs.Covers.{Run}
 use Rattle.pm_engine.specs.Meaning.{Meaning}
 use Rattle.pm_run.specs.declared.run.RunFile.{RunFile}
 use Rattle.pm_runs.specs.Succession.{KnownRun, TakeOldestPlace, TakePlace, unless_empty}
-use Rattle.pm_compact.specs.Rewritten.{most_rows}
+use Rattle.pm_compact.specs.Rewritten.{most_in_file}
 
 -- what is known of files
 abbrev pub metas_of : List RunFile → List FileMeta
@@ -34,4 +34,4 @@ TakesPlace m true runs run = TakeOldestPlace m runs (unless_empty run)
 pub record IsMadeAt (level : ℕ) (f : RunFile) : Type 0 where
   pub level_is : f.meta.level ≡ level
   pub some : 1 ≤ f.meta.rows
-  pub most : f.meta.rows ≤ most_rows
+  pub most : f.meta.rows ≤ most_in_file

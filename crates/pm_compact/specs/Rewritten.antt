@@ -18,8 +18,8 @@ use Rattle.pm_run.specs.Writing.{AreFilesOf, IsRun, bytes_of}
 use Rattle.pm_run.specs.declared.run.RunFile.{RunFile}
 
 -- how many rows a compacted file has at most
-abbrev pub most_rows : ℕ
-most_rows = 65536
+abbrev pub most_in_file : ℕ
+most_in_file = 65536
 
 -- whether a stored row is left out where nothing older is left depends on its kind alone
 abbrev pub DropsByKind : Meaning → Type 0
@@ -53,7 +53,7 @@ pub record AreRewritten (s : TableSchema) (m : Meaning) (drop : Bool) (level : �
     (rests : List Rest) (made : List RunFile) : Type 0 where
   pub run : Run
   pub is : IsRewritten m drop (runs_in rests) run
-  pub files : AreFilesOf s most_rows level names run made
+  pub files : AreFilesOf s most_in_file level names run made
   pub again : m ≡ meaning_of s → AreStored m (runs_in rests) → HaveFileNumbers (runs_in rests)
       → IsRun s (bytes_of made) run
   pub ends : EndsWell m rests

@@ -1,10 +1,10 @@
 //! One run of several: what a compaction makes of a group's runs.
 //!
-//! `rewrite` merges the runs of a group, whatever their rows come from, and writes the run that they become to files of
-//! at most 65536 rows each, at a level. Rows go from where they stand into the bytes of a file, one after another, so
-//! that beside what the sources hold there are in memory the files that were made, and a row or two. The droppable rows
-//! are left out where the caller says so, which is right where all runs of the group are taken. `specs/Rewritten.antt`
-//! says which files these are.
+//! `Rewriting` merges the runs of a group, whatever their rows come from, and gives the run that they become file by
+//! file, each of at most 65536 rows, at a level. Rows go from where they stand into the bytes of a file, one after
+//! another, so that beside what the sources hold there are in memory the file in hand, and a row or two. The droppable
+//! rows are left out where the caller says so, which is right where all runs of the group are taken. `rewrite` makes
+//! all files at once. `specs/Rewritten.antt` says which files these are, and `specs/Rewriting.antt` what was given.
 //!
 //! `rewritten_law` says what that is for: the run takes the place of the runs, between whatever others, or, without
 //! the droppable rows, where none is older; it is no file exactly where it has no row; each file tells the level and
@@ -16,4 +16,4 @@ mod laws;
 mod rewriting;
 
 pub use laws::{drops_by_kind_law, rewritten_law};
-pub use rewriting::rewrite;
+pub use rewriting::{Rewriting, rewrite};

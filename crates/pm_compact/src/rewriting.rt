@@ -1,32 +1,112 @@
 //! A group's runs made into one.
 
 ghost use Rattle.std.specs.Prelude.{◌≡◌, ◌≢◌, ◌+◌, ◌<◌, ◌≤◌, ◌^◌, ◌∷◌, [], ◌++◌, ℕ, All, IfErr, IfOk, None, OnOk, Some};
-ghost use Rattle.std.specs.Prelude.{List, length, map};
+ghost use Rattle.std.specs.Prelude.{List, length, map, option_to_list};
 ghost use Rattle.pm_schema.specs.declared.schema.TableSchema.{TableSchema as SchemaView};
 ghost use Rattle.pm_values.specs.Names.{Naming};
 ghost use Rattle.pm_values.specs.Order.{Values};
 ghost use Rattle.pm_values.specs.declared.record.Stamped.{Stamped};
 ghost use Rattle.pm_values.specs.declared.refusal.Refusal.TheVariants.{Memory};
 ghost use Rattle.pm_engine.specs.Covers.{IsRising, row_of};
+ghost use Rattle.pm_engine.specs.Meaning.{Meaning};
 ghost use Rattle.pm_merge.specs.Merging.{runs_in};
-ghost use Rattle.pm_run_writer.specs.Written.{HasWritten, IsWriting};
+ghost use Rattle.pm_run.specs.declared.run.RunFile.{RunFile as FileView};
+ghost use Rattle.pm_run_writer.specs.Written.{HasAdded, HasInHand, IsWriting};
+ghost use Rattle.pm_compact.specs.Rewriting.{Asked, CanGive, GivesFile, HasGiven, asked_of, most_left};
 ghost use Rattle.pm_compact.specs.Rewritten.{AreRewritten, DropsByKind, RefusesAfter, kept_rows};
 
-use pm_engine::{MergeEngine, Stored};
-use pm_merge::{Merging, RowSource, given_law, oldest_law};
+use pm_engine::{MergeEngine, Stored, own_kind_law};
+use pm_merge::{Merging, RowSource, given_law, merged_law, oldest_law};
 use pm_row_slots::{PlacedRow, RowSlot};
 use pm_run::RunFile;
-use pm_run_writer::RunWriter;
+use pm_run_writer::{RunWriter, files_law};
 use pm_schema::TableSchema;
 use pm_values::{Kind, Names, Refusal, Row};
 use std::alloc::{AllocError, Global};
 
 /// How many rows a compacted file has at most.
-const MOST_ROWS: usize = 65536;
+const MOST_IN_FILE: usize = 65536;
 
-/// The files of the run that a group's runs become, the oldest first, at a level; with `drop` it lacks the droppable
-/// rows. A source's refusal comes as it is, where its next row would have to be known. Out of memory is also answered
-/// where a row can't be written, as `RunWriter::add` says.
+/// A group's runs that are being made into one, file by file: what is left of them, and the file in hand.
+#[derive(Drop)]
+pub struct Rewriting<'b, S> {
+    merging: Merging<RowSlot<'b>, S>,
+    writer: RunWriter<'b>,
+    drop: bool,
+}
+
+impl<'b, S: RowSource<RowSlot<'b>>> Rewriting<'b, S> {
+    /// A group's runs, the oldest first, before they are made into files at a level; with `drop` without the droppable
+    /// rows. It takes time and memory by the number of sources, and asks none for a row yet.
+    pub fn begin(
+        alloc: Global,
+        schema: &TableSchema,
+        older_first: Vec<S>,
+        level: u32,
+        drop: bool,
+        names: &Names,
+    ) -> Result<Rewriting<'b, S>, AllocError>
+        requires rising { All IsRising (runs_in (map S.rest older_first.items)) }
+        ensures none { IfOk result (λ w. (m : Meaning)
+            → HasGiven m S.rest (asked_of schema.now level drop names.now (map S.rest older_first.items)) [] []
+            names.now w) }
+        ensures ready { IfOk result CanGive }
+    {
+        Ok(Rewriting {
+            merging: Merging::of(alloc, older_first)?,
+            writer: RunWriter::begin(alloc, schema, MOST_IN_FILE, level, names)?,
+            drop,
+        })
+    }
+
+    /// The next file of the run, or none where all were given. A source's refusal comes as it is, where its next row
+    /// would have to be known. Out of memory is also answered where a row can't be written, as `RunWriter::add` says.
+    /// After a refusal nothing is said of what it gives.
+    pub fn next_file<E: MergeEngine>(
+        &mut self,
+        alloc: Global,
+        engine: &E,
+        names: &mut Names,
+    ) -> Result<Option<RunFile>, Refusal>
+        requires ready { CanGive self.old }
+        requires by_kind { DropsByKind (E.meaning engine.now) }
+        requires count { names.old.count < 18446744073709551615 }
+        ensures gives { IfOk result (λ file. (asked : Asked) (given : List FileView)
+            → HasGiven (E.meaning engine.now) S.rest asked given [] names.old self.old
+            → GivesFile (E.meaning engine.now) S.rest asked given file names.new self.new) }
+        ensures fewer { IfOk result (λ file. (asked : Asked) (given : List FileView)
+            → HasGiven (E.meaning engine.now) S.rest asked given [] names.old self.old
+            → length (option_to_list file) + most_left S.rest self.new ≤ most_left S.rest self.old) }
+        ensures ready { OnOk result (CanGive self.new) }
+        ensures refuses { IfErr result (λ e. e ≢ Memory → (asked : Asked) (given : List FileView)
+            → HasGiven (E.meaning engine.now) S.rest asked given [] names.old self.old
+            → RefusesAfter (E.meaning engine.now) asked.rests e) }
+        ensures names { names.new ≡ record names.old { count = names.new.count } }
+        ensures counted { names.old.count ≤ names.new.count }
+        ensures taken { IfOk result (λ file. names.new.count ≡ names.old.count + length (option_to_list file)) }
+    {
+        given_law();
+        merged_law();
+        oldest_law();
+        own_kind_law();
+        files_law();
+        let mut place = Box::new(alloc, RowSlot::new(alloc))?;
+        loop {
+            self.merging.fill(alloc, engine, &mut place)?;
+            if place.is_none() {
+                return Ok(self.writer.finish(alloc, names)?);
+            }
+            let (writer, leaves_out) = (&mut self.writer, self.drop);
+            match write_placed(alloc, engine, leaves_out, &mut place, writer, names)? {
+                Some(file) => return Ok(Some(file)),
+                None => {}
+            }
+        }
+    }
+}
+
+/// The files of the run that a group's runs become, all of them, the oldest first, at a level; with `drop` it lacks the
+/// droppable rows. It refuses as `next_file` does.
 pub fn rewrite<'b, E: MergeEngine, S: RowSource<RowSlot<'b>>>(
     alloc: Global,
     engine: &E,
@@ -47,21 +127,15 @@ pub fn rewrite<'b, E: MergeEngine, S: RowSource<RowSlot<'b>>>(
     ensures counted { names.old.count ≤ names.new.count }
     ensures taken { IfOk result (λ files. names.new.count ≡ names.old.count + length files.items) }
 {
-    given_law();
-    oldest_law();
-    let mut merging = Merging::of(alloc, older_first)?;
-    let mut writer = RunWriter::begin(alloc, schema, MOST_ROWS, level, names)?;
-    let mut place = Box::new(alloc, RowSlot::new(alloc))?;
-    loop {
-        merging.fill(alloc, engine, &mut place)?;
-        if place.is_none() {
-            return Ok(writer.finish(alloc, names)?);
-        }
-        write_placed(alloc, engine, drop, &mut place, &mut writer, names)?;
+    let mut rewriting = Rewriting::begin(alloc, schema, older_first, level, drop, names)?;
+    let mut files = Vec::new(alloc);
+    while let Some(file) = rewriting.next_file(alloc, engine, names)? {
+        files.push(file)?;
     }
+    Ok(files)
 }
 
-/// Writes the row of a place, which leaves it, unless it is left out.
+/// Writes the row of a place, which leaves it, unless it is left out. The file is handed out that it fills.
 fn write_placed<'b, E: MergeEngine>(
     alloc: Global,
     engine: &E,
@@ -69,25 +143,25 @@ fn write_placed<'b, E: MergeEngine>(
     place: &mut Box<RowSlot<'b>>,
     writer: &mut RunWriter<'b>,
     names: &mut Names,
-) -> Result<(), AllocError>
+) -> Result<Option<RunFile>, AllocError>
     requires by_kind { DropsByKind (E.meaning engine.now) }
     requires ready { IsWriting writer.old }
     requires count { names.old.count < 18446744073709551615 }
-    ensures written { OnOk result ((s : SchemaView) (limit level : ℕ) (first : Naming) (rows : List Stamped)
-        (x : Stamped) → place.old.value ≡ Some x → HasWritten s limit level first names.old rows writer.old
-        → HasWritten s limit level first names.new (rows ++ kept_rows (E.meaning engine.now) drop (x ∷ []))
-        writer.new) }
+    ensures added { IfOk result (λ file. (s : SchemaView) (limit level : ℕ) (rows : List Stamped) (x : Stamped)
+        → place.old.value ≡ Some x → HasInHand s limit level names.old.session rows writer.old
+        → HasAdded s limit level names.old (rows ++ kept_rows (E.meaning engine.now) drop (x ∷ [])) file writer.new) }
     ensures ready { OnOk result (IsWriting writer.new) }
     ensures none { OnOk result (place.new.value ≡ None) }
     ensures names { names.new ≡ record names.old { count = names.new.count } }
     ensures counted { names.old.count ≤ names.new.count }
+    ensures taken { IfOk result (λ file. names.new.count ≡ names.old.count + length (option_to_list file)) }
 {
     if drop && is_droppable(alloc, engine, place) {
         place.clear();
-        return Ok(());
+        return Ok(None);
     }
-    writer.add(alloc, place, names)?;
-    Ok(())
+    let file = writer.add(alloc, place, names)?;
+    Ok(file)
 }
 
 /// Whether the row of a place is droppable.

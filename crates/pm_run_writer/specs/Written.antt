@@ -1,14 +1,14 @@
--- The files of a run that is written row by row.
-use Rattle.std.specs.Prelude.{◌≡◌, ℕ, ◌+◌, ◌<◌, ◌≤◌, ◌^◌, List, ◌++◌, length, true, Option, None, option_map}
+-- The files of a run that is written row by row, each handed out where it ends.
+use Rattle.std.specs.Prelude.{◌≡◌, ℕ, ◌<◌, ◌≤◌, ◌^◌, List, [], length, true, Option, None, Some, option_map}
 use Rattle.pm_avro_schema.specs.View as types
 use Rattle.pm_record.specs.Record.{all_differ}
 use Rattle.pm_schema.specs.declared.schema.TableSchema.{TableSchema}
-use Rattle.pm_values.specs.Names.{Naming}
+use Rattle.pm_values.specs.Names.{Naming, name_of}
 use Rattle.pm_values.specs.declared.record.Stamped.{Stamped}
 use Rattle.pm_run.specs.Form.{form_of, written_fields}
 use Rattle.pm_run.specs.Kinds.{run_type}
 use Rattle.pm_run.specs.Order.{last_key}
-use Rattle.pm_run.specs.Writing.{AreFilesOf}
+use Rattle.pm_run.specs.Writing.{IsFileWith, data_prefix, suffix}
 use Rattle.pm_run.specs.declared.run.RunFile.{RunFile}
 use Rattle.pm_run_writer.specs.Begun.{HasBegun}
 use Rattle.pm_run_writer.specs.Summary.{IsSummary}
@@ -20,6 +20,10 @@ pub record IsWriterOf (s : TableSchema) (w : FileWriter) : Type 0 where
   pub form : w.form ≡ form_of s
   pub id : w.schema_id ≡ s.id
 
+-- names of the fields that a table's files are written with differ, as each schema's rules have it
+abbrev pub HasNames : TableSchema → Type 0
+HasNames s = all_differ (written_fields (form_of s)) ≡ true
+
 -- Private: what a writer's files are written by is that of a table, whichever it is
 pub record CanWrite (w : FileWriter) : Type 0 where
   pub kind : types.view w.kind ≡ run_type w.form
@@ -29,38 +33,43 @@ pub record CanWrite (w : FileWriter) : Type 0 where
 abbrev pub IsLastOf : List Stamped → Option Stamped → Type 0
 IsLastOf rows last = option_map (λ (x : Stamped). x.key) last ≡ last_key None rows
 
--- a writer can take a row: it was begun, and no call of it was refused
-pub record IsWriting (w : RunWriter) : Type 0 where
+-- Private: a writer can end its file: it was begun, and no call of it was refused
+pub record CanEnd (w : RunWriter) : Type 0 where
   pub writer : CanWrite w.writer
   pub within : w.file.count ≤ 1024
   pub positive : 1 ≤ w.limit
   pub bits : w.limit < 2 ^ 64
 
--- Rows were given to a writer of the files of a table's run, each of at most so many rows, at a level, with names from
--- the first on; the next name is this one. Those of full files come first, and then those of the file in hand.
-pub record HasWritten (s : TableSchema) (limit level : ℕ) (first now : Naming) (rows : List Stamped)
+-- a writer can take a row: it was begun, no call of it was refused, and the file in hand has room
+pub record IsWriting (w : RunWriter) : Type 0 where
+  pub begun : CanEnd w
+  pub room : w.summary.count < w.limit
+
+-- These rows are in the file in hand of a writer of a table's files, each of at most so many rows, at a level, with the
+-- marker.
+pub record HasInHand (s : TableSchema) (limit level : ℕ) (marker : List ℕ) (rows : List Stamped)
     (w : RunWriter) : Type 0 where
-  pub full : List Stamped
-  pub later : List Stamped
-  pub same : rows ≡ full ++ later
   pub writer : IsWriterOf s w.writer
-  pub positive : 1 ≤ limit
+  pub names : HasNames s
   pub limited : w.limit ≡ limit
   pub levelled : w.level ≡ level
-  pub files : (more : List RunFile) (rest : List Stamped) → AreFilesOf s limit level now rest more
-      → AreFilesOf s limit level first (full ++ rest) (w.files.items ++ more)
-  pub named : now ≡ record first { count = now.count }
-  pub taken : now.count ≡ first.count + length w.files.items
-  pub room : now.count < first.count + 2 ^ 63
-  pub begun : HasBegun (form_of s) first.session later w.file
-  pub summary : IsSummary later w.summary
-  pub within : length later ≤ limit
-  pub last : IsLastOf later w.last.value
+  pub begun : HasBegun (form_of s) marker rows w.file
+  pub summary : IsSummary rows w.summary
+  pub within : length rows ≤ limit
+  pub last : IsLastOf rows w.last.value
 
--- Private: these are the files of rows that were given so, and no file is in hand
-pub record HasEnded (s : TableSchema) (limit level : ℕ) (first now : Naming) (rows : List Stamped)
-    (made : List RunFile) : Type 0 where
-  pub files : AreFilesOf s limit level first rows made
-  pub positive : 1 ≤ limit
-  pub differ : all_differ (written_fields (form_of s)) ≡ true
-  pub taken : now.count ≡ first.count + length made
+-- the file of these rows was ended, with the next name, and no row is in hand
+pub record HasEnded (s : TableSchema) (limit level : ℕ) (names : Naming) (rows : List Stamped) (f : RunFile)
+    (w : RunWriter) : Type 0 where
+  pub file : IsFileWith s level names.session (name_of data_prefix suffix names) rows f
+  pub none : HasInHand s limit level names.session [] w
+
+-- with one more these rows are in hand, or as many as a file may have, and the file of these was ended
+abbrev pub HasAdded : TableSchema → ℕ → ℕ → Naming → List Stamped → Option RunFile → RunWriter → Type 0
+HasAdded s limit level names rows None w = HasInHand s limit level names.session rows w
+HasAdded s limit level names rows (Some f) w = (length rows ≡ limit) × HasEnded s limit level names rows f w
+
+-- of these rows in hand there was none, or the file of these was ended
+abbrev pub HasFinished : TableSchema → ℕ → ℕ → Naming → List Stamped → Option RunFile → RunWriter → Type 0
+HasFinished s limit level names rows None w = (rows ≡ []) × HasInHand s limit level names.session [] w
+HasFinished s limit level names rows (Some f) w = (1 ≤ length rows) × HasEnded s limit level names rows f w

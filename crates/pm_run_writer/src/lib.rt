@@ -8,15 +8,18 @@
 //!
 //! A row's bytes go from its values into those of its block, and a block is ended at 1024 rows: beside the rows stand
 //! the files so far and one block, and no datum of a row is made. A `RunWriter` takes one row at a time from its place,
-//! wherever it lies, and ends a file where it is full, so that no list of all rows is made (`specs/Written.antt`).
+//! wherever it lies, and hands a file out where it is full, so that neither a list of all rows nor one of the files is
+//! kept (`specs/Written.antt`). That files which were written one by one are read as one run is `files_law`.
 #![tactic(auto)]
 
 mod begun_file;
+mod laws;
 mod placed;
 mod row_writer;
 mod run_writer;
 mod summary;
 mod writer;
 
+pub use laws::files_law;
 pub use run_writer::RunWriter;
 pub use writer::{write_changes, write_data, write_run};

@@ -1,23 +1,21 @@
 //! The files of a run that is written row by row.
 
 ghost use Rattle.std.specs.Prelude.{◌≡◌, ◌+◌, ◌<◌, ◌≤◌, ◌∷◌, [], ◌++◌, ℕ, List, IfOk, None, OnOk, Some};
-ghost use Rattle.std.specs.Prelude.{false, length, option_map};
-ghost use Rattle.std.specs.List.{AllByRecursion};
+ghost use Rattle.std.specs.Prelude.{length, option_map, option_to_list};
 ghost use Rattle.pm_schema.specs.declared.schema.TableSchema.{TableSchema};
-ghost use Rattle.pm_values.specs.Names.{Naming};
+ghost use Rattle.pm_values.specs.Names.{counted};
 ghost use Rattle.pm_values.specs.declared.record.Stamped.{Stamped as StampedView};
 ghost use Rattle.pm_run.specs.Form.{form_of};
-ghost use Rattle.pm_run.specs.Row.{IsOfFile};
-ghost use Rattle.pm_run.specs.Writing.{AreFilesOf, AreRising, IsFileWith, IsRun, bytes_of};
+ghost use Rattle.pm_run.specs.Writing.{IsFileWith};
 ghost use Rattle.pm_run_writer.specs.Begun.{HasBegun};
 ghost use Rattle.pm_run_writer.specs.Summary.{IsSummary};
-ghost use Rattle.pm_run_writer.specs.Written.{CanWrite, HasEnded, HasWritten, IsLastOf, IsWriting, IsWriterOf};
+ghost use Rattle.pm_run_writer.specs.Written.{CanEnd, CanWrite, HasAdded, HasEnded, HasFinished, HasInHand, IsLastOf};
+ghost use Rattle.pm_run_writer.specs.Written.{IsWriterOf, IsWriting};
 
 use crate::begun_file::BegunFile;
 use crate::placed::key_of;
 use crate::summary::RowSummary;
 use crate::writer::FileWriter;
-use pm_avro_file::whole_file_law;
 use pm_base::{Blob, Txt};
 use pm_row_slots::RowSlot;
 use pm_run::RunFile;
@@ -27,13 +25,12 @@ use pm_values::{Key, Names};
 use std::alloc::{AllocError, Global};
 use std::mem;
 
-/// What writes the files of a run row by row, from where the rows stand: the files that are full, the one in hand, and
-/// the last row of that one, in its place.
+/// What writes the files of a run row by row, from where the rows stand: the file in hand, and its last row, in its
+/// place.
 pub struct RunWriter<'b> {
     writer: FileWriter,
     limit: usize,
     level: u32,
-    files: Vec<RunFile>,
     file: BegunFile,
     summary: RowSummary,
     last: Box<RowSlot<'b>>,
@@ -45,7 +42,6 @@ impl Drop for RunWriter<'_> {
             writer,
             limit,
             level,
-            files,
             file,
             summary,
             last,
@@ -64,7 +60,7 @@ impl<'b> RunWriter<'b> {
         names: &Names,
     ) -> Result<RunWriter<'b>, AllocError>
         requires limit { 1 ≤ limit }
-        ensures written { IfOk result (HasWritten schema.now limit level names.now names.now []) }
+        ensures none { IfOk result (HasInHand schema.now limit level names.now.session []) }
         ensures ready { IfOk result IsWriting }
     {
         let writer = FileWriter::of(alloc, schema)?;
@@ -73,33 +69,73 @@ impl<'b> RunWriter<'b> {
             writer,
             limit,
             level,
-            files: Vec::new(alloc),
             file,
             summary: RowSummary::none(),
             last: Box::new(alloc, RowSlot::new(alloc))?,
         })
     }
 
-    /// Writes the row of a place, which leaves it. Out of memory is also answered where no row stands there, where it
-    /// has another number of values than the schema has columns, where a value isn't of its column's type, and where
-    /// the sequence number is above 2^62 - 1; then nothing is said of what was written.
+    /// Writes the row of a place, which leaves it, and hands the file out that it fills. Out of memory is also answered
+    /// where no row stands there, where it has another number of values than the schema has columns, where a value
+    /// isn't of its column's type, and where the sequence number is above 2^62 - 1; then nothing is said of what was
+    /// written.
     pub fn add(
         &mut self,
         alloc: Global,
         place: &mut Box<RowSlot<'b>>,
         names: &mut Names,
-    ) -> Result<(), AllocError>
+    ) -> Result<Option<RunFile>, AllocError>
         requires ready { IsWriting self.old }
         requires count { names.old.count < 18446744073709551615 }
-        ensures written { OnOk result ((s : TableSchema) (limit level : ℕ) (first : Naming) (rows : List StampedView)
-            (x : StampedView) → place.old.value ≡ Some x → HasWritten s limit level first names.old rows self.old
-            → HasWritten s limit level first names.new (rows ++ x ∷ []) self.new) }
+        ensures added { IfOk result (λ file. (s : TableSchema) (limit level : ℕ) (rows : List StampedView)
+            (x : StampedView) → place.old.value ≡ Some x
+            → HasInHand s limit level names.old.session rows self.old
+            → HasAdded s limit level names.old (rows ++ x ∷ []) file self.new) }
         ensures ready { OnOk result (IsWriting self.new) }
         ensures empty { OnOk result (place.new.value ≡ None) }
         ensures names { names.new ≡ record names.old { count = names.new.count } }
         ensures counted { names.old.count ≤ names.new.count }
+        ensures taken { IfOk result (λ file. names.new.count ≡ names.old.count + length (option_to_list file)) }
     {
-        self.make_room(alloc, names)?;
+        self.put(alloc, place)?;
+        if self.summary.count < self.limit {
+            return Ok(None);
+        }
+        Ok(Some(self.end_file(alloc, names)?))
+    }
+
+    /// The file of the rows in hand, if there are any: those that were written since a file was handed out.
+    pub fn finish(
+        &mut self,
+        alloc: Global,
+        names: &mut Names,
+    ) -> Result<Option<RunFile>, AllocError>
+        requires ready { IsWriting self.old }
+        requires count { names.old.count < 18446744073709551615 }
+        ensures finished { IfOk result (λ file. (s : TableSchema) (limit level : ℕ) (rows : List StampedView)
+            → HasInHand s limit level names.old.session rows self.old
+            → HasFinished s limit level names.old rows file self.new) }
+        ensures ready { OnOk result (IsWriting self.new) }
+        ensures names { names.new ≡ record names.old { count = names.new.count } }
+        ensures counted { names.old.count ≤ names.new.count }
+        ensures taken { IfOk result (λ file. names.new.count ≡ names.old.count + length (option_to_list file)) }
+    {
+        let rows = self.summary.count;
+        if rows == 0 {
+            return Ok(None);
+        }
+        Ok(Some(self.end_file(alloc, names)?))
+    }
+
+    /// Writes the row of a place, which leaves it, to the file in hand.
+    fn put(&mut self, alloc: Global, place: &mut Box<RowSlot<'b>>) -> Result<(), AllocError>
+        requires ready { IsWriting self.old }
+        ensures more { OnOk result ((s : TableSchema) (limit level : ℕ) (marker : List ℕ) (rows : List StampedView)
+            (x : StampedView) → place.old.value ≡ Some x → HasInHand s limit level marker rows self.old
+            → HasInHand s limit level marker (rows ++ x ∷ []) self.new) }
+        ensures ready { OnOk result (CanEnd self.new) }
+        ensures empty { OnOk result (place.new.value ≡ None) }
+    {
         write_row(
             alloc,
             &self.writer.form,
@@ -112,80 +148,17 @@ impl<'b> RunWriter<'b> {
         Ok(())
     }
 
-    /// The files of all rows that were written. Rows that data files can have, by rising key, are read of them as one
-    /// run.
-    pub fn finish(self, alloc: Global, names: &mut Names) -> Result<Vec<RunFile>, AllocError>
-        requires ready { IsWriting self }
-        requires count { names.old.count < 18446744073709551615 }
-        ensures files { IfOk result (λ files. (s : TableSchema) (limit level : ℕ) (first : Naming)
-            (rows : List StampedView) → HasWritten s limit level first names.old rows self.entry
-            → AreFilesOf s limit level first rows files.items) }
-        ensures again { IfOk result (λ files. (s : TableSchema) (limit level : ℕ) (first : Naming)
-            (rows : List StampedView) → HasWritten s limit level first names.old rows self.entry
-            → AllByRecursion (IsOfFile s false) rows → AreRising rows → IsRun s (bytes_of files.items) rows) }
-        ensures taken { IfOk result (λ files. (s : TableSchema) (limit level : ℕ) (first : Naming)
-            (rows : List StampedView) → HasWritten s limit level first names.old rows self.entry
-            → names.new.count ≡ first.count + length files.items) }
-        ensures names { names.new ≡ record names.old { count = names.new.count } }
-        ensures counted { names.old.count ≤ names.new.count }
-    {
-        whole_file_law();
-        let mut writer = self;
-        writer.end_last(alloc, names)?;
-        Ok(writer.into_files())
-    }
-
-    /// Ends the file in hand where it has a row.
-    fn end_last(&mut self, alloc: Global, names: &mut Names) -> Result<(), AllocError>
-        requires ready { IsWriting self.old }
-        requires count { names.old.count < 18446744073709551615 }
-        ensures ended { OnOk result ((s : TableSchema) (limit level : ℕ) (first : Naming) (rows : List StampedView) →
-            HasWritten s limit level first names.old rows self.old
-            → HasEnded s limit level first names.new rows self.new.files.items) }
-        ensures names { names.new ≡ record names.old { count = names.new.count } }
-        ensures counted { names.old.count ≤ names.new.count }
-    {
-        let rows = self.summary.count;
-        if rows == 0 {
-            return Ok(());
-        }
-        self.end_file(alloc, names)?;
-        Ok(())
-    }
-
-    /// Ends the file in hand where it is full.
-    fn make_room(&mut self, alloc: Global, names: &mut Names) -> Result<(), AllocError>
-        requires ready { IsWriting self.old }
-        requires count { names.old.count < 18446744073709551615 }
-        ensures written { OnOk result ((s : TableSchema) (limit level : ℕ) (first : Naming) (rows : List StampedView) →
-            HasWritten s limit level first names.old rows self.old
-            → HasWritten s limit level first names.new rows self.new) }
-        ensures room { OnOk result (self.new.summary.count < self.new.limit) }
-        ensures ready { OnOk result (IsWriting self.new) }
-        ensures names { names.new ≡ record names.old { count = names.new.count } }
-        ensures counted { names.old.count ≤ names.new.count }
-    {
-        if self.summary.count < self.limit {
-            return Ok(());
-        }
-        self.end_file(alloc, names)?;
-        Ok(())
-    }
-
     /// Ends the file in hand, and begins the next one.
-    fn end_file(&mut self, alloc: Global, names: &mut Names) -> Result<(), AllocError>
-        requires ready { IsWriting self.old }
+    fn end_file(&mut self, alloc: Global, names: &mut Names) -> Result<RunFile, AllocError>
+        requires ready { CanEnd self.old }
         requires count { names.old.count < 18446744073709551615 }
-        ensures full { OnOk result ((s : TableSchema) (limit level : ℕ) (first : Naming) (rows : List StampedView) →
-            self.old.limit ≤ self.old.summary.count → HasWritten s limit level first names.old rows self.old
-            → HasWritten s limit level first names.new rows self.new) }
-        ensures last { OnOk result ((s : TableSchema) (limit level : ℕ) (first : Naming) (rows : List StampedView) →
-            1 ≤ self.old.summary.count → HasWritten s limit level first names.old rows self.old
-            → HasEnded s limit level first names.new rows self.new.files.items) }
-        ensures room { OnOk result (self.new.summary.count < self.new.limit) }
+        ensures ended { IfOk result (λ f. (s : TableSchema) (limit level : ℕ) (rows : List StampedView)
+            → HasInHand s limit level names.old.session rows self.old
+            → HasEnded s limit level names.old rows f self.new) }
         ensures ready { OnOk result (IsWriting self.new) }
         ensures names { names.new ≡ record names.old { count = names.new.count } }
         ensures counted { names.old.count ≤ names.new.count }
+        ensures taken { OnOk result (names.new ≡ counted names.old) }
     {
         let next = begun(alloc, &self.writer, names.session())?;
         let name = names.take(alloc, "data-", ".avro")?;
@@ -200,25 +173,8 @@ impl<'b> RunWriter<'b> {
             self.level,
             name,
         )?;
-        self.files.push(file)?;
         self.last.clear();
-        Ok(())
-    }
-
-    /// The files that were ended.
-    fn into_files(self) -> Vec<RunFile>
-        ensures { result.items ≡ self.entry.files.items }
-    {
-        let RunWriter {
-            writer,
-            limit,
-            level,
-            files,
-            file,
-            summary,
-            last,
-        } = self;
-        files
+        Ok(file)
     }
 }
 
@@ -272,7 +228,7 @@ fn file_of(
         → HasBegun (form_of s) marker rows file → IsSummary rows summary → IsLastOf rows last.now
         → IsFileWith s level marker name rows f) }
 {
-    let max_key = last_key(alloc, last)?;
+    let max_key = placed_key(alloc, last)?;
     let bytes = file.finish()?;
     let size = bytes.len() as u64;
     let meta = summary.meta(name, size, max_key, writer.schema_id, level)?;
@@ -283,7 +239,7 @@ fn file_of(
 }
 
 /// The key of the row of a place; out of memory where there is none.
-fn last_key(alloc: Global, place: &RowSlot) -> Result<Key, AllocError>
+fn placed_key(alloc: Global, place: &RowSlot) -> Result<Key, AllocError>
     ensures { IfOk result (λ key. option_map (λ (x : StampedView). x.key) place.now ≡ Some key) }
 {
     match place.row() {

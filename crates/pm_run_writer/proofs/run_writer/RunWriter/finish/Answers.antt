@@ -1,15 +1,16 @@
-use Rattle.std.proofs.Common.{◌+◌, List, length, sym, ap, subst, ◌∙◌}
-use Rattle.pm_run.specs.declared.run.RunFile.{RunFile}
-use Rattle.pm_run.specs.Writing.{IsRun, bytes_of}
-use Rattle.pm_run_writer.proofs.WrittenLemmas.{ended_back}
+use Rattle.std.proofs.Common.{◌≡◌, List, [], sym, subst, ◌∙◌, arith}
+use Rattle.std.proofs.lemmas.List.{nil_from_length}
+use Rattle.pm_values.specs.declared.record.Stamped.{Stamped}
+use Rattle.pm_run_writer.specs.Written.{HasInHand}
 use Rattle.pm_run_writer.proofs.run_writer.RunWriter.finish.Goals as goal
 
--- what is written is a run of the rows
-pub returns-clause-again : goal.returns-clause-again
-returns-clause-again c = λ s limit level first rows written each rising.
-    subst (λ (files : List RunFile). IsRun s (bytes_of files) rows) (sym c.into_files.ensures)
-    (ended_back s limit level first c.end_last.new.names rows c.whole_file_law.ensures c.end_last.new.self.files.items (c.in_ok-end_last.ensures.ended s limit level first rows written) each rising)
+-- no row is in hand
+pub returns-then-rows-eq0-clause-finished : goal.returns-then-rows-eq0-clause-finished
+returns-then-rows-eq0-clause-finished c = λ s limit level rows hand.
+    let none : rows ≡ [] = nil_from_length rows (sym hand.summary.count ∙ c.if-rows-eq0.true) in
+    (none, subst (λ (xs : List Stamped). HasInHand s limit level c.args.names.now.session xs c.args.self.now) none hand)
 
-pub returns-clause-taken : goal.returns-clause-taken
-returns-clause-taken c = λ s limit level first rows written.
-    (c.in_ok-end_last.ensures.ended s limit level first rows written).taken ∙ ap (λ (files : List RunFile). first.count + length files) (sym c.into_files.ensures)
+pub returns-clause-finished : goal.returns-clause-finished
+returns-clause-finished c = λ s limit level rows hand.
+    let count = hand.summary.count in
+    (omega (arith, c.if-rows-eq0.false), c.in_ok-end_file.ensures.ended s limit level rows hand)

@@ -1,0 +1,67 @@
+-- A group's runs that are made into one, file by file.
+use Rattle.std.specs.Prelude.{◌≡◌, ◌⊎◌, ℕ, ◌+◌, List, [], ◌∷◌, ◌++◌, Bool, All, Option, None, Some, length}
+use Rattle.std.specs.List.{AllByRecursion}
+use Rattle.pm_schema.specs.declared.schema.TableSchema.{TableSchema}
+use Rattle.pm_values.specs.Names.{Naming}
+use Rattle.pm_values.specs.declared.record.Stamped.{Stamped}
+use Rattle.pm_engine.specs.Covers.{IsRising, Run}
+use Rattle.pm_engine.specs.Meaning.{Meaning}
+use Rattle.pm_merge.specs.Merging.{GivesAll, HasLeft, HaveNoRow, first_refusal, rows_left, runs_in}
+use Rattle.pm_merge.specs.Source.{Rest}
+use Rattle.pm_run.specs.Writing.{AreFilesOf}
+use Rattle.pm_run.specs.declared.run.RunFile.{RunFile}
+use Rattle.pm_run_writer.specs.Written.{HasInHand, IsWriting}
+use Rattle.pm_compact.specs.Rewritten.{AreRewritten, kept_rows, most_in_file}
+use Rattle.pm_compact.specs.declared.rewriting.Rewriting.{Rewriting}
+
+-- what is asked: of which table the files are, at which level and with which names, the next one first; what the
+-- sources have to give, the oldest first; and whether the droppable rows are left out
+pub record Asked : Type 0 where
+  pub schema : TableSchema
+  pub level : ℕ
+  pub names : Naming
+  pub rests : List Rest
+  pub drop : Bool
+
+abbrev pub asked_of : TableSchema → ℕ → Bool → Naming → List Rest → Asked
+asked_of s level drop names rests =
+    record { schema = s; level = level; names = names; rests = rests; drop = drop }
+
+-- the files are those of the run that was asked for, the oldest first
+abbrev pub AreAsked : Meaning → Asked → List RunFile → Type 0
+AreAsked m asked files = AreRewritten asked.schema m asked.drop asked.level asked.names asked.rests files
+
+-- as many rows stand in the file as may
+abbrev pub IsFull : RunFile → Type 0
+IsFull f = f.meta.rows ≡ most_in_file
+
+-- Of what is asked these files were given, the oldest first, and these rows are in hand, which come next. They are what
+-- is kept of the rows that the sources gave so far; the files are full, but for the last where nothing is left.
+pub record HasGiven {S : Type 0} (m : Meaning) (rest : S → Rest) (asked : Asked) (given : List RunFile)
+    (rows : List Stamped) (now : Naming) (w : Rewriting S) : Type 0 where
+  pub rising : All IsRising (runs_in asked.rests)
+  pub run : Run
+  pub left : List Rest
+  pub gave : GivesAll m asked.rests run left
+  pub has : HasLeft m (λ p. p) rest w.merging left
+  pub filed : List Stamped
+  pub same : kept_rows m asked.drop run ≡ filed ++ rows
+  pub files : AreFilesOf asked.schema most_in_file asked.level asked.names filed given
+  pub full : AllByRecursion IsFull given ⊎ ((rows ≡ []) × HaveNoRow left × (first_refusal left ≡ None))
+  pub named : now ≡ record asked.names { count = asked.names.count + length given }
+  pub hand : HasInHand asked.schema most_in_file asked.level now.session rows w.writer
+  pub drops : w.drop ≡ asked.drop
+
+-- a file was given after these; or these are all
+abbrev pub GivesFile : {S : Type 0} → Meaning → (S → Rest) → Asked → List RunFile → Option RunFile → Naming
+    → Rewriting S → Type 0
+GivesFile m rest asked given None now w = AreAsked m asked given × HasGiven m rest asked given [] now w
+GivesFile m rest asked given (Some f) now w = HasGiven m rest asked (given ++ f ∷ []) [] now w
+
+-- it can give a file: it was begun, and no call of it was refused
+abbrev pub CanGive : {S : Type 0} → Rewriting S → Type 0
+CanGive w = IsWriting w.writer
+
+-- how many rows its sources still give at most
+abbrev pub most_left : {S : Type 0} → (S → Rest) → Rewriting S → ℕ
+most_left rest w = rows_left (λ p. p) rest w.merging
