@@ -3,8 +3,7 @@ use Rattle.std.proofs.Common.{◌≡◌, inl, inr, ℕ, List, [], ◌∷◌, ◌
 use Rattle.std.specs.List.{AllByRecursion}
 use Rattle.pm_store.specs.declared.call.Op.{Op}
 use Rattle.pm_store.specs.Files.{Files, files_after}
-use Rattle.pm_model_history.specs.History.{History}
-use Rattle.pm_model_history.specs.Merge.{HistoryRow}
+use Rattle.pm_model_history.specs.History.{Entry, History}
 use Rattle.pm_model_folder.specs.Changes.{Actor, IsNoOrigin}
 use Rattle.pm_model_folder.specs.Commits.{Names}
 use Rattle.pm_model_folder.specs.Folder.{Folder}
@@ -37,17 +36,16 @@ module _ (f : Files) (p : Past) where
   creator_begins t creators.Created is left other = absurd (let clash : 0 ≡ 2 = left in omega (arith, clash))
   creator_begins t creators.Over is left other = absurd (let clash : 0 ≡ 2 = left in omega (arith, clash))
 
-  commit_begins : (rows : List HistoryRow) (m : committing.Phase) → BeginsCommit (λ me. HasNamedNone me p) p.history rows m → commit.Knows rows m f p
-  commit_begins rows m begins =
-      let own : KnowsOwn begins.begun rows begins.schema p = record {
+  commit_begins : (e : Entry) (m : committing.Phase) → BeginsCommit (λ me. HasNamedNone me p) p.history e m → commit.Knows e m f p
+  commit_begins e m begins =
+      let own : KnowsOwn begins.begun e begins.schema p = record {
         is_table = begins.table;
-        fit = begins.fit;
-        batch = begins.batch;
+        means = begins.means;
         may = begins.may;
         unnamed = begins.unnamed;
         from = (let none = begins.no_base in omega (arith, none));
       } in
-      (begins.is_committer, subst (λ (m : committing.Phase). commit.KnowsIn rows m f p) (sym begins.is) own)
+      (begins.is_committer, subst (λ (m : committing.Phase). commit.KnowsIn e m f p) (sym begins.is) own)
 
   pub joined : (w : Worker) → MayJoin p w → Knows w f p
   joined (waits me) named = named
@@ -55,7 +53,7 @@ module _ (f : Files) (p : Past) where
   joined (lists me m) (inl is) = subst (λ (m : listing.Phase). snapshots.Knows m f p) (sym is) tt
   joined (lists me m) (inr (s, is, table)) = subst (λ (m : listing.Phase). snapshots.Knows m f p) (sym is) table
   joined (scans me m) (a, is, table) = subst (λ (m : scanning.Phase). scan.Knows m f p) (sym is) table
-  joined (commits rows m) begins = commit_begins rows m begins
+  joined (commits e m) begins = commit_begins e m begins
 
 -- who may begin where of its actor more is asked may begin where less is
 begins_by : (P Q : Actor → Type 0) (h : History) → ((me : Actor) → P me → Q me) → (w : Worker) → Begins P h w → Begins Q h w
@@ -63,14 +61,13 @@ begins_by P Q h more (waits me) may = more me may
 begins_by P Q h more (creates t m) may = may
 begins_by P Q h more (lists me m) may = may
 begins_by P Q h more (scans me m) may = may
-begins_by P Q h more (commits rows m) may = record {
+begins_by P Q h more (commits e m) may = record {
   begun = may.begun;
   schema = may.schema;
   is = may.is;
   is_committer = may.is_committer;
   table = may.table;
-  fit = may.fit;
-  batch = may.batch;
+  means = may.means;
   may = may.may;
   no_base = may.no_base;
   none_lost = may.none_lost;

@@ -7,7 +7,7 @@ use Rattle.pm_store.specs.Store.{own_op}
 use Rattle.pm_store.specs.declared.call.Effect.{Effect}
 use Rattle.pm_store.proofs.FileLaws.{files_after-push}
 use Rattle.pm_machine.specs.Moves.{IsKept, Keeps, Lasts}
-use Rattle.pm_model_history.specs.Merge.{HistoryRow}
+use Rattle.pm_model_history.specs.History.{Entry}
 use Rattle.pm_model_folder.specs.Changes.{Actor, IsActor, IsOwn, its_origin, origin_name}
 use Rattle.pm_model_folder.specs.Ledger.{Advances, HasNamedNone, Past, Stands}
 use Rattle.pm_model_folder.specs.Paths.{snapshot_file}
@@ -36,8 +36,8 @@ pub record KnownLaws : Type 0 where
       → snapshots.Knows m f p → snapshots.Knows m after q
   pub scans : (m : scanning.Phase) (other : Actor) (f after : Files) (p q : Past) → Stands f p → Advances other f p after q
       → scan.Knows m f p → scan.Knows m after q
-  pub commits : (rows : List HistoryRow) (m : committing.Phase) (other : Actor) (f after : Files) (p q : Past) → Stands f p → Advances other f p after q
-      → commit.IsOtherThan other m → commit.Knows rows m f p → commit.Knows rows m after q
+  pub commits : (e : Entry) (m : committing.Phase) (other : Actor) (f after : Files) (p q : Past) → Stands f p → Advances other f p after q
+      → commit.IsOtherThan other m → commit.Knows e m f p → commit.Knows e m after q
 
 -- ---- who steps
 
@@ -45,17 +45,17 @@ pub record KnownLaws : Type 0 where
 abbrev Steps : Worker → Files → Past → Files → Past → Type 0
 Steps a f p after q = (me : Actor) × (actor_of a ≡ Some me) × Advances me f p after q
 
-commit_steps : (rows : List HistoryRow) (o : Option OwnView) (f after : Files) (p q : Past) → commit.MakesIn o rows f p after q
+commit_steps : (e : Entry) (o : Option OwnView) (f after : Files) (p q : Past) → commit.MakesIn o e f p after q
     → (me : Actor) × (option_map owner.actor_of o ≡ Some me) × Advances me f p after q
-commit_steps rows None f after p q makes = absurd makes
-commit_steps rows (Some o) f after p q makes = (owner.actor_of o, refl, makes.advances)
+commit_steps e None f after p q makes = absurd makes
+commit_steps e (Some o) f after p q makes = (owner.actor_of o, refl, makes.advances)
 
 steps : KnownLaws → (a : Worker) (f after : Files) (p q : Past) → Leaves a f p after q → Steps a f p after q
 steps laws (waits me) f after p q kept = (me, refl, laws.same me f after p q kept)
 steps laws (creates t m) f after p q makes = (t.me, refl, makes.advances)
 steps laws (lists me m) f after p q kept = (me, refl, laws.same me f after p q kept)
 steps laws (scans me m) f after p q kept = (me, refl, laws.same me f after p q kept)
-steps laws (commits rows m) f after p q makes = commit_steps rows (commit.own_in m) f after p q makes
+steps laws (commits e m) f after p q makes = commit_steps e (commit.own_in m) f after p q makes
 
 -- ---- who knows
 
@@ -76,8 +76,8 @@ knows_still laws (creates t m) me f after p q differ stands advances known =
     laws.creates t m me f after p q stands advances (origins_apart laws me t.me differ) known
 knows_still laws (lists other m) me f after p q differ stands advances known = laws.lists m me f after p q stands advances known
 knows_still laws (scans other m) me f after p q differ stands advances known = laws.scans m me f after p q stands advances known
-knows_still laws (commits rows m) me f after p q differ stands advances known =
-    laws.commits rows m me f after p q stands advances (other_commit me (commit.own_in m) differ) known
+knows_still laws (commits e m) me f after p q differ stands advances known =
+    laws.commits e m me f after p q stands advances (other_commit me (commit.own_in m) differ) known
 
 apart_from : (a b : Worker) (me : Actor) → actor_of a ≡ Some me → AreApart a b → IfSome (actor_of b) (λ other. Differ me other)
 apart_from a b me is apart =

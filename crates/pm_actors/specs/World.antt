@@ -4,12 +4,10 @@ use Rattle.std.specs.List.{AllByRecursion}
 use Rattle.pm_store.specs.Files.{Files, files_after}
 use Rattle.pm_store.specs.declared.call.Op.{Op}
 use Rattle.pm_machine.specs.Moves.{IsKept}
-use Rattle.pm_model_history.specs.History.{History, IsTableOf}
-use Rattle.pm_model_history.specs.Merge.{HistoryRow}
+use Rattle.pm_model_history.specs.History.{Entry, History, IsTableOf}
 use Rattle.pm_schema.specs.declared.schema.TableSchema.{TableSchema}
 use Rattle.pm_snapshot.specs.Names.{MayName}
 use Rattle.pm_model_folder.specs.Changes.{Actor, IsActor, IsNoOrigin}
-use Rattle.pm_model_folder.specs.Folder.{IsRowOf}
 use Rattle.pm_model_folder.specs.Ledger.{HasNamedNone, Past, Stands}
 use Rattle.pm_create.specs.Creator.{IsCreator, NewTable, calls_left, own_origin}
 use Rattle.pm_create.specs.Meaning as create
@@ -23,7 +21,6 @@ use Rattle.pm_read_table.specs.declared.phase.Phase.TheVariants as readers
 use Rattle.pm_scan.specs.Meaning as scan
 use Rattle.pm_scan.specs.declared.phase.Phase as scanning
 use Rattle.pm_scan.specs.declared.phase.Phase.TheVariants as scanners
-use Rattle.pm_write.specs.Batch.{IsBatchOf}
 use Rattle.pm_commit.specs.AllCalls.{NamesNone}
 use Rattle.pm_commit.specs.Committer.{IsCommitter}
 use Rattle.pm_commit.specs.Meaning as commit
@@ -33,13 +30,13 @@ use Rattle.pm_commit.specs.declared.phase.Phase as committing
 use Rattle.pm_commit.specs.declared.phase.Phase.TheVariants as committers
 
 -- an actor whose command has no machine yet; or a machine of a command, by its phase: with the table that it makes, the
--- rows that it commits, or who runs it
+-- entry that it adds, or who runs it
 pub data Worker : Type 0 where
   waits : Actor → Worker
   creates : NewTable → creating.Phase → Worker
   lists : Actor → listing.Phase → Worker
   scans : Actor → scanning.Phase → Worker
-  commits : List HistoryRow → committing.Phase → Worker
+  commits : Entry → committing.Phase → Worker
 
 -- who runs it; of a commit that is over nobody
 abbrev pub actor_of : Worker → Option Actor
@@ -47,7 +44,7 @@ actor_of (waits me) = Some me
 actor_of (creates t m) = Some t.me
 actor_of (lists me m) = Some me
 actor_of (scans me m) = Some me
-actor_of (commits rows m) = option_map owner.actor_of (commit.own_in m)
+actor_of (commits e m) = option_map owner.actor_of (commit.own_in m)
 
 -- the kinds of change that it may make
 abbrev pub Leaves : Worker → Files → Past → Files → Past → Type 0
@@ -55,7 +52,7 @@ Leaves (waits me) f p after later = IsKept f p after later
 Leaves (creates t m) f p after later = create.Makes t f p after later
 Leaves (lists me m) f p after later = IsKept f p after later
 Leaves (scans me m) f p after later = IsKept f p after later
-Leaves (commits rows m) f p after later = commit.MakesRows rows m f p after later
+Leaves (commits e m) f p after later = commit.MakesEntry e m f p after later
 
 -- what it knows of the files and of what they stand for: before its command begins that no known snapshot names a file
 -- of its actor, also of those that have gone, which nobody can read any more
@@ -64,7 +61,7 @@ Knows (waits me) f p = HasNamedNone me p
 Knows (creates t m) f p = create.Knows t m f p
 Knows (lists me m) f p = snapshots.Knows m f p
 Knows (scans me m) f p = scan.Knows m f p
-Knows (commits rows m) f p = commit.Knows rows m f p
+Knows (commits e m) f p = commit.Knows e m f p
 
 abbrev pub AllKnow : List Worker → Files → Past → Type 0
 AllKnow workers f p = AllByRecursion (λ w. Knows w f p) workers
@@ -100,20 +97,18 @@ IsWorld workers ops = AreAllApart workers
 
 -- ---- where they begin
 
--- what a commit of rows begins with: no try was made, and its actor is one that named nothing
-pub record BeginsCommit (Named : Actor → Type 0) (h : History) (rows : List HistoryRow) (m : committing.Phase) : Type 0
-  where
-    pub begun : OwnView
-    pub schema : TableSchema
-    pub is : m ≡ committers.Names begun schema
-    pub is_committer : IsCommitter m
-    pub table : IsTableOf schema h
-    pub fit : AllByRecursion (IsRowOf schema) rows
-    pub batch : IsBatchOf schema rows begun.batch
-    pub may : MayName begun.names
-    pub no_base : begun.author.base ≡ 0
-    pub none_lost : begun.lost ≡ []
-    pub unnamed : Named (owner.actor_of begun)
+-- what a commit with this entry begins with: no try was made, and its actor is one that named nothing
+pub record BeginsCommit (Named : Actor → Type 0) (h : History) (e : Entry) (m : committing.Phase) : Type 0 where
+  pub begun : OwnView
+  pub schema : TableSchema
+  pub is : m ≡ committers.Names begun schema
+  pub is_committer : IsCommitter m
+  pub table : IsTableOf schema h
+  pub means : commit.Means schema begun.author begun.batch e
+  pub may : MayName begun.names
+  pub no_base : begun.author.base ≡ 0
+  pub none_lost : begun.lost ≡ []
+  pub unnamed : Named (owner.actor_of begun)
 
 -- A machine has made no call on a table with the history: who waits is one that named nothing, a creator's origin isn't
 -- that table's, a lister has yet to
@@ -124,7 +119,7 @@ Begins Named h (creates t m) = IsCreator t m × (calls_left m ≡ 2) × IsNoOrig
 Begins Named h (lists me m) =
     (m ≡ listers.Schema schema_readers.Schemas) ⊎ ((s : TableSchema) × (m ≡ listers.List s) × IsTableOf s h)
 Begins Named h (scans me m) = (a : Asked) × (m ≡ scanners.View (readers.List a)) × IsTableOf a.schema h
-Begins Named h (commits rows m) = BeginsCommit Named h rows m
+Begins Named h (commits e m) = BeginsCommit Named h e m
 
 -- in a folder that is found: no snapshot that is there names a file of a committer
 abbrev pub MayBegin : Files → History → Worker → Type 0

@@ -296,7 +296,7 @@ nothing_keeps start w lines s before after none reads = λ alone h begins.
 module _ (start : Start) (w : Writer) (lines : Lines) (s : TableSchema) (batch : Groups) (t : IsTakenOf start w lines s batch) (h : History) (f : Files)
     (table : IsTableOf s h) where
   abbrev b : Beginning
-  b = record { own = commit_of start w batch; rows = t.rows; files = f; history = h }
+  b = record { own = commit_of start w batch; entry = entry_by start w t.rows; files = f; history = h }
 
   takes : TakesRows h lines t.rows
   takes = (s, table, t.taken)
@@ -374,12 +374,11 @@ pub appended_keeps : FitLaw → (start : Start) (w : Writer) (lines : Lines) (s 
 appended_keeps fits start w lines s batch made before after t may appends = λ alone h begins.
     let first = at_first_own before after in
     let files = files_of (MayStart (actor start) h) first begins in
-    let at : Beginning = record { own = commit_of start w batch; rows = t.rows; files = files.0; history = h } in
+    let at : Beginning = record { own = commit_of start w batch; entry = entry_by start w t.rows; files = files.0; history = h } in
     let begin : MayBegin s at = record {
       no_base = refl;
       may = may;
-      fit = rows-in fits s limits.rows lines t.rows t.taken;
-      batch = t.batch_of;
+      means = record { is = refl; fit = rows-in fits s limits.rows lines t.rows t.taken; groups = t.batch_of };
       start = files.2;
     } in
     let does = appends alone at refl files.1 begin in

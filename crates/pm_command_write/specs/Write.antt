@@ -156,7 +156,7 @@ pub record BeginsWith (start : Start) (w : Writer) (lines : Lines) (h : History)
   pub takes : TakesRows h lines rows
   pub some : rows ≢ []
   pub batch_of : IsBatchOf takes.0 rows batch
-  pub is : P (record { own = commit_of start w batch; rows = rows; files = f; history = h })
+  pub is : P (record { own = commit_of start w batch; entry = entry_by start w rows; files = f; history = h })
 
 -- this is so of the files and of the history with some rows of the lines at its end, as one entry
 pub record HasRowsAs (Stands : History → Files → Type 0) (start : Start) (w : Writer) (lines : Lines) (h : History)

@@ -13,7 +13,7 @@ use Rattle.pm_machine.specs.Moves.{Keeps, Moves}
 use Rattle.pm_machine.specs.Trace.{Event, HasTrace, Traces}
 use Rattle.pm_machine.proofs.AloneLaws.{Follows, Follows-first, Follows-meanwhile, Follows-steps, Traces-first, Traces-later, Traces-same_first}
 use Rattle.pm_machine.proofs.Facts.{HasTrace-acts, Traces-faulted, Traces-join, Traces-none, image_changed}
-use Rattle.pm_model_history.specs.History.{Entry, History, IsTableOf, table}
+use Rattle.pm_model_history.specs.History.{History, IsTableOf}
 use Rattle.pm_schema.specs.declared.schema.TableSchema.{TableSchema}
 use Rattle.pm_snapshot.specs.declared.snapshot.Snapshot.{Snapshot}
 use Rattle.pm_model_folder.specs.Changes.{Actor}
@@ -26,9 +26,9 @@ use Rattle.pm_read_schema.proofs.AllCallsLemmas as schema_calls
 use Rattle.pm_read_schema.proofs.StillLemmas.{stayed}
 use Rattle.pm_append.specs.declared.newest.Author.{Author}
 use Rattle.pm_commit.specs.AllCalls.{AppendsAlone, AppendsTables, DidAppend, Ends, Has, IsCounted, IsPastOf, KnewFiles, KnowsFiles, LeavesFiles, LeavesFolder, MayBegin, NamesNone, SaysOf, StandsForEither, StandsFreely, StoodSo}
-use Rattle.pm_commit.specs.Alone.{AloneAt, AloneRefused, Beginning, CommitterAlone, IsTryAt, KnewAlone, KnowsAlone, begun_at, newest_id, own_entry, with_entry}
+use Rattle.pm_commit.specs.Alone.{AloneAt, AloneRefused, Beginning, CommitterAlone, IsTryAt, KnewAlone, KnowsAlone, begun_at, newest_id, with_entry}
 use Rattle.pm_commit.specs.Committer.{IsCommitter}
-use Rattle.pm_commit.specs.Meaning.{Appends, HasCommitted, KnowsOwn, MakesIn, MakesRows, entry_of, own_in}
+use Rattle.pm_commit.specs.Meaning.{HasCommitted, KnowsOwn, MakesEntry, MakesIn, own_in}
 use Rattle.pm_commit.specs.Own.{OwnView, actor_of, begun, begun_after}
 use Rattle.pm_commit.specs.Search.{seen_of}
 use Rattle.pm_commit.specs.Trace.{CommitterActed, Did}
@@ -38,6 +38,7 @@ use Rattle.pm_commit.specs.declared.committer.CommitStep.{CommitStep}
 use Rattle.pm_commit.specs.declared.phase.Phase.{Phase}
 use Rattle.pm_commit.specs.declared.phase.Phase.TheVariants as phases
 use Rattle.pm_commit.proofs.AloneCauseLemmas.{begun-actor}
+use Rattle.pm_commit.proofs.AloneLemmas.{either-way}
 use Rattle.pm_commit.proofs.CommittedLemmas.{bears-commit}
 use Rattle.pm_commit.proofs.FoundLemmas.{LiveEntries}
 use Rattle.pm_commit.proofs.FailLemmas.{after-failed, shows-failed}
@@ -80,40 +81,23 @@ pub record CallLaws : Type 0 where
 -- what is alone to the end is so up to a step, and in it
 -- ---- what is known before a step, and after it
 
--- the commit of a phase has the author of the entry, and the actor of the one at the beginning
-record IsOwnOf (b : Beginning) (own : OwnView) : Type 0 where
-  entry : entry_of own.author b.rows ≡ own_entry b
-  actor : actor_of own ≡ actor_of b.own
-
-begun-entry : (b : Beginning) (n : ℕ) → entry_of (begun n b.own).author b.rows ≡ own_entry b
-begun-entry b n = at b.own.lost
-  where
-    at : (lost : List ℕ) → entry_of (begun_after lost n b.own).author b.rows ≡ own_entry b
-    at [] = refl
-    at (id ∷ lost) = refl
+-- the commit of a phase has the actor of the one at the beginning
+abbrev IsOwnOf : Beginning → OwnView → Type 0
+IsOwnOf b own = actor_of own ≡ actor_of b.own
 
 own-as : (b : Beginning) (o own : OwnView) → o ≡ own → IsOwnOf b o → IsOwnOf b own
 own-as b o own same is = subst (IsOwnOf b) same is
 
-first-own : (b : Beginning) (o : OwnView) → o ≡ b.own → IsOwnOf b o
-first-own b o is = record { entry = ap (λ (o : OwnView). entry_of o.author b.rows) is; actor = ap actor_of is }
-
 begun-own : (b : Beginning) (o : OwnView) → o ≡ begun_at b → IsOwnOf b o
-begun-own b o is = record {
-  entry = ap (λ (o : OwnView). entry_of o.author b.rows) is ∙ begun-entry b (newest_id b);
-  actor = ap actor_of is ∙ begun-actor b.own (newest_id b);
-}
+begun-own b o is = ap actor_of is ∙ begun-actor b.own (newest_id b)
 
 try-own : (b : Beginning) (o : OwnView) (id : ℕ) → IsTryAt b o id → IsOwnOf b o
-try-own b o id ((count, is), at, reason) = record {
-  entry = ap (λ (o : OwnView). entry_of o.author b.rows) is ∙ begun-entry b (newest_id b);
-  actor = ap actor_of is ∙ begun-actor b.own (newest_id b);
-}
+try-own b o id ((count, is), at, reason) = ap actor_of is ∙ begun-actor b.own (newest_id b)
 
 -- and the history is as it was
 own-in : (b : Beginning) (m : Phase) (own : OwnView) (f : Files) (now : History) → own_in m ≡ Some own → AloneAt b m f now → (now ≡ b.history) × IsOwnOf b own
-own-in b (phases.Names o s) own f now is (same, (unchanged, is_own)) = (same, own-as b o own (let e : o ≡ own = cc in e) (first-own b o is_own))
-own-in b (phases.View o m) own f now is (same, (unchanged, is_own, reads)) = (same, own-as b o own (let e : o ≡ own = cc in e) (first-own b o is_own))
+own-in b (phases.Names o s) own f now is (same, (unchanged, is_own)) = (same, own-as b o own (let e : o ≡ own = cc in e) (ap actor_of is_own))
+own-in b (phases.View o m) own f now is (same, (unchanged, is_own, reads)) = (same, own-as b o own (let e : o ≡ own = cc in e) (ap actor_of is_own))
 own-in b (phases.Search o q) own f now is (same, (unchanged, is_own, sees, asked)) = (same, own-as b o own (let e : o ≡ own = cc in e) (begun-own b o is_own))
 own-in b (phases.Put o s id m) own f now is (same, (try, untouched)) = (same, own-as b o own (let e : o ≡ own = cc in e) (try-own b o id try))
 own-in b (phases.Committed author id) own f now is at = absurd (let clash = is in cc)
@@ -121,7 +105,7 @@ own-in b (phases.Already author) own f now is at = absurd (let clash = is in cc)
 own-in b phases.Over own f now is at = absurd (let clash = is in cc)
 
 -- in each phase the history has the entry more, or is as it was
-either-at : (b : Beginning) (m : Phase) (f : Files) (now : History) → AloneAt b m f now → (now ≡ b.history) ⊎ (now ≡ with_entry (own_entry b) b.history)
+either-at : (b : Beginning) (m : Phase) (f : Files) (now : History) → AloneAt b m f now → (now ≡ b.history) ⊎ (now ≡ with_entry b.entry b.history)
 either-at b (phases.Committed author id) f now at = inr at.0
 either-at b (phases.Names own s) f now at = inl at.0
 either-at b (phases.View own m) f now at = inl at.0
@@ -130,16 +114,9 @@ either-at b (phases.Put own s id m) f now at = inl at.0
 either-at b (phases.Already author) f now at = inl at.0
 either-at b phases.Over f now at = inl at.0
 
-stands-either : (b : Beginning) (now : History) (f : Files) → StandsFreely b now f → (now ≡ b.history) ⊎ (now ≡ with_entry (own_entry b) b.history) → StandsForEither b f
+stands-either : (b : Beginning) (now : History) (f : Files) → StandsFreely b now f → (now ≡ b.history) ⊎ (now ≡ with_entry b.entry b.history) → StandsForEither b f
 stands-either b now f stands (inl same) = inl (subst (λ (h : History). StandsFreely b h f) same stands)
 stands-either b now f stands (inr same) = inr (subst (λ (h : History). StandsFreely b h f) same stands)
-
--- what the commit changes adds its entry, or leaves the history
-either-by : (b : Beginning) (now later : History) (own : OwnView) → now ≡ b.history → IsOwnOf b own → Appends own b.rows now later
-    → (later ≡ b.history) ⊎ (later ≡ with_entry (own_entry b) b.history)
-either-by b now later own same is (inl stays) = inl (stays ∙ same)
-either-by b now later own same is (inr (s, es, at, appended)) =
-    inr (appended ∙ ap (λ (x : Entry). table s (es ++ x ∷ [])) is.entry ∙ ap (with_entry (own_entry b)) (sym at ∙ same))
 
 -- the snapshots that were known are known as they were
 stood-on : (me : Actor) (f after : Files) (b : Beginning) (p q : Past) → p.history ≡ b.history → StoodSo b p → Advances me f p after q → StoodSo b q
@@ -165,23 +142,23 @@ module _ (laws : CallLaws) (b : Beginning) where
       → Advances (actor_of own) f p after q → IsPastOf b q
   past-on own f after p q stands same is past advances = record {
     stood = stood-on (actor_of own) f after b p q same past.stood advances;
-    others = λ other apart none. laws.others other (actor_of own) f after p q stands advances (λ e. apart (e ∙ is.actor)) (past.others other apart none);
+    others = λ other apart none. laws.others other (actor_of own) f after p q stands advances (λ same. apart (same ∙ is)) (past.others other apart none);
   }
 
 module _ (laws : CallLaws) (b : Beginning) (known : Option (List Op)) where
   -- a change that a phase's commit makes, from files that stand for what is known
-  changed : (m : Phase) (f after : Files) (p q : Past) → Stands f p → IsPastOf b p → AloneAt b m f p.history → MakesRows b.rows m f p after q
+  changed : (m : Phase) (f after : Files) (p q : Past) → Stands f p → IsPastOf b p → AloneAt b m f p.history → MakesEntry b.entry m f p after q
       → Stands after q × IsPastOf b q × StandsForEither b after
   changed m f after p q stands past at makes = by (own_in m) refl makes
     where
-      by : (o : Option OwnView) → own_in m ≡ o → MakesIn o b.rows f p after q → Stands after q × IsPastOf b q × StandsForEither b after
+      by : (o : Option OwnView) → own_in m ≡ o → MakesIn o b.entry f p after q → Stands after q × IsPastOf b q × StandsForEither b after
       by None is makes = absurd makes
       by (Some own) is makes =
           let own_is = own-in b m own f p.history is at in
           let then = laws.past _ f after p q stands makes.advances in
           let past_then = past-on laws b own f after p q stands own_is.0 own_is.1 past makes.advances in
           let image = stands-either b q.history after (freely laws b after q then past_then)
-          (either-by b p.history q.history own own_is.0 own_is.1 makes.appends) in
+          (either-way b p.history q.history own_is.0 makes.appends) in
           (then, past_then, image)
 
   pub followed : (old new : Phase) (before after : StoreView) (result : Result CommitStep Refusal) → IsAlone before after
@@ -189,11 +166,11 @@ module _ (laws : CallLaws) (b : Beginning) (known : Option (List Op)) where
       → Follows (StandsForEither b) known after (KnowsFiles b new result)
   followed old new before after result alone moves so = by (moves b)
     where
-      by : Moves Stands (MakesRows b.rows old) (KnewAlone b old) (KnowsAlone b new result) before after
+      by : Moves Stands (MakesEntry b.entry old) (KnewAlone b old) (KnowsAlone b new result) before after
           → Follows (StandsForEither b) known after (KnowsFiles b new result)
       by (inl (op, steps)) =
           Follows-steps (StandsForEither b) (KnewFiles b old) (KnowsFiles b new result) known op
-          (λ ops. Keeps Stands (MakesRows b.rows old) (KnewAlone b old) (KnowsAlone b new result) op (files_after ops)) before after so steps
+          (λ ops. Keeps Stands (MakesEntry b.entry old) (KnewAlone b old) (KnowsAlone b new result) op (files_after ops)) before after so steps
           alone
           (λ ops here keeps.
           let f = files_after ops in
@@ -203,7 +180,7 @@ module _ (laws : CallLaws) (b : Beginning) (known : Option (List Op)) where
           let then = changed old f (after_op op f) p leads.0 here.1 here.2 here.3.1 leads.1 in (
             (leads.0, then.0, then.1, leads.2),
             λ image left.
-                let made = image_changed (MakesRows b.rows old) op.call f p got.0 image left in
+                let made = image_changed (MakesEntry b.entry old) op.call f p got.0 image left in
                 (changed old f image p made.0 here.1 here.2 here.3.1 made.1).2,
           ))
       by (inr (meanwhile, stays)) =
@@ -266,7 +243,7 @@ module _ (b : Beginning) (start after : StoreView) where
       at-end (Ok (appends.Committed id)) (KnewFiles b m) (λ f here.
       let known = subst (λ (m : Phase). KnewAlone b m f here.0) is here.3 in
       let at = known.1 in
-      let has = subst (λ (a : Author). HasCommitted a b.rows id here.0) at.1.0 known.0.1 in (
+      let has = subst (λ (a : Author). HasCommitted a b.entry id here.0) at.1.0 known.0.1 in (
         (subst (Folder f) at.0 here.1.folder, bears-commit same live_law b f here.0 here.1 here.2.stood at.0 id at.1.1 has),
         (at.1.1, at.1.2),
       ))
@@ -331,7 +308,7 @@ abbrev pub FoundPast : Type 0
 FoundPast = (f : Files) (h : History) → Folder f h
     → (p : Past) × (p.history ≡ h) × Stands f p × ((id : ℕ) → p.stood id ≡ f) × (p.since ≡ count_of h)
 
--- at first the committer knows its rows, and that no snapshot names a file of its actor
+-- at first the committer knows its entry, and that no snapshot names a file of its actor
 first-known : FoundPast → (s : TableSchema) (b : Beginning) (f : Files) → f ≡ b.files → IsCommitter (phases.Names b.own s) → MayBegin s b
     → IsTableOf s b.history → KnewFiles b (phases.Names b.own s) f
 first-known found s b f same is begin table_is =
@@ -339,10 +316,9 @@ first-known found s b f same is begin table_is =
     let named : (who : Actor) → NamesNone who b.history b.files → HasNamedNone who past = λ who none t id path at known names by.
     none t id path (subst (IsTableOf t) history at) known.after_origin (subst (λ (h : History). id ≤ count_of h) history known.to)
     (subst (λ (f : Files). Names f t id path) (stood id) names) by in
-    let knows : KnowsOwn b.own b.rows s past = record {
+    let knows : KnowsOwn b.own b.entry s past = record {
       is_table = subst (IsTableOf s) (sym history) table_is;
-      fit = begin.fit;
-      batch = begin.batch;
+      means = begin.means;
       may = begin.may;
       unnamed = named (actor_of b.own) begin.start.1;
       from = subst (λ (n : ℕ). n ≤ count_of past.history) (sym begin.no_base) (omega arith);

@@ -10,7 +10,6 @@ use Rattle.pm_store.specs.declared.answer.Answer.TheVariants as answers
 use Rattle.pm_store.specs.declared.answer.Made.TheVariants as created
 use Rattle.pm_store.specs.declared.call.Call.{Call}
 use Rattle.pm_model_history.specs.History.{History, IsTableOf}
-use Rattle.pm_model_history.specs.Merge.{HistoryRow}
 use Rattle.pm_schema.specs.declared.schema.TableSchema.{TableSchema}
 use Rattle.pm_model_folder.specs.Changes.{Actor, IsNamedBy}
 use Rattle.pm_model_folder.specs.Ledger.{Past, Stands, count_of}
@@ -27,7 +26,7 @@ use Rattle.pm_put.specs.Making.{MakingView}
 use Rattle.pm_put.specs.Putter.{create_call}
 use Rattle.pm_put.specs.declared.phase.Phase.TheVariants as puts
 use Rattle.pm_commit.specs.Marks.{FindsUsed}
-use Rattle.pm_commit.specs.Meaning.{HasOrigin, IsFoundIn, KnowsOwn, KnowsTry, entry_of}
+use Rattle.pm_commit.specs.Meaning.{HasOrigin, IsFoundIn, KnowsOwn, KnowsTry}
 use Rattle.pm_commit.specs.Own.{IsTried, OwnView, actor_of, begun, begun_after}
 use Rattle.pm_commit.specs.Search.{seen_of}
 use Rattle.pm_commit.specs.declared.found.Found.{Found}
@@ -45,13 +44,6 @@ use Rattle.pm_commit.proofs.TraceLemmas.{IsReason, is-reason, some-at}
 -- ---- the commit once its try has begun
 
 module _ (own : OwnView) (n : ℕ) where
-  pub begun-entry : (rows : List HistoryRow) → entry_of (begun n own).author rows ≡ entry_of own.author rows
-  begun-entry rows = at own.lost
-    where
-      at : (lost : List ℕ) → entry_of (begun_after lost n own).author rows ≡ entry_of own.author rows
-      at [] = refl
-      at (id ∷ lost) = refl
-
   pub begun-actor : actor_of (begun n own) ≡ actor_of own
   begun-actor = at own.lost
     where
@@ -117,7 +109,7 @@ module _ (laws : Laws) (b : Beginning) (f : Files) (p : Past) (stands : Stands f
       → reader_meaning.Knows m f p → HasOrigin m → IsUnchanged b f → reader.next_call m ≡ Some call → Answers call answer f
       → reader.Goes m answer (readers.Ready v) → v.id ≡ newest_id b → SeesNewest b (found_in v)
   view-sees causes call answer s m v reads table reading origin unchanged at told goes newest =
-      let is_found = view-found laws causes b.rows call answer refusals.Memory f p stands s m v reads reading origin at told goes in
+      let is_found = view-found laws causes b.entry call answer refusals.Memory f p stands s m v reads reading origin at told goes in
       let schema : s ≡ v.schema = sym (ready-schema v s (reads-on laws.read s m answer (readers.Ready v) reads goes).reads) in
       found-sees (found_in v) unchanged is_found (subst (λ (s : TableSchema). IsTableOf s p.history) schema table) newest
 
@@ -164,14 +156,14 @@ module _ (laws : Laws) (b : Beginning) (f : Files) (p : Past) (stands : Stands f
 
 -- a create meets a file that was there at the beginning
 met-caused : (laws : Laws) (b : Beginning) (own : OwnView) (s : TableSchema) (id : ℕ) (making : MakingView) (f : Files) (p : Past) → IsTried s own
-    → KnowsOwn own b.rows s p → KnowsTry own b.rows s id (puts.Create making) f p → p.history ≡ b.history
+    → KnowsOwn own b.entry s p → KnowsTry own b.entry s id (puts.Create making) f p → p.history ≡ b.history
     → AloneIn b (phases.Put own s id (puts.Create making)) f
     → created.Exists ≡ made_at (map.get f making.next.path) → AloneRefused b (refusals.SessionUsed making.next.path) f p
 met-caused laws b own s id making f p tried known is_try same (((count, is), next, gives), (untouched, rest)) told =
     let met = met-at (map.get f making.next.path) told in
     let was : map.get b.files making.next.path ≡ Some met.0 = sym untouched ∙ met.1 in
     let actor : actor_of own ≡ actor_of b.own = ap actor_of is ∙ begun-actor b.own (newest_id b) in
-    let by = create-named laws.own_files own b.rows s id making f p tried known is_try in
+    let by = create-named laws.own_files own b.entry s id making f p tried known is_try in
     (same, inr (subst (λ (me : Actor). IsNamedBy me making.next.path) actor by, subst (λ (o : Option (List ℕ)). IsSome o) (sym was) refl))
 
 -- ---- each phase

@@ -19,8 +19,7 @@ use Rattle.pm_store.proofs.ChangeLaws.{Answers-Changed}
 use Rattle.pm_store.proofs.StepLaws.{Meanwhile-refl, Steps-weaker}
 use Rattle.pm_machine.specs.Moves.{Keeps, Leads, Moves}
 use Rattle.pm_machine.specs.Step.{Stepped, Failed, Refused, Rested, Stopped, Went, path_of}
-use Rattle.pm_model_history.specs.History.{Entry, History, table}
-use Rattle.pm_model_history.specs.Merge.{HistoryRow}
+use Rattle.pm_model_history.specs.History.{Entry, History}
 use Rattle.pm_snapshot.specs.Names.{greatest}
 use Rattle.pm_model_folder.specs.Ledger.{Past, Stands, count_of}
 use Rattle.pm_model_folder.specs.Paths.{snapshot_path}
@@ -32,9 +31,9 @@ use Rattle.pm_machine.proofs.PhaseFacts.{both_if}
 use Rattle.pm_append.specs.Refusals.{refusal_of}
 use Rattle.pm_put.specs.declared.putting.CommitFile.{CommitFile}
 use Rattle.pm_schema.specs.declared.schema.TableSchema.{TableSchema}
-use Rattle.pm_commit.specs.Alone.{AloneAt, AloneRefused, AreUntouched, Beginning, IsTryAt, IsUnchanged, KnewAlone, KnowsAlone, ReadsNewest, SeesNewest, begun_at, newest_id, own_entry, with_entry}
+use Rattle.pm_commit.specs.Alone.{AloneAt, AloneRefused, AreUntouched, Beginning, IsTryAt, IsUnchanged, KnewAlone, KnowsAlone, ReadsNewest, SeesNewest, begun_at, newest_id, with_entry}
 use Rattle.pm_commit.specs.Committer.{After, AfterReader, Goes, Hears, Makes, Outcome, Refuses, Seeks, Stops, Tries, TriesIf, first_of_try, found_in, next_call, publishing_of}
-use Rattle.pm_commit.specs.Meaning.{Appends, KnowsTry, MakesRows, entry_of}
+use Rattle.pm_commit.specs.Meaning.{Appends, KnowsTry, MakesEntry}
 use Rattle.pm_commit.specs.Own.{OwnView, begun, begun_after, with_named}
 use Rattle.pm_commit.specs.Search.{older_ids, seen_in, seen_of}
 use Rattle.pm_put.specs.Putter as put
@@ -48,7 +47,7 @@ use Rattle.pm_commit.specs.declared.phase.Phase.{Phase}
 use Rattle.pm_commit.specs.declared.phase.Phase.TheVariants as phases
 use Rattle.pm_commit.specs.declared.search.Seen.{Seen}
 use Rattle.pm_commit.specs.declared.search.Seen.TheVariants as seen
-use Rattle.pm_commit.proofs.AloneCauseLemmas.{begun-entry, begun-same, calm-caused, some-each, view-rests, view-sees}
+use Rattle.pm_commit.proofs.AloneCauseLemmas.{begun-same, calm-caused, some-each, view-rests, view-sees}
 use Rattle.pm_commit.proofs.ApartLemmas.{PathParts, rest-apart, untouched-puts}
 use Rattle.pm_commit.proofs.CauseLemmas.{ReaderCauses}
 use Rattle.pm_commit.proofs.CommitterLemmas.{err-ok, ok-same, still-committer}
@@ -140,29 +139,24 @@ calm-same b (phases.Committed author id) f now some alone = absurd (let clash = 
 calm-same b (phases.Already author) f now some alone = absurd (let clash = some in cc)
 calm-same b phases.Over f now some alone = absurd (let clash = some in cc)
 
--- the entry of a commit whose try has named its files
-entry-same : (b : Beginning) (own : OwnView) (id : ℕ) → IsTryAt b own id → entry_of own.author b.rows ≡ own_entry b
-entry-same b own id ((count, is), next, gives) = ap (λ (o : OwnView). entry_of o.author b.rows) is ∙ begun-entry b.own (newest_id b) b.rows
-
 -- the history has the entry more, or stays
-either-way : (b : Beginning) (now later : History) (own : OwnView) → now ≡ b.history → entry_of own.author b.rows ≡ own_entry b → Appends own b.rows now later
-    → (later ≡ b.history) ⊎ (later ≡ with_entry (own_entry b) b.history)
-either-way b now later own same is (inl stays) = inl (stays ∙ same)
-either-way b now later own same is (inr (s, es, at, appended)) =
-    inr (appended ∙ ap (λ (x : Entry). table s (es ++ x ∷ [])) is ∙ ap (with_entry (own_entry b)) (sym at ∙ same))
+pub either-way : (b : Beginning) (now later : History) → now ≡ b.history → Appends b.entry now later
+    → (later ≡ b.history) ⊎ (later ≡ with_entry b.entry b.history)
+either-way b now later same (inl stays) = inl (stays ∙ same)
+either-way b now later same (inr (s, es, at, appended)) = inr (appended ∙ ap (with_entry b.entry) (sym at ∙ same))
 
 -- the id of a publish may stand in a name
-try-bound : (own : OwnView) (rows : List HistoryRow) (s : TableSchema) (id : ℕ) (m : put_phase.Phase) (f : Files) (p : Past) → KnowsTry own rows s id m f p
+try-bound : (own : OwnView) (e : Entry) (s : TableSchema) (id : ℕ) (m : put_phase.Phase) (f : Files) (p : Past) → KnowsTry own e s id m f p
     → id ≤ greatest
-try-bound own rows s id m f p is_try =
+try-bound own e s id m f p is_try =
     let next = is_try.is ∙ is_try.made.id in
     let below = allowed-id is_try.attempt.newest is_try.attempt.author is_try.attempt.batch is_try.allowed in
     omega (arith, next, below)
 
 -- what is published is the snapshot with that id, after the one before it
-try-last : (own : OwnView) (rows : List HistoryRow) (s : TableSchema) (id : ℕ) (x : Publishing) (f : Files) (p : Past)
-    → (is_try : KnowsTry own rows s id (puts.Publish x) f p) → x ≡ publishing_of s id is_try.attempt.made.text
-try-last own rows s id x f p is_try = is_try.put.0 ∙ ap (λ (n : ℕ). publishing_of s n is_try.attempt.made.text) (sym is_try.is)
+try-last : (own : OwnView) (e : Entry) (s : TableSchema) (id : ℕ) (x : Publishing) (f : Files) (p : Past)
+    → (is_try : KnowsTry own e s id (puts.Publish x) f p) → x ≡ publishing_of s id is_try.attempt.made.text
+try-last own e s id x f p is_try = is_try.put.0 ∙ ap (λ (n : ℕ). publishing_of s n is_try.attempt.made.text) (sym is_try.is)
 
 module _ (laws : Laws) (causes : ReaderCauses) (parts : PathParts) (b : Beginning) where
   -- no try is lost
@@ -170,7 +164,7 @@ module _ (laws : Laws) (causes : ReaderCauses) (parts : PathParts) (b : Beginnin
       → KnewAlone b (phases.Put own s id (puts.Publish x)) f p → Answers (publish_call x) (answers.Published answer) f → IsLost answer → ⊥
   lost-never own s id x answer f p stands ((putting, (known, is_try)), (same, (is, untouched))) told lost =
       never-lost f p s id is_try.attempt.made.text x answer stands known.is_table (is.1 ∙ ap (λ (h : History). count_of h + 1) (sym same))
-      (try-bound own b.rows s id (puts.Publish x) f p is_try) (try-last own b.rows s id x f p is_try) told lost
+      (try-bound own b.entry s id (puts.Publish x) f p is_try) (try-last own b.entry s id x f p is_try) told lost
 
   -- what is so after an answer before the publish
   alone-on : (m : Phase) (answer : Answer) (new : Phase) (f : Files) (p : Past) → NoPublish m → After m answer (Ok new) → Stands f p → KnewAlone b m f p
@@ -193,15 +187,15 @@ module _ (laws : Laws) (causes : ReaderCauses) (parts : PathParts) (b : Beginnin
   alone-on (phases.Put own s id (puts.Create making)) (answers.Made creates.Created) new f p calm (to, goes, on) stands ((putting, (known, is_try)), (same, (is, untouched))) = λ told.
       let call : Call = create_call making.next in
       let put_at : Puts f making.next.path (Some making.next.bytes) (carried call f) = Answers-Changed call (answers.Made creates.Created) f told in
-      let apart = rest-apart parts own b.rows s id making f p is_try in
-      to-alone b (carried call f) p.history same _ new (next-on laws b.rows own s id making.publishing making.rest to new goes on)
+      let apart = rest-apart parts own b.entry s id making f p is_try in
+      to-alone b (carried call f) p.history same _ new (next-on laws b.entry own s id making.publishing making.rest to new goes on)
       (put-alone b (carried call f) p.history same own s id making.publishing making.rest is
       (untouched-puts f b.files (carried call f) making.next.path making.next.bytes making.rest put_at apart untouched.1))
   alone-on (phases.Put own s id m) answer new f p calm (to, goes, on) stands known = absurd goes
   alone-on m answer new f p calm after stands known = absurd after
 
   abbrev WentAlone : Phase → Phase → Files → Past → Files → Type 0
-  WentAlone m new f p after = Leads (MakesRows b.rows m) (KnewAlone b new) f p after
+  WentAlone m new f p after = Leads (MakesEntry b.entry m) (KnewAlone b new) f p after
 
   went-calm : (m : Phase) (answer : Answer) (new : Phase) (f : Files) (p : Past) → NoPublish m → After m answer (Ok new) → Stands f p
       → KnewAlone b m f p → IfSome (next_call m) (λ call. Answers call answer f → WentAlone m new f p (carried call f))
@@ -210,14 +204,14 @@ module _ (laws : Laws) (causes : ReaderCauses) (parts : PathParts) (b : Beginnin
         p,
         (keeps told).0,
         ((still-committer laws.read m answer new known.0.0 after, (keeps told).1), alone told),
-      )) (keeps-on laws b.rows m answer new f p calm after stands known.0.0 known.0.1) (alone-on m answer new f p calm after stands known)
+      )) (keeps-on laws b.entry m answer new f p calm after stands known.0.0 known.0.1) (alone-on m answer new f p calm after stands known)
 
   went-on : (m : Phase) (answer : Answer) (new : Phase) (f : Files) (p : Past) → After m answer (Ok new) → Stands f p
       → KnewAlone b m f p → IfSome (next_call m) (λ call. Answers call answer f → WentAlone m new f p (carried call f))
   went-on (phases.Put own s id (puts.Publish x)) (answers.Published published.Created) new f p (to, goes, on) stands ((putting, known), (same, (at, untouched))) = λ told.
       let is = putter-at own s id to puts.Published (Ok new) goes on in
-      let leads = published-leads laws b.rows own s id x new f p is stands putting.0 known.0 known.1 told in
-      let appended = leads.2.1 ∙ ap (λ (x : Entry). with_entry x p.history) (entry-same b own id at) ∙ ap (with_entry (own_entry b)) same in
+      let leads = published-leads laws b.entry own s id x new f p is stands putting.0 known.0 known.1 told in
+      let appended = leads.2.1 ∙ ap (with_entry b.entry) same in
       let next = leads.2.2 ∙ ap (λ (h : History). count_of h + 1) same in
       let author = ap (λ (o : OwnView). o.author) at.0.1 in (
         leads.0,
@@ -243,12 +237,12 @@ module _ (laws : Laws) (causes : ReaderCauses) (parts : PathParts) (b : Beginnin
 
   -- a refusal that an answer shows
   abbrev RefusedAlone : Phase → Refusal → Files → Past → Files → Type 0
-  RefusedAlone m refusal f p after = Leads (MakesRows b.rows m) (AloneRefused b refusal) f p after
+  RefusedAlone m refusal f p after = Leads (MakesEntry b.entry m) (AloneRefused b refusal) f p after
 
   refused-calm : (m : Phase) (answer : Answer) (refusal : Refusal) (f : Files) (p : Past) → NoPublish m → After m answer (Err refusal) → Stands f p
       → KnewAlone b m f p → IfSome (next_call m) (λ call. Answers call answer f → RefusedAlone m refusal f p (carried call f))
   refused-calm m answer refusal f p calm after stands known =
-      both_if (next_call m) _ _ _ (λ call makes caused told. (p, makes effects.Whole, caused told)) (makes-on laws b.rows m f p calm stands known.0.0 known.0.1)
+      both_if (next_call m) _ _ _ (λ call makes caused told. (p, makes effects.Whole, caused told)) (makes-on laws b.entry m f p calm stands known.0.0 known.0.1)
       (calm-caused laws causes b m answer refusal f p calm stands known after)
 
   refused-on : (m : Phase) (answer : Answer) (refusal : Refusal) (f : Files) (p : Past) → After m answer (Err refusal) → Stands f p
@@ -273,19 +267,19 @@ module _ (laws : Laws) (causes : ReaderCauses) (parts : PathParts) (b : Beginnin
 
   -- a fault of the store
   abbrev FailedAlone : Phase → Call → Files → Past → Files → Type 0
-  FailedAlone m call f p after = Leads (MakesRows b.rows m) (AloneRefused b (refusals.StoreFault (path_of call))) f p after
+  FailedAlone m call f p after = Leads (MakesEntry b.entry m) (AloneRefused b (refusals.StoreFault (path_of call))) f p after
 
   failed-calm : (m : Phase) (effect : Effect) (f : Files) (p : Past) → IsSome (next_call m) → NoPublish m → Stands f p → KnewAlone b m f p
       → IfSome (next_call m) (λ call. FailedAlone m call f p (after_effect call effect f))
   failed-calm m effect f p some calm stands (known, alone) =
-      IfSome_then (next_call m) (makes-on laws b.rows m f p calm stands known.0 known.1) (λ call makes. (p, makes effect, inl (calm-same b m f p.history some alone)))
+      IfSome_then (next_call m) (makes-on laws b.entry m f p calm stands known.0 known.1) (λ call makes. (p, makes effect, inl (calm-same b m f p.history some alone)))
 
   failed-on : (m : Phase) (effect : Effect) (f : Files) (p : Past) → IsSome (next_call m) → Stands f p → KnewAlone b m f p
       → IfSome (next_call m) (λ call. FailedAlone m call f p (after_effect call effect f))
   failed-on (phases.Put own s id (puts.Publish x)) effect f p some stands ((putting, known), (same, (at, untouched))) =
-      let change = changes-on laws b.rows (phases.Put own s id (puts.Publish x)) f p stands putting known effect in
-      let either = either-way b p.history change.0.history own same (entry-same b own id at) change.1.appends in
-      let last = try-last own b.rows s id x f p known.1 in (
+      let change = changes-on laws b.entry (phases.Put own s id (puts.Publish x)) f p stands putting known effect in
+      let either = either-way b p.history change.0.history same change.1.appends in
+      let last = try-last own b.entry s id x f p known.1 in (
         change.0,
         change.1,
         elim either as (λ _. AloneRefused b (refusals.StoreFault x.path) (after_effect (publish_call x) effect f) change.0) [
@@ -310,22 +304,22 @@ module _ (laws : Laws) (causes : ReaderCauses) (parts : PathParts) (b : Beginnin
 
   pub alone-moves : {old new : Phase} {before after : StoreView} {result : Result (Unit {0}) Refusal}
       → Stepped next_call Goes Refuses Stops old new before after result
-      → Moves Stands (MakesRows b.rows old) (KnewAlone b old) (KnowsAlone b new result) before after
+      → Moves Stands (MakesEntry b.entry old) (KnewAlone b old) (KnowsAlone b new result) before after
   alone-moves {old} {new} {before} {after} (Rested none same still) =
       inr (subst (Meanwhile before) (sym still) (Meanwhile-refl before), λ (f : Files) (p : Past) stands known. subst (λ (m : Phase). KnewAlone b m f p) (sym same) known)
   alone-moves {old} {new} {before} {after} (Went call answer is came on) =
       let keeps : (ops : List Op) → Answers call answer (files_after ops)
-      → Keeps Stands (MakesRows b.rows old) (KnewAlone b old) (KnewAlone b new) (whole call) (files_after ops) =
+      → Keeps Stands (MakesEntry b.entry old) (KnewAlone b old) (KnewAlone b new) (whole call) (files_after ops) =
       λ ops here p stands known. (
-        (rw is at (changes-on laws b.rows old (files_after ops) p stands known.0.0 known.0.1)),
+        (rw is at (changes-on laws b.entry old (files_after ops) p stands known.0.0 known.0.1)),
         (rw is at (went-on old answer new (files_after ops) p on stands known)) here,
       ) in
       inl (whole call, Steps-weaker (whole call) _ _ before after keeps came.0)
   alone-moves {old} {new} {before} {after} (Refused call answer refusal is came on) =
       let keeps : (ops : List Op) → Answers call answer (files_after ops)
-      → Keeps Stands (MakesRows b.rows old) (KnewAlone b old) (AloneRefused b refusal) (whole call) (files_after ops) =
+      → Keeps Stands (MakesEntry b.entry old) (KnewAlone b old) (AloneRefused b refusal) (whole call) (files_after ops) =
       λ ops here p stands known. (
-        (rw is at (changes-on laws b.rows old (files_after ops) p stands known.0.0 known.0.1)),
+        (rw is at (changes-on laws b.entry old (files_after ops) p stands known.0.0 known.0.1)),
         (rw is at (refused-on old answer refusal (files_after ops) p on.0 stands known)) here,
       ) in
       inl (whole call, Steps-weaker (whole call) _ _ before after keeps came.0)
@@ -335,9 +329,9 @@ module _ (laws : Laws) (causes : ReaderCauses) (parts : PathParts) (b : Beginnin
       let effect : Effect = came.0.0 in
       let op : Op = own_op call effect in
       let keeps : (ops : List Op) → MayHave call effect (files_after ops)
-      → Keeps Stands (MakesRows b.rows old) (KnewAlone b old) (AloneRefused b (refusals.StoreFault (path_of call))) op (files_after ops) =
+      → Keeps Stands (MakesEntry b.entry old) (KnewAlone b old) (AloneRefused b (refusals.StoreFault (path_of call))) op (files_after ops) =
       λ ops may p stands known. (
-        (rw is at (changes-on laws b.rows old (files_after ops) p stands known.0.0 known.0.1)),
+        (rw is at (changes-on laws b.entry old (files_after ops) p stands known.0.0 known.0.1)),
         rw is at (failed-on old effect (files_after ops) p (has-call is) stands known),
       ) in
       inl (op, Steps-weaker op _ _ before after keeps came.0.1)

@@ -6,7 +6,7 @@ use Rattle.std.proofs.lemmas.List.{length-map}
 use Rattle.pm_store.specs.Files.{Files, Puts}
 use Rattle.pm_values.specs.Names.{Naming, counted, name_of}
 use Rattle.pm_values.specs.declared.group.Group.{Group}
-use Rattle.pm_model_history.specs.Merge.{HistoryRow}
+use Rattle.pm_model_history.specs.History.{Entry}
 use Rattle.pm_schema.specs.Folder.{folder_text}
 use Rattle.pm_schema.specs.declared.schema.TableSchema.{TableSchema}
 use Rattle.pm_engine.specs.Covers.{Run}
@@ -161,9 +161,9 @@ module _ (t : Naming) where
   )
 
 -- the files of a try that are left have other paths than the one before them
-pub rest-apart : PathParts → (own : OwnView) (rows : List HistoryRow) (s : TableSchema) (id : ℕ) (making : MakingView) (f : Files) (p : Past)
-    → KnowsTry own rows s id (puts.Create making) f p → AllByRecursion (λ (other : CommitFile). other.path ≢ making.next.path) making.rest
-rest-apart parts own rows s id making f p is_try =
+pub rest-apart : PathParts → (own : OwnView) (e : Entry) (s : TableSchema) (id : ℕ) (making : MakingView) (f : Files) (p : Past)
+    → KnowsTry own e s id (puts.Create making) f p → AllByRecursion (λ (other : CommitFile). other.path ≢ making.next.path) making.rest
+rest-apart parts own e s id making f p is_try =
     let t : Attempt = is_try.attempt in
     let has = is_try.put.1 in
     let few = made-few s t.newest t.author t.batch t.names t.made is_try.made in

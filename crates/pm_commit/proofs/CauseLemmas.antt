@@ -13,8 +13,7 @@ use Rattle.pm_put.specs.declared.phase.Phase as put_phase
 use Rattle.pm_put.specs.declared.phase.Phase.TheVariants as puts
 use Rattle.pm_store.specs.declared.call.Call.{Call}
 use Rattle.pm_store.specs.declared.call.Call.TheVariants as calls
-use Rattle.pm_model_history.specs.Merge.{HistoryRow}
-use Rattle.pm_model_history.specs.History.{IsTableOf}
+use Rattle.pm_model_history.specs.History.{Entry, IsTableOf}
 use Rattle.pm_schema.specs.declared.schema.TableSchema.{TableSchema}
 use Rattle.pm_snapshot.specs.Names.{greatest}
 use Rattle.pm_snapshot.specs.Snapshot.{snapshot_in}
@@ -188,7 +187,7 @@ call-at one other e = cc
 pub told-at : (one : Call) (call : Call) (answer : Answer) (f : Files) → Some one ≡ Some call → Answers call answer f → Answers one answer f
 told-at one call answer f at told = subst (λ (call : Call). Answers call answer f) (call-at one call at) told
 
-module _ (laws : Laws) (causes : ReaderCauses) (rows : List HistoryRow) (call : Call) (answer : Answer) (refusal : Refusal) (f : Files) (p : Past) (stands : Stands f p) where
+module _ (laws : Laws) (causes : ReaderCauses) (e : Entry) (call : Call) (answer : Answer) (refusal : Refusal) (f : Files) (p : Past) (stands : Stands f p) where
   -- the view is ready after the answer
   pub view-found : (s : TableSchema) (m : view_phase.Phase) (v : View) → Reads m s → reader_meaning.Knows m f p → HasOrigin m → reader.next_call m ≡ Some call
       → Answers call answer f → reader.Goes m answer (readers.Ready v) → IsFoundIn p (found_in v)
@@ -228,31 +227,31 @@ putter-caused own s id puts.Lost f p refusal on = lost-caused own s id f p refus
 putter-caused own s id puts.Over f p refusal on = absurd (err-ok refusal _ on)
 
 -- what an answer that shows a refusal needs
-caused-on : (laws : Laws) (causes : ReaderCauses) (rows : List HistoryRow) (m : Phase) (call : Call) (answer : Answer) (refusal : Refusal) (f : Files) (p : Past)
-    → Stands f p → IsCommitter m → KnowsIn rows m f p → next_call m ≡ Some call → Answers call answer f → After m answer (Err refusal) → MayRefuse m f p refusal
-caused-on laws causes rows (phases.Names own s) call (answers.Listed names) refusal f p stands is known at told (inl memory) = forgotten own f p refusal memory
-caused-on laws causes rows (phases.Names own s) call (answers.Listed names) refusal f p stands is known at told (inr (path, finds, shown)) =
+caused-on : (laws : Laws) (causes : ReaderCauses) (e : Entry) (m : Phase) (call : Call) (answer : Answer) (refusal : Refusal) (f : Files) (p : Past)
+    → Stands f p → IsCommitter m → KnowsIn e m f p → next_call m ≡ Some call → Answers call answer f → After m answer (Err refusal) → MayRefuse m f p refusal
+caused-on laws causes e (phases.Names own s) call (answers.Listed names) refusal f p stands is known at told (inl memory) = forgotten own f p refusal memory
+caused-on laws causes e (phases.Names own s) call (answers.Listed names) refusal f p stands is known at told (inr (path, finds, shown)) =
     subst (MayRefuseOwn own f p) (sym shown) (inl (names.items, told-at manifests_call call (answers.Listed names) f at told, finds))
-caused-on laws causes rows (phases.View own m) call answer refusal f p stands is (s, reads, known, reading, origin) at told (inl shown) =
+caused-on laws causes e (phases.View own m) call answer refusal f p stands is (s, reads, known, reading, origin) at told (inl shown) =
     reader-caused own f p refusal (shown-none s m answer refusal reads shown) (causes m call answer refusal f p stands reading at told shown)
-caused-on laws causes rows (phases.View own m) call answer refusal f p stands is (s, reads, known, reading, origin) at told (inr (to, goes, on)) =
-    ready-caused laws causes rows call answer refusal f p stands own s m to reads reading origin at told goes on
-caused-on laws causes rows (phases.Search own q) call (answers.Found None) refusal f p stands is (known, is_found) at told on =
+caused-on laws causes e (phases.View own m) call answer refusal f p stands is (s, reads, known, reading, origin) at told (inr (to, goes, on)) =
+    ready-caused laws causes e call answer refusal f p stands own s m to reads reading origin at told goes on
+caused-on laws causes e (phases.Search own q) call (answers.Found None) refusal f p stands is (known, is_found) at told on =
     make-caused own q.found f p refusal is_found on
-caused-on laws causes rows (phases.Search own q) call (answers.Found (Some bytes)) refusal f p stands is known at told (inl memory) = forgotten own f p refusal memory
-caused-on laws causes rows (phases.Search own q) call (answers.Found (Some bytes)) refusal f p stands (may, few, ids) (known, is_found) at told (inr (inl (bad, shown))) =
+caused-on laws causes e (phases.Search own q) call (answers.Found (Some bytes)) refusal f p stands is known at told (inl memory) = forgotten own f p refusal memory
+caused-on laws causes e (phases.Search own q) call (answers.Found (Some bytes)) refusal f p stands (may, few, ids) (known, is_found) at told (inr (inl (bad, shown))) =
     absurd (good-snapshot f p q.found.schema q.id bytes stands known.is_table ids.0.0 ids.0.1
     (told-at (calls.Read (snapshot_path q.id)) call (answers.Found (Some bytes)) f at told) bad)
-caused-on laws causes rows (phases.Search own q) call (answers.Found (Some bytes)) refusal f p stands is (known, is_found) at told (inr (inr (x, reads, on))) =
+caused-on laws causes e (phases.Search own q) call (answers.Found (Some bytes)) refusal f p stands is (known, is_found) at told (inr (inr (x, reads, on))) =
     hears-any (MayRefuseOwn own f p refusal) own q.found q.left (seen_of own.author x) refusal (make-caused own q.found f p refusal is_found) on
-caused-on laws causes rows (phases.Put own s id (puts.Create making)) call (answers.Made created.Exists) refusal f p stands is known at told (inl shown) =
+caused-on laws causes e (phases.Put own s id (puts.Create making)) call (answers.Made created.Exists) refusal f p stands is known at told (inl shown) =
     subst (MayRefuseOwn own f p) (sym shown)
     (inr (met-at (map.get f making.next.path) (told-at (create_call making.next) call (answers.Made created.Exists) f at told)))
-caused-on laws causes rows (phases.Put own s id m) call answer refusal f p stands is known at told (inl shown) = absurd shown
-caused-on laws causes rows (phases.Put own s id m) call answer refusal f p stands is known at told (inr (to, goes, on)) = putter-caused own s id to f p refusal on
-caused-on laws causes rows m call answer refusal f p stands is known at told on = absurd on
+caused-on laws causes e (phases.Put own s id m) call answer refusal f p stands is known at told (inl shown) = absurd shown
+caused-on laws causes e (phases.Put own s id m) call answer refusal f p stands is known at told (inr (to, goes, on)) = putter-caused own s id to f p refusal on
+caused-on laws causes e m call answer refusal f p stands is known at told on = absurd on
 
-pub caused : Laws → ReaderCauses → (rows : List HistoryRow) (m new : Phase) (call : Call) (answer : Answer) (refusal : Refusal) (f : Files) (p : Past)
-    → Stands f p → Knows rows m f p → next_call m ≡ Some call → Answers call answer f → Refuses m answer refusal new → MayRefuse m f p refusal
-caused laws causes rows m new call answer refusal f p stands known at told refuses =
-    caused-on laws causes rows m call answer refusal f p stands known.0 known.1 at told refuses.0
+pub caused : Laws → ReaderCauses → (e : Entry) (m new : Phase) (call : Call) (answer : Answer) (refusal : Refusal) (f : Files) (p : Past)
+    → Stands f p → Knows e m f p → next_call m ≡ Some call → Answers call answer f → Refuses m answer refusal new → MayRefuse m f p refusal
+caused laws causes e m new call answer refusal f p stands known at told refuses =
+    caused-on laws causes e m call answer refusal f p stands known.0 known.1 at told refuses.0

@@ -4,7 +4,7 @@ use Rattle.std.proofs.Common.{refl, sym, ap, ◌∙◌, subst, arith}
 use Rattle.std.specs.FinMap as map
 use Rattle.std.proofs.lemmas.List.Elements.{Contains-append_left, Contains-append_right}
 use Rattle.pm_store.specs.Files.{Files}
-use Rattle.pm_model_history.specs.History.{Entry, History, IsTableOf, no_table, table}
+use Rattle.pm_model_history.specs.History.{Entry, History, IsTableOf, entry_rows, no_table, table}
 use Rattle.pm_schema.specs.declared.schema.TableSchema.{TableSchema}
 use Rattle.pm_snapshot.specs.declared.snapshot.Snapshot.{Snapshot}
 use Rattle.pm_manifest.specs.declared.entry.Entry as files
@@ -24,7 +24,7 @@ use Rattle.pm_append.specs.Snapshot.{new_snapshot}
 use Rattle.pm_append.specs.declared.newest.Author.{Author}
 use Rattle.pm_append.specs.declared.newest.Newest.{Newest}
 use Rattle.pm_commit.specs.AllCalls.{BearsCommit, StoodSo}
-use Rattle.pm_commit.specs.Alone.{Beginning, SeesNewest, begun_at, newest_id, own_entry, with_entry}
+use Rattle.pm_commit.specs.Alone.{Beginning, SeesNewest, begun_at, newest_id, with_entry}
 use Rattle.pm_commit.specs.Meaning.{HasCommitted}
 use Rattle.pm_commit.proofs.FoundLemmas.{LiveEntries, found-stood}
 use Rattle.pm_commit.proofs.NewestLemmas.{newest-at}
@@ -97,7 +97,7 @@ snapshot-there f s zero least there = absurd (omega (arith, least))
 snapshot-there f s (suc k) least there = there
 
 module _ (same : SameContents) (live_law : LiveEntries) (b : Beginning) (f : Files) (p : Past) (stands : Stands f p) (so : StoodSo b p)
-    (now : p.history ≡ with_entry (own_entry b) b.history) (id : ℕ) (next : id ≡ newest_id b + 1) (has : HasCommitted (begun_at b).author b.rows id p) where
+    (now : p.history ≡ with_entry b.entry b.history) (id : ℕ) (next : id ≡ newest_id b + 1) (has : HasCommitted (begun_at b).author b.entry id p) where
   abbrev s : TableSchema
   s = has.found.schema
 
@@ -108,7 +108,7 @@ module _ (same : SameContents) (live_law : LiveEntries) (b : Beginning) (f : Fil
   newest-is = let one = has.next in let two = next in omega (arith, one, two)
 
   was-table : IsTableOf s b.history
-  was-table = table-before s (own_entry b) b.history (subst (IsTableOf s) now has.is_table)
+  was-table = table-before s b.entry b.history (subst (IsTableOf s) now has.is_table)
 
   -- the newest snapshot was found as it was at the beginning
   sees : SeesNewest b has.found
@@ -120,7 +120,7 @@ module _ (same : SameContents) (live_law : LiveEntries) (b : Beginning) (f : Fil
 
   -- the snapshot after it is there
   here : HasSnapshotAt f s id
-  here = subst (HasSnapshotAt f s) (ap count_of now ∙ count-more s (own_entry b) b.history was-table ∙ sym next) (newest-at f p s stands has.is_table)
+  here = subst (HasSnapshotAt f s) (ap count_of now ∙ count-more s b.entry b.history was-table ∙ sym next) (newest-at f p s stands has.is_table)
 
   abbrev x : Snapshot
   x = new_snapshot s newest (begun_at b).author has.stood.added has.stood.lists
@@ -133,7 +133,7 @@ module _ (same : SameContents) (live_law : LiveEntries) (b : Beginning) (f : Fil
       let kept = ((at-table f p s stands has.is_table).3.kept id has.known).there here in (
         has.found,
         sees,
-        appended-held same (p.stood id) f s newest (begun_at b).author (length b.rows) has.stood
+        appended-held same (p.stood id) f s newest (begun_at b).author (length (entry_rows b.entry)) has.stood
             (λ path is. kept path (inl (is ∙ ap snapshot_path (sym has.next))))
             (λ path names. kept path (inr (inr (x, has.stood.contents, stood-commit, names)))),
       )

@@ -3,7 +3,7 @@ use Rattle.std.proofs.Common.{◌≡◌, inr, inl, ℕ, List, [], ◌∷◌, ◌
 use Rattle.std.specs.FinMap as map
 use Rattle.std.specs.List.{AllByRecursion}
 use Rattle.pm_store.specs.Files.{Files, Puts}
-use Rattle.pm_model_history.specs.Merge.{HistoryRow}
+use Rattle.pm_model_history.specs.History.{Entry}
 use Rattle.pm_schema.specs.declared.schema.TableSchema.{TableSchema}
 use Rattle.pm_model_folder.specs.Changes.{IsNamedBy, IsOwn, IsOwnFile, its_file}
 use Rattle.pm_model_folder.specs.Ledger.{Past}
@@ -28,8 +28,8 @@ all-at : (P : CommitFile → Type 0) (before after : List CommitFile) (file : Co
 all-at P [] after file all = all.0
 all-at P (other ∷ before) after file all = all-at P before after file all.1
 
-module _ (own_files : OwnFiles) (own : OwnView) (rows : List HistoryRow) (s : TableSchema) (id : ℕ) (making : MakingView) (f : Files) (p : Past)
-    (tried : IsTried s own) (known : KnowsOwn own rows s p) (is_try : KnowsTry own rows s id (puts.Create making) f p) where
+module _ (own_files : OwnFiles) (own : OwnView) (e : Entry) (s : TableSchema) (id : ℕ) (making : MakingView) (f : Files) (p : Past)
+    (tried : IsTried s own) (known : KnowsOwn own e s p) (is_try : KnowsTry own e s id (puts.Create making) f p) where
   abbrev t : Attempt
   t = is_try.attempt
 
@@ -53,20 +53,20 @@ module _ (own_files : OwnFiles) (own : OwnView) (rows : List HistoryRow) (s : Ta
   create-named = is-file.by
 
   -- it appears, with some content
-  put-makes : (after : Files) (content : List ℕ) → map.get f making.next.path ≡ None → Puts f making.next.path (Some content) after → MakesOwn own rows f p after p
+  put-makes : (after : Files) (content : List ℕ) → map.get f making.next.path ≡ None → Puts f making.next.path (Some content) after → MakesOwn own e f p after p
   put-makes after content absent puts = record {
     advances = own-advances (actor_of own) f after p s making.next.path content known.is_table known.unnamed is-own is-in create-named
         (no-origin p.history making.next.path is-in) absent puts;
     appends = inl refl;
   }
 
-  pub create-makes : (after : Files) → put.Makes (puts.Create making) f after → MakesOwn own rows f p after p
-  create-makes after (inl same) = own-same own rows f after p same
+  pub create-makes : (after : Files) → put.Makes (puts.Create making) f after → MakesOwn own e f p after p
+  create-makes after (inl same) = own-same own e f after p same
   create-makes after (inr (content, (absent, puts))) = put-makes after content absent puts
 
   -- once it was created
   pub created-try : (after : Files) → map.get f making.next.path ≡ None → Puts f making.next.path (Some making.next.bytes) after
-      → KnowsTry own rows s id (put_next making.publishing making.rest) after p
+      → KnowsTry own e s id (put_next making.publishing making.rest) after p
   created-try after absent puts = record {
     attempt = t;
     same_rows = is_try.same_rows;

@@ -1,8 +1,7 @@
 -- What a committer knows after an answer.
 use Rattle.std.proofs.Common.{◌≡◌, inr, ℕ, ◌+◌, ◌^◌, ◌<◌, ◌≤◌, Bool, true, false, List, [], ◌∷◌, length, Ok, refl, sym, ap, ◌∙◌, subst, arith}
 use Rattle.pm_store.specs.Files.{Files}
-use Rattle.pm_model_history.specs.History.{History, IsTableOf, no_table, table}
-use Rattle.pm_model_history.specs.Merge.{HistoryRow}
+use Rattle.pm_model_history.specs.History.{Entry, History, IsTableOf, entry_rows, no_table, table}
 use Rattle.pm_schema.specs.declared.schema.TableSchema.{TableSchema}
 use Rattle.pm_snapshot.specs.Names.{greatest}
 use Rattle.pm_model_folder.specs.Folder.{Folder}
@@ -34,15 +33,14 @@ count-bound f p s stands is = at p.history is stands.folder
 
 -- ---- what is known of a commit
 
-module _ (rows : List HistoryRow) (s : TableSchema) (p : Past) where
-  pub begun-known : (own : OwnView) (n : ℕ) → n ≤ count_of p.history → n ≤ greatest → KnowsOwn own rows s p → KnowsOwn (begun n own) rows s p
+module _ (e : Entry) (s : TableSchema) (p : Past) where
+  pub begun-known : (own : OwnView) (n : ℕ) → n ≤ count_of p.history → n ≤ greatest → KnowsOwn own e s p → KnowsOwn (begun n own) e s p
   begun-known own n within bound known = at own.lost
     where
-      at : (lost : List ℕ) → KnowsOwn (begun_after lost n own) rows s p
+      at : (lost : List ℕ) → KnowsOwn (begun_after lost n own) e s p
       at [] = record {
         is_table = known.is_table;
-        fit = known.fit;
-        batch = known.batch;
+        means = known.means;
         may = record {
           is_maker = record {
             sixteen = known.may.is_maker.sixteen;
@@ -59,11 +57,10 @@ module _ (rows : List HistoryRow) (s : TableSchema) (p : Past) where
       }
       at (id ∷ lost) = known
 
-  pub named-known : (own : OwnView) (count : ℕ) → count < 2 ^ 64 → KnowsOwn own rows s p → KnowsOwn (with_named count own) rows s p
+  pub named-known : (own : OwnView) (count : ℕ) → count < 2 ^ 64 → KnowsOwn own e s p → KnowsOwn (with_named count own) e s p
   named-known own count bound known = record {
     is_table = known.is_table;
-    fit = known.fit;
-    batch = known.batch;
+    means = known.means;
     may = record {
       is_maker = record {
         sixteen = known.may.is_maker.sixteen;
@@ -79,11 +76,10 @@ module _ (rows : List HistoryRow) (s : TableSchema) (p : Past) where
     from = known.from;
   }
 
-  pub lost-known : (own : OwnView) (id : ℕ) → KnowsOwn own rows s p → KnowsOwn (with_lost id own) rows s p
+  pub lost-known : (own : OwnView) (id : ℕ) → KnowsOwn own e s p → KnowsOwn (with_lost id own) e s p
   lost-known own id known = record {
     is_table = known.is_table;
-    fit = known.fit;
-    batch = known.batch;
+    means = known.means;
     may = known.may;
     unnamed = known.unnamed;
     from = known.from;
@@ -91,19 +87,19 @@ module _ (rows : List HistoryRow) (s : TableSchema) (p : Past) where
 
 -- ---- what a try leads to
 
-module _ (rows : List HistoryRow) (f : Files) (p : Past) where
-  pub makes-known : (own : OwnView) (found : Found) (later : Phase) → IsOwn found.schema own → KnowsOwn own rows found.schema p → IsFoundIn p found
-      → Makes own found (Ok later) → KnowsIn rows later f p
+module _ (e : Entry) (f : Files) (p : Past) where
+  pub makes-known : (own : OwnView) (found : Found) (later : Phase) → IsOwn found.schema own → KnowsOwn own e found.schema p → IsFoundIn p found
+      → Makes own found (Ok later) → KnowsIn e later f p
   makes-known own found later own_of known is_found (made, is_made, allowed, is) =
       let tried = made-tried own found made is_made own_of in
       let named = own_of.named in
       let within = own_of.within in
       let count = tried.named in
-      let attempt : Attempt = record { rows = rows; batch = own.batch; author = own.author; newest = found.newest; names = own.names; made = made } in
+      let attempt : Attempt = record { rows = entry_rows e; batch = own.batch; author = own.author; newest = found.newest; names = own.names; made = made } in
       let total : ℕ = own.names.count + length made.files.items in
       let next : OwnView = with_named total own in
-      subst (λ (m : Phase). KnowsIn rows m f p) (sym is) (
-        named-known rows found.schema p own total (omega (arith, count, within)) known,
+      subst (λ (m : Phase). KnowsIn e m f p) (sym is) (
+        named-known e found.schema p own total (omega (arith, count, within)) known,
         record {
           attempt = attempt;
           same_rows = refl;
@@ -144,24 +140,24 @@ module _ (rows : List HistoryRow) (f : Files) (p : Past) where
         reached = sym (ap (seen_in author) (same ∙ is.snapshot)) ∙ reached;
       }
 
-  seeks-known : (own : OwnView) (found : Found) (left : List ℕ) (later : Phase) → IsOwn found.schema own → KnowsOwn own rows found.schema p → IsFoundIn p found
-      → Seeks own found left (Ok later) → KnowsIn rows later f p
+  seeks-known : (own : OwnView) (found : Found) (left : List ℕ) (later : Phase) → IsOwn found.schema own → KnowsOwn own e found.schema p → IsFoundIn p found
+      → Seeks own found left (Ok later) → KnowsIn e later f p
   seeks-known own found [] later own_of known is_found on = makes-known own found later own_of known is_found on
   seeks-known own found (id ∷ left) later own_of known is_found (few, is) =
-      subst (λ (m : Phase). KnowsIn rows m f p) (sym (ok-same later _ is)) (known, is_found)
+      subst (λ (m : Phase). KnowsIn e m f p) (sym (ok-same later _ is)) (known, is_found)
 
-  pub hears-known : (own : OwnView) (found : Found) (left : List ℕ) (said : Seen) (later : Phase) → IsOwn found.schema own → KnowsOwn own rows found.schema p
-      → IsFoundIn p found → (said ≡ seen.Reached → HasEarlier own.author p) → Hears own found left said (Ok later) → KnowsIn rows later f p
+  pub hears-known : (own : OwnView) (found : Found) (left : List ℕ) (said : Seen) (later : Phase) → IsOwn found.schema own → KnowsOwn own e found.schema p
+      → IsFoundIn p found → (said ≡ seen.Reached → HasEarlier own.author p) → Hears own found left said (Ok later) → KnowsIn e later f p
   hears-known own found left seen.Other later own_of known is_found reached on = seeks-known own found left later own_of known is_found on
   hears-known own found left seen.Below later own_of known is_found reached on = makes-known own found later own_of known is_found on
-  hears-known own found left seen.Reached later own_of known is_found reached is = subst (λ (m : Phase). KnowsIn rows m f p) (sym (ok-same later _ is)) (reached refl)
+  hears-known own found left seen.Reached later own_of known is_found reached is = subst (λ (m : Phase). KnowsIn e m f p) (sym (ok-same later _ is)) (reached refl)
 
-  pub tries-known : (own : OwnView) (v : View) (later : Phase) → IsOwn v.schema own → KnowsOwn own rows v.schema p → IsFoundIn p (found_in v)
-      → Tries own v (Ok later) → KnowsIn rows later f p
+  pub tries-known : (own : OwnView) (v : View) (later : Phase) → IsOwn v.schema own → KnowsOwn own e v.schema p → IsFoundIn p (found_in v)
+      → Tries own v (Ok later) → KnowsIn e later f p
   tries-known own v later own_of known is_found = by_test own.check
     where
       by_test : (b : Bool) → TriesIf b own v (Ok later)
-          → KnowsIn rows later f p
+          → KnowsIn e later f p
       by_test true on = hears-known own (found_in v) (older_ids v.listed.items) (seen_in own.author v.snapshot) later own_of known is_found (newest-earlier own.author v is_found) on
       by_test false on = makes-known own (found_in v) later own_of known is_found on
 

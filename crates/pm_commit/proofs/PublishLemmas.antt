@@ -9,14 +9,14 @@ use Rattle.pm_store.specs.declared.answer.Answer.TheVariants as answers
 use Rattle.pm_store.specs.declared.answer.Published.TheVariants as published
 use Rattle.pm_store.proofs.ChangeLaws.{Answers-Changed}
 use Rattle.pm_values.specs.declared.group.Group.{Group}
-use Rattle.pm_model_history.specs.History.{Entry, History, IsTableOf, append, table}
+use Rattle.pm_model_history.specs.History.{Entry, History, IsTableOf, append, entry_rows, table}
 use Rattle.pm_model_history.specs.Merge.{HistoryRow}
 use Rattle.pm_schema.specs.declared.schema.TableSchema.{TableSchema}
 use Rattle.pm_snapshot.specs.Names.{greatest}
 use Rattle.pm_model_folder.specs.Changes.{Actor, IsNamedBy, NamesOwn, committed as commits}
 use Rattle.pm_model_folder.specs.Commits.{IsCommit, Names}
 use Rattle.pm_model_folder.specs.Entries.{IsFenced}
-use Rattle.pm_model_folder.specs.Folder.{Folder, HasTable}
+use Rattle.pm_model_folder.specs.Folder.{Folder, HasTable, IsEntryAfter}
 use Rattle.pm_model_folder.specs.Ledger.{Advances, HasNamedNone, IsKnown, KnowsTable, Past, Stands, count_of}
 use Rattle.pm_model_folder.specs.Meaning.{HasSnapshotAt}
 use Rattle.pm_model_folder.specs.Paths.{named_origin, origin_path, snapshot_file, snapshot_path}
@@ -31,7 +31,7 @@ use Rattle.pm_append.specs.declared.newest.Author.{Author}
 use Rattle.pm_append.specs.declared.newest.Newest.{Newest}
 use Rattle.pm_commit.specs.Alone.{with_entry}
 use Rattle.pm_commit.specs.Committer.{after_path, newest_in, publishing_of}
-use Rattle.pm_commit.specs.Meaning.{HasCommitted, HasEntry, KnowsOwn, KnowsTry, MakesOwn, entry_of}
+use Rattle.pm_commit.specs.Meaning.{HasCommitted, HasEntry, IsAppendFor, KnowsOwn, KnowsTry, MakesOwn}
 use Rattle.pm_commit.specs.Own.{IsTried, OwnView, actor_of}
 use Rattle.pm_commit.specs.declared.found.Found.{Found}
 use Rattle.pm_put.proofs.Facts.{published_absent, published_there}
@@ -40,7 +40,7 @@ use Rattle.pm_put.specs.Meaning.{IsPut}
 use Rattle.pm_put.specs.Putter.{publish_call}
 use Rattle.pm_put.specs.declared.phase.Phase.TheVariants as putters
 use Rattle.pm_put.specs.declared.putting.Publishing.{Publishing}
-use Rattle.pm_commit.proofs.AdvanceLemmas.{NamedPaths, append-advances, later_past, same-advances}
+use Rattle.pm_commit.proofs.AdvanceLemmas.{GoesWith, NamedPaths, append-advances, later_past, same-advances}
 use Rattle.pm_commit.proofs.FenceLemmas.{newest-fence, not-fenced}
 use Rattle.pm_commit.proofs.FoundLemmas.{LiveEntries, found-there}
 use Rattle.pm_commit.proofs.GrowLemmas.{goes-with, new_runs}
@@ -69,9 +69,9 @@ AppendsTry = (me : Actor) (f after : Files) (s : TableSchema) (entries : List En
 
 -- ---- nothing changes
 
-pub own-same : (own : OwnView) (rows : List HistoryRow) (f after : Files) (p : Past) → ((path : List ℕ) → map.get after path ≡ map.get f path)
-    → MakesOwn own rows f p after p
-own-same own rows f after p same = record { advances = same-advances (actor_of own) f after p same; appends = inl refl }
+pub own-same : (own : OwnView) (e : Entry) (f after : Files) (p : Past) → ((path : List ℕ) → map.get after path ≡ map.get f path)
+    → MakesOwn own e f p after p
+own-same own e f after p same = record { advances = same-advances (actor_of own) f after p same; appends = inl refl }
 
 -- ---- the snapshot before the one that is published
 
@@ -95,13 +95,16 @@ before-there f s (suc k) origin there =
 -- ---- a try that is published
 
 module _ (one : OneContents) (same : SameContents) (paths : NamedPaths) (live_law : LiveEntries) (newest_law : IsNewest) (none_law : NamesNone) (append_law : AppendsTry)
-    (own : OwnView) (rows : List HistoryRow) (s : TableSchema) (id : ℕ) (x : Publishing) (f : Files) (p : Past) (stands : Stands f p)
-    (tried : IsTried s own) (known : KnowsOwn own rows s p) (is_try : KnowsTry own rows s id (putters.Publish x) f p) where
+    (own : OwnView) (e : Entry) (s : TableSchema) (id : ℕ) (x : Publishing) (f : Files) (p : Past) (stands : Stands f p)
+    (tried : IsTried s own) (known : KnowsOwn own e s p) (is_try : KnowsTry own e s id (putters.Publish x) f p) where
   abbrev t : Attempt
   t = is_try.attempt
 
   abbrev v : View
   v = is_try.found.view
+
+  meant : IsAppendFor own.author.user own.author.identifier e
+  meant = known.means.is
 
   own-table : (es : List Entry) × (p.history ≡ table s es) × HasTable f s es × KnowsTable f s es p
   own-table = at-table f p s stands known.is_table
@@ -133,7 +136,7 @@ module _ (one : OneContents) (same : SameContents) (paths : NamedPaths) (live_la
 
   -- the history has the entry more, and the id is the next
   abbrev IsNext : Past → Type 0
-  IsNext later = (later.history ≡ with_entry (entry_of own.author rows) p.history) × (id ≡ count_of p.history + 1)
+  IsNext later = (later.history ≡ with_entry e p.history) × (id ≡ count_of p.history + 1)
 
   module _ (after : Files) (absent : map.get f (snapshot_path id) ≡ None) (there : IsSome (map.get f (after_path s id)))
       (puts_at : Puts f (snapshot_path id) (Some t.made.text) after) where
@@ -166,7 +169,7 @@ module _ (one : OneContents) (same : SameContents) (paths : NamedPaths) (live_la
     batch-of : IsBatchOf s t.rows t.batch
     batch-of =
         subst (λ (rs : List HistoryRow). IsBatchOf s rs t.batch) (sym is_try.same_rows)
-        (subst (λ (groups : Groups). IsBatchOf s rows groups) (sym is_try.same_batch) known.batch)
+        (subst (λ (groups : Groups). IsBatchOf s (entry_rows e) groups) (sym is_try.same_batch) known.means.groups)
 
     ready : IsReady (actor_of own) f s entries t
     ready = record {
@@ -194,21 +197,24 @@ module _ (one : OneContents) (same : SameContents) (paths : NamedPaths) (live_la
     puts : Puts f (snapshot_path (suc (length entries))) (Some t.made.text) after
     puts = subst (λ (n : ℕ). Puts f (snapshot_path n) (Some t.made.text) after) next-is puts_at
 
-    abbrev e : Entry
-    e = entry_of own.author rows
-
     same-entry : append t.author.user t.author.identifier t.rows ≡ e
     same-entry =
         ap (λ (a : Author). append a.user a.identifier t.rows) is_try.same_author
         ∙ ap (λ (rs : List HistoryRow). append own.author.user own.author.identifier rs) is_try.same_rows
+        ∙ sym meant
 
-    appends : IsCommit f after s entries e × NamesOwn (actor_of own) f after s (length entries) × HasAppended after s t.newest own.author (length rows)
-        × ((g : Group) → Grows (actor_of own) f after s (length entries) g rows)
+    -- its rows may come after the entries
+    may-follow : IsEntryAfter s entries e
+    may-follow = subst (IsEntryAfter s entries) (sym meant) known.means.fit
+
+    appends : IsCommit f after s entries e × NamesOwn (actor_of own) f after s (length entries)
+        × HasAppended after s t.newest own.author (length (entry_rows e))
+        × ((g : Group) → Grows (actor_of own) f after s (length entries) g (entry_rows e))
     appends =
         let all = append_law (actor_of own) f after s entries t ready absent-next puts in (
           subst (λ (e : Entry). IsCommit f after s entries e) same-entry all.0,
           all.1,
-          subst (λ (a : Author). HasAppended after s t.newest a (length rows)) is_try.same_author
+          subst (λ (a : Author). HasAppended after s t.newest a (length (entry_rows e))) is_try.same_author
               (subst (λ (rs : List HistoryRow). HasAppended after s t.newest t.author (length rs)) is_try.same_rows all.3),
           λ g. subst (Grows (actor_of own) f after s (length entries) g) is_try.same_rows (all.4 g),
         )
@@ -218,15 +224,15 @@ module _ (one : OneContents) (same : SameContents) (paths : NamedPaths) (live_la
 
     -- the groups' runs once it is published
     abbrev runs_now : Group → List KnownRun
-    runs_now g = new_runs same (actor_of own) f after p s entries own.author.user own.author.identifier rows stands own-table.1 known.unnamed newest-there holds g
+    runs_now g = new_runs same (actor_of own) f after p s entries own.author.user own.author.identifier (entry_rows e) stands own-table.1 known.unnamed newest-there holds g
         (appends.3 g)
 
     bound : suc (length entries) ≤ greatest
     bound = let last = newest-is in let low = below in omega (arith, last, low)
 
     -- the snapshot wasn't known, and is the commit's
-    committed : (q : Past) → Advances (actor_of own) f p after q → q.history ≡ table s (entries ++ e ∷ []) → HasEntry own.author rows id q
-        → HasCommitted own.author rows id q
+    committed : (q : Past) → Advances (actor_of own) f p after q → q.history ≡ table s (entries ++ e ∷ []) → HasEntry e id q
+        → HasCommitted own.author e id q
     committed q advances now has =
         let size : count_of q.history ≡ suc (length entries) =
         ap count_of now ∙ length-append entries (e ∷ []) ∙ (let more : length entries + 1 ≡ suc (length entries) = omega arith in more) in
@@ -237,23 +243,25 @@ module _ (one : OneContents) (same : SameContents) (paths : NamedPaths) (live_la
         } in
         let fresh : IsKnown p id → ⊥ = λ was. (let high = was.to in let next = next-is in let size = many in absurd (omega (arith, high, next, size))) in
         record {
+          by = meant;
           entry = has;
           known = known;
           found = record { schema = s; newest = t.newest };
           is_found = found-still (actor_of own) f after p q advances (record { schema = s; newest = t.newest }) is_try.found;
           is_table = subst (IsTableOf s) (sym now) refl;
           next = id-is;
-          stood = subst (λ (g : Files). HasAppended g s t.newest own.author (length rows)) (sym (advances.stood id known fresh)) appends.2;
+          stood = subst (λ (g : Files). HasAppended g s t.newest own.author (length (entry_rows e))) (sym (advances.stood id known fresh)) appends.2;
         }
 
-    published-makes : (later : Past) × MakesOwn own rows f p after later × HasCommitted own.author rows id later × IsNext later
+    published-makes : (later : Past) × MakesOwn own e f p after later × HasCommitted own.author e id later × IsNext later
     published-makes =
         let q = later_past p s entries e after runs_now in
-        let change = commits s entries e t.made.text newest-there bound absent-next puts known.fit appends.0 appends.1 in
+        let change = commits s entries e t.made.text newest-there bound absent-next puts may-follow appends.0 appends.1 in
         let advances : Advances (actor_of own) f p after q =
         append-advances one same paths (actor_of own) f after p s entries e (Some t.made.text) stands tried.built.no_partition own-table.1 known.unnamed newest-there bound
         puts appends.1 runs_now
-        (λ g. goes-with same (actor_of own) f after p s entries own.author.user own.author.identifier rows stands own-table.1 known.unnamed newest-there holds g (appends.3 g))
+        (λ g. subst (λ (x : Entry). GoesWith after p s entries x g (runs_now g)) (sym meant)
+        (goes-with same (actor_of own) f after p s entries own.author.user own.author.identifier (entry_rows e) stands own-table.1 known.unnamed newest-there holds g (appends.3 g)))
         change in (
           q,
           record { advances = advances; appends = inr (s, entries, own-table.1, refl) },
@@ -266,19 +274,19 @@ module _ (one : OneContents) (same : SameContents) (paths : NamedPaths) (live_la
 
   -- what it is to publish appears, after what has to stand
   publish-makes-own : (after : Files) → IsSome (map.get f x.after) → map.get f x.path ≡ None → Puts f x.path (Some x.bytes) after
-      → (later : Past) × MakesOwn own rows f p after later × HasCommitted own.author rows id later × IsNext later
+      → (later : Past) × MakesOwn own e f p after later × HasCommitted own.author e id later × IsNext later
   publish-makes-own after there absent puts =
       published-makes after (subst (λ (y : Publishing). map.get f y.path ≡ None) last-is absent)
       (subst (λ (y : Publishing). IsSome (map.get f y.after)) last-is there)
       (subst (λ (y : Publishing). Puts f y.path (Some y.bytes) after) last-is puts)
 
-  pub publish-makes : (after : Files) → put.Makes (putters.Publish x) f after → (later : Past) × MakesOwn own rows f p after later
-  publish-makes after (inl same) = (p, own-same own rows f after p same)
+  pub publish-makes : (after : Files) → put.Makes (putters.Publish x) f after → (later : Past) × MakesOwn own e f p after later
+  publish-makes after (inl same) = (p, own-same own e f after p same)
   publish-makes after (inr (there, (absent, puts))) = let all = publish-makes-own after there absent puts in (all.0, all.1)
 
   -- and that is answered
   pub published-whole : Answers (publish_call x) (answers.Published published.Created) f
-      → (later : Past) × MakesOwn own rows f p (carried (publish_call x) f) later × HasCommitted own.author rows id later × IsNext later
+      → (later : Past) × MakesOwn own e f p (carried (publish_call x) f) later × HasCommitted own.author e id later × IsNext later
   published-whole told =
       publish-makes-own (carried (publish_call x) f) (published_there (map.get f x.path) (map.get f x.after) told)
       (published_absent (map.get f x.path) (map.get f x.after) told)

@@ -3,8 +3,7 @@ use Rattle.std.proofs.Common.{◌≡◌, ◌≢◌, ◌⊎◌, inl, inr, ℕ, �
 use Rattle.std.specs.FinMap as map
 use Rattle.std.specs.List.{AllByRecursion}
 use Rattle.pm_store.specs.Files.{Files}
-use Rattle.pm_model_history.specs.History.{GoesOn, History, IsTableOf, no_table, table}
-use Rattle.pm_model_history.specs.Merge.{HistoryRow}
+use Rattle.pm_model_history.specs.History.{Entry, GoesOn, History, IsTableOf, entry_rows, no_table, table}
 use Rattle.pm_schema.specs.declared.schema.TableSchema.{TableSchema}
 use Rattle.pm_model_folder.specs.Changes.{Actor, IsOwnFile}
 use Rattle.pm_model_folder.specs.Entries.{IsFenced}
@@ -23,7 +22,7 @@ use Rattle.pm_put.proofs.Facts.{at_weaker}
 use Rattle.pm_put.specs.Meaning.{IsPut}
 use Rattle.pm_put.specs.declared.phase.Phase as put_phase
 use Rattle.pm_put.specs.declared.putting.CommitFile.{CommitFile}
-use Rattle.pm_commit.specs.Meaning.{AreThere, HasCommitted, HasEarlier, HasEntry, IsFoundIn, IsOtherThan, Knows, KnowsIn, KnowsOwn, KnowsTry, entry_of}
+use Rattle.pm_commit.specs.Meaning.{AreThere, HasCommitted, HasEarlier, HasEntry, IsFoundIn, IsOtherThan, Knows, KnowsIn, KnowsOwn, KnowsTry}
 use Rattle.pm_commit.specs.Committer.{IsCommitter, put_of}
 use Rattle.pm_commit.specs.Own.{IsTried, OwnView, actor_of}
 use Rattle.pm_commit.specs.declared.found.Found.{Found}
@@ -83,13 +82,12 @@ module _ (actor : Actor) (f after : Files) (p q : Past) (advances : Advances act
     origin = is_found.origin;
   }
 
-module _ (law : OthersNone) (own_files : OwnFiles) (rows : List HistoryRow) (other : Actor) (f after : Files) (p q : Past) (stands : Stands f p)
+module _ (law : OthersNone) (own_files : OwnFiles) (e : Entry) (other : Actor) (f after : Files) (p q : Past) (stands : Stands f p)
     (advances : Advances other f p after q) where
-  own-still : (own : OwnView) (s : TableSchema) → actor_of own ≢ other → KnowsOwn own rows s p → KnowsOwn own rows s q
+  own-still : (own : OwnView) (s : TableSchema) → actor_of own ≢ other → KnowsOwn own e s p → KnowsOwn own e s q
   own-still own s apart known = record {
     is_table = reader_facts.table_still other f after p q s advances known.is_table;
-    fit = known.fit;
-    batch = known.batch;
+    means = known.means;
     may = known.may;
     unnamed = law (actor_of own) other f after p q stands advances apart known.unnamed;
     from =
@@ -119,8 +117,8 @@ module _ (law : OthersNone) (own_files : OwnFiles) (rows : List HistoryRow) (oth
       inl (fenced-later own.author.base p.history q.history (goes_on other f after p.history q.history advances.change) fenced)
   there-still own files none made (inr there) = puts-still (actor_of own) own.author.base none files made there
 
-  try-still : (own : OwnView) (s : TableSchema) (id : ℕ) (m : put_phase.Phase) → IsTried s own → KnowsOwn own rows s p → KnowsTry own rows s id m f p
-      → KnowsTry own rows s id m after q
+  try-still : (own : OwnView) (s : TableSchema) (id : ℕ) (m : put_phase.Phase) → IsTried s own → KnowsOwn own e s p → KnowsTry own e s id m f p
+      → KnowsTry own e s id m after q
   try-still own s id m tried known is_try = record {
     attempt = is_try.attempt;
     same_rows = is_try.same_rows;
@@ -138,30 +136,31 @@ module _ (law : OthersNone) (own_files : OwnFiles) (rows : List HistoryRow) (oth
         is_try.put;
   }
 
-  entry-still : (author : Author) (id : ℕ) → HasEntry author rows id p → HasEntry author rows id q
-  entry-still author id (s, before, later, was, is) =
+  entry-still : (id : ℕ) → HasEntry e id p → HasEntry e id q
+  entry-still id (s, before, later, was, is) =
       at q.history refl (subst (λ (h : History). GoesOn h q.history) was (goes_on other f after p.history q.history advances.change))
     where
-      at : (h : History) → q.history ≡ h → GoesOn (table s (before ++ entry_of author rows ∷ later)) h → HasEntry author rows id q
+      at : (h : History) → q.history ≡ h → GoesOn (table s (before ++ e ∷ later)) h → HasEntry e id q
       at no_table now goes = absurd goes
       at (table t entries) now (same, more, grows) = (
         s,
         before,
         later ++ more,
         now ∙ ap (λ (t : TableSchema). table t entries) same
-            ∙ ap (table s) (grows ∙ append_assoc before (entry_of author rows ∷ later) more),
+            ∙ ap (table s) (grows ∙ append_assoc before (e ∷ later) more),
         is,
       )
 
-  committed-still : (author : Author) (id : ℕ) → HasCommitted author rows id p → HasCommitted author rows id q
+  committed-still : (author : Author) (id : ℕ) → HasCommitted author e id p → HasCommitted author e id q
   committed-still author id has = record {
-    entry = entry-still author id has.entry;
+    by = has.by;
+    entry = entry-still id has.entry;
     known = known-still other f after p q id advances has.known;
     found = has.found;
     is_found = found-still other f after p q advances has.found has.is_found;
     is_table = reader_facts.table_still other f after p q has.found.schema advances has.is_table;
     next = has.next;
-    stood = subst (λ (g : Files). HasAppended g has.found.schema has.found.newest author (length rows)) (sym (advances.same id has.known)) has.stood;
+    stood = subst (λ (g : Files). HasAppended g has.found.schema has.found.newest author (length (entry_rows e))) (sym (advances.same id has.known)) has.stood;
   }
 
   earlier-still : (author : Author) → HasEarlier author p → HasEarlier author q
@@ -173,7 +172,7 @@ module _ (law : OthersNone) (own_files : OwnFiles) (rows : List HistoryRow) (oth
     reached = has.reached;
   }
 
-  in-still : (m : Phase) → IsCommitter m → IsOtherThan other m → KnowsIn rows m f p → KnowsIn rows m after q
+  in-still : (m : Phase) → IsCommitter m → IsOtherThan other m → KnowsIn e m f p → KnowsIn e m after q
   in-still (phases.Names own s) is apart known = own-still own s apart known
   in-still (phases.View own m) is apart (s, reads, known, reading, origin) =
       (s, reads, own-still own s apart known, reader_facts.knows_still m other f after p q stands advances reading, origin)
@@ -184,5 +183,5 @@ module _ (law : OthersNone) (own_files : OwnFiles) (rows : List HistoryRow) (oth
   in-still (phases.Already author) is apart known = earlier-still author known
   in-still phases.Over is apart known = tt
 
-  pub knows-still : (m : Phase) → IsOtherThan other m → Knows rows m f p → Knows rows m after q
+  pub knows-still : (m : Phase) → IsOtherThan other m → Knows e m f p → Knows e m after q
   knows-still m apart known = (known.0, in-still m known.0 apart known.1)

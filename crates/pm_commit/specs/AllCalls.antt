@@ -1,7 +1,6 @@
 -- All calls of a committer, from those that read the table's schema on: what they are, and what they do to a history
 -- that stands at the first of them, where nobody else acts from then on.
 use Rattle.std.specs.Prelude.{◌≡◌, ◌≢◌, ◌⊎◌, ℕ, ◌+◌, ◌≤◌, List, ◌++◌, length, true, None, Some, IsSomeAnd, IfErr, Result, Ok, Err}
-use Rattle.std.specs.List.{AllByRecursion}
 use Rattle.pm_base.specs.Faults.{Rose}
 use Rattle.pm_values.specs.declared.refusal.Refusal.{Refusal}
 use Rattle.pm_values.specs.declared.refusal.Refusal.TheVariants as refusals
@@ -9,24 +8,24 @@ use Rattle.pm_store.specs.Files.{Files, files_after}
 use Rattle.pm_store.specs.Images.{Extends}
 use Rattle.pm_store.specs.Store.{StoreView, FromFirst, IsAlone}
 use Rattle.pm_machine.specs.Trace.{Event}
-use Rattle.pm_model_history.specs.History.{History, IsTableOf}
+use Rattle.pm_model_history.specs.History.{History, IsTableOf, entry_rows}
 use Rattle.pm_schema.specs.declared.schema.TableSchema.{TableSchema}
 use Rattle.pm_snapshot.specs.Names.{MayName}
 use Rattle.pm_snapshot.specs.declared.snapshot.Snapshot.{Snapshot}
 use Rattle.pm_model_folder.specs.Changes.{Actor, IsNamedBy}
 use Rattle.pm_model_folder.specs.Commits.{Names}
-use Rattle.pm_model_folder.specs.Folder.{Folder, IsRowOf}
+use Rattle.pm_model_folder.specs.Folder.{Folder}
 use Rattle.pm_model_folder.specs.Ledger.{HasNamedNone, IsKnown, Past, Stands, count_of}
 use Rattle.pm_model_folder.specs.Meaning.{SnapshotAt}
 use Rattle.pm_model_folder.specs.Paths.{snapshot_path}
 use Rattle.pm_read_schema.specs.AllCalls.{HasFiles}
 use Rattle.pm_read_schema.specs.Trace as schema
 use Rattle.pm_read_schema.specs.declared.phase.Phase.TheVariants as readers
-use Rattle.pm_write.specs.Batch.{IsBatchOf}
 use Rattle.pm_append.specs.Commit.{HasAppended}
 use Rattle.pm_append.specs.declared.newest.Author.{Author}
 use Rattle.pm_commit.specs.Alone.{Beginning, GivesReason, IsUnchanged, KnewAlone, KnowsAlone, SeesNewest, WasUsed, begun_at}
-use Rattle.pm_commit.specs.Alone.{newest_id, own_entry, with_entry}
+use Rattle.pm_commit.specs.Alone.{newest_id, with_entry}
+use Rattle.pm_commit.specs.Meaning.{Means}
 use Rattle.pm_commit.specs.Own.{OwnView, actor_of}
 use Rattle.pm_commit.specs.Search.{seen_of}
 use Rattle.pm_commit.specs.Trace.{Did, Shows}
@@ -67,13 +66,12 @@ NamesNone me h f =
 abbrev pub MayStart : Actor → History → Files → Type 0
 MayStart me h f = Folder f h × NamesNone me h f
 
--- What a commit begins with: no try was made, the names of its actor may stand in paths, its rows are rows of the
--- table, its batch is what they become, and the files stand for the history.
+-- What a commit begins with: no try was made, the names of its actor may stand in paths, the entry is the one that it
+-- adds, and the files stand for the history.
 pub record MayBegin (s : TableSchema) (b : Beginning) : Type 0 where
   pub no_base : b.own.author.base ≡ 0
   pub may : MayName b.own.names
-  pub fit : AllByRecursion (IsRowOf s) b.rows
-  pub batch : IsBatchOf s b.rows b.own.batch
+  pub means : Means s b.own.author b.own.batch b.entry
   pub start : MayStart (actor_of b.own) b.history b.files
 
 -- ---- what it is at the end
@@ -86,23 +84,23 @@ pub record StandsFreely (b : Beginning) (h : History) (f : Files) : Type 0 where
 
 -- files stand for the history, or for it with the entry
 abbrev pub StandsForEither : Beginning → Files → Type 0
-StandsForEither b f = StandsFreely b b.history f ⊎ StandsFreely b (with_entry (own_entry b) b.history) f
+StandsForEither b f = StandsFreely b b.history f ⊎ StandsFreely b (with_entry b.entry b.history) f
 
 -- the snapshot after the newest is there, and to its last field but the names of its lists it is the one that appends
 -- the rows to what the newest one was at the beginning
 abbrev pub BearsCommit : Beginning → Files → Type 0
 BearsCommit b f = (found : Found) × SeesNewest b found
-    × HasAppended f found.schema found.newest (begun_at b).author (length b.rows)
+    × HasAppended f found.schema found.newest (begun_at b).author (length (entry_rows b.entry))
 
 -- What an answer leaves of the files: they stand for the history with the entry, once that is committed, and have its
 -- snapshot; and they stand for the history else, but that after a fault of the store in the publish of the next
 -- snapshot the entry is there or not. Where it was committed before, or there is a reason against it, no path has
 -- another content.
 abbrev pub LeavesFolder : Beginning → Result Appended Refusal → Files → Type 0
-LeavesFolder b (Ok (appends.Committed id)) f = Folder f (with_entry (own_entry b) b.history) × BearsCommit b f
+LeavesFolder b (Ok (appends.Committed id)) f = Folder f (with_entry b.entry b.history) × BearsCommit b f
 LeavesFolder b (Ok appends.Already) f = Folder f b.history × IsUnchanged b f
 LeavesFolder b (Err (refusals.StoreFault path)) f = Folder f b.history
-    ⊎ (Folder f (with_entry (own_entry b) b.history) × (path ≡ snapshot_path (newest_id b + 1)))
+    ⊎ (Folder f (with_entry b.entry b.history) × (path ≡ snapshot_path (newest_id b + 1)))
 LeavesFolder b (Err (refusals.Fenced base fence)) f = Folder f b.history × IsUnchanged b f
 LeavesFolder b (Err (refusals.Limit which number)) f = Folder f b.history × IsUnchanged b f
 LeavesFolder b (Err other) f = Folder f b.history

@@ -11,7 +11,6 @@ use Rattle.pm_machine.specs.Moves.{Moves}
 use Rattle.pm_put.specs.declared.phase.Phase as put_phase
 use Rattle.pm_put.specs.declared.phase.Phase.TheVariants as puts
 use Rattle.pm_model_history.specs.History.{Entry, History, IsTableOf, no_table, table}
-use Rattle.pm_model_history.specs.Merge.{HistoryRow}
 use Rattle.pm_model_folder.specs.Changes.{IsNamedBy}
 use Rattle.pm_model_folder.specs.Ledger.{Past, Stands, count_of}
 use Rattle.pm_model_folder.specs.Paths.{snapshot_path}
@@ -21,7 +20,7 @@ use Rattle.pm_append.specs.Commit.{IsFoundAs}
 use Rattle.pm_append.specs.Refusals.{refusal_of}
 use Rattle.pm_put.specs.declared.putting.CommitFile.{CommitFile}
 use Rattle.pm_commit.specs.Marks.{FindsUsed}
-use Rattle.pm_commit.specs.Meaning.{Knows, MakesRows, entry_of}
+use Rattle.pm_commit.specs.Meaning.{Knows, MakesEntry}
 use Rattle.pm_commit.specs.Own.{OwnView, actor_of, begun, with_named}
 use Rattle.pm_commit.specs.declared.committer.CommitStep.{CommitStep}
 use Rattle.pm_commit.specs.declared.found.Found.{Found}
@@ -35,17 +34,13 @@ with_entry e (table s es) = table s (es ++ e ∷ [])
 
 -- ---- where it begins
 
--- what a committer that is alone begins with: its commit and the rows of its batch, and the files with the history that
--- they stand for
+-- what a committer that is alone begins with: its commit and the entry that this adds, and the files with the history
+-- that they stand for
 pub record Beginning : Type 0 where
   pub own : OwnView
-  pub rows : List HistoryRow
+  pub entry : Entry
   pub files : Files
   pub history : History
-
--- the entry of its commit
-abbrev pub own_entry : Beginning → Entry
-own_entry b = entry_of b.own.author b.rows
 
 -- the id of the newest snapshot, and the commit once its try has read that
 abbrev pub newest_id : Beginning → ℕ
@@ -112,7 +107,7 @@ AloneIn b phases.Over f = Unit {0}
 
 -- the history has the entry more once the snapshot is committed, and is the same before that
 abbrev pub history_in : Beginning → Phase → History
-history_in b (phases.Committed author id) = with_entry (own_entry b) b.history
+history_in b (phases.Committed author id) = with_entry b.entry b.history
 history_in b other = b.history
 
 abbrev pub AloneAt : Beginning → Phase → Files → History → Type 0
@@ -131,7 +126,7 @@ WasUsed b path =
 abbrev pub AloneRefused : Beginning → Refusal → Files → Past → Type 0
 AloneRefused b refusals.Memory f p = p.history ≡ b.history
 AloneRefused b (refusals.StoreFault path) f p = (p.history ≡ b.history)
-    ⊎ ((p.history ≡ with_entry (own_entry b) b.history) × (path ≡ snapshot_path (newest_id b + 1)))
+    ⊎ ((p.history ≡ with_entry b.entry b.history) × (path ≡ snapshot_path (newest_id b + 1)))
 AloneRefused b (refusals.SessionUsed path) f p = (p.history ≡ b.history) × WasUsed b path
 AloneRefused b (refusals.Fenced base fence) f p =
     (p.history ≡ b.history) × IsUnchanged b f × GivesReason b (Some (refusals.Fenced base fence))
@@ -143,7 +138,7 @@ AloneRefused b other f p = ⊥
 
 -- what was known before a step, and what is known after it by its answer
 abbrev pub KnewAlone : Beginning → Phase → Files → Past → Type 0
-KnewAlone b m f p = Knows b.rows m f p × AloneAt b m f p.history
+KnewAlone b m f p = Knows b.entry m f p × AloneAt b m f p.history
 
 abbrev pub KnowsAlone : {X : Type 0} → Beginning → Phase → Result X Refusal → Files → Past → Type 0
 KnowsAlone b m (Ok x) f p = KnewAlone b m f p
@@ -152,4 +147,4 @@ KnowsAlone b m (Err refusal) f p = AloneRefused b refusal f p
 -- Whatever it began with: a step keeps what is known, where nobody else acted before it.
 abbrev pub CommitterAlone : Phase → Phase → StoreView → StoreView → Result CommitStep Refusal → Type 0
 CommitterAlone old new before after result = (b : Beginning)
-    → Moves Stands (MakesRows b.rows old) (KnewAlone b old) (KnowsAlone b new result) before after
+    → Moves Stands (MakesEntry b.entry old) (KnewAlone b old) (KnowsAlone b new result) before after

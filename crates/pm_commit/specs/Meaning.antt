@@ -1,5 +1,5 @@
 -- What a committer knows of the table, and what its steps mean for the files.
-use Rattle.std.specs.Prelude.{◌≡◌, ◌≢◌, ◌⊎◌, ℕ, ◌≤◌, List, [], ◌∷◌, ◌++◌, ◌+◌, length, codes}
+use Rattle.std.specs.Prelude.{◌≡◌, ◌≢◌, ◌⊎◌, ℕ, ℤ, ◌≤◌, List, [], ◌∷◌, ◌++◌, ◌+◌, length, codes}
 use Rattle.std.specs.Prelude.{Option, None, Some, IfSome, IsSome}
 use Rattle.std.specs.FinMap as map
 use Rattle.std.specs.List.{AllByRecursion}
@@ -10,8 +10,7 @@ use Rattle.pm_store.specs.Store.{StoreView}
 use Rattle.pm_machine.specs.Moves.{Moves}
 use Rattle.pm_put.specs.Meaning.{IsAt, IsPut}
 use Rattle.pm_put.specs.declared.phase.Phase as put_phase
-use Rattle.pm_model_history.specs.History.{Entry, History, IsTableOf, append, table}
-use Rattle.pm_model_history.specs.Merge.{HistoryRow}
+use Rattle.pm_model_history.specs.History.{Entry, History, IsTableOf, append, entry_rows, table}
 use Rattle.pm_schema.specs.declared.schema.TableSchema.{TableSchema}
 use Rattle.pm_snapshot.specs.Names.{MayName}
 use Rattle.pm_snapshot.specs.declared.snapshot.Snapshot.{Snapshot}
@@ -26,7 +25,7 @@ use Rattle.pm_read_table.specs.declared.asked.Wanted.TheVariants as wants
 use Rattle.pm_read_table.specs.declared.phase.Phase as view_phase
 use Rattle.pm_read_table.specs.declared.phase.Phase.TheVariants as readers
 use Rattle.pm_read_table.specs.declared.view.View.{View}
-use Rattle.pm_write.specs.Batch.{IsBatchOf}
+use Rattle.pm_write.specs.Batch.{Groups, IsBatchOf}
 use Rattle.pm_append.specs.Commit.{Attempt, HasAppended, MakesNames}
 use Rattle.pm_append.specs.Files.{IsAppendOf}
 use Rattle.pm_append.specs.Refusals.{refusal_of}
@@ -53,37 +52,45 @@ own_in (phases.Committed author id) = None
 own_in (phases.Already author) = None
 own_in phases.Over = None
 
--- the entry of a commit of these rows
-abbrev pub entry_of : Author → List HistoryRow → Entry
-entry_of author rows = append author.user author.identifier rows
+-- the entry appends rows, for a user with an identifier
+abbrev pub IsAppendFor : List ℕ → ℤ → Entry → Type 0
+IsAppendFor user identifier e = e ≡ append user identifier (entry_rows e)
 
--- the history stays, or the commit's entry is added to it
-abbrev pub Appends : OwnView → List HistoryRow → History → History → Type 0
-Appends own rows h later = (later ≡ h)
-    ⊎ ((s : TableSchema) × (es : List Entry) × (h ≡ table s es)
-    × (later ≡ table s (es ++ entry_of own.author rows ∷ [])))
+-- the entry appends rows of the table, for a user with an identifier, and this is their batch
+pub record AppendsBatch (s : TableSchema) (user : List ℕ) (identifier : ℤ) (batch : Groups) (e : Entry) : Type 0 where
+  pub is : IsAppendFor user identifier e
+  pub fit : AllByRecursion (IsRowOf s) (entry_rows e)
+  pub groups : IsBatchOf s (entry_rows e) batch
 
--- what a commit of these rows may change: one of its actor's kinds of change, and of these only the append of its entry
-pub record MakesOwn (own : OwnView) (rows : List HistoryRow) (f : Files) (p : Past) (after : Files) (later : Past)
-    : Type 0 where
+-- the entry is the one that a commit adds, by its author and by what it is for
+abbrev pub Means : TableSchema → Author → Groups → Entry → Type 0
+Means s author batch e = AppendsBatch s author.user author.identifier batch e
+
+-- the history stays, or the entry is added to it
+abbrev pub Appends : Entry → History → History → Type 0
+Appends e h later = (later ≡ h)
+    ⊎ ((s : TableSchema) × (es : List Entry) × (h ≡ table s es) × (later ≡ table s (es ++ e ∷ [])))
+
+-- what a commit with this entry may change: one of its actor's kinds of change, and of these only that its entry is
+-- added
+pub record MakesOwn (own : OwnView) (e : Entry) (f : Files) (p : Past) (after : Files) (later : Past) : Type 0 where
   pub advances : Advances (actor_of own) f p after later
-  pub appends : Appends own rows p.history later.history
+  pub appends : Appends e p.history later.history
 
-abbrev pub MakesIn : Option OwnView → List HistoryRow → Files → Past → Files → Past → Type 0
-MakesIn None rows f p after later = ⊥
-MakesIn (Some own) rows f p after later = MakesOwn own rows f p after later
+abbrev pub MakesIn : Option OwnView → Entry → Files → Past → Files → Past → Type 0
+MakesIn None e f p after later = ⊥
+MakesIn (Some own) e f p after later = MakesOwn own e f p after later
 
-abbrev pub MakesRows : List HistoryRow → Phase → Files → Past → Files → Past → Type 0
-MakesRows rows m f p after later = MakesIn (own_in m) rows f p after later
+abbrev pub MakesEntry : Entry → Phase → Files → Past → Files → Past → Type 0
+MakesEntry e m f p after later = MakesIn (own_in m) e f p after later
 
 -- ---- what it knows
 
--- The rows are rows of the table, and those of the batch; the actor's names may stand in paths, and no known snapshot
--- names a file that it named; and its base is a snapshot's that was committed.
-pub record KnowsOwn (own : OwnView) (rows : List HistoryRow) (s : TableSchema) (p : Past) : Type 0 where
+-- The entry is the commit's; the actor's names may stand in paths, and no known snapshot names a file that it named;
+-- and its base is a snapshot's that was committed.
+pub record KnowsOwn (own : OwnView) (e : Entry) (s : TableSchema) (p : Past) : Type 0 where
   pub is_table : IsTableOf s p.history
-  pub fit : AllByRecursion (IsRowOf s) rows
-  pub batch : IsBatchOf s rows own.batch
+  pub means : Means s own.author own.batch e
   pub may : MayName own.names
   pub unnamed : HasNamedNone (actor_of own) p
   pub from : own.author.base ≤ count_of p.history
@@ -111,10 +118,10 @@ abbrev pub AreThere : OwnView → Files → Past → List CommitFile → Type 0
 AreThere own f p done = IsFenced own.author.base p.history ⊎ AllByRecursion (IsPut f) done
 
 -- Of a try, what was made of what it found: its putter is one of that, and the files that it created are there.
-pub record KnowsTry (own : OwnView) (rows : List HistoryRow) (s : TableSchema) (id : ℕ) (m : put_phase.Phase)
-    (f : Files) (p : Past) : Type 0 where
+pub record KnowsTry (own : OwnView) (e : Entry) (s : TableSchema) (id : ℕ) (m : put_phase.Phase) (f : Files) (p : Past)
+    : Type 0 where
   pub attempt : Attempt
-  pub same_rows : attempt.rows ≡ rows
+  pub same_rows : attempt.rows ≡ entry_rows e
   pub same_batch : attempt.batch ≡ own.batch
   pub same_author : attempt.author ≡ own.author
   pub found : IsFoundIn p (record { schema = s; newest = attempt.newest })
@@ -124,21 +131,23 @@ pub record KnowsTry (own : OwnView) (rows : List HistoryRow) (s : TableSchema) (
   pub is : id ≡ attempt.made.id
   pub put : IsAt (put_of s attempt.made) (AreThere own f p) m
 
--- the entry with this id is the commit's
-abbrev pub HasEntry : Author → List HistoryRow → ℕ → Past → Type 0
-HasEntry author rows id p = (s : TableSchema) × (before after : List Entry)
-    × (p.history ≡ table s (before ++ entry_of author rows ∷ after)) × (id ≡ length before + 1)
+-- the history has the entry with this id
+abbrev pub HasEntry : Entry → ℕ → Past → Type 0
+HasEntry e id p = (s : TableSchema) × (before after : List Entry)
+    × (p.history ≡ table s (before ++ e ∷ after)) × (id ≡ length before + 1)
 
--- The snapshot with this id is the commit's: the history has its entry, and, as the snapshot stood, it was to its last
--- field the one that appends these rows to the snapshot before it, which a try had found.
-pub record HasCommitted (author : Author) (rows : List HistoryRow) (id : ℕ) (p : Past) : Type 0 where
-  pub entry : HasEntry author rows id p
+-- The snapshot with this id is the commit's: the history has its entry, which is an append of its author, and, as the
+-- snapshot stood, it was to its last field the one that appends the entry's rows to the snapshot before it, which a try
+-- had found.
+pub record HasCommitted (author : Author) (e : Entry) (id : ℕ) (p : Past) : Type 0 where
+  pub by : IsAppendFor author.user author.identifier e
+  pub entry : HasEntry e id p
   pub known : IsKnown p id
   pub found : Found
   pub is_found : IsFoundIn p found
   pub is_table : IsTableOf found.schema p.history
   pub next : id ≡ found.newest.id + 1
-  pub stood : HasAppended (p.stood id) found.schema found.newest author (length rows)
+  pub stood : HasAppended (p.stood id) found.schema found.newest author (length (entry_rows e))
 
 -- a snapshot that was committed bore, as it stood, the author's user and an identifier that isn't smaller
 pub record HasEarlier (author : Author) (p : Past) : Type 0 where
@@ -149,29 +158,28 @@ pub record HasEarlier (author : Author) (p : Past) : Type 0 where
   pub reached : seen_of author snapshot ≡ seen.Reached
 
 -- what it knows in each phase
-abbrev pub KnowsIn : List HistoryRow → Phase → Files → Past → Type 0
-KnowsIn rows (phases.Names own s) f p = KnowsOwn own rows s p
-KnowsIn rows (phases.View own m) f p =
-    (s : TableSchema) × Reads m s × KnowsOwn own rows s p × reader.Knows m f p × HasOrigin m
-KnowsIn rows (phases.Search own q) f p = KnowsOwn own rows q.found.schema p × IsFoundIn p q.found
-KnowsIn rows (phases.Put own s id m) f p = KnowsOwn own rows s p × KnowsTry own rows s id m f p
-KnowsIn rows (phases.Committed author id) f p = HasCommitted author rows id p
-KnowsIn rows (phases.Already author) f p = HasEarlier author p
-KnowsIn rows phases.Over f p = Unit {0}
+abbrev pub KnowsIn : Entry → Phase → Files → Past → Type 0
+KnowsIn e (phases.Names own s) f p = KnowsOwn own e s p
+KnowsIn e (phases.View own m) f p =
+    (s : TableSchema) × Reads m s × KnowsOwn own e s p × reader.Knows m f p × HasOrigin m
+KnowsIn e (phases.Search own q) f p = KnowsOwn own e q.found.schema p × IsFoundIn p q.found
+KnowsIn e (phases.Put own s id m) f p = KnowsOwn own e s p × KnowsTry own e s id m f p
+KnowsIn e (phases.Committed author id) f p = HasCommitted author e id p
+KnowsIn e (phases.Already author) f p = HasEarlier author p
+KnowsIn e phases.Over f p = Unit {0}
 
--- What it knows, whatever others do, where these are the rows of its batch.
-abbrev pub Knows : List HistoryRow → Phase → Files → Past → Type 0
-Knows rows m f p = IsCommitter m × KnowsIn rows m f p
+-- What it knows, whatever others do, where this is its entry.
+abbrev pub Knows : Entry → Phase → Files → Past → Type 0
+Knows e m f p = IsCommitter m × KnowsIn e m f p
 
 -- the actor isn't the one that commits
 abbrev pub IsOtherThan : Actor → Phase → Type 0
 IsOtherThan other m = IfSome (own_in m) (λ own. actor_of own ≢ other)
 
--- Whichever rows the batch is of: a step makes one of these changes, or none, and what the committer knows holds after
--- it.
+-- Whichever its entry is: a step makes one of these changes, or none, and what the committer knows holds after it.
 abbrev pub CommitterMoved : Phase → Phase → StoreView → StoreView → Type 0
-CommitterMoved old new before after = (rows : List HistoryRow)
-    → Moves Stands (MakesRows rows old) (Knows rows old) (Knows rows new) before after
+CommitterMoved old new before after =
+    (e : Entry) → Moves Stands (MakesEntry e old) (Knows e old) (Knows e new) before after
 
 -- ---- its refusals
 

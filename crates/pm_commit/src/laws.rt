@@ -11,14 +11,14 @@ ghost use Rattle.pm_store.specs.declared.call.Call.{Call};
 ghost use Rattle.pm_machine.specs.Moves.{Moves, Sound};
 ghost use Rattle.pm_machine.specs.Step.{Stepped, path_of};
 ghost use Rattle.pm_machine.specs.Trace.{Event, Recounts, faulted};
-ghost use Rattle.pm_model_history.specs.Merge.{HistoryRow};
+ghost use Rattle.pm_model_history.specs.History.{Entry as EntryView};
 ghost use Rattle.pm_schema.specs.declared.schema.TableSchema.{TableSchema as SchemaView};
 ghost use Rattle.pm_model_folder.specs.Changes.{Actor};
 ghost use Rattle.pm_model_folder.specs.Ledger.{Advances, Past, Stands};
 ghost use Rattle.pm_commit.specs.AllCalls.{DidAppend};
 ghost use Rattle.pm_commit.specs.Alone.{Beginning, KnewAlone, KnowsAlone};
 ghost use Rattle.pm_commit.specs.Committer.{next_call, Goes, IsCommitter, Refuses, Stops};
-ghost use Rattle.pm_commit.specs.Meaning.{IsOtherThan, Knows, MakesRows, MayRefuse, own_in};
+ghost use Rattle.pm_commit.specs.Meaning.{IsOtherThan, Knows, MakesEntry, MayRefuse, own_in};
 ghost use Rattle.pm_commit.specs.Own.{AreAlike, OwnView, actor_of};
 ghost use Rattle.pm_commit.specs.Trace.{Did, Shows};
 ghost use Rattle.pm_commit.specs.declared.all_calls.Appended.{Appended};
@@ -34,11 +34,11 @@ use pm_snapshot::path_law;
 
 /// A committer keeps the laws of machines.
 pub(crate) fn machine_law()
-    ensures sound { (rows : List HistoryRow) → Sound next_call Goes Refuses Stops Stands (MakesRows rows) (Knows rows) }
+    ensures sound { (e : EntryView) → Sound next_call Goes Refuses Stops Stands (MakesEntry e) (Knows e) }
     ensures alone { (old new : Phase) (before after : StoreView) (result : Result (Unit {0}) Refusal)
         → Stepped next_call Goes Refuses Stops old new before after result
         → (b : Beginning)
-        → Moves Stands (MakesRows b.rows old) (KnewAlone b old) (KnowsAlone b new result) before after }
+        → Moves Stands (MakesEntry b.entry old) (KnewAlone b old) (KnowsAlone b new result) before after }
     ensures recounts { (s : SchemaView) (first : OwnView)
         → Recounts next_call Goes Refuses Stops (Did s first) (Shows s first) }
 {
@@ -66,8 +66,8 @@ pub(crate) fn committer_law()
 
 /// What a committer knows stays true through each kind of change of every other actor.
 pub fn known_law()
-    ensures { (rows : List HistoryRow) (m : Phase) (other : Actor) (f after : Files) (p q : Past) → Stands f p
-        → Advances other f p after q → IsOtherThan other m → Knows rows m f p → Knows rows m after q }
+    ensures { (e : EntryView) (m : Phase) (other : Actor) (f after : Files) (p q : Past) → Stands f p
+        → Advances other f p after q → IsOtherThan other m → Knows e m f p → Knows e m after q }
 {
     unnamed_law();
     own_files_law();
@@ -84,8 +84,8 @@ pub fn actor_law()
 /// newest snapshot has fenced its base or leaves it no room; or that eleven tries were lost. So E10 and E11 never come
 /// of such a folder.
 pub fn causes_law()
-    ensures { (rows : List HistoryRow) (m new : Phase) (call : Call) (answer : Answer) (refusal : Refusal) (f : Files)
-        (p : Past) → Stands f p → Knows rows m f p → next_call m ≡ Some call → Answers call answer f
+    ensures { (e : EntryView) (m new : Phase) (call : Call) (answer : Answer) (refusal : Refusal) (f : Files)
+        (p : Past) → Stands f p → Knows e m f p → next_call m ≡ Some call → Answers call answer f
         → Refuses m answer refusal new → MayRefuse m f p refusal }
 {
     joined_law();

@@ -2,4 +2,4 @@ use Rattle.pm_commit.proofs.StillLemmas.{knows-still}
 use Rattle.pm_commit.proofs.laws.known_law.Goals as goal
 
 pub returns : goal.returns
-returns c = λ rows m other f after p q stands advances apart known. knows-still c.unnamed_law.ensures.others c.own_files_law.ensures rows other f after p q stands advances m apart known
+returns c = λ e m other f after p q stands advances apart known. knows-still c.unnamed_law.ensures.others c.own_files_law.ensures e other f after p q stands advances m apart known

@@ -3,7 +3,7 @@ use Rattle.pm_commit.proofs.StepLemmas.{over-on, steps-on}
 use Rattle.pm_commit.proofs.committer.Committer.step.Goals as goal
 
 pub returns-in-Err-clause-moves : goal.returns-in-Err-clause-moves
-returns-in-Err-clause-moves g c = λ rows. rw c.self.view_is at (moved (c.machine_law.ensures.sound rows) c.step.ensures.stepped)
+returns-in-Err-clause-moves g c = λ e. rw c.self.view_is at (moved (c.machine_law.ensures.sound e) c.step.ensures.stepped)
 
 pub returns-in-Err-clause-alone : goal.returns-in-Err-clause-alone
 returns-in-Err-clause-alone g c = λ b.
@@ -17,7 +17,7 @@ pub returns-in-Err-clause-over : goal.returns-in-Err-clause-over
 returns-in-Err-clause-over g c = rw c.in-Err.is at (over-on c.step.ensures.stepped)
 
 pub returns-in-Ok-clause-moves : goal.returns-in-Ok-clause-moves
-returns-in-Ok-clause-moves g c = λ rows. rw c.self.view_is at (moved (c.machine_law.ensures.sound rows) c.step.ensures.stepped)
+returns-in-Ok-clause-moves g c = λ e. rw c.self.view_is at (moved (c.machine_law.ensures.sound e) c.step.ensures.stepped)
 
 pub returns-in-Ok-clause-alone : goal.returns-in-Ok-clause-alone
 returns-in-Ok-clause-alone g c = λ b.
