@@ -11,7 +11,7 @@ ghost use Rattle.pm_commit.specs.Committer.{calls_left};
 use crate::command::run_command;
 use pm_base::Txt;
 use pm_cases::Case;
-use pm_commit::{CommitStep, Committer};
+use pm_commit::{CommitStep, Committer, commit_step, new_committer};
 use pm_draft::{built_law, judge_built};
 use pm_engines::{TableEngine, declared_law};
 use pm_input::{InputLine, LIMITS, read_lines, refusal_of};
@@ -145,7 +145,7 @@ fn committer_of<F: FileStore>(
             let mut session = [0; 16];
             session[15] = SESSION;
             let names = Names::new(session, actor, 0);
-            Ok(Committer::new(schema, batch, user, 0, false, names, 1000))
+            Ok(new_committer(schema, batch, user, 0, false, names, 1000))
         }
         Err(refusal) => {
             drop(user);
@@ -235,7 +235,7 @@ fn make_call<F: FileStore>(alloc: Global, committer: Committer, store: &mut F) -
     requires { 0 < calls_left committer }
 {
     let mut committer = committer;
-    match committer.step(alloc, store) {
+    match commit_step(alloc, &mut committer, store) {
         Ok(CommitStep::More) => Writer::Open(Open { committer }),
         Ok(CommitStep::Committed(id)) => {
             drop(committer);

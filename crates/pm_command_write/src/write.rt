@@ -27,7 +27,7 @@ use crate::writer::Writer;
 use itoa::Buffer;
 use pm_base::Txt;
 use pm_command::{Start, judge, print};
-use pm_commit::{Appended, Committer, append_rows};
+use pm_commit::{Appended, Committer, append_rows, new_committer};
 use pm_engines::{TableEngine, declared_law};
 use pm_input::InputLine;
 use pm_io::{LineBuffer, Sink, Source};
@@ -159,7 +159,7 @@ fn committer_of(
     let user = user_of(alloc, start.session, 0, user)?;
     let identifier = identifier_of(identifier);
     let names = names_of(start.session);
-    Ok(Committer::new(
+    Ok(new_committer(
         schema,
         batch,
         user,

@@ -11,7 +11,7 @@ ghost use Rattle.pm_commit.specs.Own.{OwnView};
 ghost use Rattle.pm_commit.specs.Trace.{Did};
 ghost use Rattle.pm_commit.specs.declared.phase.Phase.TheVariants as phases;
 
-use crate::committer::{CommitStep, Committer};
+use crate::committer::{CommitStep, Committer, commit_step};
 use pm_model_contents::same_law;
 use pm_model_folder::{found_law, past_law, unnamed_law};
 use pm_read_table::entries_law;
@@ -65,7 +65,7 @@ fn make_calls<F: FileStore>(
     entries_law();
     let mut committer = committer;
     loop {
-        match committer.step(alloc, store) {
+        match commit_step(alloc, &mut committer, store) {
             Ok(CommitStep::More) => {}
             Ok(CommitStep::Committed(id)) => {
                 drop(committer);

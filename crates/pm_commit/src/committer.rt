@@ -6,7 +6,7 @@ ghost use Rattle.pm_store.specs.Store.{IsLater};
 ghost use Rattle.pm_write.specs.Batch.{IsBatchOf};
 ghost use Rattle.pm_append.specs.Commit.{IsBuilt};
 ghost use Rattle.pm_commit.specs.Alone.{CommitterAlone};
-ghost use Rattle.pm_commit.specs.Committer.{calls_left, reached_at, IsCommitter, Reaches};
+ghost use Rattle.pm_commit.specs.Committer.{calls_left, reached_at, Reaches};
 ghost use Rattle.pm_commit.specs.Meaning.{CommitterMoved};
 ghost use Rattle.pm_commit.specs.Own.{new_author, new_own};
 ghost use Rattle.pm_commit.specs.Trace.{CommitterActed};
@@ -23,7 +23,6 @@ use pm_store::FileStore;
 use pm_values::{Names, Refusal};
 use pm_write::{Batch, batch_law};
 use std::alloc::Global;
-use std::marker::Model;
 
 /// What a step of a committer reached: it goes on; or the snapshot with that id was committed; or the user had
 /// committed this before.
@@ -35,94 +34,63 @@ pub enum CommitStep {
 }
 
 /// Appends the rows of a batch to a table, a call of the store a step.
-pub struct Committer {
-    running: Running<Phase>,
+pub type Committer = Running<Phase>;
+
+/// The committer of a batch that isn't empty, to the table with this schema, which was just read, by a user with an
+/// identifier, and at that moment. `check` says that an earlier commit of the user is looked for.
+pub fn new_committer(
+    schema: TableSchema,
+    batch: Batch,
+    user: Txt,
+    identifier: i64,
+    check: bool,
+    names: Names,
+    now_millis: i64,
+) -> Committer
+    requires built { IsBuilt schema }
+    requires read { (rows : List HistoryRow) × IsBatchOf schema rows batch }
+    requires some { batch ≢ [] }
+    requires count { names.count ≤ 2 ^ 61 }
+    ensures { result ≡ phases.Names (new_own batch (new_author user identifier now_millis) check names) schema }
+{
+    batch_law();
+    Running::new(Phase::Names {
+        own: Own::new(batch, user, identifier, check, names, now_millis),
+        schema,
+    })
 }
 
-impl Drop for Committer {
-    fn drop(self) {
-        let Committer { running } = self;
+/// Makes the next call of the store. After a refusal, and once the batch is committed or was before, no call is left.
+pub fn commit_step<F: FileStore>(
+    alloc: Global,
+    committer: &mut Committer,
+    store: &mut F,
+) -> Result<CommitStep, Refusal>
+    requires { 0 < calls_left committer.old }
+    ensures moves { CommitterMoved committer.old committer.new (F.seen store.old) (F.seen store.new) }
+    ensures alone { CommitterAlone committer.old committer.new (F.seen store.old) (F.seen store.new) result }
+    ensures acts { CommitterActed committer.old committer.new (F.seen store.old) (F.seen store.new) result }
+    ensures reaches { IfOk result (λ step. Reaches step committer.new) }
+    ensures fewer { OnOk result (calls_left committer.new < calls_left committer.old) }
+    ensures over { OnErr result (committer.new ≡ phases.Over) }
+    ensures later { IsLater (F.seen store.old) (F.seen store.new) }
+{
+    machine_law();
+    read_entry_law();
+    committer.known();
+    match step(alloc, committer, store) {
+        Ok(()) => Ok(reached(committer)),
+        Err(refusal) => Err(refusal),
     }
 }
 
-impl Model for Committer {
-    ghost use Rattle.pm_commit.specs.contracts.phase.Phase as phases;
-    ghost use Rattle.pm_commit.specs.declared.phase.Phase.{Phase};
-
-    ghost Value = { Phase };
-
-    ghost coded = { phases.the_row.coded };
-
-    ghost view = { λ c. c.running };
-}
-
-impl Committer {
-    /// The committer of a batch that isn't empty, to the table with this schema, which was just read, by a user with an
-    /// identifier, and at that moment. `check` says that an earlier commit of the user is looked for.
-    pub fn new(
-        schema: TableSchema,
-        batch: Batch,
-        user: Txt,
-        identifier: i64,
-        check: bool,
-        names: Names,
-        now_millis: i64,
-    ) -> Committer
-        requires built { IsBuilt schema }
-        requires read { (rows : List HistoryRow) × IsBatchOf schema rows batch }
-        requires some { batch ≢ [] }
-        requires count { names.count ≤ 2 ^ 61 }
-        ensures { result ≡ phases.Names (new_own batch (new_author user identifier now_millis) check names) schema }
-    {
-        batch_law();
-        Committer {
-            running: Running::new(Phase::Names {
-                own: Own::new(batch, user, identifier, check, names, now_millis),
-                schema,
-            }),
-        }
-    }
-
-    /// Makes the next call of the store. After a refusal, and once the batch is committed or was before, no call is
-    /// left.
-    pub fn step<F: FileStore>(
-        &mut self,
-        alloc: Global,
-        store: &mut F,
-    ) -> Result<CommitStep, Refusal>
-        requires { 0 < calls_left self.old }
-        ensures moves { CommitterMoved self.old self.new (F.seen store.old) (F.seen store.new) }
-        ensures alone { CommitterAlone self.old self.new (F.seen store.old) (F.seen store.new) result }
-        ensures acts { CommitterActed self.old self.new (F.seen store.old) (F.seen store.new) result }
-        ensures reaches { IfOk result (λ step. Reaches step self.new) }
-        ensures fewer { OnOk result (calls_left self.new < calls_left self.old) }
-        ensures over { OnErr result (self.new ≡ phases.Over) }
-        ensures later { IsLater (F.seen store.old) (F.seen store.new) }
-    {
-        machine_law();
-        read_entry_law();
-        self.known();
-        match step(alloc, &mut self.running, store) {
-            Ok(()) => Ok(self.reached()),
-            Err(refusal) => Err(refusal),
-        }
-    }
-
-    /// States for clauses what each committer is.
-    pub(crate) fn known(&self)
-        ensures { IsCommitter self.now }
-    {
-        self.running.known();
-    }
-
-    /// What a step that went on has reached.
-    fn reached(&self) -> CommitStep
-        ensures { result ≡ reached_at self.now }
-    {
-        match self.running.phase() {
-            Phase::Committed { id, .. } => CommitStep::Committed(*id),
-            Phase::Already { .. } => CommitStep::Already,
-            _ => CommitStep::More,
-        }
+/// What a step that went on has reached.
+fn reached(committer: &Committer) -> CommitStep
+    ensures { result ≡ reached_at committer.now }
+{
+    match committer.phase() {
+        Phase::Committed { id, .. } => CommitStep::Committed(*id),
+        Phase::Already { .. } => CommitStep::Already,
+        _ => CommitStep::More,
     }
 }

@@ -29,7 +29,7 @@ mod put;
 mod search;
 
 pub use all_calls::{Appended, append_rows};
-pub use committer::{CommitStep, Committer};
+pub use committer::{CommitStep, Committer, commit_step, new_committer};
 pub use found::Found;
 pub use laws::{actor_law, causes_law, known_law, one_answer_law};
 pub use own::Own;

@@ -2,7 +2,7 @@ use Rattle.std.proofs.Common.{refl, subst, sym}
 use Rattle.std.proofs.Math.Facts.{to_z-of_z}
 use Rattle.pm_commit.specs.Own.{IsOwn, new_author}
 use Rattle.pm_commit.proofs.BatchLemmas.{BatchLaw, new-is-own}
-use Rattle.pm_commit.proofs.committer.Committer.new.Goals as goal
+use Rattle.pm_commit.proofs.committer.new_committer.Goals as goal
 
 pub new-requires-2 : goal.new-requires-2
 new-requires-2 c =
