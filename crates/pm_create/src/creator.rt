@@ -29,23 +29,13 @@ pub enum CreateStep {
     Created,
 }
 
-/// Makes a table, a call of the store a step.
+/// Makes a table, a call of the store a step. The table stands beside the phases, which don't hold it to the end.
+#[derive(Drop)]
 pub struct Creator {
     session: [u8; 16],
     actor: u32,
     schema: TableSchema,
     running: Running<Phase>,
-}
-
-impl Drop for Creator {
-    fn drop(self) {
-        let Creator {
-            session,
-            actor,
-            schema,
-            running,
-        } = self;
-    }
 }
 
 impl Model for Creator {
