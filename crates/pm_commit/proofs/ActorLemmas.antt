@@ -1,12 +1,12 @@
 -- Whoever runs a committer goes on to run it.
-use Rattle.std.proofs.Common.{◌≡◌, ℕ, ◌+◌, length, Bool, true, false, List, [], ◌∷◌, Option, None, Some, IfSome, Ok, option_map, refl, sym, ap, subst}
+use Rattle.std.proofs.Common.{◌≡◌, ℕ, List, Option, None, Some, IfSome, Ok, IfOk, option_map, refl, sym, ap, subst}
 use Rattle.pm_store.specs.declared.answer.Answer.{Answer}
 use Rattle.pm_store.specs.declared.answer.Answer.TheVariants as answers
 use Rattle.pm_model_folder.specs.Changes.{Actor}
 use Rattle.pm_read_table.specs.declared.phase.Phase as view_phase
 use Rattle.pm_read_table.specs.declared.phase.Phase.TheVariants as readers
 use Rattle.pm_read_table.specs.declared.view.View.{View}
-use Rattle.pm_commit.specs.Committer.{AfterPutter, AfterReader, Goes, Hears, Makes, Seeks, Tries, TriesIf, found_in}
+use Rattle.pm_commit.specs.Committer.{AfterPutter, AfterReader, Goes, Hears, Makes, Outcome, Tries, found_in}
 use Rattle.pm_commit.specs.Meaning.{own_in}
 use Rattle.pm_commit.specs.Own.{OwnView, actor_of, begun}
 use Rattle.pm_commit.specs.Search.{older_ids, seen_in, seen_of}
@@ -17,9 +17,8 @@ use Rattle.pm_schema.specs.declared.schema.TableSchema.{TableSchema}
 use Rattle.pm_commit.specs.declared.phase.Phase.{Phase}
 use Rattle.pm_commit.specs.declared.phase.Phase.TheVariants as phases
 use Rattle.pm_commit.specs.declared.search.Seen.{Seen}
-use Rattle.pm_commit.specs.declared.search.Seen.TheVariants as seen
 use Rattle.pm_commit.proofs.AloneCauseLemmas.{begun-actor}
-use Rattle.pm_commit.proofs.CommitterLemmas.{ok-same}
+use Rattle.pm_commit.proofs.OutcomeLemmas.{heard, ok-same, tried}
 
 -- the actor runs it, or nobody does
 abbrev IsRunBy : Actor → Phase → Type 0
@@ -28,21 +27,15 @@ IsRunBy me m = IfSome (own_in m) (λ own. actor_of own ≡ me)
 makes-run : (own : OwnView) (found : Found) (later : Phase) → Makes own found (Ok later) → IsRunBy (actor_of own) later
 makes-run own found later (made, is_made, allowed, is) = subst (IsRunBy (actor_of own)) (sym is) refl
 
-seeks-run : (own : OwnView) (found : Found) (left : List ℕ) (later : Phase) → Seeks own found left (Ok later) → IsRunBy (actor_of own) later
-seeks-run own found [] later on = makes-run own found later on
-seeks-run own found (id ∷ left) later (few, is) = subst (IsRunBy (actor_of own)) (sym (ok-same later _ is)) refl
-
 hears-run : (own : OwnView) (found : Found) (left : List ℕ) (said : Seen) (later : Phase) → Hears own found left said (Ok later) → IsRunBy (actor_of own) later
-hears-run own found left seen.Other later on = seeks-run own found left later on
-hears-run own found left seen.Below later on = makes-run own found later on
-hears-run own found left seen.Reached later is = subst (IsRunBy (actor_of own)) (sym (ok-same later _ is)) tt
+hears-run own found left said later on =
+    heard (λ (o : Outcome). IfOk o (IsRunBy (actor_of own))) own found left said (Ok later) (λ free on. makes-run own found later on)
+    (λ id rest other is few. refl) (λ reached. tt) on
 
 tries-run : (own : OwnView) (v : View) (later : Phase) → Tries own v (Ok later) → IsRunBy (actor_of own) later
-tries-run own v later = by_test own.check
-  where
-    by_test : (b : Bool) → TriesIf b own v (Ok later) → IsRunBy (actor_of own) later
-    by_test true on = hears-run own (found_in v) (older_ids v.listed.items) (seen_in own.author v.snapshot) later on
-    by_test false on = makes-run own (found_in v) later on
+tries-run own v later on =
+    tried (IsRunBy (actor_of own) later) own v (Ok later) (λ unasked on. makes-run own (found_in v) later on)
+    (λ asked on. hears-run own (found_in v) (older_ids v.listed.items) (seen_in own.author v.snapshot) later on) on
 
 reader-run : (own : OwnView) (m : view_phase.Phase) (later : Phase) → AfterReader own m (Ok later) → IsRunBy (actor_of own) later
 reader-run own (readers.Ready v) later on =

@@ -29,7 +29,7 @@ use Rattle.pm_commit.specs.AllCalls.{AppendsAlone, AppendsTables, DidAppend, End
 use Rattle.pm_commit.specs.Alone.{AloneAt, AloneRefused, Beginning, CommitterAlone, IsTryAt, KnewAlone, KnowsAlone, begun_at, newest_id, with_entry}
 use Rattle.pm_commit.specs.Committer.{IsCommitter}
 use Rattle.pm_commit.specs.Meaning.{HasCommitted, KnowsOwn, MakesEntry, MakesIn, own_in}
-use Rattle.pm_commit.specs.Own.{OwnView, actor_of, begun, begun_after}
+use Rattle.pm_commit.specs.Own.{OwnView, actor_of, begun}
 use Rattle.pm_commit.specs.Search.{seen_of}
 use Rattle.pm_commit.specs.Trace.{CommitterActed, Did}
 use Rattle.pm_commit.specs.declared.all_calls.Appended.{Appended}
@@ -40,6 +40,7 @@ use Rattle.pm_commit.specs.declared.phase.Phase.TheVariants as phases
 use Rattle.pm_commit.proofs.AloneCauseLemmas.{begun-actor}
 use Rattle.pm_commit.proofs.AloneLemmas.{either-way}
 use Rattle.pm_commit.proofs.CommittedLemmas.{bears-commit}
+use Rattle.pm_commit.proofs.CommitterLemmas.{begun-at}
 use Rattle.pm_commit.proofs.FoundLemmas.{LiveEntries}
 use Rattle.pm_commit.proofs.FailLemmas.{after-failed, shows-failed}
 use Rattle.pm_commit.proofs.KnownLemmas.{count-bound}
@@ -78,7 +79,6 @@ pub record CallLaws : Type 0 where
   pub here : publish.NamesNone
   pub others : OthersNone
 
--- what is alone to the end is so up to a step, and in it
 -- ---- what is known before a step, and after it
 
 -- the commit of a phase has the actor of the one at the beginning
@@ -100,19 +100,12 @@ own-in b (phases.Names o s) own f now is (same, (unchanged, is_own)) = (same, ow
 own-in b (phases.View o m) own f now is (same, (unchanged, is_own, reads)) = (same, own-as b o own (let e : o ≡ own = cc in e) (ap actor_of is_own))
 own-in b (phases.Search o q) own f now is (same, (unchanged, is_own, sees, asked)) = (same, own-as b o own (let e : o ≡ own = cc in e) (begun-own b o is_own))
 own-in b (phases.Put o s id m) own f now is (same, (try, untouched)) = (same, own-as b o own (let e : o ≡ own = cc in e) (try-own b o id try))
-own-in b (phases.Committed author id) own f now is at = absurd (let clash = is in cc)
-own-in b (phases.Already author) own f now is at = absurd (let clash = is in cc)
-own-in b phases.Over own f now is at = absurd (let clash = is in cc)
+own-in b m own f now is at = absurd (let clash = is in cc)
 
 -- in each phase the history has the entry more, or is as it was
 either-at : (b : Beginning) (m : Phase) (f : Files) (now : History) → AloneAt b m f now → (now ≡ b.history) ⊎ (now ≡ with_entry b.entry b.history)
 either-at b (phases.Committed author id) f now at = inr at.0
-either-at b (phases.Names own s) f now at = inl at.0
-either-at b (phases.View own m) f now at = inl at.0
-either-at b (phases.Search own q) f now at = inl at.0
-either-at b (phases.Put own s id m) f now at = inl at.0
-either-at b (phases.Already author) f now at = inl at.0
-either-at b phases.Over f now at = inl at.0
+either-at b m f now at = inl at.0
 
 stands-either : (b : Beginning) (now : History) (f : Files) → StandsFreely b now f → (now ≡ b.history) ⊎ (now ≡ with_entry b.entry b.history) → StandsForEither b f
 stands-either b now f stands (inl same) = inl (subst (λ (h : History). StandsFreely b h f) same stands)
@@ -250,11 +243,7 @@ module _ (b : Beginning) (start after : StoreView) where
 
   -- which base an author has says nothing of its earlier commits
   begun-seen : (x : Snapshot) (n : ℕ) → seen_of (begun n b.own).author x ≡ seen_of b.own.author x
-  begun-seen x n = at b.own.lost
-    where
-      at : (lost : List ℕ) → seen_of (begun_after lost n b.own).author x ≡ seen_of b.own.author x
-      at [] = refl
-      at (id ∷ lost) = refl
+  begun-seen x n = begun-at (λ o. seen_of o.author x ≡ seen_of b.own.author x) b.own n refl refl
 
   pub left-already : (m : Phase) (by : Author) → m ≡ phases.Already by → Follows (StandsForEither b) start.ops after (KnewFiles b m)
       → Leaves (Ok appends.Already)

@@ -1,5 +1,5 @@
 -- Which refusals a committer meets where nobody else acts.
-use Rattle.std.proofs.Common.{◌≡◌, inl, inr, ℕ, List, [], ◌∷◌, codes, Option, None, Some, IsSome, IfSome, Err, refl, sym, ap, ◌∙◌, subst}
+use Rattle.std.proofs.Common.{◌≡◌, inl, inr, ℕ, List, codes, Option, None, Some, IsSome, IfSome, Err, refl, sym, ap, ◌∙◌, subst}
 use Rattle.std.specs.FinMap as map
 use Rattle.pm_values.specs.declared.refusal.Refusal.{Refusal}
 use Rattle.pm_values.specs.declared.refusal.Refusal.TheVariants as refusals
@@ -27,29 +27,25 @@ use Rattle.pm_put.specs.Putter.{create_call}
 use Rattle.pm_put.specs.declared.phase.Phase.TheVariants as puts
 use Rattle.pm_commit.specs.Marks.{FindsUsed}
 use Rattle.pm_commit.specs.Meaning.{HasOrigin, IsFoundIn, KnowsOwn, KnowsTry}
-use Rattle.pm_commit.specs.Own.{IsTried, OwnView, actor_of, begun, begun_after}
+use Rattle.pm_commit.specs.Own.{IsTried, OwnView, actor_of, begun}
 use Rattle.pm_commit.specs.Search.{seen_of}
 use Rattle.pm_commit.specs.declared.found.Found.{Found}
 use Rattle.pm_commit.specs.declared.phase.Phase.{Phase}
 use Rattle.pm_commit.specs.declared.phase.Phase.TheVariants as phases
-use Rattle.pm_commit.proofs.CauseLemmas.{IsNone, ReaderCauses, good-snapshot, hears-any, met-at, shown-none, tries-any, view-found}
-use Rattle.pm_commit.proofs.CommitterLemmas.{err-ok, ready-schema}
+use Rattle.pm_commit.proofs.CauseLemmas.{IsNone, ReaderCauses, good-snapshot, met-at, shown-none, view-found}
+use Rattle.pm_commit.proofs.CommitterLemmas.{begun-at, ready-schema}
 use Rattle.pm_commit.proofs.CreateLemmas.{create-named}
 use Rattle.pm_commit.proofs.Facts.{Laws, NoPublish, next-not}
 use Rattle.pm_commit.proofs.FoundLemmas.{found-same, found-there}
 use Rattle.pm_commit.proofs.NewestLemmas.{IsOfNewest, expired-never, newest-at, reads-newest, shown-newest}
+use Rattle.pm_commit.proofs.OutcomeLemmas.{heard-refused, read-refused, tried-refused}
 use Rattle.pm_commit.proofs.ReadsLemmas.{reads-on}
-use Rattle.pm_commit.proofs.TraceLemmas.{IsReason, is-reason, some-at}
+use Rattle.pm_commit.proofs.TraceLemmas.{IsReason, if-is, is-reason, some-at}
 
 -- ---- the commit once its try has begun
 
-module _ (own : OwnView) (n : ℕ) where
-  pub begun-actor : actor_of (begun n own) ≡ actor_of own
-  begun-actor = at own.lost
-    where
-      at : (lost : List ℕ) → actor_of (begun_after lost n own) ≡ actor_of own
-      at [] = refl
-      at (id ∷ lost) = refl
+pub begun-actor : (own : OwnView) (n : ℕ) → actor_of (begun n own) ≡ actor_of own
+begun-actor own n = begun-at (λ o. actor_of o ≡ actor_of own) own n refl refl
 
 pub begun-same : (b : Beginning) (own : OwnView) (id : ℕ) → own ≡ b.own → id ≡ newest_id b → begun id own ≡ begun_at b
 begun-same b own id is newest = ap (λ (n : ℕ). begun n own) newest ∙ ap (begun (newest_id b)) is
@@ -58,19 +54,9 @@ begun-same b own id is newest = ap (λ (n : ℕ). begun n own) newest ∙ ap (be
 
 -- each leaves the files as they are
 pub view-rests : (m : view_phase.Phase) (f : Files) → IfSome (reader.next_call m) (λ call. carried call f ≡ f)
-view-rests (readers.List a) f = refl
-view-rests (readers.Origin q) f = refl
-view-rests (readers.Snapshot q id) f = refl
-view-rests (readers.Base q x) f = refl
-view-rests (readers.Delta q x base) f = refl
-view-rests (readers.Manifests r) f = refl
-view-rests (readers.Again a id path) f = refl
 view-rests (readers.Ready v) f = tt
 view-rests readers.Over f = tt
-
-pub some-each : (next : Option Call) (P : Call → Type 0) → ((call : Call) → next ≡ Some call → P call) → IfSome next P
-some-each None P each = tt
-some-each (Some call) P each = each call refl
+view-rests m f = refl
 
 -- ---- each refusal
 
@@ -137,22 +123,12 @@ module _ (laws : Laws) (b : Beginning) (f : Files) (p : Past) (stands : Stands f
   module _ (causes : ReaderCauses) (call : Call) (answer : Answer) (refusal : Refusal) (own : OwnView) (s : TableSchema) (m : view_phase.Phase)
       (reads : Reads m s) (table : IsTableOf s p.history) (reading : reader_meaning.Knows m f p) (origin : HasOrigin m) (unchanged : IsUnchanged b f)
       (is : own ≡ b.own) (at : reader.next_call m ≡ Some call) (told : Answers call answer f) where
-    view-tried : (v : View) → reader.Goes m answer (readers.Ready v) → v.id ≡ newest_id b → AfterReader own (readers.Ready v) (Err refusal) → AloneRefused b refusal f p
-    view-tried v goes newest on =
-        tries-any (AloneRefused b refusal f p) (begun v.id own) v refusal
-        (make-caused (begun v.id own) (found_in v) refusal unchanged (begun-same b own v.id is newest)
-        (view-sees causes call answer s m v reads table reading origin unchanged at told goes newest)) on
-
     ready-caused : (to : view_phase.Phase) → reader.Goes m answer to → ReadsNewest (newest_id b) to → AfterReader own to (Err refusal) → AloneRefused b refusal f p
-    ready-caused (readers.List a) goes newest on = absurd (err-ok refusal _ on)
-    ready-caused (readers.Origin q) goes newest on = absurd (err-ok refusal _ on)
-    ready-caused (readers.Snapshot q id) goes newest on = absurd (err-ok refusal _ on)
-    ready-caused (readers.Base q x) goes newest on = absurd (err-ok refusal _ on)
-    ready-caused (readers.Delta q x base) goes newest on = absurd (err-ok refusal _ on)
-    ready-caused (readers.Manifests r) goes newest on = absurd (err-ok refusal _ on)
-    ready-caused (readers.Again a id path) goes newest on = absurd (err-ok refusal _ on)
-    ready-caused (readers.Ready v) goes newest on = view-tried v goes newest on
-    ready-caused readers.Over goes newest on = absurd (err-ok refusal _ on)
+    ready-caused to goes newest on =
+        read-refused (AloneRefused b refusal f p) (λ to. reader.Goes m answer to × ReadsNewest (newest_id b) to) own refusal
+        (λ v has on. tried-refused (AloneRefused b refusal f p) (begun v.id own) v refusal
+        (make-caused (begun v.id own) (found_in v) refusal unchanged (begun-same b own v.id is has.1)
+        (view-sees causes call answer s m v reads table reading origin unchanged at told has.0 has.1)) on) to (goes, newest) on
 
 -- a create meets a file that was there at the beginning
 met-caused : (laws : Laws) (b : Beginning) (own : OwnView) (s : TableSchema) (id : ℕ) (making : MakingView) (f : Files) (p : Past) → IsTried s own
@@ -184,14 +160,14 @@ calm-caused laws causes b (phases.Names own s) (answers.Listed names) refusal f 
       ),
     )
 calm-caused laws causes b (phases.View own m) answer refusal f p calm stands ((committer, (s, reads, known, reading, origin)), (same, (unchanged, is, newest))) (inl shown) =
-    some-each (reader.next_call m) _ (λ call at told.
+    if-is (reader.next_call m) _ (λ call at told.
     (let rests = some-at (reader.next_call m) call _ at (view-rests m f) in
     subst (λ (g : Files). AloneRefused b refusal g p) (sym rests)
     (seen-caused laws b f p stands same refusal (shown-none s m answer refusal reads shown) (shown-newest (newest_id b) m answer refusal newest shown)
     (causes m call answer refusal f p stands reading at told shown))))
 calm-caused laws causes b (phases.View own m) answer refusal f p calm stands ((committer, (s, reads, known, reading, origin)), (same, (unchanged, is, newest)))
     (inr (to, goes, on)) =
-    some-each (reader.next_call m) _ (λ call at told.
+    if-is (reader.next_call m) _ (λ call at told.
     (let rests = some-at (reader.next_call m) call _ at (view-rests m f) in
     let newest_to = some-at (reader.next_call m) call _ at
     (reads-newest laws.joined laws.lists f p s (newest_id b) stands (ap count_of (sym same)) m answer to reads reading newest goes) told in
@@ -204,8 +180,8 @@ calm-caused laws causes b (phases.Search own q) (answers.Found (Some bytes)) ref
 calm-caused laws causes b (phases.Search own q) (answers.Found (Some bytes)) refusal f p calm stands (((may, few, ids), (known, is_found)), alone) (inr (inl (bad, is))) = λ told.
     absurd (good-snapshot f p q.found.schema q.id bytes stands known.is_table ids.0.0 ids.0.1 told bad)
 calm-caused laws causes b (phases.Search own q) (answers.Found (Some bytes)) refusal f p calm stands (known, (same, (unchanged, is, sees, asked))) (inr (inr (x, reads, on))) = λ told.
-    hears-any (AloneRefused b refusal f p) own q.found q.left (seen_of own.author x) refusal
-    (make-caused laws b f p stands same own q.found refusal unchanged is sees) on
+    heard-refused (AloneRefused b refusal f p) own q.found q.left (seen_of own.author x) refusal
+    (λ free on. make-caused laws b f p stands same own q.found refusal unchanged is sees on) on
 calm-caused laws causes b (phases.Put own s id (puts.Publish x)) answer refusal f p calm stands known after = absurd calm
 calm-caused laws causes b (phases.Put own s id (puts.Create making)) (answers.Made created.Created) refusal f p calm stands known (inr (to, goes, on)) =
     absurd (next-not own s id making.publishing making.rest to refusal goes on)

@@ -1,5 +1,5 @@
 -- What a committer does to a history where nobody else acts.
-use Rattle.std.proofs.Common.{◌≡◌, ◌⊎◌, inl, inr, ℕ, ◌+◌, ◌≤◌, Bool, true, false, List, [], ◌∷◌, ◌++◌, length, Option, None, Some, IsSome, IfSome, Result, Ok, Err, refl, sym, ap, ◌∙◌, subst, arith}
+use Rattle.std.proofs.Common.{◌≡◌, ◌⊎◌, inl, inr, ℕ, ◌+◌, ◌≤◌, true, List, [], ◌∷◌, length, Option, None, Some, IsSome, IfSome, Result, Ok, Err, IfOk, refl, sym, ap, ◌∙◌, subst, arith}
 use Rattle.std.proofs.lemmas.Option.{IfSome_then}
 use Rattle.pm_values.specs.declared.refusal.Refusal.{Refusal}
 use Rattle.pm_values.specs.declared.refusal.Refusal.TheVariants as refusals
@@ -32,9 +32,9 @@ use Rattle.pm_append.specs.Refusals.{refusal_of}
 use Rattle.pm_put.specs.declared.putting.CommitFile.{CommitFile}
 use Rattle.pm_schema.specs.declared.schema.TableSchema.{TableSchema}
 use Rattle.pm_commit.specs.Alone.{AloneAt, AloneRefused, AreUntouched, Beginning, IsTryAt, IsUnchanged, KnewAlone, KnowsAlone, ReadsNewest, SeesNewest, begun_at, newest_id, with_entry}
-use Rattle.pm_commit.specs.Committer.{After, AfterReader, Goes, Hears, Makes, Outcome, Refuses, Seeks, Stops, Tries, TriesIf, first_of_try, found_in, next_call, publishing_of}
+use Rattle.pm_commit.specs.Committer.{After, AfterReader, Goes, Hears, Makes, Outcome, Refuses, Stops, Tries, first_of_try, found_in, next_call, publishing_of}
 use Rattle.pm_commit.specs.Meaning.{Appends, KnowsTry, MakesEntry}
-use Rattle.pm_commit.specs.Own.{OwnView, begun, begun_after, with_named}
+use Rattle.pm_commit.specs.Own.{OwnView, begun, with_named}
 use Rattle.pm_commit.specs.Search.{older_ids, seen_in, seen_of}
 use Rattle.pm_put.specs.Putter as put
 use Rattle.pm_put.specs.Putter.{create_call, publish_call}
@@ -46,15 +46,15 @@ use Rattle.pm_commit.specs.declared.found.Found.{Found}
 use Rattle.pm_commit.specs.declared.phase.Phase.{Phase}
 use Rattle.pm_commit.specs.declared.phase.Phase.TheVariants as phases
 use Rattle.pm_commit.specs.declared.search.Seen.{Seen}
-use Rattle.pm_commit.specs.declared.search.Seen.TheVariants as seen
-use Rattle.pm_commit.proofs.AloneCauseLemmas.{begun-same, calm-caused, some-each, view-rests, view-sees}
+use Rattle.pm_commit.proofs.AloneCauseLemmas.{begun-same, calm-caused, view-rests, view-sees}
 use Rattle.pm_commit.proofs.ApartLemmas.{PathParts, rest-apart, untouched-puts}
 use Rattle.pm_commit.proofs.CauseLemmas.{ReaderCauses}
-use Rattle.pm_commit.proofs.CommitterLemmas.{err-ok, ok-same, still-committer}
-use Rattle.pm_commit.proofs.Facts.{Laws, NoPublish, changes-on, keeps-on, makes-on, next-on, published-leads, putter-at}
+use Rattle.pm_commit.proofs.CommitterLemmas.{begun-at, still-committer}
+use Rattle.pm_commit.proofs.Facts.{Laws, NoPublish, by-publish, changes-on, keeps-on, makes-on, next-on, published-leads, putter-at}
 use Rattle.pm_commit.proofs.MadeLemmas.{allowed-id}
 use Rattle.pm_commit.proofs.NewestLemmas.{never-lost, reads-newest}
-use Rattle.pm_commit.proofs.TraceLemmas.{some-at}
+use Rattle.pm_commit.proofs.OutcomeLemmas.{err-ok, heard, ok-same, read-on, tried}
+use Rattle.pm_commit.proofs.TraceLemmas.{if-is, some-at}
 
 -- ---- nothing is committed yet
 
@@ -83,61 +83,34 @@ module _ (b : Beginning) (f : Files) (now : History) (same : now ≡ b.history) 
           (found, sees, subst (λ (o : OwnView). refusal_of found.newest o.author o.batch ≡ None) is allowed),
         ) (all-untouched made.files.items))
 
-    seeks-alone : (own : OwnView) (found : Found) (left : List ℕ) (new : Phase) → own ≡ begun_at b → SeesNewest b found → b.own.check ≡ true
-        → Seeks own found left (Ok new) → AloneAt b new f now
-    seeks-alone own found [] new is sees asked on = makes-alone own found new is sees on
-    seeks-alone own found (id ∷ left) new is sees asked (few, to) = to-alone _ new (ok-same new _ to) (same, (unchanged, is, sees, asked))
-
     hears-alone : (own : OwnView) (found : Found) (left : List ℕ) (said : Seen) (new : Phase) → own ≡ begun_at b → SeesNewest b found → b.own.check ≡ true
         → Hears own found left said (Ok new) → AloneAt b new f now
-    hears-alone own found left seen.Other new is sees asked on = seeks-alone own found left new is sees asked on
-    hears-alone own found left seen.Below new is sees asked on = makes-alone own found new is sees on
-    hears-alone own found left seen.Reached new is sees asked to =
-        to-alone _ new (ok-same new _ to) (same, (unchanged, ap (λ (o : OwnView). o.author) is, asked))
+    hears-alone own found left said new is sees asked on =
+        heard (λ (o : Outcome). IfOk o (λ m. AloneAt b m f now)) own found left said (Ok new) (λ free on. makes-alone own found new is sees on)
+        (λ id rest other at few. (same, (unchanged, is, sees, asked))) (λ reached. (same, (unchanged, ap (λ (o : OwnView). o.author) is, asked))) on
 
     -- whether an earlier commit is looked for says the beginning
     begun-check : (own : OwnView) → own ≡ begun_at b → own.check ≡ b.own.check
-    begun-check own is = ap (λ (o : OwnView). o.check) is ∙ at b.own.lost
-      where
-        at : (lost : List ℕ) → (begun_after lost (newest_id b) b.own).check ≡ b.own.check
-        at [] = refl
-        at (id ∷ lost) = refl
+    begun-check own is = ap (λ (o : OwnView). o.check) is ∙ begun-at (λ o. o.check ≡ b.own.check) b.own (newest_id b) refl refl
 
     tries-alone : (own : OwnView) (v : View) (new : Phase) → own ≡ begun_at b → SeesNewest b (found_in v) → Tries own v (Ok new) → AloneAt b new f now
-    tries-alone own v new is sees on = at own.check refl on
-      where
-        at : (check : Bool) → own.check ≡ check → TriesIf check own v (Ok new) → AloneAt b new f now
-        at true asked on =
-            hears-alone own (found_in v) (older_ids v.listed.items) (seen_in own.author v.snapshot) new is sees (sym (begun-check own is) ∙ asked) on
-        at false asked on = makes-alone own (found_in v) new is sees on
-
-    view-alone : (own : OwnView) (m : view_phase.Phase) (new : Phase) → own ≡ b.own → ReadsNewest (newest_id b) m
-        → ◌≡◌ {A = Outcome} (Ok new) (Ok (phases.View own m)) → AloneAt b new f now
-    view-alone own m new is newest to = to-alone (phases.View own m) new (ok-same new _ to) (same, (unchanged, is, newest))
+    tries-alone own v new is sees on =
+        tried (AloneAt b new f now) own v (Ok new) (λ unasked on. makes-alone own (found_in v) new is sees on)
+        (λ asked on. hears-alone own (found_in v) (older_ids v.listed.items) (seen_in own.author v.snapshot) new is sees (sym (begun-check own is) ∙ asked) on) on
 
     reader-alone : (own : OwnView) (m : view_phase.Phase) (new : Phase) → own ≡ b.own → ReadsNewest (newest_id b) m
         → ((v : View) → m ≡ readers.Ready v → SeesNewest b (found_in v)) → AfterReader own m (Ok new) → AloneAt b new f now
-    reader-alone own (readers.List a) new is newest sees on = view-alone own (readers.List a) new is newest on
-    reader-alone own (readers.Origin q) new is newest sees on = view-alone own (readers.Origin q) new is newest on
-    reader-alone own (readers.Snapshot q id) new is newest sees on = view-alone own (readers.Snapshot q id) new is newest on
-    reader-alone own (readers.Base q x) new is newest sees on = view-alone own (readers.Base q x) new is newest on
-    reader-alone own (readers.Delta q x base) new is newest sees on = view-alone own (readers.Delta q x base) new is newest on
-    reader-alone own (readers.Manifests r) new is newest sees on = view-alone own (readers.Manifests r) new is newest on
-    reader-alone own (readers.Again a id path) new is newest sees on = view-alone own (readers.Again a id path) new is newest on
-    reader-alone own (readers.Ready v) new is newest sees on = tries-alone (begun v.id own) v new (begun-same b own v.id is newest) (sees v refl) on
-    reader-alone own readers.Over new is newest sees on = view-alone own readers.Over new is newest on
+    reader-alone own m new is newest sees on =
+        read-on (λ (o : Outcome). IfOk o (λ m. AloneAt b m f now)) (λ m. ReadsNewest (newest_id b) m × ((v : View) → m ≡ readers.Ready v → SeesNewest b (found_in v)))
+        own (Ok new) (λ v has on. tries-alone (begun v.id own) v new (begun-same b own v.id is has.0) (has.1 v refl) on)
+        (λ m none has. (same, (unchanged, is, has.0))) m (newest, sees) on
 
 -- ---- a step
 
 -- before the publish the history is the same
 calm-same : (b : Beginning) (m : Phase) (f : Files) (now : History) → IsSome (next_call m) → AloneAt b m f now → now ≡ b.history
-calm-same b (phases.Names own s) f now some alone = alone.0
-calm-same b (phases.View own m) f now some alone = alone.0
-calm-same b (phases.Search own q) f now some alone = alone.0
-calm-same b (phases.Put own s id m) f now some alone = alone.0
 calm-same b (phases.Committed author id) f now some alone = absurd (let clash = some in cc)
-calm-same b (phases.Already author) f now some alone = absurd (let clash = some in cc)
-calm-same b phases.Over f now some alone = absurd (let clash = some in cc)
+calm-same b m f now some alone = alone.0
 
 -- the history has the entry more, or stays
 pub either-way : (b : Beginning) (now later : History) → now ≡ b.history → Appends b.entry now later
@@ -172,7 +145,7 @@ module _ (laws : Laws) (causes : ReaderCauses) (parts : PathParts) (b : Beginnin
   alone-on (phases.Names own s) (answers.Listed names) new f p calm (none, to) stands (known, (same, (unchanged, is))) = λ told.
       to-alone b f p.history same (first_of_try own s) new to (same, (unchanged, is, tt))
   alone-on (phases.View own m) answer new f p calm (to, goes, after) stands ((committer, (s, reads, known, reading, origin)), (same, (unchanged, is, newest))) =
-      some-each (reader.next_call m) _ (λ call at told.
+      if-is (reader.next_call m) _ (λ call at told.
       (let rests = some-at (reader.next_call m) call _ at (view-rests m f) in
       let newest_to = some-at (reader.next_call m) call _ at
       (reads-newest laws.joined laws.lists f p s (newest_id b) stands (ap count_of (sym same)) m answer to reads reading newest goes) told in
@@ -206,9 +179,10 @@ module _ (laws : Laws) (causes : ReaderCauses) (parts : PathParts) (b : Beginnin
         ((still-committer laws.read m answer new known.0.0 after, (keeps told).1), alone told),
       )) (keeps-on laws b.entry m answer new f p calm after stands known.0.0 known.0.1) (alone-on m answer new f p calm after stands known)
 
-  went-on : (m : Phase) (answer : Answer) (new : Phase) (f : Files) (p : Past) → After m answer (Ok new) → Stands f p
-      → KnewAlone b m f p → IfSome (next_call m) (λ call. Answers call answer f → WentAlone m new f p (carried call f))
-  went-on (phases.Put own s id (puts.Publish x)) (answers.Published published.Created) new f p (to, goes, on) stands ((putting, known), (same, (at, untouched))) = λ told.
+  went-published : (own : OwnView) (s : TableSchema) (id : ℕ) (x : Publishing) (answer : Answer) (new : Phase) (f : Files) (p : Past)
+      → After (phases.Put own s id (puts.Publish x)) answer (Ok new) → Stands f p → KnewAlone b (phases.Put own s id (puts.Publish x)) f p
+      → Answers (publish_call x) answer f → WentAlone (phases.Put own s id (puts.Publish x)) new f p (carried (publish_call x) f)
+  went-published own s id x (answers.Published published.Created) new f p (to, goes, on) stands ((putting, known), (same, (at, untouched))) told =
       let is = putter-at own s id to puts.Published (Ok new) goes on in
       let leads = published-leads laws b.entry own s id x new f p is stands putting.0 known.0 known.1 told in
       let appended = leads.2.1 ∙ ap (with_entry b.entry) same in
@@ -221,19 +195,15 @@ module _ (laws : Laws) (causes : ReaderCauses) (parts : PathParts) (b : Beginnin
           subst (λ (m : Phase). AloneAt b m (carried (publish_call x) f) leads.0.history) (sym (ok-same new _ is)) (appended, (author, next, at.2)),
         ),
       )
-  went-on (phases.Put own s id (puts.Publish x)) (answers.Published published.Exists) new f p on stands known = λ told.
-      absurd (lost-never own s id x published.Exists f p stands known told tt)
-  went-on (phases.Put own s id (puts.Publish x)) (answers.Published published.AfterGone) new f p on stands known = λ told.
-      absurd (lost-never own s id x published.AfterGone f p stands known told tt)
-  went-on (phases.Names own s) answer new f p after stands known = went-calm (phases.Names own s) answer new f p tt after stands known
-  went-on (phases.View own m) answer new f p after stands known = went-calm (phases.View own m) answer new f p tt after stands known
-  went-on (phases.Search own q) answer new f p after stands known = went-calm (phases.Search own q) answer new f p tt after stands known
-  went-on (phases.Put own s id (puts.Create making)) answer new f p after stands known =
-      went-calm (phases.Put own s id (puts.Create making)) answer new f p tt after stands known
-  went-on (phases.Put own s id m) answer new f p (to, goes, on) stands known = absurd goes
-  went-on (phases.Committed author id) answer new f p after stands known = absurd after
-  went-on (phases.Already author) answer new f p after stands known = absurd after
-  went-on phases.Over answer new f p after stands known = absurd after
+  went-published own s id x (answers.Published answer) new f p (to, goes, on) stands known told = absurd (lost-never own s id x answer f p stands known told tt)
+  went-published own s id x answer new f p (to, goes, on) stands known told = absurd goes
+
+  went-on : (m : Phase) (answer : Answer) (new : Phase) (f : Files) (p : Past) → After m answer (Ok new) → Stands f p
+      → KnewAlone b m f p → IfSome (next_call m) (λ call. Answers call answer f → WentAlone m new f p (carried call f))
+  went-on m answer new f p after stands =
+      by-publish (λ m. After m answer (Ok new) → KnewAlone b m f p → IfSome (next_call m) (λ call. Answers call answer f → WentAlone m new f p (carried call f)))
+      (λ own s id x after known. went-published own s id x answer new f p after stands known)
+      (λ m calm after known. went-calm m answer new f p calm after stands known) m after
 
   -- a refusal that an answer shows
   abbrev RefusedAlone : Phase → Refusal → Files → Past → Files → Type 0
@@ -245,25 +215,21 @@ module _ (laws : Laws) (causes : ReaderCauses) (parts : PathParts) (b : Beginnin
       both_if (next_call m) _ _ _ (λ call makes caused told. (p, makes effects.Whole, caused told)) (makes-on laws b.entry m f p calm stands known.0.0 known.0.1)
       (calm-caused laws causes b m answer refusal f p calm stands known after)
 
+  refused-published : (own : OwnView) (s : TableSchema) (id : ℕ) (x : Publishing) (answer : Answer) (refusal : Refusal) (f : Files) (p : Past)
+      → After (phases.Put own s id (puts.Publish x)) answer (Err refusal) → Stands f p → KnewAlone b (phases.Put own s id (puts.Publish x)) f p
+      → Answers (publish_call x) answer f → ⊥
+  refused-published own s id x answer refusal f p (inl shown) stands known told = shown
+  refused-published own s id x (answers.Published published.Created) refusal f p (inr (to, goes, on)) stands known told =
+      err-ok refusal _ (putter-at own s id to puts.Published (Err refusal) goes on)
+  refused-published own s id x (answers.Published answer) refusal f p (inr (to, goes, on)) stands known told = lost-never own s id x answer f p stands known told tt
+  refused-published own s id x answer refusal f p (inr (to, goes, on)) stands known told = goes
+
   refused-on : (m : Phase) (answer : Answer) (refusal : Refusal) (f : Files) (p : Past) → After m answer (Err refusal) → Stands f p
       → KnewAlone b m f p → IfSome (next_call m) (λ call. Answers call answer f → RefusedAlone m refusal f p (carried call f))
-  refused-on (phases.Put own s id (puts.Publish x)) (answers.Published published.Created) refusal f p (inl shown) stands known = absurd shown
-  refused-on (phases.Put own s id (puts.Publish x)) (answers.Published published.Created) refusal f p (inr (to, goes, on)) stands known =
-      absurd (err-ok refusal _ (putter-at own s id to puts.Published (Err refusal) goes on))
-  refused-on (phases.Put own s id (puts.Publish x)) (answers.Published published.Exists) refusal f p on stands known = λ told.
-      absurd (lost-never own s id x published.Exists f p stands known told tt)
-  refused-on (phases.Put own s id (puts.Publish x)) (answers.Published published.AfterGone) refusal f p on stands known = λ told.
-      absurd (lost-never own s id x published.AfterGone f p stands known told tt)
-  refused-on (phases.Names own s) answer refusal f p after stands known = refused-calm (phases.Names own s) answer refusal f p tt after stands known
-  refused-on (phases.View own m) answer refusal f p after stands known = refused-calm (phases.View own m) answer refusal f p tt after stands known
-  refused-on (phases.Search own q) answer refusal f p after stands known = refused-calm (phases.Search own q) answer refusal f p tt after stands known
-  refused-on (phases.Put own s id (puts.Create making)) answer refusal f p after stands known =
-      refused-calm (phases.Put own s id (puts.Create making)) answer refusal f p tt after stands known
-  refused-on (phases.Put own s id m) answer refusal f p (inl shown) stands known = absurd shown
-  refused-on (phases.Put own s id m) answer refusal f p (inr (to, goes, on)) stands known = absurd goes
-  refused-on (phases.Committed author id) answer refusal f p after stands known = absurd after
-  refused-on (phases.Already author) answer refusal f p after stands known = absurd after
-  refused-on phases.Over answer refusal f p after stands known = absurd after
+  refused-on m answer refusal f p after stands =
+      by-publish (λ m. After m answer (Err refusal) → KnewAlone b m f p → IfSome (next_call m) (λ call. Answers call answer f → RefusedAlone m refusal f p (carried call f)))
+      (λ own s id x after known told. absurd (refused-published own s id x answer refusal f p after stands known told))
+      (λ m calm after known. refused-calm m answer refusal f p calm after stands known) m after
 
   -- a fault of the store
   abbrev FailedAlone : Phase → Call → Files → Past → Files → Type 0
@@ -274,9 +240,10 @@ module _ (laws : Laws) (causes : ReaderCauses) (parts : PathParts) (b : Beginnin
   failed-calm m effect f p some calm stands (known, alone) =
       IfSome_then (next_call m) (makes-on laws b.entry m f p calm stands known.0 known.1) (λ call makes. (p, makes effect, inl (calm-same b m f p.history some alone)))
 
-  failed-on : (m : Phase) (effect : Effect) (f : Files) (p : Past) → IsSome (next_call m) → Stands f p → KnewAlone b m f p
-      → IfSome (next_call m) (λ call. FailedAlone m call f p (after_effect call effect f))
-  failed-on (phases.Put own s id (puts.Publish x)) effect f p some stands ((putting, known), (same, (at, untouched))) =
+  failed-published : (own : OwnView) (s : TableSchema) (id : ℕ) (x : Publishing) (effect : Effect) (f : Files) (p : Past) → Stands f p
+      → KnewAlone b (phases.Put own s id (puts.Publish x)) f p
+      → FailedAlone (phases.Put own s id (puts.Publish x)) (publish_call x) f p (after_effect (publish_call x) effect f)
+  failed-published own s id x effect f p stands ((putting, known), (same, (at, untouched))) =
       let change = changes-on laws b.entry (phases.Put own s id (puts.Publish x)) f p stands putting known effect in
       let either = either-way b p.history change.0.history same change.1.appends in
       let last = try-last own b.entry s id x f p known.1 in (
@@ -287,17 +254,13 @@ module _ (laws : Laws) (causes : ReaderCauses) (parts : PathParts) (b : Beginnin
           | inr more ↦ inr (more, ap (λ (y : Publishing). y.path) last ∙ ap snapshot_path at.1)
         ],
       )
-  failed-on (phases.Names own s) effect f p some stands known = failed-calm (phases.Names own s) effect f p some tt stands known
-  failed-on (phases.View own m) effect f p some stands known = failed-calm (phases.View own m) effect f p some tt stands known
-  failed-on (phases.Search own q) effect f p some stands known = failed-calm (phases.Search own q) effect f p some tt stands known
-  failed-on (phases.Put own s id (puts.Create making)) effect f p some stands known =
-      failed-calm (phases.Put own s id (puts.Create making)) effect f p some tt stands known
-  failed-on (phases.Put own s id puts.Published) effect f p some stands known = tt
-  failed-on (phases.Put own s id puts.Lost) effect f p some stands known = tt
-  failed-on (phases.Put own s id puts.Over) effect f p some stands known = tt
-  failed-on (phases.Committed author id) effect f p some stands known = tt
-  failed-on (phases.Already author) effect f p some stands known = tt
-  failed-on phases.Over effect f p some stands known = tt
+
+  failed-on : (m : Phase) (effect : Effect) (f : Files) (p : Past) → IsSome (next_call m) → Stands f p → KnewAlone b m f p
+      → IfSome (next_call m) (λ call. FailedAlone m call f p (after_effect call effect f))
+  failed-on m effect f p some stands =
+      by-publish (λ m. IsSome (next_call m) → KnewAlone b m f p → IfSome (next_call m) (λ call. FailedAlone m call f p (after_effect call effect f)))
+      (λ own s id x some known. failed-published own s id x effect f p stands known)
+      (λ m calm some known. failed-calm m effect f p some calm stands known) m some
 
   has-call : {next : Option Call} {call : Call} → next ≡ Some call → IsSome next
   has-call is = subst (λ (next : Option Call). IsSome next) (sym is) refl

@@ -78,40 +78,36 @@ module _ (t : Naming) where
     data-counted s (n + 1) runs files rest,
   )
 
+  -- a manifest or a list, by its name
+  manifest-counted : (n : ℕ) (file : BasedFile) (path name : List ℕ) (names : Naming) → path ≡ codes "manifest" ++ 47 ∷ name
+      → name ≡ name_of (prefix_of file) (suffix_of file) names → names ≡ at n → IsCounted n path
+  manifest-counted n file path name names is named same = record {
+    folder = codes "manifest";
+    file = file;
+    is = is ∙ ap (λ (name : List ℕ). codes "manifest" ++ 47 ∷ name) (named ∙ ap (name_of (prefix_of file) (suffix_of file)) same);
+  }
+
   -- the manifest of a base list, and the names that it leaves
   base-counted : (s : TableSchema) (newest : Newest) (n : ℕ) (metas : List ManifestMeta) (files : List CommitFile) (left : Naming)
       → HasBase s newest (at n) metas files left → AreCounted n files × (left ≡ at (n + length files))
   base-counted s newest n metas files left (kept few) = (tt, ap at (let same : n ≡ n + 0 = omega arith in same))
   base-counted s newest n metas files left (empty many none) = (tt, ap at (let same : n ≡ n + 0 = omega arith in same))
   base-counted s newest n metas files left (merged m file many some made) =
-      ((record { folder = codes "manifest"; file = manifest; is = made.path ∙ ap (λ (name : List ℕ). codes "manifest" ++ 47 ∷ name) made.named }, tt), refl)
+      ((manifest-counted n manifest file.path m.name (at n) made.path made.named refl, tt), refl)
 
   module _ (s : TableSchema) (newest : Newest) (author : Author) (batch : Groups) (made : Append) (is : IsAppendOf s newest author batch t made) where
     -- the manifest of the new files, and the lists
     lists-counted : (n : ℕ) → is.are_manifests.left ≡ at n → AreCounted n is.are_manifests.list_files
     lists-counted n same =
         let are = is.are_manifests.are_lists in
+        let left : Naming = is.are_manifests.left in
         subst (AreCounted n) (sym are.are) (
-          record {
-            folder = codes "manifest";
-            file = manifest;
-            is = are.is_delta.path ∙ ap (λ (name : List ℕ). codes "manifest" ++ 47 ∷ name)
-                (are.is_delta.named ∙ ap (name_of (prefix_of manifest) (suffix_of manifest)) same);
-          },
+          manifest-counted n manifest are.delta_file.path are.delta.name left are.is_delta.path are.is_delta.named same,
           (
-            record {
-              folder = codes "manifest";
-              file = manifest_list;
-              is = are.is_delta_list.path ∙ ap (λ (name : List ℕ). codes "manifest" ++ 47 ∷ name)
-                  (are.is_delta_list.named ∙ ap (λ (names : Naming). name_of (prefix_of manifest_list) (suffix_of manifest_list) (counted names)) same);
-            },
+            manifest-counted (n + 1) manifest_list are.delta_list.path is.lists.delta (counted left) are.is_delta_list.path are.is_delta_list.named (ap counted same),
             (
-              record {
-                folder = codes "manifest";
-                file = manifest_list;
-                is = are.is_base_list.path ∙ ap (λ (name : List ℕ). codes "manifest" ++ 47 ∷ name)
-                    (are.is_base_list.named ∙ ap (λ (names : Naming). name_of (prefix_of manifest_list) (suffix_of manifest_list) (counted (counted names))) same);
-              },
+              manifest-counted (n + 1 + 1) manifest_list are.base_list.path is.lists.base (counted (counted left)) are.is_base_list.path are.is_base_list.named
+                  (ap (λ (names : Naming). counted (counted names)) same),
               tt,
             ),
           ),

@@ -1,5 +1,5 @@
 -- Which refusals a folder that stands can show a committer.
-use Rattle.std.proofs.Common.{◌≡◌, inl, inr, ℕ, ◌≤◌, Bool, true, false, List, [], ◌∷◌, length-append, Option, None, Some, IsSome, Result, Ok, Err, refl, sym, ap, ◌∙◌, subst, arith}
+use Rattle.std.proofs.Common.{◌≡◌, inl, inr, ℕ, ◌≤◌, List, [], ◌∷◌, length-append, Option, None, Some, IsSome, Result, Ok, Err, refl, sym, ap, ◌∙◌, subst, arith}
 use Rattle.std.specs.FinMap as map
 use Rattle.pm_values.specs.declared.refusal.Refusal.{Refusal}
 use Rattle.pm_values.specs.declared.refusal.Refusal.TheVariants as refusals
@@ -41,18 +41,17 @@ use Rattle.pm_read_table.specs.declared.phase.Phase.TheVariants as readers
 use Rattle.pm_read_table.specs.declared.view.View.{View}
 use Rattle.pm_read_table.proofs.Facts as reader_facts
 use Rattle.pm_read_table.proofs.FaultLemmas.{IsFileFault, file_fault}
-use Rattle.pm_commit.specs.Committer.{After, AfterPutter, AfterReader, Hears, IsCommitter, Loses, Makes, Reads, Refuses, Tries, TriesIf, found_in, manifests_call, newest_of, next_call}
+use Rattle.pm_commit.specs.Committer.{After, AfterPutter, AfterReader, IsCommitter, Loses, Makes, Reads, Refuses, found_in, manifests_call, newest_of, next_call}
 use Rattle.pm_commit.specs.Meaning.{HasOrigin, IsDenied, IsFoundIn, Knows, KnowsIn, MayRefuse, MayRefuseOwn}
 use Rattle.pm_commit.specs.Own.{OwnView, begun, begun_after}
-use Rattle.pm_commit.specs.Search.{older_ids, seen_in, seen_of}
-use Rattle.pm_commit.specs.declared.search.Seen.{Seen}
-use Rattle.pm_commit.specs.declared.search.Seen.TheVariants as seen
+use Rattle.pm_commit.specs.Search.{seen_of}
 use Rattle.pm_commit.specs.declared.found.Found.{Found}
 use Rattle.pm_commit.specs.declared.phase.Phase.{Phase}
 use Rattle.pm_commit.specs.declared.phase.Phase.TheVariants as phases
 use Rattle.pm_commit.proofs.Facts.{Laws}
-use Rattle.pm_commit.proofs.CommitterLemmas.{asked-same, err-ok}
+use Rattle.pm_commit.proofs.CommitterLemmas.{asked-same}
 use Rattle.pm_commit.proofs.OriginLemmas.{origin-on}
+use Rattle.pm_commit.proofs.OutcomeLemmas.{err-ok, heard-refused, read-refused, tried-refused}
 use Rattle.pm_commit.proofs.ReadsLemmas.{reads-on}
 use Rattle.pm_commit.proofs.TraceLemmas.{IsReason, is-reason, some-at}
 
@@ -121,21 +120,6 @@ denied-by own f p other is denied = absurd is
 forgotten : (own : OwnView) (f : Files) (p : Past) (refusal : Refusal) → refusal ≡ refusals.Memory → MayRefuseOwn own f p refusal
 forgotten own f p refusal memory = subst (MayRefuseOwn own f p) (sym memory) tt
 
--- nothing but a reason, or memory, keeps a search from its commit
-pub hears-any : (P : Type 0) (own : OwnView) (found : Found) (left : List ℕ) (said : Seen) (refusal : Refusal) → (Makes own found (Err refusal) → P)
-    → Hears own found left said (Err refusal) → P
-hears-any P own found [] seen.Other refusal make on = make on
-hears-any P own found (id ∷ left) seen.Other refusal make (few, is) = absurd (err-ok refusal _ is)
-hears-any P own found left seen.Below refusal make on = make on
-hears-any P own found left seen.Reached refusal make is = absurd (err-ok refusal _ is)
-
-pub tries-any : (P : Type 0) (own : OwnView) (v : View) (refusal : Refusal) → (Makes own (found_in v) (Err refusal) → P) → Tries own v (Err refusal) → P
-tries-any P own v refusal make = by_test own.check
-  where
-    by_test : (b : Bool) → TriesIf b own v (Err refusal) → P
-    by_test true on = hears-any P own (found_in v) (older_ids v.listed.items) (seen_in own.author v.snapshot) refusal make on
-    by_test false on = make on
-
 -- a try of a commit whose base is set
 make-caused : (own : OwnView) (found : Found) (f : Files) (p : Past) (refusal : Refusal) → IsFoundIn p found → Makes own found (Err refusal)
     → MayRefuseOwn own f p refusal
@@ -201,17 +185,10 @@ module _ (laws : Laws) (causes : ReaderCauses) (e : Entry) (call : Call) (answer
 
   ready-caused : (own : OwnView) (s : TableSchema) (m to : view_phase.Phase) → Reads m s → reader_meaning.Knows m f p → HasOrigin m → reader.next_call m ≡ Some call
       → Answers call answer f → reader.Goes m answer to → AfterReader own to (Err refusal) → MayRefuseOwn own f p refusal
-  ready-caused own s m (readers.List a) reads reading origin at told goes on = absurd (err-ok refusal _ on)
-  ready-caused own s m (readers.Origin q) reads reading origin at told goes on = absurd (err-ok refusal _ on)
-  ready-caused own s m (readers.Snapshot q id) reads reading origin at told goes on = absurd (err-ok refusal _ on)
-  ready-caused own s m (readers.Base q x) reads reading origin at told goes on = absurd (err-ok refusal _ on)
-  ready-caused own s m (readers.Delta q x base) reads reading origin at told goes on = absurd (err-ok refusal _ on)
-  ready-caused own s m (readers.Manifests r) reads reading origin at told goes on = absurd (err-ok refusal _ on)
-  ready-caused own s m (readers.Again a id path) reads reading origin at told goes on = absurd (err-ok refusal _ on)
-  ready-caused own s m (readers.Ready v) reads reading origin at told goes on =
-      tries-any (MayRefuseOwn own f p refusal) (begun v.id own) v refusal
-      (begin-caused own v.id (found_in v) f p refusal refl (view-found s m v reads reading origin at told goes)) on
-  ready-caused own s m readers.Over reads reading origin at told goes on = absurd (err-ok refusal _ on)
+  ready-caused own s m to reads reading origin at told goes on =
+      read-refused (MayRefuseOwn own f p refusal) (reader.Goes m answer) own refusal
+      (λ v goes on. tried-refused (MayRefuseOwn own f p refusal) (begun v.id own) v refusal
+      (begin-caused own v.id (found_in v) f p refusal refl (view-found s m v reads reading origin at told goes)) on) to goes on
 
 lost-caused : (own : OwnView) (s : TableSchema) (id : ℕ) (f : Files) (p : Past) (refusal : Refusal) → Loses own s id (Err refusal) → MayRefuseOwn own f p refusal
 lost-caused own s id f p refusal (last, is) =
@@ -220,11 +197,8 @@ lost-caused own s id f p refusal (last, is) =
 
 putter-caused : (own : OwnView) (s : TableSchema) (id : ℕ) (to : put_phase.Phase) (f : Files) (p : Past) (refusal : Refusal) → AfterPutter own s id to (Err refusal)
     → MayRefuseOwn own f p refusal
-putter-caused own s id (puts.Create making) f p refusal on = absurd (err-ok refusal _ on)
-putter-caused own s id (puts.Publish x) f p refusal on = absurd (err-ok refusal _ on)
-putter-caused own s id puts.Published f p refusal on = absurd (err-ok refusal _ on)
 putter-caused own s id puts.Lost f p refusal on = lost-caused own s id f p refusal on
-putter-caused own s id puts.Over f p refusal on = absurd (err-ok refusal _ on)
+putter-caused own s id to f p refusal on = absurd (err-ok refusal _ on)
 
 -- what an answer that shows a refusal needs
 caused-on : (laws : Laws) (causes : ReaderCauses) (e : Entry) (m : Phase) (call : Call) (answer : Answer) (refusal : Refusal) (f : Files) (p : Past)
@@ -243,7 +217,7 @@ caused-on laws causes e (phases.Search own q) call (answers.Found (Some bytes)) 
     absurd (good-snapshot f p q.found.schema q.id bytes stands known.is_table ids.0.0 ids.0.1
     (told-at (calls.Read (snapshot_path q.id)) call (answers.Found (Some bytes)) f at told) bad)
 caused-on laws causes e (phases.Search own q) call (answers.Found (Some bytes)) refusal f p stands is (known, is_found) at told (inr (inr (x, reads, on))) =
-    hears-any (MayRefuseOwn own f p refusal) own q.found q.left (seen_of own.author x) refusal (make-caused own q.found f p refusal is_found) on
+    heard-refused (MayRefuseOwn own f p refusal) own q.found q.left (seen_of own.author x) refusal (λ free on. make-caused own q.found f p refusal is_found on) on
 caused-on laws causes e (phases.Put own s id (puts.Create making)) call (answers.Made created.Exists) refusal f p stands is known at told (inl shown) =
     subst (MayRefuseOwn own f p) (sym shown)
     (inr (met-at (map.get f making.next.path) (told-at (create_call making.next) call (answers.Made created.Exists) f at told)))

@@ -11,7 +11,7 @@ use Rattle.pm_manifest.specs.declared.entry.Entry as files
 use Rattle.pm_manifest.specs.declared.entry.ManifestMeta.{ManifestMeta}
 use Rattle.pm_model_contents.specs.Lists.{HaveEntries, IsManifest, manifest_path}
 use Rattle.pm_model_contents.specs.Named as named
-use Rattle.pm_model_contents.specs.Named.{Contents, HasContents, IsNamed}
+use Rattle.pm_model_contents.specs.Named.{Contents, IsNamed}
 use Rattle.pm_model_folder.specs.Commits.{HasCommit}
 use Rattle.pm_model_folder.specs.Ledger.{Past, Stands, count_of}
 use Rattle.pm_model_folder.specs.Meaning.{HasSnapshotAt}

@@ -1,8 +1,7 @@
 -- What an answer leads to is a committer.
-use Rattle.std.proofs.Common.{◌≡◌, inl, inr, ℕ, ◌+◌, ◌<◌, ◌≤◌, Bool, true, false, List, [], ◌∷◌, ◌++◌, drop, reverse, length, length-append, None, Some, Ok, Err, refl, sym, ap, subst, arith}
+use Rattle.std.proofs.Common.{◌≡◌, inl, inr, ℕ, ◌+◌, ◌<◌, ◌≤◌, List, [], ◌∷◌, ◌++◌, drop, reverse, length, length-append, None, Some, Ok, IfOk, refl, sym, ap, subst, arith}
 use mathlib.Core.List.{reverse-cons}
 use Rattle.pm_base.proofs.Laws.{AllByRecursion-append}
-use Rattle.pm_values.specs.declared.refusal.Refusal.{Refusal}
 use Rattle.pm_snapshot.specs.Names.{greatest}
 use Rattle.pm_store.specs.declared.answer.Answer.{Answer}
 use Rattle.pm_store.specs.declared.answer.Answer.TheVariants as answers
@@ -15,11 +14,10 @@ use Rattle.pm_read_table.specs.declared.view.View.{View}
 use Rattle.pm_append.specs.Files.{IsAppendOf}
 use Rattle.pm_append.specs.declared.newest.Append.{Append}
 use Rattle.pm_put.specs.declared.putting.CommitFile.{CommitFile}
-use Rattle.pm_commit.specs.Committer.{AreIds, After, AfterPutter, AfterReader, Hears, IsCommitter, IsPutting, Makes, MayMake, Outcome, Reads, Seeks, Tries, TriesIf, first_of_try, found_in, newest_of, publishing_of}
+use Rattle.pm_commit.specs.Committer.{AreIds, After, AfterPutter, AfterReader, Hears, IsCommitter, IsPutting, Makes, MayMake, Outcome, Reads, Tries, first_of_try, found_in, newest_of, publishing_of}
 use Rattle.pm_commit.specs.Own.{IsOwn, IsTried, OwnView, begun, begun_after, most_files, tries, with_lost, with_named}
 use Rattle.pm_commit.specs.Search.{older_ids, seen_in, seen_of}
 use Rattle.pm_commit.specs.declared.search.Seen.{Seen}
-use Rattle.pm_commit.specs.declared.search.Seen.TheVariants as seen
 use Rattle.pm_commit.specs.declared.found.Found.{Found}
 use Rattle.pm_put.proofs.Facts as put_facts
 use Rattle.pm_put.specs.Putter as put
@@ -29,23 +27,25 @@ use Rattle.pm_put.specs.declared.putting.Publishing.{Publishing}
 use Rattle.pm_commit.specs.declared.phase.Phase.{Phase}
 use Rattle.pm_commit.specs.declared.phase.Phase.TheVariants as phases
 use Rattle.pm_commit.proofs.MadeLemmas.{made-few}
+use Rattle.pm_commit.proofs.OutcomeLemmas.{heard, ok-same, read-on, tried}
 use Rattle.pm_commit.proofs.ReadsLemmas.{EntriesRead, IsOn, reads-on}
 
 -- ---- what is known of a commit
 
-pub begun-own : (s : TableSchema) (own : OwnView) (n : ℕ) → IsOwn s own → IsOwn s (begun n own)
-begun-own s own n is = at own.lost
+-- its first try sets its base, and no later one
+pub begun-at : (P : OwnView → Type 0) (own : OwnView) (n : ℕ) → P own → P (begun_after [] n own) → P (begun n own)
+begun-at P own n stays sets = at own.lost
   where
-    at : (lost : List ℕ) → IsOwn s (begun_after lost n own)
-    at [] = record { built = is.built; folders = is.folders; one_group = is.one_group; same_base = refl; within = is.within; named = is.named }
-    at (id ∷ lost) = is
+    at : (lost : List ℕ) → P (begun_after lost n own)
+    at [] = sets
+    at (id ∷ lost) = stays
+
+pub begun-own : (s : TableSchema) (own : OwnView) (n : ℕ) → IsOwn s own → IsOwn s (begun n own)
+begun-own s own n is = begun-at (IsOwn s) own n is
+    (record { built = is.built; folders = is.folders; one_group = is.one_group; same_base = refl; within = is.within; named = is.named })
 
 pub begun-lost : (own : OwnView) (n : ℕ) → (begun n own).lost ≡ own.lost
-begun-lost own n = at own.lost
-  where
-    at : (lost : List ℕ) → (begun_after lost n own).lost ≡ own.lost
-    at [] = refl
-    at (id ∷ lost) = refl
+begun-lost own n = begun-at (λ o. o.lost ≡ own.lost) own n refl refl
 
 pub made-tried : (own : OwnView) (found : Found) (made : Append) → IsAppendOf found.schema found.newest own.author own.batch own.names made → IsOwn found.schema own
     → IsTried found.schema (with_named (own.names.count + length made.files.items) own)
@@ -73,19 +73,7 @@ lost-own s own id left tried =
       named = (let count = tried.named in omega (arith, longer, count));
     }
 
--- ---- outcomes
-
-pub ok-same : (a b : Phase) → ◌≡◌ {A = Outcome} (Ok a) (Ok b) → a ≡ b
-ok-same a b e = cc
-
-pub err-same : (a b : Refusal) → ◌≡◌ {A = Outcome} (Err a) (Err b) → a ≡ b
-err-same a b e = cc
-
-pub ok-err : (a : Phase) (b : Refusal) → ◌≡◌ {A = Outcome} (Ok a) (Err b) → ⊥
-ok-err a b e = cc
-
-pub err-ok : (a : Refusal) (b : Phase) → ◌≡◌ {A = Outcome} (Err a) (Ok b) → ⊥
-err-ok a b e = cc
+-- ---- what is asked
 
 pub asked-same : (a b : Asked) → Some a ≡ Some b → a ≡ b
 asked-same a b e = cc
@@ -123,15 +111,11 @@ makes-committer own found later own_of (made, is_made, allowed, is) =
     (put-committer (with_named (own.names.count + length made.files.items) own) found.schema made.id (publishing_of found.schema made.id made.text) made.files.items
     (made-tried own found made is_made own_of) (omega (arith, few, one)))
 
-seeks-committer : (own : OwnView) (found : Found) (left : List ℕ) (later : Phase) → MayMake own found → AreIds left → Seeks own found left (Ok later) → IsCommitter later
-seeks-committer own found [] later may ids on = makes-committer own found later may.own_of on
-seeks-committer own found (id ∷ left) later may ids (few, is) = subst IsCommitter (sym (ok-same later _ is)) (may, few, ids)
-
 hears-committer : (own : OwnView) (found : Found) (left : List ℕ) (said : Seen) (later : Phase) → MayMake own found → AreIds left → Hears own found left said (Ok later)
     → IsCommitter later
-hears-committer own found left seen.Other later may ids on = seeks-committer own found left later may ids on
-hears-committer own found left seen.Below later may ids on = makes-committer own found later may.own_of on
-hears-committer own found left seen.Reached later may ids is = subst IsCommitter (sym (ok-same later _ is)) tt
+hears-committer own found left said later may ids on =
+    heard (λ (o : Outcome). IfOk o IsCommitter) own found left said (Ok later) (λ free on. makes-committer own found later may.own_of on)
+    (λ id rest other is few. (may, few, subst AreIds is ids)) (λ reached. tt) on
 
 pub ready-may : (own : OwnView) (v : View) (s : TableSchema) → Reads (readers.Ready v) s → IsOwn s own → MayMake (begun v.id own) (found_in v)
 ready-may own v s reads own_of = record {
@@ -140,29 +124,15 @@ ready-may own v s reads own_of = record {
 }
 
 tries-committer : (own : OwnView) (v : View) (later : Phase) → MayMake own (found_in v) → AreIds v.listed.items → Tries own v (Ok later) → IsCommitter later
-tries-committer own v later may ids = by_test own.check
-  where
-    by_test : (b : Bool) → TriesIf b own v (Ok later)
-        → IsCommitter later
-    by_test true on = hears-committer own (found_in v) (older_ids v.listed.items) (seen_in own.author v.snapshot) later may (older-are v.listed.items ids) on
-    by_test false on = makes-committer own (found_in v) later may.own_of on
-
-view-committer : (own : OwnView) (s : TableSchema) (m : view_phase.Phase) (later : Phase) → (reader.IsReady m → ⊥) → IsOn s m → IsOwn s own
-    → ◌≡◌ {A = Outcome} (Ok later) (Ok (phases.View own m)) → IsCommitter later
-view-committer own s m later none on own_of is =
-    let left : 0 < reader.calls_left m = elim (on.left) as (λ _. 0 < reader.calls_left m) [ inl ready ↦ absurd (none ready) | inr left ↦ left ] in
-    subst IsCommitter (sym (ok-same later (phases.View own m) is)) (left, (s, on.reads, own_of))
+tries-committer own v later may ids on =
+    tried (IsCommitter later) own v (Ok later) (λ unasked on. makes-committer own (found_in v) later may.own_of on)
+    (λ asked on. hears-committer own (found_in v) (older_ids v.listed.items) (seen_in own.author v.snapshot) later may (older-are v.listed.items ids) on) on
 
 reader-committer : (own : OwnView) (s : TableSchema) (m : view_phase.Phase) (later : Phase) → IsOn s m → IsOwn s own → AfterReader own m (Ok later) → IsCommitter later
-reader-committer own s (readers.List a) later on own_of is = view-committer own s (readers.List a) later (λ none. none) on own_of is
-reader-committer own s (readers.Origin q) later on own_of is = view-committer own s (readers.Origin q) later (λ none. none) on own_of is
-reader-committer own s (readers.Snapshot q id) later on own_of is = view-committer own s (readers.Snapshot q id) later (λ none. none) on own_of is
-reader-committer own s (readers.Base q x) later on own_of is = view-committer own s (readers.Base q x) later (λ none. none) on own_of is
-reader-committer own s (readers.Delta q x base) later on own_of is = view-committer own s (readers.Delta q x base) later (λ none. none) on own_of is
-reader-committer own s (readers.Manifests r) later on own_of is = view-committer own s (readers.Manifests r) later (λ none. none) on own_of is
-reader-committer own s (readers.Again a id path) later on own_of is = view-committer own s (readers.Again a id path) later (λ none. none) on own_of is
-reader-committer own s (readers.Ready v) later on own_of tried = tries-committer (begun v.id own) v later (ready-may own v s on.reads own_of) on.reads.ids tried
-reader-committer own s readers.Over later on own_of is = view-committer own s readers.Over later (λ none. none) on own_of is
+reader-committer own s m later on own_of after =
+    read-on (λ (o : Outcome). IfOk o IsCommitter) (IsOn s) own (Ok later)
+    (λ v on tries. tries-committer (begun v.id own) v later (ready-may own v s on.reads own_of) on.reads.ids tries)
+    (λ m none on. (elim (on.left) as (λ _. 0 < reader.calls_left m) [ inl ready ↦ absurd (none ready) | inr left ↦ left ], (s, on.reads, own_of))) m on after
 
 first-committer : (own : OwnView) (s : TableSchema) (later : Phase) → IsOwn s own → later ≡ first_of_try own s → IsCommitter later
 first-committer own s later own_of is = subst IsCommitter (sym is) (omega arith, (s, record { asked = refl; numbers = tt; ids = tt }, own_of))
@@ -174,16 +144,13 @@ as-putting own s id m later tried some few is = subst IsCommitter (sym (ok-same 
 
 putter-committer : (own : OwnView) (s : TableSchema) (id : ℕ) (m to : put_phase.Phase) (answer : Answer) (later : Phase) → IsPutting s own m → put.Goes m answer to
     → AfterPutter own s id to (Ok later) → IsCommitter later
-putter-committer own s id m (puts.Create making) answer later (tried, some, few) goes is =
-    let on = put_facts.goes m answer (puts.Create making) goes in
-    let fewer = on.0 in
-    as-putting own s id (puts.Create making) later tried on.1 (omega (arith, fewer, few)) is
-putter-committer own s id m (puts.Publish x) answer later (tried, some, few) goes is = as-putting own s id (puts.Publish x) later tried (omega arith) (omega arith) is
 putter-committer own s id m puts.Published answer later (tried, some, few) goes is = subst IsCommitter (sym (ok-same later _ is)) tt
 putter-committer own s id m puts.Lost answer later (tried, some, few) goes (left, is) =
     first-committer (with_lost id own) s later (lost-own s own id left tried) is
-putter-committer own s id m puts.Over answer later (tried, some, few) goes is =
-    let none : 0 < 0 = (put_facts.goes m answer puts.Over goes).1 in absurd (omega (arith, none))
+putter-committer own s id m to answer later (tried, some, few) goes is =
+    let on = put_facts.goes m answer to goes in
+    let fewer = on.0 in
+    as-putting own s id to later tried on.1 (omega (arith, fewer, few)) is
 
 pub still-committer : EntriesRead → (m : Phase) (answer : Answer) (later : Phase) → IsCommitter m → After m answer (Ok later) → IsCommitter later
 still-committer law (phases.Names own s) (answers.Listed names) later own_of (none, is) = first-committer own s later own_of is

@@ -1,5 +1,5 @@
 -- A committer keeps the laws of machines.
-use Rattle.std.proofs.Common.{◌≡◌, inr, ℕ, ◌+◌, List, [], ◌∷◌, codes, None, Some, IfSome, Ok, Err, refl, sym, ap, ◌∙◌, subst, arith}
+use Rattle.std.proofs.Common.{◌≡◌, inr, ℕ, ◌+◌, List, [], ◌∷◌, codes, None, Some, IfSome, Ok, Err, IfOk, refl, sym, ap, ◌∙◌, subst, arith}
 use Rattle.std.specs.FinMap as map
 use Rattle.std.proofs.lemmas.Option.{IfSome_then}
 use Rattle.pm_values.specs.declared.refusal.Refusal.{Refusal}
@@ -49,12 +49,13 @@ use Rattle.pm_put.specs.declared.putting.Publishing.{Publishing}
 use Rattle.pm_commit.specs.declared.phase.Phase.{Phase}
 use Rattle.pm_commit.specs.declared.phase.Phase.TheVariants as phases
 use Rattle.pm_commit.proofs.AdvanceLemmas.{NamedPaths}
-use Rattle.pm_commit.proofs.CommitterLemmas.{asked-same, begun-own, err-ok, ok-same, ready-schema, still-committer}
+use Rattle.pm_commit.proofs.CommitterLemmas.{asked-same, begun-own, ready-schema, still-committer}
 use Rattle.pm_commit.proofs.CreateLemmas.{create-makes, created-try}
 use Rattle.pm_commit.proofs.StillLemmas.{OwnFiles}
 use Rattle.pm_commit.proofs.FoundLemmas.{LiveEntries}
 use Rattle.pm_commit.proofs.KnownLemmas.{begun-known, count-bound, hears-known, lost-known, makes-known, tries-known, view-within}
 use Rattle.pm_commit.proofs.OriginLemmas.{origin-on}
+use Rattle.pm_commit.proofs.OutcomeLemmas.{err-ok, ok-same, read-on}
 use Rattle.pm_commit.proofs.PublishLemmas.{AppendsTry, IsNewest, NamesNone, own-same, publish-makes, published-whole}
 use Rattle.pm_commit.proofs.ReadsLemmas.{EntriesRead, reads-on}
 
@@ -79,6 +80,12 @@ abbrev pub NoPublish : Phase → Type 0
 NoPublish (phases.Put own s id (puts.Publish x)) = ⊥
 NoPublish m = Unit {0}
 
+-- it is that phase or another
+pub by-publish : (P : Phase → Type 0) → ((own : OwnView) (s : TableSchema) (id : ℕ) (x : Publishing) → P (phases.Put own s id (puts.Publish x)))
+    → ((m : Phase) → NoPublish m → P m) → (m : Phase) → P m
+by-publish P publish calm (phases.Put own s id (puts.Publish x)) = publish own s id x
+by-publish P publish calm m = calm m tt
+
 still : (own : OwnView) (e : Entry) (f after : Files) (p : Past) → after ≡ f → MakesOwn own e f p after p
 still own e f after p same = own-same own e f after p (λ q. ap (λ (g : Files). map.get g q) same)
 
@@ -96,11 +103,6 @@ next-not own s id x files to refusal is on = at files (putter-at own s id to (pu
     at [] on = err-ok refusal _ on
     at (file ∷ files) on = err-ok refusal _ on
 
--- what was made with the history as it is
-at-past : (own : OwnView) (e : Entry) (call : Call) (f : Files) (p : Past)
-    → ((effect : Effect) → MakesOwn own e f p (after_effect call effect f) p) → Changes (MakesOwn own e) call f p
-at-past own e call f p makes effect = (p, makes effect)
-
 module _ (laws : Laws) (e : Entry) where
   -- before the publish the history stays
   pub makes-on : (m : Phase) (f : Files) (p : Past) → NoPublish m → Stands f p → IsCommitter m → KnowsIn e m f p
@@ -114,12 +116,7 @@ module _ (laws : Laws) (e : Entry) where
       create-makes laws.own_files own e s id making f p tried known is_try (after_effect (create_call making.next) effect f)
       (put_facts.call_makes (puts.Create making) f effect)
   makes-on (phases.Put own s id (puts.Publish x)) f p calm stands is known = absurd calm
-  makes-on (phases.Put own s id puts.Published) f p calm stands is known = tt
-  makes-on (phases.Put own s id puts.Lost) f p calm stands is known = tt
-  makes-on (phases.Put own s id puts.Over) f p calm stands is known = tt
-  makes-on (phases.Committed author id) f p calm stands is known = tt
-  makes-on (phases.Already author) f p calm stands is known = tt
-  makes-on phases.Over f p calm stands is known = tt
+  makes-on m f p calm stands is known = tt
 
   -- the publish appends, or leaves the history
   publish-changes : (own : OwnView) (s : TableSchema) (id : ℕ) (x : Publishing) (f : Files) (p : Past) → Stands f p → IsTried s own → KnowsOwn own e s p
@@ -129,19 +126,10 @@ module _ (laws : Laws) (e : Entry) where
       (after_effect (publish_call x) effect f) (put_facts.call_makes (puts.Publish x) f effect)
 
   pub changes-on : (m : Phase) (f : Files) (p : Past) → Stands f p → IsCommitter m → KnowsIn e m f p → IfSome (next_call m) (λ call. Changes (MakesEntry e m) call f p)
-  changes-on (phases.Names own s) f p stands is known = at-past own e manifests_call f p (makes-on (phases.Names own s) f p tt stands is known)
-  changes-on (phases.View own m) f p stands is known =
-      IfSome_then (reader.next_call m) (makes-on (phases.View own m) f p tt stands is known) (λ call makes. at-past own e call f p makes)
-  changes-on (phases.Search own q) f p stands is known = at-past own e (calls.Read (snapshot_path q.id)) f p (makes-on (phases.Search own q) f p tt stands is known)
-  changes-on (phases.Put own s id (puts.Create making)) f p stands is known =
-      at-past own e (create_call making.next) f p (makes-on (phases.Put own s id (puts.Create making)) f p tt stands is known)
-  changes-on (phases.Put own s id (puts.Publish x)) f p stands is (known, is_try) = publish-changes own s id x f p stands is.0 known is_try
-  changes-on (phases.Put own s id puts.Published) f p stands is known = tt
-  changes-on (phases.Put own s id puts.Lost) f p stands is known = tt
-  changes-on (phases.Put own s id puts.Over) f p stands is known = tt
-  changes-on (phases.Committed author id) f p stands is known = tt
-  changes-on (phases.Already author) f p stands is known = tt
-  changes-on phases.Over f p stands is known = tt
+  changes-on m f p stands =
+      by-publish (λ m. IsCommitter m → KnowsIn e m f p → IfSome (next_call m) (λ call. Changes (MakesEntry e m) call f p))
+      (λ own s id x is known. publish-changes own s id x f p stands is.0 known.0 known.1)
+      (λ m calm is known. IfSome_then (next_call m) (makes-on m f p calm stands is known) (λ call makes effect. (p, makes effect))) m
 
   -- ---- what it knows
 
@@ -160,22 +148,11 @@ module _ (laws : Laws) (e : Entry) where
       let is_found : IsFoundIn p (found_in v) = record { view = v; is = refl; wanted = wanted; stood = stood; origin = origin } in
       tries-known e g p (begun v.id own) v new begun_of begun_is is_found tried
 
-  as-known : (own : OwnView) (s : TableSchema) (m : view_phase.Phase) (new : Phase) (g : Files) (p : Past) → Reads m s → KnowsOwn own e s p
-      → reader_meaning.Knows m g p → HasOrigin m → ◌≡◌ {A = Outcome} (Ok new) (Ok (phases.View own m)) → KnowsIn e new g p
-  as-known own s m new g p reads known reading origin is =
-      subst (λ (m : Phase). KnowsIn e m g p) (sym (ok-same new (phases.View own m) is)) (s, reads, known, reading, origin)
-
   reader-known : (own : OwnView) (s : TableSchema) (m : view_phase.Phase) (new : Phase) (f g : Files) (p : Past) → Stands f p → Reads m s → IsOwn s own
       → KnowsOwn own e s p → reader_meaning.Knows m g p → HasOrigin m → AfterReader own m (Ok new) → KnowsIn e new g p
-  reader-known own s (readers.List a) new f g p stands reads own_of known reading origin is = as-known own s (readers.List a) new g p reads known reading origin is
-  reader-known own s (readers.Origin q) new f g p stands reads own_of known reading origin is = as-known own s (readers.Origin q) new g p reads known reading origin is
-  reader-known own s (readers.Snapshot q id) new f g p stands reads own_of known reading origin is = as-known own s (readers.Snapshot q id) new g p reads known reading origin is
-  reader-known own s (readers.Base q x) new f g p stands reads own_of known reading origin is = as-known own s (readers.Base q x) new g p reads known reading origin is
-  reader-known own s (readers.Delta q x base) new f g p stands reads own_of known reading origin is = as-known own s (readers.Delta q x base) new g p reads known reading origin is
-  reader-known own s (readers.Manifests r) new f g p stands reads own_of known reading origin is = as-known own s (readers.Manifests r) new g p reads known reading origin is
-  reader-known own s (readers.Again a id path) new f g p stands reads own_of known reading origin is = as-known own s (readers.Again a id path) new g p reads known reading origin is
-  reader-known own s (readers.Ready v) new f g p stands reads own_of known reading origin tried = ready-known own s v new f g p stands reads own_of known reading origin tried
-  reader-known own s readers.Over new f g p stands reads own_of known reading origin is = as-known own s readers.Over new g p reads known reading origin is
+  reader-known own s m new f g p stands reads own_of known reading origin on =
+      read-on (λ (o : Outcome). IfOk o (λ m. KnowsIn e m g p)) (λ m. Reads m s × reader_meaning.Knows m g p × HasOrigin m) own (Ok new)
+      (λ v has on. ready-known own s v new f g p stands has.0 own_of known has.1 has.2 on) (λ m none has. (s, has.0, known, has.1, has.2)) m (reads, reading, origin) on
 
   -- its putter goes on
   pub next-on : (own : OwnView) (s : TableSchema) (id : ℕ) (x : Publishing) (files : List CommitFile) (to : put_phase.Phase) (new : Phase)
@@ -273,30 +250,28 @@ module _ (laws : Laws) (e : Entry) where
   leads-at : (own : OwnView) (new : Phase) (f after : Files) (p : Past) → Keeps own new f p after → Leads (MakesOwn own e) (KnowsIn e new) f p after
   leads-at own new f after p (makes, known) = (p, makes, known)
 
-  leads-on : (m : Phase) (answer : Answer) (new : Phase) (f : Files) (p : Past) → After m answer (Ok new) → Stands f p → IsCommitter m → KnowsIn e m f p
-      → IfSome (next_call m) (λ call. Answers call answer f → Leads (MakesEntry e m) (KnowsIn e new) f p (carried call f))
-  leads-on (phases.Put own s id (puts.Publish x)) (answers.Published published.Created) new f p (to, goes, on) stands putting (known, is_try) = λ told.
-      let leads = published-leads own s id x new f p (putter-at own s id to puts.Published (Ok new) goes on) stands putting.0 known is_try told in
+  publish-leads : (own : OwnView) (s : TableSchema) (id : ℕ) (x : Publishing) (answer : Answer) (new : Phase) (f : Files) (p : Past)
+      → After (phases.Put own s id (puts.Publish x)) answer (Ok new) → Stands f p → IsTried s own → KnowsOwn own e s p × KnowsTry own e s id (puts.Publish x) f p
+      → Answers (publish_call x) answer f → Leads (MakesOwn own e) (KnowsIn e new) f p (carried (publish_call x) f)
+  publish-leads own s id x (answers.Published published.Created) new f p (to, goes, on) stands tried (known, is_try) told =
+      let leads = published-leads own s id x new f p (putter-at own s id to puts.Published (Ok new) goes on) stands tried known is_try told in
       (leads.0, leads.1, leads.2.0)
-  leads-on (phases.Put own s id (puts.Publish x)) (answers.Published published.Exists) new f p (to, goes, on) stands putting (known, is_try) = λ told.
+  publish-leads own s id x (answers.Published published.Exists) new f p (to, goes, on) stands tried (known, is_try) told =
       leads-at own new f (carried (publish_call x) f) p
       (lost-leads own s id x published.Exists new f p tt (putter-at own s id to puts.Lost (Ok new) goes on) known told)
-  leads-on (phases.Put own s id (puts.Publish x)) (answers.Published published.AfterGone) new f p (to, goes, on) stands putting (known, is_try) = λ told.
+  publish-leads own s id x (answers.Published published.AfterGone) new f p (to, goes, on) stands tried (known, is_try) told =
       leads-at own new f (carried (publish_call x) f) p
       (lost-leads own s id x published.AfterGone new f p tt (putter-at own s id to puts.Lost (Ok new) goes on) known told)
-  leads-on (phases.Names own s) answer new f p after stands committer known = λ told.
-      leads-at own new f (carried manifests_call f) p (keeps-on (phases.Names own s) answer new f p tt after stands committer known told)
-  leads-on (phases.View own m) answer new f p after stands committer known =
-      IfSome_then (reader.next_call m) (keeps-on (phases.View own m) answer new f p tt after stands committer known)
-      (λ call keeps told. leads-at own new f (carried call f) p (keeps told))
-  leads-on (phases.Search own q) answer new f p after stands committer known = λ told.
-      leads-at own new f (carried (calls.Read (snapshot_path q.id)) f) p (keeps-on (phases.Search own q) answer new f p tt after stands committer known told)
-  leads-on (phases.Put own s id (puts.Create making)) answer new f p after stands committer known = λ told.
-      leads-at own new f (carried (create_call making.next) f) p (keeps-on (phases.Put own s id (puts.Create making)) answer new f p tt after stands committer known told)
-  leads-on (phases.Put own s id m) answer new f p (to, goes, on) stands committer known = absurd goes
-  leads-on (phases.Committed author id) answer new f p after stands committer known = absurd after
-  leads-on (phases.Already author) answer new f p after stands committer known = absurd after
-  leads-on phases.Over answer new f p after stands committer known = absurd after
+  publish-leads own s id x answer new f p (to, goes, on) stands tried known told = absurd goes
+
+  leads-on : (m : Phase) (answer : Answer) (new : Phase) (f : Files) (p : Past) → After m answer (Ok new) → Stands f p → IsCommitter m → KnowsIn e m f p
+      → IfSome (next_call m) (λ call. Answers call answer f → Leads (MakesEntry e m) (KnowsIn e new) f p (carried call f))
+  leads-on m answer new f p after stands =
+      by-publish (λ m. After m answer (Ok new) → IsCommitter m → KnowsIn e m f p
+      → IfSome (next_call m) (λ call. Answers call answer f → Leads (MakesEntry e m) (KnowsIn e new) f p (carried call f)))
+      (λ own s id x after is known. publish-leads own s id x answer new f p after stands is.0 known)
+      (λ m calm after is known. IfSome_then (next_call m) (keeps-on m answer new f p calm after stands is known)
+      (λ call keeps told. (let kept = keeps told in (p, kept.0, kept.1)))) m after
 
   -- ---- a machine
 

@@ -1,5 +1,5 @@
 -- What a committer knows after an answer.
-use Rattle.std.proofs.Common.{◌≡◌, inr, ℕ, ◌+◌, ◌^◌, ◌<◌, ◌≤◌, Bool, true, false, List, [], ◌∷◌, length, Ok, refl, sym, ap, ◌∙◌, subst, arith}
+use Rattle.std.proofs.Common.{◌≡◌, inr, ℕ, ◌+◌, ◌^◌, ◌<◌, ◌≤◌, List, length, Ok, IfOk, refl, sym, ap, ◌∙◌, subst, arith}
 use Rattle.pm_store.specs.Files.{Files}
 use Rattle.pm_model_history.specs.History.{Entry, History, IsTableOf, entry_rows, no_table, table}
 use Rattle.pm_schema.specs.declared.schema.TableSchema.{TableSchema}
@@ -10,16 +10,17 @@ use Rattle.pm_read_table.specs.Meaning.{IsViewIn, view_origin, view_snapshot}
 use Rattle.pm_read_table.specs.declared.view.View.{View}
 use Rattle.pm_append.specs.Commit.{Attempt}
 use Rattle.pm_append.specs.declared.newest.Author.{Author}
-use Rattle.pm_commit.specs.Committer.{Hears, Makes, Seeks, Tries, TriesIf, found_in, put_of}
+use Rattle.pm_commit.specs.Committer.{Hears, Makes, Outcome, Tries, found_in, put_of}
 use Rattle.pm_commit.specs.Meaning.{AreThere, HasEarlier, IsFoundIn, KnowsIn, KnowsOwn}
-use Rattle.pm_commit.specs.Own.{IsOwn, OwnView, begun, begun_after, with_lost, with_named}
+use Rattle.pm_commit.specs.Own.{IsOwn, OwnView, begun, with_lost, with_named}
 use Rattle.pm_commit.specs.Search.{older_ids, seen_in}
 use Rattle.pm_commit.specs.declared.search.Seen.{Seen}
 use Rattle.pm_commit.specs.declared.search.Seen.TheVariants as seen
 use Rattle.pm_commit.specs.declared.found.Found.{Found}
 use Rattle.pm_put.proofs.Facts.{at_first}
 use Rattle.pm_commit.specs.declared.phase.Phase.{Phase}
-use Rattle.pm_commit.proofs.CommitterLemmas.{made-tried, ok-same}
+use Rattle.pm_commit.proofs.CommitterLemmas.{begun-at, made-tried}
+use Rattle.pm_commit.proofs.OutcomeLemmas.{heard, tried}
 
 -- ---- the history
 
@@ -35,27 +36,23 @@ count-bound f p s stands is = at p.history is stands.folder
 
 module _ (e : Entry) (s : TableSchema) (p : Past) where
   pub begun-known : (own : OwnView) (n : ℕ) → n ≤ count_of p.history → n ≤ greatest → KnowsOwn own e s p → KnowsOwn (begun n own) e s p
-  begun-known own n within bound known = at own.lost
-    where
-      at : (lost : List ℕ) → KnowsOwn (begun_after lost n own) e s p
-      at [] = record {
-        is_table = known.is_table;
-        means = known.means;
-        may = record {
-          is_maker = record {
-            sixteen = known.may.is_maker.sixteen;
-            bytes = known.may.is_maker.bytes;
-            actor_bits = known.may.is_maker.actor_bits;
-            base_bits = omega (arith, bound);
-            count_bits = known.may.is_maker.count_bits;
-          };
-          actor_within = known.may.actor_within;
-          base_within = bound;
-        };
-        unnamed = known.unnamed;
-        from = within;
-      }
-      at (id ∷ lost) = known
+  begun-known own n within bound known = begun-at (λ o. KnowsOwn o e s p) own n known (record {
+    is_table = known.is_table;
+    means = known.means;
+    may = record {
+      is_maker = record {
+        sixteen = known.may.is_maker.sixteen;
+        bytes = known.may.is_maker.bytes;
+        actor_bits = known.may.is_maker.actor_bits;
+        base_bits = omega (arith, bound);
+        count_bits = known.may.is_maker.count_bits;
+      };
+      actor_within = known.may.actor_within;
+      base_within = bound;
+    };
+    unnamed = known.unnamed;
+    from = within;
+  })
 
   pub named-known : (own : OwnView) (count : ℕ) → count < 2 ^ 64 → KnowsOwn own e s p → KnowsOwn (with_named count own) e s p
   named-known own count bound known = record {
@@ -140,26 +137,18 @@ module _ (e : Entry) (f : Files) (p : Past) where
         reached = sym (ap (seen_in author) (same ∙ is.snapshot)) ∙ reached;
       }
 
-  seeks-known : (own : OwnView) (found : Found) (left : List ℕ) (later : Phase) → IsOwn found.schema own → KnowsOwn own e found.schema p → IsFoundIn p found
-      → Seeks own found left (Ok later) → KnowsIn e later f p
-  seeks-known own found [] later own_of known is_found on = makes-known own found later own_of known is_found on
-  seeks-known own found (id ∷ left) later own_of known is_found (few, is) =
-      subst (λ (m : Phase). KnowsIn e m f p) (sym (ok-same later _ is)) (known, is_found)
-
   pub hears-known : (own : OwnView) (found : Found) (left : List ℕ) (said : Seen) (later : Phase) → IsOwn found.schema own → KnowsOwn own e found.schema p
       → IsFoundIn p found → (said ≡ seen.Reached → HasEarlier own.author p) → Hears own found left said (Ok later) → KnowsIn e later f p
-  hears-known own found left seen.Other later own_of known is_found reached on = seeks-known own found left later own_of known is_found on
-  hears-known own found left seen.Below later own_of known is_found reached on = makes-known own found later own_of known is_found on
-  hears-known own found left seen.Reached later own_of known is_found reached is = subst (λ (m : Phase). KnowsIn e m f p) (sym (ok-same later _ is)) (reached refl)
+  hears-known own found left said later own_of known is_found reached on =
+      heard (λ (o : Outcome). IfOk o (λ m. KnowsIn e m f p)) own found left said (Ok later)
+      (λ free on. makes-known own found later own_of known is_found on) (λ id rest other is few. (known, is_found)) reached on
 
   pub tries-known : (own : OwnView) (v : View) (later : Phase) → IsOwn v.schema own → KnowsOwn own e v.schema p → IsFoundIn p (found_in v)
       → Tries own v (Ok later) → KnowsIn e later f p
-  tries-known own v later own_of known is_found = by_test own.check
-    where
-      by_test : (b : Bool) → TriesIf b own v (Ok later)
-          → KnowsIn e later f p
-      by_test true on = hears-known own (found_in v) (older_ids v.listed.items) (seen_in own.author v.snapshot) later own_of known is_found (newest-earlier own.author v is_found) on
-      by_test false on = makes-known own (found_in v) later own_of known is_found on
+  tries-known own v later own_of known is_found on =
+      tried (KnowsIn e later f p) own v (Ok later) (λ unasked on. makes-known own (found_in v) later own_of known is_found on)
+      (λ asked on. hears-known own (found_in v) (older_ids v.listed.items) (seen_in own.author v.snapshot) later own_of known is_found
+      (newest-earlier own.author v is_found) on) on
 
 -- a view's snapshot was committed
 pub view-within : (p : Past) (v : View) → IsViewIn p v → v.id ≤ count_of p.history

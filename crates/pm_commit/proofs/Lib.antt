@@ -21,6 +21,7 @@ mod MarkLemmas
 mod NewestLemmas
 pub mod OneLemmas
 mod OriginLemmas
+mod OutcomeLemmas
 mod PathLemmas
 mod PublishLemmas
 mod ReadsLemmas

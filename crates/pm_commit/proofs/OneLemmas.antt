@@ -161,10 +161,7 @@ module _ (author : Author) (reason : Option Refusal) where
   ends_stay : Stays Goes IsEnd
   ends_stay (seeking id left) new event ends goes = ends
   ends_stay making new event ends goes = ends
-  ends_stay done new event ends goes = given_not event.call event.answer done new (λ answer goes. goes) goes
-  ends_stay (over e) new event ends goes = given_not event.call event.answer (over e) new (λ answer goes. goes) goes
-  ends_stay committed new event ends goes = given_not event.call event.answer committed new (λ answer goes. goes) goes
-  ends_stay lost new event ends goes = given_not event.call event.answer lost new (λ answer goes. goes) goes
+  ends_stay m new event ends goes = given_not event.call event.answer m new (λ answer goes. goes) goes
 
 -- ---- how far a try has come
 
@@ -269,10 +266,7 @@ IsAnswer id ids n made = ⊥
 answer_ends : (id : ℕ) (ids : List ℕ) (n : Place) (made : Result Appended Refusal) → IsAnswer id ids n made → IsEnd n
 answer_ends id ids (seeking other left) made is = absurd is
 answer_ends id ids making made is = absurd is
-answer_ends id ids done made is = tt
-answer_ends id ids (over e) made is = tt
-answer_ends id ids committed made is = tt
-answer_ends id ids lost made is = tt
+answer_ends id ids n made is = tt
 
 one_answer_at : (id : ℕ) (ids : List ℕ) (n : Place) (one other : Result Appended Refusal) → IsAnswer id ids n one → IsAnswer id ids n other → one ≡ other
 one_answer_at id ids done (Ok appends.Already) (Ok appends.Already) is was = refl
@@ -337,21 +331,11 @@ module _ (laws : view.OneLaws) (s : TableSchema) where
   author_after [] newest author = record author { base = newest }
   author_after (id ∷ ids) newest author = author
 
-  begun_author : (ids : List ℕ) (newest : ℕ) (o : OwnView) → (begun_after ids newest o).author ≡ author_after ids newest o.author
-  begun_author [] newest o = refl
-  begun_author (id ∷ ids) newest o = refl
-
-  begun_batch : (ids : List ℕ) (newest : ℕ) (o : OwnView) → (begun_after ids newest o).batch ≡ o.batch
-  begun_batch [] newest o = refl
-  begun_batch (id ∷ ids) newest o = refl
-
-  begun_check : (ids : List ℕ) (newest : ℕ) (o : OwnView) → (begun_after ids newest o).check ≡ o.check
-  begun_check [] newest o = refl
-  begun_check (id ∷ ids) newest o = refl
-
-  begun_lost : (ids : List ℕ) (newest : ℕ) (o : OwnView) → (begun_after ids newest o).lost ≡ o.lost
-  begun_lost [] newest o = refl
-  begun_lost (id ∷ ids) newest o = refl
+  -- what else there is of it is the same
+  begun_same : (ids : List ℕ) (newest : ℕ) (o : OwnView) → ((begun_after ids newest o).author ≡ author_after ids newest o.author)
+      × ((begun_after ids newest o).batch ≡ o.batch) × ((begun_after ids newest o).check ≡ o.check) × ((begun_after ids newest o).lost ≡ o.lost)
+  begun_same [] newest o = (refl, refl, refl, refl)
+  begun_same (id ∷ ids) newest o = (refl, refl, refl, refl)
 
   module _ (batch : Groups) (check : Bool) where
     -- the commit has this author, and lost these ids
@@ -375,9 +359,9 @@ module _ (laws : view.OneLaws) (s : TableSchema) where
     tried o author ids v own n is t =
         let p = begun v.id o in
         let author_is : p.author ≡ author_after ids v.id author =
-        begun_author o.lost v.id o ∙ ap (λ (ids : List ℕ). author_after ids v.id o.author) is.ids_are ∙ ap (author_after ids v.id) is.author_is in
-        let batch_is : p.batch ≡ batch = begun_batch o.lost v.id o ∙ is.batch_is in
-        let check_is : p.check ≡ check = begun_check o.lost v.id o ∙ is.check_is in
+        (begun_same o.lost v.id o).0 ∙ ap (λ (ids : List ℕ). author_after ids v.id o.author) is.ids_are ∙ ap (author_after ids v.id) is.author_is in
+        let batch_is : p.batch ≡ batch = (begun_same o.lost v.id o).1 ∙ is.batch_is in
+        let check_is : p.check ≡ check = (begun_same o.lost v.id o).2 ∙ is.check_is in
         let one = subst (λ (author : Author). Reach author p.batch p.check v.id v.snapshot v.live.items v.listed.items t.rest n) author_is t.reach in
         let two = subst (λ (batch : Groups). Reach (author_after ids v.id author) batch p.check v.id v.snapshot v.live.items v.listed.items t.rest n) batch_is one in record {
           views = t.views;
@@ -390,10 +374,10 @@ module _ (laws : view.OneLaws) (s : TableSchema) where
     is_after : (o : OwnView) (author : Author) (ids : List ℕ) (v : View) (made : Append) → Is o author ids → made.id ≡ v.id + 1
         → Is (lost_by o v made) (author_after ids v.id author) (ids ++ (v.id + 1) ∷ [])
     is_after o author ids v made is next = record {
-      author_is = begun_author o.lost v.id o ∙ ap (λ (ids : List ℕ). author_after ids v.id o.author) is.ids_are ∙ ap (author_after ids v.id) is.author_is;
-      ids_are = ap (λ (ids : List ℕ). ids ++ made.id ∷ []) (begun_lost o.lost v.id o ∙ is.ids_are) ∙ ap (λ (id : ℕ). ids ++ id ∷ []) next;
-      batch_is = begun_batch o.lost v.id o ∙ is.batch_is;
-      check_is = begun_check o.lost v.id o ∙ is.check_is;
+      author_is = (begun_same o.lost v.id o).0 ∙ ap (λ (ids : List ℕ). author_after ids v.id o.author) is.ids_are ∙ ap (author_after ids v.id) is.author_is;
+      ids_are = ap (λ (ids : List ℕ). ids ++ made.id ∷ []) ((begun_same o.lost v.id o).3 ∙ is.ids_are) ∙ ap (λ (id : ℕ). ids ++ id ∷ []) next;
+      batch_is = (begun_same o.lost v.id o).1 ∙ is.batch_is;
+      check_is = (begun_same o.lost v.id o).2 ∙ is.check_is;
     }
 
     -- ---- all tries

@@ -1,5 +1,5 @@
 -- How far a step of a committer comes.
-use Rattle.std.proofs.Common.{◌≡◌, ℕ, ◌+◌, ◌-◌, ◌*◌, ◌<◌, suc, Bool, true, false, List, [], ◌∷◌, length, length-append, None, Some, IsSome, Result, Ok, OnOk, OnErr, refl, sym, ap, subst, arith}
+use Rattle.std.proofs.Common.{◌≡◌, ℕ, ◌+◌, ◌-◌, ◌*◌, ◌<◌, List, [], ◌∷◌, length, length-append, None, Some, IsSome, Result, Ok, IfOk, OnOk, OnErr, refl, sym, ap, subst, arith}
 use Rattle.pm_values.specs.declared.refusal.Refusal.{Refusal}
 use Rattle.pm_store.specs.Store.{StoreView}
 use Rattle.pm_store.specs.declared.answer.Answer.{Answer}
@@ -14,11 +14,10 @@ use Rattle.pm_read_table.specs.declared.phase.Phase.TheVariants as readers
 use Rattle.pm_read_table.specs.declared.view.View.{View}
 use Rattle.pm_read_table.proofs.Facts as reader_facts
 use Rattle.pm_put.specs.declared.putting.CommitFile.{CommitFile}
-use Rattle.pm_commit.specs.Committer.{After, AfterPutter, AfterReader, Goes, Hears, IsCommitter, Makes, MayMake, Outcome, Reaches, Reads, Refuses, Seeks, Stops, Tries, TriesIf, calls_left, first_of_try, found_in, later_tries, most_of_try, next_call, publishing_of, reached_at}
+use Rattle.pm_commit.specs.Committer.{After, AfterPutter, AfterReader, Goes, Hears, IsCommitter, Makes, MayMake, Outcome, Reaches, Reads, Refuses, Stops, Tries, calls_left, first_of_try, found_in, later_tries, most_of_try, next_call, publishing_of, reached_at}
 use Rattle.pm_commit.specs.Own.{IsOwn, OwnView, begun, most_files, tries, with_lost, with_named}
 use Rattle.pm_commit.specs.Search.{older_ids, seen_in, seen_of}
 use Rattle.pm_commit.specs.declared.search.Seen.{Seen}
-use Rattle.pm_commit.specs.declared.search.Seen.TheVariants as seen
 use Rattle.pm_commit.specs.declared.found.Found.{Found}
 use Rattle.pm_put.proofs.Facts as put_facts
 use Rattle.pm_put.specs.Putter as put
@@ -27,8 +26,9 @@ use Rattle.pm_put.specs.declared.phase.Phase.TheVariants as puts
 use Rattle.pm_put.specs.declared.putting.Publishing.{Publishing}
 use Rattle.pm_commit.specs.declared.phase.Phase.{Phase}
 use Rattle.pm_commit.specs.declared.phase.Phase.TheVariants as phases
-use Rattle.pm_commit.proofs.CommitterLemmas.{begun-lost, ok-same, ready-may}
+use Rattle.pm_commit.proofs.CommitterLemmas.{begun-lost, ready-may}
 use Rattle.pm_commit.proofs.MadeLemmas.{made-few}
+use Rattle.pm_commit.proofs.OutcomeLemmas.{heard, ok-same, read-on, tried}
 use Rattle.pm_commit.proofs.ReadsLemmas.{EntriesRead, reads-on}
 
 -- fewer calls than that are left, and what was reached
@@ -48,70 +48,36 @@ makes-ahead own found later n own_of below (made, is_made, allowed, is) =
     (put-ahead (with_named (own.names.count + length made.files.items) own) found.schema made.id (publishing_of found.schema made.id made.text) made.files.items n
     (omega (arith, few, one, below)))
 
--- the ids that are left are few enough, wherever one is read next
+-- of the ids that are left one is read next, and the others are few enough
 abbrev IsFew : OwnView → List ℕ → ℕ → Type 0
-IsFew own [] n = Unit {0}
-IsFew own (id ∷ left) n = length left < most → length left + 1 + (most_files + 1) + later_tries own < n
-
-seeks-ahead : (own : OwnView) (found : Found) (left : List ℕ) (later : Phase) (n : ℕ) → IsOwn found.schema own → most_files + 1 + later_tries own < n
-    → IsFew own left n → Seeks own found left (Ok later) → IsAhead n later
-seeks-ahead own found [] later n own_of below fewer on = makes-ahead own found later n own_of below on
-seeks-ahead own found (id ∷ left) later n own_of below fewer (few, is) = subst (IsAhead n) (sym (ok-same later _ is)) (fewer few, omega arith)
+IsFew own left n = (id : ℕ) (rest : List ℕ) → left ≡ id ∷ rest → length rest < most → length rest + 1 + (most_files + 1) + later_tries own < n
 
 hears-ahead : (own : OwnView) (found : Found) (left : List ℕ) (said : Seen) (later : Phase) (n : ℕ) → IsOwn found.schema own → most_files + 1 + later_tries own < n
     → IsFew own left n → Hears own found left said (Ok later) → IsAhead n later
-hears-ahead own found left seen.Other later n own_of below fewer on = seeks-ahead own found left later n own_of below fewer on
-hears-ahead own found left seen.Below later n own_of below fewer on = makes-ahead own found later n own_of below on
-hears-ahead own found left seen.Reached later n own_of below fewer is =
-    subst (IsAhead n) (sym (ok-same later _ is)) ((let some = below in omega (arith, some)), (own.author, refl))
-
--- of whichever ids
-all-few : (own : OwnView) (left : List ℕ) (n : ℕ) → most + (most_files + 1) + later_tries own < n → IsFew own left n
-all-few own [] n wide = tt
-all-few own (id ∷ left) n wide = λ few. (let more = wide in omega (arith, few, more))
-
-rest-few : (own : OwnView) (left : List ℕ) (n : ℕ) → length left + (most_files + 1) + later_tries own < n → IsFew own left n
-rest-few own [] n below = tt
-rest-few own (id ∷ left) n below = λ few. (let more : suc (length left) + (most_files + 1) + later_tries own < n = below in omega (arith, more))
+hears-ahead own found left said later n own_of below fewer on =
+    heard (λ (o : Outcome). IfOk o (IsAhead n)) own found left said (Ok later) (λ free on. makes-ahead own found later n own_of below on)
+    (λ id rest other is few. (fewer id rest is few, omega arith)) (λ reached. ((let some = below in omega (arith, some)), (own.author, refl))) on
 
 begun-later : (own : OwnView) (id : ℕ) → later_tries (begun id own) ≡ later_tries own
 begun-later own id = ap (λ (lost : List ℕ). (tries - (length lost + 1)) * most_of_try) (begun-lost own id)
 
 ready-ahead : (own : OwnView) (v : View) (later : Phase) (n : ℕ) → MayMake (begun v.id own) (found_in v) → most + (most_files + 1) + later_tries own < n
     → Tries (begun v.id own) v (Ok later) → IsAhead n later
-ready-ahead own v later n may wide = by_test (begun v.id own).check
-  where
-    wide_own : most + (most_files + 1) + later_tries (begun v.id own) < n
-    wide_own = subst (λ (k : ℕ). most + (most_files + 1) + k < n) (sym (begun-later own v.id)) wide
-
-    narrow : most_files + 1 + later_tries (begun v.id own) < n
-    narrow = let more = wide_own in omega (arith, more)
-
-    by_test : (b : Bool) → TriesIf b (begun v.id own) v (Ok later) → IsAhead n later
-    by_test true on =
-        hears-ahead (begun v.id own) (found_in v) (older_ids v.listed.items) (seen_in (begun v.id own).author v.snapshot) later n may.own_of narrow
-        (all-few (begun v.id own) (older_ids v.listed.items) n wide_own) on
-    by_test false on = makes-ahead (begun v.id own) (found_in v) later n may.own_of narrow on
-
-view-ahead : (own : OwnView) (m to : view_phase.Phase) (new : Phase) → reader.calls_left to < reader.calls_left m
-    → ◌≡◌ {A = Outcome} (Ok new) (Ok (phases.View own to)) → IsAhead (reader.calls_left m + (most + (most_files + 1)) + later_tries own) new
-view-ahead own m to new fewer is =
-    subst (IsAhead (reader.calls_left m + (most + (most_files + 1)) + later_tries own)) (sym (ok-same new (phases.View own to) is))
-    (omega (arith, fewer), omega arith)
+ready-ahead own v later n may wide on =
+    let o : OwnView = begun v.id own in
+    let same : later_tries o ≡ later_tries own = begun-later own v.id in
+    let narrow : most_files + 1 + later_tries o < n = omega (arith, same, wide) in
+    tried (IsAhead n later) o v (Ok later) (λ unasked on. makes-ahead o (found_in v) later n may.own_of narrow on)
+    (λ asked on. hears-ahead o (found_in v) (older_ids v.listed.items) (seen_in o.author v.snapshot) later n may.own_of narrow
+    (λ id rest is few. omega (arith, same, wide, few)) on) on
 
 reader-ahead : (own : OwnView) (s : TableSchema) (m to : view_phase.Phase) (new : Phase) → IsOwn s own → Reads to s → reader.calls_left to < reader.calls_left m
     → AfterReader own to (Ok new) → IsAhead (reader.calls_left m + (most + (most_files + 1)) + later_tries own) new
-reader-ahead own s m (readers.List a) new own_of reads fewer is = view-ahead own m (readers.List a) new fewer is
-reader-ahead own s m (readers.Origin q) new own_of reads fewer is = view-ahead own m (readers.Origin q) new fewer is
-reader-ahead own s m (readers.Snapshot q id) new own_of reads fewer is = view-ahead own m (readers.Snapshot q id) new fewer is
-reader-ahead own s m (readers.Base q x) new own_of reads fewer is = view-ahead own m (readers.Base q x) new fewer is
-reader-ahead own s m (readers.Delta q x base) new own_of reads fewer is = view-ahead own m (readers.Delta q x base) new fewer is
-reader-ahead own s m (readers.Manifests r) new own_of reads fewer is = view-ahead own m (readers.Manifests r) new fewer is
-reader-ahead own s m (readers.Again a id path) new own_of reads fewer is = view-ahead own m (readers.Again a id path) new fewer is
-reader-ahead own s m (readers.Ready v) new own_of reads fewer on =
-    let some : 0 < reader.calls_left m = fewer in
-    ready-ahead own v new (reader.calls_left m + (most + (most_files + 1)) + later_tries own) (ready-may own v s reads own_of) (omega (arith, some)) on
-reader-ahead own s m readers.Over new own_of reads fewer is = view-ahead own m readers.Over new fewer is
+reader-ahead own s m to new own_of reads fewer on =
+    let n : ℕ = reader.calls_left m + (most + (most_files + 1)) + later_tries own in
+    read-on (λ (o : Outcome). IfOk o (IsAhead n)) (λ to. Reads to s × (reader.calls_left to < reader.calls_left m)) own (Ok new)
+    (λ v has on. (let some : 0 < reader.calls_left m = has.1 in ready-ahead own v new n (ready-may own v s has.0 own_of) (omega (arith, some)) on))
+    (λ to none has. (let fewer = has.1 in (omega (arith, fewer), omega arith))) to (reads, fewer) on
 
 first-ahead : (own : OwnView) (s : TableSchema) (new : Phase) (n : ℕ) → most_of_try + later_tries own < n → new ≡ first_of_try own s → IsAhead n new
 first-ahead own s new n below is = subst (IsAhead n) (sym is) (omega (arith, below), omega arith)
@@ -129,10 +95,6 @@ as-ahead own s id m to new fewer some is =
 
 putter-ahead : (own : OwnView) (s : TableSchema) (id : ℕ) (m to : put_phase.Phase) (answer : Answer) (new : Phase) → put.Goes m answer to
     → AfterPutter own s id to (Ok new) → IsAhead (put.calls_left m + later_tries own) new
-putter-ahead own s id m (puts.Create making) answer new goes is =
-    let on = put_facts.goes m answer (puts.Create making) goes in as-ahead own s id m (puts.Create making) new on.0 on.1 is
-putter-ahead own s id m (puts.Publish x) answer new goes is =
-    let on = put_facts.goes m answer (puts.Publish x) goes in as-ahead own s id m (puts.Publish x) new on.0 on.1 is
 putter-ahead own s id m puts.Published answer new goes is =
     let on = put_facts.goes m answer puts.Published goes in
     let fewer = on.0 in
@@ -140,8 +102,7 @@ putter-ahead own s id m puts.Published answer new goes is =
 putter-ahead own s id m puts.Lost answer new goes (left, is) =
     let on = put_facts.goes m answer puts.Lost goes in
     subst (λ (k : ℕ). IsAhead (k + later_tries own) new) on.2 (lost-ahead own s id new left is)
-putter-ahead own s id m puts.Over answer new goes is =
-    let none : 0 < 0 = (put_facts.goes m answer puts.Over goes).1 in absurd (omega (arith, none))
+putter-ahead own s id m to answer new goes is = let on = put_facts.goes m answer to goes in as-ahead own s id m to new on.0 on.1 is
 
 goes-ahead : EntriesRead → (m : Phase) (answer : Answer) (new : Phase) (call : Call) (before after : StoreView) → next_call m ≡ Some call → Answered call answer before after
     → After m answer (Ok new) → IsCommitter m → IsAhead (calls_left m) new
@@ -154,20 +115,14 @@ goes-ahead law (phases.Search own q) (answers.Found None) new call before after 
     makes-ahead own q.found new (length q.left + 1 + (most_files + 1) + later_tries own) may.own_of (omega arith) on
 goes-ahead law (phases.Search own q) (answers.Found (Some bytes)) new call before after at came (x, reads, on) (may, few, ids) =
     hears-ahead own q.found q.left (seen_of own.author x) new (length q.left + 1 + (most_files + 1) + later_tries own) may.own_of (omega arith)
-    (rest-few own q.left (length q.left + 1 + (most_files + 1) + later_tries own) (omega arith)) on
+    (λ id rest is few. (let longer = ap length is in omega (arith, longer))) on
 goes-ahead law (phases.Put own s id m) answer new call before after at came (to, goes, on) known = putter-ahead own s id m to answer new goes on
 goes-ahead law m answer new call before after at came on known = absurd on
 
 reader-call : (r : view_phase.Phase) → 0 < reader.calls_left r → IsSome (reader.next_call r)
-reader-call (readers.List a) left = refl
-reader-call (readers.Origin a) left = refl
-reader-call (readers.Snapshot a id) left = refl
-reader-call (readers.Base a x) left = refl
-reader-call (readers.Delta a x base) left = refl
-reader-call (readers.Manifests r) left = refl
-reader-call (readers.Again a id path) left = refl
 reader-call (readers.Ready v) left = absurd (let none : 0 < 0 = left in omega (arith, none))
 reader-call readers.Over left = absurd (let none : 0 < 0 = left in omega (arith, none))
+reader-call r left = refl
 
 -- a committer with calls left has a next one
 has-call : (m : Phase) → IsCommitter m → 0 < calls_left m → IsSome (next_call m)
@@ -175,9 +130,7 @@ has-call (phases.Names own s) is left = refl
 has-call (phases.View own m) (has, reads) left = reader-call m has
 has-call (phases.Search own q) is left = refl
 has-call (phases.Put own s id m) is left = put_facts.has_call m is.1
-has-call (phases.Committed author id) is left = absurd (let none : 0 < 0 = left in omega (arith, none))
-has-call (phases.Already author) is left = absurd (let none : 0 < 0 = left in omega (arith, none))
-has-call phases.Over is left = absurd (let none : 0 < 0 = left in omega (arith, none))
+has-call m is left = absurd (let none : 0 < 0 = left in omega (arith, none))
 
 -- a step that goes on leaves fewer calls, and what it reached
 pub steps-on : EntriesRead → {old new : Phase} {before after : StoreView} {result : Result (Unit {0}) Refusal}

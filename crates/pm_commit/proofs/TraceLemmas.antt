@@ -1,5 +1,5 @@
 -- What the calls of a committer show.
-use Rattle.std.proofs.Common.{◌≡◌, inl, inr, ℕ, ◌+◌, ◌<◌, Bool, true, false, if◌then◌else◌, List, [], ◌∷◌, ◌++◌, length, Option, None, Some, IsSome, IfSome, Ok, Err, refl, sym, ap, ◌∙◌, subst, append_assoc}
+use Rattle.std.proofs.Common.{◌≡◌, inl, inr, ℕ, ◌+◌, ◌<◌, Bool, true, false, if◌then◌else◌, List, [], ◌∷◌, ◌++◌, length, Option, None, Some, IsSome, IfSome, Ok, Err, IfOk, refl, sym, ap, ◌∙◌, subst, append_assoc}
 use Rattle.std.proofs.lemmas.List.{append-nil}
 use Rattle.std.proofs.lemmas.Option.{IfSome_then}
 use Rattle.pm_values.specs.declared.refusal.Refusal.{Refusal}
@@ -32,9 +32,9 @@ use Rattle.pm_write.specs.Files.{no_sequence}
 use Rattle.pm_append.specs.declared.newest.Append.{Append}
 use Rattle.pm_append.specs.declared.newest.Author.{Author}
 use Rattle.pm_append.specs.declared.newest.Newest.{Newest}
-use Rattle.pm_commit.specs.Committer.{After, AfterPutter, AfterReader, Goes, Hears, Loses, Makes, Outcome, Refuses, Seeks, Shown, Stops, Tries, TriesIf, first_of_try, found_in, manifests_call, newest_in, newest_of, next_call, publishing_of, put_of}
+use Rattle.pm_commit.specs.Committer.{After, AfterPutter, AfterReader, Goes, Hears, Loses, Makes, Outcome, Refuses, Shown, Stops, Tries, first_of_try, found_in, manifests_call, newest_in, newest_of, next_call, publishing_of, put_of}
 use Rattle.pm_commit.specs.Marks.{FindsUsed}
-use Rattle.pm_commit.specs.Own.{OwnView, begun, begun_after, tries, with_lost}
+use Rattle.pm_commit.specs.Own.{OwnView, begun, tries, with_lost}
 use Rattle.pm_commit.specs.Search.{SearchingView, older_ids, seen_in, seen_of}
 use Rattle.pm_commit.specs.Trace.{AfterLost, Did, DidInTry, DidSoFar, FindsReason, HasPut, HasSearch, HasTry, HaveLost, HavePassed, LosesTry, MayCommit, MayTakeMemory, Meets, Searched, Shows, ShowsOwn, Views, at_newest, at_older, has_listed, has_lost, is_absent, is_below, is_none, listed_manifests, lost_by, named_by, not_asked}
 use Rattle.pm_commit.specs.declared.search.Seen.{Seen}
@@ -48,7 +48,8 @@ use Rattle.pm_put.specs.declared.phase.Phase as put_phase
 use Rattle.pm_put.specs.declared.phase.Phase.TheVariants as puts
 use Rattle.pm_commit.specs.declared.phase.Phase.{Phase}
 use Rattle.pm_commit.specs.declared.phase.Phase.TheVariants as phases
-use Rattle.pm_commit.proofs.CommitterLemmas.{err-ok, ok-same}
+use Rattle.pm_commit.proofs.CommitterLemmas.{begun-lost}
+use Rattle.pm_commit.proofs.OutcomeLemmas.{IsFree, err-ok, heard, heard-refused, ok-same, read-on, read-refused, tried}
 
 -- ---- one event more
 
@@ -73,7 +74,7 @@ searched-more o v id left bytes x own searched reads other = record {
 
 -- ---- a next call
 
-if-is : (next : Option Call) (P : Call → Type 0) → ((call : Call) → next ≡ Some call → P call) → IfSome next P
+pub if-is : (next : Option Call) (P : Call → Type 0) → ((call : Call) → next ≡ Some call → P call) → IfSome next P
 if-is None P each = tt
 if-is (Some call) P each = each call refl
 
@@ -94,14 +95,14 @@ read-no path answer may = absurd may
 
 reader-no : (m : view_phase.Phase) (answer : Answer) → IfSome (reader.next_call m) (λ call. MayAnswer call answer → MayTakeMemory answer)
 reader-no (readers.List a) answer = listed-no snapshot_folder answer
+reader-no (readers.Ready v) answer = tt
+reader-no readers.Over answer = tt
 reader-no (readers.Origin q) answer = read-no (origin_path q.asked.schema) answer
 reader-no (readers.Snapshot q id) answer = read-no (snapshot_path id) answer
 reader-no (readers.Base q x) answer = read-no (manifest_path x.base_list) answer
 reader-no (readers.Delta q x base) answer = read-no (manifest_path x.delta_list) answer
 reader-no (readers.Manifests r) answer = read-no (manifest_path r.next.name) answer
 reader-no (readers.Again a id path) answer = read-no (snapshot_path id) answer
-reader-no (readers.Ready v) answer = tt
-reader-no readers.Over answer = tt
 
 -- ---- reasons against a commit
 
@@ -182,19 +183,24 @@ module _ (s : TableSchema) where
         },
       )
 
-  did-seek : (p : OwnView) (v : View) (left : List ℕ) (new : Phase) (own : List Event) → HasSearch s p v (λ o v. Searched o v left) own
-      → Seeks (begun v.id p) (found_in v) left (Ok new) → DidInTry s new p own
-  did-seek p v [] new own searched on =
-      did-make p v new own (search-as p v (λ o v. Searched o v []) MayCommit own (λ searches none. is_none none) searched) on
-  did-seek p v (id ∷ left) new own searched (few, is) = subst (λ (m : Phase). DidInTry s m p own) (sym (ok-same new _ is)) (v, refl, refl, searched)
+  -- nothing keeps it from its files
+  free-search : (p : OwnView) (v : View) (left : List ℕ) (said : Seen) (own : List Event) → (said ≡ seen.Other → HasSearch s p v (λ o v. Searched o v left) own)
+      → HasSearch s p v (λ o v. Meets o v said) own → IsFree said left → HasSearch s p v MayCommit own
+  free-search p v left said own searched meets (inl (other, none)) =
+      search-as p v (λ o v. Searched o v left) MayCommit own
+      (λ searches so_far. is_none (subst (λ (left : List ℕ). Searched (begun v.id p) v left searches) none so_far)) (searched other)
+  free-search p v left said own searched meets (inr below) =
+      search-as p v (λ o v. Meets o v said) MayCommit own
+      (λ searches met. is_below (subst (λ (said : Seen). Meets (begun v.id p) v said searches) below met)) meets
 
   did-hear : (p : OwnView) (v : View) (left : List ℕ) (said : Seen) (new : Phase) (own : List Event)
       → (said ≡ seen.Other → HasSearch s p v (λ o v. Searched o v left) own) → HasSearch s p v (λ o v. Meets o v said) own
       → Hears (begun v.id p) (found_in v) left said (Ok new) → DidInTry s new p own
-  did-hear p v left seen.Other new own searched meets on = did-seek p v left new own (searched refl) on
-  did-hear p v left seen.Below new own searched meets on =
-      did-make p v new own (search-as p v (λ o v. Meets o v seen.Below) MayCommit own (λ searches met. is_below met) meets) on
-  did-hear p v left seen.Reached new own searched meets is = subst (λ (m : Phase). DidInTry s m p own) (sym (ok-same new _ is)) (v, refl, meets)
+  did-hear p v left said new own searched meets on =
+      heard (λ (o : Outcome). IfOk o (λ m. DidInTry s m p own)) (begun v.id p) (found_in v) left said (Ok new)
+      (λ free on. did-make p v new own (free-search p v left said own searched meets free) on)
+      (λ id rest other is few. (v, refl, refl, subst (λ (left : List ℕ). HasSearch s p v (λ o v. Searched o v left) own) is (searched other)))
+      (λ reached. (v, refl, subst (λ (said : Seen). HasSearch s p v (λ o v. Meets o v said) own) reached meets)) on
 
   -- the newest snapshot was heard
   newest-searched : (p : OwnView) (v : View) (own : List Event) → Views s v own → (begun v.id p).check ≡ true → seen_in (begun v.id p).author v.snapshot ≡ seen.Other
@@ -207,30 +213,16 @@ module _ (s : TableSchema) where
   newest-meets p v own viewed asked = search-none p v (λ o v. Meets o v (seen_in (begun v.id p).author v.snapshot)) own viewed (at_newest asked refl refl)
 
   did-ready : (p : OwnView) (v : View) (new : Phase) (own : List Event) → Views s v own → Tries (begun v.id p) v (Ok new) → DidInTry s new p own
-  did-ready p v new own viewed = by_test (begun v.id p).check refl
-    where
-      by_test : (b : Bool) → (begun v.id p).check ≡ b
-          → TriesIf b (begun v.id p) v (Ok new)
-          → DidInTry s new p own
-      by_test true asked on =
-          did-hear p v (older_ids v.listed.items) (seen_in (begun v.id p).author v.snapshot) new own (newest-searched p v own viewed asked) (newest-meets p v own viewed asked) on
-      by_test false unasked on = did-make p v new own (search-none p v MayCommit own viewed (not_asked unasked refl)) on
-
-  as-did : (p o : OwnView) (m : view_phase.Phase) (new : Phase) (own : List Event) → o ≡ p → reader_trace.Did (newest_of s) m own
-      → ◌≡◌ {A = Outcome} (Ok new) (Ok (phases.View o m)) → DidInTry s new p own
-  as-did p o m new own same did is = subst (λ (m : Phase). DidInTry s m p own) (sym (ok-same new (phases.View o m) is)) (same, did)
+  did-ready p v new own viewed on =
+      tried (DidInTry s new p own) (begun v.id p) v (Ok new) (λ unasked on. did-make p v new own (search-none p v MayCommit own viewed (not_asked unasked refl)) on)
+      (λ asked on. did-hear p v (older_ids v.listed.items) (seen_in (begun v.id p).author v.snapshot) new own (newest-searched p v own viewed asked)
+      (newest-meets p v own viewed asked) on) on
 
   did-after : (p o : OwnView) (m : view_phase.Phase) (new : Phase) (own : List Event) → o ≡ p → AfterReader o m (Ok new) → reader_trace.Did (newest_of s) m own
       → DidInTry s new p own
-  did-after p o (readers.List a) new own same is did = as-did p o (readers.List a) new own same did is
-  did-after p o (readers.Origin q) new own same is did = as-did p o (readers.Origin q) new own same did is
-  did-after p o (readers.Snapshot q id) new own same is did = as-did p o (readers.Snapshot q id) new own same did is
-  did-after p o (readers.Base q x) new own same is did = as-did p o (readers.Base q x) new own same did is
-  did-after p o (readers.Delta q x base) new own same is did = as-did p o (readers.Delta q x base) new own same did is
-  did-after p o (readers.Manifests r) new own same is did = as-did p o (readers.Manifests r) new own same did is
-  did-after p o (readers.Again a id path) new own same is did = as-did p o (readers.Again a id path) new own same did is
-  did-after p o (readers.Ready v) new own same on did = did-ready p v new own did (subst (λ (o : OwnView). Tries (begun v.id o) v (Ok new)) same on)
-  did-after p o readers.Over new own same is did = as-did p o readers.Over new own same did is
+  did-after p o m new own same on did =
+      read-on (λ (o : Outcome). IfOk o (λ m. DidInTry s m p own)) (λ m. reader_trace.Did (newest_of s) m own) o (Ok new)
+      (λ v did on. did-ready p v new own did (subst (λ (o : OwnView). Tries (begun v.id o) v (Ok new)) same on)) (λ m none did. (same, did)) m did on
 
   -- an older snapshot was read
   older-searched : (p : OwnView) (v : View) (id : ℕ) (left bytes : List ℕ) (x : Snapshot) (own : List Event)
@@ -303,12 +295,8 @@ module _ (s : TableSchema) where
     -- so far, in a phase of a try
     in-try : (m : Phase) (own : List Event) → AfterLost s first (DidInTry s m) own → Did s first m own
     in-try (phases.Names o t) own (p, earlier, later, lost, tried, is) = absurd tried
-    in-try (phases.View o m) own after = after
-    in-try (phases.Search o q) own after = after
-    in-try (phases.Put o t id m) own after = after
-    in-try (phases.Committed author id) own after = after
-    in-try (phases.Already author) own after = after
     in-try phases.Over own (p, earlier, later, lost, tried, is) = absurd tried
+    in-try m own after = after
 
     -- the next try begins
     begin-try : (p : OwnView) (own : List Event) → HaveLost s first p own → Did s first (first_of_try p s) own
@@ -318,15 +306,8 @@ module _ (s : TableSchema) where
     lost-calls event earlier later own is = ap (λ (own : List Event). own ++ event ∷ []) is ∙ append_assoc earlier later (event ∷ [])
 
     -- once a try has named its files the ids that were lost are the same
-    begun-lost : (n : ℕ) (p : OwnView) → (begun n p).lost ≡ p.lost
-    begun-lost n p = at p.lost
-      where
-        at : (lost : List ℕ) → (begun_after lost n p).lost ≡ p.lost
-        at [] = refl
-        at (id ∷ lost) = refl
-
     same-lost : (p : OwnView) (v : View) (made : Append) (o : OwnView) → o ≡ named_by p v made → o.lost ≡ p.lost
-    same-lost p v made o same = ap (λ (o : OwnView). o.lost) same ∙ begun-lost v.id p
+    same-lost p v made o same = ap (λ (o : OwnView). o.lost) same ∙ begun-lost p v.id
 
     lost-on : (o : OwnView) (t : TableSchema) (id : ℕ) (new : Phase) (p : OwnView) (v : View) (made : Append) (earlier later own : List Event)
         → o ≡ named_by p v made → t ≡ s → id ≡ made.id → HaveLost s first p earlier → own ≡ earlier ++ later → LosesTry s p v made later
@@ -344,16 +325,12 @@ module _ (s : TableSchema) where
     did-putter : (o : OwnView) (t : TableSchema) (id : ℕ) (to : put_phase.Phase) (new : Phase) (p : OwnView) (v : View) (made : Append) (earlier later own : List Event)
         → o ≡ named_by p v made → t ≡ s → id ≡ made.id → HaveLost s first p earlier → own ≡ earlier ++ later → HasPut s p v made to later
         → AfterPutter o t id to (Ok new) → Did s first new own
-    did-putter o t id (puts.Create making) new p v made earlier later own same is_t is_id lost is tried on =
-        subst (λ (m : Phase). Did s first m own) (sym (ok-same new _ on)) (p, earlier, later, lost, (v, made, same, is_t, is_id, tried), is)
-    did-putter o t id (puts.Publish x) new p v made earlier later own same is_t is_id lost is tried on =
-        subst (λ (m : Phase). Did s first m own) (sym (ok-same new _ on)) (p, earlier, later, lost, (v, made, same, is_t, is_id, tried), is)
     did-putter o t id puts.Published new p v made earlier later own same is_t is_id lost is tried on =
         subst (λ (m : Phase). Did s first m own) (sym (ok-same new _ on))
         (p, earlier, later, lost, (v, made, ap (λ (o : OwnView). o.author) same, is_id, tried), is)
     did-putter o t id puts.Lost new p v made earlier later own same is_t is_id lost is tried on =
         lost-on o t id new p v made earlier later own same is_t is_id lost is tried on
-    did-putter o t id puts.Over new p v made earlier later own same is_t is_id lost is tried on =
+    did-putter o t id to new p v made earlier later own same is_t is_id lost is tried on =
         subst (λ (m : Phase). Did s first m own) (sym (ok-same new _ on)) (p, earlier, later, lost, (v, made, same, is_t, is_id, tried), is)
 
     went-on : Joined → (m : Phase) (answer : Answer) (new : Phase) (own : List Event) → After m answer (Ok new) → Did s first m own
@@ -367,14 +344,8 @@ module _ (s : TableSchema) where
         subst (λ (m : Phase). Did s first m (own ++ event ∷ [])) (sym is_first) (begin-try first (own ++ event ∷ []) lost)
     went-on law (phases.View o m) answer new own (to, goes, after) (p, earlier, later, lost, (same, did), is) =
         IfSome_then (reader.next_call m) ((reader_facts.recounts law (newest_of s)).went m to answer later goes did)
-        (λ call did may. in-try new (own ++ answered call answer ∷ []) (
-          p,
-          earlier,
-          later ++ answered call answer ∷ [],
-          lost,
-          did-after p o to new (later ++ answered call answer ∷ []) same after (did may),
-          ap (λ (own : List Event). own ++ answered call answer ∷ []) is ∙ append_assoc earlier later (answered call answer ∷ []),
-        ))
+        (λ call did may. in-try new (own ++ answered call answer ∷ [])
+        (p, earlier, later ++ answered call answer ∷ [], lost, did-after p o to new (later ++ answered call answer ∷ []) same after (did may), lost-calls (answered call answer) earlier later own is))
     went-on law (phases.Search o q) (answers.Found None) new own on did = λ may.
         in-try new _ (after-push (DidInTry s (phases.Search o q)) (DidInTry s new) own (read_file (snapshot_path q.id) None)
         (λ p later did_now. let (v, same, is_found, searched) = did_now in search-ended p o q v new later same is_found searched on) did)
@@ -405,62 +376,38 @@ module _ (s : TableSchema) where
     found-reason (refusals.Limit which number) own is found = inr found
     found-reason other own is found = absurd is
 
-    -- no files are made after an event: memory ran out, or there is a reason
-    refused-make : (m : Phase) (call : Call) (answer : Answer) (p : OwnView) (v : View) (refusal : Refusal) (earlier later own : List Event) → DidSoFar s first m own
-        → next_call m ≡ Some call → MayAnswer call answer → MayTakeMemory answer → HaveLost s first p earlier → own ≡ earlier ++ later
-        → HasSearch s p v MayCommit (later ++ answered call answer ∷ []) → Makes (begun v.id p) (found_in v) (Err refusal)
-        → Shows s first refusal (own ++ answered call answer ∷ [])
-    refused-make m call answer p v refusal earlier later own did at may none lost is searched (inl memory) = forgot m call answer refusal own did at may none memory
-    refused-make m call answer p v refusal earlier later own did at may none lost is searched (inr reason) =
-        found-reason refusal _ (is-reason (newest_in v) (begun v.id p).author (begun v.id p).batch refusal reason) (
-          p,
-          earlier,
-          later ++ answered call answer ∷ [],
-          lost,
-          (v, reason, searched),
-          ap (λ (own : List Event). own ++ answered call answer ∷ []) is ∙ append_assoc earlier later (answered call answer ∷ []),
-        )
+    module _ (m : Phase) (call : Call) (answer : Answer) (p : OwnView) (refusal : Refusal) (earlier later own : List Event) (did : DidSoFar s first m own)
+        (at : next_call m ≡ Some call) (may : MayAnswer call answer) (takes : MayTakeMemory answer) (lost : HaveLost s first p earlier)
+        (is : own ≡ earlier ++ later) where
+      abbrev calls_now : List Event
+      calls_now = later ++ answered call answer ∷ []
 
-    refused-hear : (m : Phase) (call : Call) (answer : Answer) (p : OwnView) (v : View) (left : List ℕ) (said : Seen) (refusal : Refusal) (earlier later own : List Event)
-        → DidSoFar s first m own → next_call m ≡ Some call → MayAnswer call answer → MayTakeMemory answer → HaveLost s first p earlier → own ≡ earlier ++ later
-        → (said ≡ seen.Other → HasSearch s p v (λ o v. Searched o v left) (later ++ answered call answer ∷ []))
-        → HasSearch s p v (λ o v. Meets o v said) (later ++ answered call answer ∷ [])
-        → Hears (begun v.id p) (found_in v) left said (Err refusal) → Shows s first refusal (own ++ answered call answer ∷ [])
-    refused-hear m call answer p v [] seen.Other refusal earlier later own did at may none lost is searched meets on =
-        refused-make m call answer p v refusal earlier later own did at may none lost is
-        (search-as p v (λ o v. Searched o v []) MayCommit _ (λ searches none_left. is_none none_left) (searched refl)) on
-    refused-hear m call answer p v (id ∷ left) seen.Other refusal earlier later own did at may none lost is searched meets (few, on) = absurd (err-ok refusal _ on)
-    refused-hear m call answer p v left seen.Below refusal earlier later own did at may none lost is searched meets on =
-        refused-make m call answer p v refusal earlier later own did at may none lost is
-        (search-as p v (λ o v. Meets o v seen.Below) MayCommit _ (λ searches met. is_below met) meets) on
-    refused-hear m call answer p v left seen.Reached refusal earlier later own did at may none lost is searched meets on = absurd (err-ok refusal _ on)
+      abbrev ShowsIt : Type 0
+      ShowsIt = Shows s first refusal (own ++ answered call answer ∷ [])
 
-    -- the view is ready, and no files are made for it
-    refused-ready : (m : Phase) (call : Call) (answer : Answer) (p : OwnView) (v : View) (refusal : Refusal) (earlier later own : List Event) → DidSoFar s first m own
-        → next_call m ≡ Some call → MayAnswer call answer → MayTakeMemory answer → HaveLost s first p earlier → own ≡ earlier ++ later
-        → Views s v (later ++ answered call answer ∷ []) → Tries (begun v.id p) v (Err refusal) → Shows s first refusal (own ++ answered call answer ∷ [])
-    refused-ready m call answer p v refusal earlier later own did at may none lost is viewed = by_test (begun v.id p).check refl
-      where
-        by_test : (b : Bool) → (begun v.id p).check ≡ b → TriesIf b (begun v.id p) v (Err refusal) → Shows s first refusal (own ++ answered call answer ∷ [])
-        by_test true asked on =
-            refused-hear m call answer p v (older_ids v.listed.items) (seen_in (begun v.id p).author v.snapshot) refusal earlier later own did at may none lost is
-            (newest-searched p v _ viewed asked) (newest-meets p v _ viewed asked) on
-        by_test false unasked on =
-            refused-make m call answer p v refusal earlier later own did at may none lost is (search-none p v MayCommit _ viewed (not_asked unasked refl)) on
+      -- no files are made after an event: memory ran out, or there is a reason
+      refused-make : (v : View) → HasSearch s p v MayCommit calls_now → Makes (begun v.id p) (found_in v) (Err refusal) → ShowsIt
+      refused-make v searched (inl memory) = forgot m call answer refusal own did at may takes memory
+      refused-make v searched (inr reason) =
+          found-reason refusal _ (is-reason (newest_in v) (begun v.id p).author (begun v.id p).batch refusal reason)
+          (p, earlier, calls_now, lost, (v, reason, searched), lost-calls (answered call answer) earlier later own is)
 
-    refused-reader : (m : Phase) (call : Call) (answer : Answer) (p o : OwnView) (to : view_phase.Phase) (refusal : Refusal) (earlier later own : List Event)
-        → DidSoFar s first m own → next_call m ≡ Some call → MayAnswer call answer → MayTakeMemory answer → HaveLost s first p earlier → own ≡ earlier ++ later → o ≡ p
-        → reader_trace.Did (newest_of s) to (later ++ answered call answer ∷ []) → AfterReader o to (Err refusal) → Shows s first refusal (own ++ answered call answer ∷ [])
-    refused-reader m call answer p o (readers.List a) refusal earlier later own did at may none lost is same did_to on = absurd (err-ok refusal _ on)
-    refused-reader m call answer p o (readers.Origin q) refusal earlier later own did at may none lost is same did_to on = absurd (err-ok refusal _ on)
-    refused-reader m call answer p o (readers.Snapshot q id) refusal earlier later own did at may none lost is same did_to on = absurd (err-ok refusal _ on)
-    refused-reader m call answer p o (readers.Base q x) refusal earlier later own did at may none lost is same did_to on = absurd (err-ok refusal _ on)
-    refused-reader m call answer p o (readers.Delta q x base) refusal earlier later own did at may none lost is same did_to on = absurd (err-ok refusal _ on)
-    refused-reader m call answer p o (readers.Manifests r) refusal earlier later own did at may none lost is same did_to on = absurd (err-ok refusal _ on)
-    refused-reader m call answer p o (readers.Again a id path) refusal earlier later own did at may none lost is same did_to on = absurd (err-ok refusal _ on)
-    refused-reader m call answer p o (readers.Ready v) refusal earlier later own did at may none lost is same did_to on =
-        refused-ready m call answer p v refusal earlier later own did at may none lost is did_to (subst (λ (o : OwnView). Tries (begun v.id o) v (Err refusal)) same on)
-    refused-reader m call answer p o readers.Over refusal earlier later own did at may none lost is same did_to on = absurd (err-ok refusal _ on)
+      refused-hear : (v : View) (left : List ℕ) (said : Seen) → (said ≡ seen.Other → HasSearch s p v (λ o v. Searched o v left) calls_now)
+          → HasSearch s p v (λ o v. Meets o v said) calls_now → Hears (begun v.id p) (found_in v) left said (Err refusal) → ShowsIt
+      refused-hear v left said searched meets on =
+          heard-refused ShowsIt (begun v.id p) (found_in v) left said refusal (λ free on. refused-make v (free-search p v left said calls_now searched meets free) on) on
+
+      -- the view is ready, and no files are made for it
+      refused-ready : (v : View) → Views s v calls_now → Tries (begun v.id p) v (Err refusal) → ShowsIt
+      refused-ready v viewed on =
+          tried ShowsIt (begun v.id p) v (Err refusal) (λ unasked on. refused-make v (search-none p v MayCommit calls_now viewed (not_asked unasked refl)) on)
+          (λ asked on. refused-hear v (older_ids v.listed.items) (seen_in (begun v.id p).author v.snapshot) (newest-searched p v calls_now viewed asked)
+          (newest-meets p v calls_now viewed asked) on) on
+
+      refused-reader : (o : OwnView) (to : view_phase.Phase) → o ≡ p → reader_trace.Did (newest_of s) to calls_now → AfterReader o to (Err refusal) → ShowsIt
+      refused-reader o to same did_to on =
+          read-refused ShowsIt (λ to. reader_trace.Did (newest_of s) to calls_now) o refusal
+          (λ v did_to on. refused-ready v did_to (subst (λ (o : OwnView). Tries (begun v.id o) v (Err refusal)) same on)) to did_to on
 
     -- eleven tries were lost, or it refuses nothing
     refused-putter : (o : OwnView) (t : TableSchema) (id : ℕ) (to : put_phase.Phase) (refusal : Refusal) (p : OwnView) (v : View) (made : Append)
@@ -472,10 +419,7 @@ module _ (s : TableSchema) where
         ap (λ (ids : List ℕ). ids ++ id ∷ []) ids_are ∙ ap (λ (id : ℕ). p.lost ++ id ∷ []) is_id in
         as-shown refusal (refusals.Contended (o.lost ++ id ∷ [])) _ contended
         (p, earlier, later, lost, (v, made, tried, subst (λ (ids : List ℕ). length ids + 1 ≡ tries) ids_are last, ids), is)
-    refused-putter o t id (puts.Create making) refusal p v made earlier later own same is_id lost is tried on = absurd (err-ok refusal _ on)
-    refused-putter o t id (puts.Publish x) refusal p v made earlier later own same is_id lost is tried on = absurd (err-ok refusal _ on)
-    refused-putter o t id puts.Published refusal p v made earlier later own same is_id lost is tried on = absurd (err-ok refusal _ on)
-    refused-putter o t id puts.Over refusal p v made earlier later own same is_id lost is tried on = absurd (err-ok refusal _ on)
+    refused-putter o t id to refusal p v made earlier later own same is_id lost is tried on = absurd (err-ok refusal _ on)
 
     -- a putter refuses where a create met a file
     put-met : (m : put_phase.Phase) (answer : Answer) (refusal : Refusal) → putters.Shown m answer refusal → (path : List ℕ) × (refusal ≡ refusals.SessionUsed path)
@@ -494,17 +438,17 @@ module _ (s : TableSchema) where
         (inl (names, subst (λ (o : OwnView). FindsUsed o.names names.items (Some path)) same finds, calls_are))
     refused-on law (phases.View o m) call answer refusal own (inl shown) (p, earlier, later, lost, (same, did), is) at may =
         let shows = some-at (reader.next_call m) call _ at ((reader_facts.recounts law (newest_of s)).refused m readers.Over answer refusal later (shown, refl) did) may in
-        inl (p, earlier, later ++ answered call answer ∷ [], lost, shows.1, ap (λ (own : List Event). own ++ answered call answer ∷ []) is ∙ append_assoc earlier later (answered call answer ∷ []))
+        inl (p, earlier, later ++ answered call answer ∷ [], lost, shows.1, lost-calls (answered call answer) earlier later own is)
     refused-on law (phases.View o m) call answer refusal own (inr (to, goes, on)) (p, earlier, later, lost, (same, did), is) at may =
         let did_to = some-at (reader.next_call m) call _ at ((reader_facts.recounts law (newest_of s)).went m to answer later goes did) may in
         let none = some-at (reader.next_call m) call _ at (reader-no m answer) may in
-        refused-reader (phases.View o m) call answer p o to refusal earlier later own (p, earlier, later, lost, (same, did), is) at may none lost is same did_to on
+        refused-reader (phases.View o m) call answer p refusal earlier later own (p, earlier, later, lost, (same, did), is) at may none lost is o to same did_to on
     refused-on law (phases.Search o q) call (answers.Found None) refusal own on did at may =
         let (p, earlier, later, lost, tried, is) = did in
         let (v, same, is_found, searched) = tried in
         let event_is : read_file (snapshot_path q.id) None ≡ answered call (answers.Found None) =
         ap (λ (call : Call). answered call (answers.Found None)) (call-same (calls.Read (snapshot_path q.id)) call at) in
-        refused-make (phases.Search o q) call (answers.Found None) p v refusal earlier later own did at may tt lost is
+        refused-make (phases.Search o q) call (answers.Found None) p refusal earlier later own did at may tt lost is v
         (subst (λ (e : Event). HasSearch s p v MayCommit (later ++ e ∷ [])) event_is (older-absent p v q.id q.left later searched))
         (subst (λ (found : Found). Makes (begun v.id p) found (Err refusal)) is_found (subst (λ (o : OwnView). Makes o q.found (Err refusal)) same on))
     refused-on law (phases.Search o q) call (answers.Found (Some bytes)) refusal own (inl memory) did at may =
@@ -520,8 +464,7 @@ module _ (s : TableSchema) where
           later ++ answered call (answers.Found (Some bytes)) ∷ [],
           lost,
           (v, q.id, q.left, bytes, later, searched, bad, refl, refl, ap (λ (e : Event). later ++ e ∷ []) event_is),
-          ap (λ (own : List Event). own ++ answered call (answers.Found (Some bytes)) ∷ []) is
-              ∙ append_assoc earlier later (answered call (answers.Found (Some bytes)) ∷ []),
+          lost-calls (answered call (answers.Found (Some bytes))) earlier later own is,
         )
     refused-on law (phases.Search o q) call (answers.Found (Some bytes)) refusal own (inr (inr (x, reads, on))) did at may =
         let (p, earlier, later, lost, tried, is) = did in
@@ -530,7 +473,7 @@ module _ (s : TableSchema) where
         ap (λ (call : Call). answered call (answers.Found (Some bytes))) (call-same (calls.Read (snapshot_path q.id)) call at) in
         let on_own : Hears (begun v.id p) q.found q.left (seen_of (begun v.id p).author x) (Err refusal) =
         subst (λ (o : OwnView). Hears o q.found q.left (seen_of o.author x) (Err refusal)) same on in
-        refused-hear (phases.Search o q) call (answers.Found (Some bytes)) p v q.left (seen_of (begun v.id p).author x) refusal earlier later own did at may tt lost is
+        refused-hear (phases.Search o q) call (answers.Found (Some bytes)) p refusal earlier later own did at may tt lost is v q.left (seen_of (begun v.id p).author x)
         (λ other. subst (λ (e : Event). HasSearch s p v (λ o v. Searched o v q.left) (later ++ e ∷ [])) event_is
         (older-searched p v q.id q.left bytes x later searched reads other))
         (subst (λ (e : Event). HasSearch s p v (λ o v. Meets o v (seen_of (begun v.id p).author x)) (later ++ e ∷ [])) event_is
@@ -560,13 +503,8 @@ module _ (s : TableSchema) where
 
     -- before its end
     so-far : (m : Phase) (own : List Event) → IsSome (next_call m) → Did s first m own → DidSoFar s first m own
-    so-far (phases.Names o t) own called did = did
-    so-far (phases.View o m) own called did = did
-    so-far (phases.Search o q) own called did = did
-    so-far (phases.Put o t id m) own called did = did
-    so-far (phases.Committed author id) own called did = did
-    so-far (phases.Already author) own called did = did
     so-far phases.Over own called did = absurd (let clash = called in cc)
+    so-far m own called did = did
 
     pub recounts : Joined → Recounts next_call Goes Refuses Stops (Did s first) (Shows s first)
     recounts law = recounts_of next_call Goes Shown phases.Over (DidSoFar s first) (Did s first) (λ m. MayTakeMemory) (Shows s first) so-far

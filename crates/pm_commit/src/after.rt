@@ -162,17 +162,9 @@ fn hear(
         Seen::Reached => {
             drop(found);
             drop(left);
-            let Own {
-                batch,
-                author,
-                names,
-                lost,
-                ..
-            } = own;
-            drop(batch);
-            drop(names);
-            drop(lost);
-            Ok(Phase::Already { author })
+            Ok(Phase::Already {
+                author: own.into_author(),
+            })
         }
     }
 }

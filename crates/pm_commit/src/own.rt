@@ -66,4 +66,21 @@ impl Own {
             self.names.set_base(newest);
         }
     }
+
+    /// The author, where the commit is done.
+    pub(crate) fn into_author(self) -> Author
+        ensures { result ≡ self.author }
+    {
+        let Own {
+            batch,
+            author,
+            names,
+            lost,
+            ..
+        } = self;
+        drop(batch);
+        drop(names);
+        drop(lost);
+        author
+    }
 }

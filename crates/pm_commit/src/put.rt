@@ -16,7 +16,7 @@ use crate::lost::TRIES;
 use crate::own::Own;
 use crate::paths::after_path;
 use crate::phase::Phase;
-use pm_append::{Append, Author};
+use pm_append::Append;
 use pm_base::Blob;
 use pm_machine::{Machine, PhaseMeaning};
 use pm_paths::snapshot_path;
@@ -114,7 +114,7 @@ fn after_putter(own: Own, schema: TableSchema, id: u64, putter: Putter) -> Resul
             drop(putter);
             drop(schema);
             Ok(Phase::Committed {
-                author: author_of(own),
+                author: own.into_author(),
                 id,
             })
         }
@@ -123,23 +123,6 @@ fn after_putter(own: Own, schema: TableSchema, id: u64, putter: Putter) -> Resul
             after_lost(own, schema, id)
         }
     }
-}
-
-/// The author of a commit that is done.
-fn author_of(own: Own) -> Author
-    ensures { result ≡ own.author }
-{
-    let Own {
-        batch,
-        author,
-        names,
-        lost,
-        ..
-    } = own;
-    drop(batch);
-    drop(names);
-    drop(lost);
-    author
 }
 
 /// What follows once this id was lost to others.
