@@ -18,7 +18,7 @@ use crate::paths::after_path;
 use crate::phase::Phase;
 use pm_append::Append;
 use pm_base::Blob;
-use pm_machine::{Machine, PhaseMeaning};
+use pm_machine::Machine;
 use pm_paths::snapshot_path;
 use pm_put::{Publishing, PutStep, Putter, new_putter};
 use pm_schema::TableSchema;

@@ -1,28 +1,24 @@
--- A putter keeps the laws of machines.
-use Rattle.std.proofs.Common.{◌≡◌, ◌≢◌, inl, inr, ℕ, ◌+◌, ◌<◌, List, [], ◌∷◌, ◌++◌, length, if◌then◌else◌, ◌&&◌, Option, None, Some, is_none, is_some, IsSome, IfSome, refl, sym, ap, subst, ◌∙◌, append_assoc, append-nil, arith}
+-- What the calls of a putter leave, what led to its phases, and how far it has come.
+use Rattle.std.proofs.Common.{◌≡◌, inl, inr, ℕ, ◌+◌, ◌<◌, List, [], ◌∷◌, ◌++◌, length, if◌then◌else◌, ◌&&◌, Option, None, Some, is_none, is_some, IsSome, IfSome, refl, sym, ap, subst, ◌∙◌, append_assoc, append-nil, arith}
 use Rattle.std.specs.FinMap as map
 use Rattle.std.specs.List.{AllByRecursion}
-use Rattle.std.proofs.lemmas.Option.{IfSome_then}
-use Rattle.pm_base.proofs.Laws.{AllByRecursion-append}
+use Rattle.pm_base.proofs.Laws.{AllByRecursion-append, AllByRecursion-parts}
 use Rattle.pm_values.specs.declared.refusal.Refusal.{Refusal}
-use Rattle.pm_values.specs.declared.refusal.Refusal.TheVariants as refusals
 use Rattle.pm_store.specs.declared.answer.Answer.{Answer}
 use Rattle.pm_store.specs.declared.answer.Answer.TheVariants as answers
 use Rattle.pm_store.specs.declared.answer.Made.TheVariants as makes
 use Rattle.pm_store.specs.declared.answer.Published.{Published}
 use Rattle.pm_store.specs.declared.answer.Published.TheVariants as published
-use Rattle.pm_store.specs.declared.call.Call.{Call}
 use Rattle.pm_store.specs.declared.call.Effect.{Effect}
 use Rattle.pm_store.specs.declared.call.Effect.TheVariants as effects
-use Rattle.pm_store.specs.Answers.{Answers, MayAnswer, made_at, published_at}
-use Rattle.pm_store.specs.Files.{Files, Puts, after_effect, carried}
-use Rattle.pm_store.proofs.ChangeLaws.{Answers-Changed, Puts-insert}
-use Rattle.pm_machine.specs.Moves.{Leads, Sound}
+use Rattle.pm_store.specs.Answers.{MayAnswer, made_at, published_at}
+use Rattle.pm_store.specs.Files.{Files, Puts, after_effect}
+use Rattle.pm_store.proofs.ChangeLaws.{Puts-insert}
 use Rattle.pm_machine.specs.Running.{Refuses, Stops}
 use Rattle.pm_machine.specs.Trace.{Event, Recounts, answered}
-use Rattle.pm_machine.proofs.PhaseFacts.{both_if, recounts_of}
+use Rattle.pm_machine.proofs.PhaseFacts.{recounts_of}
 use Rattle.pm_put.specs.Making.{MakingView}
-use Rattle.pm_put.specs.Meaning.{AnyFiles, AreSame, HasDone, HasLast, IsAt, IsPut, Knows, KnowsPut, Makes, MakesOf, Putting}
+use Rattle.pm_put.specs.Meaning.{HasDone, IsAt, IsPut, Knows, Makes, Putting, StayPut}
 use Rattle.pm_put.specs.Putter.{after_publish, calls_left, create_call, create_next, next_call, publish_call, reached_at, Goes, IsOneFewer, Reaches, Shown}
 use Rattle.pm_put.specs.Trace.{all_created, all_put, creates, publishes, Did, DidSoFar, HasCreated, MayTakeMemory, Shows}
 use Rattle.pm_put.specs.declared.putting.CommitFile.{CommitFile}
@@ -59,9 +55,7 @@ publish_makes x f effects.Whole = whole_published x f (map.get f x.path) (map.ge
 pub call_makes : (m : Phase) (f : Files) → IfSome (next_call m) (λ call. (effect : Effect) → Makes m f (after_effect call effect f))
 call_makes (phases.Create making) f = create_makes making f
 call_makes (phases.Publish x) f = publish_makes x f
-call_makes phases.Published f = tt
-call_makes phases.Lost f = tt
-call_makes phases.Over f = tt
+call_makes m f = tt
 
 -- ---- what is known afterwards
 
@@ -103,22 +97,17 @@ at_first put P none = at put.files refl
     at [] is = (refl, subst P (sym is) none)
     at (file ∷ files) is = (refl, record { done = []; files = is; so = none })
 
-last_stays : (put : Putting) (m : Phase) (f after : Files) → Stays f after → HasLast put m f → HasLast put m after
-last_stays put phases.Published f after stays is =
-    stays put.last.path (subst (λ (found : Option (List ℕ)). IsSome found) (sym is) refl) ∙ is
-last_stays put (phases.Create making) f after stays is = tt
-last_stays put (phases.Publish x) f after stays is = tt
-last_stays put phases.Lost f after stays is = tt
-last_stays put phases.Over f after stays is = tt
+-- of the files that were created, each that is there stays so
+still_put : (f after : Files) (files : List CommitFile) → StayPut f after files → AllByRecursion (IsPut f) files → AllByRecursion (IsPut after) files
+still_put f after [] stay all = tt
+still_put f after (file ∷ files) (stays, stay) (is, all) = (stays is, still_put f after files stay all)
 
-pub knows_stays : (put : Putting) (m : Phase) (f after : Files) → Stays f after → Knows put m f → Knows put m after
-knows_stays put m f after stays (at, last) = (
-  at_weaker put (AllByRecursion (IsPut f)) (AllByRecursion (IsPut after)) m (λ done left files. all_stay f after stays done) at,
-  last_stays put m f after stays last,
-)
-
-same-stays : (f after : Files) → AreSame f after → Stays f after
-same-stays f after same path there = same path
+pub kept : (put : Putting) (m : Phase) (f after : Files) → StayPut f after put.files → Knows put m f → Knows put m after
+kept put m f after stay known =
+    at_weaker put (AllByRecursion (IsPut f)) (AllByRecursion (IsPut after)) m
+    (λ done left files. still_put f after done
+    (AllByRecursion-parts (λ (file : CommitFile). IsPut f file → IsPut after file) done left (subst (StayPut f after) files stay)).0)
+    known
 
 none-there : (found : Option (List ℕ)) → IsSome found → found ≡ None → ⊥
 none-there None there is = cc
@@ -136,10 +125,6 @@ put-more f after file absent puts done there =
     AllByRecursion-append (IsPut after) done (file ∷ [])
     (all_stay f after (appears-stays f after file.path (Some file.bytes) absent puts) done there) (puts.here, tt)
 
-no-last : (put : Putting) (x : Publishing) (left : List CommitFile) (f : Files) → HasLast put (create_next x left) f
-no-last put x [] f = tt
-no-last put x (file ∷ left) f = tt
-
 -- a create is answered so where its path was absent; and a publish where its path was
 pub created_absent : (at : Option (List ℕ)) → makes.Created ≡ made_at at → at ≡ None
 created_absent None e = refl
@@ -155,62 +140,11 @@ published_there (Some found) before e = cc
 published_there None None e = cc
 published_there None (Some present) e = refl
 
-publish_knows : (put : Putting) (x : Publishing) (answer : Published) (f : Files) → Knows put (phases.Publish x) f
-    → Answers (publish_call x) (answers.Published answer) f → Knows put (after_publish answer) (carried (publish_call x) f)
-publish_knows put x published.Created f ((is, there), last) told =
-    let after : Files = carried (publish_call x) f in
-    let puts : Puts f x.path (Some x.bytes) after = Answers-Changed (publish_call x) (answers.Published published.Created) f told in (
-      all_stay f after (appears-stays f after x.path (Some x.bytes) (published_absent (map.get f x.path) (map.get f x.after) told) puts) put.files there,
-      subst (λ (y : Publishing). map.get after y.path ≡ Some y.bytes) is puts.here,
-    )
-publish_knows put x published.Exists f ((is, there), last) told =
-    let after : Files = carried (publish_call x) f in
-    (all_stay f after (same-stays f after (Answers-Changed (publish_call x) (answers.Published published.Exists) f told)) put.files there, tt)
-publish_knows put x published.AfterGone f ((is, there), last) told =
-    let after : Files = carried (publish_call x) f in
-    (all_stay f after (same-stays f after (Answers-Changed (publish_call x) (answers.Published published.AfterGone) f told)) put.files there, tt)
-
--- it goes on with what is known
-pub went_knows : (put : Putting) (m : Phase) (answer : Answer) (new : Phase) (f : Files) → Goes m answer new → Knows put m f
-    → IfSome (next_call m) (λ call. Answers call answer f → Knows put new (carried call f))
-went_knows put (phases.Create making) (answers.Made makes.Created) new f goes ((is, has), last) = λ told.
-    let call : Call = create_call making.next in
-    let after : Files = carried call f in
-    let puts : Puts f making.next.path (Some making.next.bytes) after = Answers-Changed call (answers.Made makes.Created) f told in
-    let absent = created_absent (map.get f making.next.path) told in
-    subst (λ (m : Phase). Knows put m after) (sym goes) (
-      at_next put (AllByRecursion (IsPut f)) (AllByRecursion (IsPut after)) making.publishing making.next making.rest is has
-          (put-more f after making.next absent puts),
-      no-last put making.publishing making.rest after,
-    )
-went_knows put (phases.Publish x) (answers.Published answer) new f goes known = λ told.
-    subst (λ (m : Phase). Knows put m (carried (publish_call x) f)) (sym goes) (publish_knows put x answer f known told)
-went_knows put m answer new f goes known = absurd goes
-
-over_knows : (new : Phase) (f : Files) (put : Putting) → new ≡ phases.Over → Knows put new f
-over_knows new f put over = subst (λ (m : Phase). Knows put m f) (sym over) (tt, tt)
-
-pub sound : Sound next_call Goes (Refuses Shown phases.Over) (Stops phases.Over) AnyFiles MakesOf KnowsPut
-sound = record {
-  changes = λ m f put any known. IfSome_then (next_call m) (call_makes m f) (λ call made effect. (put, (refl, made effect)));
-  went = λ m new answer f put goes any known. both_if (next_call m) _ _ _
-      (λ call made leads told. (put, (refl, made effects.Whole), leads told))
-      (call_makes m f) (went_knows put m answer new f goes known);
-  refused = λ m new answer refusal f put refuses any known. IfSome_then (next_call m) (call_makes m f)
-      (λ call made told. (put, (refl, made effects.Whole), over_knows new (carried call f) put refuses.1));
-  failed = λ m new effect f put stops any known. IfSome_then (next_call m) (call_makes m f)
-      (λ call made may. (put, (refl, made effect), over_knows new (after_effect call effect f) put stops));
-  stopped = λ m new f put called stops any known. over_knows new f put stops;
-}
-
 -- ---- its calls
 
 so_far : (put : Putting) (m : Phase) (own : List Event) → IsSome (next_call m) → Did put m own → DidSoFar put m own
-so_far put (phases.Create making) own called did = did
-so_far put (phases.Publish x) own called did = did
-so_far put phases.Published own called did = did
-so_far put phases.Lost own called did = did
 so_far put phases.Over own called did = absurd (let clash = called in cc)
+so_far put m own called did = did
 
 created-push : (files : List CommitFile) (file : CommitFile)
     → all_created files ++ creates file makes.Created ∷ [] ≡ all_created (files ++ file ∷ [])
@@ -303,6 +237,4 @@ goes m answer new on = absurd on
 pub has_call : (m : Phase) → 0 < calls_left m → IsSome (next_call m)
 has_call (phases.Create making) left = refl
 has_call (phases.Publish x) left = refl
-has_call phases.Published left = absurd (omega (arith, left))
-has_call phases.Lost left = absurd (omega (arith, left))
-has_call phases.Over left = absurd (omega (arith, left))
+has_call m left = absurd (omega (arith, left))

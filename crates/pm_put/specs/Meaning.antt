@@ -1,10 +1,8 @@
--- What a putter knows of the files, and what its steps mean for them.
+-- What a putter knows of the files, and what its calls may change of them.
 use Rattle.std.specs.Prelude.{◌≡◌, ◌⊎◌, ℕ, List, ◌∷◌, ◌++◌, None, Some, IsSome}
 use Rattle.std.specs.FinMap as map
 use Rattle.std.specs.List.{AllByRecursion}
 use Rattle.pm_store.specs.Files.{Files, Puts}
-use Rattle.pm_store.specs.Store.{StoreView}
-use Rattle.pm_machine.specs.Moves.{Moves}
 use Rattle.pm_put.specs.declared.putting.CommitFile.{CommitFile}
 use Rattle.pm_put.specs.declared.putting.Publishing.{Publishing}
 use Rattle.pm_put.specs.declared.phase.Phase.{Phase}
@@ -54,28 +52,10 @@ IsAt put P phases.Published = P put.files
 IsAt put P phases.Lost = P put.files
 IsAt put P phases.Over = Unit {0}
 
--- the last file is there once it was published
-abbrev pub HasLast : Putting → Phase → Files → Type 0
-HasLast put phases.Published f = map.get f put.last.path ≡ Some put.last.bytes
-HasLast put other f = Unit {0}
-
--- what it knows in each phase of what is put: that each file that it created is there, and so is the last
+-- what it knows in each phase of what is put: that each file that it created is there
 abbrev pub Knows : Putting → Phase → Files → Type 0
-Knows put m f = IsAt put (AllByRecursion (IsPut f)) m × HasLast put m f
+Knows put m f = IsAt put (AllByRecursion (IsPut f)) m
 
--- ---- what is put beside the files
-
--- What is put stands beside the files in the place of a history, since phases don't hold it to the end, and stays.
-abbrev pub AnyFiles : Files → Putting → Type 0
-AnyFiles f put = Unit {0}
-
-abbrev pub MakesOf : Phase → Files → Putting → Files → Putting → Type 0
-MakesOf m f put after later = (later ≡ put) × Makes m f after
-
-abbrev pub KnowsPut : Phase → Files → Putting → Type 0
-KnowsPut m f put = Knows put m f
-
--- Whatever is put, and whatever others do: a step makes one of these changes, or none, and what the putter knows holds
--- after it.
-abbrev pub PutterMoved : Phase → Phase → StoreView → StoreView → Type 0
-PutterMoved old new before after = Moves AnyFiles (MakesOf old) (KnowsPut old) (KnowsPut new) before after
+-- each of the files that is there stays so
+abbrev pub StayPut : Files → Files → List CommitFile → Type 0
+StayPut f after files = AllByRecursion (λ (file : CommitFile). IsPut f file → IsPut after file) files

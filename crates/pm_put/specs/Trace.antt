@@ -1,5 +1,5 @@
 -- The own calls of a putter, and what they show.
-use Rattle.std.specs.Prelude.{◌≡◌, ℕ, List, [], ◌∷◌, ◌++◌, map, Result, IfErr}
+use Rattle.std.specs.Prelude.{◌≡◌, ℕ, List, [], ◌∷◌, ◌++◌, map}
 use Rattle.pm_values.specs.declared.refusal.Refusal.{Refusal}
 use Rattle.pm_values.specs.declared.refusal.Refusal.TheVariants as refusals
 use Rattle.pm_store.specs.declared.answer.Answer.{Answer}
@@ -8,13 +8,11 @@ use Rattle.pm_store.specs.declared.answer.Made.{Made}
 use Rattle.pm_store.specs.declared.answer.Made.TheVariants as makes
 use Rattle.pm_store.specs.declared.answer.Published.{Published}
 use Rattle.pm_store.specs.declared.answer.Published.TheVariants as published
-use Rattle.pm_store.specs.Store.{StoreView}
-use Rattle.pm_machine.specs.Trace.{Acts, Event, IsFailed, MayEnd, answered}
+use Rattle.pm_machine.specs.Trace.{Event, IsFailed, MayEnd, answered}
 use Rattle.pm_put.specs.Meaning.{IsAt, Putting}
 use Rattle.pm_put.specs.Putter.{create_call, next_call, publish_call}
 use Rattle.pm_put.specs.declared.putting.CommitFile.{CommitFile}
 use Rattle.pm_put.specs.declared.putting.Publishing.{Publishing}
-use Rattle.pm_put.specs.declared.putter.PutStep.{PutStep}
 use Rattle.pm_put.specs.declared.phase.Phase.{Phase}
 use Rattle.pm_put.specs.declared.phase.Phase.TheVariants as phases
 
@@ -76,9 +74,3 @@ Shows put other own = ⊥
 abbrev pub Did : Putting → Phase → List Event → Type 0
 Did put phases.Over own = (refusal : Refusal) × Shows put refusal own
 Did put m own = DidSoFar put m own
-
--- Whatever is put, its next call is the next event of its calls so far, or none was made; and a refusal is shown by the
--- calls up to it.
-abbrev pub PutterActed : Phase → Phase → StoreView → StoreView → Result PutStep Refusal → Type 0
-PutterActed old new before after result = (put : Putting)
-    → Acts (Did put old) (λ own. Did put new own × IfErr result (λ refusal. Shows put refusal own)) before after

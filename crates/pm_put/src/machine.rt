@@ -2,13 +2,12 @@
 
 ghost use Rattle.std.specs.Prelude.{◌≡◌, IfOk, IfErr};
 ghost use Rattle.pm_store.specs.declared.answer.Answer.TheVariants as answers;
-ghost use Rattle.pm_put.specs.Putter.{after_publish, create_next, Goes, Shown};
+ghost use Rattle.pm_put.specs.Putter.{after_publish, create_next, reached_at, Goes, Shown};
 ghost use Rattle.pm_put.specs.declared.phase.Phase.TheVariants as phases;
 
 use crate::phase::Phase;
 use crate::putter::PutStep;
 use crate::putting::{CommitFile, Making, Publishing};
-use pm_machine::PhaseMeaning;
 use pm_store::{Answer, Call, Made, Published};
 use pm_values::Refusal;
 use std::alloc::{AllocError, Global};
@@ -113,37 +112,11 @@ fn after_publish(published: Published) -> Phase
     }
 }
 
-impl PhaseMeaning for Phase {
-    ghost use Rattle.pm_put.specs.Meaning as meaning;
-    ghost use Rattle.pm_put.specs.Meaning.{AnyFiles, KnowsPut, MakesOf};
-    ghost use Rattle.pm_put.specs.Putter.{calls_left, reached_at, IsOneFewer, Reaches};
-    ghost use Rattle.pm_put.specs.Trace.{Did, Shows};
-
-    type Step = PutStep;
-
-    ghost History = { meaning.Putting };
-
-    ghost Folder = { AnyFiles };
-
-    ghost Change = { MakesOf };
-
-    ghost knows = { KnowsPut };
-
-    ghost Asked = { meaning.Putting };
-
-    ghost did = { Did };
-
-    ghost shows = { Shows };
-
-    ghost calls_left = { calls_left };
-
-    ghost reached_at = { reached_at };
-
-    ghost reaches = { Reaches };
-
-    ghost keeps = { IsOneFewer };
-
-    fn reached(&self) -> PutStep {
+impl Phase {
+    /// What a step that went on has reached.
+    pub fn reached(&self) -> PutStep
+        ensures { result ≡ reached_at self.now }
+    {
         match self {
             Phase::Published => PutStep::Published,
             Phase::Lost => PutStep::Lost,
