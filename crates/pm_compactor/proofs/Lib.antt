@@ -1,2 +1,3 @@
 mod ChoiceLemmas
 mod RemovedLemmas
+mod StoredLemmas

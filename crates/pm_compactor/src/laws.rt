@@ -1,21 +1,28 @@
 //! What holds of all choices.
 
-ghost use Rattle.std.specs.Prelude.{◌≡◌, ◌≤◌, List, map};
+ghost use Rattle.std.specs.Prelude.{◌≡◌, ◌≤◌, ◌++◌, ℕ, All, List, map};
 ghost use Rattle.std.specs.List.{AllByRecursion};
 ghost use Rattle.std.specs.List.Sorted.{IsStrictlySortedBy};
 ghost use Rattle.pm_values.specs.GroupOrder.{group_cmp};
 ghost use Rattle.pm_values.specs.declared.group.Group.{Group};
 ghost use Rattle.pm_schema.specs.declared.schema.TableSchema.{TableSchema};
+ghost use Rattle.pm_model_history.specs.History.{Entry};
+ghost use Rattle.pm_engine.specs.Covers.{IsRising};
+ghost use Rattle.pm_engine.specs.OfSchema.{meaning_of};
+ghost use Rattle.pm_merge.specs.Merge.{AreStored};
 ghost use Rattle.pm_manifest.specs.Live.{Live};
 ghost use Rattle.pm_levels.specs.Picking.{top_of};
 ghost use Rattle.pm_levels.specs.Runs.{RunView};
 ghost use Rattle.pm_levels.specs.declared.choice.Asked.{Asked};
 ghost use Rattle.pm_levels.specs.declared.choice.PickRule.{PickRule};
 ghost use Rattle.pm_model_contents.specs.Runs.{AreRunsOf, IsLive};
+ghost use Rattle.pm_runs.specs.Succession.{AreKnownAt, KnownRun, from_oldest};
 ghost use Rattle.pm_compactor.specs.Choice.{choices, group_of, removed_entries, HaveLevels, IsChosen, TellLive};
 ghost use Rattle.pm_compactor.specs.declared.choice.ChosenGroup.{ChosenGroup};
 
+use pm_engine::own_kind_law;
 use pm_levels::pick_law;
+use pm_merge::merged_law;
 
 /// Of rising groups those with a choice rise. What goes of each are the newest of its runs, to a level that lies
 /// between them and the others; and that is the highest exactly where no run is left.
@@ -36,3 +43,13 @@ pub fn removed_law()
         AllByRecursion (λ (c : ChosenGroup). AreRunsOf live c.group c.levels) chosen →
         AllByRecursion (IsLive live) (removed_entries s chosen) }
 {}
+
+/// Of the runs of a group that are known at a snapshot the newest ones, which go, are runs of stored rows of the table.
+pub fn stored_law()
+    ensures { (s : TableSchema) (g : Group) (entries : List Entry) (n : ℕ) (taken left : List KnownRun) →
+        AreKnownAt s g entries n (taken ++ left) → All IsRising (from_oldest (taken ++ left)) →
+        AreStored (meaning_of s) (from_oldest taken) }
+{
+    merged_law();
+    own_kind_law();
+}
