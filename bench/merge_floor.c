@@ -7,7 +7,7 @@
    as they are. It tests no number, text, key, order or bound, has no other engine, and answers no damage and no want
    of memory. With a fourth word `tested` it tests of each row what ours refuses a file for, as it reads it: the
    bounds of its block, its numbers, its text, that its key is that of its columns, and that keys rise. With `copied`
-   it tests nothing and makes no row either: it steps over its bytes, and copies them. */
+   it tests nothing, and writes a row by one copy of its bytes, though it reads its fields like the others. */
 #include "merge_rows.h"
 
 #define MOST_IN_BLOCK 1024

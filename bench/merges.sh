@@ -2,8 +2,8 @@
 # Merges 1,000,000 rows in ten runs, each a file, to files of 65,536 rows: ours, which reads them and judges each row,
 # then merges and writes (`timed-merge` of pm_cases_codecs); the plain floor, which does the same to these very files
 # by C written for this one schema (merge_floor.c), and tests nothing; the same with the tests that ours makes of a
-# file; the same with rows that are copied, never made and not tested; and RocksDB's compaction of the same rows from
-# ten files of level 0 (rocks_compact.c). Ours and the floors have their files in memory, RocksDB in /dev/shm. Five
+# file; the same where a row is written by one copy of its bytes, and nothing is tested; and RocksDB's compaction of
+# the same rows from ten files of level 0 (rocks_compact.c). Ours and the floors have their files in memory, RocksDB in /dev/shm. Five
 # times each in turn, with each key in one run (`spread`) and with all keys in each run (`same`). It prints the least
 # time of each, and how many times theirs ours takes, and fails where ours and a floor come to other files. The gate
 # never runs it. It wants a C compiler; without RocksDB (in Debian librocksdb-dev) it leaves that out. docs/COST.md

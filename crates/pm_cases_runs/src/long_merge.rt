@@ -3,7 +3,6 @@
 ghost use Rattle.std.specs.Prelude.{◌≡◌, All, IfOk, OnOk, map};
 ghost use Rattle.pm_options.specs.declared.kinds.EngineKind.TheVariants as engines;
 ghost use Rattle.pm_engine.specs.Covers.{IsRising};
-ghost use Rattle.pm_scan_rows.specs.Stored.{run_left};
 
 use crate::long_run::say_files;
 use crate::order::are_rising;
@@ -16,14 +15,14 @@ use pm_engines::TableEngine;
 use pm_run::{RunFile, order_law};
 use pm_run_reader::RunReader;
 use pm_run_writer::write_data;
-use pm_scan_rows::{StoredRows, StoredRun};
+use pm_scan_rows::{StoredRun, sources};
 use pm_schema::EngineKind;
 use pm_values::{Refusal, Stamped};
 use std::alloc::{AllocError, Global};
 
 /// Which rows runs have.
 #[derive(Clone, Copy)]
-struct Plan {
+struct Shape {
     /// How many keys there are, from 1 on.
     keys: u64,
     runs: u64,
@@ -56,11 +55,11 @@ fn say_rewritten(case: &mut Case, table: Table, runs: Vec<StoredRun>)
 
 /// The files of the runs that the words tell, each of one, the oldest first.
 pub fn files_of(case: &mut Case, table: Table, arguments: &str) -> Vec<RunFile> {
-    let plan = read_plan(case, arguments);
+    let shape = read_shape(case, arguments);
     let mut files = Vec::new(case.alloc());
     let mut number = 0_u64;
-    for run in 0..plan.runs {
-        let rows = rows_of(case, table, plan, run, number);
+    for run in 0..shape.runs {
+        let rows = rows_of(case, table, shape, run, number);
         number = number.saturating_add(rows.len() as u64);
         push_file(case, table, &mut files, &rows);
         drop(rows);
@@ -69,7 +68,7 @@ pub fn files_of(case: &mut Case, table: Table, arguments: &str) -> Vec<RunFile> 
 }
 
 /// How many rows there are in how many runs, and whether their keys are `spread` over the runs or the `same` in each.
-fn read_plan(case: &mut Case, arguments: &str) -> Plan {
+fn read_shape(case: &mut Case, arguments: &str) -> Shape {
     let (count, rest) = case.split(arguments);
     let (runs, shape) = case.split(rest);
     let count = case.number(count);
@@ -78,7 +77,7 @@ fn read_plan(case: &mut Case, arguments: &str) -> Plan {
         case.reject();
     }
     let is_spread = shape == "spread";
-    Plan {
+    Shape {
         keys: if is_spread {
             count
         } else {
@@ -95,12 +94,12 @@ fn share_of(count: u64, runs: u64) -> u64 {
 }
 
 /// The rows of a run, by rising key, with the numbers after this one; the text of each has its number.
-fn rows_of(case: &mut Case, table: Table, plan: Plan, run: u64, before: u64) -> Vec<Stamped> {
+fn rows_of(case: &mut Case, table: Table, shape: Shape, run: u64, before: u64) -> Vec<Stamped> {
     let mut rows = Vec::new(case.alloc());
     let mut number = before;
-    for index in 0..plan.keys {
+    for index in 0..shape.keys {
         let key = index.saturating_add(1);
-        if has_key(plan, run, key) {
+        if has_key(shape, run, key) {
             number = number.saturating_add(1);
             push_numbered(case, table, &mut rows, key, number);
         }
@@ -109,11 +108,11 @@ fn rows_of(case: &mut Case, table: Table, plan: Plan, run: u64, before: u64) -> 
 }
 
 /// Whether a run has a row of the key. Where keys are spread a hash of it tells its run.
-fn has_key(plan: Plan, run: u64, key: u64) -> bool {
-    if plan.runs == 0 || !plan.is_spread {
+fn has_key(shape: Shape, run: u64, key: u64) -> bool {
+    if shape.runs == 0 || !shape.is_spread {
         return true;
     }
-    (key.wrapping_mul(0x9E37_79B9_7F4A_7C15) >> 32) % plan.runs == run
+    (key.wrapping_mul(0x9E37_79B9_7F4A_7C15) >> 32) % shape.runs == run
 }
 
 /// Adds the row of the key with the number.
@@ -211,20 +210,17 @@ fn rewrite_by_last(alloc: Global, table: Table, runs: &[StoredRun]) -> Result<Ve
 {
     drops_by_kind_law();
     let engine = TableEngine::of_schema(alloc, table.schema)?;
-    let sources = sources_of(alloc, runs)?;
+    let older_first = sources(alloc, runs)?;
     let mut names = names();
-    let files = rewrite(alloc, &engine, table.schema, sources, 5, true, &mut names);
+    let files = rewrite(
+        alloc,
+        &engine,
+        table.schema,
+        older_first,
+        5,
+        true,
+        &mut names,
+    );
     drop(engine);
     files
-}
-
-/// The rows of runs, each where it lies.
-fn sources_of<'b>(alloc: Global, runs: &'b [StoredRun]) -> Result<Vec<StoredRows<'b>>, AllocError>
-    ensures { IfOk result (λ sources. map run_left sources.items ≡ runs.now) }
-{
-    let mut sources = Vec::new(alloc);
-    for run in runs {
-        sources.push(run.rows())?;
-    }
-    Ok(sources)
 }

@@ -79,7 +79,8 @@ Knows a phases.Over f p = Unit {0}
 
 -- ---- what is asked beside what the files stand for
 
--- What is asked stands beside the past in the place of a history, since phases don't hold it to the end, and stays.
+-- What is asked, with what was handed out, stands beside the past in the place of a history, since phases don't hold it
+-- to the end. It changes only where groups are handed out.
 pub record PastOf : Type 0 where
   pub past : Past
   pub chosen : Chosen

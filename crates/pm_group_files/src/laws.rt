@@ -40,8 +40,8 @@ pub fn images_law()
         → MayLeave call f image → IsKept f p image p }
 {}
 
-/// Whatever others do between its calls, a folder that stands shows it no refusal but that memory ran out, or that the
-/// snapshot has gone.
+/// Whatever others do between its calls, a folder that stands shows it no refusal but those that a reader of the table
+/// may give: that memory ran out, or that the snapshot has gone or never was.
 pub fn causes_law()
     ensures { (a : Chosen) (m : Phase) (call : Call) (answer : Answer) (refusal : Refusal) (f : Files) (p : Past)
         → Stands f p → Knows a m f p → next_call m ≡ Some call → Answers call answer f → Shown m answer refusal

@@ -10,7 +10,7 @@
 //! the files in each phase and what its call may change of them; `specs/Trace.antt` which calls it made, as a function
 //! of what is put, and which show a refusal. All this is said of files alone: what they stand for, and that the publish
 //! is a change of some kind, is for the machine that holds a putter to say. What a putter knows stays true as long as
-//! nobody changes a file that it created, or removes it (`kept_law`).
+//! each of its files that is there stays so (`kept_law`).
 #![tactic(auto)]
 
 mod laws;
