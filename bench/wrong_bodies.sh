@@ -2,8 +2,8 @@
 # Tries the wrong bodies that the gate doesn't: the edits of crates/NAME/wrong, in a copy of the checkout, where they
 # stand in the place of the edits that the gate tries. It prints a line for each, with the first obligation that stays
 # open. It ends with 1 where one isn't refused, can't be applied or read, or is refused only because a proof names what
-# it took away, and where any wasn't tried. Built libraries are taken over; the others are built in the copy, which
-# takes long. The gate never runs it.
+# it took away, and where any wasn't tried. What is refused goes into bench/tried.txt (bench/tried.py). Built libraries
+# are taken over; the others are built in the copy, which takes long. The gate never runs it.
 #
 # usage: bench/wrong_bodies.sh [CRATE..]     without a crate: each that has wrong bodies
 set -uo pipefail
@@ -32,6 +32,7 @@ for crate in "${crates[@]}"; do
 done
 
 (cd "$work" && rt must-fail "${crates[@]}" 2>&1) | tee "$work/said"
+python3 bench/tried.py record "$work/said" || fail "bench/tried.txt can't be written"
 bad=0
 while read -r edit; do
     said=$(grep -F -- "must-fail $edit: " "$work/said")
