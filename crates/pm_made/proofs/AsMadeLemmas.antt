@@ -52,7 +52,7 @@ module _ (facts : SnapshotFacts) (manifests : ManifestFacts) (read : ReadEntries
   abbrev newest : Newest
   newest = t.newest
 
-  abbrev made : IsMadeOf s t.newest t.author t.intent t.first t.names t.made
+  abbrev made : IsMadeOf s t.newest t.author t.intent t.names t.made
   made = ready.made
 
   allowed : IsAllowed t
@@ -146,15 +146,15 @@ module _ (facts : SnapshotFacts) (manifests : ManifestFacts) (read : ReadEntries
 
   adds : AreAdds d.added
   adds = record {
-    add = delta-adds s t.newest t.first t.names t.intent d made.row_files made.left made.has_delta;
+    add = delta-adds s t.newest t.names t.intent d made.row_files made.left made.has_delta;
     apart = pairs-from Apart d.added ready.may_change.added;
   }
 
   untaken : first_taken newest.live.items d.removed ≡ None
-  untaken = ap (first_taken newest.live.items) (removed-are s t.newest t.first t.names t.intent d made.row_files made.left made.has_delta) ∙ allowed.taken
+  untaken = ap (first_taken newest.live.items) (removed-are s t.newest t.names t.intent d made.row_files made.left made.has_delta) ∙ allowed.taken
 
-  named : NamesFiles s t.newest t.first t.names me t.author.base d
-  named = names-files s t.newest t.first t.names me t.author.base t.intent d made.row_files made.left made.has_delta
+  named : NamesFiles s t.newest t.names me t.author.base d
+  named = names-files s t.newest t.names me t.author.base t.intent d made.row_files made.left made.has_delta
       (first-names me s t ready.maker made) ready.own
 
   -- the files that come are new

@@ -42,7 +42,7 @@ module _ (facts : SnapshotFacts) (paths : PathFacts) (me : Actor) (f after : Fil
   abbrev later : List Entry
   later = entries ++ e ∷ []
 
-  abbrev made : IsMadeOf s t.newest t.author t.intent t.first t.names t.made
+  abbrev made : IsMadeOf s t.newest t.author t.intent t.names t.made
   made = ready.made
 
   abbrev old : Old facts f s entries ready.folder t.newest ready.newest.id t.newest.snapshot

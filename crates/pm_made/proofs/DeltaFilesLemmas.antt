@@ -1,5 +1,5 @@
 -- What a commit changes, by what it is for: which entries go and come, and who named their files.
-use Rattle.std.proofs.Common.{◌≡◌, ℕ, Bool, true, not, List, ◌++◌, length, map, filter, Contains, refl, sym, ap, subst, arith}
+use Rattle.std.proofs.Common.{◌≡◌, ℕ, true, not, List, ◌++◌, length, map, filter, Contains, refl, sym, ap, subst, arith}
 use Rattle.std.specs.List.{AllByRecursion}
 use Rattle.pm_values.specs.Names.{Naming}
 use Rattle.pm_schema.specs.declared.schema.TableSchema.{TableSchema}
@@ -9,7 +9,7 @@ use Rattle.pm_model_folder.specs.Changes.{Actor, IsOwnFile}
 use Rattle.pm_put.specs.declared.putting.CommitFile.{CommitFile}
 use Rattle.pm_write.specs.Batch.{Groups}
 use Rattle.pm_write.specs.declared.files.NewFile.{NewFile}
-use Rattle.pm_made.specs.Delta.{Delta, added_entry}
+use Rattle.pm_made.specs.Delta.{Delta, added_entry, adding}
 use Rattle.pm_made.specs.Files.{AreNumbered, HasDelta, after_names, appends, compacts, fences}
 use Rattle.pm_made.specs.Intent.{given_files, most_files, removed_of}
 use Rattle.pm_made.specs.declared.intent.Intent.{Intent}
@@ -20,20 +20,20 @@ use Rattle.pm_made.proofs.MadeLemmas.{IsMade, MayGive, later-maker, made-data, m
 use Rattle.pm_made.proofs.NewFileLemmas.{named-file}
 use Rattle.pm_made.proofs.NumberLemmas.{files-many}
 
-module _ (s : TableSchema) (newest : Newest) (first : Bool) (names : Naming) where
+module _ (s : TableSchema) (newest : Newest) (names : Naming) where
   -- those that go are the ones that it is for
-  pub removed-are : (intent : Intent) (d : Delta) (made : List CommitFile) (left : Naming) → HasDelta s newest first names intent d made left
+  pub removed-are : (intent : Intent) (d : Delta) (made : List CommitFile) (left : Naming) → HasDelta s newest names intent d made left
       → d.removed ≡ removed_of intent
   removed-are _ _ _ _ (appends batch xs numbered) = refl
   removed-are _ _ _ _ (compacts plan) = refl
   removed-are _ _ _ _ (fences number) = refl
 
   -- those that come add files
-  pub delta-adds : (intent : Intent) (d : Delta) (made : List CommitFile) (left : Naming) → HasDelta s newest first names intent d made left
+  pub delta-adds : (intent : Intent) (d : Delta) (made : List CommitFile) (left : Naming) → HasDelta s newest names intent d made left
       → (e : Entry) → Contains d.added e → e.add ≡ true
   delta-adds _ _ _ _ (appends batch xs numbered) e h = let found = in-map (added_entry s) (filter (λ (x : NewFile). not x.changelog) xs) e h in
       ap (λ (z : Entry). z.add) (sym found.2)
-  delta-adds _ _ _ _ (compacts plan) e h = let found = in-map (added_entry s) plan.added.items e h in ap (λ (z : Entry). z.add) (sym found.2)
+  delta-adds _ _ _ _ (compacts plan) e h = let found = in-map adding plan.added.items e h in ap (λ (z : Entry). z.add) (sym found.2)
   delta-adds _ _ _ _ (fences number) e h = absurd (none-in e h)
 
   module _ (me : Actor) (base : ℕ) where
@@ -60,13 +60,20 @@ module _ (s : TableSchema) (newest : Newest) (first : Bool) (names : Naming) whe
         (let room = may.room in let w = has.within in let many = files-many s numbered.next names batch xs numbered.are_new in omega (arith, room, many, w)))
         has.name
 
-    -- the actor named the file of rows
-    abbrev pub NamedFile : NewFile → Type 0
-    NamedFile x = IsOwnFile me base (data_path s x.group x.meta.name)
+    -- the file of an entry was given, and is the actor's
+    abbrev pub OwnEntry : Entry → Type 0
+    OwnEntry e = IsOwnFile me base (data_path s e.group e.file.name)
+
+    named-given : (given es : List Entry) → AllByRecursion OwnEntry given → ((e : Entry) → Contains es e → Contains given e)
+        → (e : Entry) → Contains (map adding es) e → NamedEntry e
+    named-given given es own within e h =
+        let found = in-map adding es e h in
+        let x = found.0 in
+        subst NamedEntry found.2 (made-given me base (data_path s x.group x.file.name) (each-of OwnEntry given x own (within x found.1)))
 
     -- all that come
-    pub names-files : (intent : Intent) (d : Delta) (made : List CommitFile) (left : Naming) → HasDelta s newest first names intent d made left
-        → MayGive me base (most_files intent) names → AllByRecursion NamedFile (given_files intent) → NamesFiles d
+    pub names-files : (intent : Intent) (d : Delta) (made : List CommitFile) (left : Naming) → HasDelta s newest names intent d made left
+        → MayGive me base (most_files intent) names → AllByRecursion OwnEntry (given_files intent) → NamesFiles d
     names-files _ _ _ _ (appends batch xs numbered) may own = record {
       added = named-entry (filter (λ (x : NewFile). not x.changelog) xs)
           (λ x h. named-new batch xs numbered may x (filter-in (λ (x : NewFile). not x.changelog) xs x h).0);
@@ -74,20 +81,18 @@ module _ (s : TableSchema) (newest : Newest) (first : Bool) (names : Naming) whe
           (λ x h. named-new batch xs numbered may x (filter-in (λ (x : NewFile). x.changelog) xs x h).0);
     }
     names-files _ _ _ _ (compacts plan) may own = record {
-      added = named-entry plan.added.items
-          (λ x h. made-given me base (data_path s x.group x.meta.name) (each-of NamedFile (plan.added.items ++ plan.changes.items) x own (in-left plan.added.items plan.changes.items x h)));
-      changes = named-entry plan.changes.items
-          (λ x h. made-given me base (data_path s x.group x.meta.name) (each-of NamedFile (plan.added.items ++ plan.changes.items) x own (in-right plan.added.items plan.changes.items x h)));
+      added = named-given (plan.added.items ++ plan.changes.items) plan.added.items own (in-left plan.added.items plan.changes.items);
+      changes = named-given (plan.added.items ++ plan.changes.items) plan.changes.items own (in-right plan.added.items plan.changes.items);
     }
     names-files _ _ _ _ (fences number) may own = record { added = λ e h. absurd (none-in e h); changes = λ e h. absurd (none-in e h) }
 
     -- six names are left for manifests and lists
-    pub delta-left : (intent : Intent) (d : Delta) (made : List CommitFile) (left : Naming) → HasDelta s newest first names intent d made left
+    pub delta-left : (intent : Intent) (d : Delta) (made : List CommitFile) (left : Naming) → HasDelta s newest names intent d made left
         → MayGive me base (most_files intent) names → MayGive me base 6 left
     delta-left _ _ _ _ (appends batch xs numbered) may = record {
       maker = later-maker me base (length xs) names may.maker
           (let room = may.room in let many = files-many s numbered.next names batch xs numbered.are_new in omega (arith, room, many));
       room = (let room = may.room in let many = files-many s numbered.next names batch xs numbered.are_new in omega (arith, room, many));
     }
-    delta-left _ _ _ _ (compacts plan) may = record { maker = may.maker; room = (let room = may.room in omega (arith, room)) }
+    delta-left _ _ _ _ (compacts plan) may = may
     delta-left _ _ _ _ (fences number) may = may

@@ -11,7 +11,7 @@ use Rattle.pm_made.proofs.DeltaFilesLemmas.{delta-left}
 use Rattle.pm_made.proofs.ListedLemmas.{base-left, list-left, manifest-left}
 use Rattle.pm_made.proofs.MadeLemmas.{MayGive, give-next}
 
-module _ (me : Actor) (s : TableSchema) (t : Attempt) (makes : MakesNames me t) (made : IsMadeOf s t.newest t.author t.intent t.first t.names t.made) where
+module _ (me : Actor) (s : TableSchema) (t : Attempt) (makes : MakesNames me t) (made : IsMadeOf s t.newest t.author t.intent t.names t.made) where
   abbrev base : ℕ
   base = t.author.base
 
@@ -28,7 +28,7 @@ module _ (me : Actor) (s : TableSchema) (t : Attempt) (makes : MakesNames me t) 
   }
 
   pub manifest-names : MayGive me base 6 made.left
-  manifest-names = delta-left s t.newest t.first t.names me base t.intent made.delta made.row_files made.left made.has_delta first-names
+  manifest-names = delta-left s t.newest t.names me base t.intent made.delta made.row_files made.left made.has_delta first-names
 
   pub delta-names : MayGive me base 5 lists.left
   delta-names = base-left me base s 5 t.newest made.left lists.base lists.base_files lists.left lists.has_base manifest-names

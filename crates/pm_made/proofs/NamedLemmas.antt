@@ -42,7 +42,7 @@ module _ (facts : SnapshotFacts) (me : Actor) (f after : Files) (s : TableSchema
   abbrev b : ℕ
   b = t.author.base
 
-  abbrev made : IsMadeOf s t.newest t.author t.intent t.first t.names t.made
+  abbrev made : IsMadeOf s t.newest t.author t.intent t.names t.made
   made = ready.made
 
   abbrev lists : AreManifests s t.newest made.left (entries_of made.delta) made.delta.changes made.lists made.list_files
@@ -60,8 +60,8 @@ module _ (facts : SnapshotFacts) (me : Actor) (f after : Files) (s : TableSchema
   abbrev Known : List ℕ → Type 0
   Known path = ((1 ≤ k) × Names f s k path) ⊎ IsMade me b path
 
-  rows-named : NamesFiles s t.newest t.first t.names me b made.delta
-  rows-named = names-files s t.newest t.first t.names me b t.intent made.delta made.row_files made.left made.has_delta
+  rows-named : NamesFiles s t.newest t.names me b made.delta
+  rows-named = names-files s t.newest t.names me b t.intent made.delta made.row_files made.left made.has_delta
       (first-names me s t ready.maker made) ready.own
 
   base-named : (metas : List ManifestMeta) (made_files : List CommitFile) (left : Naming) → HasBase s t.newest made.left metas made_files left

@@ -1,5 +1,5 @@
 -- The files of a commit bear the name of the actor that made it and its base, and stand in folders of the table.
-use Rattle.std.proofs.Common.{◌≡◌, ℕ, Bool, true, false, cond, List, [], ◌∷◌, ◌++◌, Option, codes, map, Contains, sym, ap, subst, ◌∙◌, arith}
+use Rattle.std.proofs.Common.{◌≡◌, ℕ, List, [], ◌∷◌, ◌++◌, Option, codes, map, Contains, sym, ap, subst, ◌∙◌, arith}
 use Rattle.std.specs.List.{AllByRecursion}
 use Rattle.pm_base.proofs.Laws.{AllByRecursion-append}
 use Rattle.pm_values.specs.Names.{Naming, counted, name_of}
@@ -7,19 +7,18 @@ use Rattle.pm_schema.specs.Folder.{folder_text}
 use Rattle.pm_schema.specs.declared.schema.TableSchema.{TableSchema}
 use Rattle.pm_snapshot.specs.Names.{BasedFile, manifest, manifest_list, prefix_of, rows_file, suffix_of}
 use Rattle.pm_model_contents.specs.Lists.{manifest_path}
-use Rattle.pm_model_contents.specs.Runs.{data_path}
 use Rattle.pm_model_folder.specs.Changes.{Actor, HavePlainNames, IsOwnFile, bucket, manifests}
 use Rattle.pm_manifest.specs.declared.entry.Entry.{Entry}
 use Rattle.pm_manifest.specs.declared.entry.ManifestMeta.{ManifestMeta}
 use Rattle.pm_put.specs.declared.putting.CommitFile.{CommitFile}
 use Rattle.pm_write.specs.declared.files.NewFile.{NewFile}
-use Rattle.pm_made.specs.Commit.{AreOwnFiles, Attempt, MakesNames}
+use Rattle.pm_made.specs.Commit.{Attempt, MakesNames}
 use Rattle.pm_made.specs.Delta.{Delta, entries_of}
 use Rattle.pm_made.specs.Files.{AreLists, AreManifests, HasBase, HasChangesList, HasDelta, HasManifest, IsMadeOf, after_names, appends, compacts, data_file, fences, kept, merged, no_list, no_manifest, one_list, one_manifest}
-use Rattle.pm_made.specs.Intent.{given_files, most_files}
+use Rattle.pm_made.specs.Intent.{most_files}
 use Rattle.pm_made.specs.declared.intent.Intent.{Intent}
 use Rattle.pm_made.specs.declared.newest.Newest.{Newest}
-use Rattle.pm_made.proofs.ListLemmas.{each-of, in-head, in-tail}
+use Rattle.pm_made.proofs.ListLemmas.{in-head, in-tail}
 use Rattle.pm_made.proofs.MadeLemmas.{IsMaker, MayGive, later-maker}
 use Rattle.pm_made.proofs.MakerLemmas.{base_list-names, changes-names, changes_list-names, delta-names, delta_list-names, first-names, manifest-names}
 use Rattle.pm_made.proofs.NewFileLemmas.{named-file}
@@ -51,23 +50,16 @@ module _ (me : Actor) (base : ℕ) where
   all-data s [] each = tt
   all-data s (x ∷ xs) each = (each x (in-head x xs), all-data s xs (λ y h. each y (in-tail x xs y h)))
 
-  own-placed : (s : TableSchema) (first : Bool) (xs : List NewFile)
-      → AllByRecursion (λ (x : NewFile). IsOwnFile me base (data_path s x.group x.meta.name)) xs → AllByRecursion Own (cond first (map (data_file s) xs) [])
-  own-placed s true xs own =
-      all-data s xs (λ x h. each-of (λ (x : NewFile). IsOwnFile me base (data_path s x.group x.meta.name)) xs x own h)
-  own-placed s false xs own = tt
-
-  own-rows : (s : TableSchema) (newest : Newest) (first : Bool) (names : Naming) (intent : Intent) (d : Delta) (made : List CommitFile) (left : Naming)
-      → HasDelta s newest first names intent d made left → HavePlainNames s → MayGive me base (most_files intent) names
-      → AllByRecursion (λ (x : NewFile). IsOwnFile me base (data_path s x.group x.meta.name)) (given_files intent) → AllByRecursion Own made
-  own-rows s newest first names _ _ _ _ (appends batch xs numbered) plain may own = all-data s xs (λ x h.
+  own-rows : (s : TableSchema) (newest : Newest) (names : Naming) (intent : Intent) (d : Delta) (made : List CommitFile) (left : Naming)
+      → HasDelta s newest names intent d made left → HavePlainNames s → MayGive me base (most_files intent) names → AllByRecursion Own made
+  own-rows s newest names _ _ _ _ (appends batch xs numbered) plain may = all-data s xs (λ x h.
       let is = named-file s numbered.next names batch xs x numbered.are_new h in
       own-data s x (after_names is.index names) plain
       (later-maker me base is.index names may.maker
       (let room = may.room in let w = is.within in let many = files-many s numbered.next names batch xs numbered.are_new in omega (arith, room, many, w)))
       is.name)
-  own-rows s newest first names _ _ _ _ (compacts plan) plain may own = own-placed s first (plan.added.items ++ plan.changes.items) own
-  own-rows s newest first names _ _ _ _ (fences number) plain may own = tt
+  own-rows s newest names _ _ _ _ (compacts plan) plain may = tt
+  own-rows s newest names _ _ _ _ (fences number) plain may = tt
 
   -- ---- manifests and lists
 
@@ -104,11 +96,11 @@ module _ (me : Actor) (base : ℕ) where
     own-base newest names _ _ _ (kept few) maker = tt
     own-base newest names _ _ _ (merged metas made left enough has) maker = own-has names newest.live.items metas made left has maker
 
-pub own-files : (me : Actor) (s : TableSchema) (t : Attempt) → HavePlainNames s → MakesNames me t → AreOwnFiles me s t
-    → IsMadeOf s t.newest t.author t.intent t.first t.names t.made → AllByRecursion (λ (file : CommitFile). IsOwnFile me t.author.base file.path) t.made.files.items
-own-files me s t plain makes given made =
+pub own-files : (me : Actor) (s : TableSchema) (t : Attempt) → HavePlainNames s → MakesNames me t → IsMadeOf s t.newest t.author t.intent t.names t.made
+    → AllByRecursion (λ (file : CommitFile). IsOwnFile me t.author.base file.path) t.made.files.items
+own-files me s t plain makes made =
     subst (AllByRecursion (Own me b)) (sym made.files) (AllByRecursion-append (Own me b) made.row_files made.list_files
-    (own-rows me b s t.newest t.first t.names t.intent made.delta made.row_files made.left made.has_delta plain (first-names me s t makes made) given)
+    (own-rows me b s t.newest t.names t.intent made.delta made.row_files made.left made.has_delta plain (first-names me s t makes made))
     (subst (AllByRecursion (Own me b)) (sym lists.are) (AllByRecursion-append (Own me b) lists.base_files lists.list_files
     (own-base me b s t.newest made.left lists.base lists.base_files lists.left lists.has_base (manifest-names me s t makes made).maker)
     (subst (AllByRecursion (Own me b)) (sym own.are) (AllByRecursion-append (Own me b) own.delta_files _

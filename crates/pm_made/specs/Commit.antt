@@ -1,5 +1,5 @@
 -- When what was made of an intent adds its entry to the history, once it is published.
-use Rattle.std.specs.Prelude.{◌≡◌, ℕ, suc, ◌+◌, ◌<◌, ◌≤◌, ◌^◌, pos, int_lt, List, [], ◌++◌, length, Bool, true, Option, Some, None}
+use Rattle.std.specs.Prelude.{◌≡◌, ℕ, suc, ◌+◌, ◌<◌, ◌≤◌, ◌^◌, pos, int_lt, List, [], ◌++◌, length, true, Option, Some, None}
 use Rattle.std.specs.List.{AllByRecursion, AllPairs}
 use Rattle.pm_store.specs.Files.{Files}
 use Rattle.pm_values.specs.Names.{Naming}
@@ -19,7 +19,6 @@ use Rattle.pm_model_folder.specs.Commits.{HasCommit, Names, live_in}
 use Rattle.pm_model_folder.specs.Entries.{AreLive, fence_at}
 use Rattle.pm_model_folder.specs.Folder.{HasTable}
 use Rattle.pm_put.specs.Meaning.{IsPut}
-use Rattle.pm_write.specs.declared.files.NewFile.{NewFile}
 use Rattle.pm_made.specs.Delta.{Delta, entries_of, left_of}
 use Rattle.pm_made.specs.Files.{IsMadeOf, merges}
 use Rattle.pm_made.specs.Intent.{Means, given_files, most_files}
@@ -31,11 +30,10 @@ use Rattle.pm_made.specs.declared.newest.Author.{Author}
 use Rattle.pm_made.specs.declared.newest.Made.{Made}
 use Rattle.pm_made.specs.declared.newest.Newest.{Newest}
 
--- one try to commit: what for, whether it is the first one, who commits, the newest snapshot as it was found, the maker
--- of names before it named the files, and what was made
+-- one try to commit: what for, who commits, the newest snapshot as it was found, the maker of names before it named the
+-- files, and what was made
 pub record Attempt : Type 0 where
   pub intent : Intent
-  pub first : Bool
   pub author : Author
   pub newest : Newest
   pub names : Naming
@@ -64,8 +62,8 @@ pub record MakesNames (me : Actor) (t : Attempt) : Type 0 where
 
 -- the files of rows that a commit was given were named by its actor, with its base
 abbrev pub AreOwnFiles : Actor → TableSchema → Attempt → Type 0
-AreOwnFiles me s t = AllByRecursion (λ (x : NewFile). IsOwnFile me t.author.base (data_path s x.group x.meta.name))
-    (given_files t.intent)
+AreOwnFiles me s t = AllByRecursion
+    (λ (x : files.Entry). IsOwnFile me t.author.base (data_path s x.group x.file.name)) (given_files t.intent)
 
 -- a fence that a commit raises is above that of the entries before it, and below its own number
 abbrev pub MayRaise : List Entry → Intent → Type 0
@@ -95,7 +93,7 @@ pub record IsReady (me : Actor) (f : Files) (s : TableSchema) (entries : List En
     pub newest : IsNewestOf f s entries t.newest
     pub means : Means s t.author t.intent e
     pub may_raise : MayRaise entries t.intent
-    pub made : IsMadeOf s t.newest t.author t.intent t.first t.names t.made
+    pub made : IsMadeOf s t.newest t.author t.intent t.names t.made
     pub may_change : MayChange s made.delta
     pub allowed : refusal_of t.newest t.author t.intent ≡ None
     pub base : t.author.base ≤ t.newest.id
@@ -109,8 +107,8 @@ pub record IsReady (me : Actor) (f : Files) (s : TableSchema) (entries : List En
 -- ---- what is there then
 
 -- the snapshot that was made
-abbrev pub snapshot_of : (s : TableSchema) (t : Attempt)
-    → IsMadeOf s t.newest t.author t.intent t.first t.names t.made → Snapshot
+abbrev pub snapshot_of : (s : TableSchema) (t : Attempt) → IsMadeOf s t.newest t.author t.intent t.names t.made
+    → Snapshot
 snapshot_of s t made = new_snapshot s t.newest t.author t.intent made.delta made.lists
 
 -- The snapshot that is there is the one that was made, to its last field. Its lists have the manifests with which it
@@ -118,7 +116,7 @@ snapshot_of s t made = new_snapshot s t.newest t.author t.intent made.delta made
 -- and of the changelog list the delta's entries and its changelog files. Live are the files that are left, and those
 -- that came.
 pub record IsAsMade (f : Files) (s : TableSchema) (id : ℕ) (t : Attempt)
-    (made : IsMadeOf s t.newest t.author t.intent t.first t.names t.made) : Type 0 where
+    (made : IsMadeOf s t.newest t.author t.intent t.names t.made) : Type 0 where
   pub contents : Contents
   pub commit : HasCommit f s id (snapshot_of s t made) contents
   pub base : contents.base ≡ made.are_manifests.base

@@ -21,6 +21,10 @@ no_delta = record { removed = []; added = []; changes = [] }
 abbrev pub deleted : Entry → Entry
 deleted e = record e { add = false }
 
+-- the entry that adds it
+abbrev pub adding : Entry → Entry
+adding e = record e { add = true }
+
 -- the entry that adds a new file
 abbrev pub added_entry : TableSchema → NewFile → Entry
 added_entry s x = record { add = true; group = x.group; buckets = s.options.bucket; file = x.meta }

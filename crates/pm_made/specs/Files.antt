@@ -1,5 +1,5 @@
 -- The files of a commit, in the order in which they are created.
-use Rattle.std.specs.Prelude.{◌≡◌, ◌≢◌, ℕ, ◌+◌, ℤ, nat_le, List, [], ◌∷◌, ◌++◌, length, map, filter, not, Bool, true, false, Option, Some, None, Ok, if◌then◌else◌}
+use Rattle.std.specs.Prelude.{◌≡◌, ◌≢◌, ℕ, ◌+◌, ℤ, nat_le, List, [], ◌∷◌, ◌++◌, length, map, filter, not, Bool, true, false, Option, Some, None, Ok}
 use Rattle.std.specs.BTreeMap.{BTreeMap}
 use Rattle.std.specs.List.{AllByRecursion}
 use Rattle.pm_values.specs.Names.{Naming, counted, name_of}
@@ -20,8 +20,7 @@ use Rattle.pm_put.specs.declared.putting.CommitFile.{CommitFile}
 use Rattle.pm_write.specs.Batch.{Groups}
 use Rattle.pm_write.specs.Files.{AreNewFiles, next_of}
 use Rattle.pm_write.specs.declared.files.NewFile.{NewFile}
-use Rattle.pm_made.specs.Delta.{Delta, added_entry, entries_of, no_delta}
-use Rattle.pm_made.specs.Intent.{given_files}
+use Rattle.pm_made.specs.Delta.{Delta, added_entry, adding, entries_of, no_delta}
 use Rattle.pm_made.specs.Refusals.{next_number}
 use Rattle.pm_made.specs.Snapshot.{new_snapshot}
 use Rattle.pm_made.specs.declared.intent.Intent.{Intent}
@@ -45,10 +44,6 @@ data_of xs = filter (λ (x : NewFile). not x.changelog) xs
 abbrev pub changes_of : List NewFile → List NewFile
 changes_of xs = filter (λ (x : NewFile). x.changelog) xs
 
--- the files of rows that a commit was given, at their paths, where its try is the first
-abbrev pub placed_files : TableSchema → Bool → Intent → List CommitFile
-placed_files s first intent = if first then map (data_file s) (given_files intent) else []
-
 -- the names after so many
 abbrev pub after_names : ℕ → Naming → Naming
 after_names n names = record names { count = names.count + n }
@@ -69,23 +64,22 @@ delta_of_files s xs = record {
 }
 
 -- what a compaction changes
-abbrev pub delta_of_plan : TableSchema → Plan → Delta
-delta_of_plan s plan = record {
+abbrev pub delta_of_plan : Plan → Delta
+delta_of_plan plan = record {
   removed = plan.removed.items;
-  added = map (added_entry s) plan.added.items;
-  changes = map (added_entry s) plan.changes.items;
+  added = map adding plan.added.items;
+  changes = map adding plan.changes.items;
 }
 
 -- What a try changes, the files of rows that it creates for that, and the names that are left. An append makes its
--- files at each try; a compaction creates those that it was given at the first one.
-pub data HasDelta (s : TableSchema) (newest : Newest) (first : Bool) (names : Naming) : Intent → Delta
-    → List CommitFile → Naming → Type 0 where
+-- files at each try; a compaction creates none, since they were created before any try.
+pub data HasDelta (s : TableSchema) (newest : Newest) (names : Naming) : Intent → Delta → List CommitFile → Naming
+    → Type 0 where
   appends : (batch : Groups) (xs : List NewFile) → AreNumbered s newest.live.items names batch xs
-      → HasDelta s newest first names (intents.Append batch) (delta_of_files s xs) (map (data_file s) xs)
+      → HasDelta s newest names (intents.Append batch) (delta_of_files s xs) (map (data_file s) xs)
       (after_names (length xs) names)
-  compacts : (plan : Plan) → HasDelta s newest first names (intents.Compact plan) (delta_of_plan s plan)
-      (placed_files s first (intents.Compact plan)) names
-  fences : (number : ℤ) → HasDelta s newest first names (intents.Fence number) no_delta [] names
+  compacts : (plan : Plan) → HasDelta s newest names (intents.Compact plan) (delta_of_plan plan) [] names
+  fences : (number : ℤ) → HasDelta s newest names (intents.Fence number) no_delta [] names
 
 -- ---- manifests and lists
 
@@ -176,12 +170,12 @@ pub record AreManifests (s : TableSchema) (newest : Newest) (names : Naming) (en
 -- ---- all of it
 
 -- What is made of an intent: its files of rows, then manifests and lists, and the snapshot that names the lists.
-pub record IsMadeOf (s : TableSchema) (newest : Newest) (author : Author) (intent : Intent) (first : Bool)
-    (names : Naming) (made : Made) : Type 0 where
+pub record IsMadeOf (s : TableSchema) (newest : Newest) (author : Author) (intent : Intent) (names : Naming)
+    (made : Made) : Type 0 where
   pub delta : Delta
   pub row_files : List CommitFile
   pub left : Naming
-  pub has_delta : HasDelta s newest first names intent delta row_files left
+  pub has_delta : HasDelta s newest names intent delta row_files left
   pub lists : ListNames
   pub list_files : List CommitFile
   pub are_manifests : AreManifests s newest left (entries_of delta) delta.changes lists list_files

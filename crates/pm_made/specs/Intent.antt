@@ -1,5 +1,5 @@
 -- What a commit is for, and which entry it adds.
-use Rattle.std.specs.Prelude.{◌≡◌, ℕ, ◌+◌, ◌*◌, ℤ, List, [], ◌++◌, length, Bool, if◌then◌else◌}
+use Rattle.std.specs.Prelude.{◌≡◌, ℕ, ◌+◌, ◌*◌, ℤ, List, [], ◌++◌, length}
 use Rattle.std.specs.List.{AllByRecursion}
 use Rattle.pm_values.specs.declared.group.Group.{Group}
 use Rattle.pm_model_history.specs.History.{Entry, append, compaction, entry_rows, fence}
@@ -8,7 +8,6 @@ use Rattle.pm_schema.specs.declared.schema.TableSchema.{TableSchema}
 use Rattle.pm_manifest.specs.declared.entry.Entry as files
 use Rattle.pm_model_folder.specs.Folder.{IsRowOf}
 use Rattle.pm_write.specs.Batch.{GroupRows, Groups, IsBatchOf}
-use Rattle.pm_write.specs.declared.files.NewFile.{NewFile}
 use Rattle.pm_made.specs.declared.intent.Intent.{Intent}
 use Rattle.pm_made.specs.declared.intent.Intent.TheVariants as intents
 use Rattle.pm_made.specs.declared.newest.Author.{Author}
@@ -25,30 +24,19 @@ abbrev pub removed_of : Intent → List files.Entry
 removed_of (intents.Compact plan) = plan.removed.items
 removed_of other = []
 
--- the files of rows that were made, and named, before any try: data files first
-abbrev pub given_files : Intent → List NewFile
+-- the entries of the files of rows that were made, named and created before any try: data files first
+abbrev pub given_files : Intent → List files.Entry
 given_files (intents.Compact plan) = plan.added.items ++ plan.changes.items
 given_files other = []
 
--- so many of them a try creates: all at the first one
-abbrev pub given_count : Bool → Intent → ℕ
-given_count first (intents.Compact plan) =
-    if first then length plan.added.items + length plan.changes.items else 0
-given_count first other = 0
-
--- the groups of its batch, or of the files that it was given, fit the table
+-- the groups of its batch fit the table
 abbrev pub FitsGroups : TableSchema → Intent → Type 0
-FitsGroups s (intents.Append batch) = AllByRecursion (λ (e : Group × GroupRows). FitsPartition s e.0) batch
-FitsGroups s (intents.Compact plan) = AllByRecursion (λ (x : NewFile). FitsPartition s x.group) plan.added.items
-    × AllByRecursion (λ (x : NewFile). FitsPartition s x.group) plan.changes.items
-FitsGroups s (intents.Fence number) = Unit {0}
+FitsGroups s intent = AllByRecursion (λ (e : Group × GroupRows). FitsPartition s e.0) (batch_of intent)
 
--- how many files a try creates at most: of each group a data file and a changelog file, or those that were given; and
--- three manifests and three lists
+-- how many files a try creates at most: of each group of its batch a data file and a changelog file, and three
+-- manifests and three lists
 abbrev pub most_files : Intent → ℕ
-most_files (intents.Append batch) = 2 * length batch + 6
-most_files (intents.Compact plan) = length plan.added.items + length plan.changes.items + 6
-most_files (intents.Fence number) = 6
+most_files intent = 2 * length (batch_of intent) + 6
 
 -- commits are made of appends and compactions
 abbrev pub IsMadeFor : Intent → Type 0

@@ -10,11 +10,10 @@ ghost use Rattle.pm_manifest.specs.declared.entry.Entry.{Entry as EntryView};
 ghost use Rattle.pm_run.specs.Row.{most_sequence};
 ghost use Rattle.pm_write.specs.Files.{no_sequence};
 ghost use Rattle.pm_write.specs.declared.files.NewFile.{NewFile as FileView};
-ghost use Rattle.pm_made.specs.Delta.{Delta, added_entry, deleted, IsDeltaOf};
-ghost use Rattle.pm_made.specs.Files.{changes_of, data_file, data_of, placed_files, HasDelta};
-ghost use Rattle.pm_made.specs.Intent.{batch_of, given_count, removed_of, FitsGroups, IsMadeFor};
+ghost use Rattle.pm_made.specs.Delta.{Delta, added_entry, adding, deleted, IsDeltaOf};
+ghost use Rattle.pm_made.specs.Files.{changes_of, data_file, data_of, HasDelta};
+ghost use Rattle.pm_made.specs.Intent.{batch_of, removed_of, FitsGroups, IsMadeFor};
 ghost use Rattle.pm_made.specs.Refusals.{above_numbers};
-ghost use Rattle.pm_made.specs.declared.intent.Intent.TheVariants as intents;
 
 use crate::intent::{Intent, Plan};
 use crate::newest::Newest;
@@ -36,14 +35,12 @@ pub(crate) struct NewDelta {
     pub(crate) files: Vec<CommitFile>,
 }
 
-/// What a try changes. An append's batch is written anew, with the next names; a compaction's files are there already
-/// but for the first try.
+/// What a try changes. An append's batch is written anew, with the next names; a compaction's files are there already.
 pub(crate) fn new_delta(
     alloc: Global,
     schema: &TableSchema,
     newest: &Newest,
     intent: &mut Intent,
-    first: bool,
     names: &mut Names,
 ) -> Result<NewDelta, Refusal>
     requires producer { schema.now.options.producer ≡ producers.None }
@@ -52,7 +49,7 @@ pub(crate) fn new_delta(
     requires made_for { IsMadeFor intent.old }
     requires count { names.old.count + 2 * length (batch_of intent.old) ≤ 2 ^ 62 }
     ensures delta { IfOk result (λ x. (d : Delta)
-        × HasDelta schema.now newest.now first names.old intent.old d x.files.items names.new
+        × HasDelta schema.now newest.now names.old intent.old d x.files.items names.new
         × IsDeltaOf (removed_of intent.old) x.entries.items x.changes.items d) }
     ensures ok { OnOk result (above_numbers newest.now.live.items (batch_of intent.old) ≡ false) }
     ensures err { IfErr result (λ e. (e ≡ Memory)
@@ -61,15 +58,14 @@ pub(crate) fn new_delta(
     ensures names { names.new ≡ record names.old { count = names.new.count } }
     ensures rises { names.old.count ≤ names.new.count }
     ensures room { OnOk result (names.new.count ≤ names.old.count + 2 * length (batch_of intent.old)) }
-    ensures counted { IfOk result (λ x.
-        names.new.count + given_count first intent.old ≡ names.old.count + length x.files.items) }
+    ensures counted { IfOk result (λ x. names.new.count ≡ names.old.count + length x.files.items) }
 {
     match intent {
         Intent::Append { batch } => {
             let new_files = number_files(alloc, schema, &newest.live, batch, names)?;
             Ok(delta_of_files(alloc, schema, new_files)?)
         }
-        Intent::Compact { plan } => Ok(delta_of_plan(alloc, schema, plan, first)?),
+        Intent::Compact { plan } => Ok(delta_of_plan(alloc, plan)?),
         Intent::Fence { .. } => unreachable!(),
     }
 }
@@ -135,83 +131,39 @@ fn put_file(
 
 // ---- of a compaction
 
-/// What a compaction changes, and copies of its files for the first try.
-fn delta_of_plan(
-    alloc: Global,
-    schema: &TableSchema,
-    plan: &Plan,
-    first: bool,
-) -> Result<NewDelta, AllocError>
-    requires added { AllByRecursion (λ (x : FileView). FitsPartition schema.now x.group) plan.now.added.items }
-    requires changes { AllByRecursion (λ (x : FileView). FitsPartition schema.now x.group) plan.now.changes.items }
-    ensures entries { IfOk result (λ d. d.entries.items
-        ≡ map deleted plan.now.removed.items ++ map (added_entry schema.now) plan.now.added.items) }
-    ensures changes { IfOk result (λ d. d.changes.items ≡ map (added_entry schema.now) plan.now.changes.items) }
-    ensures files { IfOk result (λ d. d.files.items ≡ placed_files schema.now first (intents.Compact plan.now)) }
+/// What a compaction changes. Its files are there already.
+fn delta_of_plan(alloc: Global, plan: &Plan) -> Result<NewDelta, AllocError>
+    ensures entries { IfOk result (λ d.
+        d.entries.items ≡ map deleted plan.now.removed.items ++ map adding plan.now.added.items) }
+    ensures changes { IfOk result (λ d. d.changes.items ≡ map adding plan.now.changes.items) }
+    ensures files { IfOk result (λ d. d.files.items ≡ []) }
 {
     let mut entries = Vec::new(alloc);
-    delete_all(alloc, &plan.removed, &mut entries)?;
-    add_all(alloc, schema, &plan.added, &mut entries)?;
+    copy_all(alloc, &plan.removed, false, &mut entries)?;
+    copy_all(alloc, &plan.added, true, &mut entries)?;
     let mut changes = Vec::new(alloc);
-    add_all(alloc, schema, &plan.changes, &mut changes)?;
-    let mut files = Vec::new(alloc);
-    if first {
-        place_all(alloc, schema, &plan.added, &mut files)?;
-        place_all(alloc, schema, &plan.changes, &mut files)?;
-    }
+    copy_all(alloc, &plan.changes, true, &mut changes)?;
     Ok(NewDelta {
         entries,
         changes,
-        files,
+        files: Vec::new(alloc),
     })
 }
 
-/// The entries that take files away.
-fn delete_all(alloc: Global, removed: &[Entry], entries: &mut Vec<Entry>) -> Result<(), AllocError>
-    ensures { OnOk result (entries.new.items ≡ entries.old.items ++ map deleted removed.now) }
-{
-    for entry in removed {
-        let mut gone = entry.copy(alloc)?;
-        gone.add = false;
-        entries.push(gone)?;
-    }
-    Ok(())
-}
-
-/// The entries that add files.
-fn add_all(
+/// Puts copies of entries to the others, which add their files or take them away.
+fn copy_all(
     alloc: Global,
-    schema: &TableSchema,
-    new_files: &[NewFile],
+    given: &[Entry],
+    add: bool,
     entries: &mut Vec<Entry>,
 ) -> Result<(), AllocError>
-    ensures { OnOk result (entries.new.items ≡ entries.old.items ++ map (added_entry schema.now) new_files.now) }
+    ensures { OnOk result (entries.new.items
+        ≡ entries.old.items ++ map (λ (e : EntryView). record e { add = add }) given.now) }
 {
-    for file in new_files {
-        entries.push(Entry {
-            add: true,
-            group: file.group.copy(alloc)?,
-            buckets: schema.options.bucket,
-            file: file.meta.copy(alloc)?,
-        })?;
-    }
-    Ok(())
-}
-
-/// Files of rows at their paths. Their bytes stay for whoever gave them.
-fn place_all(
-    alloc: Global,
-    schema: &TableSchema,
-    new_files: &[NewFile],
-    files: &mut Vec<CommitFile>,
-) -> Result<(), AllocError>
-    requires { AllByRecursion (λ (x : FileView). FitsPartition schema.now x.group) new_files.now }
-    ensures { OnOk result (files.new.items ≡ files.old.items ++ map (data_file schema.now) new_files.now) }
-{
-    for file in new_files {
-        let path = data_path(alloc, schema, &file.group, &file.meta.name)?;
-        let bytes = file.bytes.copy(alloc)?;
-        files.push(CommitFile { path, bytes })?;
+    for entry in given {
+        let mut copy = entry.copy(alloc)?;
+        copy.add = add;
+        entries.push(copy)?;
     }
     Ok(())
 }

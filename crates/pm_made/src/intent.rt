@@ -2,7 +2,7 @@
 
 use pm_manifest::Entry;
 use pm_values::Group;
-use pm_write::{Batch, NewFile};
+use pm_write::Batch;
 
 /// What a commit is for: rows are appended, or runs are compacted, or a fence is raised.
 #[derive(Drop)]
@@ -12,7 +12,7 @@ pub enum Intent {
     Fence { fence: i64 },
 }
 
-/// What a compaction puts in the place of what.
+/// What a compaction puts in the place of what: entries alone, since its files are created before any try.
 #[derive(Drop)]
 pub struct Plan {
     /// The groups whose runs it takes, rising, each with whether all of its runs go into one at the top level.
@@ -20,9 +20,9 @@ pub struct Plan {
     /// The files of the runs that it took, as they were live in its view: by group, and newest run first.
     pub removed: Vec<Entry>,
     /// The data files that it made.
-    pub added: Vec<NewFile>,
+    pub added: Vec<Entry>,
     /// The changelog files that it made.
-    pub changes: Vec<NewFile>,
+    pub changes: Vec<Entry>,
     /// Where it was asked in full, the appends of its view.
     pub full: Option<u64>,
 }

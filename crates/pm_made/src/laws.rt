@@ -13,7 +13,7 @@ ghost use Rattle.pm_model_folder.specs.Entries.{fence_at};
 ghost use Rattle.pm_model_folder.specs.Paths.{snapshot_path};
 ghost use Rattle.pm_model_folder.specs.Stored.{HasGroup, HoldsChange};
 ghost use Rattle.pm_put.specs.declared.putting.CommitFile.{CommitFile as FileView};
-ghost use Rattle.pm_made.specs.Commit.{AreOwnFiles, Attempt, IsAsMade, IsReady, MakesNames};
+ghost use Rattle.pm_made.specs.Commit.{Attempt, IsAsMade, IsReady, MakesNames};
 ghost use Rattle.pm_made.specs.Files.{IsMadeOf};
 
 use pm_manifest::{id_law, joined_law, last_law, live_law, read_entry_law};
@@ -58,10 +58,9 @@ pub fn commit_law()
     snapshot_law();
 }
 
-/// The files of a commit are ones that its actor alone makes, among those that snapshots name, from the commit's base,
-/// where those that it was given are.
+/// The files of a commit are ones that its actor alone makes, among those that snapshots name, from the commit's base.
 pub fn own_files_law()
-    ensures { (me : Actor) (s : TableSchema) (t : Attempt) → HavePlainNames s → MakesNames me t → AreOwnFiles me s t →
-        IsMadeOf s t.newest t.author t.intent t.first t.names t.made →
+    ensures { (me : Actor) (s : TableSchema) (t : Attempt) → HavePlainNames s → MakesNames me t →
+        IsMadeOf s t.newest t.author t.intent t.names t.made →
         AllByRecursion (λ (file : FileView). IsOwnFile me t.author.base file.path) t.made.files.items }
 {}

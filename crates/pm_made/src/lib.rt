@@ -3,8 +3,8 @@
 //!
 //! `make` is told the table as the newest snapshot has it, who commits and when, and what for: rows are appended, or
 //! runs are compacted (`specs/Intent.antt`). It makes a delta of that, which says which live files go and which come
-//! (`specs/Delta.antt`): an append makes its data files at each try, and a compaction has made its files before, which
-//! are created at the first try alone. Then come a manifest of all live entries where the newest snapshot has many
+//! (`specs/Delta.antt`): an append makes its data files at each try, and a compaction's were created before any try, so
+//! that its plan has their entries alone. Then come a manifest of all live entries where the newest snapshot has many
 //! manifests, a manifest of the delta and one of changelog files, where there are any, and the lists of them
 //! (`specs/Files.antt`); `specs/Snapshot.antt` has what the snapshot is. It is refused where its base is at most the
 //! fence, where a file that it takes away isn't live any more, and where a limit would be exceeded
@@ -27,3 +27,4 @@ pub use intent::{Intent, Plan};
 pub use laws::{commit_law, made_law, own_files_law};
 pub use making::make;
 pub use newest::{Author, Made, Newest};
+pub use snapshot::ListNames;

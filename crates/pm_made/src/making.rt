@@ -7,7 +7,7 @@ ghost use Rattle.pm_options.specs.declared.kinds.Producer.TheVariants as produce
 ghost use Rattle.pm_manifest.specs.declared.entry.Entry.{Entry as EntryView};
 ghost use Rattle.pm_run.specs.Row.{most_sequence};
 ghost use Rattle.pm_made.specs.Files.{IsMadeOf};
-ghost use Rattle.pm_made.specs.Intent.{given_count, most_files, FitsGroups, IsMadeFor};
+ghost use Rattle.pm_made.specs.Intent.{most_files, FitsGroups, IsMadeFor};
 ghost use Rattle.pm_made.specs.Refusals.{refusal_of};
 
 use crate::data::{NewDelta, new_delta};
@@ -23,17 +23,15 @@ use std::alloc::Global;
 
 /// What a commit puts into the folder after the newest snapshot: files of rows, a merged manifest if there is one, the
 /// manifests of the delta and of its changelog files, the lists of them, the base list, and the snapshot. An append
-/// takes time linear in the rows of its batch; a compaction copies its files at the first try, and looks up each live
-/// file among those that it takes away, and each of these among the live ones. Either takes time linear in the live
-/// files but for a look into the groups at each. Each file that it makes takes the next name. The intent stays for
-/// another try.
+/// takes time linear in the rows of its batch; a compaction copies its entries, and looks up each live file among those
+/// that it takes away, and each of these among the live ones. Either takes time linear in the live files but for a look
+/// into the groups at each. Each file that it makes takes the next name. The intent stays for another try.
 pub fn make(
     alloc: Global,
     schema: &TableSchema,
     newest: &Newest,
     author: &Author,
     intent: &mut Intent,
-    first: bool,
     names: &mut Names,
 ) -> Result<Made, Refusal>
     requires producer { schema.now.options.producer ≡ producers.None }
@@ -42,14 +40,13 @@ pub fn make(
     requires made_for { IsMadeFor intent.old }
     requires based { names.old.base ≡ author.now.base }
     requires count { names.old.count + most_files intent.old ≤ 2 ^ 62 }
-    ensures made { IfOk result (IsMadeOf schema.now newest.now author.now intent.old first names.old) }
+    ensures made { IfOk result (IsMadeOf schema.now newest.now author.now intent.old names.old) }
     ensures allowed { OnOk result (refusal_of newest.now author.now intent.old ≡ None) }
     ensures refused { IfErr result (λ e. (e ≡ Memory) ⊎ (refusal_of newest.now author.now intent.old ≡ Some e)) }
     ensures kept { intent.new ≡ intent.old }
     ensures names { names.new ≡ record names.old { count = names.new.count } }
     ensures rises { names.old.count ≤ names.new.count }
-    ensures counted { IfOk result (λ made.
-        names.new.count + given_count first intent.old ≡ names.old.count + length made.files.items) }
+    ensures counted { IfOk result (λ made. names.new.count ≡ names.old.count + length made.files.items) }
     ensures few { IfOk result (λ made. length made.files.items ≤ most_files intent.old) }
 {
     judge_fence(newest, author)?;
@@ -59,7 +56,7 @@ pub fn make(
         entries,
         changes,
         mut files,
-    } = new_delta(alloc, schema, newest, intent, first, names)?;
+    } = new_delta(alloc, schema, newest, intent, names)?;
     let id = next_id(alloc, newest.id)?;
     let lists = all_lists(alloc, schema, newest, &entries, &changes, names, &mut files)?;
     let text = new_text(

@@ -26,10 +26,11 @@ use std::alloc::{AllocError, Global};
 
 /// The names of a snapshot's lists.
 #[derive(Drop)]
-pub(crate) struct ListNames {
-    pub(crate) base: Txt,
-    pub(crate) delta: Txt,
-    pub(crate) changes: Option<Txt>,
+pub struct ListNames {
+    pub base: Txt,
+    pub delta: Txt,
+    /// None where it has no changelog file.
+    pub changes: Option<Txt>,
 }
 
 // ---- by what it is for
