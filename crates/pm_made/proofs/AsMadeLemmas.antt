@@ -28,13 +28,13 @@ use Rattle.pm_put.specs.declared.putting.CommitFile.{CommitFile}
 use Rattle.pm_made.specs.Commit.{Attempt, IsAsMade, IsReady, snapshot_of}
 use Rattle.pm_made.specs.Delta.{Delta, deleted, entries_of}
 use Rattle.pm_made.specs.Files.{AreLists, AreManifests, HasBase, IsMadeOf, kept, merged, merges}
-use Rattle.pm_made.specs.Refusals.{first_taken}
+use Rattle.pm_made.specs.Refusals.{first_not_live}
 use Rattle.pm_made.specs.declared.newest.Newest.{Newest}
 use Rattle.pm_made.proofs.AllowedLemmas.{IsAllowed, allowed-of}
 use Rattle.pm_made.proofs.DeltaFilesLemmas.{NamesFiles, delta-adds, names-files, removed-are}
 use Rattle.pm_made.proofs.EntryLemmas.{ReadEntries, can-go, live-entry, read-entries}
 use Rattle.pm_made.proofs.GoneLemmas.{Apart, delta-live, delta-order}
-use Rattle.pm_made.proofs.IntentLemmas.{appends-within, fence-below, fence-least}
+use Rattle.pm_made.proofs.IntentLemmas.{appends-within, fence-below, fence-least, full-within}
 use Rattle.pm_made.proofs.ListLemmas.{Pairs, all-of, all-weaker, each-of, pairs-from}
 use Rattle.pm_made.proofs.ListedLemmas.{both-entries, have-changelog, have-entries, in-list}
 use Rattle.pm_made.proofs.LiveLemmas.{AreAdds, AreNew, ManifestFacts, adds-follow, live-adds, merged-live}
@@ -150,8 +150,8 @@ module _ (facts : SnapshotFacts) (manifests : ManifestFacts) (read : ReadEntries
     apart = pairs-from Apart d.added ready.may_change.added;
   }
 
-  untaken : first_taken newest.live.items d.removed ≡ None
-  untaken = ap (first_taken newest.live.items) (removed-are s t.newest t.names t.intent d made.row_files made.left made.has_delta) ∙ allowed.taken
+  all-live : first_not_live newest.live.items d.removed ≡ None
+  all-live = ap (first_not_live newest.live.items) (removed-are s t.newest t.names t.intent d made.row_files made.left made.has_delta) ∙ allowed.live
 
   named : NamesFiles s t.newest t.names me t.author.base d
   named = names-files s t.newest t.names me t.author.base t.intent d made.row_files made.left made.has_delta
@@ -187,7 +187,7 @@ module _ (facts : SnapshotFacts) (manifests : ManifestFacts) (read : ReadEntries
   -- the delta's entries follow those of the base list
   order-after : (live : Live) → ((id : FileId) → live id ≡ live0 id) → AreInOrder live (entries_of d)
   order-after live same = subst (λ (live : Live). AreInOrder live (entries_of d)) (λ i id. sym (same id) i)
-      (delta-order manifests live0 live0 d.removed d.added newest.live.items old.live removed adds new untaken)
+      (delta-order manifests live0 live0 d.removed d.added newest.live.items old.live removed adds new all-live)
 
   can : AllByRecursion (IsEntry (shape_of s)) (entries_of d)
   can = AllByRecursion-append (IsEntry (shape_of s)) (map deleted d.removed) d.added (can-go s d.removed ready.may_change.can_go) ready.may_change.can_come
@@ -224,7 +224,7 @@ module _ (facts : SnapshotFacts) (manifests : ManifestFacts) (read : ReadEntries
     fence_least = fence-least entries t.newest.snapshot t.newest.id bounds ready.newest.id t.intent ready.may_raise old.fence;
     fence_below = fence-below entries t.newest.snapshot t.newest.id bounds ready.newest.id t.intent ready.may_raise;
     appends_within = appends-within entries t.newest.snapshot t.newest.id bounds ready.newest.id t.intent;
-    full_within = ready.full;
+    full_within = full-within t.newest.snapshot t.intent bounds.full ready.full;
   }
 
   at_y : SnapshotAt after (suc k) y
@@ -245,5 +245,5 @@ module _ (facts : SnapshotFacts) (manifests : ManifestFacts) (read : ReadEntries
     entries = delta-have;
     changelog = refl;
     changes = refl;
-    live = delta-live manifests live0 (live_in contents) d.removed d.added newest.live.items old.live removed adds new untaken grown;
+    live = delta-live manifests live0 (live_in contents) d.removed d.added newest.live.items old.live removed adds new all-live grown;
   }

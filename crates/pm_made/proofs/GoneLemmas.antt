@@ -8,7 +8,7 @@ use Rattle.pm_manifest.specs.declared.file_id.FileId.{FileId}
 use Rattle.pm_model_contents.specs.Runs.{IsLive}
 use Rattle.pm_model_folder.specs.Entries.{AreLive}
 use Rattle.pm_made.specs.Delta.{deleted, is_of_any, left_of}
-use Rattle.pm_made.specs.Refusals.{first_taken}
+use Rattle.pm_made.specs.Refusals.{first_not_live}
 use Rattle.pm_made.proofs.ListLemmas.{Pairs, any-in, any-not, filter-in, in-filter, in-head, in-or, in-tail, none-found, none-in, pairs-filter, pairs-from, pairs-to}
 use Rattle.pm_made.proofs.LiveLemmas.{AreAdds, AreNew, ManifestFacts, adds-follow, among, are-live, some-none, some-same}
 
@@ -111,8 +111,8 @@ module _ (facts : ManifestFacts) where
     | inr none ↦ stays live removed (id_of x) none ∙ new x h
   ]
 
-  -- of each file that isn't found to be taken one is live
-  pub there-still : (live : Live) (removed old : List Entry) → AreLive live old → first_taken old removed ≡ None
+  -- of each file that isn't found to be live no more one is live
+  pub there-still : (live : Live) (removed old : List Entry) → AreLive live old → first_not_live old removed ≡ None
       → (e : Entry) → Contains removed e → is_some (live (id_of e)) ≡ true
   there-still live removed old was none e h =
       let some = is-kept (is_of_any old e) (none-found (λ (e : Entry). not (is_of_any old e)) removed none e h) in
@@ -126,7 +126,7 @@ module _ (facts : ManifestFacts) where
   -- ---- the entries of a delta
 
   module _ (live after : Live) (removed added old : List Entry) (was : AreLive live old) (apart : Pairs Apart removed) (adds : AreAdds added)
-      (new : AreNew live added) (there : first_taken old removed ≡ None) where
+      (new : AreNew live added) (there : first_not_live old removed ≡ None) where
     pub delta-order : AreInOrder live (map deleted removed ++ added)
     delta-order = (facts.order live (map deleted removed) added).1 (
       goes-follow live removed apart (there-still live removed old was there),

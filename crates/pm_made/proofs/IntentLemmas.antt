@@ -1,16 +1,17 @@
 -- What the snapshot of a commit bears of its entry, by what the commit is for.
-use Rattle.std.proofs.Common.{◌≡◌, ℕ, ℤ, pos, negsuc, suc, ◌+◌, ◌≤◌, ◌<ℤ◌, ◌≤ℤ◌, int_le, int_lt, Bool, true, cond, List, [], ◌∷◌, ◌++◌, length, length-append, Option, Some, refl, sym, ap, subst, ◌∙◌, arith}
+use Rattle.std.proofs.Common.{◌≡◌, ℕ, ℤ, pos, negsuc, suc, ◌+◌, ◌≤◌, ◌<ℤ◌, ◌≤ℤ◌, int_le, int_lt, Bool, true, cond, List, [], ◌∷◌, ◌++◌, length, length-append, Option, None, Some, refl, sym, ap, subst, ◌∙◌, arith}
 use Rattle.std.specs.List.{fold}
+use Rattle.std.specs.Prelude.{unwrap_or}
 use Rattle.std.proofs.lemmas.Int.{ints}
 use Rattle.std.proofs.lemmas.List.{take_all}
 use Rattle.pm_model_history.specs.History.{Entry}
 use Rattle.pm_schema.specs.declared.schema.TableSchema.{TableSchema}
 use Rattle.pm_snapshot.specs.declared.snapshot.Snapshot.{Snapshot}
 use Rattle.pm_model_folder.specs.Entries.{BearsEntry, appends_in, fence_at, raised}
-use Rattle.pm_made.specs.Commit.{MayRaise}
+use Rattle.pm_made.specs.Commit.{IsFullWithin, MayRaise}
 use Rattle.pm_made.specs.Intent.{Means}
 use Rattle.pm_made.specs.Refusals.{fence_of}
-use Rattle.pm_made.specs.Snapshot.{appends_after, appends_of, fence_after}
+use Rattle.pm_made.specs.Snapshot.{appends_after, appends_of, fence_after, full_after, full_of}
 use Rattle.pm_made.specs.declared.intent.Intent.{Intent}
 use Rattle.pm_made.specs.declared.intent.Intent.TheVariants as intents
 use Rattle.pm_made.specs.declared.newest.Author.{Author}
@@ -91,3 +92,13 @@ module _ (entries : List Entry) (o : Option Snapshot) (id : ℕ) (bounds : Bound
   appends-within (intents.Append batch) = let within = bounds.appends in omega (arith, within)
   appends-within (intents.Compact plan) = let within = bounds.appends in omega (arith, within)
   appends-within (intents.Fence number) = let within = bounds.appends in omega (arith, within)
+
+asked-full : (full appends : ℕ) (o : Option ℕ) → full ≤ appends → ((asked : ℕ) → o ≡ Some asked → asked ≤ appends) → unwrap_or o full ≤ appends
+asked-full full appends None old within = old
+asked-full full appends (Some asked) old within = within asked refl
+
+-- so is the count of the last compaction that was asked in full
+pub full-within : (o : Option Snapshot) (intent : Intent) → full_of o ≤ appends_of o → IsFullWithin o intent → full_after o intent ≤ appends_after o intent
+full-within o (intents.Append batch) old within = omega (arith, old)
+full-within o (intents.Compact plan) old within = asked-full (full_of o) (appends_of o) plan.full old within
+full-within o (intents.Fence number) old within = old

@@ -24,7 +24,7 @@ use Rattle.pm_model_folder.proofs.Facts.{there-absent}
 use Rattle.pm_model_folder.proofs.HoldLemmas.{ContentsStay, Holds, OneContents, one-commit, one-snapshot}
 use Rattle.pm_made.specs.Commit.{IsFoundAs}
 use Rattle.pm_made.specs.Refusals.{fence_of}
-use Rattle.pm_made.specs.Snapshot.{appends_of}
+use Rattle.pm_made.specs.Snapshot.{appends_of, full_of}
 use Rattle.pm_made.specs.declared.newest.Newest.{Newest}
 use Rattle.pm_made.proofs.ListLemmas.{none-in}
 
@@ -55,6 +55,7 @@ pub record Bounds (o : Option Snapshot) (id : ℕ) : Type 0 where
   pub least : negsuc 0 ≤ℤ fence_of o
   pub below : fence_of o <ℤ pos (id + 1)
   pub appends : appends_of o ≤ id
+  pub full : full_of o ≤ appends_of o
 
 module _ (facts : SnapshotFacts) (f : Files) (s : TableSchema) (entries : List Entry) (folder : HasTable f s entries) (newest : Newest)
     (is_id : newest.id ≡ length entries) where
@@ -89,7 +90,7 @@ module _ (facts : SnapshotFacts) (f : Files) (s : TableSchema) (entries : List E
     appends = λ z some at. absurd (omega (arith, some, is_id, zero_id));
     manifest_named = λ meta h. absurd (none-in meta (subst (λ (metas : List ManifestMeta). Contains metas meta) no_manifests h));
     data_named = λ e is. absurd (some-no e is);
-    bounds = record { least = omega arith; below = omega arith; appends = omega arith };
+    bounds = record { least = omega arith; below = omega arith; appends = omega arith; full = omega arith };
   }
     where
       empty_history : entries ≡ []
@@ -145,6 +146,7 @@ module _ (facts : SnapshotFacts) (f : Files) (s : TableSchema) (entries : List E
         least = consistent.fence_least;
         below = fence-later x.fence x.id (newest.id + 1) consistent.fence_below (omega (arith, own_id, is_id));
         appends = (let within = consistent.appends_within in omega (arith, within, own_id, is_id));
+        full = consistent.full_within;
       };
     }
 

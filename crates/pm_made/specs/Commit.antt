@@ -23,7 +23,7 @@ use Rattle.pm_made.specs.Delta.{Delta, entries_of, left_of}
 use Rattle.pm_made.specs.Files.{IsMadeOf, merges}
 use Rattle.pm_made.specs.Intent.{Means, given_files, most_files}
 use Rattle.pm_made.specs.Refusals.{refusal_of}
-use Rattle.pm_made.specs.Snapshot.{appends_after, full_after, new_snapshot}
+use Rattle.pm_made.specs.Snapshot.{appends_of, new_snapshot}
 use Rattle.pm_made.specs.declared.intent.Intent.{Intent}
 use Rattle.pm_made.specs.declared.intent.Intent.TheVariants as intents
 use Rattle.pm_made.specs.declared.newest.Author.{Author}
@@ -71,6 +71,11 @@ MayRaise entries (intents.Fence number) = (int_lt (fence_at entries (length entr
     × (int_lt number (pos (suc (length entries))) ≡ true)
 MayRaise entries other = Unit {0}
 
+-- a compaction that was asked in full bears no more appends than the newest snapshot has
+abbrev pub IsFullWithin : Option Snapshot → Intent → Type 0
+IsFullWithin o (intents.Compact plan) = (appends : ℕ) → plan.full ≡ Some appends → appends ≤ appends_of o
+IsFullWithin o other = Unit {0}
+
 -- no two of the entries are of one file
 abbrev pub AreApart : List files.Entry → Type 0
 AreApart es = AllPairs (λ (a b : files.Entry). id_of a ≡ id_of b → ⊥) es
@@ -85,8 +90,8 @@ pub record MayChange (s : TableSchema) (d : Delta) : Type 0 where
   pub removed : AreApart d.removed
   pub added : AreApart d.added
 
--- The try can be published by an actor while the newest snapshot stands: its files are in place, those of rows that it
--- was given are the actor's, and no snapshot names a file that the actor named.
+-- The try can be published by an actor while the newest snapshot stands: the files that it makes are in place, those of
+-- rows that it was given are the actor's, and no snapshot names a file that the actor named.
 pub record IsReady (me : Actor) (f : Files) (s : TableSchema) (entries : List Entry) (e : Entry) (t : Attempt) : Type 0
   where
     pub folder : HasTable f s entries
@@ -97,7 +102,7 @@ pub record IsReady (me : Actor) (f : Files) (s : TableSchema) (entries : List En
     pub may_change : MayChange s made.delta
     pub allowed : refusal_of t.newest t.author t.intent ≡ None
     pub base : t.author.base ≤ t.newest.id
-    pub full : full_after t.newest.snapshot t.intent ≤ appends_after t.newest.snapshot t.intent
+    pub full : IsFullWithin t.newest.snapshot t.intent
     pub maker : MakesNames me t
     pub own : AreOwnFiles me s t
     pub there : AllByRecursion (IsPut f) t.made.files.items

@@ -2,6 +2,7 @@
 use Rattle.std.specs.Prelude.{◌≡◌, ℕ, ◌+◌, ◌*◌, ℤ, List, [], ◌++◌, length}
 use Rattle.std.specs.List.{AllByRecursion}
 use Rattle.pm_values.specs.declared.group.Group.{Group}
+use Rattle.pm_options.specs.declared.kinds.Producer.TheVariants as producers
 use Rattle.pm_model_history.specs.History.{Entry, append, compaction, entry_rows, fence}
 use Rattle.pm_schema.specs.Folder.{FitsPartition}
 use Rattle.pm_schema.specs.declared.schema.TableSchema.{TableSchema}
@@ -29,6 +30,11 @@ abbrev pub given_files : Intent → List files.Entry
 given_files (intents.Compact plan) = plan.added.items ++ plan.changes.items
 given_files other = []
 
+-- where rows are appended the table has no producer of changelog files: none are made yet
+abbrev pub ProducesNone : TableSchema → Intent → Type 0
+ProducesNone s (intents.Append batch) = s.options.producer ≡ producers.None
+ProducesNone s other = Unit {0}
+
 -- the groups of its batch fit the table
 abbrev pub FitsGroups : TableSchema → Intent → Type 0
 FitsGroups s intent = AllByRecursion (λ (e : Group × GroupRows). FitsPartition s e.0) (batch_of intent)
@@ -38,7 +44,7 @@ FitsGroups s intent = AllByRecursion (λ (e : Group × GroupRows). FitsPartition
 abbrev pub most_files : Intent → ℕ
 most_files intent = 2 * length (batch_of intent) + 6
 
--- commits are made of appends and compactions
+-- commits are made of appends and compactions; of fences they aren't made yet
 abbrev pub IsMadeFor : Intent → Type 0
 IsMadeFor (intents.Fence number) = ⊥
 IsMadeFor other = Unit {0}

@@ -33,14 +33,14 @@ is_fenced newest author = int_le (pos author.base) (fence_of newest.snapshot)
 abbrev pub passed : Newest → Author → Refusal
 passed newest author = refusals.Fenced author.base (fence_of newest.snapshot)
 
--- ---- files that were taken
+-- ---- files that are live no more
 
 -- the first of the files that are to go that isn't live
-abbrev pub first_taken : List Entry → List Entry → Option Entry
-first_taken live removed = find (λ (e : Entry). not (is_of_any live e)) removed
+abbrev pub first_not_live : List Entry → List Entry → Option Entry
+first_not_live live removed = find (λ (e : Entry). not (is_of_any live e)) removed
 
-abbrev pub taken : Entry → Refusal
-taken e = refusals.CompactTaken e.file.name
+abbrev pub not_live : Entry → Refusal
+not_live e = refusals.CompactTaken e.file.name
 
 -- ---- limits
 
@@ -88,13 +88,13 @@ limit_of newest intent =
 
 -- ---- all of them
 
--- a file that was taken comes before a limit
-abbrev pub taken_or : Option Entry → Option Refusal → Option Refusal
-taken_or (Some e) limit = Some (taken e)
-taken_or None limit = limit
+-- a file that is live no more comes before a limit
+abbrev pub not_live_or : Option Entry → Option Refusal → Option Refusal
+not_live_or (Some e) limit = Some (not_live e)
+not_live_or None limit = limit
 
--- the first reason, if there is one: the fence, a file that was taken, a limit
+-- the first reason, if there is one: the fence, a file that is live no more, a limit
 abbrev pub refusal_of : Newest → Author → Intent → Option Refusal
 refusal_of newest author intent =
     if is_fenced newest author then Some (passed newest author)
-    else taken_or (first_taken newest.live.items (removed_of intent)) (limit_of newest intent)
+    else not_live_or (first_not_live newest.live.items (removed_of intent)) (limit_of newest intent)

@@ -4,7 +4,6 @@ ghost use Rattle.std.specs.Prelude.{◌≡◌, ◌⊎◌, ◌≤◌, ◌+◌, �
 ghost use Rattle.std.specs.Prelude.{IfOk, IfErr, OnOk};
 ghost use Rattle.std.specs.List.{AllByRecursion};
 ghost use Rattle.pm_values.specs.declared.refusal.Refusal.TheVariants.{Memory};
-ghost use Rattle.pm_options.specs.declared.kinds.Producer.TheVariants as producers;
 ghost use Rattle.pm_schema.specs.Folder.{FitsPartition};
 ghost use Rattle.pm_manifest.specs.declared.entry.Entry.{Entry as EntryView};
 ghost use Rattle.pm_run.specs.Row.{most_sequence};
@@ -12,7 +11,7 @@ ghost use Rattle.pm_write.specs.Files.{no_sequence};
 ghost use Rattle.pm_write.specs.declared.files.NewFile.{NewFile as FileView};
 ghost use Rattle.pm_made.specs.Delta.{Delta, added_entry, adding, deleted, IsDeltaOf};
 ghost use Rattle.pm_made.specs.Files.{changes_of, data_file, data_of, HasDelta};
-ghost use Rattle.pm_made.specs.Intent.{batch_of, removed_of, FitsGroups, IsMadeFor};
+ghost use Rattle.pm_made.specs.Intent.{batch_of, removed_of, FitsGroups, IsMadeFor, ProducesNone};
 ghost use Rattle.pm_made.specs.Refusals.{above_numbers};
 
 use crate::intent::{Intent, Plan};
@@ -43,7 +42,7 @@ pub(crate) fn new_delta(
     intent: &mut Intent,
     names: &mut Names,
 ) -> Result<NewDelta, Refusal>
-    requires producer { schema.now.options.producer ≡ producers.None }
+    requires producer { ProducesNone schema.now intent.old }
     requires folders { FitsGroups schema.now intent.old }
     requires numbers { AllByRecursion (λ (e : EntryView). e.file.max_seq ≤ most_sequence) newest.now.live.items }
     requires made_for { IsMadeFor intent.old }

@@ -4,7 +4,7 @@ use pm_manifest::Entry;
 use pm_values::Group;
 use pm_write::Batch;
 
-/// What a commit is for: rows are appended, or runs are compacted, or a fence is raised.
+/// What a commit is for: rows are appended, or runs are compacted, or a fence is raised; of fences none is made yet.
 #[derive(Drop)]
 pub enum Intent {
     Append { batch: Batch },

@@ -1,5 +1,5 @@
-//! What a commit puts into the folder, whatever it is for: its files, in the order in which they are created, and the
-//! text of its snapshot.
+//! What a commit puts into the folder, of an append and of a compaction: its files, in the order in which they are
+//! created, and the text of its snapshot. The laws speak of fences too, and `make` doesn't take one yet.
 //!
 //! `make` is told the table as the newest snapshot has it, who commits and when, and what for: rows are appended, or
 //! runs are compacted (`specs/Intent.antt`). It makes a delta of that, which says which live files go and which come
@@ -20,8 +20,8 @@ mod making;
 mod manifests;
 mod newest;
 mod numbers;
+mod removed;
 mod snapshot;
-mod taken;
 
 pub use intent::{Intent, Plan};
 pub use laws::{commit_law, made_law, own_files_law};

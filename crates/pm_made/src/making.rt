@@ -3,11 +3,10 @@
 ghost use Rattle.std.specs.Prelude.{◌≡◌, ◌⊎◌, ◌+◌, ◌≤◌, ◌^◌, length, IfOk, IfErr, OnOk, Some, None};
 ghost use Rattle.std.specs.List.{AllByRecursion};
 ghost use Rattle.pm_values.specs.declared.refusal.Refusal.TheVariants.{Memory};
-ghost use Rattle.pm_options.specs.declared.kinds.Producer.TheVariants as producers;
 ghost use Rattle.pm_manifest.specs.declared.entry.Entry.{Entry as EntryView};
 ghost use Rattle.pm_run.specs.Row.{most_sequence};
 ghost use Rattle.pm_made.specs.Files.{IsMadeOf};
-ghost use Rattle.pm_made.specs.Intent.{most_files, FitsGroups, IsMadeFor};
+ghost use Rattle.pm_made.specs.Intent.{most_files, FitsGroups, IsMadeFor, ProducesNone};
 ghost use Rattle.pm_made.specs.Refusals.{refusal_of};
 
 use crate::data::{NewDelta, new_delta};
@@ -15,8 +14,8 @@ use crate::intent::Intent;
 use crate::limits::{judge_fence, judge_files, next_id};
 use crate::manifests::all_lists;
 use crate::newest::{Author, Made, Newest};
+use crate::removed::{judge_removed, removed_of};
 use crate::snapshot::new_text;
-use crate::taken::{judge_taken, removed_of};
 use pm_schema::TableSchema;
 use pm_values::{Names, Refusal};
 use std::alloc::Global;
@@ -34,7 +33,7 @@ pub fn make(
     intent: &mut Intent,
     names: &mut Names,
 ) -> Result<Made, Refusal>
-    requires producer { schema.now.options.producer ≡ producers.None }
+    requires producer { ProducesNone schema.now intent.old }
     requires folders { FitsGroups schema.now intent.old }
     requires numbers { AllByRecursion (λ (e : EntryView). e.file.max_seq ≤ most_sequence) newest.now.live.items }
     requires made_for { IsMadeFor intent.old }
@@ -50,7 +49,7 @@ pub fn make(
     ensures few { IfOk result (λ made. length made.files.items ≤ most_files intent.old) }
 {
     judge_fence(newest, author)?;
-    judge_taken(alloc, &newest.live, removed_of(intent))?;
+    judge_removed(alloc, &newest.live, removed_of(intent))?;
     judge_files(alloc, newest.live.len(), intent)?;
     let NewDelta {
         entries,

@@ -16,7 +16,7 @@ ghost use Rattle.pm_made.specs.Snapshot.{new_snapshot, watermark_of};
 use crate::intent::Intent;
 use crate::limits::fence_of;
 use crate::newest::{Author, Newest};
-use crate::taken::{files_of, is_among, removed_of};
+use crate::removed::{files_of, is_among, removed_of};
 use indexmap::IndexSet;
 use pm_base::{Blob, Txt};
 use pm_manifest::{Entry, FileId};

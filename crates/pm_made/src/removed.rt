@@ -8,7 +8,7 @@ ghost use Rattle.pm_manifest.specs.Live.{id_of};
 ghost use Rattle.pm_manifest.specs.declared.entry.Entry.{Entry as EntryView};
 ghost use Rattle.pm_made.specs.Delta.{is_of_any};
 ghost use Rattle.pm_made.specs.Intent.{removed_of};
-ghost use Rattle.pm_made.specs.Refusals.{first_taken, taken};
+ghost use Rattle.pm_made.specs.Refusals.{first_not_live, not_live};
 
 use crate::intent::Intent;
 use indexmap::IndexSet;
@@ -51,10 +51,10 @@ pub(crate) fn is_among(
 
 /// Judges whether all files that are to go are live: the first that isn't is the refusal's. It looks at each live file
 /// once, where there are files to go, and not at all where there are none.
-pub(crate) fn judge_taken(alloc: Global, live: &[Entry], removed: &[Entry]) -> Result<(), Refusal>
-    ensures ok { OnOk result (first_taken live.now removed.now ≡ None) }
+pub(crate) fn judge_removed(alloc: Global, live: &[Entry], removed: &[Entry]) -> Result<(), Refusal>
+    ensures ok { OnOk result (first_not_live live.now removed.now ≡ None) }
     ensures err { IfErr result (λ e. (e ≡ Memory)
-        ⊎ ((entry : EntryView) × (first_taken live.now removed.now ≡ Some entry) × (e ≡ taken entry))) }
+        ⊎ ((entry : EntryView) × (first_not_live live.now removed.now ≡ Some entry) × (e ≡ not_live entry))) }
 {
     if removed.is_empty() {
         return Ok(());

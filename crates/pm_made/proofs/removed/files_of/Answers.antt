@@ -7,7 +7,7 @@ use Rattle.pm_manifest.specs.Live.{id_of}
 use Rattle.pm_manifest.specs.declared.entry.Entry.{Entry}
 use Rattle.pm_manifest.specs.declared.file_id.FileId.{FileId}
 use Rattle.pm_made.specs.Delta.{is_of_any}
-use Rattle.pm_made.proofs.taken.files_of.Goals as goal
+use Rattle.pm_made.proofs.removed.files_of.Goals as goal
 
 one-more : (own before : Bool) → cond own true before ≡ (before || own)
 one-more true true = refl
