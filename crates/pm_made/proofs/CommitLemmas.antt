@@ -77,9 +77,9 @@ module _ (facts : SnapshotFacts) (paths : PathFacts) (me : Actor) (f after : Fil
     there = stands.commit.0;
     contents = stands.contents;
     has = stands.commit.1;
-    entry = subst (λ (o : Option Entry). BearsEntry o y) (sym later-entry) (bears-entry s t.author e t.intent y ready.means refl refl refl);
+    entry = subst (λ (o : Option Entry). BearsEntry o y) (sym later-entry) (bears-entry t.author e t.intent y ready.means refl refl refl);
     schema = refl;
-    fence = bears-fence s t.author e entries t.newest.snapshot t.intent ready.means ready.may_raise old.fence;
+    fence = bears-fence t.author e entries t.newest.snapshot t.intent ready.means ready.may_raise old.fence;
     counts = counts;
     groups = groups;
     changes = changes;
@@ -91,7 +91,7 @@ module _ (facts : SnapshotFacts) (paths : PathFacts) (me : Actor) (f after : Fil
     where
       own : (m : ℕ) (z : Snapshot) → k ≡ m → SnapshotAt after (suc m) z → appends_of t.newest.snapshot + appends_in e ≡ z.appends
       own m z is there =
-          sym (counts-on s t.author e t.newest.snapshot t.intent ready.means)
+          sym (counts-on t.author e t.newest.snapshot t.intent ready.means)
           ∙ ap (λ (x : Snapshot). x.appends) (one-snapshot after (suc k) y z stands.commit.0 (subst (λ (m : ℕ). SnapshotAt after (suc m) z) (sym is) there))
 
       at : (m : ℕ) → k ≡ m → CountsAppends f after m e

@@ -1,5 +1,5 @@
 -- What a commit changes, by what it is for: which entries go and come, and who named their files.
-use Rattle.std.proofs.Common.{◌≡◌, ℕ, true, not, List, ◌++◌, length, map, filter, Contains, refl, sym, ap, subst, arith}
+use Rattle.std.proofs.Common.{◌≡◌, ℕ, ◌+◌, ◌*◌, true, not, List, [], ◌++◌, length, map, filter, Contains, refl, sym, ap, subst, arith}
 use Rattle.std.specs.List.{AllByRecursion}
 use Rattle.pm_values.specs.Names.{Naming}
 use Rattle.pm_schema.specs.declared.schema.TableSchema.{TableSchema}
@@ -18,7 +18,12 @@ use Rattle.pm_made.specs.declared.newest.Newest.{Newest}
 use Rattle.pm_made.proofs.ListLemmas.{each-of, filter-in, in-left, in-map, in-right, none-in}
 use Rattle.pm_made.proofs.MadeLemmas.{IsMade, MayGive, later-maker, made-data, made-given}
 use Rattle.pm_made.proofs.NewFileLemmas.{named-file}
-use Rattle.pm_made.proofs.NumberLemmas.{files-many}
+use Rattle.pm_made.proofs.NumberLemmas.{all-data, files-many}
+
+-- how many manifests of changelog files a try makes at most
+abbrev pub more_of : Intent → ℕ
+more_of (intents.Append batch) = 0
+more_of other = 1
 
 module _ (s : TableSchema) (newest : Newest) (names : Naming) where
   -- those that go are the ones that it is for
@@ -35,6 +40,13 @@ module _ (s : TableSchema) (newest : Newest) (names : Naming) where
       ap (λ (z : Entry). z.add) (sym found.2)
   delta-adds _ _ _ _ (compacts plan) e h = let found = in-map adding plan.added.items e h in ap (λ (z : Entry). z.add) (sym found.2)
   delta-adds _ _ _ _ (fences number) e h = absurd (none-in e h)
+
+  -- an append has no changelog files
+  pub none-told : (intent : Intent) (d : Delta) (made : List CommitFile) (left : Naming) → HasDelta s newest names intent d made left
+      → more_of intent ≡ 0 → d.changes ≡ []
+  none-told _ _ _ _ (appends batch xs numbered) none = ap (map (added_entry s)) (all-data s numbered.next names batch xs numbered.are_new).1
+  none-told _ _ _ _ (compacts plan) none = absurd (omega (arith, none))
+  none-told _ _ _ _ (fences number) none = refl
 
   module _ (me : Actor) (base : ℕ) where
     -- the actor named the file of an entry, with this base
@@ -86,9 +98,9 @@ module _ (s : TableSchema) (newest : Newest) (names : Naming) where
     }
     names-files _ _ _ _ (fences number) may own = record { added = λ e h. absurd (none-in e h); changes = λ e h. absurd (none-in e h) }
 
-    -- six names are left for manifests and lists
+    -- four names are left for manifests and lists, and two more where it may have changelog files
     pub delta-left : (intent : Intent) (d : Delta) (made : List CommitFile) (left : Naming) → HasDelta s newest names intent d made left
-        → MayGive me base (most_files intent) names → MayGive me base 6 left
+        → MayGive me base (most_files intent) names → MayGive me base (4 + 2 * more_of intent) left
     delta-left _ _ _ _ (appends batch xs numbered) may = record {
       maker = later-maker me base (length xs) names may.maker
           (let room = may.room in let many = files-many s numbered.next names batch xs numbered.are_new in omega (arith, room, many));

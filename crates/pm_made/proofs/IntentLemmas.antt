@@ -5,11 +5,10 @@ use Rattle.std.specs.Prelude.{unwrap_or}
 use Rattle.std.proofs.lemmas.Int.{ints}
 use Rattle.std.proofs.lemmas.List.{take_all}
 use Rattle.pm_model_history.specs.History.{Entry}
-use Rattle.pm_schema.specs.declared.schema.TableSchema.{TableSchema}
 use Rattle.pm_snapshot.specs.declared.snapshot.Snapshot.{Snapshot}
 use Rattle.pm_model_folder.specs.Entries.{BearsEntry, appends_in, fence_at, raised}
 use Rattle.pm_made.specs.Commit.{IsFullWithin, MayRaise}
-use Rattle.pm_made.specs.Intent.{Means}
+use Rattle.pm_made.specs.Intent.{IsEntryFor, batch_of, most_files}
 use Rattle.pm_made.specs.Refusals.{fence_of}
 use Rattle.pm_made.specs.Snapshot.{appends_after, appends_of, fence_after, full_after, full_of}
 use Rattle.pm_made.specs.declared.intent.Intent.{Intent}
@@ -35,6 +34,12 @@ module _ (entries : List Entry) (e : Entry) where
 
 -- ---- by what it is for
 
+-- it makes no fewer files than its batch has groups
+pub batch_within : (intent : Intent) → length (batch_of intent) ≤ most_files intent
+batch_within (intents.Append batch) = omega arith
+batch_within (intents.Compact plan) = omega arith
+batch_within (intents.Fence number) = omega arith
+
 below-le : (a b : ℤ) → int_lt a b ≡ true → int_le a b ≡ true
 below-le a b is = grind (arith, ints)
 
@@ -47,16 +52,16 @@ below-next z k id same is = grind (arith, ints)
 no-more : (count : ℕ) → count ≡ count + 0
 no-more count = omega arith
 
-module _ (s : TableSchema) (author : Author) (e : Entry) where
-  pub bears-entry : (intent : Intent) (x : Snapshot) → Means s author intent e → x.user ≡ author.user → x.ident ≡ author.identifier
+module _ (author : Author) (e : Entry) where
+  pub bears-entry : (intent : Intent) (x : Snapshot) → IsEntryFor author intent e → x.user ≡ author.user → x.ident ≡ author.identifier
       → x.base ≡ author.base → BearsEntry (Some e) x
-  bears-entry (intents.Append batch) x means user ident base = subst (λ (e : Entry). BearsEntry (Some e) x) (sym means.is) (user, ident)
+  bears-entry (intents.Append batch) x means user ident base = subst (λ (e : Entry). BearsEntry (Some e) x) (sym means) (user, ident)
   bears-entry (intents.Compact plan) x means user ident base = subst (λ (e : Entry). BearsEntry (Some e) x) (sym means) base
   bears-entry (intents.Fence number) x means user ident base = subst (λ (e : Entry). BearsEntry (Some e) x) (sym means) tt
 
   -- it counts the appends on
-  pub counts-on : (o : Option Snapshot) (intent : Intent) → Means s author intent e → appends_after o intent ≡ appends_of o + appends_in e
-  counts-on o (intents.Append batch) means = sym (ap (λ (e : Entry). appends_of o + appends_in e) means.is)
+  pub counts-on : (o : Option Snapshot) (intent : Intent) → IsEntryFor author intent e → appends_after o intent ≡ appends_of o + appends_in e
+  counts-on o (intents.Append batch) means = sym (ap (λ (e : Entry). appends_of o + appends_in e) means)
   counts-on o (intents.Compact plan) means = no-more (appends_of o) ∙ sym (ap (λ (e : Entry). appends_of o + appends_in e) means)
   counts-on o (intents.Fence number) means = no-more (appends_of o) ∙ sym (ap (λ (e : Entry). appends_of o + appends_in e) means)
 
@@ -65,10 +70,10 @@ module _ (s : TableSchema) (author : Author) (e : Entry) where
     k = length entries
 
     -- the fence after it
-    pub bears-fence : (intent : Intent) → Means s author intent e → MayRaise entries intent → fence_of o ≡ fence_at entries k
+    pub bears-fence : (intent : Intent) → IsEntryFor author intent e → MayRaise entries intent → fence_of o ≡ fence_at entries k
         → fence_after o intent ≡ fence_at (entries ++ e ∷ []) (suc k)
     bears-fence (intents.Append batch) means raise old =
-        old ∙ sym (ap (raised (fence_at entries k)) means.is) ∙ sym (later-fence entries e)
+        old ∙ sym (ap (raised (fence_at entries k)) means) ∙ sym (later-fence entries e)
     bears-fence (intents.Compact plan) means raise old =
         old ∙ sym (ap (raised (fence_at entries k)) means) ∙ sym (later-fence entries e)
     bears-fence (intents.Fence number) means raise old =

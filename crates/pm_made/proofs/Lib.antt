@@ -1,20 +1,21 @@
 mod AllowedLemmas
 mod AsMadeLemmas
 mod CommitLemmas
-mod CountLemmas
+pub mod CountLemmas
 mod DeltaFilesLemmas
 mod DeltaLemmas
-mod EntryLemmas
+pub mod EntryLemmas
+pub mod FileCountLemmas
 mod GoneLemmas
-mod IntentLemmas
-mod ListLemmas
-mod ListedLemmas
-mod LiveLemmas
-mod MadeLemmas
+pub mod IntentLemmas
+pub mod ListLemmas
+pub mod ListedLemmas
+pub mod LiveLemmas
+pub mod MadeLemmas
 mod MakerLemmas
 mod ManifestLemmas
 mod NamedLemmas
-mod NewFileLemmas
-mod NumberLemmas
-mod OldLemmas
+pub mod NewFileLemmas
+pub mod NumberLemmas
+pub mod OldLemmas
 mod OwnLemmas

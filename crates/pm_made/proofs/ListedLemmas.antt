@@ -1,5 +1,5 @@
 -- The manifests and lists of a commit: what they have once they are in place, and who named them.
-use Rattle.std.proofs.Common.{◌≡◌, ℕ, suc, List, [], ◌∷◌, ◌++◌, Option, None, Some, inl, inr, Contains, refl, sym, ap, subst, ◌∙◌, append-nil, append_assoc}
+use Rattle.std.proofs.Common.{◌≡◌, ℕ, zero, suc, ◌+◌, ◌*◌, List, [], ◌∷◌, ◌++◌, Option, None, Some, inl, inr, Contains, refl, sym, ap, subst, ◌∙◌, append-nil, append_assoc, arith}
 use Rattle.std.specs.FinMap as finite
 use Rattle.std.specs.List.{AllByRecursion}
 use Rattle.pm_store.specs.Files.{Files}
@@ -16,7 +16,7 @@ use Rattle.pm_put.specs.declared.putting.CommitFile.{CommitFile}
 use Rattle.pm_made.specs.Files.{HasBase, HasChangesList, HasManifest, IsNewList, IsNewManifest, kept, merged, no_list, no_manifest, one_list, one_manifest}
 use Rattle.pm_made.specs.declared.newest.Newest.{Newest}
 use Rattle.pm_made.proofs.ListLemmas.{in-or, none-in}
-use Rattle.pm_made.proofs.MadeLemmas.{IsMade, IsMaker, MayGive, give-next, give-none, made-list, made-manifest}
+use Rattle.pm_made.proofs.MadeLemmas.{IsMade, IsMaker, MayGive, give-next, give-none, made-list, made-manifest, next-maker}
 
 -- ---- what they have
 
@@ -60,6 +60,12 @@ module _ (f : Files) (s : TableSchema) where
     both-entries metas more later others have rest,
   )
 
+-- without entries there is no manifest
+pub no-metas : (s : TableSchema) (names : Naming) (es : List Entry) (metas : List ManifestMeta) (made : List CommitFile) (left : Naming)
+    → HasManifest s names es metas made left → es ≡ [] → metas ≡ []
+no-metas s names es _ _ _ (no_manifest none) nothing = refl
+no-metas s names es _ _ _ (one_manifest m file some is) nothing = absurd (some nothing)
+
 -- ---- who named them
 
 some-name : (a b : List ℕ) → Some a ≡ Some b → a ≡ b
@@ -89,10 +95,27 @@ module _ (me : Actor) (base : ℕ) (s : TableSchema) where
   manifest-left k names es _ _ _ (no_manifest none) may = give-none me base k names may
   manifest-left k names es _ _ _ (one_manifest m file some is) may = give-next me base k names may
 
-  pub list-left : (k : ℕ) (names : Naming) (metas : List ManifestMeta) (o : Option (List ℕ)) (made : List CommitFile) (left : Naming)
-      → HasChangesList s names metas o made left → MayGive me base (suc k) names → MayGive me base k left
-  list-left k names metas _ _ _ (no_list none) may = give-none me base k names may
-  list-left k names metas _ _ _ (one_list name file some is) may = give-next me base k names may
+  -- a manifest of changelog files takes a name where there are some
+  pub changes-left : (more : ℕ) (names : Naming) (es : List Entry) (metas : List ManifestMeta) (made : List CommitFile) (left : Naming)
+      → HasManifest s names es metas made left → (more ≡ 0 → es ≡ []) → MayGive me base (2 + 2 * more) names → MayGive me base (2 + more) left
+  changes-left more names es _ _ _ (no_manifest none) told may =
+      record { maker = may.maker; room = (let room = may.room in omega (arith, room)) }
+  changes-left zero names es _ _ _ (one_manifest m file some is) told may = absurd (some (told refl))
+  changes-left (suc more) names es _ _ _ (one_manifest m file some is) told may = record {
+    maker = next-maker me base names may.maker (let room = may.room in omega (arith, room));
+    room = (let room = may.room in omega (arith, room));
+  }
+
+  -- so does the list of it
+  pub list-left : (more : ℕ) (names : Naming) (metas : List ManifestMeta) (o : Option (List ℕ)) (made : List CommitFile) (left : Naming)
+      → HasChangesList s names metas o made left → (more ≡ 0 → metas ≡ []) → MayGive me base (1 + more) names → MayGive me base 1 left
+  list-left more names metas _ _ _ (no_list none) told may =
+      record { maker = may.maker; room = (let room = may.room in omega (arith, room)) }
+  list-left zero names metas _ _ _ (one_list name file some is) told may = absurd (some (told refl))
+  list-left (suc more) names metas _ _ _ (one_list name file some is) told may = record {
+    maker = next-maker me base names may.maker (let room = may.room in omega (arith, room));
+    room = (let room = may.room in omega (arith, room));
+  }
 
   pub base-left : (k : ℕ) (newest : Newest) (names : Naming) (metas : List ManifestMeta) (made : List CommitFile) (left : Naming)
       → HasBase s newest names metas made left → MayGive me base (suc k) names → MayGive me base k left

@@ -1,5 +1,5 @@
 -- The next numbers of groups, in a map.
-use Rattle.std.proofs.Common.{◌≡◌, ◌⊎◌, inl, inr, ℕ, suc, ◌+◌, ◌<◌, ◌≤◌, nat_lt, ◌||◌, max, Bool, true, false, cond, List, ◌∷◌, [], length, Option, Some, unwrap_or, refl, sym, ap, subst, ◌∙◌, arith}
+use Rattle.std.proofs.Common.{◌≡◌, ◌⊎◌, inl, inr, ℕ, suc, ◌+◌, ◌<◌, ◌≤◌, nat_lt, ◌||◌, max, Bool, true, false, cond, not, List, ◌∷◌, [], length, Option, Some, unwrap_or, refl, sym, ap, subst, ◌∙◌, arith}
 use Rattle.std.specs.BTreeMap.{BTreeMap, get_by, is_at}
 use Rattle.std.specs.Cmp.{Equal-is}
 use Rattle.std.specs.List.{AllByRecursion}
@@ -18,9 +18,10 @@ use Rattle.pm_run.specs.Row.{most_sequence}
 use Rattle.pm_write.specs.Batch.{GroupRows, Groups}
 use Rattle.pm_write.specs.Files.{AreNewFiles, RefusesFiles, exceeds, next_of, no_sequence}
 use Rattle.pm_write.specs.declared.files.NewFile.{NewFile}
+use Rattle.pm_made.specs.Files.{changes_of, data_of}
 use Rattle.pm_made.specs.Refusals.{above_numbers, next_number}
 
-group-is : (a b : Group) → is_at (group_cmp a) b ≡ true → a ≡ b
+pub group-is : (a b : Group) → is_at (group_cmp a) b ≡ true → a ≡ b
 group-is a b e = group_cmp-IsAntisymmetric a b ((Equal-is (group_cmp a b)).0 e)
 
 greater : (number own : ℕ) → own < number → number ≡ max number own
@@ -67,6 +68,19 @@ files-many s next names [] [] new = refl
 files-many s next names [] (x ∷ xs) new = absurd new
 files-many s next names (e ∷ es) [] new = absurd new
 files-many s next names (e ∷ es) (x ∷ xs) new = ap suc (files-many s next (counted names) es xs new.1)
+
+-- none is a changelog file
+pub all-data : (s : TableSchema) (next : BTreeMap Group ℕ) (names : Naming) (batch : Groups) (xs : List NewFile)
+    → AreNewFiles s next names batch xs → (data_of xs ≡ xs) × (changes_of xs ≡ [])
+all-data s next names [] [] new = (refl, refl)
+all-data s next names [] (x ∷ xs) new = absurd new
+all-data s next names (e ∷ es) [] new = absurd new
+all-data s next names (e ∷ es) (x ∷ xs) new =
+    let rest = all-data s next (counted names) es xs new.1 in
+    let plain : x.changelog ≡ false = new.0.no_changelog in (
+      ap (λ (t : Bool). cond (not t) (x ∷ data_of xs) (data_of xs)) plain ∙ ap (λ (more : List NewFile). x ∷ more) rest.0,
+      ap (λ (t : Bool). cond t (x ∷ changes_of xs) (changes_of xs)) plain ∙ rest.1,
+    )
 
 -- each is of a group of the batch
 pub files-folders : (s : TableSchema) (next : BTreeMap Group ℕ) (names : Naming) (batch : Groups) (xs : List NewFile)

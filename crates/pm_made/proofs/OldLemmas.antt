@@ -3,25 +3,32 @@ use Rattle.std.proofs.Common.{◌≡◌, ℕ, ℤ, pos, negsuc, zero, suc, ◌+�
 use Rattle.std.specs.FinMap as finite
 use Rattle.std.proofs.lemmas.Int.{ints}
 use Rattle.std.proofs.lemmas.List.{take_all}
+use Rattle.std.proofs.lemmas.List.Sorted.{IsPermutation-refl, length_permutation}
 use Rattle.pm_store.specs.Files.{Files, Puts}
+use Rattle.pm_values.specs.declared.file_meta.FileMeta.{FileMeta}
+use Rattle.pm_values.specs.declared.group.Group.{Group}
 use Rattle.pm_model_history.specs.History.{Entry}
 use Rattle.pm_schema.specs.declared.schema.TableSchema.{TableSchema}
 use Rattle.pm_snapshot.specs.Snapshot.{IsConsistent, snapshot_in}
 use Rattle.pm_snapshot.specs.declared.snapshot.Snapshot.{Snapshot}
+use Rattle.pm_levels.specs.Runs.{AreTwoOf, RunView}
 use Rattle.pm_manifest.specs.Live.{AreInOrder, live_after}
 use Rattle.pm_manifest.specs.declared.entry.Entry as files
 use Rattle.pm_manifest.specs.declared.entry.ManifestMeta.{ManifestMeta}
 use Rattle.pm_model_contents.specs.Lists.{HaveEntries, manifest_path, none_live}
 use Rattle.pm_model_contents.specs.Named as named
 use Rattle.pm_model_contents.specs.Named.{Contents}
-use Rattle.pm_model_contents.specs.Runs.{IsLive, data_path}
+use Rattle.pm_model_contents.specs.Runs.{AreRunsOf, IsLive, data_path}
 use Rattle.pm_model_folder.specs.Commits.{HasCommit, IsCommitted, Names, live_in}
 use Rattle.pm_model_folder.specs.Entries.{AreLive, fence_at}
 use Rattle.pm_model_folder.specs.Folder.{HasTable, IsFrom}
 use Rattle.pm_model_folder.specs.Meaning.{HasSnapshotAt, SnapshotAt}
 use Rattle.pm_model_folder.specs.Paths.{snapshot_path}
+use Rattle.pm_model_folder.specs.Runs.{AreRunsAt}
+use Rattle.pm_model_folder.specs.Stored.{HasGroup}
 use Rattle.pm_model_folder.proofs.Facts.{there-absent}
 use Rattle.pm_model_folder.proofs.HoldLemmas.{ContentsStay, Holds, OneContents, one-commit, one-snapshot}
+use Rattle.pm_model_folder.proofs.RunFacts.{none-stand}
 use Rattle.pm_made.specs.Commit.{IsFoundAs}
 use Rattle.pm_made.specs.Refusals.{fence_of}
 use Rattle.pm_made.specs.Snapshot.{appends_of, full_of}
@@ -45,6 +52,17 @@ some-no x is = cc
 pub no-entries : (entries : List Entry) → length entries ≡ 0 → entries ≡ []
 no-entries [] none = refl
 no-entries (e ∷ entries) none = absurd (omega (arith, none))
+
+two-none : (a b : FileMeta) → AreTwoOf a b [] → ⊥
+two-none a b two = let long = length_permutation [] (a ∷ b ∷ two.0) two.1 in omega (arith, long)
+
+abbrev no-runs : (g : Group) → AreRunsOf none_live g []
+no-runs g = record {
+  files = [];
+  own = record { exact = λ m. (λ h. absurd (none-in m h), λ o. absurd (some-no o.0 o.1)); apart = λ a b two level. absurd (two-none a b two) };
+  made = record { whole = IsPermutation-refl []; order = λ k d from within. absurd (omega (arith, within)); each = tt; levels = tt };
+  disjoint = λ a b two meet. two-none a b two;
+}
 
 -- a fence that is below an id is below a later one
 fence-later : (z : ℤ) (a b : ℕ) → z <ℤ pos a → a ≤ b → z <ℤ pos b
@@ -73,6 +91,8 @@ module _ (facts : SnapshotFacts) (f : Files) (s : TableSchema) (entries : List E
     pub appends : (z : Snapshot) → 1 ≤ n → SnapshotAt f n z → appends_of o ≡ z.appends
     pub manifest_named : (meta : ManifestMeta) → Contains newest.manifests.items meta → (1 ≤ n) × Names f s n (manifest_path meta.name)
     pub data_named : (e : files.Entry) → IsLive (live_after none_live entries0) e → (1 ≤ n) × Names f s n (data_path s e.group e.file.name)
+    pub groups : (g : Group) → HasGroup f s entries n (live_after none_live entries0) g
+    pub runs_at : (g : Group) (runs : List RunView) → AreRunsAt f s n g runs → AreRunsOf (live_after none_live entries0) g runs
     pub bounds : Bounds o newest.id
 
   -- the origin
@@ -90,11 +110,24 @@ module _ (facts : SnapshotFacts) (f : Files) (s : TableSchema) (entries : List E
     appends = λ z some at. absurd (omega (arith, some, is_id, zero_id));
     manifest_named = λ meta h. absurd (none-in meta (subst (λ (metas : List ManifestMeta). Contains metas meta) no_manifests h));
     data_named = λ e is. absurd (some-no e is);
+    groups = λ g. subst (λ (es : List Entry). HasGroup f s es (length es) none_live g) (sym empty_history) (record {
+      runs = [];
+      own = no-runs g;
+      within = tt;
+      numbered = λ a b two low high. absurd (two-none a b two);
+      stored = [];
+      read = tt;
+      stand = none-stand s g;
+    });
+    runs_at = λ g runs at. subst (AreRunsOf none_live g) (sym (subst (λ (k : ℕ). AreRunsAt f s k g runs) none at)) (no-runs g);
     bounds = record { least = omega arith; below = omega arith; appends = omega arith; full = omega arith };
   }
     where
+      none : n ≡ 0
+      none = sym is_id ∙ zero_id
+
       empty_history : entries ≡ []
-      empty_history = no-entries entries (sym is_id ∙ zero_id)
+      empty_history = no-entries entries none
 
   -- a snapshot after it
   module _ (x : Snapshot) (c : Contents) (commit : HasCommit f s newest.id x c) (are : newest.manifests.items ≡ c.base ++ c.delta)
@@ -142,6 +175,8 @@ module _ (facts : SnapshotFacts) (f : Files) (s : TableSchema) (entries : List E
       appends = λ z _ at. ap (λ (x : Snapshot). x.appends) (one-snapshot f n x z at_n.0 at);
       manifest_named = λ meta h. (some, (x, c, at_n, named.manifest meta (inl (subst (λ (metas : List ManifestMeta). Contains metas meta) are h))));
       data_named = λ e is. (some, (x, c, at_n, named.data_file e is));
+      groups = λ g. subst (λ (c : Contents). HasGroup f s entries n (live_in c) g) same.1 (own.groups g);
+      runs_at = λ g runs at. runs-at g runs n refl at;
       bounds = record {
         least = consistent.fence_least;
         below = fence-later x.fence x.id (newest.id + 1) consistent.fence_below (omega (arith, own_id, is_id));
@@ -149,6 +184,12 @@ module _ (facts : SnapshotFacts) (f : Files) (s : TableSchema) (entries : List E
         full = consistent.full_within;
       };
     }
+      where
+        runs-at : (g : Group) (runs : List RunView) (k : ℕ) → n ≡ k → AreRunsAt f s k g runs → AreRunsOf (live_after none_live c.entries) g runs
+        runs-at g runs zero none at = absurd (omega (arith, some, none))
+        runs-at g runs (suc k) is (y, d, other, runs_of) =
+            let both = one-commit facts.one_contents f s n y x d c (subst (λ (k : ℕ). HasCommit f s k y d) (sym is) other) at_n in
+            subst (λ (d : Contents). AreRunsOf (live_in d) g runs) both.1 runs_of
 
   pub old-of : (o : Option Snapshot) → IsFoundAs f s newest o → Old o
   old-of None (zero_id, no_manifests, no_live) = old-none zero_id no_manifests no_live

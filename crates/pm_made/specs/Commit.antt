@@ -21,7 +21,7 @@ use Rattle.pm_model_folder.specs.Folder.{HasTable}
 use Rattle.pm_put.specs.Meaning.{IsPut}
 use Rattle.pm_made.specs.Delta.{Delta, entries_of, left_of}
 use Rattle.pm_made.specs.Files.{IsMadeOf, merges}
-use Rattle.pm_made.specs.Intent.{Means, given_files, most_files}
+use Rattle.pm_made.specs.Intent.{IsEntryFor, given_files, most_files}
 use Rattle.pm_made.specs.Refusals.{refusal_of}
 use Rattle.pm_made.specs.Snapshot.{appends_of, new_snapshot}
 use Rattle.pm_made.specs.declared.intent.Intent.{Intent}
@@ -96,7 +96,7 @@ pub record IsReady (me : Actor) (f : Files) (s : TableSchema) (entries : List En
   where
     pub folder : HasTable f s entries
     pub newest : IsNewestOf f s entries t.newest
-    pub means : Means s t.author t.intent e
+    pub means : IsEntryFor t.author t.intent e
     pub may_raise : MayRaise entries t.intent
     pub made : IsMadeOf s t.newest t.author t.intent t.names t.made
     pub may_change : MayChange s made.delta

@@ -1,5 +1,5 @@
 -- What a commit is for, and which entry it adds.
-use Rattle.std.specs.Prelude.{◌≡◌, ℕ, ◌+◌, ◌*◌, ℤ, List, [], ◌++◌, length}
+use Rattle.std.specs.Prelude.{◌≡◌, ℕ, ◌+◌, ℤ, List, [], ◌++◌, length}
 use Rattle.std.specs.List.{AllByRecursion}
 use Rattle.pm_values.specs.declared.group.Group.{Group}
 use Rattle.pm_options.specs.declared.kinds.Producer.TheVariants as producers
@@ -39,10 +39,11 @@ ProducesNone s other = Unit {0}
 abbrev pub FitsGroups : TableSchema → Intent → Type 0
 FitsGroups s intent = AllByRecursion (λ (e : Group × GroupRows). FitsPartition s e.0) (batch_of intent)
 
--- how many files a try creates at most: of each group of its batch a data file and a changelog file, and three
--- manifests and three lists
+-- How many files a try creates at most. An append makes a data file of each group of its batch, the merged manifest,
+-- that of its delta, and two lists; another has a manifest and a list of changelog files, too.
 abbrev pub most_files : Intent → ℕ
-most_files intent = 2 * length (batch_of intent) + 6
+most_files (intents.Append batch) = length batch + 4
+most_files other = 6
 
 -- commits are made of appends and compactions; of fences they aren't made yet
 abbrev pub IsMadeFor : Intent → Type 0
@@ -61,8 +62,14 @@ pub record AppendsBatch (s : TableSchema) (user : List ℕ) (identifier : ℤ) (
   pub fit : AllByRecursion (IsRowOf s) (entry_rows e)
   pub groups : IsBatchOf s (entry_rows e) batch
 
+-- a commit for this adds such an entry, by its author; which rows are appended is left open
+abbrev pub IsEntryFor : Author → Intent → Entry → Type 0
+IsEntryFor author (intents.Append batch) e = IsAppendFor author.user author.identifier e
+IsEntryFor author (intents.Compact plan) e = e ≡ compaction author.base plan.groups.items
+IsEntryFor author (intents.Fence number) e = e ≡ fence number
+
 -- the entry is the one that a commit adds, by its author and by what it is for
 abbrev pub Means : TableSchema → Author → Intent → Entry → Type 0
 Means s author (intents.Append batch) e = AppendsBatch s author.user author.identifier batch e
-Means s author (intents.Compact plan) e = e ≡ compaction author.base plan.groups.items
-Means s author (intents.Fence number) e = e ≡ fence number
+Means s author (intents.Compact plan) e = IsEntryFor author (intents.Compact plan) e
+Means s author (intents.Fence number) e = IsEntryFor author (intents.Fence number) e

@@ -1,6 +1,6 @@
 //! What a try changes, as entries of manifests, and the files of rows that it creates for that.
 
-ghost use Rattle.std.specs.Prelude.{◌≡◌, ◌⊎◌, ◌≤◌, ◌+◌, ◌*◌, ◌^◌, ◌++◌, [], ◌∷◌, length, map, true, false};
+ghost use Rattle.std.specs.Prelude.{◌≡◌, ◌⊎◌, ◌≤◌, ◌+◌, ◌^◌, ◌++◌, [], ◌∷◌, length, map, true, false};
 ghost use Rattle.std.specs.Prelude.{IfOk, IfErr, OnOk};
 ghost use Rattle.std.specs.List.{AllByRecursion};
 ghost use Rattle.pm_values.specs.declared.refusal.Refusal.TheVariants.{Memory};
@@ -46,7 +46,7 @@ pub(crate) fn new_delta(
     requires folders { FitsGroups schema.now intent.old }
     requires numbers { AllByRecursion (λ (e : EntryView). e.file.max_seq ≤ most_sequence) newest.now.live.items }
     requires made_for { IsMadeFor intent.old }
-    requires count { names.old.count + 2 * length (batch_of intent.old) ≤ 2 ^ 62 }
+    requires count { names.old.count + length (batch_of intent.old) ≤ 2 ^ 62 }
     ensures delta { IfOk result (λ x. (d : Delta)
         × HasDelta schema.now newest.now names.old intent.old d x.files.items names.new
         × IsDeltaOf (removed_of intent.old) x.entries.items x.changes.items d) }
@@ -56,7 +56,7 @@ pub(crate) fn new_delta(
     ensures kept { intent.new ≡ intent.old }
     ensures names { names.new ≡ record names.old { count = names.new.count } }
     ensures rises { names.old.count ≤ names.new.count }
-    ensures room { OnOk result (names.new.count ≤ names.old.count + 2 * length (batch_of intent.old)) }
+    ensures room { OnOk result (names.new.count ≤ names.old.count + length (batch_of intent.old)) }
     ensures counted { IfOk result (λ x. names.new.count ≡ names.old.count + length x.files.items) }
 {
     match intent {

@@ -25,6 +25,7 @@ use std::alloc::Global;
 /// takes time linear in the rows of its batch; a compaction copies its entries, and looks up each live file among those
 /// that it takes away, and each of these among the live ones. Either takes time linear in the live files but for a look
 /// into the groups at each. Each file that it makes takes the next name. The intent stays for another try.
+#[tactic(auto, using(crate::proofs::IntentLemmas::batch_within))]
 pub fn make(
     alloc: Global,
     schema: &TableSchema,

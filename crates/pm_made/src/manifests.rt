@@ -47,7 +47,7 @@ pub(crate) fn new_manifest(
     entries: &[Entry],
     names: &mut Names,
 ) -> Result<NewManifest, Refusal>
-    requires { names.old.count < 2 ^ 62 }
+    requires { names.old.count < 2 ^ 63 }
     ensures made { IfOk result (λ m. IsNewManifest schema.now names.old entries.now m.meta m.file) }
     ensures names { OnOk result (names.new ≡ counted names.old) }
     ensures same { names.new ≡ record names.old { count = names.new.count } }
@@ -94,7 +94,7 @@ pub(crate) fn new_list(
     metas: &[ManifestMeta],
     names: &mut Names,
 ) -> Result<NewList, Refusal>
-    requires { names.old.count < 2 ^ 62 }
+    requires { names.old.count < 2 ^ 63 }
     ensures made { IfOk result (λ l. IsNewList schema.now names.old metas.now l.name l.file) }
     ensures names { OnOk result (names.new ≡ counted names.old) }
     ensures same { names.new ≡ record names.old { count = names.new.count } }
@@ -121,7 +121,7 @@ pub(crate) fn manifest_of(
     names: &mut Names,
     files: &mut Vec<CommitFile>,
 ) -> Result<Vec<ManifestMeta>, Refusal>
-    requires { names.old.count < 2 ^ 62 }
+    requires { names.old.count < 2 ^ 63 }
     ensures made { IfOk result (λ metas. (own : List FileView)
         × HasManifest schema.now names.old entries.now metas.items own names.new
         × (files.new.items ≡ files.old.items ++ own)) }
@@ -149,7 +149,7 @@ fn changes_list(
     names: &mut Names,
     files: &mut Vec<CommitFile>,
 ) -> Result<Option<Txt>, Refusal>
-    requires { names.old.count < 2 ^ 62 }
+    requires { names.old.count < 2 ^ 63 }
     ensures made { IfOk result (λ name. (own : List FileView)
         × HasChangesList schema.now names.old metas.now name own names.new
         × (files.new.items ≡ files.old.items ++ own)) }
@@ -178,7 +178,7 @@ fn new_lists(
     names: &mut Names,
     files: &mut Vec<CommitFile>,
 ) -> Result<ListNames, Refusal>
-    requires { names.old.count + 5 ≤ 2 ^ 62 }
+    requires { names.old.count + 5 ≤ 2 ^ 63 }
     ensures lists { IfOk result (λ lists. (own : List FileView)
         × AreLists schema.now names.old entries.now changes.now base.now lists own
         × (files.new.items ≡ files.old.items ++ own)) }
@@ -212,7 +212,7 @@ pub(crate) fn all_lists(
     names: &mut Names,
     files: &mut Vec<CommitFile>,
 ) -> Result<ListNames, Refusal>
-    requires { names.old.count + 6 ≤ 2 ^ 62 }
+    requires { names.old.count + 6 ≤ 2 ^ 63 }
     ensures lists { IfOk result (λ lists. (own : List FileView)
         × AreManifests schema.now newest.now names.old entries.now changes.now lists own
         × (files.new.items ≡ files.old.items ++ own)) }
