@@ -17,6 +17,7 @@ use Rattle.pm_snapshots.specs.declared.phase.Phase as listing
 use Rattle.pm_scan.specs.Meaning as scan
 use Rattle.pm_scan.specs.declared.phase.Phase as scanning
 use Rattle.pm_commit.specs.AllCalls.{NamesNone}
+use Rattle.pm_commit.specs.Committer.{IsCommitter}
 use Rattle.pm_commit.specs.Meaning as commit
 use Rattle.pm_commit.specs.Meaning.{KnowsOwn}
 use Rattle.pm_commit.specs.Own as owner
@@ -40,6 +41,7 @@ module _ (f : Files) (p : Past) where
   commit_begins e m begins =
       let own : KnowsOwn begins.begun e begins.schema p = record {
         is_table = begins.table;
+        appends = (subst IsCommitter begins.is begins.is_committer).1;
         means = begins.means;
         may = begins.may;
         unnamed = begins.unnamed;

@@ -21,6 +21,7 @@ use Rattle.pm_read_table.specs.declared.phase.Phase.TheVariants as readers
 use Rattle.pm_scan.specs.Meaning as scan
 use Rattle.pm_scan.specs.declared.phase.Phase as scanning
 use Rattle.pm_scan.specs.declared.phase.Phase.TheVariants as scanners
+use Rattle.pm_made.specs.Intent.{Means}
 use Rattle.pm_commit.specs.AllCalls.{NamesNone}
 use Rattle.pm_commit.specs.Committer.{IsCommitter}
 use Rattle.pm_commit.specs.Meaning as commit
@@ -104,7 +105,7 @@ pub record BeginsCommit (Named : Actor → Type 0) (h : History) (e : Entry) (m 
   pub is : m ≡ committers.Names begun schema
   pub is_committer : IsCommitter m
   pub table : IsTableOf schema h
-  pub means : commit.Means schema begun.author begun.batch e
+  pub means : Means schema begun.author begun.intent e
   pub may : MayName begun.names
   pub no_base : begun.author.base ≡ 0
   pub none_lost : begun.lost ≡ []

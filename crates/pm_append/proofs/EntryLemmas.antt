@@ -45,7 +45,7 @@ use Rattle.pm_run.specs.Writing.{data_prefix, first_key, suffix}
 use Rattle.pm_write.specs.Batch.{AreRowsOf, GroupRows, Groups, HoldsRows, IsBatchOf, IsStoredRow, held_of, numbered}
 use Rattle.pm_write.specs.Files.{AreNewFiles, IsNewFile, next_of}
 use Rattle.pm_write.specs.declared.files.NewFile.{NewFile}
-use Rattle.pm_append.specs.Snapshot.{added_entry}
+use Rattle.pm_made.specs.Delta.{added_entry}
 
 -- ---- the value of a row in a column that is NOT NULL
 

@@ -1,5 +1,5 @@
 -- The new files of a batch, and the entries that add them.
-use Rattle.std.proofs.Common.{◌≡◌, ◌≢◌, ℕ, suc, ◌+◌, ◌<◌, ◌≤◌, max, Bool, true, false, true≢false, cond, List, [], ◌∷◌, length, map, Option, None, Some, inl, inr, Contains, refl, sym, ap, subst, ◌∙◌, is_eq, arith}
+use Rattle.std.proofs.Common.{◌≡◌, ◌≢◌, ℕ, ◌+◌, ◌≤◌, max, Bool, true, false, true≢false, cond, List, [], ◌∷◌, map, Option, None, Some, inl, inr, Contains, refl, sym, ap, subst, ◌∙◌, is_eq, arith}
 use Rattle.std.specs.BTreeMap.{BTreeMap, is_at}
 use Rattle.std.specs.Cmp.{Equal-is, tied_itself}
 use Rattle.std.specs.List.{AllByRecursion}
@@ -9,29 +9,24 @@ use Rattle.std.specs.Ordering.{eq_by_cmp}
 use Rattle.std.specs.declared.cmp.Ordering.TheVariants.{Less, Equal}
 use Rattle.std.proofs.lemmas.Bool.Decides.{nat_tests}
 use Rattle.pm_values.specs.GroupOrder.{group_cmp, group_total}
-use Rattle.pm_values.specs.Names.{Naming, counted, name_of}
+use Rattle.pm_values.specs.Names.{Naming, counted}
 use Rattle.pm_values.specs.declared.group.Group.{Group}
-use Rattle.pm_values.proofs.Lemmas.{group_cmp-IsAntisymmetric}
 use Rattle.pm_schema.specs.declared.schema.TableSchema.{TableSchema}
 use Rattle.pm_model_history.specs.Merge.{HistoryRow}
 use Rattle.pm_model_following.specs.Groups.{rows_in}
 use Rattle.pm_manifest.specs.Live.{id_of}
 use Rattle.pm_manifest.specs.declared.entry.Entry.{Entry}
 use Rattle.pm_manifest.specs.declared.file_id.FileId.{FileId}
-use Rattle.pm_run.specs.Writing.{data_prefix, suffix}
 use Rattle.pm_write.specs.Batch.{GroupRows, Groups, HoldsRows, IsBatchOf, held_of}
 use Rattle.pm_write.specs.Files.{AreNewFiles, AreWritten, IsWritten, next_of}
 use Rattle.pm_write.specs.declared.files.NewFile.{NewFile}
-use Rattle.pm_append.specs.Files.{after_names}
-use Rattle.pm_append.specs.Refusals.{next_number}
-use Rattle.pm_append.specs.Snapshot.{added_entry}
-use Rattle.pm_append.proofs.ListLemmas.{Pairs, in-head, in-or, in-tail, none-in}
-use Rattle.pm_append.proofs.LiveLemmas.{AreAdds}
+use Rattle.pm_made.specs.Delta.{added_entry}
+use Rattle.pm_made.specs.Refusals.{next_number}
+use Rattle.pm_made.proofs.ListLemmas.{Pairs, in-head, in-or, in-tail, none-in}
+use Rattle.pm_made.proofs.LiveLemmas.{AreAdds}
+use Rattle.pm_made.proofs.NumberLemmas.{group-is}
 
 -- ---- groups
-
-pub group-is : (a b : Group) → is_at (group_cmp a) b ≡ true → a ≡ b
-group-is a b e = group_cmp-IsAntisymmetric a b ((Equal-is (group_cmp a b)).0 e)
 
 group-ties : (a b : Group) → a ≡ b → is_at (group_cmp a) b ≡ true
 group-ties a b e = subst (λ x. is_at (group_cmp a) x ≡ true) e (ap is_eq (tied_itself group_total a))
@@ -44,45 +39,7 @@ less-apart a b less same =
 
 -- ---- the files of a batch
 
--- files of groups are those of their groups, with names in order
-pub record IsFileOf (s : TableSchema) (names : Naming) (total : ℕ) (x : NewFile) : Type 0 where
-  pub index : ℕ
-  pub within : index < total
-  pub name : x.meta.name ≡ name_of data_prefix suffix (after_names index names)
-
-after-next : (n : ℕ) (names : Naming) → after_names n (counted names) ≡ after_names (suc n) names
-after-next n names = let more : names.count + 1 + n ≡ names.count + suc n = omega arith in λ i. record names { count = more i }
-
-after-none : (names : Naming) → after_names 0 names ≡ names
-after-none names = let same : names.count + 0 ≡ names.count = omega arith in λ i. record names { count = same i }
-
 module _ (s : TableSchema) (next : BTreeMap Group ℕ) where
-  -- each has one of the names
-  pub named-file : (names : Naming) (batch : Groups) (xs : List NewFile) (x : NewFile) → AreNewFiles s next names batch xs → Contains xs x
-      → IsFileOf s names (length xs) x
-  named-file names [] [] x new h = absurd (none-in x h)
-  named-file names [] (y ∷ xs) x new h = absurd new
-  named-file names (e ∷ es) [] x new h = absurd new
-  named-file names (e ∷ es) (y ∷ xs) x new h = elim (in-or y xs x h) as (λ _. IsFileOf s names (suc (length xs)) x) [
-    | inl is ↦ record {
-      index = 0;
-      within = omega arith;
-      name = ap (λ (z : NewFile). z.meta.name) (sym is) ∙ new.0.file.made.meta.named ∙ ap (name_of data_prefix suffix) (sym (after-none names));
-    }
-    | inr more ↦ (let later = named-file (counted names) es xs x new.1 more in let w = later.within in record {
-      index = suc later.index;
-      within = omega (arith, w);
-      name = later.name ∙ ap (name_of data_prefix suffix) (after-next later.index names);
-    })
-  ]
-
-  -- there is one for each group
-  pub files-many : (names : Naming) (batch : Groups) (xs : List NewFile) → AreNewFiles s next names batch xs → length xs ≡ length batch
-  files-many names [] [] new = refl
-  files-many names [] (x ∷ xs) new = absurd new
-  files-many names (e ∷ es) [] new = absurd new
-  files-many names (e ∷ es) (x ∷ xs) new = ap suc (files-many (counted names) es xs new.1)
-
   -- those of later groups are of greater ones
   later-groups : (g : Group) (names : Naming) (es : Groups) (xs : List NewFile) (y : NewFile) → AreNewFiles s next names es xs
       → AllByRecursion (λ (k : Group). group_cmp g k ≡ Less) (keys_of es) → Contains xs y → group_cmp g y.group ≡ Less

@@ -14,7 +14,7 @@ use Rattle.pm_model_contents.specs.Runs.{AreFilesOf, AreRunsOf, IsLive, data_pat
 use Rattle.pm_run.specs.Rows.{HasRows}
 use Rattle.pm_run.specs.Writing.{AreRising, IsMetaOf}
 use Rattle.pm_model_folder.specs.Stored.{AreNumberedApart, HasFile, HasRun}
-use Rattle.pm_append.proofs.ListLemmas.{in-head, in-or, in-tail}
+use Rattle.pm_made.proofs.ListLemmas.{in-head, in-or, in-tail}
 
 -- what the law of a newest run says
 pub record NewestFacts : Type 0 where

@@ -3,11 +3,6 @@ mod CountLemmas
 mod EntryLemmas
 mod FileLemmas
 mod GroupLemmas
-mod ListLemmas
-mod LiveLemmas
-mod MadeLemmas
-mod ManifestLemmas
-mod NumberLemmas
-mod OwnLemmas
+mod GrownLemmas
 mod RowCountLemmas
 mod RowLemmas

@@ -26,7 +26,7 @@ use Rattle.pm_write.specs.Batch.{GroupRows, Groups, HoldsRows, IsBatchOf, held_o
 use Rattle.pm_write.specs.Files.{AreNewFiles, IsNewFile, next_of}
 use Rattle.pm_write.specs.declared.files.NewFile.{NewFile}
 use Rattle.pm_append.specs.Commit.{AddsAtZero}
-use Rattle.pm_append.specs.Snapshot.{added_entry}
+use Rattle.pm_made.specs.Delta.{added_entry}
 use Rattle.pm_append.proofs.EntryLemmas.{IsOnly, held-only, rows-held}
 use Rattle.pm_append.proofs.FileLemmas.{less-apart}
 

@@ -1,13 +1,12 @@
--- When what was made of a batch adds its entry to the history, once it is published.
-use Rattle.std.specs.Prelude.{◌≡◌, ◌≢◌, ℕ, suc, ◌+◌, ◌<◌, ◌≤◌, ◌^◌, List, [], ◌∷◌, ◌++◌, length, map, Contains}
-use Rattle.std.specs.Prelude.{Bool, true, false, Option, Some, None}
-use Rattle.std.specs.FinMap as paths
+-- When a try of `pm_made` to append a batch adds its entry to the history, once it is published.
+use Rattle.std.specs.Prelude.{◌≡◌, ◌≢◌, ℕ, suc, ◌+◌, ◌≤◌, List, [], ◌∷◌, length, Contains}
+use Rattle.std.specs.Prelude.{Bool, true, false, None}
 use Rattle.std.specs.List.{AllByRecursion}
 use Rattle.pm_store.specs.Files.{Files}
 use Rattle.pm_values.specs.Names.{Naming}
 use Rattle.pm_values.specs.declared.file_meta.FileMeta.{FileMeta}
 use Rattle.pm_values.specs.declared.group.Group.{Group}
-use Rattle.pm_model_history.specs.History.{Entry}
+use Rattle.pm_model_history.specs.History.{Entry, append}
 use Rattle.pm_model_history.specs.Merge.{HistoryRow}
 use Rattle.pm_engine.specs.Covers.{CoversAll}
 use Rattle.pm_engine.specs.OfSchema.{meaning_of}
@@ -15,8 +14,6 @@ use Rattle.pm_options.specs.declared.kinds.Producer.TheVariants as producers
 use Rattle.pm_schema.specs.Again.{IsDeclared}
 use Rattle.pm_schema.specs.declared.schema.TableSchema.{TableSchema}
 use Rattle.pm_model_following.specs.Groups.{rows_in}
-use Rattle.pm_snapshot.specs.Names.{MayName}
-use Rattle.pm_snapshot.specs.declared.snapshot.Snapshot.{Snapshot}
 use Rattle.pm_levels.specs.Runs.{RunView}
 use Rattle.pm_manifest.specs.declared.entry.Entry as files
 use Rattle.pm_manifest.specs.declared.entry.ManifestMeta.{ManifestMeta}
@@ -24,42 +21,23 @@ use Rattle.pm_model_contents.specs.Lists.{HaveEntries, IsManifest}
 use Rattle.pm_model_contents.specs.Named.{Contents}
 use Rattle.pm_model_contents.specs.Runs.{data_path}
 use Rattle.pm_model_folder.specs.Changes.{Actor, IsNamedBy}
-use Rattle.pm_model_folder.specs.Commits.{HasCommit, Names, live_in}
-use Rattle.pm_model_folder.specs.Entries.{AreLive, rows_in_files}
+use Rattle.pm_model_folder.specs.Commits.{HasCommit, Names}
+use Rattle.pm_model_folder.specs.Entries.{rows_in_files}
 use Rattle.pm_model_folder.specs.Folder.{HasTable}
 use Rattle.pm_model_folder.specs.Runs.{AreRunsAt, view_of}
 use Rattle.pm_model_folder.specs.Stored.{HasRun}
+use Rattle.pm_put.specs.Meaning.{IsPut}
 use Rattle.pm_runs.specs.Succession.{KnownRun, without_files}
 use Rattle.pm_write.specs.Batch.{Groups, IsBatchOf}
-use Rattle.pm_append.specs.Files.{IsAppendOf, merges}
-use Rattle.pm_append.specs.Refusals.{refusal_of}
-use Rattle.pm_append.specs.Snapshot.{added_entry, new_snapshot}
-use Rattle.pm_append.specs.declared.newest.Append.{Append}
-use Rattle.pm_append.specs.declared.newest.Author.{Author}
-use Rattle.pm_put.specs.declared.putting.CommitFile.{CommitFile}
-use Rattle.pm_append.specs.declared.newest.Newest.{Newest}
-use Rattle.pm_append.specs.declared.snapshot.ListNames.{ListNames}
-
--- one try to commit: the rows and their batch, who commits them, the newest snapshot as it was found, the maker of
--- names before it named the files, and what was made
-pub record Attempt : Type 0 where
-  pub rows : List HistoryRow
-  pub batch : Groups
-  pub author : Author
-  pub newest : Newest
-  pub names : Naming
-  pub made : Append
-
--- the snapshot has these manifests and live entries; the origin has none
-abbrev pub IsFoundAs : Files → TableSchema → Newest → Option Snapshot → Type 0
-IsFoundAs f s newest None = (newest.id ≡ 0) × (newest.manifests.items ≡ []) × (newest.live.items ≡ [])
-IsFoundAs f s newest (Some x) = (c : Contents) × HasCommit f s newest.id x c
-    × (newest.manifests.items ≡ c.base ++ c.delta) × AreLive (live_in c) newest.live.items
-
--- the newest snapshot of a table with these entries is as it was found
-pub record IsNewestOf (f : Files) (s : TableSchema) (entries : List Entry) (newest : Newest) : Type 0 where
-  pub id : newest.id ≡ length entries
-  pub found : IsFoundAs f s newest newest.snapshot
+use Rattle.pm_made.specs.Commit.{Attempt, IsNewestOf, MakesNames}
+use Rattle.pm_made.specs.Files.{IsMadeOf, merges}
+use Rattle.pm_made.specs.Refusals.{refusal_of}
+use Rattle.pm_made.specs.declared.intent.Intent.TheVariants as intents
+use Rattle.pm_made.specs.declared.newest.Author.{Author}
+use Rattle.pm_made.specs.declared.newest.Made.{Made}
+use Rattle.pm_made.specs.declared.newest.Newest.{Newest}
+use Rattle.pm_made.specs.declared.snapshot.ListNames.{ListNames}
+use Rattle.pm_append.specs.Snapshot.{append_snapshot}
 
 -- the table is one that is built: it has one bucket, no partition columns and no changelog producer
 pub record IsBuilt (s : TableSchema) : Type 0 where
@@ -68,41 +46,43 @@ pub record IsBuilt (s : TableSchema) : Type 0 where
   pub one_bucket : s.options.bucket ≡ 1
   pub no_producer : s.options.producer ≡ producers.None
 
--- the actor makes the names, whose base is that of the commit; there are enough of them
-pub record MakesNames (me : Actor) (t : Attempt) : Type 0 where
-  pub session : t.names.session ≡ me.session
-  pub actor : t.names.actor ≡ me.number
-  pub based : t.names.base ≡ t.author.base
-  pub may : MayName t.names
-  pub room : t.names.count + length t.batch + 4 < 2 ^ 64
+-- one try to append: the rows and their batch, who commits them, the newest snapshot as it was found, the maker of
+-- names before it named the files, and what was made
+pub record Try : Type 0 where
+  pub rows : List HistoryRow
+  pub batch : Groups
+  pub author : Author
+  pub newest : Newest
+  pub names : Naming
+  pub made : Made
+
+-- the try of a commit, whose intent is to append the batch
+abbrev pub attempt_of : Try → Attempt
+attempt_of t = record {
+  intent = intents.Append t.batch;
+  author = t.author;
+  newest = t.newest;
+  names = t.names;
+  made = t.made;
+}
+
+-- the entry that it adds
+abbrev pub entry_of : Try → Entry
+entry_of t = append t.author.user t.author.identifier t.rows
 
 -- The try can be published by an actor while the newest snapshot stands: its files are in place, and no snapshot names
 -- a file that the actor named.
-pub record IsReady (me : Actor) (f : Files) (s : TableSchema) (entries : List Entry) (t : Attempt) : Type 0 where
+pub record IsReady (me : Actor) (f : Files) (s : TableSchema) (entries : List Entry) (t : Try) : Type 0 where
   pub folder : HasTable f s entries
   pub built : IsBuilt s
   pub newest : IsNewestOf f s entries t.newest
   pub batch : IsBatchOf s t.rows t.batch
-  pub made : IsAppendOf s t.newest t.author t.batch t.names t.made
-  pub allowed : refusal_of t.newest t.author t.batch ≡ None
+  pub made : IsMadeOf s t.newest t.author (intents.Append t.batch) t.names t.made
+  pub allowed : refusal_of t.newest t.author (intents.Append t.batch) ≡ None
   pub base : t.author.base ≤ t.newest.id
-  pub maker : MakesNames me t
-  pub there : AllByRecursion (λ (file : CommitFile). paths.get f file.path ≡ Some file.bytes) t.made.files.items
+  pub maker : MakesNames me (attempt_of t)
+  pub there : AllByRecursion (IsPut f) t.made.files.items
   pub unnamed : (id : ℕ) (path : List ℕ) → 1 ≤ id → id ≤ length entries → Names f s id path → IsNamedBy me path → ⊥
-
--- the snapshot that was made
-abbrev pub snapshot_of : (s : TableSchema) (t : Attempt) → IsAppendOf s t.newest t.author t.batch t.names t.made
-    → Snapshot
-snapshot_of s t made = new_snapshot s t.newest t.author (map (added_entry s) made.new_files) made.lists
-
--- The snapshot that is there is the one that was made, to its last field; its base list has the manifests with which it
--- was made, and its delta list the one new manifest.
-pub record IsAsMade (f : Files) (s : TableSchema) (id : ℕ) (t : Attempt)
-    (made : IsAppendOf s t.newest t.author t.batch t.names t.made) : Type 0 where
-  pub contents : Contents
-  pub commit : HasCommit f s id (snapshot_of s t made) contents
-  pub base : contents.base ≡ made.are_manifests.base
-  pub delta : contents.delta ≡ made.are_manifests.are_lists.delta ∷ []
 
 -- ---- what the folder has then
 
@@ -133,7 +113,7 @@ pub record HasAppended (f : Files) (s : TableSchema) (newest : Newest) (author :
   pub added : List files.Entry
   pub lists : ListNames
   pub contents : Contents
-  pub commit : HasCommit f s (newest.id + 1) (new_snapshot s newest author added lists) contents
+  pub commit : HasCommit f s (newest.id + 1) (append_snapshot s newest author added lists) contents
   pub base : AreBase f s newest contents.base
   pub delta : HaveEntries f s contents.delta added
   pub adds : AllByRecursion AddsAtZero added

@@ -1,4 +1,2 @@
 pub mod Commit
-pub mod Files
-pub mod Refusals
 pub mod Snapshot

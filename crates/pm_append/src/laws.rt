@@ -1,26 +1,24 @@
-//! What a commit that was made becomes once it is published.
+//! What a try to append becomes once it is published.
 
 ghost use Rattle.std.specs.Prelude.{◌≡◌, suc, List, length, None, Some};
 ghost use Rattle.std.specs.FinMap as map;
-ghost use Rattle.std.specs.List.{AllByRecursion};
 ghost use Rattle.pm_store.specs.Files.{Files, Puts};
 ghost use Rattle.pm_values.specs.declared.group.Group.{Group};
-ghost use Rattle.pm_model_history.specs.History.{Entry, append as append_entry};
+ghost use Rattle.pm_model_history.specs.History.{Entry};
 ghost use Rattle.pm_schema.specs.declared.schema.TableSchema.{TableSchema};
-ghost use Rattle.pm_model_folder.specs.Changes.{Actor, IsOwnFile, NamesOwn};
+ghost use Rattle.pm_model_folder.specs.Changes.{Actor, NamesOwn};
 ghost use Rattle.pm_model_folder.specs.Commits.{IsCommit};
 ghost use Rattle.pm_model_folder.specs.Paths.{snapshot_path};
-ghost use Rattle.pm_append.specs.Files.{IsAppendOf};
-ghost use Rattle.pm_put.specs.declared.putting.CommitFile.{CommitFile as FileView};
-ghost use Rattle.pm_append.specs.Commit.{Attempt, Grows, HasAppended, IsAsMade, IsBuilt, IsReady};
-ghost use Rattle.pm_append.specs.Commit.{MakesNames};
+ghost use Rattle.pm_made.specs.Commit.{IsAsMade};
+ghost use Rattle.pm_append.specs.Commit.{Grows, HasAppended, IsReady, Try, attempt_of, entry_of};
 
 use pm_engine::added_law;
 use pm_levels::newest_law;
-use pm_manifest::{id_law, joined_law, last_law, live_law, read_entry_law};
+use pm_made::{commit_law, made_law};
+use pm_manifest::live_law;
 use pm_model_contents::{kept_law, one_contents_law};
 use pm_run::order_law;
-use pm_snapshot::{path_law, snapshot_law};
+use pm_snapshot::snapshot_law;
 use pm_write::{batch_law, written_law};
 
 /// A try that is ready, whose snapshot appears after the newest, appends its rows to the history; what the snapshot
@@ -28,34 +26,24 @@ use pm_write::{batch_law, written_law};
 /// delta adds files at level 0 alone, beside a base list of the newest snapshot's manifests; and each group's runs go
 /// on with one more where it has rows of the group.
 pub fn append_law()
-    ensures { (me : Actor) (f after : Files) (s : TableSchema) (entries : List Entry) (t : Attempt) →
+    ensures { (me : Actor) (f after : Files) (s : TableSchema) (entries : List Entry) (t : Try) →
         (ready : IsReady me f s entries t) → map.get f (snapshot_path (suc (length entries))) ≡ None →
         Puts f (snapshot_path (suc (length entries))) (Some t.made.text) after →
-        IsCommit f after s entries (append_entry t.author.user t.author.identifier t.rows)
+        IsCommit f after s entries (entry_of t)
         × NamesOwn me f after s (length entries)
-        × IsAsMade after s (suc (length entries)) t ready.made
+        × IsAsMade after s (suc (length entries)) (attempt_of t) ready.made
         × HasAppended after s t.newest t.author (length t.rows)
         × ((g : Group) → Grows me f after s (length entries) g t.rows) }
 {
     added_law();
+    commit_law();
     kept_law();
+    made_law();
     one_contents_law();
     newest_law();
-    id_law();
-    joined_law();
-    last_law();
-    read_entry_law();
     live_law();
     order_law();
-    path_law();
     snapshot_law();
     batch_law();
     written_law();
 }
-
-/// The files of a commit are ones that its actor alone makes, among those that snapshots name, from the commit's base.
-pub fn own_files_law()
-    ensures { (me : Actor) (s : TableSchema) (t : Attempt) → IsBuilt s → MakesNames me t →
-        IsAppendOf s t.newest t.author t.batch t.names t.made →
-        AllByRecursion (λ (file : FileView). IsOwnFile me t.author.base file.path) t.made.files.items }
-{}

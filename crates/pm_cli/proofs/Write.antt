@@ -20,7 +20,7 @@ use Rattle.pm_model_folder.specs.Ledger.{count_of}
 use Rattle.pm_create.specs.Creator.{own_origin}
 use Rattle.pm_create.specs.Making.{LeavesFiles}
 use Rattle.pm_write.specs.Taken.{all_taken}
-use Rattle.pm_append.specs.declared.newest.Author.{Author}
+use Rattle.pm_made.specs.declared.newest.Author.{Author}
 use Rattle.pm_commit.specs.AllCalls.{HasBorne}
 use Rattle.pm_commit.specs.AllCalls as commit
 use Rattle.pm_commit.specs.Search.{seen_of}

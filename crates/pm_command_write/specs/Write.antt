@@ -30,7 +30,7 @@ use Rattle.pm_read_schema.specs.Trace as reader
 use Rattle.pm_draft.specs.Built.{IsBuilt, unbuilt}
 use Rattle.pm_write.specs.Batch.{Groups, IsBatchOf}
 use Rattle.pm_write.specs.Taken.{all_taken}
-use Rattle.pm_append.specs.declared.newest.Author.{Author}
+use Rattle.pm_made.specs.declared.newest.Author.{Author}
 use Rattle.pm_commit.specs.AllCalls.{BearsCommit, DidAppend, Has, HasBorne, MayStart}
 use Rattle.pm_commit.specs.Alone.{Beginning, GivesReason, WasUsed, with_entry}
 use Rattle.pm_commit.specs.Own.{OwnView, new_author, new_own}

@@ -5,9 +5,9 @@ use Rattle.pm_store.specs.declared.answer.Answer.{Answer}
 use Rattle.pm_schema.specs.declared.schema.TableSchema.{TableSchema}
 use Rattle.pm_read_table.specs.Reader as reader
 use Rattle.pm_read_table.specs.declared.phase.Phase as view_phase
-use Rattle.pm_append.specs.Files.{IsAppendOf}
-use Rattle.pm_append.specs.Refusals.{refusal_of}
-use Rattle.pm_append.specs.declared.newest.Append.{Append}
+use Rattle.pm_made.specs.Files.{IsMadeOf}
+use Rattle.pm_made.specs.Refusals.{refusal_of}
+use Rattle.pm_made.specs.declared.newest.Made.{Made}
 use Rattle.pm_commit.specs.Committer.{After, AfterReader, AfterView, Goes, IsCommitter, IsViewing, Makes, Outcome, Reads, publishing_of}
 use Rattle.pm_commit.specs.Own.{IsOwn, OwnView, with_named}
 use Rattle.pm_commit.specs.declared.found.Found.{Found}
@@ -18,8 +18,8 @@ use Rattle.pm_commit.specs.declared.phase.Phase.TheVariants as phases
 use Rattle.pm_commit.proofs.ReadsLemmas.{EntriesRead, reads-on}
 
 -- what was made is to be put
-pub makes-put : (own next : OwnView) (found : Found) (made : Append) (outcome : Outcome) → IsAppendOf found.schema found.newest own.author own.batch own.names made
-    → refusal_of found.newest own.author own.batch ≡ None → next ≡ with_named (own.names.count + length made.files.items) own
+pub makes-put : (own next : OwnView) (found : Found) (made : Made) (outcome : Outcome) → IsMadeOf found.schema found.newest own.author own.intent own.names made
+    → refusal_of found.newest own.author own.intent ≡ None → next ≡ with_named (own.names.count + length made.files.items) own
     → IfOk outcome (λ later. later ≡ phases.Put next found.schema made.id (put_next (publishing_of found.schema made.id made.text) made.files.items))
     → IfErr outcome (λ refusal. refusal ≡ refusals.Memory) → Makes own found outcome
 makes-put own next found made (Ok later) is_made allowed named is memory =

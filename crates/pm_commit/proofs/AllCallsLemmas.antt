@@ -24,7 +24,7 @@ use Rattle.pm_model_folder.specs.Meaning.{SnapshotAt}
 use Rattle.pm_model_folder.proofs.HoldLemmas.{SameContents}
 use Rattle.pm_read_schema.proofs.AllCallsLemmas as schema_calls
 use Rattle.pm_read_schema.proofs.StillLemmas.{stayed}
-use Rattle.pm_append.specs.declared.newest.Author.{Author}
+use Rattle.pm_made.specs.declared.newest.Author.{Author}
 use Rattle.pm_commit.specs.AllCalls.{AppendsAlone, AppendsTables, DidAppend, Ends, Has, IsCounted, IsPastOf, KnewFiles, KnowsFiles, LeavesFiles, LeavesFolder, MayBegin, NamesNone, SaysOf, StandsForEither, StandsFreely, StoodSo}
 use Rattle.pm_commit.specs.Alone.{AloneAt, AloneRefused, Beginning, CommitterAlone, IsTryAt, KnewAlone, KnowsAlone, begun_at, newest_id, with_entry}
 use Rattle.pm_commit.specs.Committer.{IsCommitter}
@@ -274,6 +274,7 @@ module _ (b : Beginning) (start after : StoreView) where
   refused-leaves (refusals.StoreFault path) f p folder (inr (same, is)) = (inr (subst (Folder f) same folder, is), tt)
   refused-leaves (refusals.SessionUsed path) f p folder (same, used) = (subst (Folder f) same folder, used)
   refused-leaves (refusals.Fenced base fence) f p folder (same, unchanged, reason) = ((subst (Folder f) same folder, unchanged), reason)
+  refused-leaves (refusals.CompactTaken file) f p folder (same, unchanged, reason) = ((subst (Folder f) same folder, unchanged), reason)
   refused-leaves (refusals.Limit which number) f p folder (same, unchanged, reason) = ((subst (Folder f) same folder, unchanged), reason)
   refused-leaves other f p folder none = absurd none
 
@@ -307,6 +308,7 @@ first-known found s b f same is begin table_is =
     (subst (λ (f : Files). Names f t id path) (stood id) names) by in
     let knows : KnowsOwn b.own b.entry s past = record {
       is_table = subst (IsTableOf s) (sym history) table_is;
+      appends = is.1;
       means = begin.means;
       may = begin.may;
       unnamed = named (actor_of b.own) begin.start.1;

@@ -19,7 +19,7 @@ use Rattle.pm_read_table.specs.Reader as reader
 use Rattle.pm_read_table.specs.declared.phase.Phase as view_phase
 use Rattle.pm_read_table.specs.declared.phase.Phase.TheVariants as readers
 use Rattle.pm_read_table.specs.declared.view.View.{View}
-use Rattle.pm_append.specs.Refusals.{refusal_of}
+use Rattle.pm_made.specs.Refusals.{refusal_of}
 use Rattle.pm_commit.specs.Alone.{AloneIn, AloneRefused, Beginning, GivesReason, IsUnchanged, KnewAlone, ReadsNewest, SeesNewest, begun_at, newest_id}
 use Rattle.pm_commit.specs.Committer.{After, AfterReader, Makes, Reads, found_in, next_call}
 use Rattle.pm_put.specs.Making.{MakingView}
@@ -101,6 +101,7 @@ module _ (laws : Laws) (b : Beginning) (f : Files) (p : Past) (stands : Stands f
 
   denied-by : (refusal : Refusal) → IsReason refusal → IsUnchanged b f → GivesReason b (Some refusal) → AloneRefused b refusal f p
   denied-by (refusals.Fenced base fence) is unchanged gives = (same, unchanged, gives)
+  denied-by (refusals.CompactTaken file) is unchanged gives = (same, unchanged, gives)
   denied-by (refusals.Limit which number) is unchanged gives = (same, unchanged, gives)
   denied-by other is unchanged gives = absurd is
 
@@ -109,8 +110,8 @@ module _ (laws : Laws) (b : Beginning) (f : Files) (p : Past) (stands : Stands f
       → AloneRefused b refusal f p
   make-caused own found refusal unchanged is sees (inl memory) = forgotten refusal memory
   make-caused own found refusal unchanged is sees (inr reason) =
-      denied-by refusal (is-reason found.newest own.author own.batch refusal reason) unchanged
-      (found, sees, subst (λ (o : OwnView). refusal_of found.newest o.author o.batch ≡ Some refusal) is reason)
+      denied-by refusal (is-reason found.newest own.author own.intent refusal reason) unchanged
+      (found, sees, subst (λ (o : OwnView). refusal_of found.newest o.author o.intent ≡ Some refusal) is reason)
 
   -- a view's reader shows nothing but that memory ran out
   seen-caused : (refusal : Refusal) → IsNone refusal → IsOfNewest (newest_id b) refusal → reader_meaning.MayRefuse f p refusal → AloneRefused b refusal f p

@@ -28,7 +28,7 @@ use Rattle.pm_read_table.specs.declared.phase.Phase as view_phase
 use Rattle.pm_read_table.specs.declared.phase.Phase.TheVariants as readers
 use Rattle.pm_read_table.specs.declared.view.View.{View}
 use Rattle.pm_machine.proofs.PhaseFacts.{both_if}
-use Rattle.pm_append.specs.Refusals.{refusal_of}
+use Rattle.pm_made.specs.Refusals.{refusal_of}
 use Rattle.pm_put.specs.declared.putting.CommitFile.{CommitFile}
 use Rattle.pm_schema.specs.declared.schema.TableSchema.{TableSchema}
 use Rattle.pm_commit.specs.Alone.{AloneAt, AloneRefused, AreUntouched, Beginning, IsTryAt, IsUnchanged, KnewAlone, KnowsAlone, ReadsNewest, SeesNewest, begun_at, newest_id, with_entry}
@@ -80,7 +80,7 @@ module _ (b : Beginning) (f : Files) (now : History) (same : now ≡ b.history) 
         (put-alone (with_named count own) found.schema made.id (publishing_of found.schema made.id made.text) made.files.items (
           (count, ap (with_named count) is),
           is_made.id ∙ ap (λ (id : ℕ). id + 1) sees.id,
-          (found, sees, subst (λ (o : OwnView). refusal_of found.newest o.author o.batch ≡ None) is allowed),
+          (found, sees, subst (λ (o : OwnView). refusal_of found.newest o.author o.intent ≡ None) is allowed),
         ) (all-untouched made.files.items))
 
     hears-alone : (own : OwnView) (found : Found) (left : List ℕ) (said : Seen) (new : Phase) → own ≡ begun_at b → SeesNewest b found → b.own.check ≡ true
@@ -123,7 +123,7 @@ try-bound : (own : OwnView) (e : Entry) (s : TableSchema) (id : ℕ) (m : put_ph
     → id ≤ greatest
 try-bound own e s id m f p is_try =
     let next = is_try.is ∙ is_try.made.id in
-    let below = allowed-id is_try.attempt.newest is_try.attempt.author is_try.attempt.batch is_try.allowed in
+    let below = allowed-id is_try.attempt.newest is_try.attempt.author is_try.attempt.intent is_try.allowed in
     omega (arith, next, below)
 
 -- what is published is the snapshot with that id, after the one before it

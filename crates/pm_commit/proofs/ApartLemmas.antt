@@ -1,27 +1,29 @@
 -- The files of a try have names with successive counts, so their paths differ.
-use Rattle.std.proofs.Common.{◌≡◌, ◌≢◌, ℕ, suc, ◌+◌, ◌^◌, ◌<◌, ◌≤◌, List, [], ◌∷◌, ◌++◌, codes, length, length-append, map, Some, refl, sym, ap, ◌∙◌, subst, arith}
+use Rattle.std.proofs.Common.{◌≡◌, ◌≢◌, ℕ, suc, ◌+◌, ◌^◌, ◌<◌, ◌≤◌, List, [], ◌∷◌, ◌++◌, codes, length, length-append, map, Option, Some, refl, sym, ap, ◌∙◌, subst, arith}
 use Rattle.std.specs.FinMap as paths
 use Rattle.std.specs.List.{AllByRecursion}
 use Rattle.std.proofs.lemmas.List.{length-map}
 use Rattle.pm_store.specs.Files.{Files, Puts}
 use Rattle.pm_values.specs.Names.{Naming, counted, name_of}
 use Rattle.pm_values.specs.declared.group.Group.{Group}
-use Rattle.pm_model_history.specs.History.{Entry}
+use Rattle.pm_model_history.specs.History as history
 use Rattle.pm_schema.specs.Folder.{folder_text}
 use Rattle.pm_schema.specs.declared.schema.TableSchema.{TableSchema}
 use Rattle.pm_engine.specs.Covers.{Run}
 use Rattle.pm_snapshot.specs.Names.{BasedFile, MayName, manifest, manifest_list, prefix_of, rows_file, suffix_of}
+use Rattle.pm_manifest.specs.declared.entry.Entry.{Entry}
 use Rattle.pm_manifest.specs.declared.entry.ManifestMeta.{ManifestMeta}
 use Rattle.pm_model_folder.specs.Ledger.{Past}
-use Rattle.pm_write.specs.Batch.{Groups}
 use Rattle.pm_write.specs.Files.{AreFilesOfRuns, next_run}
 use Rattle.pm_write.specs.declared.files.NewFile.{NewFile}
-use Rattle.pm_append.specs.Commit.{Attempt}
-use Rattle.pm_append.specs.Files.{HasBase, IsAppendOf, data_file, empty, kept, merged}
-use Rattle.pm_append.specs.declared.newest.Append.{Append}
-use Rattle.pm_append.specs.declared.newest.Author.{Author}
+use Rattle.pm_made.specs.Commit.{Attempt}
+use Rattle.pm_made.specs.Delta.{Delta, entries_of}
+use Rattle.pm_made.specs.Files.{AreLists, AreManifests, HasBase, HasChangesList, HasDelta, HasManifest, IsMadeOf, appends, compacts, data_file, fences, kept, merged, no_list, no_manifest, one_list, one_manifest}
+use Rattle.pm_made.specs.declared.intent.Intent.{Intent}
+use Rattle.pm_made.specs.declared.newest.Author.{Author}
+use Rattle.pm_made.specs.declared.newest.Made.{Made}
 use Rattle.pm_put.specs.declared.putting.CommitFile.{CommitFile}
-use Rattle.pm_append.specs.declared.newest.Newest.{Newest}
+use Rattle.pm_made.specs.declared.newest.Newest.{Newest}
 use Rattle.pm_commit.specs.Meaning.{KnowsTry}
 use Rattle.pm_commit.specs.Own.{OwnView}
 use Rattle.pm_put.specs.Making.{MakingView}
@@ -87,44 +89,83 @@ module _ (t : Naming) where
     is = is ∙ ap (λ (name : List ℕ). codes "manifest" ++ 47 ∷ name) (named ∙ ap (name_of (prefix_of file) (suffix_of file)) same);
   }
 
-  -- the manifest of a base list, and the names that it leaves
-  base-counted : (s : TableSchema) (newest : Newest) (n : ℕ) (metas : List ManifestMeta) (files : List CommitFile) (left : Naming)
-      → HasBase s newest (at n) metas files left → AreCounted n files × (left ≡ at (n + length files))
-  base-counted s newest n metas files left (kept few) = (tt, ap at (let same : n ≡ n + 0 = omega arith in same))
-  base-counted s newest n metas files left (empty many none) = (tt, ap at (let same : n ≡ n + 0 = omega arith in same))
-  base-counted s newest n metas files left (merged m file many some made) =
-      ((manifest-counted n manifest file.path m.name (at n) made.path made.named refl, tt), refl)
+  -- the files of rows
+  rows-counted : (s : TableSchema) (newest : Newest) (intent : Intent) (d : Delta) (files : List CommitFile) (left : Naming)
+      → HasDelta s newest t intent d files left → AreCounted t.count files × (left ≡ at (t.count + length files))
+  rows-counted s newest _ _ _ _ (appends batch xs numbered) = (
+    data-counted s t.count (map (next_run numbered.next) batch) xs numbered.are_new,
+    ap at (let mapped = length-map xs (data_file s) in let same : t.count + length xs ≡ t.count + length (map (data_file s) xs) = omega (arith, mapped) in same),
+  )
+  rows-counted s newest _ _ _ _ (compacts plan) = (tt, ap at (let same : t.count ≡ t.count + 0 = omega arith in same))
+  rows-counted s newest _ _ _ _ (fences number) = (tt, ap at (let same : t.count ≡ t.count + 0 = omega arith in same))
 
-  module _ (s : TableSchema) (newest : Newest) (author : Author) (batch : Groups) (made : Append) (is : IsAppendOf s newest author batch t made) where
-    -- the manifest of the new files, and the lists
-    lists-counted : (n : ℕ) → is.are_manifests.left ≡ at n → AreCounted n is.are_manifests.list_files
+  -- a manifest, and the names that it leaves
+  manifest-at : (s : TableSchema) (n : ℕ) (es : List Entry) (metas : List ManifestMeta) (files : List CommitFile) (left : Naming)
+      → HasManifest s (at n) es metas files left → AreCounted n files × (left ≡ at (n + length files))
+  manifest-at s n es _ _ _ (no_manifest none) = (tt, ap at (let same : n ≡ n + 0 = omega arith in same))
+  manifest-at s n es _ _ _ (one_manifest m file some is) = ((manifest-counted n manifest file.path m.name (at n) is.path is.named refl, tt), refl)
+
+  has-counted : (s : TableSchema) (n : ℕ) (names : Naming) (es : List Entry) (metas : List ManifestMeta) (files : List CommitFile) (left : Naming)
+      → names ≡ at n → HasManifest s names es metas files left → AreCounted n files × (left ≡ at (n + length files))
+  has-counted s n names es metas files left same has =
+      manifest-at s n es metas files left (subst (λ (names : Naming). HasManifest s names es metas files left) same has)
+
+  -- a changelog list
+  list-at : (s : TableSchema) (n : ℕ) (metas : List ManifestMeta) (o : Option (List ℕ)) (files : List CommitFile) (left : Naming)
+      → HasChangesList s (at n) metas o files left → AreCounted n files × (left ≡ at (n + length files))
+  list-at s n metas _ _ _ (no_list none) = (tt, ap at (let same : n ≡ n + 0 = omega arith in same))
+  list-at s n metas _ _ _ (one_list name file some is) = ((manifest-counted n manifest_list file.path name (at n) is.path is.named refl, tt), refl)
+
+  list-counted : (s : TableSchema) (n : ℕ) (names : Naming) (metas : List ManifestMeta) (o : Option (List ℕ)) (files : List CommitFile) (left : Naming)
+      → names ≡ at n → HasChangesList s names metas o files left → AreCounted n files × (left ≡ at (n + length files))
+  list-counted s n names metas o files left same has =
+      list-at s n metas o files left (subst (λ (names : Naming). HasChangesList s names metas o files left) same has)
+
+  -- the manifest of a base list
+  base-at : (s : TableSchema) (newest : Newest) (n : ℕ) (metas : List ManifestMeta) (files : List CommitFile) (left : Naming)
+      → HasBase s newest (at n) metas files left → AreCounted n files × (left ≡ at (n + length files))
+  base-at s newest n _ _ _ (kept few) = (tt, ap at (let same : n ≡ n + 0 = omega arith in same))
+  base-at s newest n _ _ _ (merged metas files left enough has) = manifest-at s n newest.live.items metas files left has
+
+  base-counted : (s : TableSchema) (newest : Newest) (n : ℕ) (names : Naming) (metas : List ManifestMeta) (files : List CommitFile) (left : Naming)
+      → names ≡ at n → HasBase s newest names metas files left → AreCounted n files × (left ≡ at (n + length files))
+  base-counted s newest n names metas files left same has =
+      base-at s newest n metas files left (subst (λ (names : Naming). HasBase s newest names metas files left) same has)
+
+  module _ (s : TableSchema) (newest : Newest) (author : Author) (intent : Intent) (made : Made)
+      (is : IsMadeOf s newest author intent t made) where
+    abbrev all : AreManifests s newest is.left (entries_of is.delta) is.delta.changes is.lists is.list_files
+    all = is.are_manifests
+
+    abbrev are : AreLists s all.left (entries_of is.delta) is.delta.changes all.base is.lists all.list_files
+    are = all.are_lists
+
+    -- the manifests of the delta and of its changelog files, and the lists
+    lists-counted : (n : ℕ) → all.left ≡ at n → AreCounted n all.list_files
     lists-counted n same =
-        let are = is.are_manifests.are_lists in
-        let left : Naming = is.are_manifests.left in
-        subst (AreCounted n) (sym are.are) (
-          manifest-counted n manifest are.delta_file.path are.delta.name left are.is_delta.path are.is_delta.named same,
-          (
-            manifest-counted (n + 1) manifest_list are.delta_list.path is.lists.delta (counted left) are.is_delta_list.path are.is_delta_list.named (ap counted same),
-            (
-              manifest-counted (n + 1 + 1) manifest_list are.base_list.path is.lists.base (counted (counted left)) are.is_base_list.path are.is_base_list.named
-                  (ap (λ (names : Naming). counted (counted names)) same),
-              tt,
-            ),
-          ),
-        )
+        let delta = has-counted s n all.left (entries_of is.delta) are.delta are.delta_files are.after_delta same are.has_delta in
+        let second : ℕ = n + length are.delta_files in
+        let changes = has-counted s second are.after_delta is.delta.changes are.changes are.changes_files are.after_changes delta.1 are.has_changes in
+        let third : ℕ = second + length are.changes_files in
+        let list = list-counted s (third + 1) (counted are.after_changes) are.changes is.lists.changes are.changes_list are.after_list (ap counted changes.1)
+        are.has_changes_list in
+        let last : ℕ = third + 1 + length are.changes_list in
+        let delta_list = manifest-counted third manifest_list are.delta_list.path is.lists.delta are.after_changes are.is_delta_list.path are.is_delta_list.named changes.1 in
+        let base_list = manifest-counted last manifest_list are.base_list.path is.lists.base are.after_list are.is_base_list.path are.is_base_list.named list.1 in
+        subst (AreCounted n) (sym are.are)
+        (counted-join n are.delta_files (are.changes_files ++ (are.delta_list ∷ (are.changes_list ++ are.base_list ∷ []))) delta.0
+        (counted-join second are.changes_files (are.delta_list ∷ (are.changes_list ++ are.base_list ∷ [])) changes.0
+        (delta_list, counted-join (third + 1) are.changes_list (are.base_list ∷ []) list.0 (base_list, tt))))
 
     made-counted : AreCounted t.count made.files.items
     made-counted =
-        let many = length-map is.new_files (data_file s) in
-        let after : ℕ = t.count + length is.new_files in
-        let base = base-counted s newest after is.are_manifests.base is.are_manifests.base_files is.are_manifests.left is.are_manifests.has_base in
-        let lists = lists-counted (after + length is.are_manifests.base_files) base.1 in
-        let rest : AreCounted after is.list_files =
-        subst (AreCounted after) (sym is.are_manifests.are) (counted-join after is.are_manifests.base_files is.are_manifests.list_files base.0 lists) in
+        let rows = rows-counted s newest intent is.delta is.row_files is.left is.has_delta in
+        let after : ℕ = t.count + length is.row_files in
+        let base = base-counted s newest after is.left all.base all.base_files all.left rows.1 all.has_base in
+        let lists = lists-counted (after + length all.base_files) base.1 in
         subst (AreCounted t.count) (sym is.files)
-        (counted-join t.count (map (data_file s) is.new_files) is.list_files
-        (data-counted s t.count (map (next_run is.numbered.next) batch) is.new_files is.numbered.are_new)
-        (subst (λ (k : ℕ). AreCounted (t.count + k) is.list_files) (sym many) rest))
+        (counted-join t.count is.row_files is.list_files rows.0
+        (subst (AreCounted after) (sym all.are) (counted-join after all.base_files all.list_files base.0 lists)))
 
   -- ---- so their paths differ
 
@@ -157,17 +198,17 @@ module _ (t : Naming) where
   )
 
 -- the files of a try that are left have other paths than the one before them
-pub rest-apart : PathParts → (own : OwnView) (e : Entry) (s : TableSchema) (id : ℕ) (making : MakingView) (f : Files) (p : Past)
+pub rest-apart : PathParts → (own : OwnView) (e : history.Entry) (s : TableSchema) (id : ℕ) (making : MakingView) (f : Files) (p : Past)
     → KnowsTry own e s id (puts.Create making) f p → AllByRecursion (λ (other : CommitFile). other.path ≢ making.next.path) making.rest
 rest-apart parts own e s id making f p is_try =
     let t : Attempt = is_try.attempt in
     let has = is_try.put.1 in
-    let few = made-few s t.newest t.author t.batch t.names t.made is_try.made in
+    let few = made-few s t.newest t.author t.intent t.names t.made is_try.made in
     let room = is_try.names.room in
     let all : length t.made.files.items ≡ length has.done + suc (length making.rest) = ap length has.files ∙ length-append has.done (making.next ∷ making.rest) in
     let n : ℕ = t.names.count + length has.done in
     let are = counted-later t.names t.names.count has.done (making.next ∷ making.rest)
-    (subst (AreCounted t.names t.names.count) has.files (made-counted t.names s t.newest t.author t.batch t.made is_try.made)) in
+    (subst (AreCounted t.names t.names.count) has.files (made-counted t.names s t.newest t.author t.intent t.made is_try.made)) in
     counted-apart t.names parts is_try.names.may n (n + 1) making.next.path making.rest (omega arith) (omega (arith, few, room, all)) are.0 are.1
 
 -- ---- a file appears

@@ -21,7 +21,7 @@ use Rattle.pm_model_history.specs.Merge.{HistoryRow, key_of}
 use Rattle.pm_model_following.specs.Groups.{bucket_key_of, group_of, kind_at, rows_in}
 use Rattle.pm_write.specs.Batch.{GroupRows, Groups, HoldsRows, IsBatchOf, held_of}
 use Rattle.pm_append.specs.Commit.{IsBuilt}
-use Rattle.pm_append.specs.declared.newest.Author.{Author}
+use Rattle.pm_made.specs.declared.newest.Author.{Author}
 use Rattle.pm_commit.specs.Own.{IsOwn, new_own}
 
 -- ---- the group of a row
@@ -89,8 +89,9 @@ pub new-is-own : BatchLaw → (s : TableSchema) (rows : List HistoryRow) (batch 
     → IsBatchOf s rows batch → batch ≢ [] → author.base ≡ 0 → names.count ≤ 2 ^ 61 → IsOwn s (new_own batch author check names)
 new-is-own law s rows batch author check names built is some first count = record {
   built = built;
-  folders = law.folders s rows batch built.no_partition is;
-  one_group = count-one batch some is.ordered (each-only s rows batch built is batch (law.held s rows batch is));
+  made_for = tt;
+  fits = law.folders s rows batch built.no_partition is;
+  few = (let one = count-one batch some is.ordered (each-only s rows batch built is batch (law.held s rows batch is)) in omega (arith, one));
   same_base = sym first;
   within = omega arith;
   named = omega (arith, count);

@@ -114,6 +114,7 @@ shown-none s m answer refusal reads shown = absurd shown
 
 denied-by : (own : OwnView) (f : Files) (p : Past) (refusal : Refusal) → IsReason refusal → IsDenied own p refusal → MayRefuseOwn own f p refusal
 denied-by own f p (refusals.Fenced base fence) is denied = denied
+denied-by own f p (refusals.CompactTaken file) is denied = denied
 denied-by own f p (refusals.Limit which number) is denied = denied
 denied-by own f p other is denied = absurd is
 
@@ -125,7 +126,7 @@ make-caused : (own : OwnView) (found : Found) (f : Files) (p : Past) (refusal : 
     → MayRefuseOwn own f p refusal
 make-caused own found f p refusal is_found (inl memory) = forgotten own f p refusal memory
 make-caused own found f p refusal is_found (inr reason) =
-    denied-by own f p refusal (is-reason found.newest own.author own.batch refusal reason) (found, own.author.base, is_found, inr refl, reason)
+    denied-by own f p refusal (is-reason found.newest own.author own.intent refusal reason) (found, own.author.base, is_found, inr refl, reason)
 
 -- and of one that sets it
 begin-caused : (own : OwnView) (n : ℕ) (found : Found) (f : Files) (p : Past) (refusal : Refusal) → n ≡ found.newest.id → IsFoundIn p found
@@ -135,7 +136,7 @@ begin-caused own n found f p refusal newest is_found = at own.lost refl
     at : (lost : List ℕ) → own.lost ≡ lost → Makes (begun_after lost n own) found (Err refusal) → MayRefuseOwn own f p refusal
     at [] none (inl memory) = forgotten own f p refusal memory
     at [] none (inr reason) =
-        denied-by own f p refusal (is-reason found.newest (begun_after [] n own).author own.batch refusal reason) (found, n, is_found, inl (none, newest), reason)
+        denied-by own f p refusal (is-reason found.newest (begun_after [] n own).author own.intent refusal reason) (found, n, is_found, inl (none, newest), reason)
     at (id ∷ lost) some made = make-caused own found f p refusal is_found made
 
 -- ---- a reader's refusals

@@ -4,7 +4,7 @@ use Rattle.std.proofs.Common.{refl, sym, ap, ◌∙◌, subst, arith}
 use Rattle.std.specs.FinMap as map
 use Rattle.std.proofs.lemmas.List.Elements.{Contains-append_left, Contains-append_right}
 use Rattle.pm_store.specs.Files.{Files}
-use Rattle.pm_model_history.specs.History.{Entry, History, IsTableOf, entry_rows, no_table, table}
+use Rattle.pm_model_history.specs.History.{Entry, History, IsTableOf, append, no_table, table}
 use Rattle.pm_schema.specs.declared.schema.TableSchema.{TableSchema}
 use Rattle.pm_snapshot.specs.declared.snapshot.Snapshot.{Snapshot}
 use Rattle.pm_manifest.specs.declared.entry.Entry as files
@@ -18,14 +18,14 @@ use Rattle.pm_model_folder.specs.Meaning.{HasSnapshotAt}
 use Rattle.pm_model_folder.specs.Paths.{snapshot_path}
 use Rattle.pm_model_folder.proofs.LedgerFacts.{at-table}
 use Rattle.pm_model_folder.proofs.HoldLemmas.{SameContents}
+use Rattle.pm_made.specs.Files.{merges}
+use Rattle.pm_made.specs.declared.newest.Author.{Author}
+use Rattle.pm_made.specs.declared.newest.Newest.{Newest}
 use Rattle.pm_append.specs.Commit.{AreBaseIf, HasAppended}
-use Rattle.pm_append.specs.Files.{merges}
-use Rattle.pm_append.specs.Snapshot.{new_snapshot}
-use Rattle.pm_append.specs.declared.newest.Author.{Author}
-use Rattle.pm_append.specs.declared.newest.Newest.{Newest}
+use Rattle.pm_append.specs.Snapshot.{append_snapshot}
 use Rattle.pm_commit.specs.AllCalls.{BearsCommit, StoodSo}
 use Rattle.pm_commit.specs.Alone.{Beginning, SeesNewest, begun_at, newest_id, with_entry}
-use Rattle.pm_commit.specs.Meaning.{HasCommitted}
+use Rattle.pm_commit.specs.Meaning.{HasAdded, HasCommitted}
 use Rattle.pm_commit.proofs.FoundLemmas.{LiveEntries, found-stood}
 use Rattle.pm_commit.proofs.NewestLemmas.{newest-at}
 
@@ -57,13 +57,13 @@ base-held f g s newest true (meta ∷ []) held (some, is) = (some, manifest-held
 base-held f g s newest true (meta ∷ other ∷ metas) held is = absurd is
 
 -- so the snapshot is there in both
-pub appended-held : SameContents → (f g : Files) (s : TableSchema) (newest : Newest) (author : Author) (count : ℕ)
+appended-held : SameContents → (f g : Files) (s : TableSchema) (newest : Newest) (author : Author) (count : ℕ)
     → (has : HasAppended f s newest author count)
     → ((path : List ℕ) → (path ≡ snapshot_path (newest.id + 1)) → map.get g path ≡ map.get f path)
-    → ((path : List ℕ) → IsNamed s (new_snapshot s newest author has.added has.lists) has.contents path → map.get g path ≡ map.get f path)
+    → ((path : List ℕ) → IsNamed s (append_snapshot s newest author has.added has.lists) has.contents path → map.get g path ≡ map.get f path)
     → HasAppended g s newest author count
 appended-held same f g s newest author count has own held =
-    let x : Snapshot = new_snapshot s newest author has.added has.lists in
+    let x : Snapshot = append_snapshot s newest author has.added has.lists in
     let c : Contents = has.contents in
     let at : (meta : ManifestMeta) → Contains (c.base ++ c.delta) meta → map.get g (manifest_path meta.name) ≡ map.get f (manifest_path meta.name) =
     λ meta h. held (manifest_path meta.name) (named.manifest meta (inl h)) in
@@ -80,6 +80,18 @@ appended-held same f g s newest author count has own held =
       adds = has.adds;
       few = has.few;
     }
+
+pub added-held : SameContents → (f g : Files) (s : TableSchema) (newest : Newest) (author : Author) (e : Entry) → HasAdded f s newest author e
+    → ((path : List ℕ) → (path ≡ snapshot_path (newest.id + 1)) → map.get g path ≡ map.get f path)
+    → ((x : Snapshot) (c : Contents) (path : List ℕ) → HasCommit f s (newest.id + 1) x c → IsNamed s x c path → map.get g path ≡ map.get f path)
+    → HasAdded g s newest author e
+added-held same f g s newest author (append user identifier rows) (same_user, same_identifier, has) own held = (
+  same_user,
+  same_identifier,
+  appended-held same f g s newest author (length rows) has own
+      (λ path names. held (append_snapshot s newest author has.added has.lists) has.contents path has.commit names),
+)
+added-held same f g s newest author other has own held = absurd has
 
 -- ---- at the end of a commit
 
@@ -122,18 +134,12 @@ module _ (same : SameContents) (live_law : LiveEntries) (b : Beginning) (f : Fil
   here : HasSnapshotAt f s id
   here = subst (HasSnapshotAt f s) (ap count_of now ∙ count-more s b.entry b.history was-table ∙ sym next) (newest-at f p s stands has.is_table)
 
-  abbrev x : Snapshot
-  x = new_snapshot s newest (begun_at b).author has.stood.added has.stood.lists
-
-  stood-commit : HasCommit (p.stood id) s id x has.stood.contents
-  stood-commit = subst (λ (n : ℕ). HasCommit (p.stood id) s n x has.stood.contents) (sym has.next) has.stood.commit
-
   pub bears-commit : BearsCommit b f
   bears-commit =
       let kept = ((at-table f p s stands has.is_table).3.kept id has.known).there here in (
         has.found,
         sees,
-        appended-held same (p.stood id) f s newest (begun_at b).author (length (entry_rows b.entry)) has.stood
-            (λ path is. kept path (inl (is ∙ ap snapshot_path (sym has.next))))
-            (λ path names. kept path (inr (inr (x, has.stood.contents, stood-commit, names)))),
+        added-held same (p.stood id) f s newest (begun_at b).author b.entry has.stood (λ path is. kept path (inl (is ∙ ap snapshot_path (sym has.next))))
+            (λ x c path commit names. kept path
+            (inr (inr (x, c, subst (λ (n : ℕ). HasCommit (p.stood id) s n x c) (sym has.next) commit, names)))),
       )

@@ -11,11 +11,12 @@ use Rattle.pm_read_table.specs.Reader as reader
 use Rattle.pm_read_table.specs.declared.phase.Phase as view_phase
 use Rattle.pm_read_table.specs.declared.phase.Phase.TheVariants as readers
 use Rattle.pm_read_table.specs.declared.view.View.{View}
-use Rattle.pm_append.specs.Files.{IsAppendOf}
-use Rattle.pm_append.specs.declared.newest.Append.{Append}
+use Rattle.pm_made.specs.Files.{IsMadeOf}
+use Rattle.pm_made.specs.Intent.{most_files}
+use Rattle.pm_made.specs.declared.newest.Made.{Made}
 use Rattle.pm_put.specs.declared.putting.CommitFile.{CommitFile}
 use Rattle.pm_commit.specs.Committer.{AreIds, After, AfterPutter, AfterReader, Hears, IsCommitter, IsPutting, Makes, MayMake, Outcome, Reads, Tries, first_of_try, found_in, newest_of, publishing_of}
-use Rattle.pm_commit.specs.Own.{IsOwn, IsTried, OwnView, begun, begun_after, most_files, tries, with_lost, with_named}
+use Rattle.pm_commit.specs.Own.{IsOwn, IsTried, OwnView, begun, begun_after, tries, with_lost, with_named}
 use Rattle.pm_commit.specs.Search.{older_ids, seen_in, seen_of}
 use Rattle.pm_commit.specs.declared.search.Seen.{Seen}
 use Rattle.pm_commit.specs.declared.found.Found.{Found}
@@ -42,32 +43,34 @@ begun-at P own n stays sets = at own.lost
 
 pub begun-own : (s : TableSchema) (own : OwnView) (n : ℕ) → IsOwn s own → IsOwn s (begun n own)
 begun-own s own n is = begun-at (IsOwn s) own n is
-    (record { built = is.built; folders = is.folders; one_group = is.one_group; same_base = refl; within = is.within; named = is.named })
+    (record { built = is.built; made_for = is.made_for; fits = is.fits; few = is.few; same_base = refl; within = is.within; named = is.named })
 
 pub begun-lost : (own : OwnView) (n : ℕ) → (begun n own).lost ≡ own.lost
 begun-lost own n = begun-at (λ o. o.lost ≡ own.lost) own n refl refl
 
-pub made-tried : (own : OwnView) (found : Found) (made : Append) → IsAppendOf found.schema found.newest own.author own.batch own.names made → IsOwn found.schema own
+pub made-tried : (own : OwnView) (found : Found) (made : Made) → IsMadeOf found.schema found.newest own.author own.intent own.names made → IsOwn found.schema own
     → IsTried found.schema (with_named (own.names.count + length made.files.items) own)
 made-tried own found made is own_of = record {
   built = own_of.built;
-  folders = own_of.folders;
-  one_group = own_of.one_group;
+  made_for = own_of.made_for;
+  fits = own_of.fits;
+  few = own_of.few;
   same_base = own_of.same_base;
   within = own_of.within;
   named =
-      (let few = made-few found.schema found.newest own.author own.batch own.names made is in
-      let one = own_of.one_group in
+      (let few = made-few found.schema found.newest own.author own.intent own.names made is in
+      let most = own_of.few in
       let count = own_of.named in
-      omega (arith, few, one, count));
+      omega (arith, few, most, count));
 }
 
 lost-own : (s : TableSchema) (own : OwnView) (id : ℕ) → length own.lost + 1 < tries → IsTried s own → IsOwn s (with_lost id own)
 lost-own s own id left tried =
     let longer : length (own.lost ++ id ∷ []) ≡ length own.lost + 1 = length-append own.lost (id ∷ []) in record {
       built = tried.built;
-      folders = tried.folders;
-      one_group = tried.one_group;
+      made_for = tried.made_for;
+      fits = tried.fits;
+      few = tried.few;
       same_base = tried.same_base;
       within = omega (arith, longer, left);
       named = (let count = tried.named in omega (arith, longer, count));
@@ -99,17 +102,16 @@ older-are listed all = without-first (reverse listed) (all-reversed listed all)
 
 -- ---- each is a committer
 
-put-committer : (own : OwnView) (s : TableSchema) (id : ℕ) (x : Publishing) (files : List CommitFile) → IsTried s own → length files ≤ most_files
+put-committer : (own : OwnView) (s : TableSchema) (id : ℕ) (x : Publishing) (files : List CommitFile) → IsTried s own → length files ≤ most_files own.intent
     → IsCommitter (phases.Put own s id (put.create_next x files))
 put-committer own s id x files tried few = let left = put_facts.next_left x files in (tried, omega (arith, left), omega (arith, left, few))
 
 makes-committer : (own : OwnView) (found : Found) (later : Phase) → IsOwn found.schema own → Makes own found (Ok later) → IsCommitter later
 makes-committer own found later own_of (made, is_made, allowed, is) =
-    let few = made-few found.schema found.newest own.author own.batch own.names made is_made in
-    let one = own_of.one_group in
+    let few = made-few found.schema found.newest own.author own.intent own.names made is_made in
     subst IsCommitter (sym is)
     (put-committer (with_named (own.names.count + length made.files.items) own) found.schema made.id (publishing_of found.schema made.id made.text) made.files.items
-    (made-tried own found made is_made own_of) (omega (arith, few, one)))
+    (made-tried own found made is_made own_of) few)
 
 hears-committer : (own : OwnView) (found : Found) (left : List ℕ) (said : Seen) (later : Phase) → MayMake own found → AreIds left → Hears own found left said (Ok later)
     → IsCommitter later
@@ -139,7 +141,7 @@ first-committer own s later own_of is = subst IsCommitter (sym is) (omega arith,
 
 -- the putter goes on
 as-putting : (own : OwnView) (s : TableSchema) (id : ℕ) (m : put_phase.Phase) (later : Phase) → IsTried s own → 0 < put.calls_left m
-    → put.calls_left m ≤ most_files + 1 → ◌≡◌ {A = Outcome} (Ok later) (Ok (phases.Put own s id m)) → IsCommitter later
+    → put.calls_left m ≤ most_files own.intent + 1 → ◌≡◌ {A = Outcome} (Ok later) (Ok (phases.Put own s id m)) → IsCommitter later
 as-putting own s id m later tried some few is = subst IsCommitter (sym (ok-same later _ is)) (tried, some, few)
 
 putter-committer : (own : OwnView) (s : TableSchema) (id : ℕ) (m to : put_phase.Phase) (answer : Answer) (later : Phase) → IsPutting s own m → put.Goes m answer to
@@ -153,7 +155,7 @@ putter-committer own s id m to answer later (tried, some, few) goes is =
     as-putting own s id to later tried on.1 (omega (arith, fewer, few)) is
 
 pub still-committer : EntriesRead → (m : Phase) (answer : Answer) (later : Phase) → IsCommitter m → After m answer (Ok later) → IsCommitter later
-still-committer law (phases.Names own s) (answers.Listed names) later own_of (none, is) = first-committer own s later own_of is
+still-committer law (phases.Names own s) (answers.Listed names) later (own_of, appends) (none, is) = first-committer own s later own_of is
 still-committer law (phases.View own m) answer later (left, (s, reads, own_of)) (new, goes, after) =
     reader-committer own s new later (reads-on law s m answer new reads goes) own_of after
 still-committer law (phases.Search own q) (answers.Found None) later (may, few, ids) on = makes-committer own q.found later may.own_of on

@@ -7,7 +7,7 @@ use Rattle.pm_model_history.specs.History.{Entry}
 use Rattle.pm_schema.specs.declared.schema.TableSchema.{TableSchema}
 use Rattle.pm_model_folder.specs.Changes.{IsNamedBy, IsOwn, IsOwnFile, its_file}
 use Rattle.pm_model_folder.specs.Ledger.{Past}
-use Rattle.pm_append.specs.Commit.{Attempt}
+use Rattle.pm_made.specs.Commit.{Attempt}
 use Rattle.pm_put.proofs.Facts.{at_next, put-more}
 use Rattle.pm_put.specs.Making.{MakingView}
 use Rattle.pm_put.specs.Meaning as put
@@ -46,7 +46,7 @@ module _ (own_files : OwnFiles) (own : OwnView) (e : Entry) (s : TableSchema) (i
 
   is-in : InTable making.next.path
   is-in = all-at IsInTable has.done making.rest making.next
-      (subst (AllByRecursion IsInTable) has.files (made-in s t.newest t.author t.batch t.names t.made is_try.made tried.built.no_partition))
+      (subst (AllByRecursion IsInTable) has.files (made-in s t.newest t.author t.intent t.names t.made is_try.made tried.built.no_partition))
 
   -- it bears the actor's name
   pub create-named : IsNamedBy (actor_of own) making.next.path
@@ -69,8 +69,7 @@ module _ (own_files : OwnFiles) (own : OwnView) (e : Entry) (s : TableSchema) (i
       → KnowsTry own e s id (put_next making.publishing making.rest) after p
   created-try after absent puts = record {
     attempt = t;
-    same_rows = is_try.same_rows;
-    same_batch = is_try.same_batch;
+    same_intent = is_try.same_intent;
     same_author = is_try.same_author;
     found = is_try.found;
     names = is_try.names;

@@ -14,10 +14,10 @@ use Rattle.pm_model_folder.proofs.HoldLemmas.{one-snapshot}
 use Rattle.pm_model_folder.proofs.LedgerFacts.{at-table}
 use Rattle.pm_read_table.specs.Meaning.{IsViewIn, view_origin, view_snapshot}
 use Rattle.pm_read_table.specs.declared.view.View.{View}
-use Rattle.pm_write.specs.Batch.{Groups}
-use Rattle.pm_append.specs.Refusals.{fence_of, is_fenced, passed, refusal_of}
-use Rattle.pm_append.specs.declared.newest.Author.{Author}
-use Rattle.pm_append.specs.declared.newest.Newest.{Newest}
+use Rattle.pm_made.specs.Refusals.{fence_of, is_fenced, passed, refusal_of}
+use Rattle.pm_made.specs.declared.intent.Intent.{Intent}
+use Rattle.pm_made.specs.declared.newest.Author.{Author}
+use Rattle.pm_made.specs.declared.newest.Newest.{Newest}
 use Rattle.pm_commit.specs.Meaning.{IsFoundIn}
 use Rattle.pm_commit.specs.declared.found.Found.{Found}
 
@@ -97,7 +97,7 @@ unless : (t : Bool) (x : Refusal) (o : Option Refusal) → cond t (Some x) o ≡
 unless true x o is = absurd (let no : Some x ≡ None = is in cc)
 unless false x o is = refl
 
-pub not-fenced : (newest : Newest) (author : Author) (batch : Groups) (s : TableSchema) (entries : List Entry) → refusal_of newest author batch ≡ None
+pub not-fenced : (newest : Newest) (author : Author) (intent : Intent) (s : TableSchema) (entries : List Entry) → refusal_of newest author intent ≡ None
     → fence_of newest.snapshot ≡ fence_at entries (length entries) → IsFenced author.base (table s entries) → ⊥
-not-fenced newest author batch s entries allowed is fenced =
+not-fenced newest author intent s entries allowed is fenced =
     true≢false (sym fenced ∙ ap (int_le (pos author.base)) (sym is) ∙ unless (is_fenced newest author) (passed newest author) _ allowed)

@@ -20,8 +20,8 @@ use Rattle.pm_read_table.specs.View.{kept_for, live_entries}
 use Rattle.pm_read_table.specs.declared.asked.Wanted.{Wanted}
 use Rattle.pm_read_table.specs.declared.view.View.{View}
 use Rattle.pm_read_table.proofs.Facts.{stood_contents}
-use Rattle.pm_append.specs.Commit.{IsFoundAs}
-use Rattle.pm_append.specs.declared.newest.Newest.{Newest}
+use Rattle.pm_made.specs.Commit.{IsFoundAs}
+use Rattle.pm_made.specs.declared.newest.Newest.{Newest}
 use Rattle.pm_commit.specs.Committer.{newest_in}
 use Rattle.pm_commit.specs.Meaning.{IsFoundIn}
 use Rattle.pm_commit.specs.declared.found.Found.{Found}

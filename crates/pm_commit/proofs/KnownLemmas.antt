@@ -1,15 +1,15 @@
 -- What a committer knows after an answer.
 use Rattle.std.proofs.Common.{◌≡◌, inr, ℕ, ◌+◌, ◌^◌, ◌<◌, ◌≤◌, List, length, Ok, IfOk, refl, sym, ap, ◌∙◌, subst, arith}
 use Rattle.pm_store.specs.Files.{Files}
-use Rattle.pm_model_history.specs.History.{Entry, History, IsTableOf, entry_rows, no_table, table}
+use Rattle.pm_model_history.specs.History.{Entry, History, IsTableOf, no_table, table}
 use Rattle.pm_schema.specs.declared.schema.TableSchema.{TableSchema}
 use Rattle.pm_snapshot.specs.Names.{greatest}
 use Rattle.pm_model_folder.specs.Folder.{Folder}
 use Rattle.pm_model_folder.specs.Ledger.{Past, Stands, count_of}
 use Rattle.pm_read_table.specs.Meaning.{IsViewIn, view_origin, view_snapshot}
 use Rattle.pm_read_table.specs.declared.view.View.{View}
-use Rattle.pm_append.specs.Commit.{Attempt}
-use Rattle.pm_append.specs.declared.newest.Author.{Author}
+use Rattle.pm_made.specs.Commit.{Attempt}
+use Rattle.pm_made.specs.declared.newest.Author.{Author}
 use Rattle.pm_commit.specs.Committer.{Hears, Makes, Outcome, Tries, found_in, put_of}
 use Rattle.pm_commit.specs.Meaning.{AreThere, HasEarlier, IsFoundIn, KnowsIn, KnowsOwn}
 use Rattle.pm_commit.specs.Own.{IsOwn, OwnView, begun, with_lost, with_named}
@@ -21,6 +21,7 @@ use Rattle.pm_put.proofs.Facts.{at_first}
 use Rattle.pm_commit.specs.declared.phase.Phase.{Phase}
 use Rattle.pm_commit.proofs.CommitterLemmas.{begun-at, made-tried}
 use Rattle.pm_commit.proofs.OutcomeLemmas.{heard, tried}
+use Rattle.pm_commit.proofs.OwnLemmas.{based-means}
 
 -- ---- the history
 
@@ -38,7 +39,8 @@ module _ (e : Entry) (s : TableSchema) (p : Past) where
   pub begun-known : (own : OwnView) (n : ℕ) → n ≤ count_of p.history → n ≤ greatest → KnowsOwn own e s p → KnowsOwn (begun n own) e s p
   begun-known own n within bound known = begun-at (λ o. KnowsOwn o e s p) own n known (record {
     is_table = known.is_table;
-    means = known.means;
+    appends = known.appends;
+    means = based-means s own.author n own.intent e known.appends known.means;
     may = record {
       is_maker = record {
         sixteen = known.may.is_maker.sixteen;
@@ -57,6 +59,7 @@ module _ (e : Entry) (s : TableSchema) (p : Past) where
   pub named-known : (own : OwnView) (count : ℕ) → count < 2 ^ 64 → KnowsOwn own e s p → KnowsOwn (with_named count own) e s p
   named-known own count bound known = record {
     is_table = known.is_table;
+    appends = known.appends;
     means = known.means;
     may = record {
       is_maker = record {
@@ -76,6 +79,7 @@ module _ (e : Entry) (s : TableSchema) (p : Past) where
   pub lost-known : (own : OwnView) (id : ℕ) → KnowsOwn own e s p → KnowsOwn (with_lost id own) e s p
   lost-known own id known = record {
     is_table = known.is_table;
+    appends = known.appends;
     means = known.means;
     may = known.may;
     unnamed = known.unnamed;
@@ -92,15 +96,14 @@ module _ (e : Entry) (f : Files) (p : Past) where
       let named = own_of.named in
       let within = own_of.within in
       let count = tried.named in
-      let attempt : Attempt = record { rows = entry_rows e; batch = own.batch; author = own.author; newest = found.newest; names = own.names; made = made } in
+      let attempt : Attempt = record { intent = own.intent; author = own.author; newest = found.newest; names = own.names; made = made } in
       let total : ℕ = own.names.count + length made.files.items in
       let next : OwnView = with_named total own in
       subst (λ (m : Phase). KnowsIn e m f p) (sym is) (
         named-known e found.schema p own total (omega (arith, count, within)) known,
         record {
           attempt = attempt;
-          same_rows = refl;
-          same_batch = refl;
+          same_intent = refl;
           same_author = refl;
           found = is_found;
           names = record {
@@ -108,7 +111,7 @@ module _ (e : Entry) (f : Files) (p : Past) where
             actor = refl;
             based = own_of.same_base;
             may = known.may;
-            room = (let one = own_of.one_group in omega (arith, named, within, one));
+            room = (let few = own_of.few in omega (arith, named, within, few));
           };
           made = is_made;
           allowed = allowed;

@@ -22,6 +22,7 @@ mod NewestLemmas
 pub mod OneLemmas
 mod OriginLemmas
 mod OutcomeLemmas
+pub mod OwnLemmas
 mod PathLemmas
 mod PublishLemmas
 mod ReadsLemmas

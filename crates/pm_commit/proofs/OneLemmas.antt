@@ -36,9 +36,12 @@ use Rattle.pm_read_table.specs.declared.view.View.{View}
 use Rattle.pm_read_table.proofs.OneLemmas as view
 use Rattle.pm_write.specs.Batch.{Groups}
 use Rattle.pm_write.specs.Files.{no_sequence}
-use Rattle.pm_append.specs.Refusals.{above_files, above_id, above_numbers, fence_of, next_number, no_files, no_id}
-use Rattle.pm_append.specs.declared.newest.Append.{Append}
-use Rattle.pm_append.specs.declared.newest.Author.{Author}
+use Rattle.pm_made.specs.Intent.{batch_of, removed_of}
+use Rattle.pm_made.specs.Refusals.{above_files, above_id, above_numbers, fence_of, first_not_live, live_count, next_number, no_files, no_id, not_live_or}
+use Rattle.pm_made.specs.declared.intent.Intent.{Intent}
+use Rattle.pm_made.specs.declared.intent.Intent.TheVariants as intents
+use Rattle.pm_made.specs.declared.newest.Made.{Made}
+use Rattle.pm_made.specs.declared.newest.Author.{Author}
 use Rattle.pm_put.specs.Meaning.{Putting}
 use Rattle.pm_put.specs.Trace as puts
 use Rattle.pm_put.specs.Trace.{all_created, all_put, creates, publishes}
@@ -47,9 +50,9 @@ use Rattle.pm_put.specs.declared.putting.CommitFile.{CommitFile}
 use Rattle.pm_commit.specs.AllCalls.{DidAppend, Ends, Has}
 use Rattle.pm_commit.specs.Committer.{newest_of, next_call, put_of}
 use Rattle.pm_commit.specs.Marks.{FindsUsed, HaveNone, mark_of}
-use Rattle.pm_commit.specs.Own.{AreAlike, OwnView, begun, begun_after, counts_of, tries}
+use Rattle.pm_commit.specs.Own.{AreAlike, AreAlikeFor, OwnView, begun, begun_after, counts_of, tries}
 use Rattle.pm_commit.specs.Search.{older_ids, seen_in, seen_of}
-use Rattle.pm_commit.specs.Trace.{AfterLost, Commits, DidSoFar, FindsDone, FindsReason, HasSearch, HasTry, HaveLost, HavePassed, IsUsed, LosesLast, LosesTry, MayCommit, MeetsFile, Meets, Misreads, Searched, ShowsOwn, Views, at_newest, at_older, has_listed, has_lost, is_absent, is_below, is_none, listed_manifests, lost_by, not_asked}
+use Rattle.pm_commit.specs.Trace.{AfterLost, Commits, DidSoFar, FindsDone, FindsReason, HasListed, HasSearch, HasTry, HaveLost, HavePassed, IsUsed, LosesLast, LosesTry, MayCommit, MeetsFile, Meets, Misreads, Searched, ShowsOwn, Views, at_newest, at_older, has_begun, has_lost, is_absent, is_below, is_none, listed_manifests, lost_by, not_asked}
 use Rattle.pm_commit.specs.declared.all_calls.Appended.{Appended}
 use Rattle.pm_commit.specs.declared.all_calls.Appended.TheVariants as appends
 use Rattle.pm_commit.specs.declared.search.Seen.{Seen}
@@ -58,13 +61,15 @@ use Rattle.pm_commit.specs.declared.search.Seen.TheVariants as seen
 -- ---- why a commit is refused
 
 -- by what a view says
-abbrev reason_of : ℕ → Option Snapshot → List Entry → Author → Groups → Option Refusal
-reason_of id snapshot live author batch =
+abbrev reason_of : ℕ → Option Snapshot → List Entry → Author → Intent → Option Refusal
+reason_of id snapshot live author intent =
     if int_le (pos author.base) (fence_of snapshot) then Some (refusals.Fenced author.base (fence_of snapshot))
-    else if above_files (length live + length batch) then Some no_files
-    else if above_numbers live batch then Some no_sequence
+    else not_live_or (first_not_live live (removed_of intent)) (
+    if above_files (live_count (length live) intent) then Some no_files
+    else if above_numbers live (batch_of intent) then Some no_sequence
     else if above_id id then Some no_id
     else None
+    )
 
 -- the names of a listing
 abbrev names_in : Option Answer → List (List ℕ)
@@ -166,17 +171,17 @@ module _ (author : Author) (reason : Option Refusal) where
 -- ---- how far a try has come
 
 -- these calls of one with such a view lead here
-abbrev Reach : Author → Groups → Bool → ℕ → Option Snapshot → List Entry → List ℕ → List Event → Place → Type 0
-Reach author batch check id snapshot live listed own n =
-    Leads (Goes author (reason_of id snapshot live author batch)) own
-    (begin_if author (reason_of id snapshot live author batch) check (seen_in author snapshot) (older_ids listed)) n
+abbrev Reach : Author → Intent → Bool → ℕ → Option Snapshot → List Entry → List ℕ → List Event → Place → Type 0
+Reach author intent check id snapshot live listed own n =
+    Leads (Goes author (reason_of id snapshot live author intent)) own
+    (begin_if author (reason_of id snapshot live author intent) check (seen_in author snapshot) (older_ids listed)) n
 
 abbrev Reaches : OwnView → View → List Event → Place → Type 0
-Reaches p v own n = Reach p.author p.batch p.check v.id v.snapshot v.live.items v.listed.items own n
+Reaches p v own n = Reach p.author p.intent p.check v.id v.snapshot v.live.items v.listed.items own n
 
 module _ (p : OwnView) (v : View) where
   abbrev reason : Option Refusal
-  reason = reason_of v.id v.snapshot v.live.items p.author p.batch
+  reason = reason_of v.id v.snapshot v.live.items p.author p.intent
 
   abbrev begin : Place
   begin = begin_if p.author reason p.check (seen_in p.author v.snapshot) (older_ids v.listed.items)
@@ -311,7 +316,7 @@ module _ (laws : view.OneLaws) (s : TableSchema) where
   search_at o v Ended n own (views, searches, viewed, ended, is) leads =
       record { views = views; rest = searches; is = is; viewed = viewed; reach = leads searches ended }
 
-  try_at : (o : OwnView) (v : View) (made : Append) (Puts : List Event → Type 0) (n : Place) (own : List Event)
+  try_at : (o : OwnView) (v : View) (made : Made) (Puts : List Event → Type 0) (n : Place) (own : List Event)
       → ((puts : List Event) → Puts puts → Leads (Step (begun v.id o) v) puts making n) → HasTry s o v made Puts own → TryAt (begun v.id o) v own n
   try_at o v made Puts n own leads t =
       let p = begun v.id o in
@@ -333,20 +338,20 @@ module _ (laws : view.OneLaws) (s : TableSchema) where
 
   -- what else there is of it is the same
   begun_same : (ids : List ℕ) (newest : ℕ) (o : OwnView) → ((begun_after ids newest o).author ≡ author_after ids newest o.author)
-      × ((begun_after ids newest o).batch ≡ o.batch) × ((begun_after ids newest o).check ≡ o.check) × ((begun_after ids newest o).lost ≡ o.lost)
+      × ((begun_after ids newest o).intent ≡ o.intent) × ((begun_after ids newest o).check ≡ o.check) × ((begun_after ids newest o).lost ≡ o.lost)
   begun_same [] newest o = (refl, refl, refl, refl)
   begun_same (id ∷ ids) newest o = (refl, refl, refl, refl)
 
-  module _ (batch : Groups) (check : Bool) where
+  module _ (intent : Intent) (check : Bool) where
     -- the commit has this author, and lost these ids
     record Is (o : OwnView) (author : Author) (ids : List ℕ) : Type 0 where
       author_is : o.author ≡ author
       ids_are : o.lost ≡ ids
-      batch_is : o.batch ≡ batch
+      intent_is : o.intent ≡ intent
       check_is : o.check ≡ check
 
     abbrev ReachAt : Author → List ℕ → ℕ → Option Snapshot → List Entry → List ℕ → List Event → Place → Type 0
-    ReachAt author ids id snapshot live listed own n = Reach (author_after ids id author) batch check id snapshot live listed own n
+    ReachAt author ids id snapshot live listed own n = Reach (author_after ids id author) intent check id snapshot live listed own n
 
     record TriedAt (author : Author) (ids : List ℕ) (v : View) (own : List Event) (n : Place) : Type 0 where
       views : List Event
@@ -360,23 +365,23 @@ module _ (laws : view.OneLaws) (s : TableSchema) where
         let p = begun v.id o in
         let author_is : p.author ≡ author_after ids v.id author =
         (begun_same o.lost v.id o).0 ∙ ap (λ (ids : List ℕ). author_after ids v.id o.author) is.ids_are ∙ ap (author_after ids v.id) is.author_is in
-        let batch_is : p.batch ≡ batch = (begun_same o.lost v.id o).1 ∙ is.batch_is in
+        let intent_is : p.intent ≡ intent = (begun_same o.lost v.id o).1 ∙ is.intent_is in
         let check_is : p.check ≡ check = (begun_same o.lost v.id o).2 ∙ is.check_is in
-        let one = subst (λ (author : Author). Reach author p.batch p.check v.id v.snapshot v.live.items v.listed.items t.rest n) author_is t.reach in
-        let two = subst (λ (batch : Groups). Reach (author_after ids v.id author) batch p.check v.id v.snapshot v.live.items v.listed.items t.rest n) batch_is one in record {
+        let one = subst (λ (author : Author). Reach author p.intent p.check v.id v.snapshot v.live.items v.listed.items t.rest n) author_is t.reach in
+        let two = subst (λ (intent : Intent). Reach (author_after ids v.id author) intent p.check v.id v.snapshot v.live.items v.listed.items t.rest n) intent_is one in record {
           views = t.views;
           rest = t.rest;
           is = t.is;
           viewed = t.viewed;
-          reach = subst (λ (check : Bool). Reach (author_after ids v.id author) batch check v.id v.snapshot v.live.items v.listed.items t.rest n) check_is two;
+          reach = subst (λ (check : Bool). Reach (author_after ids v.id author) intent check v.id v.snapshot v.live.items v.listed.items t.rest n) check_is two;
         }
 
-    is_after : (o : OwnView) (author : Author) (ids : List ℕ) (v : View) (made : Append) → Is o author ids → made.id ≡ v.id + 1
+    is_after : (o : OwnView) (author : Author) (ids : List ℕ) (v : View) (made : Made) → Is o author ids → made.id ≡ v.id + 1
         → Is (lost_by o v made) (author_after ids v.id author) (ids ++ (v.id + 1) ∷ [])
     is_after o author ids v made is next = record {
       author_is = (begun_same o.lost v.id o).0 ∙ ap (λ (ids : List ℕ). author_after ids v.id o.author) is.ids_are ∙ ap (author_after ids v.id) is.author_is;
       ids_are = ap (λ (ids : List ℕ). ids ++ made.id ∷ []) ((begun_same o.lost v.id o).3 ∙ is.ids_are) ∙ ap (λ (id : ℕ). ids ++ id ∷ []) next;
-      batch_is = (begun_same o.lost v.id o).1 ∙ is.batch_is;
+      intent_is = (begun_same o.lost v.id o).1 ∙ is.intent_is;
       check_is = (begun_same o.lost v.id o).2 ∙ is.check_is;
     }
 
@@ -436,7 +441,7 @@ module _ (laws : view.OneLaws) (s : TableSchema) where
         let by_live = subst (λ (live : List Entry). ReachAt author ids v.id v.snapshot live w.listed.items u.rest k) same.live by_snapshot in
         let by_all = subst (λ (listed : List ℕ). ReachAt author ids v.id v.snapshot v.live.items listed u.rest k) listed by_live in
         let who : Author = author_after ids v.id author in
-        let why : Option Refusal = reason_of v.id v.snapshot v.live.items who batch in
+        let why : Option Refusal = reason_of v.id v.snapshot v.live.items who intent in
         let last = one_end (Goes who why) IsEnd (are_one who why) (ends_stay who why) t.rest u.rest more rest
         (begin_if who why check (seen_in who v.snapshot) (older_ids v.listed.items)) n k ended.2 t.reach end by_all stop in
         record { id = sym same.id; place = last.1; left = last.2 }
@@ -481,7 +486,7 @@ module _ (laws : view.OneLaws) (s : TableSchema) where
     tried_answered author ids v own n t =
         let one = view.view_lead a laws v t.views t.viewed.0 in
         let who : Author = author_after ids v.id author in
-        let why : Option Refusal = reason_of v.id v.snapshot v.live.items who batch in
+        let why : Option Refusal = reason_of v.id v.snapshot v.live.items who intent in
         subst (AllByRecursion IsAnswered) (sym t.is)
         (AllByRecursion-append IsAnswered t.views t.rest (view.leads_answered a t.views one.0 one.1)
         (answered who why t.rest (begin_if who why check (seen_in who v.snapshot) (older_ids v.listed.items)) n t.reach))
@@ -496,12 +501,12 @@ module _ (laws : view.OneLaws) (s : TableSchema) where
 
   -- ---- of commits that are refused alike
 
-  other_batch : (batch more : Groups) (check : Bool) → ((id : ℕ) (snapshot : Option Snapshot) (live : List Entry) (author : Author)
-      → reason_of id snapshot live author batch ≡ reason_of id snapshot live author more) → (author : Author) (ids : List ℕ) (own : List Event) (made : Result Appended Refusal)
-      → Runs batch check author ids own made → Runs more check author ids own made
-  other_batch batch more check same author ids own made runs = at author ids own runs
+  other_intent : (intent more : Intent) (check : Bool) → ((id : ℕ) (snapshot : Option Snapshot) (live : List Entry) (author : Author)
+      → reason_of id snapshot live author intent ≡ reason_of id snapshot live author more) → (author : Author) (ids : List ℕ) (own : List Event) (made : Result Appended Refusal)
+      → Runs intent check author ids own made → Runs more check author ids own made
+  other_intent intent more check same author ids own made runs = at author ids own runs
     where
-      moved : (author : Author) (ids : List ℕ) (v : View) (own : List Event) (n : Place) → TriedAt batch check author ids v own n → TriedAt more check author ids v own n
+      moved : (author : Author) (ids : List ℕ) (v : View) (own : List Event) (n : Place) → TriedAt intent check author ids v own n → TriedAt more check author ids v own n
       moved author ids v own n t =
           let who : Author = author_after ids v.id author in record {
             views = t.views;
@@ -512,7 +517,7 @@ module _ (laws : view.OneLaws) (s : TableSchema) where
                 (same v.id v.snapshot v.live.items who) t.reach;
           }
 
-      at : (author : Author) (ids : List ℕ) (own : List Event) → Runs batch check author ids own made → Runs more check author ids own made
+      at : (author : Author) (ids : List ℕ) (own : List Event) → Runs intent check author ids own made → Runs more check author ids own made
       at author ids own (ends_at v n t is) = ends_at v n (moved author ids v own n t) is
       at author ids own (refused_at e m is lead refused) = refused_at e m is lead refused
       at author ids own (loses v first later t parts below rest) =
@@ -522,7 +527,7 @@ module _ (laws : view.OneLaws) (s : TableSchema) where
 
   module _ (first : OwnView) where
     abbrev Tries : Author → List ℕ → List Event → Result Appended Refusal → Type 0
-    Tries author ids own made = Runs first.batch first.check author ids own made
+    Tries author ids own made = Runs first.intent first.check author ids own made
 
     -- memory ran out; or the last call failed; or a name that was listed has the actor's mark; or it has none, and tries
     -- follow
@@ -540,36 +545,41 @@ module _ (laws : view.OneLaws) (s : TableSchema) where
       ids : List ℕ
       names : Names
       rest : List Event
-      is_at : Is first.batch first.check o author ids
+      is_at : Is first.intent first.check o author ids
       unused : FindsUsed first.names names.items None
       is : earlier ≡ listed_manifests names ∷ rest
       follows : (later : List Event) (made : Result Appended Refusal) → Tries author ids later made → Tries first.author first.lost (rest ++ later) made
 
-    loses_at : (o : OwnView) (v : View) (made : Append) (own : List Event) → LosesTry s o v made own → TryAt (begun v.id o) v own lost × (made.id ≡ v.id + 1)
+    loses_at : (o : OwnView) (v : View) (made : Made) (own : List Event) → LosesTry s o v made own → TryAt (begun v.id o) v own lost × (made.id ≡ v.id + 1)
     loses_at o v made own has =
         (try_at o v made (puts.Did (put_of s made) put_phases.Lost) lost own (lost_lead (begun v.id o) v (put_of s made)) has, has.is_made.id)
 
-    left_of : (o : OwnView) (earlier : List Event) → HaveLost s first o earlier → Left o earlier
-    left_of o earlier (has_listed names none) = record {
+    left_of : (o : OwnView) (earlier : List Event) → HaveLost s (HasListed first) o earlier → Left o earlier
+    left_of o earlier (has_begun _ _ (same, names, none, is)) = record {
       author = first.author;
       ids = first.lost;
       names = names;
       rest = [];
-      is_at = record { author_is = refl; ids_are = refl; batch_is = refl; check_is = refl };
+      is_at = record {
+        author_is = ap (λ (o : OwnView). o.author) same;
+        ids_are = ap (λ (o : OwnView). o.lost) same;
+        intent_is = ap (λ (o : OwnView). o.intent) same;
+        check_is = ap (λ (o : OwnView). o.check) same;
+      };
       unused = none;
-      is = refl;
+      is = is;
       follows = λ later made runs. runs;
     }
     left_of o earlier (has_lost p v made before later below gone loses_it) =
         let prior = left_of p before gone in
         let at = loses_at p v made later loses_it in
-        let here = tried first.batch first.check p prior.author prior.ids v later lost prior.is_at at.0 in
+        let here = tried first.intent first.check p prior.author prior.ids v later lost prior.is_at at.0 in
         let fewer : length prior.ids + 1 < tries = subst (λ (ids : List ℕ). length ids + 1 < tries) prior.is_at.ids_are below in record {
           author = author_after prior.ids v.id prior.author;
           ids = prior.ids ++ (v.id + 1) ∷ [];
           names = prior.names;
           rest = prior.rest ++ later;
-          is_at = is_after first.batch first.check p prior.author prior.ids v made prior.is_at at.1;
+          is_at = is_after first.intent first.check p prior.author prior.ids v made prior.is_at at.1;
           unused = prior.unused;
           is = ap (λ (own : List Event). own ++ later) prior.is;
           follows = λ more answer runs.
@@ -579,43 +589,43 @@ module _ (laws : view.OneLaws) (s : TableSchema) where
 
     -- one more try
     by_tries : (made : Result Appended Refusal) (own : List Event) (Tried : OwnView → List Event → Type 0) → AfterLost s first Tried own
-        → ((o : OwnView) (author : Author) (ids : List ℕ) (later : List Event) → Is first.batch first.check o author ids → Tried o later → Tries author ids later made) → IsShown made own
+        → ((o : OwnView) (author : Author) (ids : List ℕ) (later : List Event) → Is first.intent first.check o author ids → Tried o later → Tries author ids later made) → IsShown made own
     by_tries made own Tried (o, earlier, later, gone, tried_so, is) runs =
         let l = left_of o earlier gone in
         of_tries l.names (l.rest ++ later) l.unused (is ∙ ap (λ (own : List Event). own ++ later) l.is) (l.follows later made (runs o l.author l.ids later l.is_at tried_so))
 
-    ends_so : (made : Result Appended Refusal) (o : OwnView) (author : Author) (ids : List ℕ) (v : View) (own : List Event) (n : Place) → Is first.batch first.check o author ids
+    ends_so : (made : Result Appended Refusal) (o : OwnView) (author : Author) (ids : List ℕ) (v : View) (own : List Event) (n : Place) → Is first.intent first.check o author ids
         → TryAt (begun v.id o) v own n → IsAnswer v.id ids n made → Tries author ids own made
-    ends_so made o author ids v own n is t answer = ends_at v n (tried first.batch first.check o author ids v own n is t) answer
+    ends_so made o author ids v own n is t answer = ends_at v n (tried first.intent first.check o author ids v own n is t) answer
 
-    commits : (by : Author) (id : ℕ) (o : OwnView) (author : Author) (ids : List ℕ) (own : List Event) → Is first.batch first.check o author ids → Commits s by id o own
+    commits : (by : Author) (id : ℕ) (o : OwnView) (author : Author) (ids : List ℕ) (own : List Event) → Is first.intent first.check o author ids → Commits s by id o own
         → Tries author ids own (Ok (appends.Committed id))
     commits by id o author ids own is (v, made, who, id_is, has) =
         ends_so (Ok (appends.Committed id)) o author ids v own committed is
         (try_at o v made (puts.Did (put_of s made) put_phases.Published) committed own (published_lead (begun v.id o) v (put_of s made)) has) (id_is ∙ has.is_made.id)
 
-    finds_done : (by : Author) (o : OwnView) (author : Author) (ids : List ℕ) (own : List Event) → Is first.batch first.check o author ids → FindsDone s by o own
+    finds_done : (by : Author) (o : OwnView) (author : Author) (ids : List ℕ) (own : List Event) → Is first.intent first.check o author ids → FindsDone s by o own
         → Tries author ids own (Ok appends.Already)
     finds_done by o author ids own is (v, who, search) =
         let p = begun v.id o in
         ends_so (Ok appends.Already) o author ids v own done is
         (search_at o v (λ p v. Meets p v seen.Reached) done own search (λ searches meets. meets_lead p v seen.Reached done searches (λ left. refl) meets)) tt
 
-    meets_file : (path : List ℕ) (o : OwnView) (author : Author) (ids : List ℕ) (own : List Event) → Is first.batch first.check o author ids → MeetsFile s path o own
+    meets_file : (path : List ℕ) (o : OwnView) (author : Author) (ids : List ℕ) (own : List Event) → Is first.intent first.check o author ids → MeetsFile s path o own
         → Tries author ids own (Err (refusals.SessionUsed path))
     meets_file path o author ids own is (v, made, has) =
         let e : Refusal = refusals.SessionUsed path in
         ends_so (Err e) o author ids v own (over e) is
         (try_at o v made (puts.MeetsFile (put_of s made) path) (over e) own (met_lead (begun v.id o) v (put_of s made) path) has) refl
 
-    finds_reason : (e : Refusal) (o : OwnView) (author : Author) (ids : List ℕ) (own : List Event) → Is first.batch first.check o author ids → FindsReason s e o own
+    finds_reason : (e : Refusal) (o : OwnView) (author : Author) (ids : List ℕ) (own : List Event) → Is first.intent first.check o author ids → FindsReason s e o own
         → Tries author ids own (Err e)
     finds_reason e o author ids own is (v, why, search) =
         let p = begun v.id o in
         let t : TryAt p v own (ready_for (reason p v)) = search_at o v MayCommit (ready_for (reason p v)) own search (may_lead p v) in
         ends_so (Err e) o author ids v own (over e) is (subst (TryAt p v own) (ap ready_for why) t) refl
 
-    misreads : (path : List ℕ) (place : ℕ) (o : OwnView) (author : Author) (ids : List ℕ) (own : List Event) → Is first.batch first.check o author ids → Misreads s path place o own
+    misreads : (path : List ℕ) (place : ℕ) (o : OwnView) (author : Author) (ids : List ℕ) (own : List Event) → Is first.intent first.check o author ids → Misreads s path place o own
         → Tries author ids own (Err (refusals.Damaged path place))
     misreads path place o author ids own is (v, id, left, bytes, earlier, search, bad, path_is, first_is, at) =
         let p = begun v.id o in
@@ -626,7 +636,7 @@ module _ (laws : view.OneLaws) (s : TableSchema) where
         ∙ ap (older_leads p.author (reason p v) id left) (sym bad) in
         ends_so (Err e) o author ids v own (over e) is (try_step p v earlier own (read_file path (Some bytes)) (seeking id left) (over e) t at goes) refl
 
-    loses_last : (others : List ℕ) (o : OwnView) (author : Author) (ids : List ℕ) (own : List Event) → Is first.batch first.check o author ids → LosesLast s others o own
+    loses_last : (others : List ℕ) (o : OwnView) (author : Author) (ids : List ℕ) (own : List Event) → Is first.intent first.check o author ids → LosesLast s others o own
         → Tries author ids own (Err (refusals.Contended others))
     loses_last others o author ids own is (v, made, gone, last, are) =
         let at = loses_at o v made own gone in
@@ -660,6 +670,8 @@ module _ (laws : view.OneLaws) (s : TableSchema) where
     own_shown (refusals.Damaged path place) own after = by_tries (Err (refusals.Damaged path place)) own (Misreads s path place) after (misreads path place)
     own_shown (refusals.Fenced base fence) own after =
         by_tries (Err (refusals.Fenced base fence)) own (FindsReason s (refusals.Fenced base fence)) after (finds_reason (refusals.Fenced base fence))
+    own_shown (refusals.CompactTaken file) own after =
+        by_tries (Err (refusals.CompactTaken file)) own (FindsReason s (refusals.CompactTaken file)) after (finds_reason (refusals.CompactTaken file))
     own_shown (refusals.Limit which number) own after =
         by_tries (Err (refusals.Limit which number)) own (FindsReason s (refusals.Limit which number)) after (finds_reason (refusals.Limit which number))
     own_shown e own shows = absurd shows
@@ -704,7 +716,7 @@ module _ (laws : view.OneLaws) (s : TableSchema) where
     shown_answered : (names : Names) (rest own : List Event) (made : Result Appended Refusal) → own ≡ listed_manifests names ∷ rest → Tries first.author first.lost rest made
         → AllByRecursion IsAnswered own
     shown_answered names rest own made is runs =
-        subst (AllByRecursion IsAnswered) (sym is) (listed_answered names, runs_answered first.batch first.check first.author first.lost rest made runs)
+        subst (AllByRecursion IsAnswered) (sym is) (listed_answered names, runs_answered first.intent first.check first.author first.lost rest made runs)
 
     abbrev AreOneAnswer : Result Appended Refusal → Result Appended Refusal → Type 0
     AreOneAnswer one other = (one ≡ other) ⊎ ((one ≡ Err refusals.Memory) ⊎ (other ≡ Err refusals.Memory))
@@ -731,7 +743,7 @@ module _ (laws : view.OneLaws) (s : TableSchema) where
         absurd (used_not names.items path (subst (λ (names : List (List ℕ)). FindsUsed first.names names (Some path)) same used) unused)
     one_shown own one other (of_tries names rest unused at runs) (of_tries others more also there follow) =
         let same : more ≡ rest = tail_same (listed_manifests others) (listed_manifests names) more rest (sym there ∙ at) in
-        inl (one_run first.batch first.check first.author first.lost rest one other runs
+        inl (one_run first.intent first.check first.author first.lost rest one other runs
         (subst (λ (own : List Event). Tries first.author first.lost own other) same follow))
 
     -- ---- from the reading of the schema on
@@ -770,9 +782,9 @@ module _ (laws : view.OneLaws) (s : TableSchema) where
   same_above live [] = refl
   same_above live (e ∷ batch) = ap (λ (any : Bool). is_above live (e.0, e.1.count) || any) (same_above live batch)
 
-  same_reason : (batch more : Groups) → counts_of batch ≡ counts_of more → (id : ℕ) (snapshot : Option Snapshot) (live : List Entry) (author : Author)
-      → reason_of id snapshot live author batch ≡ reason_of id snapshot live author more
-  same_reason batch more same id snapshot live author =
+  same_reason : (one other : Intent) → AreAlikeFor one other → (id : ℕ) (snapshot : Option Snapshot) (live : List Entry) (author : Author)
+      → reason_of id snapshot live author one ≡ reason_of id snapshot live author other
+  same_reason (intents.Append batch) (intents.Append more) same id snapshot live author =
       let lengths : length batch ≡ length more = sym (same_length batch) ∙ ap length same ∙ same_length more in
       let above : above_numbers live batch ≡ above_numbers live more = sym (same_above live batch) ∙ ap (list_any (is_above live)) same ∙ same_above live more in
       λ i. if int_le (pos author.base) (fence_of snapshot) then Some (refusals.Fenced author.base (fence_of snapshot))
@@ -780,6 +792,7 @@ module _ (laws : view.OneLaws) (s : TableSchema) where
       else if above i then Some no_sequence
       else if above_id id then Some no_id
       else None
+  same_reason one other same id snapshot live author = ap (reason_of id snapshot live author) same
 
   as_first : (one other : OwnView) (made : Result Appended Refusal) (own : List Event) → AreAlike one other → IsShown other made own → IsShown one made own
   as_first one other made own alike_so (of_memory memory) = of_memory memory
@@ -787,11 +800,11 @@ module _ (laws : view.OneLaws) (s : TableSchema) where
   as_first one other made own alike_so (of_names names path used at is) =
       of_names names path (subst (λ (maker : Naming). FindsUsed maker names.items (Some path)) (sym alike_so.names) used) at is
   as_first one other made own alike_so (of_tries names rest unused at runs) =
-      let by_batch = other_batch other.batch one.batch other.check (same_reason other.batch one.batch (sym alike_so.counts)) other.author other.lost rest made runs in
-      let by_check = subst (λ (check : Bool). Runs one.batch check other.author other.lost rest made) (sym alike_so.check) by_batch in
-      let by_author = subst (λ (author : Author). Runs one.batch one.check author other.lost rest made) (sym alike_so.author) by_check in
+      let by_intent = other_intent other.intent one.intent other.check (λ id snapshot live author. sym (same_reason one.intent other.intent alike_so.counts id snapshot live author)) other.author other.lost rest made runs in
+      let by_check = subst (λ (check : Bool). Runs one.intent check other.author other.lost rest made) (sym alike_so.check) by_intent in
+      let by_author = subst (λ (author : Author). Runs one.intent one.check author other.lost rest made) (sym alike_so.author) by_check in
       of_tries names rest (subst (λ (maker : Naming). FindsUsed maker names.items None) (sym alike_so.names) unused) at
-      (subst (λ (ids : List ℕ). Runs one.batch one.check one.author ids rest made) (sym alike_so.lost) by_author)
+      (subst (λ (ids : List ℕ). Runs one.intent one.check one.author ids rest made) (sym alike_so.lost) by_author)
 
   pub one_answer_of : (first second : OwnView) → AreAlike first second → (own : List Event) (one other : Result Appended Refusal) → DidAppend s first one own
       → DidAppend s second other own → (one ≡ other) ⊎ ((one ≡ Err refusals.Memory) ⊎ (other ≡ Err refusals.Memory))

@@ -1,5 +1,5 @@
 -- The publish of a try whose files are all there appends its entry to the history, while the newest snapshot stands.
-use Rattle.std.proofs.Common.{◌≡◌, inl, inr, ℕ, zero, suc, ◌+◌, ◌-◌, ◌<◌, ◌≤◌, nat_le, Bool, true, false, if◌then◌else◌, List, [], ◌∷◌, ◌++◌, length, length-append, Option, None, Some, IsSome, IsSomeAnd, refl, sym, ap, ◌∙◌, subst, arith}
+use Rattle.std.proofs.Common.{◌≡◌, inl, inr, ℕ, ℤ, zero, suc, ◌+◌, ◌-◌, ◌<◌, ◌≤◌, ◌^◌, nat_le, Bool, true, false, if◌then◌else◌, List, [], ◌∷◌, ◌++◌, length, length-append, Option, None, Some, IsSome, IsSomeAnd, refl, sym, ap, ◌∙◌, subst, arith}
 use Rattle.std.specs.FinMap as map
 use Rattle.std.specs.List.{AllByRecursion}
 use Rattle.std.proofs.lemmas.Bool.Decides.{nat_tests}
@@ -10,7 +10,6 @@ use Rattle.pm_store.specs.declared.answer.Published.TheVariants as published
 use Rattle.pm_store.proofs.ChangeLaws.{Answers-Changed}
 use Rattle.pm_values.specs.declared.group.Group.{Group}
 use Rattle.pm_model_history.specs.History.{Entry, History, IsTableOf, append, entry_rows, table}
-use Rattle.pm_model_history.specs.Merge.{HistoryRow}
 use Rattle.pm_schema.specs.declared.schema.TableSchema.{TableSchema}
 use Rattle.pm_snapshot.specs.Names.{greatest}
 use Rattle.pm_model_folder.specs.Changes.{Actor, IsNamedBy, NamesOwn, committed as commits}
@@ -24,14 +23,20 @@ use Rattle.pm_model_folder.proofs.Facts.{some-none}
 use Rattle.pm_model_folder.proofs.HoldLemmas.{Holds, OneContents, SameContents}
 use Rattle.pm_model_folder.proofs.LedgerFacts.{at-table, count-is}
 use Rattle.pm_read_table.specs.declared.view.View.{View}
-use Rattle.pm_write.specs.Batch.{Groups, IsBatchOf}
+use Rattle.pm_write.specs.Batch.{Groups}
 use Rattle.pm_runs.specs.Succession.{KnownRun}
-use Rattle.pm_append.specs.Commit.{Attempt, Grows, HasAppended, IsAsMade, IsFoundAs, IsReady}
-use Rattle.pm_append.specs.declared.newest.Author.{Author}
-use Rattle.pm_append.specs.declared.newest.Newest.{Newest}
+use Rattle.pm_made.specs.Commit.{Attempt, IsAsMade, IsFoundAs}
+use Rattle.pm_made.specs.Files.{IsMadeOf}
+use Rattle.pm_made.specs.Intent.{AppendsBatch, Means, most_files}
+use Rattle.pm_made.specs.Refusals.{refusal_of}
+use Rattle.pm_made.specs.declared.intent.Intent.{Intent}
+use Rattle.pm_made.specs.declared.intent.Intent.TheVariants as intents
+use Rattle.pm_made.specs.declared.newest.Author.{Author}
+use Rattle.pm_made.specs.declared.newest.Newest.{Newest}
+use Rattle.pm_append.specs.Commit.{Grows, HasAppended, IsReady, Try, attempt_of, entry_of}
 use Rattle.pm_commit.specs.Alone.{with_entry}
 use Rattle.pm_commit.specs.Committer.{after_path, newest_in, publishing_of}
-use Rattle.pm_commit.specs.Meaning.{HasCommitted, HasEntry, IsAppendFor, KnowsOwn, KnowsTry, MakesOwn}
+use Rattle.pm_commit.specs.Meaning.{HasAdded, HasCommitted, HasEntry, KnowsOwn, KnowsTry, MakesOwn}
 use Rattle.pm_commit.specs.Own.{IsTried, OwnView, actor_of}
 use Rattle.pm_commit.specs.declared.found.Found.{Found}
 use Rattle.pm_put.proofs.Facts.{published_absent, published_there}
@@ -45,6 +50,7 @@ use Rattle.pm_commit.proofs.FenceLemmas.{newest-fence, not-fenced}
 use Rattle.pm_commit.proofs.FoundLemmas.{LiveEntries, found-there}
 use Rattle.pm_commit.proofs.GrowLemmas.{goes-with, new_runs}
 use Rattle.pm_commit.proofs.MadeLemmas.{allowed-id}
+use Rattle.pm_commit.proofs.OwnLemmas.{batch-in}
 use Rattle.pm_commit.proofs.StillLemmas.{found-still}
 
 -- ---- what the laws of lower crates say
@@ -61,10 +67,10 @@ NamesNone = (me : Actor) (f : Files) (p : Past) (s : TableSchema) (id : ℕ) (pa
 
 -- a try that is ready
 abbrev pub AppendsTry : Type 0
-AppendsTry = (me : Actor) (f after : Files) (s : TableSchema) (entries : List Entry) (t : Attempt) → (ready : IsReady me f s entries t)
+AppendsTry = (me : Actor) (f after : Files) (s : TableSchema) (entries : List Entry) (t : Try) → (ready : IsReady me f s entries t)
     → map.get f (snapshot_path (suc (length entries))) ≡ None → Puts f (snapshot_path (suc (length entries))) (Some t.made.text) after
-    → IsCommit f after s entries (append t.author.user t.author.identifier t.rows) × NamesOwn me f after s (length entries)
-    × IsAsMade after s (suc (length entries)) t ready.made × HasAppended after s t.newest t.author (length t.rows)
+    → IsCommit f after s entries (entry_of t) × NamesOwn me f after s (length entries)
+    × IsAsMade after s (suc (length entries)) (attempt_of t) ready.made × HasAppended after s t.newest t.author (length t.rows)
     × ((g : Group) → Grows me f after s (length entries) g t.rows)
 
 -- ---- nothing changes
@@ -103,9 +109,6 @@ module _ (one : OneContents) (same : SameContents) (paths : NamedPaths) (live_la
   abbrev v : View
   v = is_try.found.view
 
-  meant : IsAppendFor own.author.user own.author.identifier e
-  meant = known.means.is
-
   own-table : (es : List Entry) × (p.history ≡ table s es) × HasTable f s es × KnowsTable f s es p
   own-table = at-table f p s stands known.is_table
 
@@ -128,7 +131,7 @@ module _ (one : OneContents) (same : SameContents) (paths : NamedPaths) (live_la
   last-is = is_try.put.0 ∙ ap (λ (n : ℕ). publishing_of s n t.made.text) (sym is_try.is)
 
   below : t.newest.id < greatest
-  below = allowed-id t.newest t.author t.batch is_try.allowed
+  below = allowed-id t.newest t.author t.intent is_try.allowed
 
   origin : t.newest.id ≡ 0 → IsSome s.origin
   origin first =
@@ -159,37 +162,12 @@ module _ (one : OneContents) (same : SameContents) (paths : NamedPaths) (live_la
 
     all-there : AllByRecursion (IsPut f) t.made.files.items
     all-there = elim is_try.put.1 as (λ _. AllByRecursion (IsPut f) t.made.files.items) [
-      | inl fenced ↦ absurd (not-fenced t.newest t.author t.batch s entries is_try.allowed
+      | inl fenced ↦ absurd (not-fenced t.newest t.author t.intent s entries is_try.allowed
           (newest-fence f p s entries stands own-table.1 (record { schema = s; newest = t.newest }) is_try.found newest-is)
           (subst (λ (h : History). IsFenced t.author.base h) own-table.1
           (subst (λ (a : Author). IsFenced a.base p.history) (sym is_try.same_author) fenced)))
       | inr all ↦ all
     ]
-
-    batch-of : IsBatchOf s t.rows t.batch
-    batch-of =
-        subst (λ (rs : List HistoryRow). IsBatchOf s rs t.batch) (sym is_try.same_rows)
-        (subst (λ (groups : Groups). IsBatchOf s (entry_rows e) groups) (sym is_try.same_batch) known.means.groups)
-
-    ready : IsReady (actor_of own) f s entries t
-    ready = record {
-      folder = own-table.2;
-      built = tried.built;
-      newest = record { id = newest-is; found = found-here };
-      batch = batch-of;
-      made = is_try.made;
-      allowed = is_try.allowed;
-      base =
-          (let from = known.from in
-          let same_base : t.author.base ≡ own.author.base = ap (λ (a : Author). a.base) is_try.same_author in
-          let last = newest-is in
-          let size = many in
-          omega (arith, from, same_base, last, size));
-      maker = is_try.names;
-      there = all-there;
-      unnamed = λ id path low high named by.
-          none_law (actor_of own) f p s id path stands known.is_table (let bound = own-table.2.snapshots.within in omega (arith, high, bound)) known.unnamed named by;
-    }
 
     absent-next : map.get f (snapshot_path (suc (length entries))) ≡ None
     absent-next = subst (λ (n : ℕ). map.get f (snapshot_path n) ≡ None) next-is absent
@@ -197,38 +175,94 @@ module _ (one : OneContents) (same : SameContents) (paths : NamedPaths) (live_la
     puts : Puts f (snapshot_path (suc (length entries))) (Some t.made.text) after
     puts = subst (λ (n : ℕ). Puts f (snapshot_path n) (Some t.made.text) after) next-is puts_at
 
-    same-entry : append t.author.user t.author.identifier t.rows ≡ e
-    same-entry =
-        ap (λ (a : Author). append a.user a.identifier t.rows) is_try.same_author
-        ∙ ap (λ (rs : List HistoryRow). append own.author.user own.author.identifier rs) is_try.same_rows
-        ∙ sym meant
-
-    -- its rows may come after the entries
-    may-follow : IsEntryAfter s entries e
-    may-follow = subst (IsEntryAfter s entries) (sym meant) known.means.fit
-
-    appends : IsCommit f after s entries e × NamesOwn (actor_of own) f after s (length entries)
-        × HasAppended after s t.newest own.author (length (entry_rows e))
-        × ((g : Group) → Grows (actor_of own) f after s (length entries) g (entry_rows e))
-    appends =
-        let all = append_law (actor_of own) f after s entries t ready absent-next puts in (
-          subst (λ (e : Entry). IsCommit f after s entries e) same-entry all.0,
-          all.1,
-          subst (λ (a : Author). HasAppended after s t.newest a (length (entry_rows e))) is_try.same_author
-              (subst (λ (rs : List HistoryRow). HasAppended after s t.newest t.author (length rs)) is_try.same_rows all.3),
-          λ g. subst (Grows (actor_of own) f after s (length entries) g) is_try.same_rows (all.4 g),
-        )
-
     holds : Holds f after
     holds q there = puts.others q (λ is. some-none (map.get f q) there (ap (map.get f) is ∙ absent-next))
 
-    -- the groups' runs once it is published
-    abbrev runs_now : Group → List KnownRun
-    runs_now g = new_runs same (actor_of own) f after p s entries own.author.user own.author.identifier (entry_rows e) stands own-table.1 known.unnamed newest-there holds g
-        (appends.3 g)
-
     bound : suc (length entries) ≤ greatest
     bound = let last = newest-is in let low = below in omega (arith, last, low)
+
+    -- ---- by what it is for
+
+    -- What is to be shown of each: its entry may come next and is added, what its snapshot names and the newest doesn't is
+    -- the actor's own, the snapshot is what it has to be, and each group's runs go on.
+    record Adds : Type 0 where
+      follows : IsEntryAfter s entries e
+      commit : IsCommit f after s entries e
+      names : NamesOwn (actor_of own) f after s (length entries)
+      added : HasAdded after s t.newest own.author e
+      runs : Group → List KnownRun
+      goes : (g : Group) → GoesWith after p s entries e g (runs g)
+
+    -- rows are appended
+    module _ (batch : Groups) (is_append : own.intent ≡ intents.Append batch) where
+      means : AppendsBatch s own.author.user own.author.identifier batch e
+      means = subst (λ (intent : Intent). Means s own.author intent e) is_append known.means
+
+      intent-is : t.intent ≡ intents.Append batch
+      intent-is = is_try.same_intent ∙ is_append
+
+      -- the try, with its rows
+      abbrev appended : Try
+      appended = record {
+        rows = entry_rows e;
+        batch = batch;
+        author = t.author;
+        newest = t.newest;
+        names = t.names;
+        made = t.made;
+      }
+
+      ready : IsReady (actor_of own) f s entries appended
+      ready = record {
+        folder = own-table.2;
+        built = tried.built;
+        newest = record { id = newest-is; found = found-here };
+        batch = means.groups;
+        made = subst (λ (intent : Intent). IsMadeOf s t.newest t.author intent t.names t.made) intent-is is_try.made;
+        allowed = subst (λ (intent : Intent). refusal_of t.newest t.author intent ≡ None) intent-is is_try.allowed;
+        base =
+            (let from = known.from in
+            let same_base : t.author.base ≡ own.author.base = ap (λ (a : Author). a.base) is_try.same_author in
+            let last = newest-is in
+            let size = many in
+            omega (arith, from, same_base, last, size));
+        maker = record {
+          session = is_try.names.session;
+          actor = is_try.names.actor;
+          based = is_try.names.based;
+          may = is_try.names.may;
+          room = subst (λ (intent : Intent). t.names.count + most_files intent < 2 ^ 64) intent-is is_try.names.room;
+        };
+        there = all-there;
+        unnamed = λ id path low high named by.
+            none_law (actor_of own) f p s id path stands known.is_table (let bound = own-table.2.snapshots.within in omega (arith, high, bound)) known.unnamed named by;
+      }
+
+      same-entry : entry_of appended ≡ e
+      same-entry = ap (λ (a : Author). append a.user a.identifier (entry_rows e)) is_try.same_author ∙ sym means.is
+
+      append-adds : Adds
+      append-adds =
+          let all = append_law (actor_of own) f after s entries appended ready absent-next puts in
+          let user : List ℕ = own.author.user in
+          let identifier : ℤ = own.author.identifier in
+          let runs : Group → List KnownRun = λ g. new_runs same (actor_of own) f after p s entries user identifier (entry_rows e) stands own-table.1 known.unnamed newest-there
+          holds g (all.4 g) in
+          record {
+            follows = subst (IsEntryAfter s entries) (sym means.is) means.fit;
+            commit = subst (λ (e : Entry). IsCommit f after s entries e) same-entry all.0;
+            names = all.1;
+            added = subst (λ (e : Entry). HasAdded after s t.newest own.author e) (sym means.is)
+                (refl, refl, subst (λ (a : Author). HasAppended after s t.newest a (length (entry_rows e))) is_try.same_author all.3);
+            runs = runs;
+            goes = λ g. subst (λ (x : Entry). GoesWith after p s entries x g (runs g)) (sym means.is)
+                (goes-with same (actor_of own) f after p s entries user identifier (entry_rows e) stands own-table.1 known.unnamed newest-there holds g (all.4 g));
+          }
+
+    adds : Adds
+    adds = let appending = batch-in own.intent known.appends in append-adds appending.0 appending.1
+
+    -- ---- whatever it is for
 
     -- the snapshot wasn't known, and is the commit's
     committed : (q : Past) → Advances (actor_of own) f p after q → q.history ≡ table s (entries ++ e ∷ []) → HasEntry e id q
@@ -243,26 +277,22 @@ module _ (one : OneContents) (same : SameContents) (paths : NamedPaths) (live_la
         } in
         let fresh : IsKnown p id → ⊥ = λ was. (let high = was.to in let next = next-is in let size = many in absurd (omega (arith, high, next, size))) in
         record {
-          by = meant;
           entry = has;
           known = known;
           found = record { schema = s; newest = t.newest };
           is_found = found-still (actor_of own) f after p q advances (record { schema = s; newest = t.newest }) is_try.found;
           is_table = subst (IsTableOf s) (sym now) refl;
           next = id-is;
-          stood = subst (λ (g : Files). HasAppended g s t.newest own.author (length (entry_rows e))) (sym (advances.stood id known fresh)) appends.2;
+          stood = subst (λ (g : Files). HasAdded g s t.newest own.author e) (sym (advances.stood id known fresh)) adds.added;
         }
 
     published-makes : (later : Past) × MakesOwn own e f p after later × HasCommitted own.author e id later × IsNext later
     published-makes =
-        let q = later_past p s entries e after runs_now in
-        let change = commits s entries e t.made.text newest-there bound absent-next puts may-follow appends.0 appends.1 in
+        let q = later_past p s entries e after adds.runs in
+        let change = commits s entries e t.made.text newest-there bound absent-next puts adds.follows adds.commit adds.names in
         let advances : Advances (actor_of own) f p after q =
         append-advances one same paths (actor_of own) f after p s entries e (Some t.made.text) stands tried.built.no_partition own-table.1 known.unnamed newest-there bound
-        puts appends.1 runs_now
-        (λ g. subst (λ (x : Entry). GoesWith after p s entries x g (runs_now g)) (sym meant)
-        (goes-with same (actor_of own) f after p s entries own.author.user own.author.identifier (entry_rows e) stands own-table.1 known.unnamed newest-there holds g (appends.3 g)))
-        change in (
+        puts adds.names adds.runs adds.goes change in (
           q,
           record { advances = advances; appends = inr (s, entries, own-table.1, refl) },
           committed q advances refl (s, entries, [], refl, (let next = next-is in omega (arith, next))),

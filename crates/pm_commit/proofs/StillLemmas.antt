@@ -3,9 +3,9 @@ use Rattle.std.proofs.Common.{◌≡◌, ◌≢◌, ◌⊎◌, inl, inr, ℕ, �
 use Rattle.std.specs.FinMap as map
 use Rattle.std.specs.List.{AllByRecursion}
 use Rattle.pm_store.specs.Files.{Files}
-use Rattle.pm_model_history.specs.History.{Entry, GoesOn, History, IsTableOf, entry_rows, no_table, table}
+use Rattle.pm_model_history.specs.History.{Entry, GoesOn, History, no_table, table}
 use Rattle.pm_schema.specs.declared.schema.TableSchema.{TableSchema}
-use Rattle.pm_model_folder.specs.Changes.{Actor, IsOwnFile}
+use Rattle.pm_model_folder.specs.Changes.{Actor, HavePlainNames, IsOwnFile}
 use Rattle.pm_model_folder.specs.Entries.{IsFenced}
 use Rattle.pm_model_folder.specs.Ledger.{Advances, HasNamedNone, Past, Stands, count_of}
 use Rattle.pm_model_folder.specs.Meaning.{SnapshotAt}
@@ -15,20 +15,22 @@ use Rattle.pm_model_contents.specs.Lists.{HasEntries}
 use Rattle.pm_read_table.specs.Meaning.{IsViewIn, view_origin, view_snapshot}
 use Rattle.pm_read_table.specs.declared.view.View.{View}
 use Rattle.pm_read_table.proofs.Facts as reader_facts
-use Rattle.pm_append.specs.Commit.{Attempt, HasAppended, IsBuilt, MakesNames}
-use Rattle.pm_append.specs.Files.{IsAppendOf}
-use Rattle.pm_append.specs.declared.newest.Author.{Author}
+use Rattle.pm_append.specs.Commit.{IsBuilt}
+use Rattle.pm_made.specs.Commit.{Attempt, MakesNames}
+use Rattle.pm_made.specs.Files.{IsMadeOf}
+use Rattle.pm_made.specs.declared.newest.Author.{Author}
 use Rattle.pm_put.proofs.Facts.{at_weaker}
 use Rattle.pm_put.specs.Meaning.{IsPut}
 use Rattle.pm_put.specs.declared.phase.Phase as put_phase
 use Rattle.pm_put.specs.declared.putting.CommitFile.{CommitFile}
-use Rattle.pm_commit.specs.Meaning.{AreThere, HasCommitted, HasEarlier, HasEntry, IsFoundIn, IsOtherThan, Knows, KnowsIn, KnowsOwn, KnowsTry}
+use Rattle.pm_commit.specs.Meaning.{AreThere, HasAdded, HasCommitted, HasEarlier, HasEntry, IsFoundIn, IsOtherThan, Knows, KnowsIn, KnowsOwn, KnowsTry}
 use Rattle.pm_commit.specs.Committer.{IsCommitter, put_of}
 use Rattle.pm_commit.specs.Own.{IsTried, OwnView, actor_of}
 use Rattle.pm_commit.specs.declared.found.Found.{Found}
 use Rattle.pm_commit.specs.declared.phase.Phase.{Phase}
 use Rattle.pm_commit.specs.declared.phase.Phase.TheVariants as phases
 use Rattle.pm_commit.proofs.FenceLemmas.{fenced-later}
+use Rattle.pm_commit.proofs.OwnLemmas.{plain-names}
 
 -- what the law of others' names says
 abbrev pub OthersNone : Type 0
@@ -36,8 +38,16 @@ OthersNone = (me other : Actor) (f after : Files) (p q : Past) → Stands f p �
 
 -- what the law of a commit's own files says
 abbrev pub OwnFiles : Type 0
-OwnFiles = (me : Actor) (s : TableSchema) (t : Attempt) → IsBuilt s → MakesNames me t → IsAppendOf s t.newest t.author t.batch t.names t.made
+OwnFiles = (me : Actor) (s : TableSchema) (t : Attempt) → IsBuilt s → MakesNames me t → IsMadeOf s t.newest t.author t.intent t.names t.made
     → AllByRecursion (λ (file : CommitFile). IsOwnFile me t.author.base file.path) t.made.files.items
+
+-- it is of each table whose partition columns have plain names
+abbrev pub PlainFiles : Type 0
+PlainFiles = (me : Actor) (s : TableSchema) (t : Attempt) → HavePlainNames s → MakesNames me t → IsMadeOf s t.newest t.author t.intent t.names t.made
+    → AllByRecursion (λ (file : CommitFile). IsOwnFile me t.author.base file.path) t.made.files.items
+
+pub own-files-of : PlainFiles → OwnFiles
+own-files-of law me s t built names made = law me s t (plain-names s built) names made
 
 first-of : (P : CommitFile → Type 0) (before later : List CommitFile) → AllByRecursion P (before ++ later) → AllByRecursion P before
 first-of P [] later all = tt
@@ -49,7 +59,7 @@ IsMadeBy me base file = IsOwnFile me base file.path
 
 -- so is each file of a try, with the commit's
 tried-made : OwnFiles → (own : OwnView) (s : TableSchema) (t : Attempt) → t.author ≡ own.author → IsBuilt s → MakesNames (actor_of own) t
-    → IsAppendOf s t.newest t.author t.batch t.names t.made → AllByRecursion (IsMadeBy (actor_of own) own.author.base) t.made.files.items
+    → IsMadeOf s t.newest t.author t.intent t.names t.made → AllByRecursion (IsMadeBy (actor_of own) own.author.base) t.made.files.items
 tried-made own_files own s t same built names made =
     subst (λ (author : Author). AllByRecursion (IsMadeBy (actor_of own) author.base) t.made.files.items) same
     (own_files (actor_of own) s t built names made)
@@ -87,6 +97,7 @@ module _ (law : OthersNone) (own_files : OwnFiles) (e : Entry) (other : Actor) (
   own-still : (own : OwnView) (s : TableSchema) → actor_of own ≢ other → KnowsOwn own e s p → KnowsOwn own e s q
   own-still own s apart known = record {
     is_table = reader_facts.table_still other f after p q s advances known.is_table;
+    appends = known.appends;
     means = known.means;
     may = known.may;
     unnamed = law (actor_of own) other f after p q stands advances apart known.unnamed;
@@ -121,8 +132,7 @@ module _ (law : OthersNone) (own_files : OwnFiles) (e : Entry) (other : Actor) (
       → KnowsTry own e s id m after q
   try-still own s id m tried known is_try = record {
     attempt = is_try.attempt;
-    same_rows = is_try.same_rows;
-    same_batch = is_try.same_batch;
+    same_intent = is_try.same_intent;
     same_author = is_try.same_author;
     found = found-still other f after p q advances (record { schema = s; newest = is_try.attempt.newest }) is_try.found;
     names = is_try.names;
@@ -153,14 +163,13 @@ module _ (law : OthersNone) (own_files : OwnFiles) (e : Entry) (other : Actor) (
 
   committed-still : (author : Author) (id : ℕ) → HasCommitted author e id p → HasCommitted author e id q
   committed-still author id has = record {
-    by = has.by;
     entry = entry-still id has.entry;
     known = known-still other f after p q id advances has.known;
     found = has.found;
     is_found = found-still other f after p q advances has.found has.is_found;
     is_table = reader_facts.table_still other f after p q has.found.schema advances has.is_table;
     next = has.next;
-    stood = subst (λ (g : Files). HasAppended g has.found.schema has.found.newest author (length (entry_rows e))) (sym (advances.same id has.known)) has.stood;
+    stood = subst (λ (g : Files). HasAdded g has.found.schema has.found.newest author e) (sym (advances.same id has.known)) has.stood;
   }
 
   earlier-still : (author : Author) → HasEarlier author p → HasEarlier author q

@@ -25,18 +25,20 @@ use Rattle.pm_read_table.specs.declared.phase.Phase.TheVariants as readers
 use Rattle.pm_read_table.specs.declared.view.View.{View}
 use Rattle.pm_read_table.proofs.Facts as reader_facts
 use Rattle.pm_read_table.proofs.Facts.{Joined}
-use Rattle.pm_write.specs.Batch.{Groups}
-use Rattle.pm_append.specs.Files.{IsAppendOf}
-use Rattle.pm_append.specs.Refusals.{above_files, above_id, above_numbers, is_fenced, no_files, no_id, passed, refusal_of}
+use Rattle.pm_manifest.specs.declared.entry.Entry.{Entry}
+use Rattle.pm_made.specs.Files.{IsMadeOf}
+use Rattle.pm_made.specs.Intent.{batch_of, removed_of}
+use Rattle.pm_made.specs.Refusals.{above_files, above_id, above_numbers, first_not_live, is_fenced, limit_of, live_count, no_files, no_id, not_live, not_live_or, passed, refusal_of}
+use Rattle.pm_made.specs.declared.intent.Intent.{Intent}
 use Rattle.pm_write.specs.Files.{no_sequence}
-use Rattle.pm_append.specs.declared.newest.Append.{Append}
-use Rattle.pm_append.specs.declared.newest.Author.{Author}
-use Rattle.pm_append.specs.declared.newest.Newest.{Newest}
+use Rattle.pm_made.specs.declared.newest.Made.{Made}
+use Rattle.pm_made.specs.declared.newest.Author.{Author}
+use Rattle.pm_made.specs.declared.newest.Newest.{Newest}
 use Rattle.pm_commit.specs.Committer.{After, AfterPutter, AfterReader, Goes, Hears, Loses, Makes, Outcome, Refuses, Shown, Stops, Tries, first_of_try, found_in, manifests_call, newest_in, newest_of, next_call, publishing_of, put_of}
 use Rattle.pm_commit.specs.Marks.{FindsUsed}
 use Rattle.pm_commit.specs.Own.{OwnView, begun, tries, with_lost}
 use Rattle.pm_commit.specs.Search.{SearchingView, older_ids, seen_in, seen_of}
-use Rattle.pm_commit.specs.Trace.{AfterLost, Did, DidInTry, DidSoFar, FindsReason, HasPut, HasSearch, HasTry, HaveLost, HavePassed, LosesTry, MayCommit, MayTakeMemory, Meets, Searched, Shows, ShowsOwn, Views, at_newest, at_older, has_listed, has_lost, is_absent, is_below, is_none, listed_manifests, lost_by, named_by, not_asked}
+use Rattle.pm_commit.specs.Trace.{AfterLost, Did, DidInTry, DidSoFar, FindsReason, HasListed, HasPut, HasSearch, HasTry, HaveLost, HavePassed, LosesTry, MayCommit, MayTakeMemory, Meets, Searched, Shows, ShowsOwn, Views, at_newest, at_older, has_begun, has_lost, is_absent, is_below, is_none, listed_manifests, lost_by, named_by, not_asked}
 use Rattle.pm_commit.specs.declared.search.Seen.{Seen}
 use Rattle.pm_commit.specs.declared.search.Seen.TheVariants as seen
 use Rattle.pm_commit.specs.declared.found.Found.{Found}
@@ -108,6 +110,7 @@ reader-no (readers.Again a id path) answer = read-no (snapshot_path id) answer
 
 abbrev pub IsReason : Refusal → Type 0
 IsReason (refusals.Fenced base fence) = Unit {0}
+IsReason (refusals.CompactTaken file) = Unit {0}
 IsReason (refusals.Limit which number) = Unit {0}
 IsReason other = ⊥
 
@@ -117,18 +120,29 @@ some-reason one other is e = let same : one ≡ other = cc in subst IsReason sam
 none-reason : (P : Type 0) (refusal : Refusal) → None ≡ Some refusal → P
 none-reason P refusal e = absurd (let clash = e in cc)
 
-reason-by : (a b c d : Bool) (q r t u refusal : Refusal) → IsReason q → IsReason r → IsReason t → IsReason u
-    → (if a then Some q else if b then Some r else if c then Some t else if d then Some u else None) ≡ Some refusal → IsReason refusal
-reason-by true b c d q r t u refusal one two three four e = some-reason q refusal one e
-reason-by false true c d q r t u refusal one two three four e = some-reason r refusal two e
-reason-by false false true d q r t u refusal one two three four e = some-reason t refusal three e
-reason-by false false false true q r t u refusal one two three four e = some-reason u refusal four e
-reason-by false false false false q r t u refusal one two three four e = none-reason (IsReason refusal) refusal e
+limit-reason : (b c d : Bool) (r t u refusal : Refusal) → IsReason r → IsReason t → IsReason u
+    → (if b then Some r else if c then Some t else if d then Some u else None) ≡ Some refusal → IsReason refusal
+limit-reason true c d r t u refusal two three four e = some-reason r refusal two e
+limit-reason false true d r t u refusal two three four e = some-reason t refusal three e
+limit-reason false false true r t u refusal two three four e = some-reason u refusal four e
+limit-reason false false false r t u refusal two three four e = none-reason (IsReason refusal) refusal e
 
-pub is-reason : (newest : Newest) (author : Author) (batch : Groups) (refusal : Refusal) → refusal_of newest author batch ≡ Some refusal → IsReason refusal
-is-reason newest author batch refusal is =
-    reason-by (is_fenced newest author) (above_files (length newest.live.items + length batch)) (above_numbers newest.live.items batch) (above_id newest.id)
-    (passed newest author) no_files no_sequence no_id refusal tt tt tt tt is
+live-reason : (o : Option Entry) (limit : Option Refusal) (refusal : Refusal) → (limit ≡ Some refusal → IsReason refusal) → not_live_or o limit ≡ Some refusal
+    → IsReason refusal
+live-reason None limit refusal rest e = rest e
+live-reason (Some entry) limit refusal rest e = some-reason (not_live entry) refusal tt e
+
+fence-reason : (t : Bool) (one refusal : Refusal) (later : Option Refusal) → IsReason one → (later ≡ Some refusal → IsReason refusal)
+    → (if t then Some one else later) ≡ Some refusal → IsReason refusal
+fence-reason true one refusal later is rest e = some-reason one refusal is e
+fence-reason false one refusal later is rest e = rest e
+
+pub is-reason : (newest : Newest) (author : Author) (intent : Intent) (refusal : Refusal) → refusal_of newest author intent ≡ Some refusal → IsReason refusal
+is-reason newest author intent refusal is =
+    fence-reason (is_fenced newest author) (passed newest author) refusal _ tt
+    (live-reason (first_not_live newest.live.items (removed_of intent)) (limit_of newest intent) refusal
+    (limit-reason (above_files (live_count (length newest.live.items) intent)) (above_numbers newest.live.items (batch_of intent)) (above_id newest.id)
+    no_files no_sequence no_id refusal tt tt tt)) is
 
 module _ (s : TableSchema) where
   -- a search goes on with an event
@@ -175,7 +189,7 @@ module _ (s : TableSchema) where
           searches = own;
           puts = [];
           searched = searched;
-          is_made = subst (λ (t : TableSchema). IsAppendOf t (newest_in v) own_of.author own_of.batch own_of.names made) same is_made;
+          is_made = subst (λ (t : TableSchema). IsMadeOf t (newest_in v) own_of.author own_of.intent own_of.names made) same is_made;
           allowed = allowed;
           put_so = subst (λ (t : TableSchema). put.Did (put_of s made) (put_next (publishing_of t made.id made.text) made.files.items) []) (sym same)
               (put_facts.first_did (put_of s made));
@@ -246,7 +260,7 @@ module _ (s : TableSchema) where
       (λ searches so_far. is_absent id left searches so_far refl) searched
 
   -- the putter of a try went on, or showed a refusal
-  try-push : (p : OwnView) (v : View) (made : Append) (P Q : List Event → Type 0) (own : List Event) (event : Event) → (has : HasTry s p v made P own)
+  try-push : (p : OwnView) (v : View) (made : Made) (P Q : List Event → Type 0) (own : List Event) (event : Event) → (has : HasTry s p v made P own)
       → Q (has.puts ++ event ∷ []) → HasTry s p v made Q (own ++ event ∷ [])
   try-push p v made P Q own event has so = record {
     searches = has.searches;
@@ -299,18 +313,18 @@ module _ (s : TableSchema) where
     in-try m own after = after
 
     -- the next try begins
-    begin-try : (p : OwnView) (own : List Event) → HaveLost s first p own → Did s first (first_of_try p s) own
+    begin-try : (p : OwnView) (own : List Event) → HaveLost s (HasListed first) p own → Did s first (first_of_try p s) own
     begin-try p own lost = (p, own, [], lost, (refl, (refl, refl, tt)), sym (append-nil own))
 
     lost-calls : (event : Event) (earlier later own : List Event) → own ≡ earlier ++ later → own ++ event ∷ [] ≡ earlier ++ (later ++ event ∷ [])
     lost-calls event earlier later own is = ap (λ (own : List Event). own ++ event ∷ []) is ∙ append_assoc earlier later (event ∷ [])
 
     -- once a try has named its files the ids that were lost are the same
-    same-lost : (p : OwnView) (v : View) (made : Append) (o : OwnView) → o ≡ named_by p v made → o.lost ≡ p.lost
+    same-lost : (p : OwnView) (v : View) (made : Made) (o : OwnView) → o ≡ named_by p v made → o.lost ≡ p.lost
     same-lost p v made o same = ap (λ (o : OwnView). o.lost) same ∙ begun-lost p v.id
 
-    lost-on : (o : OwnView) (t : TableSchema) (id : ℕ) (new : Phase) (p : OwnView) (v : View) (made : Append) (earlier later own : List Event)
-        → o ≡ named_by p v made → t ≡ s → id ≡ made.id → HaveLost s first p earlier → own ≡ earlier ++ later → LosesTry s p v made later
+    lost-on : (o : OwnView) (t : TableSchema) (id : ℕ) (new : Phase) (p : OwnView) (v : View) (made : Made) (earlier later own : List Event)
+        → o ≡ named_by p v made → t ≡ s → id ≡ made.id → HaveLost s (HasListed first) p earlier → own ≡ earlier ++ later → LosesTry s p v made later
         → Loses o t id (Ok new) → Did s first new own
     lost-on o t id new p v made earlier later own same is_t is_id lost is loses_it (left, on) =
         let few : length p.lost + 1 < tries = subst (λ (ids : List ℕ). length ids + 1 < tries) (same-lost p v made o same) left in
@@ -319,11 +333,11 @@ module _ (s : TableSchema) where
         on ∙ ap (first_of_try (with_lost id o)) is_t
         ∙ ap (λ (o : OwnView). first_of_try o s) (ap (with_lost id) same ∙ ap (λ (id : ℕ). with_lost id (named_by p v made)) is_id) in
         subst (λ (m : Phase). Did s first m own) (sym is_next)
-        (begin-try next own (subst (HaveLost s first next) (sym is) (has_lost p v made earlier later few lost loses_it)))
+        (begin-try next own (subst (HaveLost s (HasListed first) next) (sym is) (has_lost p v made earlier later few lost loses_it)))
 
     -- the putter of a try came so far
-    did-putter : (o : OwnView) (t : TableSchema) (id : ℕ) (to : put_phase.Phase) (new : Phase) (p : OwnView) (v : View) (made : Append) (earlier later own : List Event)
-        → o ≡ named_by p v made → t ≡ s → id ≡ made.id → HaveLost s first p earlier → own ≡ earlier ++ later → HasPut s p v made to later
+    did-putter : (o : OwnView) (t : TableSchema) (id : ℕ) (to : put_phase.Phase) (new : Phase) (p : OwnView) (v : View) (made : Made) (earlier later own : List Event)
+        → o ≡ named_by p v made → t ≡ s → id ≡ made.id → HaveLost s (HasListed first) p earlier → own ≡ earlier ++ later → HasPut s p v made to later
         → AfterPutter o t id to (Ok new) → Did s first new own
     did-putter o t id puts.Published new p v made earlier later own same is_t is_id lost is tried on =
         subst (λ (m : Phase). Did s first m own) (sym (ok-same new _ on))
@@ -338,10 +352,10 @@ module _ (s : TableSchema) where
     went-on law (phases.Names o t) (answers.Listed names) new own (none, is) (same, is_t, quiet) = λ may.
         let event : Event = listed_manifests names in
         let calls_are : own ++ event ∷ [] ≡ event ∷ [] = ap (λ (own : List Event). own ++ event ∷ []) quiet in
-        let lost : HaveLost s first first (own ++ event ∷ []) =
-        subst (HaveLost s first first) (sym calls_are) (has_listed names (subst (λ (o : OwnView). FindsUsed o.names names.items None) same none)) in
-        let is_first : new ≡ first_of_try first s = is ∙ ap (λ (o : OwnView). first_of_try o t) same ∙ ap (first_of_try first) is_t in
-        subst (λ (m : Phase). Did s first m (own ++ event ∷ [])) (sym is_first) (begin-try first (own ++ event ∷ []) lost)
+        let lost : HaveLost s (HasListed first) first (own ++ event ∷ []) =
+        has_begun first (own ++ event ∷ []) (refl, names, subst (λ (o : OwnView). FindsUsed o.names names.items None) same none, calls_are) in
+        let begins : new ≡ first_of_try first s = is ∙ ap (λ (o : OwnView). first_of_try o t) same ∙ ap (first_of_try first) is_t in
+        subst (λ (m : Phase). Did s first m (own ++ event ∷ [])) (sym begins) (begin-try first (own ++ event ∷ []) lost)
     went-on law (phases.View o m) answer new own (to, goes, after) (p, earlier, later, lost, (same, did), is) =
         IfSome_then (reader.next_call m) ((reader_facts.recounts law (newest_of s)).went m to answer later goes did)
         (λ call did may. in-try new (own ++ answered call answer ∷ [])
@@ -373,11 +387,12 @@ module _ (s : TableSchema) where
     -- there is a reason against the commit
     found-reason : (refusal : Refusal) (own : List Event) → IsReason refusal → AfterLost s first (FindsReason s refusal) own → Shows s first refusal own
     found-reason (refusals.Fenced base fence) own is found = inr found
+    found-reason (refusals.CompactTaken file) own is found = inr found
     found-reason (refusals.Limit which number) own is found = inr found
     found-reason other own is found = absurd is
 
     module _ (m : Phase) (call : Call) (answer : Answer) (p : OwnView) (refusal : Refusal) (earlier later own : List Event) (did : DidSoFar s first m own)
-        (at : next_call m ≡ Some call) (may : MayAnswer call answer) (takes : MayTakeMemory answer) (lost : HaveLost s first p earlier)
+        (at : next_call m ≡ Some call) (may : MayAnswer call answer) (takes : MayTakeMemory answer) (lost : HaveLost s (HasListed first) p earlier)
         (is : own ≡ earlier ++ later) where
       abbrev calls_now : List Event
       calls_now = later ++ answered call answer ∷ []
@@ -389,7 +404,7 @@ module _ (s : TableSchema) where
       refused-make : (v : View) → HasSearch s p v MayCommit calls_now → Makes (begun v.id p) (found_in v) (Err refusal) → ShowsIt
       refused-make v searched (inl memory) = forgot m call answer refusal own did at may takes memory
       refused-make v searched (inr reason) =
-          found-reason refusal _ (is-reason (newest_in v) (begun v.id p).author (begun v.id p).batch refusal reason)
+          found-reason refusal _ (is-reason (newest_in v) (begun v.id p).author (begun v.id p).intent refusal reason)
           (p, earlier, calls_now, lost, (v, reason, searched), lost-calls (answered call answer) earlier later own is)
 
       refused-hear : (v : View) (left : List ℕ) (said : Seen) → (said ≡ seen.Other → HasSearch s p v (λ o v. Searched o v left) calls_now)
@@ -410,8 +425,8 @@ module _ (s : TableSchema) where
           (λ v did_to on. refused-ready v did_to (subst (λ (o : OwnView). Tries (begun v.id o) v (Err refusal)) same on)) to did_to on
 
     -- eleven tries were lost, or it refuses nothing
-    refused-putter : (o : OwnView) (t : TableSchema) (id : ℕ) (to : put_phase.Phase) (refusal : Refusal) (p : OwnView) (v : View) (made : Append)
-        (earlier later own : List Event) → o ≡ named_by p v made → id ≡ made.id → HaveLost s first p earlier → own ≡ earlier ++ later → HasPut s p v made to later
+    refused-putter : (o : OwnView) (t : TableSchema) (id : ℕ) (to : put_phase.Phase) (refusal : Refusal) (p : OwnView) (v : View) (made : Made)
+        (earlier later own : List Event) → o ≡ named_by p v made → id ≡ made.id → HaveLost s (HasListed first) p earlier → own ≡ earlier ++ later → HasPut s p v made to later
         → AfterPutter o t id to (Err refusal) → Shows s first refusal own
     refused-putter o t id puts.Lost refusal p v made earlier later own same is_id lost is tried (last, contended) =
         let ids_are : o.lost ≡ p.lost = same-lost p v made o same in

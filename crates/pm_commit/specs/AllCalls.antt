@@ -1,6 +1,6 @@
 -- All calls of a committer, from those that read the table's schema on: what they are, and what they do to a history
 -- that stands at the first of them, where nobody else acts from then on.
-use Rattle.std.specs.Prelude.{◌≡◌, ◌≢◌, ◌⊎◌, ℕ, ◌+◌, ◌≤◌, List, ◌++◌, length, true, None, Some, IsSomeAnd, IfErr, Result, Ok, Err}
+use Rattle.std.specs.Prelude.{◌≡◌, ◌≢◌, ◌⊎◌, ℕ, ◌+◌, ◌≤◌, List, ◌++◌, true, None, Some, IsSomeAnd, IfErr, Result, Ok, Err}
 use Rattle.pm_base.specs.Faults.{Rose}
 use Rattle.pm_values.specs.declared.refusal.Refusal.{Refusal}
 use Rattle.pm_values.specs.declared.refusal.Refusal.TheVariants as refusals
@@ -8,7 +8,7 @@ use Rattle.pm_store.specs.Files.{Files, files_after}
 use Rattle.pm_store.specs.Images.{Extends}
 use Rattle.pm_store.specs.Store.{StoreView, FromFirst, IsAlone}
 use Rattle.pm_machine.specs.Trace.{Event}
-use Rattle.pm_model_history.specs.History.{History, IsTableOf, entry_rows}
+use Rattle.pm_model_history.specs.History.{History, IsTableOf}
 use Rattle.pm_schema.specs.declared.schema.TableSchema.{TableSchema}
 use Rattle.pm_snapshot.specs.Names.{MayName}
 use Rattle.pm_snapshot.specs.declared.snapshot.Snapshot.{Snapshot}
@@ -21,11 +21,11 @@ use Rattle.pm_model_folder.specs.Paths.{snapshot_path}
 use Rattle.pm_read_schema.specs.AllCalls.{HasFiles}
 use Rattle.pm_read_schema.specs.Trace as schema
 use Rattle.pm_read_schema.specs.declared.phase.Phase.TheVariants as readers
-use Rattle.pm_append.specs.Commit.{HasAppended}
-use Rattle.pm_append.specs.declared.newest.Author.{Author}
+use Rattle.pm_made.specs.Intent.{Means}
+use Rattle.pm_made.specs.declared.newest.Author.{Author}
 use Rattle.pm_commit.specs.Alone.{Beginning, GivesReason, IsUnchanged, KnewAlone, KnowsAlone, SeesNewest, WasUsed, begun_at}
 use Rattle.pm_commit.specs.Alone.{newest_id, with_entry}
-use Rattle.pm_commit.specs.Meaning.{Means}
+use Rattle.pm_commit.specs.Meaning.{HasAdded}
 use Rattle.pm_commit.specs.Own.{OwnView, actor_of}
 use Rattle.pm_commit.specs.Search.{seen_of}
 use Rattle.pm_commit.specs.Trace.{Did, Shows}
@@ -71,7 +71,7 @@ MayStart me h f = Folder f h × NamesNone me h f
 pub record MayBegin (s : TableSchema) (b : Beginning) : Type 0 where
   pub no_base : b.own.author.base ≡ 0
   pub may : MayName b.own.names
-  pub means : Means s b.own.author b.own.batch b.entry
+  pub means : Means s b.own.author b.own.intent b.entry
   pub start : MayStart (actor_of b.own) b.history b.files
 
 -- ---- what it is at the end
@@ -86,11 +86,11 @@ pub record StandsFreely (b : Beginning) (h : History) (f : Files) : Type 0 where
 abbrev pub StandsForEither : Beginning → Files → Type 0
 StandsForEither b f = StandsFreely b b.history f ⊎ StandsFreely b (with_entry b.entry b.history) f
 
--- the snapshot after the newest is there, and to its last field but the names of its lists it is the one that appends
--- the rows to what the newest one was at the beginning
+-- the snapshot after the newest is there, and to its last field but the names of its lists it is the one that adds the
+-- entry to what the newest one was at the beginning
 abbrev pub BearsCommit : Beginning → Files → Type 0
 BearsCommit b f = (found : Found) × SeesNewest b found
-    × HasAppended f found.schema found.newest (begun_at b).author (length (entry_rows b.entry))
+    × HasAdded f found.schema found.newest (begun_at b).author b.entry
 
 -- What an answer leaves of the files: they stand for the history with the entry, once that is committed, and have its
 -- snapshot; and they stand for the history else, but that after a fault of the store in the publish of the next
@@ -102,6 +102,7 @@ LeavesFolder b (Ok appends.Already) f = Folder f b.history × IsUnchanged b f
 LeavesFolder b (Err (refusals.StoreFault path)) f = Folder f b.history
     ⊎ (Folder f (with_entry b.entry b.history) × (path ≡ snapshot_path (newest_id b + 1)))
 LeavesFolder b (Err (refusals.Fenced base fence)) f = Folder f b.history × IsUnchanged b f
+LeavesFolder b (Err (refusals.CompactTaken file)) f = Folder f b.history × IsUnchanged b f
 LeavesFolder b (Err (refusals.Limit which number)) f = Folder f b.history × IsUnchanged b f
 LeavesFolder b (Err other) f = Folder f b.history
 
@@ -125,6 +126,7 @@ SaysOf b (Err refusals.Memory) = Unit {0}
 SaysOf b (Err (refusals.StoreFault path)) = Unit {0}
 SaysOf b (Err (refusals.SessionUsed path)) = WasUsed b path
 SaysOf b (Err (refusals.Fenced base fence)) = GivesReason b (Some (refusals.Fenced base fence))
+SaysOf b (Err (refusals.CompactTaken file)) = GivesReason b (Some (refusals.CompactTaken file))
 SaysOf b (Err (refusals.Limit which number)) = GivesReason b (Some (refusals.Limit which number))
 SaysOf b (Err other) = ⊥
 

@@ -16,8 +16,8 @@ use Rattle.pm_model_folder.specs.Ledger.{Past, Stands, count_of}
 use Rattle.pm_model_folder.specs.Paths.{snapshot_path}
 use Rattle.pm_read_table.specs.declared.phase.Phase as view_phase
 use Rattle.pm_read_table.specs.declared.phase.Phase.TheVariants as readers
-use Rattle.pm_append.specs.Commit.{IsFoundAs}
-use Rattle.pm_append.specs.Refusals.{refusal_of}
+use Rattle.pm_made.specs.Commit.{IsFoundAs}
+use Rattle.pm_made.specs.Refusals.{refusal_of}
 use Rattle.pm_put.specs.declared.putting.CommitFile.{CommitFile}
 use Rattle.pm_commit.specs.Marks.{FindsUsed}
 use Rattle.pm_commit.specs.Meaning.{Knows, MakesEntry}
@@ -65,7 +65,7 @@ pub record SeesNewest (b : Beginning) (found : Found) : Type 0 where
 -- the newest snapshot gives this reason against the commit, whose base it is, or none
 abbrev pub GivesReason : Beginning → Option Refusal → Type 0
 GivesReason b reason = (found : Found) × SeesNewest b found
-    × (refusal_of found.newest (begun_at b).author (begun_at b).batch ≡ reason)
+    × (refusal_of found.newest (begun_at b).author (begun_at b).intent ≡ reason)
 
 -- ---- what it knows
 
@@ -130,6 +130,8 @@ AloneRefused b (refusals.StoreFault path) f p = (p.history ≡ b.history)
 AloneRefused b (refusals.SessionUsed path) f p = (p.history ≡ b.history) × WasUsed b path
 AloneRefused b (refusals.Fenced base fence) f p =
     (p.history ≡ b.history) × IsUnchanged b f × GivesReason b (Some (refusals.Fenced base fence))
+AloneRefused b (refusals.CompactTaken file) f p =
+    (p.history ≡ b.history) × IsUnchanged b f × GivesReason b (Some (refusals.CompactTaken file))
 AloneRefused b (refusals.Limit which number) f p =
     (p.history ≡ b.history) × IsUnchanged b f × GivesReason b (Some (refusals.Limit which number))
 AloneRefused b other f p = ⊥

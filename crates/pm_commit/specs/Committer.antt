@@ -30,13 +30,15 @@ use Rattle.pm_read_table.specs.declared.asked.Wanted.TheVariants as wants
 use Rattle.pm_read_table.specs.declared.phase.Phase as view_phase
 use Rattle.pm_read_table.specs.declared.phase.Phase.TheVariants as readers
 use Rattle.pm_read_table.specs.declared.view.View.{View}
-use Rattle.pm_append.specs.Files.{IsAppendOf}
-use Rattle.pm_append.specs.Refusals.{refusal_of}
-use Rattle.pm_append.specs.declared.newest.Append.{Append}
-use Rattle.pm_append.specs.declared.newest.Author.{Author}
-use Rattle.pm_append.specs.declared.newest.Newest.{Newest}
+use Rattle.pm_made.specs.Files.{IsMadeOf}
+use Rattle.pm_made.specs.Intent.{most_files}
+use Rattle.pm_made.specs.Refusals.{refusal_of}
+use Rattle.pm_made.specs.declared.intent.Intent.{Intent}
+use Rattle.pm_made.specs.declared.newest.Author.{Author}
+use Rattle.pm_made.specs.declared.newest.Made.{Made}
+use Rattle.pm_made.specs.declared.newest.Newest.{Newest}
 use Rattle.pm_commit.specs.Marks.{FindsUsed}
-use Rattle.pm_commit.specs.Own.{IsOwn, IsTried, OwnView, begun, most_files, tries, with_lost, with_named}
+use Rattle.pm_commit.specs.Own.{IsAppend, IsOwn, IsTried, OwnView, begun, tries, with_lost, with_named}
 use Rattle.pm_commit.specs.Search.{SearchingView, older_ids, searching_of, seen_in, seen_of}
 use Rattle.pm_commit.specs.declared.search.Seen.{Seen}
 use Rattle.pm_commit.specs.declared.search.Seen.TheVariants as seen
@@ -57,7 +59,7 @@ abbrev pub publishing_of : TableSchema → ℕ → List ℕ → Publishing
 publishing_of s id text = record { after = after_path s id; path = snapshot_path id; bytes = text }
 
 -- what is put of a try: its files, and then its snapshot
-abbrev pub put_of : TableSchema → Append → Putting
+abbrev pub put_of : TableSchema → Made → Putting
 put_of s made = record { files = made.files.items; last = publishing_of s made.id made.text }
 
 -- the table as a view has it
@@ -84,18 +86,18 @@ next_call (phases.Already author) = None
 next_call phases.Over = None
 
 -- how many calls a try makes at most: those of its view, those of a search, the creates and the publish
-abbrev pub most_of_try : ℕ
-most_of_try = (most + 5) + (most + (most_files + 1))
+abbrev pub most_of_try : Intent → ℕ
+most_of_try intent = (most + 5) + (most + (most_files intent + 1))
 
 -- and how many the tries after this one make
 abbrev pub later_tries : OwnView → ℕ
-later_tries own = (tries - (length own.lost + 1)) * most_of_try
+later_tries own = (tries - (length own.lost + 1)) * most_of_try own.intent
 
 -- how many calls are left at most, where no refusal comes
 abbrev pub calls_left : Phase → ℕ
-calls_left (phases.Names own s) = 1 + most_of_try + later_tries own
-calls_left (phases.View own m) = reader.calls_left m + (most + (most_files + 1)) + later_tries own
-calls_left (phases.Search own q) = length q.left + 1 + (most_files + 1) + later_tries own
+calls_left (phases.Names own s) = 1 + most_of_try own.intent + later_tries own
+calls_left (phases.View own m) = reader.calls_left m + (most + (most_files own.intent + 1)) + later_tries own
+calls_left (phases.Search own q) = length q.left + 1 + (most_files own.intent + 1) + later_tries own
 calls_left (phases.Put own s id m) = put.calls_left m + later_tries own
 calls_left (phases.Committed author id) = 0
 calls_left (phases.Already author) = 0
@@ -162,11 +164,12 @@ pub record MayMake (own : OwnView) (found : Found) : Type 0 where
 
 -- the putter of a try has a call left, and few enough
 abbrev pub IsPutting : TableSchema → OwnView → put_phase.Phase → Type 0
-IsPutting s own m = IsTried s own × (0 < put.calls_left m) × (put.calls_left m ≤ most_files + 1)
+IsPutting s own m = IsTried s own × (0 < put.calls_left m) × (put.calls_left m ≤ most_files own.intent + 1)
 
--- a committer: in each phase its commit is one of its table, and few enough calls are left in the try
+-- a committer: in each phase its commit is one of its table, and few enough calls are left in the try; one that begins
+-- with the names appends
 abbrev pub IsCommitter : Phase → Type 0
-IsCommitter (phases.Names own s) = IsOwn s own
+IsCommitter (phases.Names own s) = IsOwn s own × IsAppend own.intent
 IsCommitter (phases.View own m) = IsViewing own m
 IsCommitter (phases.Search own q) = MayMake own q.found × (length q.left < most) × AreIds (q.id ∷ q.left)
 IsCommitter (phases.Put own s id m) = IsPutting s own m
@@ -183,19 +186,19 @@ abbrev pub first_of_try : OwnView → TableSchema → Phase
 first_of_try own s = phases.View own (readers.List (newest_of s))
 
 -- the phase once a try has named its files, and what it makes is to be put
-abbrev pub first_of_put : OwnView → TableSchema → Append → Phase
+abbrev pub first_of_put : OwnView → TableSchema → Made → Phase
 first_of_put own s made =
     phases.Put (with_named (own.names.count + length made.files.items) own) s made.id
     (put.create_next (publishing_of s made.id made.text) made.files.items)
 
 -- the files of a try are to be created; or there is a reason against them, or memory ran out
 abbrev pub Makes : OwnView → Found → Outcome → Type 0
-Makes own found (Ok later) = (made : Append)
-    × IsAppendOf found.schema found.newest own.author own.batch own.names made
-    × (refusal_of found.newest own.author own.batch ≡ None)
+Makes own found (Ok later) = (made : Made)
+    × IsMadeOf found.schema found.newest own.author own.intent own.names made
+    × (refusal_of found.newest own.author own.intent ≡ None)
     × (later ≡ first_of_put own found.schema made)
 Makes own found (Err refusal) =
-    (refusal ≡ refusals.Memory) ⊎ (refusal_of found.newest own.author own.batch ≡ Some refusal)
+    (refusal ≡ refusals.Memory) ⊎ (refusal_of found.newest own.author own.intent ≡ Some refusal)
 
 -- the next of these older snapshots is to be read, or none is left
 abbrev pub Seeks : OwnView → Found → List ℕ → Outcome → Type 0

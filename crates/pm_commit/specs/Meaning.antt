@@ -1,5 +1,5 @@
 -- What a committer knows of the table, and what its steps mean for the files.
-use Rattle.std.specs.Prelude.{◌≡◌, ◌≢◌, ◌⊎◌, ℕ, ℤ, ◌≤◌, List, [], ◌∷◌, ◌++◌, ◌+◌, length, codes}
+use Rattle.std.specs.Prelude.{◌≡◌, ◌≢◌, ◌⊎◌, ℕ, ◌≤◌, List, [], ◌∷◌, ◌++◌, ◌+◌, length, codes}
 use Rattle.std.specs.Prelude.{Option, None, Some, IfSome, IsSome}
 use Rattle.std.specs.FinMap as map
 use Rattle.std.specs.List.{AllByRecursion}
@@ -10,13 +10,12 @@ use Rattle.pm_store.specs.Store.{StoreView}
 use Rattle.pm_machine.specs.Moves.{Moves}
 use Rattle.pm_put.specs.Meaning.{IsAt, IsPut}
 use Rattle.pm_put.specs.declared.phase.Phase as put_phase
-use Rattle.pm_model_history.specs.History.{Entry, History, IsTableOf, append, entry_rows, table}
+use Rattle.pm_model_history.specs.History.{Entry, History, IsTableOf, append, table}
 use Rattle.pm_schema.specs.declared.schema.TableSchema.{TableSchema}
 use Rattle.pm_snapshot.specs.Names.{MayName}
 use Rattle.pm_snapshot.specs.declared.snapshot.Snapshot.{Snapshot}
 use Rattle.pm_model_folder.specs.Changes.{Actor}
 use Rattle.pm_model_folder.specs.Entries.{IsFenced}
-use Rattle.pm_model_folder.specs.Folder.{IsRowOf}
 use Rattle.pm_model_folder.specs.Ledger.{Advances, HasNamedNone, IsKnown, Past, Stands, count_of}
 use Rattle.pm_model_folder.specs.Meaning.{SnapshotAt}
 use Rattle.pm_read_table.specs.Meaning as reader
@@ -25,15 +24,17 @@ use Rattle.pm_read_table.specs.declared.asked.Wanted.TheVariants as wants
 use Rattle.pm_read_table.specs.declared.phase.Phase as view_phase
 use Rattle.pm_read_table.specs.declared.phase.Phase.TheVariants as readers
 use Rattle.pm_read_table.specs.declared.view.View.{View}
-use Rattle.pm_write.specs.Batch.{Groups, IsBatchOf}
-use Rattle.pm_append.specs.Commit.{Attempt, HasAppended, MakesNames}
-use Rattle.pm_append.specs.Files.{IsAppendOf}
-use Rattle.pm_append.specs.Refusals.{refusal_of}
-use Rattle.pm_append.specs.declared.newest.Author.{Author}
+use Rattle.pm_made.specs.Commit.{Attempt, MakesNames}
+use Rattle.pm_made.specs.Files.{IsMadeOf}
+use Rattle.pm_made.specs.Intent.{Means}
+use Rattle.pm_made.specs.Refusals.{refusal_of}
+use Rattle.pm_made.specs.declared.newest.Author.{Author}
+use Rattle.pm_made.specs.declared.newest.Newest.{Newest}
+use Rattle.pm_append.specs.Commit.{HasAppended}
 use Rattle.pm_put.specs.declared.putting.CommitFile.{CommitFile}
 use Rattle.pm_commit.specs.Committer.{IsCommitter, Reads, found_in, put_of}
 use Rattle.pm_commit.specs.Marks.{FindsUsed}
-use Rattle.pm_commit.specs.Own.{OwnView, actor_of, tries}
+use Rattle.pm_commit.specs.Own.{IsAppend, OwnView, actor_of, tries}
 use Rattle.pm_commit.specs.Search.{seen_of}
 use Rattle.pm_commit.specs.declared.search.Seen.TheVariants as seen
 use Rattle.pm_commit.specs.declared.found.Found.{Found}
@@ -51,20 +52,6 @@ own_in (phases.Put own s id m) = Some own
 own_in (phases.Committed author id) = None
 own_in (phases.Already author) = None
 own_in phases.Over = None
-
--- the entry appends rows, for a user with an identifier
-abbrev pub IsAppendFor : List ℕ → ℤ → Entry → Type 0
-IsAppendFor user identifier e = e ≡ append user identifier (entry_rows e)
-
--- the entry appends rows of the table, for a user with an identifier, and this is their batch
-pub record AppendsBatch (s : TableSchema) (user : List ℕ) (identifier : ℤ) (batch : Groups) (e : Entry) : Type 0 where
-  pub is : IsAppendFor user identifier e
-  pub fit : AllByRecursion (IsRowOf s) (entry_rows e)
-  pub groups : IsBatchOf s (entry_rows e) batch
-
--- the entry is the one that a commit adds, by its author and by what it is for
-abbrev pub Means : TableSchema → Author → Groups → Entry → Type 0
-Means s author batch e = AppendsBatch s author.user author.identifier batch e
 
 -- the history stays, or the entry is added to it
 abbrev pub Appends : Entry → History → History → Type 0
@@ -86,11 +73,12 @@ MakesEntry e m f p after later = MakesIn (own_in m) e f p after later
 
 -- ---- what it knows
 
--- The entry is the commit's; the actor's names may stand in paths, and no known snapshot names a file that it named;
--- and its base is a snapshot's that was committed.
+-- The entry is the commit's, and appends rows: nothing else is known to be committed yet. The actor's names may stand in
+-- paths, and no known snapshot names a file that it named; and its base is a snapshot's that was committed.
 pub record KnowsOwn (own : OwnView) (e : Entry) (s : TableSchema) (p : Past) : Type 0 where
   pub is_table : IsTableOf s p.history
-  pub means : Means s own.author own.batch e
+  pub appends : IsAppend own.intent
+  pub means : Means s own.author own.intent e
   pub may : MayName own.names
   pub unnamed : HasNamedNone (actor_of own) p
   pub from : own.author.base ≤ count_of p.history
@@ -121,13 +109,12 @@ AreThere own f p done = IsFenced own.author.base p.history ⊎ AllByRecursion (I
 pub record KnowsTry (own : OwnView) (e : Entry) (s : TableSchema) (id : ℕ) (m : put_phase.Phase) (f : Files) (p : Past)
     : Type 0 where
   pub attempt : Attempt
-  pub same_rows : attempt.rows ≡ entry_rows e
-  pub same_batch : attempt.batch ≡ own.batch
+  pub same_intent : attempt.intent ≡ own.intent
   pub same_author : attempt.author ≡ own.author
   pub found : IsFoundIn p (record { schema = s; newest = attempt.newest })
   pub names : MakesNames (actor_of own) attempt
-  pub made : IsAppendOf s attempt.newest attempt.author attempt.batch attempt.names attempt.made
-  pub allowed : refusal_of attempt.newest attempt.author attempt.batch ≡ None
+  pub made : IsMadeOf s attempt.newest attempt.author attempt.intent attempt.names attempt.made
+  pub allowed : refusal_of attempt.newest attempt.author attempt.intent ≡ None
   pub is : id ≡ attempt.made.id
   pub put : IsAt (put_of s attempt.made) (AreThere own f p) m
 
@@ -136,18 +123,23 @@ abbrev pub HasEntry : Entry → ℕ → Past → Type 0
 HasEntry e id p = (s : TableSchema) × (before after : List Entry)
     × (p.history ≡ table s (before ++ e ∷ after)) × (id ≡ length before + 1)
 
--- The snapshot with this id is the commit's: the history has its entry, which is an append of its author, and, as the
--- snapshot stood, it was to its last field the one that appends the entry's rows to the snapshot before it, which a try
--- had found.
+-- The snapshot after the newest is there, and to its last field it is the one that adds the entry for the author. Only
+-- appends are committed.
+abbrev pub HasAdded : Files → TableSchema → Newest → Author → Entry → Type 0
+HasAdded f s newest author (append user identifier rows) =
+    (user ≡ author.user) × (identifier ≡ author.identifier) × HasAppended f s newest author (length rows)
+HasAdded f s newest author other = ⊥
+
+-- The snapshot with this id is the commit's: the history has its entry, and, as the snapshot stood, it was to its last
+-- field the one that adds the entry for its author to the snapshot before it, which a try had found.
 pub record HasCommitted (author : Author) (e : Entry) (id : ℕ) (p : Past) : Type 0 where
-  pub by : IsAppendFor author.user author.identifier e
   pub entry : HasEntry e id p
   pub known : IsKnown p id
   pub found : Found
   pub is_found : IsFoundIn p found
   pub is_table : IsTableOf found.schema p.history
   pub next : id ≡ found.newest.id + 1
-  pub stood : HasAppended (p.stood id) found.schema found.newest author (length (entry_rows e))
+  pub stood : HasAdded (p.stood id) found.schema found.newest author e
 
 -- a snapshot that was committed bore, as it stood, the author's user and an identifier that isn't smaller
 pub record HasEarlier (author : Author) (p : Past) : Type 0 where
@@ -193,7 +185,7 @@ IsMet own f path =
 abbrev pub IsDenied : OwnView → Past → Refusal → Type 0
 IsDenied own p refusal = (found : Found) × (base : ℕ) × IsFoundIn p found
     × (((own.lost ≡ []) × (base ≡ found.newest.id)) ⊎ (base ≡ own.author.base))
-    × (refusal_of found.newest (record own.author { base = base }) own.batch ≡ Some refusal)
+    × (refusal_of found.newest (record own.author { base = base }) own.intent ≡ Some refusal)
 
 -- The refusals that answers show where the files stand, whatever others do. No file is damaged.
 abbrev pub MayRefuseOwn : OwnView → Files → Past → Refusal → Type 0
@@ -201,6 +193,7 @@ MayRefuseOwn own f p refusals.Memory = Unit {0}
 MayRefuseOwn own f p (refusals.Expired id) = reader.IsExpired f p id
 MayRefuseOwn own f p (refusals.SessionUsed path) = IsMet own f path
 MayRefuseOwn own f p (refusals.Fenced base fence) = IsDenied own p (refusals.Fenced base fence)
+MayRefuseOwn own f p (refusals.CompactTaken file) = IsDenied own p (refusals.CompactTaken file)
 MayRefuseOwn own f p (refusals.Limit which number) = IsDenied own p (refusals.Limit which number)
 MayRefuseOwn own f p (refusals.Contended ids) = (id : ℕ) × (ids ≡ own.lost ++ id ∷ []) × (length ids ≡ tries)
 MayRefuseOwn own f p other = ⊥

@@ -1,35 +1,36 @@
 -- What a commit is made of, and by whom.
 use Rattle.std.specs.Prelude.{◌≡◌, ℕ, ℤ, ◌+◌, ◌*◌, ◌<◌, ◌≤◌, ◌^◌, List, [], ◌∷◌, ◌++◌, length, map, Bool}
-use Rattle.std.specs.List.{AllByRecursion}
 use Rattle.pm_values.specs.Names.{Naming, based}
 use Rattle.pm_values.specs.declared.group.Group.{Group}
-use Rattle.pm_schema.specs.Folder.{FitsPartition}
 use Rattle.pm_schema.specs.declared.schema.TableSchema.{TableSchema}
 use Rattle.pm_model_folder.specs.Changes.{Actor}
 use Rattle.pm_write.specs.Batch.{GroupRows, Groups}
+use Rattle.pm_made.specs.Intent.{FitsGroups, IsMadeFor, most_files}
+use Rattle.pm_made.specs.declared.intent.Intent.{Intent}
+use Rattle.pm_made.specs.declared.intent.Intent.TheVariants as intents
+use Rattle.pm_made.specs.declared.newest.Author.{Author}
 use Rattle.pm_append.specs.Commit.{IsBuilt}
-use Rattle.pm_append.specs.declared.newest.Author.{Author}
 
--- what is appended and by whom, whether an earlier commit of the user is looked for, the maker of names, and the ids
--- that tries lost to others
+-- what a commit is for and by whom, whether an earlier commit of the user is looked for, the maker of names, and the
+-- ids that tries lost to others
 pub record OwnView : Type 0 where
-  pub batch : Groups
+  pub intent : Intent
   pub author : Author
   pub check : Bool
   pub names : Naming
   pub lost : List ℕ
 
-abbrev pub own_of : Groups → Author → Bool → Naming → List ℕ → OwnView
-own_of batch author check names lost =
-    record { batch = batch; author = author; check = check; names = names; lost = lost }
+abbrev pub own_of : Intent → Author → Bool → Naming → List ℕ → OwnView
+own_of intent author check names lost =
+    record { intent = intent; author = author; check = check; names = names; lost = lost }
 
 -- an author whose first try hasn't read a snapshot yet
 abbrev pub new_author : List ℕ → ℤ → ℤ → Author
 new_author user identifier time = record { user = user; identifier = identifier; base = 0; time = time }
 
--- before the first try
+-- a commit that appends a batch, before its first try
 abbrev pub new_own : Groups → Author → Bool → Naming → OwnView
-new_own batch author check names = own_of batch author check (based 0 names) []
+new_own batch author check names = own_of (intents.Append batch) author check (based 0 names) []
 
 -- the actor that makes the names
 abbrev pub actor_of : OwnView → Actor
@@ -56,31 +57,43 @@ with_named count own = record own { names = record own.names { count = count } }
 abbrev pub counts_of : Groups → List (Group × ℕ)
 counts_of batch = map (λ (e : Group × GroupRows). (e.0, e.1.count)) batch
 
--- Two commits of one author and one maker of names, after the same tries, with as many rows of each group. They may
--- differ in how the rows are stored.
+-- two appends have as many rows of each group; two others are one
+abbrev pub AreAlikeFor : Intent → Intent → Type 0
+AreAlikeFor (intents.Append batch) (intents.Append more) = counts_of batch ≡ counts_of more
+AreAlikeFor one other = one ≡ other
+
+-- Two commits of one author and one maker of names, after the same tries, for the same or with as many rows of each
+-- group. They may differ in how the rows are stored.
 pub record AreAlike (one other : OwnView) : Type 0 where
   pub author : one.author ≡ other.author
   pub check : one.check ≡ other.check
   pub names : one.names ≡ other.names
   pub lost : one.lost ≡ other.lost
-  pub counts : counts_of one.batch ≡ counts_of other.batch
+  pub counts : AreAlikeFor one.intent other.intent
 
--- how many tries there are, and how many files a try makes at most
+-- how many tries there are
 abbrev pub tries : ℕ
 tries = 11
 
-abbrev pub most_files : ℕ
-most_files = 5
+-- rows are appended
+abbrev pub IsAppend : Intent → Type 0
+IsAppend (intents.Append batch) = Unit {0}
+IsAppend other = ⊥
 
--- A commit of a table that is built, after so many tries that took names: its batch is one of some rows, its base is
--- that of its names, and there are names and tries enough.
+-- the greatest number of files that a try may make
+abbrev pub most_of_files : ℕ
+most_of_files = 2 ^ 40
+
+-- A commit of a table that is built, after so many tries that took names: it is one that is made, its groups fit the
+-- table, its base is that of its names, and there are names and tries enough.
 pub record IsOwnAfter (tried : ℕ) (s : TableSchema) (own : OwnView) : Type 0 where
   pub built : IsBuilt s
-  pub folders : AllByRecursion (λ (e : Group × GroupRows). FitsPartition s e.0) own.batch
-  pub one_group : length own.batch ≡ 1
+  pub made_for : IsMadeFor own.intent
+  pub fits : FitsGroups s own.intent
+  pub few : most_files own.intent ≤ most_of_files
   pub same_base : own.names.base ≡ own.author.base
   pub within : length own.lost < tries
-  pub named : own.names.count ≤ 2 ^ 61 + most_files * tried
+  pub named : own.names.count ≤ 2 ^ 61 + most_of_files * tried
 
 -- a commit before a try has named its files, and once it has
 abbrev pub IsOwn : TableSchema → OwnView → Type 0

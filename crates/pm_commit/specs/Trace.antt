@@ -19,10 +19,10 @@ use Rattle.pm_read_schema.specs.Trace.{Names}
 use Rattle.pm_read_table.specs.Trace as reader
 use Rattle.pm_read_table.specs.Trace.{read_file}
 use Rattle.pm_read_table.specs.declared.view.View.{View}
-use Rattle.pm_append.specs.Files.{IsAppendOf}
-use Rattle.pm_append.specs.Refusals.{refusal_of}
-use Rattle.pm_append.specs.declared.newest.Append.{Append}
-use Rattle.pm_append.specs.declared.newest.Author.{Author}
+use Rattle.pm_made.specs.Files.{IsMadeOf}
+use Rattle.pm_made.specs.Refusals.{refusal_of}
+use Rattle.pm_made.specs.declared.newest.Author.{Author}
+use Rattle.pm_made.specs.declared.newest.Made.{Made}
 use Rattle.pm_commit.specs.Committer.{found_in, manifests_call, newest_in, newest_of, next_call, put_of}
 use Rattle.pm_commit.specs.Marks.{FindsUsed}
 use Rattle.pm_commit.specs.Own.{OwnView, begun, tries, with_lost, with_named}
@@ -83,51 +83,54 @@ HasSearch s o v Ended own = (views searches : List Event) × Views s v views × 
     × (own ≡ views ++ searches)
 
 -- A try up to now: the view and the search, what was made of them, and the calls of its putter, which are these.
-pub record HasTry (s : TableSchema) (o : OwnView) (v : View) (made : Append) (Puts : List Event → Type 0)
+pub record HasTry (s : TableSchema) (o : OwnView) (v : View) (made : Made) (Puts : List Event → Type 0)
     (own : List Event) : Type 0 where
   pub searches : List Event
   pub puts : List Event
   pub searched : HasSearch s o v MayCommit searches
-  pub is_made : IsAppendOf s (newest_in v) (begun v.id o).author (begun v.id o).batch (begun v.id o).names made
-  pub allowed : refusal_of (newest_in v) (begun v.id o).author (begun v.id o).batch ≡ None
+  pub is_made : IsMadeOf s (newest_in v) (begun v.id o).author (begun v.id o).intent (begun v.id o).names made
+  pub allowed : refusal_of (newest_in v) (begun v.id o).author (begun v.id o).intent ≡ None
   pub put_so : Puts puts
   pub is : own ≡ searches ++ puts
 
 -- ---- all tries
 
 -- the commit once a try has named its files, and once that was lost
-abbrev pub named_by : OwnView → View → Append → OwnView
+abbrev pub named_by : OwnView → View → Made → OwnView
 named_by o v made = with_named ((begun v.id o).names.count + length made.files.items) (begun v.id o)
 
-abbrev pub lost_by : OwnView → View → Append → OwnView
+abbrev pub lost_by : OwnView → View → Made → OwnView
 lost_by o v made = with_lost made.id (named_by o v made)
 
 -- a try whose putter came so far
-abbrev pub HasPut : TableSchema → OwnView → View → Append → put_phase.Phase → List Event → Type 0
+abbrev pub HasPut : TableSchema → OwnView → View → Made → put_phase.Phase → List Event → Type 0
 HasPut s o v made m own = HasTry s o v made (put.Did (put_of s made) m) own
 
 -- a try was made, and its publish lost
-abbrev pub LosesTry : TableSchema → OwnView → View → Append → List Event → Type 0
+abbrev pub LosesTry : TableSchema → OwnView → View → Made → List Event → Type 0
 LosesTry s o v made own = HasPut s o v made puts.Lost own
 
--- The manifests were listed and had no name of the actor's, and then each try was lost, and a try is left: this is the
--- commit after them.
-pub data HaveLost (s : TableSchema) (first : OwnView) : OwnView → List Event → Type 0 where
-  has_listed : (names : Names) → FindsUsed first.names names.items None
-      → HaveLost s first first (listed_manifests names ∷ [])
-  has_lost : (o : OwnView) (v : View) (made : Append) (earlier later : List Event) → length o.lost + 1 < tries
-      → HaveLost s first o earlier → LosesTry s o v made later → HaveLost s first (lost_by o v made) (earlier ++ later)
+-- a commit begins: the manifests were listed and had no name of the actor's
+abbrev pub HasListed : OwnView → OwnView → List Event → Type 0
+HasListed first o own = (o ≡ first) × (names : Names) × FindsUsed first.names names.items None
+    × (own ≡ listed_manifests names ∷ [])
+
+-- A commit began so, and then each try was lost, and a try is left: this is the commit after them.
+pub data HaveLost (s : TableSchema) (Begins : OwnView → List Event → Type 0) : OwnView → List Event → Type 0 where
+  has_begun : (o : OwnView) (own : List Event) → Begins o own → HaveLost s Begins o own
+  has_lost : (o : OwnView) (v : View) (made : Made) (earlier later : List Event) → length o.lost + 1 < tries
+      → HaveLost s Begins o earlier → LosesTry s o v made later → HaveLost s Begins (lost_by o v made) (earlier ++ later)
 
 -- and then came these calls of one more try
 abbrev pub AfterLost : TableSchema → OwnView → (OwnView → List Event → Type 0) → List Event → Type 0
-AfterLost s first Tried own = (o : OwnView) × (earlier later : List Event) × HaveLost s first o earlier
+AfterLost s first Tried own = (o : OwnView) × (earlier later : List Event) × HaveLost s (HasListed first) o earlier
     × Tried o later × (own ≡ earlier ++ later)
 
 -- ---- what they show
 
 -- the snapshot was published, with all files of its try
 abbrev pub Commits : TableSchema → Author → ℕ → OwnView → List Event → Type 0
-Commits s author id o own = (v : View) × (made : Append) × (author ≡ (begun v.id o).author) × (id ≡ made.id)
+Commits s author id o own = (v : View) × (made : Made) × (author ≡ (begun v.id o).author) × (id ≡ made.id)
     × HasPut s o v made puts.Published own
 
 -- the user had committed this before: its last commit that was found has no smaller identifier
@@ -137,7 +140,7 @@ FindsDone s author o own = (v : View) × (author ≡ (begun v.id o).author)
 
 -- a create met a file of the try
 abbrev pub MeetsFile : TableSchema → List ℕ → OwnView → List Event → Type 0
-MeetsFile s path o own = (v : View) × (made : Append) × HasTry s o v made (put.MeetsFile (put_of s made) path) own
+MeetsFile s path o own = (v : View) × (made : Made) × HasTry s o v made (put.MeetsFile (put_of s made) path) own
 
 -- a file of the actor's name was there before: one that was listed, or one that a create met
 abbrev pub IsUsed : TableSchema → OwnView → List ℕ → List Event → Type 0
@@ -148,7 +151,7 @@ IsUsed s first path own =
 -- there is a reason against the commit in what a try found
 abbrev pub FindsReason : TableSchema → Refusal → OwnView → List Event → Type 0
 FindsReason s refusal o own = (v : View)
-    × (refusal_of (newest_in v) (begun v.id o).author (begun v.id o).batch ≡ Some refusal)
+    × (refusal_of (newest_in v) (begun v.id o).author (begun v.id o).intent ≡ Some refusal)
     × HasSearch s o v MayCommit own
 
 -- the file of an older snapshot has no snapshot's bytes
@@ -159,7 +162,7 @@ Misreads s path place o own = (v : View) × (id : ℕ) × (left bytes : List ℕ
 
 -- the last try was lost, and these ids were with it
 abbrev pub LosesLast : TableSchema → List ℕ → OwnView → List Event → Type 0
-LosesLast s ids o own = (v : View) × (made : Append) × LosesTry s o v made own × (length o.lost + 1 ≡ tries)
+LosesLast s ids o own = (v : View) × (made : Made) × LosesTry s o v made own × (length o.lost + 1 ≡ tries)
     × (ids ≡ o.lost ++ made.id ∷ [])
 
 -- eleven tries were lost
@@ -172,7 +175,7 @@ DidInTry s (phases.Names o t) p own = ⊥
 DidInTry s (phases.View o m) p own = (o ≡ p) × reader.Did (newest_of s) m own
 DidInTry s (phases.Search o q) p own = (v : View) × (o ≡ begun v.id p) × (q.found ≡ found_in v)
     × HasSearch s p v (λ p v. Searched p v (q.id ∷ q.left)) own
-DidInTry s (phases.Put o t id m) p own = (v : View) × (made : Append) × (o ≡ named_by p v made) × (t ≡ s)
+DidInTry s (phases.Put o t id m) p own = (v : View) × (made : Made) × (o ≡ named_by p v made) × (t ≡ s)
     × (id ≡ made.id) × HasPut s p v made m own
 DidInTry s (phases.Committed author id) p own = Commits s author id p own
 DidInTry s (phases.Already author) p own = FindsDone s author p own
@@ -197,6 +200,7 @@ ShowsOwn s first (refusals.SessionUsed path) own = IsUsed s first path own
 ShowsOwn s first (refusals.Contended ids) own = IsContended s first ids own
 ShowsOwn s first (refusals.Damaged path place) own = AfterLost s first (Misreads s path place) own
 ShowsOwn s first (refusals.Fenced base fence) own = AfterLost s first (FindsReason s (refusals.Fenced base fence)) own
+ShowsOwn s first (refusals.CompactTaken file) own = AfterLost s first (FindsReason s (refusals.CompactTaken file)) own
 ShowsOwn s first (refusals.Limit which number) own = AfterLost s first (FindsReason s (refusals.Limit which number)) own
 ShowsOwn s first other own = ⊥
 

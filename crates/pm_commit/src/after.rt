@@ -21,9 +21,9 @@ use crate::own::Own;
 use crate::phase::Phase;
 use crate::put::put;
 use crate::search::{Searching, Seen, older_ids, seen_in, seen_of};
-use pm_append::Newest;
 use pm_base::{Blob, Txt};
 use pm_machine::Machine;
+use pm_made::Newest;
 use pm_manifest::read_entry_law;
 use pm_paths::snapshot_path;
 use pm_read_table::{View, ViewReader, into_view, is_view_ready, newest_entries};
@@ -240,7 +240,7 @@ fn make(alloc: Global, own: Own, found: Found) -> Result<Phase, Refusal>
     ensures { Makes own found result }
 {
     let mut own = own;
-    let made = own.append(alloc, &found);
+    let made = own.make(alloc, &found);
     let Found { schema, newest } = found;
     drop(newest);
     match made {

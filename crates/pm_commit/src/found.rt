@@ -1,6 +1,6 @@
 //! A table as a try finds it.
 
-use pm_append::Newest;
+use pm_made::Newest;
 use pm_schema::TableSchema;
 
 /// The table's schema, and its newest snapshot.

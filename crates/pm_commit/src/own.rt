@@ -4,17 +4,17 @@ ghost use Rattle.std.specs.Prelude.{◌≡◌};
 ghost use Rattle.pm_commit.specs.Own.{begun, new_author, new_own};
 
 use crate::lost::Lost;
-use pm_append::Author;
 use pm_base::Txt;
+use pm_made::{Author, Intent};
 use pm_values::Names;
 use pm_write::Batch;
 use std::marker::Model;
 
-/// What is appended and by whom, whether an earlier commit of the user is looked for, the maker of names, and the ids
-/// that tries lost to others.
+/// What a commit is for and by whom, whether an earlier commit of the user is looked for, the maker of names, and the
+/// ids that tries lost to others.
 #[derive(Drop)]
 pub struct Own {
-    pub(crate) batch: Batch,
+    pub(crate) intent: Intent,
     pub(crate) author: Author,
     pub(crate) check: bool,
     pub(crate) names: Names,
@@ -26,11 +26,11 @@ impl Model for Own {
 
     ghost Value = { OwnView };
 
-    ghost view = { λ o. own_of o.batch o.author o.check o.names o.lost };
+    ghost view = { λ o. own_of o.intent o.author o.check o.names o.lost };
 }
 
 impl Own {
-    /// Before its first try, at that moment.
+    /// A commit that appends a batch, before its first try, at that moment.
     pub(crate) fn new(
         batch: Batch,
         user: Txt,
@@ -44,7 +44,7 @@ impl Own {
         let mut names = names;
         names.set_base(0);
         Own {
-            batch,
+            intent: Intent::Append { batch },
             author: Author {
                 user,
                 identifier,
@@ -72,13 +72,13 @@ impl Own {
         ensures { result ≡ self.author }
     {
         let Own {
-            batch,
+            intent,
             author,
             names,
             lost,
             ..
         } = self;
-        drop(batch);
+        drop(intent);
         drop(names);
         drop(lost);
         author

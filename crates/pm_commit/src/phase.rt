@@ -2,7 +2,7 @@
 
 use crate::own::Own;
 use crate::search::Searching;
-use pm_append::Author;
+use pm_made::Author;
 use pm_put::Putter;
 use pm_read_table::ViewReader;
 use pm_schema::TableSchema;

@@ -16,9 +16,9 @@ use crate::lost::TRIES;
 use crate::own::Own;
 use crate::paths::after_path;
 use crate::phase::Phase;
-use pm_append::Append;
 use pm_base::Blob;
 use pm_machine::Machine;
+use pm_made::Made;
 use pm_paths::snapshot_path;
 use pm_put::{Publishing, PutStep, Putter, new_putter};
 use pm_schema::TableSchema;
@@ -32,13 +32,13 @@ pub(crate) fn put(
     alloc: Global,
     own: Own,
     schema: TableSchema,
-    made: Append,
+    made: Made,
 ) -> Result<Phase, Refusal>
     ensures put { IfOk result (λ phase. phase ≡ phases.Put own schema made.id
         (putters.create_next (publishing_of schema made.id made.text) made.files.items)) }
     ensures memory { IfErr result (λ refusal. refusal ≡ Memory) }
 {
-    let Append { id, files, text } = made;
+    let Made { id, files, text } = made;
     match publishing_of(alloc, &schema, id, text) {
         Ok(publishing) => Ok(Phase::Put {
             own,

@@ -5,7 +5,7 @@ ghost use Rattle.pm_read_table.specs.Reader.{most};
 ghost use Rattle.pm_commit.specs.Search.{older_ids, seen_in, seen_of};
 
 use crate::found::Found;
-use pm_append::Author;
+use pm_made::Author;
 use pm_snapshot::Snapshot;
 use std::collections::VecDeque;
 use std::marker::Model;

@@ -1,5 +1,6 @@
 use Rattle.pm_commit.proofs.CauseLemmas.{caused}
 use Rattle.pm_commit.proofs.Facts.{Laws}
+use Rattle.pm_commit.proofs.StillLemmas.{own-files-of}
 use Rattle.pm_commit.proofs.laws.causes_law.Goals as goal
 
 pub returns : goal.returns
@@ -15,6 +16,6 @@ returns c =
       newest = c.newest_law.ensures;
       unnamed = c.unnamed_law.ensures.here;
       append = c.append_law.ensures;
-      own_files = c.own_files_law.ensures;
+      own_files = own-files-of c.own_files_law.ensures;
     } in
     caused laws c.causes_law.ensures

@@ -1,5 +1,6 @@
 use Rattle.pm_commit.proofs.AloneLemmas.{alone-moves}
 use Rattle.pm_commit.proofs.Facts.{Laws, sound}
+use Rattle.pm_commit.proofs.StillLemmas.{own-files-of}
 use Rattle.pm_commit.proofs.TraceLemmas.{recounts}
 use Rattle.pm_commit.proofs.laws.machine_law.Goals as goal
 
@@ -16,7 +17,7 @@ returns-clause-sound c =
       newest = c.newest_law.ensures;
       unnamed = c.unnamed_law.ensures.here;
       append = c.append_law.ensures;
-      own_files = c.own_files_law.ensures;
+      own_files = own-files-of c.own_files_law.ensures;
     } in
     sound laws
 
@@ -33,7 +34,7 @@ returns-clause-alone c = λ old new before after result stepped b.
       newest = c.newest_law.ensures;
       unnamed = c.unnamed_law.ensures.here;
       append = c.append_law.ensures;
-      own_files = c.own_files_law.ensures;
+      own_files = own-files-of c.own_files_law.ensures;
     } in
     alone-moves laws c.causes_law.ensures c.path_law.ensures b stepped
 

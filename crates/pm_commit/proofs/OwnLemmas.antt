@@ -1,0 +1,57 @@
+-- What a commit is for.
+use Rattle.std.proofs.Common.{◌≡◌, ◌≢◌, ℕ, ◌+◌, Bool, true, false, if◌then◌else◌, List, [], length, Option, None, Some, sym, refl, subst}
+use Rattle.std.specs.List.{AllByRecursion}
+use Rattle.pm_values.specs.declared.refusal.Refusal.{Refusal}
+use Rattle.pm_values.specs.declared.refusal.Refusal.TheVariants as refusals
+use Rattle.pm_model_history.specs.History.{Entry}
+use Rattle.pm_schema.specs.declared.schema.TableSchema.{TableSchema}
+use Rattle.pm_model_folder.specs.Changes.{HavePlainNames}
+use Rattle.pm_write.specs.Batch.{Groups}
+use Rattle.pm_write.specs.Files.{no_sequence}
+use Rattle.pm_made.specs.Intent.{Means, ProducesNone}
+use Rattle.pm_made.specs.Refusals.{above_files, above_id, above_numbers, is_fenced, no_files, no_id, passed, refusal_of}
+use Rattle.pm_made.specs.declared.intent.Intent.{Intent}
+use Rattle.pm_made.specs.declared.intent.Intent.TheVariants as intents
+use Rattle.pm_made.specs.declared.newest.Author.{Author}
+use Rattle.pm_made.specs.declared.newest.Newest.{Newest}
+use Rattle.pm_append.specs.Commit.{IsBuilt}
+use Rattle.pm_commit.specs.Own.{IsAppend}
+
+-- ---- an append
+
+-- it has a batch
+pub batch-in : (intent : Intent) → IsAppend intent → (batch : Groups) × (intent ≡ intents.Append batch)
+batch-in (intents.Append batch) is = (batch, refl)
+batch-in (intents.Compact plan) is = absurd is
+batch-in (intents.Fence number) is = absurd is
+
+-- its entry is the same with another base
+pub based-means : (s : TableSchema) (author : Author) (base : ℕ) (intent : Intent) (e : Entry) → IsAppend intent → Means s author intent e
+    → Means s (record author { base = base }) intent e
+based-means s author base (intents.Append batch) e is means = means
+based-means s author base (intents.Compact plan) e is means = absurd is
+based-means s author base (intents.Fence number) e is means = absurd is
+
+pub none_produced : (s : TableSchema) (intent : Intent) → IsBuilt s → ProducesNone s intent
+none_produced s (intents.Append batch) built = built.no_producer
+none_produced s (intents.Compact plan) built = tt
+none_produced s (intents.Fence number) built = tt
+
+-- and takes no file away, so none was taken
+not-it : (t : Bool) (one it : Refusal) (later : Option Refusal) → (one ≡ it → ⊥) → (later ≡ Some it → ⊥) → (if t then Some one else later) ≡ Some it → ⊥
+not-it true one it later other none e = other (let same : one ≡ it = cc in same)
+not-it false one it later other none e = none e
+
+pub never-taken : (newest : Newest) (author : Author) (batch : Groups) (file : List ℕ)
+    → refusal_of newest author (intents.Append batch) ≡ Some (refusals.CompactTaken file) → ⊥
+never-taken newest author batch file =
+    let it : Refusal = refusals.CompactTaken file in
+    not-it (is_fenced newest author) (passed newest author) it _ (λ e. cc)
+    (not-it (above_files (length newest.live.items + length batch)) no_files it _ (λ e. cc)
+    (not-it (above_numbers newest.live.items batch) no_sequence it _ (λ e. cc)
+    (not-it (above_id newest.id) no_id it None (λ e. cc) (λ e. cc))))
+
+-- ---- a table that is built
+
+pub plain-names : (s : TableSchema) → IsBuilt s → HavePlainNames s
+plain-names s built = subst (λ (names : List (List ℕ)). AllByRecursion (AllByRecursion (λ (c : ℕ). c ≢ 47)) names) (sym built.no_partition) tt
