@@ -1,5 +1,0 @@
-use Rattle.pm_compactor.proofs.StoredLemmas.{taken-stored}
-use Rattle.pm_compactor.proofs.laws.stored_law.Goals as goal
-
-pub returns : goal.returns
-returns c = taken-stored c.merged_law.ensures.found c.own_kind_law.ensures
