@@ -11,13 +11,13 @@ use Rattle.pm_engine.specs.Meaning.{Meaning}
 use Rattle.pm_merge.specs.Merge.{IsMerge, without_droppable}
 use Rattle.pm_merge.specs.Merging.{GivesAll, GivesLeast, HasLeft, HaveNoRow, first_refusal, runs_in}
 use Rattle.pm_merge.specs.Source.{Rest}
-use Rattle.pm_run.specs.Row.{IsOfFile}
-use Rattle.pm_run.specs.Writing.{AreFilesOf, AreRising, IsFileWith, IsRun, bytes_of, data_prefix, suffix}
+use Rattle.pm_run.specs.Writing.{AreFilesOf, IsFileWith, data_prefix, suffix}
 use Rattle.pm_run.specs.declared.run.RunFile.{RunFile}
-use Rattle.pm_run_writer.specs.Written.{HasAdded, HasEnded, HasFinished, HasInHand, HasNames}
+use Rattle.pm_run_writer.specs.Written.{HasAdded, HasEnded, HasFinished, HasInHand}
 use Rattle.pm_compact.specs.Rewriting.{AreAsked, Asked, GivesFile, HasGiven, IsFull}
 use Rattle.pm_compact.specs.Rewritten.{kept_rows, most_in_file}
 use Rattle.pm_compact.specs.declared.rewriting.Rewriting.{Rewriting}
+use Rattle.pm_compact.proofs.OwnRowsLemmas.{ReadsFiles, read_whole}
 use Rattle.pm_compact.proofs.ReadLemmas.{OwnKinds, StoredAgain}
 use Rattle.pm_compact.proofs.RewriteLemmas.{kept_push, kept_readable, kept_rises}
 
@@ -64,11 +64,6 @@ kept_most m true x =
 kept_most m false x = omega arith
 
 -- ---- what the crates below prove
-
--- files of rows are read as one run
-abbrev pub ReadsFiles : Type 0
-ReadsFiles = (s : TableSchema) (limit level : ℕ) (names : Naming) (rows : List Stamped) (files : List RunFile) → HasNames s → 1 ≤ limit → AreFilesOf s limit level names rows files
-    → AllByRecursion (IsOfFile s false) rows → AreRising rows → IsRun s (bytes_of files) rows
 
 -- without the droppable rows a run rises still
 abbrev pub KeptRises : Type 0
@@ -201,7 +196,7 @@ module _ {S : Type 0} (m : Meaning) (rest : S → Rest) (asked : Asked) (given :
         is = (h.run, merge, refl);
         files = files;
         again = λ table stored numbered.
-            reads asked.schema most_in_file asked.level asked.names (kept_rows m asked.drop h.run) given h.hand.names (omega arith) files
+            read_whole reads asked.schema asked.level asked.names (kept_rows m asked.drop h.run) given h.hand.names files
             (kept_readable own again asked.schema m asked.drop (runs_in asked.rests) h.run merge table stored numbered) (kept_rises rises m asked.drop h.run merge.rising);
         ends = (h.run, h.left, h.gave, none, well);
       }

@@ -1,4 +1,5 @@
 mod GivenLemmas
 mod LawLemmas
+mod OwnRowsLemmas
 mod ReadLemmas
 mod RewriteLemmas

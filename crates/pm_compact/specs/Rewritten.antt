@@ -1,5 +1,5 @@
 -- The files of the run that a group's runs become.
-use Rattle.std.specs.Prelude.{◌≡◌, ℕ, ◌≤◌, List, Bool, true, false, None, Some}
+use Rattle.std.specs.Prelude.{◌≡◌, ℕ, ◌≤◌, List, [], ◌∷◌, take, drop, Bool, true, false, None, Some}
 use Rattle.std.specs.List.{AllByRecursion}
 use Rattle.pm_schema.specs.declared.schema.TableSchema.{TableSchema}
 use Rattle.pm_values.specs.Names.{Naming}
@@ -14,6 +14,7 @@ use Rattle.pm_merge.specs.Merge.{AreStored, IsMerge, all_rows, without_droppable
 use Rattle.pm_merge.specs.Merging.{GivesAll, HaveNoRow, first_refusal, runs_in}
 use Rattle.pm_merge.specs.Source.{Rest}
 use Rattle.pm_run.specs.Row.{most_sequence}
+use Rattle.pm_run.specs.Rows.{HasRows}
 use Rattle.pm_run.specs.Writing.{AreFilesOf, IsRun, bytes_of}
 use Rattle.pm_run.specs.declared.run.RunFile.{RunFile}
 
@@ -47,13 +48,20 @@ EndsWell m rests = (run : Run) × (last : List Rest) × GivesAll m rests run las
 abbrev pub RefusesAfter : Meaning → List Rest → Refusal → Type 0
 RefusesAfter m rests e = (run : Run) × (last : List Rest) × GivesAll m rests run last × (first_refusal last ≡ Some e)
 
+-- each file is read as the next rows of a run: as many as a file may have, or all that are left
+abbrev pub HaveOwnRows : TableSchema → List RunFile → Run → Type 0
+HaveOwnRows s [] rows = rows ≡ []
+HaveOwnRows s (f ∷ files) rows =
+    HasRows s false f.bytes (take most_in_file rows) × HaveOwnRows s files (drop most_in_file rows)
+
 -- The files of the run that the rests become, the oldest first, of a table at a level, with names from the next on. No
--- rest had a refusal. Where the runs were of stored rows of the table, the files are read as that run.
+-- rest had a refusal. Where the runs were of stored rows of the table, the files are read as that run, each of them as
+-- its own rows.
 pub record AreRewritten (s : TableSchema) (m : Meaning) (drop : Bool) (level : ℕ) (names : Naming)
     (rests : List Rest) (made : List RunFile) : Type 0 where
   pub run : Run
   pub is : IsRewritten m drop (runs_in rests) run
   pub files : AreFilesOf s most_in_file level names run made
   pub again : m ≡ meaning_of s → AreStored m (runs_in rests) → HaveFileNumbers (runs_in rests)
-      → IsRun s (bytes_of made) run
+      → IsRun s (bytes_of made) run × HaveOwnRows s made run
   pub ends : EndsWell m rests
