@@ -1,0 +1,86 @@
+-- What a plan shows of its commit: the files that were made are the actor's, and the count that it bears is within that of the newest snapshot.
+use Rattle.std.proofs.Common.{◌≡◌, ℕ, ◌≤◌, List, ◌++◌, length, Contains, sym, ap, subst, ◌∙◌, append-nil, arith}
+use Rattle.std.specs.List.{AllByRecursion}
+use Rattle.pm_store.specs.Files.{Files}
+use Rattle.pm_model_history.specs.History.{Entry, History, table}
+use Rattle.pm_schema.specs.declared.schema.TableSchema.{TableSchema}
+use Rattle.pm_run.specs.declared.run.RunFile.{RunFile}
+use Rattle.pm_snapshot.specs.declared.snapshot.Snapshot.{Snapshot}
+use Rattle.pm_manifest.specs.declared.entry.Entry as files
+use Rattle.pm_model_contents.specs.Runs.{data_path}
+use Rattle.pm_model_folder.specs.Changes.{Actor, HavePlainNames, IsOwnFile}
+use Rattle.pm_model_folder.specs.Folder.{Folder, HasTable}
+use Rattle.pm_model_folder.specs.Ledger.{Past, Stands}
+use Rattle.pm_model_folder.specs.Meaning.{SnapshotAt}
+use Rattle.pm_model_folder.proofs.HoldLemmas.{OneContents, SameContents}
+use Rattle.pm_model_folder.proofs.LedgerFacts.{count-is}
+use Rattle.pm_put.specs.declared.putting.CommitFile.{CommitFile}
+use Rattle.pm_compact.specs.Rewritten.{most_in_file}
+use Rattle.pm_choice.specs.Choice.{live_entry}
+use Rattle.pm_made.specs.Commit.{Attempt, AreOwnFiles, IsFullWithin, IsNewestOf}
+use Rattle.pm_made.specs.Intent.{given_files}
+use Rattle.pm_made.specs.declared.intent.Intent.{Intent}
+use Rattle.pm_made.specs.declared.intent.Intent.TheVariants as intents
+use Rattle.pm_made.specs.declared.intent.Plan.{Plan}
+use Rattle.pm_made.specs.declared.newest.Newest.{Newest}
+use Rattle.pm_made.proofs.ListLemmas.{all-of, each-of, in-map}
+use Rattle.pm_compaction.specs.Plan.{IsRewrittenAt, KnowsPlan, comes_of}
+use Rattle.pm_compaction.proofs.ListLemmas.{in-flat}
+use Rattle.pm_compaction.proofs.MadeLemmas.{named-file, own-file}
+use Rattle.pm_compaction.proofs.NewestLemmas.{OneRuns, found, found-appends, stood}
+
+-- ---- whose files they are
+
+module _ (me : Actor) (s : TableSchema) (plain : HavePlainNames s) (base : ℕ) (plan : Plan) (given : List CommitFile) (p : Past) (knows : KnowsPlan me s base plan given p) where
+  own-entry : (e : files.Entry) → Contains plan.added.items e → IsOwnFile me base (data_path s e.group e.file.name)
+  own-entry e h =
+      let (x, there, own) = in-flat (comes_of s) knows.groups e (subst (λ (es : List files.Entry). Contains es e) knows.comes h) in
+      let (file, has, same) = in-map (λ (f : RunFile). live_entry s x.group f.meta) x.files e own in
+      let is = each-of (IsRewrittenAt me s base p) knows.groups x knows.each there in
+      let (k, within, name) = named-file s most_in_file x.taking.out x.names is.made.run x.files file is.made.files has in
+      subst (λ (e : files.Entry). IsOwnFile me base (data_path s e.group e.file.name)) same
+      (own-file me base (length x.files) x.names is.names s x.group file.meta.name k plain within name)
+
+  pub own-files : AllByRecursion (λ (e : files.Entry). IsOwnFile me base (data_path s e.group e.file.name)) (given_files (intents.Compact plan))
+  own-files = subst (AllByRecursion (λ (e : files.Entry). IsOwnFile me base (data_path s e.group e.file.name)))
+      (sym (ap (λ (es : List files.Entry). plan.added.items ++ es) knows.untold ∙ append-nil plan.added.items))
+      (all-of (λ (e : files.Entry). IsOwnFile me base (data_path s e.group e.file.name)) plan.added.items own-entry)
+
+pub attempt-own : (me : Actor) (s : TableSchema) (t : Attempt) (plan : Plan) (given : List CommitFile) (p : Past) → HavePlainNames s
+    → KnowsPlan me s t.author.base plan given p → t.intent ≡ intents.Compact plan → AreOwnFiles me s t
+attempt-own me s t plan given p plain knows is =
+    subst (λ (i : Intent). AllByRecursion (λ (e : files.Entry). IsOwnFile me t.author.base (data_path s e.group e.file.name)) (given_files i)) (sym is)
+    (own-files me s plain t.author.base plan given p knows)
+
+-- ---- how many appends it bears
+
+-- the count of appends never falls
+abbrev pub AppendsRise : Type 0
+AppendsRise = (f : Files) (p : Past) (s : TableSchema) (entries : List Entry) (early late : ℕ) (x y : Snapshot) → Stands f p → p.history ≡ table s entries
+    → p.since ≤ early → 1 ≤ early → early ≤ late → late ≤ length entries → SnapshotAt (p.stood early) early x → SnapshotAt (p.stood late) late y
+    → x.appends ≤ y.appends
+
+pub base-to : (me : Actor) (s : TableSchema) (entries : List Entry) (base : ℕ) (plan : Plan) (given : List CommitFile) (p : Past)
+    → p.history ≡ table s entries → KnowsPlan me s base plan given p → base ≤ length entries
+base-to me s entries base plan given p was knows = let high = knows.known.to in let many = count-is p s entries was in omega (arith, high, many)
+
+module _ (rise : AppendsRise) (one : OneContents) (same : SameContents) (one_runs : OneRuns) (me : Actor) (f : Files) (p : Past) (s : TableSchema)
+    (entries : List Entry) (newest : Newest) (base : ℕ) (plan : Plan) (given : List CommitFile) (stands : Stands f p) (was : p.history ≡ table s entries)
+    (is : IsNewestOf f s entries newest) (knows : KnowsPlan me s base plan given p) where
+  folder : HasTable f s entries
+  folder = subst (λ (h : History). Folder f h) was stands.folder
+
+  to : base ≤ length entries
+  to = base-to me s entries base plan given p was knows
+
+  some : 1 ≤ length entries
+  some = let least = knows.known.after_origin in omega (arith, least, to)
+
+  pub full-within : IsFullWithin newest.snapshot (intents.Compact plan)
+  full-within appends asked =
+      let (x, at, same_count) = knows.full appends asked in
+      let there = stood one same one_runs f p s entries newest stands was folder is some in
+      let less = rise f p s entries base (length entries) x (found one same one_runs f p s entries newest stands was folder is some).snapshot stands was
+      knows.since knows.known.after_origin to (omega arith) at there.0 in
+      let now = found-appends one same one_runs f p s entries newest stands was folder is some newest.snapshot is.found in
+      omega (arith, same_count, less, now)
