@@ -1,7 +1,7 @@
 //! The lines of an input.
 
 use pm_cases::Case;
-use pm_input::{InputFault, InputLine, Limits, read_lines};
+use pm_input::{InputFault, InputLines, Limits, read_lines};
 use pm_io::MemSource;
 
 /// Limits that a short text exceeds.
@@ -33,11 +33,14 @@ pub fn lines_answer(case: &mut Case, arguments: &str) {
 }
 
 /// Says how many lines there are, and each with its number.
-fn say_input(case: &mut Case, lines: Vec<InputLine>) {
+fn say_input(case: &mut Case, lines: InputLines) {
     case.say_made(format!(in case.alloc(); "{} lines", lines.len()));
-    for line in &lines {
-        case.say_made(format!(in case.alloc(); " {}:", line.number));
-        case.say_quoted_bytes(&line.bytes);
+    let mut left = lines.left();
+    for _ in 0..lines.len() {
+        if let Some(line) = left.next() {
+            case.say_made(format!(in case.alloc(); " {}:", line.number));
+            case.say_quoted_bytes(line.bytes);
+        }
     }
     drop(lines);
 }

@@ -14,7 +14,7 @@ use pm_cases::Case;
 use pm_commit::{CommitStep, Committer, commit_step, new_committer};
 use pm_draft::{built_law, judge_built};
 use pm_engines::{TableEngine, declared_law};
-use pm_input::{InputLine, LIMITS, read_lines, refusal_of};
+use pm_input::{InputLines, LIMITS, read_lines, refusal_of};
 use pm_io::MemSource;
 use pm_read_schema::read_table_schema;
 use pm_schema::TableSchema;
@@ -192,7 +192,7 @@ fn batch_of(alloc: Global, schema: &TableSchema, row: &str) -> Result<Batch, Ref
     ensures some { IfOk result (λ batch. batch ≢ []) }
 {
     let lines = lines_of(alloc, row)?;
-    let batch = read_batch(alloc, schema, &lines)?;
+    let batch = read_batch(alloc, schema, lines)?;
     if batch.is_empty() {
         drop(batch);
         return Err(Refusal::NoTable);
@@ -201,7 +201,7 @@ fn batch_of(alloc: Global, schema: &TableSchema, row: &str) -> Result<Batch, Ref
 }
 
 /// The batch of the rows that the table takes of lines.
-fn read_batch(alloc: Global, schema: &TableSchema, lines: &[InputLine]) -> Result<Batch, Refusal>
+fn read_batch(alloc: Global, schema: &TableSchema, lines: InputLines) -> Result<Batch, Refusal>
     requires { IsBuilt schema.now }
     ensures { IfOk result (λ batch. (rows : List HistoryRow) × IsBatchOf schema.now rows batch) }
 {
@@ -213,7 +213,7 @@ fn read_batch(alloc: Global, schema: &TableSchema, lines: &[InputLine]) -> Resul
 }
 
 /// The lines of a text.
-fn lines_of(alloc: Global, text: &str) -> Result<Vec<InputLine>, Refusal> {
+fn lines_of(alloc: Global, text: &str) -> Result<InputLines, Refusal> {
     let bytes = Vec::from_slice(alloc, text.as_bytes())?;
     let mut source = MemSource::new(bytes, Vec::new(alloc));
     match read_lines(alloc, &mut source, &LIMITS) {

@@ -8,7 +8,6 @@ ghost use Rattle.pm_commit.specs.declared.phase.Phase.TheVariants as phases;
 ghost use Rattle.pm_create.specs.Creator.{actor_of};
 ghost use Rattle.pm_draft.specs.Built.{IsBuilt};
 ghost use Rattle.pm_model_history.specs.Merge.{HistoryRow};
-ghost use Rattle.pm_input.specs.Lines.{line_view};
 ghost use Rattle.pm_io.specs.Sink.{SinkLater};
 ghost use Rattle.pm_machine.specs.Trace.{HasTrace};
 ghost use Rattle.pm_schema.specs.Again.{IsDeclared};
@@ -29,7 +28,7 @@ use pm_base::Txt;
 use pm_command::{Start, judge, print};
 use pm_commit::{Appended, Committer, append_rows, new_committer};
 use pm_engines::{TableEngine, declared_law};
-use pm_input::InputLine;
+use pm_input::InputLines;
 use pm_io::{LineBuffer, Sink, Source};
 use pm_read_schema::read_table_schema;
 use pm_rows::fit_law;
@@ -76,20 +75,20 @@ pub fn run_write<S: Source, W: Sink, F: FileStore>(
         (outside (S.seen input.new) (W.seen out.new) (F.seen store.new)) }
 {
     let lines = read_input(alloc, input)?;
-    write_lines(alloc, writer, &lines, out, store, start)
+    write_lines(alloc, writer, lines, out, store, start)
 }
 
 /// Appends the rows of lines, and says what became of them.
 fn write_lines<W: Sink, F: FileStore>(
     alloc: Global,
     writer: Writer,
-    lines: &[InputLine],
+    lines: InputLines,
     out: &mut W,
     store: &mut F,
     start: &Start,
 ) -> Result<(), Refusal>
-    ensures written { IsWritten start.now writer (map line_view lines.now)
-        (W.seen out.old) (W.seen out.new) (F.seen store.old) (F.seen store.new) (result_err result) }
+    ensures written { IsWritten start.now writer lines (W.seen out.old) (W.seen out.new)
+        (F.seen store.old) (F.seen store.new) (result_err result) }
     ensures out_later { SinkLater (W.seen out.old) (W.seen out.new) }
     ensures store_later { IsLater (F.seen store.old) (F.seen store.new) }
 {
@@ -101,14 +100,12 @@ fn write_lines<W: Sink, F: FileStore>(
 fn append_lines<F: FileStore>(
     alloc: Global,
     writer: Writer,
-    lines: &[InputLine],
+    lines: InputLines,
     store: &mut F,
     start: &Start,
 ) -> Result<Written, Refusal>
-    ensures trace { HasTrace (DidWrite start.now writer
-        (map line_view lines.now) result) (F.seen store.old) (F.seen store.new) }
-    ensures history { KeepsHistories start.now writer
-        (map line_view lines.now) (F.seen store.old) (F.seen store.new) result }
+    ensures trace { HasTrace (DidWrite start.now writer lines result) (F.seen store.old) (F.seen store.new) }
+    ensures history { KeepsHistories start.now writer lines (F.seen store.old) (F.seen store.new) result }
     ensures later { IsLater (F.seen store.old) (F.seen store.new) }
 {
     batch_law();
@@ -128,10 +125,10 @@ fn append_lines<F: FileStore>(
 }
 
 /// The batch of the rows that a table takes of lines, or the first refusal.
-fn read_batch(alloc: Global, schema: &TableSchema, lines: &[InputLine]) -> Result<Batch, Refusal>
+fn read_batch(alloc: Global, schema: &TableSchema, lines: InputLines) -> Result<Batch, Refusal>
     requires declared { IsDeclared schema.now }
     requires built { IsBuilt schema.now }
-    ensures { ReadsBatch schema.now result (all_taken schema.now (map line_view lines.now)) }
+    ensures { ReadsBatch schema.now result (all_taken schema.now lines) }
 {
     declared_law();
     let engine = TableEngine::of_schema(alloc, schema)?;

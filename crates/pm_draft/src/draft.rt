@@ -1,14 +1,13 @@
 //! The draft that the lines of an input are.
 
-ghost use Rattle.std.specs.Prelude.{◌≡◌, map, Result};
-ghost use Rattle.pm_input.specs.Lines.{line_view};
+ghost use Rattle.std.specs.Prelude.{◌≡◌, Result};
 ghost use Rattle.pm_options.specs.Faults.{Answers, judged};
 ghost use Rattle.pm_schema.specs.declared.schema.TableSchema.{TableSchema};
 ghost use Rattle.pm_values.specs.declared.refusal.Refusal.{Refusal};
 ghost use Rattle.pm_draft.specs.Draft.{comes_first, draft_in, draft_line, later_fault, later_line, unless_later};
 
 use crate::built::judge_built;
-use pm_input::InputLine;
+use pm_input::InputLines;
 use pm_schema::TableSchema;
 use pm_schema_file::read_draft;
 use pm_values::{Refusal, Txt, Why};
@@ -18,11 +17,11 @@ use std::alloc::Global;
 #[tactic(auto, unfolding(crate::specs::Draft::draft_in))]
 pub(crate) fn read_draft_lines(
     alloc: Global,
-    lines: &[InputLine],
+    lines: &InputLines,
     origin: Txt,
     now_millis: i64,
 ) -> Result<TableSchema, Refusal>
-    ensures exact { Answers (λ s. s) result (draft_in (map line_view lines.now) origin now_millis) }
+    ensures exact { Answers (λ s. s) result (draft_in lines.now origin now_millis) }
 {
     let reading = read_draft(alloc, draft_line(lines), origin, now_millis);
     let schema = unless_later(alloc, later_line(lines), reading)?;
@@ -31,20 +30,22 @@ pub(crate) fn read_draft_lines(
 }
 
 /// The draft of the lines, or nothing.
-fn draft_line(lines: &[InputLine]) -> &[u8]
-    ensures { result.now ≡ draft_line (map line_view lines.now) }
+fn draft_line(lines: &InputLines) -> &[u8]
+    ensures { result.now ≡ draft_line lines.now }
 {
-    match lines.first() {
-        Some(line) if line.number == 1 => line.bytes.as_slice(),
+    let mut left = lines.left();
+    match left.next() {
+        Some(line) if line.number == 1 => line.bytes,
         _ => &[],
     }
 }
 
 /// The number of the first line after line 1.
-fn later_line(lines: &[InputLine]) -> Option<u64>
-    ensures { result ≡ later_line (map line_view lines.now) }
+fn later_line(lines: &InputLines) -> Option<u64>
+    ensures { result ≡ later_line lines.now }
 {
-    for line in lines {
+    let mut left = lines.left();
+    while let Some(line) = left.next() {
         if line.number != 1 {
             return Some(line.number);
         }

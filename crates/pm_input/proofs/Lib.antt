@@ -1,5 +1,6 @@
 mod FirstLemmas
 mod InputLemmas
 mod JudgeLemmas
+mod KeptLemmas
 mod LawLemmas
 mod LimitLemmas

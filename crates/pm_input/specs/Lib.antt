@@ -1,5 +1,6 @@
 pub mod Blank
 pub mod Judge
+pub mod Kept
 pub mod Limits
 pub mod Lines
 pub mod Refusals

@@ -11,7 +11,6 @@ use Rattle.pm_input.specs.declared.limits.LimitKind.{LimitKind}
 use Rattle.pm_input.specs.declared.limits.LimitKind.TheVariants.{Line}
 use Rattle.pm_input.specs.declared.lines.InputFault.{InputFault}
 use Rattle.pm_input.specs.declared.lines.InputFault.TheVariants as faults
-use Rattle.pm_input.specs.declared.lines.InputLine.{InputLine}
 
 -- the lines that aren't blank, in order, each with its number from 1 among all
 abbrev pub numbered_rows : List (List ℕ) → List (ℕ × List ℕ)
@@ -20,10 +19,6 @@ numbered_rows lines = filter (λ line. not (is_blank line.1)) (enumerate_from 1 
 -- the lines of an input that aren't blank, with their numbers
 abbrev pub row_lines : List ℕ → List (ℕ × List ℕ)
 row_lines bytes = numbered_rows (all_lines bytes)
-
--- a line that was read, with its number
-abbrev pub line_view : InputLine → ℕ × List ℕ
-line_view line = (line.number, line.bytes.items)
 
 -- the lines of the whole input that aren't blank; it is within the limits and read to its end
 abbrev pub IsRead : Limits → List (ℕ × List ℕ) → List ℕ → Option (List ℕ) → Type 0

@@ -1,28 +1,20 @@
 //! The lines of a command's input.
 
 ghost use Rattle.std.specs.Prelude.{◌≡◌, ℕ, List, [], ◌∷◌, ◌++◌, Ok, None, IfOk, IfErr, IfSome, IsErrOf, OnOk};
-ghost use Rattle.std.specs.Prelude.{map, if◌then◌else◌};
+ghost use Rattle.std.specs.Prelude.{if◌then◌else◌};
 ghost use Rattle.pm_base.specs.Newline.{IsUnbroken};
 ghost use Rattle.pm_io.specs.Lines.{IsLineOf, to_come};
 ghost use Rattle.pm_io.specs.Source.{SourceFailed, SourceLater};
 ghost use Rattle.pm_input.specs.Judge.{IsRoomAfter, joined};
 ghost use Rattle.pm_input.specs.Limits.{IsWithin};
-ghost use Rattle.pm_input.specs.Lines.{IsRead, IsRefused, fault_of, line_view};
+ghost use Rattle.pm_input.specs.Lines.{IsRead, IsRefused, fault_of};
 ghost use Rattle.pm_input.specs.declared.lines.InputFault.TheVariants.{Memory};
 
 use crate::judge::{Room, first_limit, judge_line};
+use crate::kept::InputLines;
 use crate::limits::{LimitKind, Limits};
 use pm_io::{Line, LineFault, Lines, Source};
 use std::alloc::{AllocError, AllocFailed, Global};
-
-/// A line that isn't blank.
-#[derive(Drop)]
-pub struct InputLine {
-    /// Its number from 1 among all lines.
-    pub number: u64,
-    /// Its bytes without the newline.
-    pub bytes: Vec<u8>,
-}
 
 /// Why an input wasn't read.
 #[derive(Clone, Copy)]
@@ -56,16 +48,16 @@ pub fn read_lines<S: Source>(
     alloc: Global,
     source: &mut S,
     limits: &Limits,
-) -> Result<Vec<InputLine>, InputFault>
+) -> Result<InputLines, InputFault>
     ensures read { IfOk result (λ lines. IfSome (S.seen source.old).left (λ bytes.
-        IsRead limits.now (map line_view lines.items) bytes (S.seen source.new).left)) }
+        IsRead limits.now lines bytes (S.seen source.new).left)) }
     ensures refused { IfErr result (λ fault. IfSome (S.seen source.old).left (λ bytes.
         IsRefused limits.now fault bytes (S.seen source.new).left)) }
     ensures failed { IsErrOf result InputFault.Read → SourceFailed (S.seen source.old) (S.seen source.new) }
     ensures later { SourceLater (S.seen source.old) (S.seen source.new) }
 {
     let mut held = Lines::new(alloc);
-    let mut lines = Vec::new(alloc);
+    let mut lines = InputLines::new(alloc);
     let mut room = Room {
         rows: limits.rows,
         bytes: limits.bytes,
@@ -91,17 +83,11 @@ pub fn read_lines<S: Source>(
 }
 
 /// Adds a line with its number, where it isn't blank.
-fn keep(
-    lines: &mut Vec<InputLine>,
-    number: u64,
-    bytes: Vec<u8>,
-    is_row: bool,
-) -> Result<(), AllocError>
-    ensures { OnOk result (map line_view lines.new.items
-        ≡ map line_view lines.old.items ++ (if is_row then (number, bytes.items) ∷ [] else [])) }
+fn keep(lines: &mut InputLines, number: u64, bytes: Vec<u8>, is_row: bool) -> Result<(), AllocError>
+    ensures { OnOk result (lines.new ≡ lines.old ++ (if is_row then (number, bytes.items) ∷ [] else [])) }
 {
     if is_row {
-        lines.push(InputLine { number, bytes })?;
+        lines.push(number, &bytes)?;
     }
     Ok(())
 }

@@ -3,10 +3,10 @@
 ghost use Rattle.std.specs.Prelude.{◌≡◌, IfOk};
 ghost use Rattle.pm_base.specs.Outcome.{Gives};
 ghost use Rattle.pm_values.specs.Fits.{Fits};
-ghost use Rattle.pm_input.specs.Lines.{line_view};
+ghost use Rattle.pm_input.specs.Kept.{line_view};
 ghost use Rattle.pm_input.specs.Rows.{faulty_column, refusal_in, row_at};
 
-use crate::lines::InputLine;
+use crate::kept::InputLine;
 use pm_row_lines::LineReader;
 use pm_rows::RowFault;
 use pm_values::{Column, Kind, Refusal, Row, Txt, Why};
@@ -22,7 +22,7 @@ pub fn row_at(
     ensures exact { Gives (λ row. row) refusal_in result (row_at columns.now (line_view line.now)) }
     ensures fits { IfOk result (λ row. Fits columns.now row.1) }
 {
-    match reader.read_row(alloc, columns, &line.bytes) {
+    match reader.read_row(alloc, columns, line.bytes) {
         Ok(row) => Ok(row),
         Err(RowFault::Memory) => Err(Refusal::Memory),
         Err(RowFault::Bad(why, index)) => Err(Refusal::BadLine {

@@ -1,15 +1,12 @@
 -- The rows that are taken of lines, one line after another.
-use Rattle.std.proofs.Common.{◌≡◌, ◌≢◌, ℕ, ◌+◌, ◌-◌, ◌<◌, ◌==◌, List, [], ◌∷◌, ◌++◌, length, map, drop, get_or, Bool, false, cond, Option, Some, None, Result, Ok, Err, refl, sym, ap, ◌∙◌, append_assoc, arith}
+use Rattle.std.proofs.Common.{◌≡◌, ◌≢◌, ℕ, ◌+◌, ◌-◌, ◌==◌, List, [], ◌∷◌, ◌++◌, length, Bool, false, cond, Option, Some, None, Result, Ok, Err, refl, sym, ap, ◌∙◌, append_assoc, arith}
 use Rattle.std.proofs.lemmas.Bool.Decides.{nat_tests}
-use Rattle.std.proofs.lemmas.List.{at_drop_more}
 use Rattle.pm_base.specs.Outcome.{◌>>=◌, Fails}
 use Rattle.pm_values.specs.declared.record.Stamped.{Stamped}
 use Rattle.pm_values.specs.declared.refusal.Refusal.{Refusal}
 use Rattle.pm_model_history.specs.Merge.{HistoryRow}
 use Rattle.pm_schema.specs.declared.schema.TableSchema.{TableSchema}
-use Rattle.pm_input.specs.Lines.{line_view}
 use Rattle.pm_input.specs.Rows.{refusal_in}
-use Rattle.pm_input.specs.declared.lines.InputLine.{InputLine}
 use Rattle.pm_run.specs.Writing.{CountFrom}
 use Rattle.pm_write.specs.Taken.{no_room, taken_at, taken_in, taken_of, with_taken}
 
@@ -24,21 +21,19 @@ refused (Some e) before (Ok f) later all fails same = cc
 refused (Some e) before (Err r) later all fails same = sym same ∙ fails
 
 -- what is taken from a line on, where there is room
-taken_here : (s : TableSchema) (room : ℕ) (lines : List InputLine) (i : ℕ) (line : InputLine) → i < length lines → line ≡ get_or lines i line → room ≢ 0
-    → taken_in s room (map line_view (drop i lines)) ≡ and_later (taken_of s (line_view line)) (taken_in s (room - 1) (map line_view (drop (i + 1) lines)))
-taken_here s room lines i line inside is some =
-    let later = taken_in s (room - 1) (map line_view (drop (i + 1) lines)) in
+taken_here : (s : TableSchema) (room : ℕ) (line : ℕ × List ℕ) (left later : List (ℕ × List ℕ)) → left ≡ line ∷ later → room ≢ 0
+    → taken_in s room left ≡ and_later (taken_of s line) (taken_in s (room - 1) later)
+taken_here s room line left later is some =
     let test : (room == 0) ≡ false = grind (arith, nat_tests) in
-    at_drop_more (λ (ls : List InputLine). taken_in s room (map line_view ls)) lines i line inside
-    ∙ ap (λ (l : InputLine). and_later (taken_at s room (line_view l)) later) (sym is)
-    ∙ ap (λ (b : Bool). and_later (cond b (Err no_room) (taken_of s (line_view line))) later) test
+    ap (taken_in s room) is
+    ∙ ap (λ (b : Bool). and_later (cond b (Err no_room) (taken_of s line)) (taken_in s (room - 1) later)) test
 
-pub refused_here : (s : TableSchema) (room : ℕ) (lines : List InputLine) (i : ℕ) (line : InputLine) (before : List HistoryRow) (all : Result (List HistoryRow) Refusal) (e : Refusal)
-    → i < length lines → line ≡ get_or lines i line → room ≢ 0 → Fails (refusal_in e) (with_taken before (taken_of s (line_view line)))
-    → with_taken before (taken_in s room (map line_view (drop i lines))) ≡ all → Fails (refusal_in e) all
-refused_here s room lines i line before all e inside is some fails same =
-    refused (refusal_in e) before (taken_of s (line_view line)) (taken_in s (room - 1) (map line_view (drop (i + 1) lines))) all fails
-    (ap (with_taken before) (sym (taken_here s room lines i line inside is some)) ∙ same)
+pub refused_here : (s : TableSchema) (room : ℕ) (line : ℕ × List ℕ) (left later : List (ℕ × List ℕ)) (before : List HistoryRow) (all : Result (List HistoryRow) Refusal) (e : Refusal)
+    → left ≡ line ∷ later → room ≢ 0 → Fails (refusal_in e) (with_taken before (taken_of s line)) → with_taken before (taken_in s room left) ≡ all
+    → Fails (refusal_in e) all
+refused_here s room line left later before all e is some fails same =
+    refused (refusal_in e) before (taken_of s line) (taken_in s (room - 1) later) all fails
+    (ap (with_taken before) (sym (taken_here s room line left later is some)) ∙ same)
 
 -- a line that isn't, and then the later ones
 with_taken-step : (before now : List HistoryRow) (first later : Result (List HistoryRow) Refusal) → with_taken before first ≡ Ok now → with_taken before (and_later first later) ≡ with_taken now later
@@ -48,12 +43,11 @@ with_taken-step before now (Ok f) (Ok l) e =
 with_taken-step before now (Ok f) (Err r) e = refl
 with_taken-step before now (Err r) later e = cc
 
-pub taken_more : (s : TableSchema) (room : ℕ) (lines : List InputLine) (i : ℕ) (line : InputLine) (before now : List HistoryRow) (all : Result (List HistoryRow) Refusal)
-    → i < length lines → line ≡ get_or lines i line → room ≢ 0 → with_taken before (taken_of s (line_view line)) ≡ Ok now
-    → with_taken before (taken_in s room (map line_view (drop i lines))) ≡ all → with_taken now (taken_in s (room - 1) (map line_view (drop (i + 1) lines))) ≡ all
-taken_more s room lines i line before now all inside is some step same =
-    let later = taken_in s (room - 1) (map line_view (drop (i + 1) lines)) in
-    sym (with_taken-step before now (taken_of s (line_view line)) later step) ∙ ap (with_taken before) (sym (taken_here s room lines i line inside is some)) ∙ same
+pub taken_more : (s : TableSchema) (room : ℕ) (line : ℕ × List ℕ) (left later : List (ℕ × List ℕ)) (before now : List HistoryRow) (all : Result (List HistoryRow) Refusal)
+    → left ≡ line ∷ later → room ≢ 0 → with_taken before (taken_of s line) ≡ Ok now → with_taken before (taken_in s room left) ≡ all
+    → with_taken now (taken_in s (room - 1) later) ≡ all
+taken_more s room line left later before now all is some step same =
+    sym (with_taken-step before now (taken_of s line) (taken_in s (room - 1) later) step) ∙ ap (with_taken before) (sym (taken_here s room line left later is some)) ∙ same
 
 -- the numbers count on
 pub CountFrom-push : (n : ℕ) (xs : List Stamped) (x : Stamped) → CountFrom n xs → x.seq ≡ n + length xs → CountFrom n (xs ++ x ∷ [])

@@ -6,7 +6,6 @@ ghost use Rattle.pm_values.specs.declared.refusal.Refusal.TheVariants.{Memory};
 ghost use Rattle.pm_options.specs.declared.kinds.Producer.TheVariants as producers;
 ghost use Rattle.pm_engine.specs.Covers.{row_of};
 ghost use Rattle.pm_engines.specs.TableEngine.{schema_of};
-ghost use Rattle.pm_input.specs.Lines.{line_view};
 ghost use Rattle.pm_run.specs.Writing.{CountFrom};
 ghost use Rattle.pm_write.specs.Batch.{AreRowsOf, IsBatchOf, ReadsBatch};
 ghost use Rattle.pm_write.specs.Files.{exceeds, AreNewFiles, RefusesFiles};
@@ -18,7 +17,7 @@ use crate::held::HeldRows;
 use crate::taken::taken_rows;
 use pm_engine::{reduce, stored_law};
 use pm_engines::TableEngine;
-use pm_input::InputLine;
+use pm_input::InputLines;
 use pm_schema::TableSchema;
 use pm_values::{Group, Names, Refusal, Row, Stamped};
 use std::alloc::{AllocError, Global};
@@ -51,19 +50,20 @@ impl Model for Batch {
 impl Batch {
     /// The rows that the table takes of lines that aren't blank, or the first refusal: a bad line, a row that the
     /// engine refuses, or a line for which a batch has no room. It takes time linear in the lines, but for the sort by
-    /// key.
+    /// key. The lines are let go as soon as their rows are taken.
     pub fn read(
         alloc: Global,
         schema: &TableSchema,
         engine: &TableEngine,
-        lines: &[InputLine],
+        lines: InputLines,
     ) -> Result<Batch, Refusal>
         requires bucket { schema.now.options.bucket ≡ 1 }
         requires partition { schema.now.partition ≡ [] }
         requires own { schema_of engine.now ≡ schema.now }
-        ensures { ReadsBatch schema.now result (all_taken schema.now (map line_view lines.now)) }
+        ensures { ReadsBatch schema.now result (all_taken schema.now lines) }
     {
-        let rows = taken_rows(alloc, schema, engine, lines)?;
+        let rows = taken_rows(alloc, schema, engine, &lines)?;
+        drop(lines);
         Ok(of_rows(alloc, engine, rows)?)
     }
 

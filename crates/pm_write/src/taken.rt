@@ -4,7 +4,7 @@ ghost use Rattle.std.specs.Prelude.{◌≡◌, [], ◌∷◌, ◌++◌, length, 
 ghost use Rattle.std.specs.List.{AllByRecursion};
 ghost use Rattle.pm_base.specs.Outcome.{Gives};
 ghost use Rattle.pm_model_history.specs.Merged.{primary_of};
-ghost use Rattle.pm_input.specs.Lines.{line_view};
+ghost use Rattle.pm_input.specs.Kept.{line_view};
 ghost use Rattle.pm_input.specs.Rows.{refusal_in};
 ghost use Rattle.pm_engine.specs.Covers.{row_of};
 ghost use Rattle.pm_engines.specs.TableEngine.{schema_of};
@@ -13,7 +13,7 @@ ghost use Rattle.pm_write.specs.Taken.{all_taken, no_room, taken_by, taken_of};
 ghost use Rattle.pm_write.specs.Taken.{IsTakenRow, stamped, with_taken};
 
 use pm_engines::{TableEngine, Verdict};
-use pm_input::{InputLine, LIMITS, LimitKind, row_at};
+use pm_input::{InputLine, InputLines, LIMITS, LimitKind, row_at};
 use pm_model_history::{key_of, primary_of};
 use pm_row_lines::LineReader;
 use pm_schema::TableSchema;
@@ -25,11 +25,11 @@ pub(crate) fn taken_rows(
     alloc: Global,
     schema: &TableSchema,
     engine: &TableEngine,
-    lines: &[InputLine],
+    lines: &InputLines,
 ) -> Result<Vec<Stamped>, Refusal>
     requires { schema_of engine.now ≡ schema.now }
     ensures exact { Gives (λ rows. map row_of rows.items) refusal_in result
-        (all_taken schema.now (map line_view lines.now)) }
+        (all_taken schema.now lines.now) }
     ensures taken { IfOk result (λ rows. AllByRecursion (IsTakenRow schema.now) rows.items) }
     ensures numbers { IfOk result (λ rows. CountFrom 0 rows.items) }
 {
@@ -37,7 +37,8 @@ pub(crate) fn taken_rows(
     let mut reader = LineReader::new(alloc);
     let mut rows = Vec::new(alloc);
     let mut room = LIMITS.rows;
-    for line in lines {
+    let mut left = lines.left();
+    while let Some(line) = left.next() {
         if room == 0 {
             return Err(no_room(alloc)?);
         }
@@ -47,7 +48,7 @@ pub(crate) fn taken_rows(
             schema,
             engine,
             &primary,
-            line,
+            &line,
             &mut rows,
         )?;
         room -= 1;

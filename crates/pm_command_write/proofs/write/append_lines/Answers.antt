@@ -1,6 +1,5 @@
-use Rattle.std.proofs.Common.{inl, ◌∙◌, map, refl, sym, true≢false, Ok, Err}
+use Rattle.std.proofs.Common.{inl, ◌∙◌, refl, sym, true≢false, Ok, Err}
 use Rattle.std.proofs.lemmas.Result.{err_from_is_err_and}
-use Rattle.pm_input.specs.Lines.{line_view}
 use Rattle.pm_write.specs.Taken.{all_taken}
 use Rattle.pm_commit.specs.declared.all_calls.Appended.TheVariants as appends
 use Rattle.pm_values.specs.declared.refusal.Refusal.TheVariants as refusals
@@ -14,14 +13,14 @@ pub returns-in_err-schema-clause-history : goal.returns-in_err-schema-clause-his
 returns-in_err-schema-clause-history g c =
     let p = err_from_is_err_and c.from_residual.result c.from_residual.ensures.1 in
     rw (p.1, p.2)
-    (read_keeps c.args.start.now c.args.writer (map line_view c.args.lines.now) c.in_err-schema.field-0.0
+    (read_keeps c.args.start.now c.args.writer c.args.lines c.in_err-schema.field-0.0
     (g.F.FileStore.seen c.args.store.now) (g.F.FileStore.seen c.read_table_schema.new.store) c.in_err-schema.ensures.history)
 
 pub returns-in_err-judge-clause-trace : goal.returns-in_err-judge-clause-trace
 returns-in_err-judge-clause-trace g c =
     let p = err_from_is_err_and c.from_residual-in_err-judge.result c.from_residual-in_err-judge.ensures.1 in
     rw (p.1, p.2)
-    (judge_refused c.args.start.now c.args.writer (map line_view c.args.lines.now) c.in_ok-schema.schema
+    (judge_refused c.args.start.now c.args.writer c.args.lines c.in_ok-schema.schema
     c.in_err-judge.field-0.0 (g.F.FileStore.seen c.args.store.now) (g.F.FileStore.seen c.read_table_schema.new.store) c.in_err-judge.ensures.unbuilt
     c.in_ok-schema.ensures.trace)
 
@@ -29,14 +28,14 @@ pub returns-in_err-judge-clause-history : goal.returns-in_err-judge-clause-histo
 returns-in_err-judge-clause-history g c =
     let p = err_from_is_err_and c.from_residual-in_err-judge.result c.from_residual-in_err-judge.ensures.1 in
     rw (p.1, p.2)
-    (judge_keeps c.args.start.now c.args.writer (map line_view c.args.lines.now) c.in_ok-schema.schema
+    (judge_keeps c.args.start.now c.args.writer c.args.lines c.in_ok-schema.schema
     c.in_err-judge.field-0.0 (g.F.FileStore.seen c.args.store.now) (g.F.FileStore.seen c.read_table_schema.new.store) c.in_err-judge.ensures.unbuilt
     c.in_ok-schema.ensures.history)
 
 pub returns-in_err-batch-clause-trace : goal.returns-in_err-batch-clause-trace
 returns-in_err-batch-clause-trace g c =
     let p = err_from_is_err_and c.from_residual-in_err-batch.result c.from_residual-in_err-batch.ensures.1 in
-    let lines = map line_view c.args.lines.now in
+    let lines = c.args.lines in
     rw (p.1, p.2)
     (lines_refused c.args.start.now c.args.writer lines c.in_ok-schema.schema
     c.in_err-batch.field-0.0 (g.F.FileStore.seen c.args.store.now) (g.F.FileStore.seen c.read_table_schema.new.store) c.in_ok-judge.ensures.built
@@ -45,7 +44,7 @@ returns-in_err-batch-clause-trace g c =
 pub returns-in_err-batch-clause-history : goal.returns-in_err-batch-clause-history
 returns-in_err-batch-clause-history g c =
     let p = err_from_is_err_and c.from_residual-in_err-batch.result c.from_residual-in_err-batch.ensures.1 in
-    let lines = map line_view c.args.lines.now in
+    let lines = c.args.lines in
     rw (p.1, p.2)
     (lines_keeps c.args.start.now c.args.writer lines c.in_ok-schema.schema
     c.in_err-batch.field-0.0 (g.F.FileStore.seen c.args.store.now) (g.F.FileStore.seen c.read_table_schema.new.store) c.in_ok-judge.ensures.built
@@ -53,7 +52,7 @@ returns-in_err-batch-clause-history g c =
 
 pub returns-then-is_empty-clause-trace : goal.returns-then-is_empty-clause-trace
 returns-then-is_empty-clause-trace g c =
-    let lines = map line_view c.args.lines.now in
+    let lines = c.args.lines in
     nothing_trace c.args.start.now c.args.writer lines c.in_ok-schema.schema
     (g.F.FileStore.seen c.args.store.now) (g.F.FileStore.seen c.read_table_schema.new.store) c.in_ok-judge.ensures.built
     (none_taken c.batch_law.ensures.empty c.in_ok-schema.schema lines c.in_ok-batch.batch c.in_ok-batch.ensures (c.is_empty.ensures.0 c.if-is_empty.true))
@@ -61,7 +60,7 @@ returns-then-is_empty-clause-trace g c =
 
 pub returns-then-is_empty-clause-history : goal.returns-then-is_empty-clause-history
 returns-then-is_empty-clause-history g c =
-    let lines = map line_view c.args.lines.now in
+    let lines = c.args.lines in
     nothing_keeps c.args.start.now c.args.writer lines c.in_ok-schema.schema
     (g.F.FileStore.seen c.args.store.now) (g.F.FileStore.seen c.read_table_schema.new.store)
     (none_taken c.batch_law.ensures.empty c.in_ok-schema.schema lines c.in_ok-batch.batch c.in_ok-batch.ensures (c.is_empty.ensures.0 c.if-is_empty.true))
@@ -71,14 +70,14 @@ pub returns-in_err-committer-clause-history : goal.returns-in_err-committer-clau
 returns-in_err-committer-clause-history g c =
     let p = err_from_is_err_and c.from_residual-in_err-committer.result c.from_residual-in_err-committer.ensures.1 in
     rw (p.1, p.2)
-    (lines_keeps c.args.start.now c.args.writer (map line_view c.args.lines.now) c.in_ok-schema.schema
+    (lines_keeps c.args.start.now c.args.writer c.args.lines c.in_ok-schema.schema
     refusals.Memory (g.F.FileStore.seen c.args.store.now) (g.F.FileStore.seen c.read_table_schema.new.store) c.in_ok-judge.ensures.built (inl refl) c.in_ok-schema.ensures.history)
 
 pub returns-in-Ok-Committed-clause-trace : goal.returns-in-Ok-Committed-clause-trace
 returns-in-Ok-Committed-clause-trace g c =
     let start = c.args.start.now in
     let w = c.args.writer in
-    let lines = map line_view c.args.lines.now in
+    let lines = c.args.lines in
     let s = c.in_ok-schema.schema in
     let batch = c.in_ok-batch.batch in
     let first = g.F.FileStore.seen c.args.store.now in
@@ -94,7 +93,7 @@ pub returns-in-Ok-Committed-clause-history : goal.returns-in-Ok-Committed-clause
 returns-in-Ok-Committed-clause-history g c =
     let start = c.args.start.now in
     let w = c.args.writer in
-    let lines = map line_view c.args.lines.now in
+    let lines = c.args.lines in
     let s = c.in_ok-schema.schema in
     let batch = c.in_ok-batch.batch in
     let first = g.F.FileStore.seen c.args.store.now in
@@ -111,7 +110,7 @@ pub returns-in-Ok-Already-clause-trace : goal.returns-in-Ok-Already-clause-trace
 returns-in-Ok-Already-clause-trace g c =
     let start = c.args.start.now in
     let w = c.args.writer in
-    let lines = map line_view c.args.lines.now in
+    let lines = c.args.lines in
     let s = c.in_ok-schema.schema in
     let batch = c.in_ok-batch.batch in
     let first = g.F.FileStore.seen c.args.store.now in
@@ -127,7 +126,7 @@ pub returns-in-Ok-Already-clause-history : goal.returns-in-Ok-Already-clause-his
 returns-in-Ok-Already-clause-history g c =
     let start = c.args.start.now in
     let w = c.args.writer in
-    let lines = map line_view c.args.lines.now in
+    let lines = c.args.lines in
     let s = c.in_ok-schema.schema in
     let batch = c.in_ok-batch.batch in
     let first = g.F.FileStore.seen c.args.store.now in
@@ -144,7 +143,7 @@ pub returns-in-Err-clause-trace : goal.returns-in-Err-clause-trace
 returns-in-Err-clause-trace g c =
     let start = c.args.start.now in
     let w = c.args.writer in
-    let lines = map line_view c.args.lines.now in
+    let lines = c.args.lines in
     let s = c.in_ok-schema.schema in
     let batch = c.in_ok-batch.batch in
     let first = g.F.FileStore.seen c.args.store.now in
@@ -160,7 +159,7 @@ pub returns-in-Err-clause-history : goal.returns-in-Err-clause-history
 returns-in-Err-clause-history g c =
     let start = c.args.start.now in
     let w = c.args.writer in
-    let lines = map line_view c.args.lines.now in
+    let lines = c.args.lines in
     let s = c.in_ok-schema.schema in
     let batch = c.in_ok-batch.batch in
     let first = g.F.FileStore.seen c.args.store.now in

@@ -1,7 +1,5 @@
-use Rattle.std.proofs.Common.{map}
 use Rattle.std.proofs.lemmas.Result.{err_from_is_err_and}
 use Rattle.std.specs.Result.{result_err}
-use Rattle.pm_input.specs.Lines.{line_view}
 use Rattle.pm_command_write.specs.Input.{HasLines, RefusesInput}
 use Rattle.pm_command.specs.Outside.{outside}
 use Rattle.pm_command.proofs.Uncalled.{at_known}
@@ -35,25 +33,25 @@ returns-in_err-lines-clause-history g c =
 
 pub returns-clause-command : goal.returns-clause-command
 returns-clause-command g c = λ bytes is.
-    let lines = map line_view c.in_ok-lines.lines.items in
+    let lines = c.in_ok-lines.lines in
     input_written c.args.start.now c.args.writer bytes lines
     (outside (g.S.Source.seen c.args.input.now) (g.W.Sink.seen c.args.out.now) (g.F.FileStore.seen c.args.store.now))
     (outside (g.S.Source.seen c.read_input.new.input) (g.W.Sink.seen c.write_lines.new.out) (g.F.FileStore.seen c.write_lines.new.store))
     (result_err c.write_lines.result)
     (at_known (λ bytes. HasLines bytes (g.S.Source.seen c.read_input.new.input) lines) (g.S.Source.seen c.args.input.now).left bytes is c.in_ok-lines.ensures.answer)
-    (rw c.deref.ensures.value at c.write_lines.ensures.written)
+    c.write_lines.ensures.written
 
 pub returns-clause-acts : goal.returns-clause-acts
 returns-clause-acts g c =
-    lines_acts c.args.start.now c.args.writer (map line_view c.in_ok-lines.lines.items)
+    lines_acts c.args.start.now c.args.writer c.in_ok-lines.lines
     (outside (g.S.Source.seen c.args.input.now) (g.W.Sink.seen c.args.out.now) (g.F.FileStore.seen c.args.store.now))
     (outside (g.S.Source.seen c.read_input.new.input) (g.W.Sink.seen c.write_lines.new.out) (g.F.FileStore.seen c.write_lines.new.store))
-    (result_err c.write_lines.result) (rw c.deref.ensures.value at c.write_lines.ensures.written)
+    (result_err c.write_lines.result) c.write_lines.ensures.written
 
 pub returns-clause-history : goal.returns-clause-history
 returns-clause-history g c =
-    lines_serve c.args.start.now c.args.writer (map line_view c.in_ok-lines.lines.items)
+    lines_serve c.args.start.now c.args.writer c.in_ok-lines.lines
     (outside (g.S.Source.seen c.args.input.now) (g.W.Sink.seen c.args.out.now) (g.F.FileStore.seen c.args.store.now))
     (outside (g.S.Source.seen c.read_input.new.input) (g.W.Sink.seen c.write_lines.new.out) (g.F.FileStore.seen c.write_lines.new.store))
     (result_err c.write_lines.result) c.in_ok-lines.ensures.answer
-    (rw c.deref.ensures.value at c.write_lines.ensures.written)
+    c.write_lines.ensures.written

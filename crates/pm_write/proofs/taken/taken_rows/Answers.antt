@@ -1,5 +1,6 @@
 use Rattle.std.proofs.Common.{map}
 use Rattle.std.proofs.lemmas.Result.{err_from_is_err_and}
+use Rattle.pm_input.specs.Kept.{line_view}
 use Rattle.pm_engine.specs.Covers.{row_of}
 use Rattle.pm_write.proofs.TakenLemmas.{refused_here, taken_more}
 use Rattle.pm_write.proofs.taken.taken_rows.Goals as goal
@@ -8,15 +9,14 @@ use Rattle.pm_write.proofs.taken.taken_rows.Goals as goal
 pub returns-in_err-take_line-clause-exact : goal.returns-in_err-take_line-clause-exact
 returns-in_err-take_line-clause-exact c =
     let p = err_from_is_err_and c.from_residual-in_err-take_line.result c.from_residual-in_err-take_line.ensures.1 in
-    let i = c.loop-line.line-index in
     rw (p.1, p.2)
-    (refused_here c.args.schema.now c.loop-line.room c.args.lines.now i c.line-item.result (map row_of c.loop-line.rows.items) _ c.in_err-take_line.field-0.0
-    c.loop-line-test.true c.line-item.is c.if-room-eq0.false c.in_err-take_line.ensures.exact c.loop-line.invariant.exact)
+    (refused_here c.args.schema.now c.loop-line.room (line_view c.in-Some.line) c.loop-line.left c.next.new.self (map row_of c.loop-line.rows.items) _ c.in_err-take_line.field-0.0
+    c.in-Some.ensures.line c.if-room-eq0.false c.in_err-take_line.ensures.exact c.loop-line.invariant.exact)
 
 pub loop-line-preserved : goal.loop-line-preserved
 loop-line-preserved c = record {
-  exact = taken_more c.args.schema.now c.loop-line.room c.args.lines.now c.loop-line.line-index c.line-item.result (map row_of c.loop-line.rows.items) (map row_of c.take_line.new.rows.items) _
-      c.loop-line-test.true c.line-item.is c.if-room-eq0.false c.in_ok-take_line.ensures.exact c.loop-line.invariant.exact;
+  exact = taken_more c.args.schema.now c.loop-line.room (line_view c.in-Some.line) c.loop-line.left c.next.new.self (map row_of c.loop-line.rows.items) (map row_of c.take_line.new.rows.items) _
+      c.in-Some.ensures.line c.if-room-eq0.false c.in_ok-take_line.ensures.exact c.loop-line.invariant.exact;
   taken = c.in_ok-take_line.ensures.taken c.loop-line.invariant.taken;
   numbers = c.in_ok-take_line.ensures.numbers c.loop-line.invariant.numbers;
 }

@@ -1,6 +1,5 @@
-use Rattle.std.proofs.Common.{◌≡◌, drop, map}
+use Rattle.std.proofs.Common.{◌≡◌, length, map}
 use Rattle.std.specs.List.{AllByRecursion}
-use Rattle.pm_input.specs.Lines.{line_view}
 use Rattle.pm_engine.specs.Covers.{row_of}
 use Rattle.pm_run.specs.Writing.{CountFrom}
 use Rattle.pm_write.specs.Taken.{IsTakenRow, all_taken, taken_in, with_taken}
@@ -9,7 +8,10 @@ use Rattle.pm_write.proofs.taken.taken_rows.Given as goal
 -- the rows so far, and those that are taken of the lines that are left
 abbrev pub invariant-loop-line : goal.invariant-loop-line
 invariant-loop-line l = record {
-  exact : with_taken (map row_of l.rows.items) (taken_in l.schema l.room (map line_view (drop l.line-index l.lines))) ≡ all_taken l.schema (map line_view l.lines);
+  exact : with_taken (map row_of l.rows.items) (taken_in l.schema l.room l.left) ≡ all_taken l.schema l.lines;
   taken : AllByRecursion (IsTakenRow l.schema) l.rows.items;
   numbers : CountFrom 0 l.rows.items;
 }
+
+abbrev pub decreases-loop-line : goal.decreases-loop-line
+decreases-loop-line l = length l.left
