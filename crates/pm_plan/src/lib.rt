@@ -1,0 +1,12 @@
+//! A compaction's plan as it grows: what goes, and group by group the files that come.
+//!
+//! `planned_of` begins it with the groups of a view that have a choice: the entries of their files that go, and how an
+//! entry of a history names them. `rewrite_groups` makes the runs of groups that were read whole, the first of those
+//! that are left, into files at their level, each with its entry; a group's droppable rows are left out exactly where
+//! all of its runs go. The files have their bytes and their paths, and wait to be created. `into_commit` has what the
+//! commit is for once no group is left. `specs/Planned.antt` has the definitions. Nothing here calls a store.
+#![tactic(auto)]
+
+mod planned;
+
+pub use planned::{Asking, Planned, PlannedCommit, planned_of};
