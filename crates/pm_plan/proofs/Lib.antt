@@ -1,1 +1,3 @@
+mod GrownLemmas
 mod MakeLemmas
+mod StayLemmas

@@ -19,7 +19,7 @@ rests-joined (r ∷ rows) = ap (λ (rests : List Rest). rest_of r ∷ rests) (re
 pub rests_are : (rows : List StoredRows) (runs : List Run) → map run_left rows ≡ runs → map rest_of rows ≡ rests_of runs
 rests_are rows runs are = rests-joined rows ∙ ap rests_of are
 
-runs-again : (runs : List Run) → runs_in (rests_of runs) ≡ runs
+pub runs-again : (runs : List Run) → runs_in (rests_of runs) ≡ runs
 runs-again [] = refl
 runs-again (run ∷ runs) = ap (λ (rest : List Run). run ∷ rest) (runs-again runs)
 

@@ -4,9 +4,13 @@
 //! entry of a history names them. `rewrite_groups` makes the runs of groups that were read whole, the first of those
 //! that are left, into files at their level, each with its entry; a group's droppable rows are left out exactly where
 //! all of its runs go. The files have their bytes and their paths, and wait to be created. `into_commit` has what the
-//! commit is for once no group is left. `specs/Planned.antt` has the definitions. Nothing here calls a store.
+//! commit is for once no group is left. `planned_law` says what is known of it all along: of which runs each group's
+//! files were made, so that in the end this is what a commit has to know. `specs/Planned.antt` and `specs/Known.antt`
+//! have the definitions. Nothing here calls a store.
 #![tactic(auto)]
 
+mod laws;
 mod planned;
 
+pub use laws::planned_law;
 pub use planned::{Asking, Planned, PlannedCommit, planned_of};

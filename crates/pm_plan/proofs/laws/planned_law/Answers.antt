@@ -1,0 +1,13 @@
+use Rattle.pm_plan.proofs.GrownLemmas.{planned-grows, planned-whole}
+use Rattle.pm_plan.proofs.StayLemmas.{planned-stays}
+use Rattle.pm_plan.proofs.laws.planned_law.Goals as goal
+
+pub returns-clause-stays : goal.returns-clause-stays
+returns-clause-stays c me other f after p q x done takings advances knows =
+    planned-stays c.goes_on_law.ensures me other f after p q x done takings advances knows
+
+pub returns-clause-grows : goal.returns-clause-grows
+returns-clause-grows c me p x y done t takings can knows rewrites = planned-grows me p x y done t takings can knows rewrites
+
+pub returns-clause-whole : goal.returns-clause-whole
+returns-clause-whole c me p x done plan knows is = planned-whole me p x done plan knows is
