@@ -1,20 +1,22 @@
 #!/usr/bin/env python3
-"""Runs the cases of crates/pm_cases_commands with the second program (reference_*.py), which was written from the documents,
-and compares its answers with those that stand there. It promises that they are equal, in each case up to the first line
-that it doesn't follow: calls that fail or that others come between, streams that fail, files that bear a session's name,
-and writes on files that stand there. It ends with 1 where two answers differ. The gate never runs it. docs/DEVELOPING.md
-has what it printed.
+"""Runs the cases of crates/pm_cases_commands with the second program (reference_*.py), which was written from the
+documents, and compares its answers with those that stand there. It promises that they are equal, in each case up to the
+first line that it doesn't follow: calls that others come between, streams that fail, files that bear a session's name,
+and writes on files that stand there. Where calls are to fail it makes each call of a command, in the order that the
+documents tell. It ends with 1 where two answers differ. The gate never runs it. docs/DEVELOPING.md has what it printed.
 
-usage: bench/check_cases.py
+usage: bench/check_cases.py [CASES ANSWERS]     the cases and the answers of other files than those of the crate
 """
 
+import copy
 import json
 import pathlib
 import re
+import sys
 
 import reference_files
-from reference_commands import Table, read_words
-from reference_table import Refused
+from reference_commands import GREATEST, Table, read_words
+from reference_table import Refused, read_draft
 from trials import TOP, Tally
 
 CASES = TOP / "crates/pm_cases_commands"
@@ -27,16 +29,37 @@ class NotFollowed(Exception):
 
 
 class Memory(reference_files.Folder):
-    """A folder in memory."""
+    """A folder in memory. Its calls are counted, and those of a plan fail."""
 
     def __init__(self):
-        self.files = {}
+        self.files, self.plan, self.calls = {}, {}, 0
+
+    def call(self, path, content=None, can_be_cut=False):
+        """Makes the next call, which puts this content at a path where nothing is, if any; of one that fails as much as
+        is planned."""
+        self.calls += 1
+        effect = self.plan.get(self.calls, "")
+        if effect.startswith("part ") and can_be_cut:
+            content = bytes.fromhex(effect[5:])
+        elif effect not in ("", "whole"):
+            content = None
+        if content is not None:
+            self.files.setdefault(path, content)
+        if effect:
+            raise Refused(f"E5 store {path}")
 
     def read(self, path):
+        self.call(path)
         return self.files.get(path)
 
     def list(self, folder):
+        self.call(folder)
         return {path[len(folder) + 1 :].split("/")[0] for path in self.files if path.startswith(f"{folder}/")}
+
+    def put(self, files):
+        """Creates files, and then publishes or swaps in the last one."""
+        for at, (path, content) in enumerate(files.items(), 1):
+            self.call(path, content, at < len(files))
 
 
 KINDS = {"+I", "-U", "+U", "-D"}
@@ -133,6 +156,9 @@ class Case:
             self.folder.files.pop(line[1], None)
         elif line[0] == "run" and set(line[5]) <= FOLLOWED:
             return self.run(*line[1:5])
+        elif line[0] == "store" and self.is_own and not self.folder.calls:
+            self.folder.plan = dict(line[1])
+            return [], []
         elif line[0] == "files":
             return self.list_files(line[1:] == ["sum"])
         else:
@@ -148,7 +174,7 @@ class Case:
             printed, status = self.answer(words, data, session, now), 0
         except Refused as refused:
             printed, status = f"{refused}\n", refused.status
-            if status == 8:
+            if status == 8 and not self.folder.plan:
                 self.folder.files[f"snapshot/ORIGIN-{session}-0"] = b""
         found = [*printed.split("\n")[:-1], f"-- {status}"]
         return self.answers[: len(found)], found
@@ -161,14 +187,36 @@ class Case:
             asked = options.get("--snapshot")
             return reference_files.scan(self.folder, None if asked is None else int(asked))
         if not self.is_own and command == "write" and "--user" not in options:
-            if reference_files.judge_write(self.folder, data):
+            printed = reference_files.judge_write(self.folder, data)
+            if printed is None:
                 raise NotFollowed
-            return "nothing to commit\n"
+            return printed
         if not self.is_own:
             raise NotFollowed
+        earlier = self.table
+        self.table = copy.deepcopy(earlier) if self.folder.plan else earlier
+        if self.folder.plan:
+            printed = self.make_calls(command, options, data, session)
+            if printed is not None:
+                return printed
         printed, files = self.table.answer(words, data, session, now)
-        self.folder.files |= files
+        try:
+            self.folder.put(files)
+        finally:
+            if files and list(files)[-1] not in self.folder.files:
+                self.table = earlier
         return printed
+
+    def make_calls(self, command, options, data, session):
+        """Makes the calls of a command before it makes a file; gives what it prints where it makes none."""
+        if command == "create" and self.table.writer is not None:
+            read_draft(data)
+            self.folder.put({f"snapshot/ORIGIN-{session}-0": b"", "schema/schema-0": b""})
+            raise Refused("E8 table exists")
+        if command == "write":
+            user, ident = options.get("--user"), int(options.get("--ident", GREATEST))
+            return reference_files.judge_write(self.folder, data, user, ident)
+        return None
 
     def list_files(self, is_sum):
         files = sorted(self.folder.files.items(), key=lambda item: item[0].encode())
@@ -181,14 +229,16 @@ class Case:
 
 def main():
     tally, case, name, at, ended = Tally(), None, "", 0, {}
-    answers = (CASES / "stdout").read_text().split("\n")
-    for line in lines_in_full((CASES / "stdin").read_text()):
+    cases, answers = sys.argv[1:] or (CASES / "stdin", CASES / "stdout")
+    answers = pathlib.Path(answers).read_text().split("\n")
+    for line in lines_in_full(pathlib.Path(cases).read_text()):
         if line[0] == "case":
             if case:
                 ended[name] = case.folder.files
             name = line[1]
             at = answers.index(f"== {name}", at) + 1
             case = Case(answers[at:], ended)
+            tally.add("cases")
         elif case is None:
             tally.add("lines left out")
         else:

@@ -326,7 +326,7 @@ class Trial:
         self.read("snapshots", wanted=lambda: reference_files.list_snapshots(folder))
         self.change("create", data=DRAFT)
         row = b'["+I",77,"new"]'
-        wanted = expected(lambda: reference_files.judge_write(folder, row) and "")
+        wanted = expected(lambda: reference_files.judge_write(folder, row) or "")
         ended = self.change("write", data=row)
         if ended.status != 5 and (ended.status, ended.err) != (wanted[0], wanted[2]):
             self.breaks("write", f"{ended} in the place of {wanted}")

@@ -507,27 +507,49 @@ def share_keys(file, other):
     return max(file["least"], other["least"]) <= min(file["greatest"], other["greatest"])
 
 
-def judge_write(folder, data):
-    """Refuses what a `write` of an input is refused for before it makes a file; tells whether it makes any."""
+def judge_write(folder, data, user=None, ident=None):
+    """Makes the calls of a `write` of an input before it makes a file, and refuses what they bring. It gives what is
+    printed where none is made."""
     schema = read_schema(folder)
     rows = read_batch(schema, data)
     if not rows:
-        return False
+        return "nothing to commit\n"
     folder.list("manifest")
-    newest = max(snapshot_ids(folder), default=0)
+    known = snapshot_ids(folder)
+    newest = max(known, default=0)
     view = View(folder, schema, newest)
     live = view.live_files()
     runs(live)
-    fence = int(((view.found or {}).get("properties") or {}).get("fence", "-1"))
-    if newest <= fence:
-        raise Refused(f"E16 fenced base {newest} fence {fence}")
-    if len(live) >= 10000:
-        raise Refused("E21 limit live-files 10000")
+    if user is not None and has_committed(folder, view, known[:-1], user, ident):
+        return "already\n"
+    judge_commit(view, len(live), 1)
     if max((file["newest"] for file in live), default=-1) + len(rows) > GREATEST_SEQUENCE:
         raise Refused(f"E21 limit sequence {GREATEST_SEQUENCE}")
+    judge_id(newest)
+    return None
+
+
+def has_committed(folder, view, older, user, ident):
+    """Whether the newest commit of a user that is found has that identifier or a greater one."""
+    found = view.found
+    while found is not None and found["commitUser"] != user and older:
+        found = read_snapshot(folder, older[-1])
+        older = older[:-1]
+    return found is not None and found["commitUser"] == user and found["commitIdentifier"] >= ident
+
+
+def judge_commit(view, live, more):
+    """Refuses a commit that the view stands against, or that leaves more files live than there may be."""
+    fence = int(((view.found or {}).get("properties") or {}).get("fence", "-1"))
+    if view.number <= fence:
+        raise Refused(f"E16 fenced base {view.number} fence {fence}")
+    if live + more > 10000:
+        raise Refused("E21 limit live-files 10000")
+
+
+def judge_id(newest):
     if newest >= GREATEST_ID:
         raise Refused(f"E21 limit snapshot-id {GREATEST_ID}")
-    return True
 
 
 # What a commit writes.
