@@ -38,7 +38,7 @@ use Rattle.pm_compact.specs.Made.{metas_of}
 use Rattle.pm_choice.specs.Choice.{live_entry}
 use Rattle.pm_made.specs.Commit.{Attempt, IsAsMade, IsReady}
 use Rattle.pm_made.specs.Delta.{Delta, adding, entries_of, is_of_any, left_of}
-use Rattle.pm_made.specs.Files.{HasBase, HasDelta, HasManifest, appends, compacts, delta_of_plan, fences, kept, merged, merges, no_manifest, one_manifest}
+use Rattle.pm_made.specs.Files.{HasBase, HasManifest, delta_of_plan, kept, merged, merges, no_manifest, one_manifest}
 use Rattle.pm_made.specs.Intent.{IsEntryFor, removed_of}
 use Rattle.pm_made.specs.Refusals.{first_not_live}
 use Rattle.pm_made.specs.Snapshot.{new_snapshot}
@@ -52,6 +52,7 @@ use Rattle.pm_compaction.specs.Compacted.{GoesOnWith, HasCompacted}
 use Rattle.pm_compaction.specs.Plan.{IsRewrittenAt, KnowsPlan, RewrittenGroup, comes_of, goes_of, group_file, made_files, named_group}
 use Rattle.pm_compaction.proofs.AfterLemmas.{SuccessionGoesOn, group-stands}
 use Rattle.pm_compaction.proofs.ChangeLemmas.{holds-none}
+use Rattle.pm_compaction.proofs.DeltaLemmas.{IsDeltaFor, delta-for}
 use Rattle.pm_compaction.proofs.GroupLemmas.{GroupsTie, named-base, one-group, other-base, part-base, rising, which, whole-base, group_in}
 use Rattle.pm_compaction.proofs.ListLemmas.{flat-in, in-flat, map-in}
 use Rattle.pm_compaction.proofs.LiveLemmas.{same-runs}
@@ -73,19 +74,6 @@ pub record Facts : Type 0 where
       → (made : IsAsMade after s (suc (length entries)) t ready.made)
       → ((g : Group) → HasGroup after s (entries ++ e ∷ []) (suc (length entries)) (live_in made.contents) g)
       → HoldsChange after s (entries ++ e ∷ []) (suc (length entries)) made.contents.changes → IsCommit f after s entries e
-
--- ---- what a compaction changes
-
--- by what it is for
-abbrev IsDeltaFor : Intent → Delta → Type 0
-IsDeltaFor (intents.Compact plan) d = d ≡ delta_of_plan plan
-IsDeltaFor other d = Unit {0}
-
-delta-for : (s : TableSchema) (newest : Newest) (names left : Naming) (intent : Intent) (d : Delta) (made : List CommitFile) → HasDelta s newest names intent d made left
-    → IsDeltaFor intent d
-delta-for s newest names _ _ _ _ (appends batch xs numbered) = tt
-delta-for s newest names _ _ _ _ (compacts plan) = refl
-delta-for s newest names _ _ _ _ (fences number) = tt
 
 -- ---- the base list
 

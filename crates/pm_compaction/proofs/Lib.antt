@@ -2,10 +2,12 @@ mod AfterLemmas
 mod BaseLemmas
 mod ChangeLemmas
 mod CompactionLemmas
+mod DeltaLemmas
 mod DropLemmas
 mod EntryLemmas
 mod GivenLemmas
 mod GroupLemmas
+mod KeyLemmas
 mod ListLemmas
 mod LiveLemmas
 mod MadeLemmas
@@ -16,3 +18,4 @@ mod PlaceLemmas
 mod PlanLemmas
 mod ReplacedLemmas
 mod RewrittenLemmas
+mod RowLemmas

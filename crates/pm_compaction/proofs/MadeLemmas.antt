@@ -164,13 +164,29 @@ dropped-key (suc n) [] k h = absurd (nowhere k h)
 dropped-key (suc n) (x ∷ rows) k h = more x.key (keys_of rows) k (dropped-key n rows k h)
 
 -- the least key of each file is one of the rows' keys
-least-in : (s : TableSchema) (most level : ℕ) (names : Naming) (rows : List Stamped) (made : List RunFile) (m : FileMeta) → AreFilesOf s most level names rows made
+pub least-in : (s : TableSchema) (most level : ℕ) (names : Naming) (rows : List Stamped) (made : List RunFile) (m : FileMeta) → AreFilesOf s most level names rows made
     → Contains (metas_of made) m → Contains (keys_of rows) m.min_key
 least-in s most level names rows [] m are h = absurd (nowhere m h)
 least-in s most level names rows (file ∷ made) m are h = elim (cases file.meta (metas_of made) m h) as (λ _. Contains (keys_of rows) m.min_key) [
   | inl is ↦ subst (λ (m : FileMeta). Contains (keys_of rows) m.min_key) is
       (taken-key most rows file.meta.min_key (first-in (take most rows) file.meta.min_key are.1.meta.least))
   | inr later ↦ dropped-key most rows m.min_key (least-in s most level (counted names) (drop most rows) made m are.2 later)
+]
+
+-- the greatest key, too
+last-own : (rows : List Stamped) (k : Values) → last_key None rows ≡ Some k → Contains (keys_of rows) k
+last-own rows k is = elim (last-in None rows k is) as (λ _. Contains (keys_of rows) k) [
+  | inl none ↦ absurd (none-key k none)
+  | inr own ↦ own
+]
+
+pub greatest-in : (s : TableSchema) (most level : ℕ) (names : Naming) (rows : List Stamped) (made : List RunFile) (m : FileMeta) → AreFilesOf s most level names rows made
+    → Contains (metas_of made) m → Contains (keys_of rows) m.max_key
+greatest-in s most level names rows [] m are h = absurd (nowhere m h)
+greatest-in s most level names rows (file ∷ made) m are h = elim (cases file.meta (metas_of made) m h) as (λ _. Contains (keys_of rows) m.max_key) [
+  | inl is ↦ subst (λ (m : FileMeta). Contains (keys_of rows) m.max_key) is
+      (taken-key most rows file.meta.max_key (last-own (take most rows) file.meta.max_key are.1.meta.greatest))
+  | inr later ↦ dropped-key most rows m.max_key (greatest-in s most level (counted names) (drop most rows) made m are.2 later)
 ]
 
 -- ---- one after another
@@ -232,10 +248,7 @@ module _ (one : OneName) (s : TableSchema) (most level : ℕ) where
           let (k, within, named) = named-file s most level (counted names) (drop most rows) made own are.2 there in
           record {
             below = rising-across (take most rows) (drop most rows) file.meta.max_key m.min_key parted
-                (elim (last-in None (take most rows) file.meta.max_key meta.greatest) as (λ _. Contains (keys_of (take most rows)) file.meta.max_key) [
-                  | inl none ↦ absurd (none-key file.meta.max_key none)
-                  | inr own ↦ own
-                ]) later;
+                (last-own (take most rows) file.meta.max_key meta.greatest) later;
             lower = rising-across (take most rows) (drop most rows) file.meta.min_key m.min_key parted (first-in (take most rows) file.meta.min_key meta.least) later;
             apart = λ same. names-apart me base (suc (length made)) names 0 (suc k) makes (omega arith) (omega (arith, within))
                 (ap (λ (n : ℕ). name_of data_prefix suffix (record names { count = n })) (let z : names.count + 0 ≡ names.count = omega arith in z)

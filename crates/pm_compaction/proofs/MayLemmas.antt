@@ -7,15 +7,18 @@ use Rattle.std.proofs.lemmas.Grind.{flat_map-append}
 use Rattle.std.proofs.lemmas.List.{map-append}
 use Rattle.std.proofs.lemmas.List.Elements.{Contains-append_left}
 use Rattle.std.proofs.lemmas.List.Sorted.{IsPermutation-sym}
+use Rattle.pm_base.proofs.Laws.{AllByRecursion-parts}
 use Rattle.pm_store.specs.Files.{Files}
 use Rattle.pm_values.specs.GroupOrder.{group_cmp}
 use Rattle.pm_values.specs.declared.file_meta.FileMeta.{FileMeta}
 use Rattle.pm_values.specs.declared.group.Group.{Group}
 use Rattle.pm_model_history.specs.History.{Entry}
+use Rattle.pm_schema.specs.Again.{IsDeclared}
 use Rattle.pm_schema.specs.declared.schema.TableSchema.{TableSchema}
+use Rattle.pm_run.specs.Writing.{data_prefix, suffix}
 use Rattle.pm_run.specs.declared.run.RunFile.{RunFile}
 use Rattle.pm_levels.specs.Runs.{AreNamedApart, RunView, files_of}
-use Rattle.pm_manifest.specs.Entries.{IsEntry}
+use Rattle.pm_manifest.specs.Entries.{IsEntry, IsFile, IsFileWithin, IsWithin}
 use Rattle.pm_manifest.specs.Live.{id_of}
 use Rattle.pm_manifest.specs.Shape.{shape_of}
 use Rattle.pm_manifest.specs.declared.entry.Entry as files
@@ -28,22 +31,27 @@ use Rattle.pm_model_folder.specs.Runs.{view_of}
 use Rattle.pm_runs.specs.Succession.{KnownRun}
 use Rattle.pm_put.specs.declared.putting.CommitFile.{CommitFile}
 use Rattle.pm_compact.specs.Made.{metas_of}
+use Rattle.pm_compact.specs.Rewritten.{most_in_file}
 use Rattle.pm_choice.specs.Choice.{live_entry}
-use Rattle.pm_made.specs.Commit.{MayChange}
-use Rattle.pm_made.specs.Delta.{adding}
-use Rattle.pm_made.specs.Files.{delta_of_plan}
+use Rattle.pm_made.specs.Commit.{Attempt, MayChange}
+use Rattle.pm_made.specs.Delta.{Delta, adding, deleted, entries_of}
+use Rattle.pm_made.specs.Files.{IsMadeOf, after_names, delta_of_plan}
+use Rattle.pm_made.specs.declared.intent.Intent.{Intent}
+use Rattle.pm_made.specs.declared.intent.Intent.TheVariants as intents
 use Rattle.pm_made.specs.declared.intent.Plan.{Plan}
 use Rattle.pm_paths.proofs.ListLemmas.{here, more}
 use Rattle.pm_made.proofs.EntryLemmas.{ReadEntries}
 use Rattle.pm_made.proofs.ListLemmas.{Pairs, all-of, each-of, in-map, pairs-append, pairs-to}
-use Rattle.pm_compaction.specs.Plan.{HasNamable, IsRewrittenAt, KnowsPlan, RewrittenGroup, comes_of, goes_of}
+use Rattle.pm_compaction.specs.Plan.{IsRewrittenAt, KnowsPlan, RewrittenGroup, comes_of, goes_of}
 use Rattle.pm_compaction.proofs.BaseLemmas.{RunsThere, TakenStored, file-live, runs-there}
+use Rattle.pm_compaction.proofs.DeltaLemmas.{IsDeltaFor, delta-for, manifest-within}
 use Rattle.pm_compaction.proofs.EntryLemmas.{LeftJoined, live-can}
 use Rattle.pm_compaction.proofs.GroupLemmas.{GroupsTie, group_in, rising}
+use Rattle.pm_compaction.proofs.KeyLemmas.{key-can-be, name-ends}
 use Rattle.pm_compaction.proofs.ListLemmas.{flat-in, in-flat, map-in}
 use Rattle.pm_compaction.proofs.LiveLemmas.{two-moved, two-of, two-right}
-use Rattle.pm_compaction.proofs.MadeLemmas.{ComesBefore, OneName}
-use Rattle.pm_compaction.proofs.RewrittenLemmas.{made-in-turn, taken-file}
+use Rattle.pm_compaction.proofs.MadeLemmas.{ComesBefore, OneName, greatest-in, least-in, named-file}
+use Rattle.pm_compaction.proofs.RewrittenLemmas.{made-in-turn, made-key, taken-file}
 
 abbrev Apart : files.Entry → files.Entry → Type 0
 Apart a b = id_of a ≡ id_of b → ⊥
@@ -126,7 +134,7 @@ comes-group : (s : TableSchema) (x : RewrittenGroup) (e : files.Entry) → Conta
 comes-group s x e h = let (f, there, is) = in-map (λ (f : RunFile). live_entry s x.group f.meta) x.files e h in ap (λ (e : files.Entry). e.group) (sym is)
 
 module _ (tie : GroupsTie) (left : LeftJoined) (read : ReadEntries) (stored : TakenStored) (one : OneName) (me : Actor) (files0 : Files) (p : Past) (s : TableSchema)
-    (entries : List Entry) (base : ℕ) (plan : Plan) (given : List CommitFile) (known : KnowsTable files0 s entries p) (to : base ≤ length entries)
+    (declared : IsDeclared s) (entries : List Entry) (base : ℕ) (plan : Plan) (given : List CommitFile) (known : KnowsTable files0 s entries p) (to : base ≤ length entries)
     (knows : KnowsPlan me s base plan given p) where
   abbrev xs : List RewrittenGroup
   xs = knows.groups
@@ -174,15 +182,36 @@ module _ (tie : GroupsTie) (left : LeftJoined) (read : ReadEntries) (stored : Ta
       let (m, has, is) = in-map (live_entry s x.group) (files_of (map view_of x.taking.taken)) e own in
       subst (IsEntry (shape_of s)) is (taken-can x (at x is_x) m has))
 
-  -- a file that came is of a group that manifests have
-  can-come : AllByRecursion (HasNamable s) plan.added.items → AllByRecursion (IsEntry (shape_of s)) plan.added.items
-  can-come can = all-of (IsEntry (shape_of s)) plan.added.items (λ e h.
+  -- a file that came is one that a manifest can name, as it is written
+  file-can : (x : RewrittenGroup) (is : IsRewrittenAt me s base p x) (f : RunFile) → Contains x.files f → IsFileWithin (shape_of s) f.meta
+      → IsFile (shape_of s) x.group.partition f.meta
+  file-can x is f has within =
+      let (k, less, named) = named-file s most_in_file x.taking.out x.names is.made.run x.files f is.made.files has in
+      let meta : Contains (metas_of x.files) f.meta = map-in (λ (f : RunFile). f.meta) x.files f has in
+      let key = made-key left read stored me files0 p s entries base known knows.known.after_origin knows.since to x is in record {
+        named = name-ends data_prefix suffix (after_names k x.names) f.meta.name named;
+        schema = within.schema;
+        size = within.size;
+        rows = within.rows;
+        least = key-can-be s x.group f.meta.min_key declared
+            (key f.meta.min_key (least-in s most_in_file x.taking.out x.names is.made.run x.files f.meta is.made.files meta)) within.least;
+        greatest = key-can-be s x.group f.meta.max_key declared
+            (key f.meta.max_key (greatest-in s most_in_file x.taking.out x.names is.made.run x.files f.meta is.made.files meta)) within.greatest;
+        first = within.first;
+        last = within.last;
+        level = within.level;
+      }
+
+  -- and of a group that manifests have
+  can-come : AllByRecursion (IsWithin (shape_of s)) (map adding plan.added.items) → AllByRecursion (IsEntry (shape_of s)) plan.added.items
+  can-come within = all-of (IsEntry (shape_of s)) plan.added.items (λ e h.
       let (x, is_x, own) = in-flat (comes_of s) xs e (subst (λ (es : List files.Entry). Contains es e) knows.comes h) in
       let (f, has, is) = in-map (λ (f : RunFile). live_entry s x.group f.meta) x.files e own in
       let (r, first) = some-run x.taking.taken (at x is_x).took.some in
       let (m, own_m) = taken-file left read stored me files0 p s entries base known knows.known.after_origin knows.since to x (at x is_x) r first in
       let old = taken-can x (at x is_x) m (flat-in (λ (run : RunView). run.files) (map view_of x.taking.taken) (view_of r) m (map-in view_of x.taking.taken r first) own_m) in
-      let file : HasNamable s (live_entry s x.group f.meta) = subst (HasNamable s) (sym is) (each-of (HasNamable s) plan.added.items e can h) in
+      let written : IsWithin (shape_of s) (adding e) = each-of (IsWithin (shape_of s)) (map adding plan.added.items) (adding e) within (map-in adding plan.added.items e h) in
+      let file = file-can x (at x is_x) f has (subst (λ (m : FileMeta). IsFileWithin (shape_of s) m) (ap (λ (e : files.Entry). e.file) (sym is)) written.file) in
       subst (IsEntry (shape_of s)) is (record { partition = old.partition; total = refl; bucket = old.bucket; file = file }))
 
   go-apart : Pairs Apart plan.removed.items
@@ -196,12 +225,28 @@ module _ (tie : GroupsTie) (left : LeftJoined) (read : ReadEntries) (stored : Ta
   none-told : map adding plan.changes.items ≡ []
   none-told = ap (λ (es : List files.Entry). map adding es) knows.untold
 
-  pub may-change : AllByRecursion (HasNamable s) plan.added.items → MayChange s (delta_of_plan plan)
-  may-change can = record {
+  pub may-change : AllByRecursion (IsWithin (shape_of s)) (entries_of (delta_of_plan plan)) → MayChange s (delta_of_plan plan)
+  may-change within = record {
     can_go = can-go;
-    can_come = adding-can s plan.added.items (can-come can);
+    can_come = adding-can s plan.added.items (can-come
+        (AllByRecursion-parts (IsWithin (shape_of s)) (map deleted plan.removed.items) (map adding plan.added.items) within).1);
     can_tell = subst (AllByRecursion (IsEntry (shape_of s))) (sym none-told) tt;
     told = subst (AllByRecursion IsChangelogEntry) (sym none-told) tt;
     removed = pairs-to Apart plan.removed.items go-apart;
     added = pairs-to Apart (map adding plan.added.items) (adding-apart plan.added.items come-apart);
   }
+
+-- what a try by the plan changes, where it is made
+pub attempt-change : (tie : GroupsTie) (left : LeftJoined) (read : ReadEntries) (stored : TakenStored) (one : OneName) (me : Actor) (files0 : Files) (p : Past) (s : TableSchema)
+    (declared : IsDeclared s) (entries : List Entry) (base : ℕ) (t : Attempt) (plan : Plan) (given : List CommitFile) → KnowsTable files0 s entries p → base ≤ length entries
+    → KnowsPlan me s base plan given p → t.intent ≡ intents.Compact plan → (made : IsMadeOf s t.newest t.author t.intent t.names t.made) → MayChange s made.delta
+attempt-change tie left read stored one me files0 p s declared entries base t plan given known to knows is made =
+    subst (MayChange s) (sym delta) (may-change tie left read stored one me files0 p s declared entries base plan given known to knows
+    (subst (λ (d : Delta). AllByRecursion (IsWithin (shape_of s)) (entries_of d)) delta within))
+  where
+    delta : made.delta ≡ delta_of_plan plan
+    delta = subst (λ (i : Intent). IsDeltaFor i made.delta) is (delta-for s t.newest t.names made.left t.intent made.delta made.row_files made.has_delta)
+
+    within : AllByRecursion (IsWithin (shape_of s)) (entries_of made.delta)
+    within = (let lists = made.are_manifests.are_lists in
+        manifest-within s made.are_manifests.left lists.after_delta (entries_of made.delta) lists.delta lists.delta_files lists.has_delta)

@@ -5,16 +5,19 @@ use Rattle.std.proofs.lemmas.Bool.Decides.{nat_tests}
 use Rattle.std.proofs.lemmas.List.Elements.{Contains-append_left}
 use Rattle.pm_store.specs.Files.{Files}
 use Rattle.pm_values.specs.Names.{Naming}
+use Rattle.pm_values.specs.Order.{Values}
 use Rattle.pm_values.specs.declared.file_meta.FileMeta.{FileMeta}
 use Rattle.pm_values.specs.declared.group.Group.{Group}
-use Rattle.pm_model_history.specs.History.{Entry, IsTableOf, table}
+use Rattle.pm_model_history.specs.History.{Entry, IsTableOf, rows_up_to, table}
 use Rattle.pm_schema.specs.declared.schema.TableSchema.{TableSchema}
-use Rattle.pm_engine.specs.Covers.{IsRising}
+use Rattle.pm_model_following.specs.Groups.{rows_in}
+use Rattle.pm_engine.specs.Covers.{IsRising, Run, of_key}
 use Rattle.pm_engine.specs.Meaning.{DropsNoEffect}
 use Rattle.pm_engine.specs.OfSchema.{meaning_of}
 use Rattle.pm_merge.specs.Merge.{AreStored, all_rows}
 use Rattle.pm_merge.specs.Merging.{runs_in}
 use Rattle.pm_merge.specs.Source.{Rest}
+use Rattle.pm_run.specs.Order.{keys_of}
 use Rattle.pm_run.specs.Row.{most_sequence}
 use Rattle.pm_values.specs.declared.record.Stamped.{Stamped}
 use Rattle.pm_run.specs.Writing.{IsRun, bytes_of}
@@ -33,8 +36,8 @@ use Rattle.pm_model_folder.specs.Entries.{AreLive}
 use Rattle.pm_model_folder.specs.Ledger.{HasNamedNone, IsKnown, KnowsTable, Past, Stands, count_of}
 use Rattle.pm_model_folder.specs.Runs.{AreInFiles, HaveLiveFiles, view_of}
 use Rattle.pm_model_folder.proofs.RunFacts.{file-named, in-none, origin-none}
-use Rattle.pm_runs.specs.Stand.{top_of}
-use Rattle.pm_runs.specs.Succession.{AreKnownAt, IsNew, IsTaken, KnownRun, MayTakePlace, StillStands, Taking, from_oldest}
+use Rattle.pm_runs.specs.Stand.{oldest_first, top_of}
+use Rattle.pm_runs.specs.Succession.{AreKnownAt, IsNew, IsTaken, KnownRun, MayTakePlace, StillStands, Taking, from_oldest, without_files}
 use Rattle.pm_compact.specs.Made.{made_run, metas_of}
 use Rattle.pm_compact.specs.Rewritten.{AreRewritten, HaveOwnRows, most_in_file}
 use Rattle.pm_choice.specs.Choice.{live_entry}
@@ -46,9 +49,11 @@ use Rattle.pm_made.proofs.ListLemmas.{Pairs, any-in, each-of, in-map, none-found
 use Rattle.pm_compaction.specs.Plan.{IsRewrittenAt, RewrittenGroup}
 use Rattle.pm_compaction.proofs.BaseLemmas.{RunsThere, TakenStored, all-rising, numbered, runs-there}
 use Rattle.pm_compaction.proofs.EntryLemmas.{LeftJoined}
-use Rattle.pm_compaction.proofs.ListLemmas.{flat-in, map-in}
+use Rattle.pm_compaction.proofs.KeyLemmas.{HasRowOf}
+use Rattle.pm_compaction.proofs.ListLemmas.{flat-in, in-flat, map-in}
 use Rattle.pm_compaction.proofs.LiveLemmas.{OneId}
 use Rattle.pm_compaction.proofs.MadeLemmas.{ComesBefore, OneName, in-turn, named-by, named-file}
+use Rattle.pm_compaction.proofs.RowLemmas.{covered-row, from-taken, has-key, kept-in, of-group, run-there, some-of-key}
 
 -- ---- the newest entry of which a run may have rows
 
@@ -164,6 +169,34 @@ module _ (left : LeftJoined) (read : ReadEntries) (stored : TakenStored) (me : A
       (not-false (is_of_any es (live_entry s g m)) (none-found (λ (e : files.Entry). not (is_of_any es e)) removed none (live_entry s g m) gone)) in
       let id : id_of e ≡ id_of (live_entry s g m) = (one (id_of e) (id_of (live_entry s g m))).0 same in
       (m, e, has, (are.exact e).0 there, ap (λ (i : FileId). i.group) id, ap (λ (i : FileId). i.name) id, ap (λ (i : FileId). i.level) id)
+
+  -- ---- each key of the run that was made is that of a row of the group
+
+  -- a key that a run has which was taken is that of a row of the group
+  taken-row : (r : KnownRun) (y : Stamped) (key : Values) → Contains t.taken r → Contains r.rows y → y.key ≡ key → HasRowOf s g key
+  taken-row r y key taken h own =
+      let runs = p.runs base g in
+      let rows = rows_in s g (rows_up_to entries base) in
+      let known_at = (known.runs.succession g).known base since to in
+      let (q, covered, is_taken) = covered-row (meaning_of s) (oldest_first (λ level. true) (map without_files runs)) rows r.rows key known_at.stand.all
+      (run-there runs r (taken-there r taken)) (has-key key r.rows y h own) in
+      record { row = q.1; fits = is_taken.fits; group = of-group s g (rows_up_to entries base) q covered; own = is_taken.of_key }
+
+  -- a key that the runs have which were merged
+  read-row : (y : Stamped) (key : Values) → Contains (all_rows (runs_in is.rests)) y → y.key ≡ key → HasRowOf s g key
+  read-row y key h own =
+      let (run, in_runs, in_run) = in-flat (λ (run : Run). run) (runs_in is.rests) y h in
+      let (r, taken, rows_are) = from-taken t.taken run (subst (λ (rs : List Run). Contains rs run) is.read in_runs) in
+      taken-row r y key taken (subst (λ (rows : Run). Contains rows y) (sym rows_are) in_run) own
+
+  pub made-key : (key : Values) → Contains (keys_of is.made.run) key → HasRowOf s g key
+  made-key key h =
+      let (y, in_run, same) = in-map (λ (y : Stamped). y.key) is.made.run key h in
+      let (merged, merge, kept) = is.made.is in
+      let old : Contains merged y = kept-in (meaning_of s) x.whole merged y (subst (λ (rows : Run). Contains rows y) kept in_run) in
+      let some : of_key key (all_rows (runs_in is.rests)) ≢ [] = λ none. has-key key merged y old same ((merge.keys key).1 none) in
+      let (z, among, own) = some-of-key key (all_rows (runs_in is.rests)) some in
+      read-row z key among own
 
   -- ---- the run that was made is new
 

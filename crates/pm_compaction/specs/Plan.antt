@@ -12,8 +12,6 @@ use Rattle.pm_merge.specs.Source.{Rest}
 use Rattle.pm_run.specs.declared.run.RunFile.{RunFile}
 use Rattle.pm_snapshot.specs.Names.{MayName}
 use Rattle.pm_snapshot.specs.declared.snapshot.Snapshot.{Snapshot}
-use Rattle.pm_manifest.specs.Entries.{IsFile}
-use Rattle.pm_manifest.specs.Shape.{shape_of}
 use Rattle.pm_manifest.specs.declared.entry.Entry as files
 use Rattle.pm_model_contents.specs.Runs.{data_path}
 use Rattle.pm_runs.specs.Stand.{top_of}
@@ -77,10 +75,6 @@ pub record IsRewrittenAt (me : Actor) (s : TableSchema) (base : ℕ) (p : Past) 
   pub read : runs_in rests ≡ from_oldest x.taking.taken
   pub made : AreRewritten s (meaning_of s) x.whole x.taking.out x.names rests x.files
   pub names : NamesSoMany me base (length x.files) x.names
-
--- the file of an entry is one of its group's that a manifest can name
-abbrev pub HasNamable : TableSchema → files.Entry → Type 0
-HasNamable s e = IsFile (shape_of s) e.group.partition e.file
 
 -- ---- all of them
 

@@ -16,12 +16,12 @@ ghost use Rattle.pm_put.specs.Meaning.{IsPut};
 ghost use Rattle.pm_put.specs.declared.putting.CommitFile.{CommitFile as FileView};
 ghost use Rattle.pm_made.specs.Commit.{Attempt, AreOwnFiles, IsAsMade, IsFullWithin, IsNewestOf, IsReady};
 ghost use Rattle.pm_made.specs.Commit.{MayChange};
-ghost use Rattle.pm_made.specs.Files.{delta_of_plan};
+ghost use Rattle.pm_made.specs.Files.{IsMadeOf};
 ghost use Rattle.pm_made.specs.declared.intent.Intent.TheVariants as intents;
 ghost use Rattle.pm_made.specs.declared.intent.Plan.{Plan};
 ghost use Rattle.pm_made.specs.declared.newest.Newest.{Newest};
 ghost use Rattle.pm_compaction.specs.Compacted.{GoesOnWith, HasCompacted};
-ghost use Rattle.pm_compaction.specs.Plan.{HasNamable, KnowsPlan};
+ghost use Rattle.pm_compaction.specs.Plan.{KnowsPlan};
 
 use pm_choice::stored_law;
 use pm_compact::rewritten_law;
@@ -31,6 +31,7 @@ use pm_levels::{newest_law, replaced_law};
 use pm_made::{commit_law, made_law};
 use pm_manifest::{id_law, joined_law, read_entry_law};
 use pm_model_contents::{one_contents_law, one_runs_law, same_law};
+use pm_schema::{declared_law, schema_law};
 use pm_values::{names_law, order_law};
 
 /// What a planned compaction knows stays so, whoever commits: it is of its base alone.
@@ -43,8 +44,8 @@ pub fn plan_law()
 }
 
 /// So it shows of a try by the plan what this needs to be ready: its base is a snapshot of the table, the files that
-/// were made are the actor's, the count of appends that it bears is within that of the newest snapshot, and, where a
-/// manifest can name each of those files, its delta's entries can stand in one, and no two of them are of one file.
+/// were made are the actor's, the count of appends that it bears is within that of the newest snapshot, and its delta's
+/// entries, as they are written, can stand in a manifest, and no two of them are of one file.
 pub fn ready_law()
     ensures base { (me : Actor) (p : Past) (s : TableSchema) (entries : List Entry) (base : ℕ) (plan : Plan)
         (given : List FileView) → p.history ≡ table s entries → KnowsPlan me s base plan given p →
@@ -57,9 +58,9 @@ pub fn ready_law()
         IsNewestOf f s entries newest → KnowsPlan me s base plan given p →
         IsFullWithin newest.snapshot (intents.Compact plan) }
     ensures change { (me : Actor) (f : Files) (p : Past) (s : TableSchema) (entries : List Entry) (base : ℕ)
-        (plan : Plan) (given : List FileView) → Stands f p → p.history ≡ table s entries →
-        KnowsPlan me s base plan given p → AllByRecursion (HasNamable s) plan.added.items →
-        MayChange s (delta_of_plan plan) }
+        (t : Attempt) (plan : Plan) (given : List FileView) → Stands f p → p.history ≡ table s entries →
+        KnowsPlan me s base plan given p → t.intent ≡ intents.Compact plan →
+        (made : IsMadeOf s t.newest t.author t.intent t.names t.made) → MayChange s made.delta }
 {
     pm_model_folder::appends_law();
     stored_law();
@@ -68,6 +69,8 @@ pub fn ready_law()
     one_contents_law();
     one_runs_law();
     same_law();
+    schema_law();
+    declared_law();
     names_law();
     order_law();
 }
