@@ -45,10 +45,9 @@ use Rattle.pm_write.specs.Batch.{Groups, IsBatchOf, ReadsBatch}
 use Rattle.pm_write.specs.Taken.{all_taken, no_room, taken_at, taken_by, taken_in, taken_of}
 use Rattle.pm_commit.specs.AllCalls as commit
 use Rattle.pm_commit.specs.AllCalls.{AppendsTables, DidAppend, HasBorne, MayBegin, MayStart, NamesNone}
-use Rattle.pm_commit.specs.Alone.{Beginning, GivesReason, IsUnchanged, WasUsed, begun_at, with_entry}
+use Rattle.pm_commit.specs.Alone.{Beginning, GivesReason, IsUnchanged, WasUsed, with_entry}
 use Rattle.pm_commit.specs.declared.all_calls.Appended.{Appended}
 use Rattle.pm_commit.specs.declared.all_calls.Appended.TheVariants as appends
-use Rattle.pm_commit.proofs.OwnLemmas.{never-taken}
 use Rattle.pm_command_write.specs.Input.{HasLines, MayRefuseInput, RefusesInput}
 use Rattle.pm_command.specs.Outside.{HaveSame, Outside, outside, actor, Prints, Rests}
 use Rattle.pm_command.specs.declared.start.Start.{Start}
@@ -348,9 +347,7 @@ module _ (start : Start) (w : Writer) (lines : Lines) (s : TableSchema) (batch :
     at-first (λ b. GivesReason b (Some (refusals.Fenced base fence))) first has does.says,
     unchanged first after has does.leaves,
   )
-  spoiled first after (refusals.CompactTaken file) has does =
-      let (found, sees, reason) = does.says in
-      absurd (never-taken found.newest (begun_at b).author batch file reason)
+  spoiled first after (refusals.CompactTaken file) has does = absurd (does.says.0 tt)
   spoiled first after (refusals.Limit which number) has does = (
     inr (at-first (λ b. GivesReason b (Some (refusals.Limit which number))) first has does.says),
     unchanged first after has does.leaves,

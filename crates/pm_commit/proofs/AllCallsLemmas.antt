@@ -274,7 +274,7 @@ module _ (b : Beginning) (start after : StoreView) where
   refused-leaves (refusals.StoreFault path) f p folder (inr (same, is)) = (inr (subst (Folder f) same folder, is), tt)
   refused-leaves (refusals.SessionUsed path) f p folder (same, used) = (subst (Folder f) same folder, used)
   refused-leaves (refusals.Fenced base fence) f p folder (same, unchanged, reason) = ((subst (Folder f) same folder, unchanged), reason)
-  refused-leaves (refusals.CompactTaken file) f p folder (same, unchanged, reason) = ((subst (Folder f) same folder, unchanged), reason)
+  refused-leaves (refusals.CompactTaken file) f p folder (none, same, unchanged, reason) = ((subst (Folder f) same folder, unchanged), (none, reason))
   refused-leaves (refusals.Limit which number) f p folder (same, unchanged, reason) = ((subst (Folder f) same folder, unchanged), reason)
   refused-leaves other f p folder none = absurd none
 

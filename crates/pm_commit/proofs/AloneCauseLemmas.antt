@@ -27,18 +27,19 @@ use Rattle.pm_put.specs.Putter.{create_call}
 use Rattle.pm_put.specs.declared.phase.Phase.TheVariants as puts
 use Rattle.pm_commit.specs.Marks.{FindsUsed}
 use Rattle.pm_commit.specs.Meaning.{HasOrigin, IsFoundIn, KnowsOwn, KnowsTry}
-use Rattle.pm_commit.specs.Own.{IsTried, OwnView, actor_of, begun}
+use Rattle.pm_commit.specs.Own.{IsNoAppend, IsTried, OwnView, actor_of, begun}
 use Rattle.pm_commit.specs.Search.{seen_of}
 use Rattle.pm_commit.specs.declared.found.Found.{Found}
 use Rattle.pm_commit.specs.declared.phase.Phase.{Phase}
 use Rattle.pm_commit.specs.declared.phase.Phase.TheVariants as phases
 use Rattle.pm_commit.proofs.CauseLemmas.{IsNone, ReaderCauses, good-snapshot, met-at, shown-none, view-found}
-use Rattle.pm_commit.proofs.CommitterLemmas.{begun-at, ready-schema}
+use Rattle.pm_commit.proofs.CommitterLemmas.{begun-at, begun-intent, ready-schema}
 use Rattle.pm_commit.proofs.CreateLemmas.{create-named}
 use Rattle.pm_commit.proofs.Facts.{Laws, NoPublish, next-not}
 use Rattle.pm_commit.proofs.FoundLemmas.{found-same, found-there}
 use Rattle.pm_commit.proofs.NewestLemmas.{IsOfNewest, expired-never, newest-at, reads-newest, shown-newest}
 use Rattle.pm_commit.proofs.OutcomeLemmas.{heard-refused, read-refused, tried-refused}
+use Rattle.pm_commit.proofs.OwnLemmas.{none-taken}
 use Rattle.pm_commit.proofs.ReadsLemmas.{reads-on}
 use Rattle.pm_commit.proofs.TraceLemmas.{IsReason, if-is, is-reason, some-at}
 
@@ -101,7 +102,9 @@ module _ (laws : Laws) (b : Beginning) (f : Files) (p : Past) (stands : Stands f
 
   denied-by : (refusal : Refusal) → IsReason refusal → IsUnchanged b f → GivesReason b (Some refusal) → AloneRefused b refusal f p
   denied-by (refusals.Fenced base fence) is unchanged gives = (same, unchanged, gives)
-  denied-by (refusals.CompactTaken file) is unchanged gives = (same, unchanged, gives)
+  denied-by (refusals.CompactTaken file) is unchanged (found, sees, reason) =
+      let none : IsNoAppend (begun_at b).intent = none-taken found.newest (begun_at b).author (begun_at b).intent file reason in
+      (subst IsNoAppend (begun-intent b.own (newest_id b)) none, same, unchanged, (found, sees, reason))
   denied-by (refusals.Limit which number) is unchanged gives = (same, unchanged, gives)
   denied-by other is unchanged gives = absurd is
 

@@ -91,6 +91,7 @@ new-is-own law s rows batch author check names built is some first count = recor
   built = built;
   made_for = tt;
   fits = law.folders s rows batch built.no_partition is;
+  one_group = count-one batch some is.ordered (each-only s rows batch built is batch (law.held s rows batch is));
   few = (let one = count-one batch some is.ordered (each-only s rows batch built is batch (law.held s rows batch is)) in omega (arith, one));
   same_base = sym first;
   within = omega arith;

@@ -51,6 +51,7 @@ use Rattle.pm_commit.specs.declared.phase.Phase.TheVariants as phases
 use Rattle.pm_commit.proofs.Facts.{Laws}
 use Rattle.pm_commit.proofs.CommitterLemmas.{asked-same}
 use Rattle.pm_commit.proofs.OriginLemmas.{origin-on}
+use Rattle.pm_commit.proofs.OwnLemmas.{none-taken}
 use Rattle.pm_commit.proofs.OutcomeLemmas.{err-ok, heard-refused, read-refused, tried-refused}
 use Rattle.pm_commit.proofs.ReadsLemmas.{reads-on}
 use Rattle.pm_commit.proofs.TraceLemmas.{IsReason, is-reason, some-at}
@@ -114,7 +115,8 @@ shown-none s m answer refusal reads shown = absurd shown
 
 denied-by : (own : OwnView) (f : Files) (p : Past) (refusal : Refusal) → IsReason refusal → IsDenied own p refusal → MayRefuseOwn own f p refusal
 denied-by own f p (refusals.Fenced base fence) is denied = denied
-denied-by own f p (refusals.CompactTaken file) is denied = denied
+denied-by own f p (refusals.CompactTaken file) is (found, base, is_found, at, reason) =
+    (none-taken found.newest (record own.author { base = base }) own.intent file reason, (found, base, is_found, at, reason))
 denied-by own f p (refusals.Limit which number) is denied = denied
 denied-by own f p other is denied = absurd is
 

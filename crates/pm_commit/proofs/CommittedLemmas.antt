@@ -25,7 +25,7 @@ use Rattle.pm_append.specs.Commit.{AreBaseIf, HasAppended}
 use Rattle.pm_append.specs.Snapshot.{append_snapshot}
 use Rattle.pm_commit.specs.AllCalls.{BearsCommit, StoodSo}
 use Rattle.pm_commit.specs.Alone.{Beginning, SeesNewest, begun_at, newest_id, with_entry}
-use Rattle.pm_commit.specs.Meaning.{HasAdded, HasCommitted}
+use Rattle.pm_commit.specs.Meaning.{BearsAdded, HasCommitted}
 use Rattle.pm_commit.proofs.FoundLemmas.{LiveEntries, found-stood}
 use Rattle.pm_commit.proofs.NewestLemmas.{newest-at}
 
@@ -81,10 +81,10 @@ appended-held same f g s newest author count has own held =
       few = has.few;
     }
 
-pub added-held : SameContents → (f g : Files) (s : TableSchema) (newest : Newest) (author : Author) (e : Entry) → HasAdded f s newest author e
+pub added-held : SameContents → (f g : Files) (s : TableSchema) (newest : Newest) (author : Author) (e : Entry) → BearsAdded f s newest author e
     → ((path : List ℕ) → (path ≡ snapshot_path (newest.id + 1)) → map.get g path ≡ map.get f path)
     → ((x : Snapshot) (c : Contents) (path : List ℕ) → HasCommit f s (newest.id + 1) x c → IsNamed s x c path → map.get g path ≡ map.get f path)
-    → HasAdded g s newest author e
+    → BearsAdded g s newest author e
 added-held same f g s newest author (append user identifier rows) (same_user, same_identifier, has) own held = (
   same_user,
   same_identifier,

@@ -43,7 +43,10 @@ begun-at P own n stays sets = at own.lost
 
 pub begun-own : (s : TableSchema) (own : OwnView) (n : ℕ) → IsOwn s own → IsOwn s (begun n own)
 begun-own s own n is = begun-at (IsOwn s) own n is
-    (record { built = is.built; made_for = is.made_for; fits = is.fits; few = is.few; same_base = refl; within = is.within; named = is.named })
+    (record { built = is.built; made_for = is.made_for; fits = is.fits; one_group = is.one_group; few = is.few; same_base = refl; within = is.within; named = is.named })
+
+pub begun-intent : (own : OwnView) (n : ℕ) → (begun n own).intent ≡ own.intent
+begun-intent own n = begun-at (λ o. o.intent ≡ own.intent) own n refl refl
 
 pub begun-lost : (own : OwnView) (n : ℕ) → (begun n own).lost ≡ own.lost
 begun-lost own n = begun-at (λ o. o.lost ≡ own.lost) own n refl refl
@@ -54,6 +57,7 @@ made-tried own found made is own_of = record {
   built = own_of.built;
   made_for = own_of.made_for;
   fits = own_of.fits;
+  one_group = own_of.one_group;
   few = own_of.few;
   same_base = own_of.same_base;
   within = own_of.within;
@@ -70,6 +74,7 @@ lost-own s own id left tried =
       built = tried.built;
       made_for = tried.made_for;
       fits = tried.fits;
+      one_group = tried.one_group;
       few = tried.few;
       same_base = tried.same_base;
       within = omega (arith, longer, left);

@@ -670,7 +670,7 @@ module _ (laws : view.OneLaws) (s : TableSchema) where
     own_shown (refusals.Damaged path place) own after = by_tries (Err (refusals.Damaged path place)) own (Misreads s path place) after (misreads path place)
     own_shown (refusals.Fenced base fence) own after =
         by_tries (Err (refusals.Fenced base fence)) own (FindsReason s (refusals.Fenced base fence)) after (finds_reason (refusals.Fenced base fence))
-    own_shown (refusals.CompactTaken file) own after =
+    own_shown (refusals.CompactTaken file) own (none, after) =
         by_tries (Err (refusals.CompactTaken file)) own (FindsReason s (refusals.CompactTaken file)) after (finds_reason (refusals.CompactTaken file))
     own_shown (refusals.Limit which number) own after =
         by_tries (Err (refusals.Limit which number)) own (FindsReason s (refusals.Limit which number)) after (finds_reason (refusals.Limit which number))

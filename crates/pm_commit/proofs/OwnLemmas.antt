@@ -15,7 +15,7 @@ use Rattle.pm_made.specs.declared.intent.Intent.TheVariants as intents
 use Rattle.pm_made.specs.declared.newest.Author.{Author}
 use Rattle.pm_made.specs.declared.newest.Newest.{Newest}
 use Rattle.pm_append.specs.Commit.{IsBuilt}
-use Rattle.pm_commit.specs.Own.{IsAppend}
+use Rattle.pm_commit.specs.Own.{IsAppend, IsNoAppend}
 
 -- ---- an append
 
@@ -42,7 +42,7 @@ not-it : (t : Bool) (one it : Refusal) (later : Option Refusal) → (one ≡ it 
 not-it true one it later other none e = other (let same : one ≡ it = cc in same)
 not-it false one it later other none e = none e
 
-pub never-taken : (newest : Newest) (author : Author) (batch : Groups) (file : List ℕ)
+never-taken : (newest : Newest) (author : Author) (batch : Groups) (file : List ℕ)
     → refusal_of newest author (intents.Append batch) ≡ Some (refusals.CompactTaken file) → ⊥
 never-taken newest author batch file =
     let it : Refusal = refusals.CompactTaken file in
@@ -50,6 +50,12 @@ never-taken newest author batch file =
     (not-it (above_files (length newest.live.items + length batch)) no_files it _ (λ e. cc)
     (not-it (above_numbers newest.live.items batch) no_sequence it _ (λ e. cc)
     (not-it (above_id newest.id) no_id it None (λ e. cc) (λ e. cc))))
+
+pub none-taken : (newest : Newest) (author : Author) (intent : Intent) (file : List ℕ) → refusal_of newest author intent ≡ Some (refusals.CompactTaken file)
+    → IsNoAppend intent
+none-taken newest author (intents.Append batch) file reason is = never-taken newest author batch file reason
+none-taken newest author (intents.Compact plan) file reason is = is
+none-taken newest author (intents.Fence number) file reason is = is
 
 -- ---- a table that is built
 

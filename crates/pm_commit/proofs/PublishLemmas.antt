@@ -36,7 +36,7 @@ use Rattle.pm_made.specs.declared.newest.Newest.{Newest}
 use Rattle.pm_append.specs.Commit.{Grows, HasAppended, IsReady, Try, attempt_of, entry_of}
 use Rattle.pm_commit.specs.Alone.{with_entry}
 use Rattle.pm_commit.specs.Committer.{after_path, newest_in, publishing_of}
-use Rattle.pm_commit.specs.Meaning.{HasAdded, HasCommitted, HasEntry, KnowsOwn, KnowsTry, MakesOwn}
+use Rattle.pm_commit.specs.Meaning.{BearsAdded, HasCommitted, HasEntry, KnowsOwn, KnowsTry, MakesOwn}
 use Rattle.pm_commit.specs.Own.{IsTried, OwnView, actor_of}
 use Rattle.pm_commit.specs.declared.found.Found.{Found}
 use Rattle.pm_put.proofs.Facts.{published_absent, published_there}
@@ -189,7 +189,7 @@ module _ (one : OneContents) (same : SameContents) (paths : NamedPaths) (live_la
       follows : IsEntryAfter s entries e
       commit : IsCommit f after s entries e
       names : NamesOwn (actor_of own) f after s (length entries)
-      added : HasAdded after s t.newest own.author e
+      added : BearsAdded after s t.newest own.author e
       runs : Group → List KnownRun
       goes : (g : Group) → GoesWith after p s entries e g (runs g)
 
@@ -252,7 +252,7 @@ module _ (one : OneContents) (same : SameContents) (paths : NamedPaths) (live_la
             follows = subst (IsEntryAfter s entries) (sym means.is) means.fit;
             commit = subst (λ (e : Entry). IsCommit f after s entries e) same-entry all.0;
             names = all.1;
-            added = subst (λ (e : Entry). HasAdded after s t.newest own.author e) (sym means.is)
+            added = subst (λ (e : Entry). BearsAdded after s t.newest own.author e) (sym means.is)
                 (refl, refl, subst (λ (a : Author). HasAppended after s t.newest a (length (entry_rows e))) is_try.same_author all.3);
             runs = runs;
             goes = λ g. subst (λ (x : Entry). GoesWith after p s entries x g (runs g)) (sym means.is)
@@ -283,7 +283,7 @@ module _ (one : OneContents) (same : SameContents) (paths : NamedPaths) (live_la
           is_found = found-still (actor_of own) f after p q advances (record { schema = s; newest = t.newest }) is_try.found;
           is_table = subst (IsTableOf s) (sym now) refl;
           next = id-is;
-          stood = subst (λ (g : Files). HasAdded g s t.newest own.author e) (sym (advances.stood id known fresh)) adds.added;
+          stood = subst (λ (g : Files). BearsAdded g s t.newest own.author e) (sym (advances.stood id known fresh)) adds.added;
         }
 
     published-makes : (later : Past) × MakesOwn own e f p after later × HasCommitted own.author e id later × IsNext later

@@ -23,7 +23,7 @@ use Rattle.pm_put.proofs.Facts.{at_weaker}
 use Rattle.pm_put.specs.Meaning.{IsPut}
 use Rattle.pm_put.specs.declared.phase.Phase as put_phase
 use Rattle.pm_put.specs.declared.putting.CommitFile.{CommitFile}
-use Rattle.pm_commit.specs.Meaning.{AreThere, HasAdded, HasCommitted, HasEarlier, HasEntry, IsFoundIn, IsOtherThan, Knows, KnowsIn, KnowsOwn, KnowsTry}
+use Rattle.pm_commit.specs.Meaning.{AreThere, BearsAdded, HasCommitted, HasEarlier, HasEntry, IsFoundIn, IsOtherThan, Knows, KnowsIn, KnowsOwn, KnowsTry}
 use Rattle.pm_commit.specs.Committer.{IsCommitter, put_of}
 use Rattle.pm_commit.specs.Own.{IsTried, OwnView, actor_of}
 use Rattle.pm_commit.specs.declared.found.Found.{Found}
@@ -169,7 +169,7 @@ module _ (law : OthersNone) (own_files : OwnFiles) (e : Entry) (other : Actor) (
     is_found = found-still other f after p q advances has.found has.is_found;
     is_table = reader_facts.table_still other f after p q has.found.schema advances has.is_table;
     next = has.next;
-    stood = subst (λ (g : Files). HasAdded g has.found.schema has.found.newest author e) (sym (advances.same id has.known)) has.stood;
+    stood = subst (λ (g : Files). BearsAdded g has.found.schema has.found.newest author e) (sym (advances.same id has.known)) has.stood;
   }
 
   earlier-still : (author : Author) → HasEarlier author p → HasEarlier author q

@@ -36,7 +36,7 @@ use Rattle.pm_made.specs.declared.newest.Author.{Author}
 use Rattle.pm_made.specs.declared.newest.Newest.{Newest}
 use Rattle.pm_commit.specs.Committer.{After, AfterPutter, AfterReader, Goes, Hears, Loses, Makes, Outcome, Refuses, Shown, Stops, Tries, first_of_try, found_in, manifests_call, newest_in, newest_of, next_call, publishing_of, put_of}
 use Rattle.pm_commit.specs.Marks.{FindsUsed}
-use Rattle.pm_commit.specs.Own.{OwnView, begun, tries, with_lost}
+use Rattle.pm_commit.specs.Own.{IsNoAppend, OwnView, begun, tries, with_lost}
 use Rattle.pm_commit.specs.Search.{SearchingView, older_ids, seen_in, seen_of}
 use Rattle.pm_commit.specs.Trace.{AfterLost, Did, DidInTry, DidSoFar, FindsReason, HasListed, HasPut, HasSearch, HasTry, HaveLost, HavePassed, LosesTry, MayCommit, MayTakeMemory, Meets, Searched, Shows, ShowsOwn, Views, at_newest, at_older, has_begun, has_lost, is_absent, is_below, is_none, listed_manifests, lost_by, named_by, not_asked}
 use Rattle.pm_commit.specs.declared.search.Seen.{Seen}
@@ -50,8 +50,9 @@ use Rattle.pm_put.specs.declared.phase.Phase as put_phase
 use Rattle.pm_put.specs.declared.phase.Phase.TheVariants as puts
 use Rattle.pm_commit.specs.declared.phase.Phase.{Phase}
 use Rattle.pm_commit.specs.declared.phase.Phase.TheVariants as phases
-use Rattle.pm_commit.proofs.CommitterLemmas.{begun-lost}
+use Rattle.pm_commit.proofs.CommitterLemmas.{begun-intent, begun-lost}
 use Rattle.pm_commit.proofs.OutcomeLemmas.{IsFree, err-ok, heard, heard-refused, ok-same, read-on, read-refused, tried}
+use Rattle.pm_commit.proofs.OwnLemmas.{none-taken}
 
 -- ---- one event more
 
@@ -384,10 +385,19 @@ module _ (s : TableSchema) where
     forgot m call answer refusal own did is may none memory =
         as-shown refusal refusals.Memory _ memory (after_answer m call answer own did is may none refl)
 
+    -- tries that were lost don't change what the commit is for
+    lost-intent : (o : OwnView) (own : List Event) → HaveLost s (HasListed first) o own → o.intent ≡ first.intent
+    lost-intent o own (has_begun _ _ begins) = ap (λ (o : OwnView). o.intent) begins.0
+    lost-intent o own (has_lost p v made earlier later left lost loses) = begun-intent p v.id ∙ lost-intent p earlier lost
+
     -- there is a reason against the commit
     found-reason : (refusal : Refusal) (own : List Event) → IsReason refusal → AfterLost s first (FindsReason s refusal) own → Shows s first refusal own
     found-reason (refusals.Fenced base fence) own is found = inr found
-    found-reason (refusals.CompactTaken file) own is found = inr found
+    found-reason (refusals.CompactTaken file) own is (o, earlier, later, lost, (v, reason, searched), at) =
+        let p : OwnView = begun v.id o in
+        let same : p.intent ≡ first.intent = begun-intent o v.id ∙ lost-intent o earlier lost in
+        let none : IsNoAppend p.intent = none-taken (newest_in v) p.author p.intent file reason in
+        inr (subst IsNoAppend same none, (o, earlier, later, lost, (v, reason, searched), at))
     found-reason (refusals.Limit which number) own is found = inr found
     found-reason other own is found = absurd is
 

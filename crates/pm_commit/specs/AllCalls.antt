@@ -1,6 +1,7 @@
 -- All calls of a committer, from those that read the table's schema on: what they are, and what they do to a history
 -- that stands at the first of them, where nobody else acts from then on.
-use Rattle.std.specs.Prelude.{◌≡◌, ◌≢◌, ◌⊎◌, ℕ, ◌+◌, ◌≤◌, List, ◌++◌, true, None, Some, IsSomeAnd, IfErr, Result, Ok, Err}
+use Rattle.std.specs.Prelude.{◌≡◌, ◌≢◌, ◌⊎◌, ℕ, ◌+◌, ◌≤◌, List, ◌++◌, true, None, Some, IsSomeAnd, IfErr}
+use Rattle.std.specs.Prelude.{Result, Ok, Err}
 use Rattle.pm_base.specs.Faults.{Rose}
 use Rattle.pm_values.specs.declared.refusal.Refusal.{Refusal}
 use Rattle.pm_values.specs.declared.refusal.Refusal.TheVariants as refusals
@@ -23,10 +24,10 @@ use Rattle.pm_read_schema.specs.Trace as schema
 use Rattle.pm_read_schema.specs.declared.phase.Phase.TheVariants as readers
 use Rattle.pm_made.specs.Intent.{Means}
 use Rattle.pm_made.specs.declared.newest.Author.{Author}
-use Rattle.pm_commit.specs.Alone.{Beginning, GivesReason, IsUnchanged, KnewAlone, KnowsAlone, SeesNewest, WasUsed, begun_at}
-use Rattle.pm_commit.specs.Alone.{newest_id, with_entry}
-use Rattle.pm_commit.specs.Meaning.{HasAdded}
-use Rattle.pm_commit.specs.Own.{OwnView, actor_of}
+use Rattle.pm_commit.specs.Alone.{Beginning, GivesReason, IsUnchanged, KnewAlone, KnowsAlone, SeesNewest, WasUsed}
+use Rattle.pm_commit.specs.Alone.{begun_at, newest_id, with_entry}
+use Rattle.pm_commit.specs.Meaning.{BearsAdded}
+use Rattle.pm_commit.specs.Own.{IsNoAppend, OwnView, actor_of}
 use Rattle.pm_commit.specs.Search.{seen_of}
 use Rattle.pm_commit.specs.Trace.{Did, Shows}
 use Rattle.pm_commit.specs.declared.all_calls.Appended.{Appended}
@@ -90,7 +91,7 @@ StandsForEither b f = StandsFreely b b.history f ⊎ StandsFreely b (with_entry 
 -- entry to what the newest one was at the beginning
 abbrev pub BearsCommit : Beginning → Files → Type 0
 BearsCommit b f = (found : Found) × SeesNewest b found
-    × HasAdded f found.schema found.newest (begun_at b).author b.entry
+    × BearsAdded f found.schema found.newest (begun_at b).author b.entry
 
 -- What an answer leaves of the files: they stand for the history with the entry, once that is committed, and have its
 -- snapshot; and they stand for the history else, but that after a fault of the store in the publish of the next
@@ -117,8 +118,8 @@ pub record HasBorne (author : Author) (f : Files) (h : History) : Type 0 where
 
 -- What an answer says of the beginning: the id is the next one, and there is no reason against the commit; an earlier
 -- commit was to be looked for, and the author committed before; a file of the actor's name was there; or this is the
--- first reason against it. A fault of the store says nothing of it, and nor does it that memory ran out. No other
--- refusal comes.
+-- first reason against it, which for an append is never that a file was taken. A fault of the store says nothing of it,
+-- and nor does it that memory ran out. No other refusal comes.
 abbrev pub SaysOf : Beginning → Result Appended Refusal → Type 0
 SaysOf b (Ok (appends.Committed id)) = (id ≡ newest_id b + 1) × GivesReason b None
 SaysOf b (Ok appends.Already) = (b.own.check ≡ true) × HasBorne b.own.author b.files b.history
@@ -126,7 +127,8 @@ SaysOf b (Err refusals.Memory) = Unit {0}
 SaysOf b (Err (refusals.StoreFault path)) = Unit {0}
 SaysOf b (Err (refusals.SessionUsed path)) = WasUsed b path
 SaysOf b (Err (refusals.Fenced base fence)) = GivesReason b (Some (refusals.Fenced base fence))
-SaysOf b (Err (refusals.CompactTaken file)) = GivesReason b (Some (refusals.CompactTaken file))
+SaysOf b (Err (refusals.CompactTaken file)) =
+    IsNoAppend b.own.intent × GivesReason b (Some (refusals.CompactTaken file))
 SaysOf b (Err (refusals.Limit which number)) = GivesReason b (Some (refusals.Limit which number))
 SaysOf b (Err other) = ⊥
 

@@ -21,7 +21,7 @@ use Rattle.pm_made.specs.Refusals.{refusal_of}
 use Rattle.pm_put.specs.declared.putting.CommitFile.{CommitFile}
 use Rattle.pm_commit.specs.Marks.{FindsUsed}
 use Rattle.pm_commit.specs.Meaning.{Knows, MakesEntry}
-use Rattle.pm_commit.specs.Own.{OwnView, actor_of, begun, with_named}
+use Rattle.pm_commit.specs.Own.{IsNoAppend, OwnView, actor_of, begun, with_named}
 use Rattle.pm_commit.specs.declared.committer.CommitStep.{CommitStep}
 use Rattle.pm_commit.specs.declared.found.Found.{Found}
 use Rattle.pm_commit.specs.declared.phase.Phase.{Phase}
@@ -122,7 +122,7 @@ WasUsed b path =
     ⊎ (IsNamedBy (actor_of b.own) path × IsSome (map.get b.files path))
 
 -- Which refusals come, and what they leave: the history, but that where the store failed in the publish it may have the
--- entry more. No try is lost, no snapshot has gone, and no file is damaged.
+-- entry more. No try is lost, no snapshot has gone, no file is damaged, and none was taken that an append needs.
 abbrev pub AloneRefused : Beginning → Refusal → Files → Past → Type 0
 AloneRefused b refusals.Memory f p = p.history ≡ b.history
 AloneRefused b (refusals.StoreFault path) f p = (p.history ≡ b.history)
@@ -130,8 +130,8 @@ AloneRefused b (refusals.StoreFault path) f p = (p.history ≡ b.history)
 AloneRefused b (refusals.SessionUsed path) f p = (p.history ≡ b.history) × WasUsed b path
 AloneRefused b (refusals.Fenced base fence) f p =
     (p.history ≡ b.history) × IsUnchanged b f × GivesReason b (Some (refusals.Fenced base fence))
-AloneRefused b (refusals.CompactTaken file) f p =
-    (p.history ≡ b.history) × IsUnchanged b f × GivesReason b (Some (refusals.CompactTaken file))
+AloneRefused b (refusals.CompactTaken file) f p = IsNoAppend b.own.intent
+    × (p.history ≡ b.history) × IsUnchanged b f × GivesReason b (Some (refusals.CompactTaken file))
 AloneRefused b (refusals.Limit which number) f p =
     (p.history ≡ b.history) × IsUnchanged b f × GivesReason b (Some (refusals.Limit which number))
 AloneRefused b other f p = ⊥

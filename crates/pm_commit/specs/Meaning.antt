@@ -34,7 +34,7 @@ use Rattle.pm_append.specs.Commit.{HasAppended}
 use Rattle.pm_put.specs.declared.putting.CommitFile.{CommitFile}
 use Rattle.pm_commit.specs.Committer.{IsCommitter, Reads, found_in, put_of}
 use Rattle.pm_commit.specs.Marks.{FindsUsed}
-use Rattle.pm_commit.specs.Own.{IsAppend, OwnView, actor_of, tries}
+use Rattle.pm_commit.specs.Own.{IsAppend, IsNoAppend, OwnView, actor_of, tries}
 use Rattle.pm_commit.specs.Search.{seen_of}
 use Rattle.pm_commit.specs.declared.search.Seen.TheVariants as seen
 use Rattle.pm_commit.specs.declared.found.Found.{Found}
@@ -73,8 +73,8 @@ MakesEntry e m f p after later = MakesIn (own_in m) e f p after later
 
 -- ---- what it knows
 
--- The entry is the commit's, and appends rows: nothing else is known to be committed yet. The actor's names may stand in
--- paths, and no known snapshot names a file that it named; and its base is a snapshot's that was committed.
+-- The entry is the commit's, and appends rows: nothing else is known to be committed yet. The actor's names may stand
+-- in paths, and no known snapshot names a file that it named; and its base is a snapshot's that was committed.
 pub record KnowsOwn (own : OwnView) (e : Entry) (s : TableSchema) (p : Past) : Type 0 where
   pub is_table : IsTableOf s p.history
   pub appends : IsAppend own.intent
@@ -123,15 +123,16 @@ abbrev pub HasEntry : Entry → ℕ → Past → Type 0
 HasEntry e id p = (s : TableSchema) × (before after : List Entry)
     × (p.history ≡ table s (before ++ e ∷ after)) × (id ≡ length before + 1)
 
--- The snapshot after the newest is there, and to its last field it is the one that adds the entry for the author. Only
--- appends are committed.
-abbrev pub HasAdded : Files → TableSchema → Newest → Author → Entry → Type 0
-HasAdded f s newest author (append user identifier rows) =
+-- The snapshot after the newest is there, and to its last field but the names of its lists it is the one that adds the
+-- entry for the author. Only appends are committed.
+abbrev pub BearsAdded : Files → TableSchema → Newest → Author → Entry → Type 0
+BearsAdded f s newest author (append user identifier rows) =
     (user ≡ author.user) × (identifier ≡ author.identifier) × HasAppended f s newest author (length rows)
-HasAdded f s newest author other = ⊥
+BearsAdded f s newest author other = ⊥
 
 -- The snapshot with this id is the commit's: the history has its entry, and, as the snapshot stood, it was to its last
--- field the one that adds the entry for its author to the snapshot before it, which a try had found.
+-- field but the names of its lists the one that adds the entry for its author to the snapshot before it, which a try
+-- had found.
 pub record HasCommitted (author : Author) (e : Entry) (id : ℕ) (p : Past) : Type 0 where
   pub entry : HasEntry e id p
   pub known : IsKnown p id
@@ -139,7 +140,7 @@ pub record HasCommitted (author : Author) (e : Entry) (id : ℕ) (p : Past) : Ty
   pub is_found : IsFoundIn p found
   pub is_table : IsTableOf found.schema p.history
   pub next : id ≡ found.newest.id + 1
-  pub stood : HasAdded (p.stood id) found.schema found.newest author e
+  pub stood : BearsAdded (p.stood id) found.schema found.newest author e
 
 -- a snapshot that was committed bore, as it stood, the author's user and an identifier that isn't smaller
 pub record HasEarlier (author : Author) (p : Past) : Type 0 where
@@ -187,13 +188,15 @@ IsDenied own p refusal = (found : Found) × (base : ℕ) × IsFoundIn p found
     × (((own.lost ≡ []) × (base ≡ found.newest.id)) ⊎ (base ≡ own.author.base))
     × (refusal_of found.newest (record own.author { base = base }) own.intent ≡ Some refusal)
 
--- The refusals that answers show where the files stand, whatever others do. No file is damaged.
+-- The refusals that answers show where the files stand, whatever others do. No file is damaged, and none was taken that
+-- an append needs.
 abbrev pub MayRefuseOwn : OwnView → Files → Past → Refusal → Type 0
 MayRefuseOwn own f p refusals.Memory = Unit {0}
 MayRefuseOwn own f p (refusals.Expired id) = reader.IsExpired f p id
 MayRefuseOwn own f p (refusals.SessionUsed path) = IsMet own f path
 MayRefuseOwn own f p (refusals.Fenced base fence) = IsDenied own p (refusals.Fenced base fence)
-MayRefuseOwn own f p (refusals.CompactTaken file) = IsDenied own p (refusals.CompactTaken file)
+MayRefuseOwn own f p (refusals.CompactTaken file) =
+    IsNoAppend own.intent × IsDenied own p (refusals.CompactTaken file)
 MayRefuseOwn own f p (refusals.Limit which number) = IsDenied own p (refusals.Limit which number)
 MayRefuseOwn own f p (refusals.Contended ids) = (id : ℕ) × (ids ≡ own.lost ++ id ∷ []) × (length ids ≡ tries)
 MayRefuseOwn own f p other = ⊥

@@ -75,25 +75,34 @@ pub record AreAlike (one other : OwnView) : Type 0 where
 abbrev pub tries : ℕ
 tries = 11
 
--- rows are appended
+-- rows are appended, or not
 abbrev pub IsAppend : Intent → Type 0
 IsAppend (intents.Append batch) = Unit {0}
 IsAppend other = ⊥
 
--- the greatest number of files that a try may make
-abbrev pub most_of_files : ℕ
-most_of_files = 2 ^ 40
+abbrev pub IsNoAppend : Intent → Type 0
+IsNoAppend intent = IsAppend intent → ⊥
+
+-- rows that are appended are those of one group
+abbrev pub AppendsOneGroup : Intent → Type 0
+AppendsOneGroup (intents.Append batch) = length batch ≡ 1
+AppendsOneGroup other = Unit {0}
+
+-- no commit makes more files a try than this, so that names suffice
+abbrev pub file_limit : ℕ
+file_limit = 2 ^ 40
 
 -- A commit of a table that is built, after so many tries that took names: it is one that is made, its groups fit the
--- table, its base is that of its names, and there are names and tries enough.
+-- table, an append has one of them, its base is that of its names, and there are names and tries enough.
 pub record IsOwnAfter (tried : ℕ) (s : TableSchema) (own : OwnView) : Type 0 where
   pub built : IsBuilt s
   pub made_for : IsMadeFor own.intent
   pub fits : FitsGroups s own.intent
-  pub few : most_files own.intent ≤ most_of_files
+  pub one_group : AppendsOneGroup own.intent
+  pub few : most_files own.intent ≤ file_limit
   pub same_base : own.names.base ≡ own.author.base
   pub within : length own.lost < tries
-  pub named : own.names.count ≤ 2 ^ 61 + most_of_files * tried
+  pub named : own.names.count ≤ 2 ^ 61 + file_limit * tried
 
 -- a commit before a try has named its files, and once it has
 abbrev pub IsOwn : TableSchema → OwnView → Type 0

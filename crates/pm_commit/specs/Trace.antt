@@ -25,7 +25,7 @@ use Rattle.pm_made.specs.declared.newest.Author.{Author}
 use Rattle.pm_made.specs.declared.newest.Made.{Made}
 use Rattle.pm_commit.specs.Committer.{found_in, manifests_call, newest_in, newest_of, next_call, put_of}
 use Rattle.pm_commit.specs.Marks.{FindsUsed}
-use Rattle.pm_commit.specs.Own.{OwnView, begun, tries, with_lost, with_named}
+use Rattle.pm_commit.specs.Own.{IsNoAppend, OwnView, begun, tries, with_lost, with_named}
 use Rattle.pm_commit.specs.Search.{older_ids, seen_in, seen_of}
 use Rattle.pm_commit.specs.declared.search.Seen.{Seen}
 use Rattle.pm_commit.specs.declared.search.Seen.TheVariants as seen
@@ -119,7 +119,8 @@ HasListed first o own = (o ≡ first) × (names : Names) × FindsUsed first.name
 pub data HaveLost (s : TableSchema) (Begins : OwnView → List Event → Type 0) : OwnView → List Event → Type 0 where
   has_begun : (o : OwnView) (own : List Event) → Begins o own → HaveLost s Begins o own
   has_lost : (o : OwnView) (v : View) (made : Made) (earlier later : List Event) → length o.lost + 1 < tries
-      → HaveLost s Begins o earlier → LosesTry s o v made later → HaveLost s Begins (lost_by o v made) (earlier ++ later)
+      → HaveLost s Begins o earlier → LosesTry s o v made later
+      → HaveLost s Begins (lost_by o v made) (earlier ++ later)
 
 -- and then came these calls of one more try
 abbrev pub AfterLost : TableSchema → OwnView → (OwnView → List Event → Type 0) → List Event → Type 0
@@ -200,7 +201,8 @@ ShowsOwn s first (refusals.SessionUsed path) own = IsUsed s first path own
 ShowsOwn s first (refusals.Contended ids) own = IsContended s first ids own
 ShowsOwn s first (refusals.Damaged path place) own = AfterLost s first (Misreads s path place) own
 ShowsOwn s first (refusals.Fenced base fence) own = AfterLost s first (FindsReason s (refusals.Fenced base fence)) own
-ShowsOwn s first (refusals.CompactTaken file) own = AfterLost s first (FindsReason s (refusals.CompactTaken file)) own
+ShowsOwn s first (refusals.CompactTaken file) own =
+    IsNoAppend first.intent × AfterLost s first (FindsReason s (refusals.CompactTaken file)) own
 ShowsOwn s first (refusals.Limit which number) own = AfterLost s first (FindsReason s (refusals.Limit which number)) own
 ShowsOwn s first other own = ⊥
 

@@ -82,8 +82,8 @@ pub fn actor_law()
 
 /// Whatever others do between its calls, a folder that stands shows a committer no refusal but that memory ran out;
 /// that the newest snapshot has gone; that a name that is listed has its actor's mark, or a file was there; that the
-/// newest snapshot has fenced its base, has a file no more that is to go, or leaves it no room; or that eleven tries were
-/// lost. So E10 and E11 never come of such a folder.
+/// newest snapshot has fenced its base, has a file no more that is to go, or leaves it no room; or that eleven tries
+/// were lost. So E10 and E11 never come of such a folder, and to an append E15 doesn't either.
 pub fn causes_law()
     ensures { (e : EntryView) (m new : Phase) (call : Call) (answer : Answer) (refusal : Refusal) (f : Files)
         (p : Past) → Stands f p → Knows e m f p → next_call m ≡ Some call → Answers call answer f

@@ -4,8 +4,8 @@
 //! most eleven times: it reads the newest view, looks for an earlier commit of its user where that is asked for,
 //! creates its files, and publishes the snapshot after the newest. Where another snapshot was published there first, or
 //! the newest has gone, it begins again from the view. Whatever others do between, each of its calls changes nothing,
-//! or makes a file of its actor's own, or appends its rows to the history while the newest snapshot stands. What a commit
-//! is for is an `Intent` of `pm_made`, which makes its files at each try; only appends are begun.
+//! or makes a file of its actor's own, or appends its rows to the history while the newest snapshot stands. What a
+//! commit is for is an `Intent` of `pm_made`, which makes its files at each try; only appends are begun.
 //!
 //! `specs/Own.antt` has what a commit is made of, `specs/Marks.antt` how an actor is known by its files' names,
 //! `specs/Search.antt` what a snapshot says of a commit; `specs/Committer.antt` the phases, the calls and what each
