@@ -5,7 +5,7 @@ use Rattle.std.specs.List.{AllByRecursion}
 use Rattle.std.specs.List.Sorted.{IsStrictlySortedBy}
 use Rattle.pm_store.specs.Files.{Files, Puts}
 use Rattle.pm_values.specs.GroupOrder.{group_cmp}
-use Rattle.pm_values.specs.Names.{Naming}
+use Rattle.pm_values.specs.Names.{Naming, counted}
 use Rattle.pm_values.specs.declared.file_meta.FileMeta.{FileMeta}
 use Rattle.pm_values.specs.declared.group.Group.{Group}
 use Rattle.pm_model_history.specs.History.{Entry, IsTableOf, compaction, entry_rows, table}
@@ -38,7 +38,7 @@ use Rattle.pm_compact.specs.Made.{metas_of}
 use Rattle.pm_choice.specs.Choice.{live_entry}
 use Rattle.pm_made.specs.Commit.{Attempt, IsAsMade, IsReady}
 use Rattle.pm_made.specs.Delta.{Delta, adding, entries_of, is_of_any, left_of}
-use Rattle.pm_made.specs.Files.{HasBase, HasManifest, delta_of_plan, kept, merged, merges, no_manifest, one_manifest}
+use Rattle.pm_made.specs.Files.{HasBase, HasChangesList, HasManifest, delta_of_plan, kept, merged, merges, no_list, no_manifest, one_list, one_manifest}
 use Rattle.pm_made.specs.Intent.{IsEntryFor, removed_of}
 use Rattle.pm_made.specs.Refusals.{first_not_live}
 use Rattle.pm_made.specs.Snapshot.{new_snapshot}
@@ -91,6 +91,23 @@ base-merged : (s : TableSchema) (newest : Newest) (names left : Naming) (metas :
     → merges s newest.manifests.items ≡ true → length metas ≤ 1
 base-merged s newest names _ _ _ (kept few) enough = absurd (true≢false (sym enough ∙ few))
 base-merged s newest names _ _ _ (merged metas made left many has) enough = one-manifest s names left newest.live.items metas made has
+
+-- ---- the changelog list
+
+no-manifests : (s : TableSchema) (names left : Naming) (es : List files.Entry) (metas : List ManifestMeta) (made : List CommitFile) → HasManifest s names es metas made left
+    → es ≡ [] → metas ≡ []
+no-manifests s names _ es _ _ (no_manifest none) nothing = refl
+no-manifests s names _ es _ _ (one_manifest m file some is) nothing = absurd (some nothing)
+
+no-list-for : (s : TableSchema) (names left : Naming) (metas : List ManifestMeta) (name : Option (List ℕ)) (made : List CommitFile) → HasChangesList s names metas name made left
+    → metas ≡ [] → name ≡ None
+no-list-for s names _ metas _ _ (no_list none) nothing = refl
+no-list-for s names _ metas _ _ (one_list name file some is) nothing = absurd (some nothing)
+
+no-changelog : (s : TableSchema) (before after names left : Naming) (es : List files.Entry) (metas : List ManifestMeta) (made : List CommitFile) (name : Option (List ℕ))
+    (list : List CommitFile) → HasManifest s before es metas made after → HasChangesList s names metas name list left → es ≡ [] → name ≡ None
+no-changelog s before after names left es metas made name list has has_list nothing =
+    no-list-for s names left metas name list has_list (no-manifests s before after es metas made has nothing)
 
 some-named : (x : RewrittenGroup) (xs : List RewrittenGroup) → map named_group (x ∷ xs) ≡ [] → ⊥
 some-named x xs is = cc
@@ -302,6 +319,13 @@ module _ (facts : Facts) (me : Actor) (f after : Files) (p : Past) (s : TableSch
   untold : made.contents.changes ≡ []
   untold = made.changes ∙ ap (λ (d : Delta). d.changes) d-is ∙ ap (λ (es : List files.Entry). map adding es) knows.untold
 
+  unlisted : ready.made.lists.changes ≡ None
+  unlisted =
+      let lists = ready.made.are_manifests.are_lists in
+      no-changelog s lists.after_delta lists.after_changes (counted lists.after_changes) lists.after_list ready.made.delta.changes lists.changes lists.changes_files
+      ready.made.lists.changes lists.changes_list lists.has_changes lists.has_changes_list
+      (ap (λ (d : Delta). d.changes) d-is ∙ ap (λ (es : List files.Entry). map adding es) knows.untold)
+
   bases : HaveBases 1 (entries ++ e ∷ [])
   bases = (rows-append s entries e ready.folder.history entry-after).bases
 
@@ -331,4 +355,5 @@ module _ (facts : Facts) (me : Actor) (f after : Files) (p : Past) (s : TableSch
     live = all-of (λ (e : files.Entry). is_of_any es e ≡ true) removed
         (λ e h. not-true (is_of_any es e) (none-found (λ (e : files.Entry). not (is_of_any es e)) removed none-gone e h));
     untold = untold;
+    unlisted = unlisted;
   }

@@ -1,5 +1,5 @@
 -- What the folder has once a compaction is published.
-use Rattle.std.specs.Prelude.{◌≡◌, suc, ◌+◌, ◌≤◌, List, [], length, true, false}
+use Rattle.std.specs.Prelude.{◌≡◌, suc, ◌+◌, ◌≤◌, List, [], length, true, false, None}
 use Rattle.std.specs.List.{AllByRecursion}
 use Rattle.pm_store.specs.Files.{Files}
 use Rattle.pm_values.specs.declared.group.Group.{Group}
@@ -47,3 +47,4 @@ pub record HasCompacted (f : Files) (s : TableSchema) (newest : Newest) (author 
   pub delta : HaveEntries f s contents.delta (entries_of (delta_of_plan plan))
   pub live : AllByRecursion (λ (e : files.Entry). is_of_any newest.live.items e ≡ true) plan.removed.items
   pub untold : contents.changes ≡ []
+  pub unlisted : lists.changes ≡ None

@@ -84,7 +84,7 @@ TellsNothing s = (s.options.producer ≡ producers.None) ⊎ (s.options.producer
 
 -- The plan of a compaction that an actor began at a base. The base is a known snapshot, from which on the groups' runs
 -- are known. Of each group, these rising and some, the newest runs there were rewritten: their files go, those that
--- were made come, and these are the ones that were created. Where it was asked in full, it bears the appends of its
+-- were made come, and these are the ones that were created. Where it bears a count of appends, this is that of its
 -- base.
 pub record KnowsPlan (me : Actor) (s : TableSchema) (base : ℕ) (plan : Plan) (given : List CommitFile) (p : Past)
     : Type 0 where

@@ -45,7 +45,7 @@ pub fn plan_law()
 
 /// So it shows of a try by the plan what this needs to be ready: its base is a snapshot of the table, the files that
 /// were made are the actor's, the count of appends that it bears is within that of the newest snapshot, and its delta's
-/// entries, as they are written, can stand in a manifest, and no two of them are of one file.
+/// entries, as they are written, can stand in a manifest, and no two that go, and no two that come, are of one file.
 pub fn ready_law()
     ensures base { (me : Actor) (p : Past) (s : TableSchema) (entries : List Entry) (base : ℕ) (plan : Plan)
         (given : List FileView) → p.history ≡ table s entries → KnowsPlan me s base plan given p →

@@ -1,4 +1,4 @@
-//! What a compaction alone means: definitions and laws alone, on which its commit rests. No program uses it yet.
+//! What a compaction alone means: definitions and laws alone, on which its commit is to rest. No program uses it yet.
 //!
 //! `specs/Plan.antt` says what is known of a compaction that was planned at its base: what was taken of each group, the
 //! files that were made of that, whose names are the actor's, and the plan's entries, which are those of these files.
