@@ -1,13 +1,23 @@
 -- Rows that are read straight from bytes are those of the data that the bytes are.
-use Rattle.std.proofs.Common.{◌≡◌, ℕ, ◌+◌, ◌-◌, ◌<◌, ◌≤◌, pos, Bool, true, List, [], ◌∷◌, ◌++◌, length, get_or, map, take, drop, Option, Ok, refl, sym, ap, subst, ◌∙◌, append_assoc, arith}
-use Rattle.std.proofs.lemmas.List.{length-append, length-drop, length-take-le, map-append, take_all, take-append-drop, drop_at}
+use Rattle.std.proofs.Common.{◌≡◌, ℕ, ◌+◌, ◌-◌, ◌<◌, ◌≤◌, pos, Bool, true, List, [], ◌∷◌, ◌++◌, length, get_or, map, take, drop, Option, None, Some, Ok, refl, sym, ap, subst, ◌∙◌, append_assoc, arith}
+use Rattle.std.proofs.lemmas.List.{append-nil, length-append, length-drop, length-take-le, map-append, take_all, take-append-drop, drop_at}
 use Rattle.std.proofs.Math.Seq.{take-append_seam}
 use Rattle.pm_avro_schema.specs.Avro as avro
 use Rattle.pm_avro_schema.specs.Avro.{Avro}
 use Rattle.pm_avro_schema.specs.View.{fields_of}
-use Rattle.pm_avro_data.specs.Datum.{Data, items_of, long}
+use Rattle.std.specs.Prelude.{IfSome, IsTrue}
+use Rattle.std.specs.Borrow.{Bor}
+use Rattle.pm_values.specs.Fits.{IsInType}
+use Rattle.pm_values.specs.declared.column.ColType.{ColType}
+use Rattle.pm_values.specs.declared.column.ColType.TheVariants as types
+use Rattle.pm_values.specs.declared.value.Value.TheVariants.{Null, Bool as Truth, Int as Whole, Text as Words, Bytes as Octets, Day, Millis}
+use Rattle.pm_row_slots.specs.Seen.{seen_value}
+use Rattle.pm_row_slots.specs.declared.seen.Seen.{Seen}
+use Rattle.pm_avro_data.specs.Datum as datum
+use Rattle.pm_avro_data.specs.Datum.{Data, boolean, int, items_of, long, record_of, text}
 use Rattle.pm_avro_data.specs.IsDatum.{AreFields, AreItems, IsDatum}
 use Rattle.pm_avro_data.specs.Number.{IsInt, IsLong}
+use Rattle.pm_avro_data.specs.Writing.{ItemsFit, encoding, items_encoding}
 use Rattle.pm_avro_data.proofs.Facts.{Follows, datum_follows, datum_typed}
 use Rattle.pm_avro_file.specs.Container.{IsBlock, magic, metadata}
 use Rattle.pm_avro_file.specs.Reader.{HasBlock, IsOpened, Reader}
@@ -18,13 +28,16 @@ use Rattle.pm_values.specs.declared.record.Stamped.{Stamped}
 use Rattle.pm_values.specs.declared.value.Value.{Value}
 use Rattle.pm_run.specs.declared.form.Field.{Field}
 use Rattle.pm_run_bytes.specs.declared.direct.Direct.{Direct}
-use Rattle.pm_run_bytes.specs.Direct.{AreCells, AreRows, HasContent, IsCell, IsDirect, IsRow}
+use Rattle.pm_run_bytes.specs.Direct.{AreCells, AreRows, HasContent, IsCell, IsDirect, IsRow, IsWrittenRow}
 use Rattle.pm_run.specs.Form.{Form}
 use Rattle.pm_run.specs.Kinds.{field_type, run_type, typed_field}
 use Rattle.pm_run.specs.Order.{last_key, may_follow}
-use Rattle.pm_run.specs.Row.{agree, most_sequence, row_data, row_in, row_kind, value_data, values_data}
+use Rattle.pm_run.specs.Row.{agree, most_sequence, optional_data, row_data, row_in, row_kind, scalar_data, value_data, values_data}
 use Rattle.pm_run.specs.Rows.{Opened, all_judged, judged, placed}
 use Rattle.pm_run.specs.Typed.{FitFields, FitsField, HaveFields, IsWritable}
+use Rattle.pm_run_scalars.specs.Leaf.{IsScalar, IsWrittenScalar}
+use Rattle.pm_run_scalars.specs.Spelled.{IsSpelled}
+use Rattle.pm_run_scalars.proofs.SpelledLemmas.{spelled_null, spelled_second}
 use Rattle.pm_run_form.proofs.AgainLemmas.{row_back}
 use Rattle.pm_run.proofs.FollowLemmas.{judged-push}
 use Rattle.pm_run_form.proofs.LoopLemmas.{take_next}
@@ -41,7 +54,65 @@ fields_joined (f ∷ fs) gs [] es source middle rest first later = absurd first
 fields_joined (f ∷ fs) gs (d ∷ ds) es source middle rest first later = (first.0, first.1, fields_joined fs gs ds es first.0 middle rest first.2 later)
 
 pub no_cells : (source : List ℕ) → AreCells [] [] source source
-no_cells source = (refl, tt)
+no_cells source = (refl, tt, record { spelled = refl; fits = tt })
+
+-- ---- values as they are written
+
+by_nullable : (x : Field) (value : Value) → IsTrue x.nullable → value_data x value ≡ optional_data x.kind value
+by_nullable x value some = rw some refl
+
+pub null_spelled : (x : Field) (source rest : List ℕ) → IsTrue x.nullable → source ≡ 0 ∷ rest → IsSpelled source rest (value_data x Null)
+null_spelled x source rest some is = subst (λ (d : Data). IsSpelled source rest d) (sym (by_nullable x Null some)) (spelled_null source rest is)
+
+or_spelled : (kind : ColType) (value : Value) (source middle rest : List ℕ) → source ≡ 2 ∷ middle → IsInType kind value → IsSpelled middle rest (scalar_data kind value) → IsSpelled source rest (optional_data kind value)
+or_spelled types.Boolean (Truth b) source middle rest is h w = spelled_second (boolean b) source middle rest is w
+or_spelled types.TinyInt (Whole z) source middle rest is h w = spelled_second (int z) source middle rest is w
+or_spelled types.SmallInt (Whole z) source middle rest is h w = spelled_second (int z) source middle rest is w
+or_spelled types.Int (Whole z) source middle rest is h w = spelled_second (int z) source middle rest is w
+or_spelled types.BigInt (Whole z) source middle rest is h w = spelled_second (long z) source middle rest is w
+or_spelled types.Text (Words bs) source middle rest is h w = spelled_second (text bs) source middle rest is w
+or_spelled types.Bytes (Octets bs) source middle rest is h w = spelled_second (datum.bytes bs) source middle rest is w
+or_spelled types.Date (Day z) source middle rest is h w = spelled_second (int z) source middle rest is w
+or_spelled types.Timestamp (Millis z) source middle rest is h w = spelled_second (long z) source middle rest is w
+or_spelled kind value source middle rest is h w = absurd h
+
+-- so of a value that was read after the index of its branch
+pub second_spelled : (x : Field) (source middle : List ℕ) (read : Option (Seen × Bor (List ℕ))) → IsTrue x.nullable → source ≡ 2 ∷ middle → IfSome read (λ y. IsScalar x.kind (seen_value y.0) middle y.1.now)
+    → IfSome read (λ y. IsWrittenScalar x.kind (seen_value y.0) middle y.1.now) → IfSome read (λ y. IsSpelled source y.1.now (value_data x (seen_value y.0)))
+second_spelled x source middle None some is scalar written = tt
+second_spelled x source middle (Some y) some is scalar written =
+    subst (λ (d : Data). IsSpelled source y.1.now d) (sym (by_nullable x (seen_value y.0) some)) (or_spelled x.kind (seen_value y.0) source middle y.1.now is scalar.1 written)
+
+pub cell_both : (x : Field) (source : List ℕ) (read : Option (Seen × Bor (List ℕ))) → IfSome read (λ y. IsDatum (field_type x) (value_data x (seen_value y.0)) source y.1.now × FitsField x (seen_value y.0))
+    → IfSome read (λ y. IsSpelled source y.1.now (value_data x (seen_value y.0))) → IfSome read (λ y. IsCell x (seen_value y.0) source y.1.now)
+cell_both x source None cell written = tt
+cell_both x source (Some y) cell written = (cell.0, cell.1, written)
+
+-- the bytes of data and of others after them
+encoded_joined : (ds es : List Data) → items_encoding (items_of (ds ++ es)) ≡ items_encoding (items_of ds) ++ items_encoding (items_of es)
+encoded_joined [] es = refl
+encoded_joined (d ∷ ds) es = ap (λ (bs : List ℕ). encoding d ++ bs) (encoded_joined ds es) ∙ sym (append_assoc (encoding d) (items_encoding (items_of ds)) (items_encoding (items_of es)))
+
+fit_joined : (ds es : List Data) → ItemsFit (items_of ds) → ItemsFit (items_of es) → ItemsFit (items_of (ds ++ es))
+fit_joined [] es first later = later
+fit_joined (d ∷ ds) es first later = (first.0, fit_joined ds es first.1 later)
+
+-- data that are spelled one after another
+pub spelled_joined : (ds es : List Data) (source middle rest : List ℕ) → IsSpelled source middle (record_of (items_of ds)) → IsSpelled middle rest (record_of (items_of es)) → IsSpelled source rest (record_of (items_of (ds ++ es)))
+spelled_joined ds es source middle rest first later = record {
+  spelled =
+      first.spelled ∙ ap (λ (bs : List ℕ). items_encoding (items_of ds) ++ bs) later.spelled
+      ∙ sym (append_assoc (items_encoding (items_of ds)) (items_encoding (items_of es)) rest)
+      ∙ ap (λ (bs : List ℕ). bs ++ rest) (sym (encoded_joined ds es));
+  fits = fit_joined ds es first.fits later.fits;
+}
+
+-- one datum
+spelled_one : (d : Data) (source rest : List ℕ) → IsSpelled source rest d → IsSpelled source rest (record_of (items_of (d ∷ [])))
+spelled_one d source rest one = record {
+  spelled = one.spelled ∙ ap (λ (bs : List ℕ). bs ++ rest) (sym (append-nil (encoding d)));
+  fits = (one.fits, tt);
+}
 
 values_push : (fields : List Field) (values : Values) (x : Field) (value : Value) → FitFields fields values → values_data (fields ++ x ∷ []) (values ++ value ∷ []) ≡ values_data fields values ++ value_data x value ∷ []
 values_push [] [] x value fit = refl
@@ -62,6 +133,8 @@ cells_push fields values x value source middle rest cells cell = (
   rw (map-append typed_field fields (x ∷ []), values_push fields values x value cells.1)
       (fields_joined (map typed_field fields) (typed_field x ∷ []) (values_data fields values) (value_data x value ∷ []) source middle rest cells.0 (rest, cell.0, refl)),
   fit_push fields values x value cells.1 cell.1,
+  subst (λ (ds : List Data). IsSpelled source rest (record_of (items_of ds))) (sym (values_push fields values x value cells.1))
+      (spelled_joined (values_data fields values) (value_data x value ∷ []) source middle rest cells.2 (spelled_one (value_data x value) middle rest cell.2)),
 )
 
 -- all values
@@ -105,6 +178,26 @@ module _ (f : Form) (x : Stamped) (values : Values) (source a b c rest : List �
 
       whole : IsDatum (run_type f) (row_data f x) source rest
       whole = fields_joined (map typed_field f.keys) _ (values_data f.keys (key_of f.places x.row)) _ source a rest key.0 (b, number, (c, kind, columns.0))
+
+-- the bytes that were read are those that are written of the row
+pub row_written : (f : Form) (x : Stamped) (values : Values) (source a b c rest : List ℕ) → AreCells f.keys values source a → IsSpelled a b (long (pos x.seq)) → x.seq ≤ most_sequence
+    → IsSpelled b c (int (pos (code_of x.kind))) → AreCells f.columns x.row c rest → agree f.places x.row values ≡ true → IsWrittenRow f x source rest
+row_written f x values source a b c rest keys number within kind columns agrees = record {
+  writable = record {
+    columns = have_types f.columns (values_data f.columns x.row) c rest columns.0;
+    keys = have_types f.keys (values_data f.keys (key_of f.places x.row)) source a key.0;
+    numbered = within;
+  };
+  written = spelled_joined (values_data f.keys (key_of f.places x.row)) (long (pos x.seq) ∷ int (pos (code_of x.kind)) ∷ values_data f.columns x.row) source a rest key.2 later;
+}
+  where
+    key : AreCells f.keys (key_of f.places x.row) source a
+    key = subst (λ (vs : Values). AreCells f.keys vs source a) (agreed_keys f.places x.row values agrees) keys
+
+    later : IsSpelled a rest (record_of (items_of (long (pos x.seq) ∷ int (pos (code_of x.kind)) ∷ values_data f.columns x.row)))
+    later =
+        spelled_joined (long (pos x.seq) ∷ []) (int (pos (code_of x.kind)) ∷ values_data f.columns x.row) a b rest (spelled_one (long (pos x.seq)) a b number)
+        (spelled_joined (int (pos (code_of x.kind)) ∷ []) (values_data f.columns x.row) b c rest (spelled_one (int (pos (code_of x.kind))) b c kind) columns.2)
 
 -- ---- rows
 

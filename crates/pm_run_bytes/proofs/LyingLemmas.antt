@@ -1,6 +1,6 @@
 -- Rows that lie one after another in the bytes of a file are one list, and are read from its first row on.
-use Rattle.std.proofs.Common.{◌≡◌, ◌≢◌, ◌<◌, ℕ, zero, suc, Bool, pos, List, [], ◌∷◌, ◌++◌, drop, length, Result, Ok, refl, sym, ap, subst, ◌∙◌, arith}
-use Rattle.std.proofs.lemmas.List.{append_cancel_left, drop_all, drop_at, length-drop, nil_from_length}
+use Rattle.std.proofs.Common.{◌≡◌, ◌≢◌, ◌<◌, ◌≤◌, ◌-◌, ℕ, zero, suc, Bool, pos, List, [], ◌∷◌, ◌++◌, drop, length, Some, Result, Ok, refl, sym, ap, subst, ◌∙◌, arith}
+use Rattle.std.proofs.lemmas.List.{append_cancel_left, drop_all, drop_at, length-append, length-drop, nil_from_length}
 use Rattle.std.proofs.lemmas.Option.{some_pair_parts}
 use Rattle.std.proofs.Math.Seq.{take-append_seam}
 use Rattle.std.specs.Prelude.{take}
@@ -16,9 +16,12 @@ use Rattle.pm_avro_data.proofs.Facts.{datum_again}
 use Rattle.pm_record.specs.declared.misfit.Misfit.{Misfit}
 use Rattle.pm_run.specs.Form.{Form}
 use Rattle.pm_run.specs.Kinds.{run_type}
-use Rattle.pm_run.specs.Row.{row_in}
+use Rattle.pm_run.specs.Row.{row_data, row_in}
 use Rattle.pm_run_bytes.specs.declared.direct.Direct.{Direct}
-use Rattle.pm_run_bytes.specs.Direct.{HasContent, IsRow, IsWritten}
+use Rattle.pm_avro_data.specs.Adding.{Adds}
+use Rattle.pm_avro_data.specs.Writing.{encoding}
+use Rattle.pm_run_bytes.specs.Direct.{HasContent, IsRow, IsWritten, IsWrittenRow}
+use Rattle.pm_run_bytes.specs.Lying.{IsContentOf}
 use Rattle.pm_run_bytes.specs.Known.{KnownRows, LieAt, LieFrom, LieLeft, LieRows, OnlyLie, at_end, one_known, with_block}
 
 -- ---- what lies there is one thing
@@ -218,3 +221,20 @@ module _ (d : Direct) (bytes : List ℕ) (f : Form) (changes : Bool) (rest : Lis
     row_given code k m =
         let first : k.0 ≡ x ∷ drop 1 k.0 = ∥∥₁_elim k.1 (Coded-set code k.0 (x ∷ drop 1 k.0)) (λ h. (left_row k.0 h.lie).first) in
         first ∙ ap (λ (zs : List Stamped). x ∷ zs) (known_same d bytes f changes middle fewer next code (known_row k) m)
+
+-- ---- its bytes
+
+module _ (f : Form) (x : Stamped) (source rest : List ℕ) (row : IsWrittenRow f x source rest) where
+  pub rest_shorter : length rest ≤ length source
+  rest_shorter = omega (arith, ap length row.written.spelled, length-append (encoding (row_data f x)) rest)
+
+  pub row_content : (content : List ℕ) → content ≡ take (length source - length rest) source → IsContentOf f (Some x) content
+  row_content content is =
+      let written = encoding (row_data f x) in
+      let many : length source - length rest ≡ length written = omega (arith, ap length row.written.spelled, length-append written rest) in (
+        row.writable,
+        record {
+          added = is ∙ ap (λ n. take n source) many ∙ ap (take (length written)) row.written.spelled ∙ take-append_seam written rest;
+          fits = row.written.fits;
+        },
+      )

@@ -5,7 +5,7 @@ use Rattle.pm_values.specs.declared.record.Stamped.{Stamped}
 use Rattle.pm_values.specs.declared.value.Value.{Value}
 use Rattle.pm_avro_schema.specs.Avro.{Avro}
 use Rattle.pm_avro_schema.specs.View.{fields_of}
-use Rattle.pm_avro_data.specs.Datum.{Data, items_of}
+use Rattle.pm_avro_data.specs.Datum.{Data, items_of, record_of}
 use Rattle.pm_avro_data.specs.IsDatum.{AreFields, AreItems, IsDatum}
 use Rattle.pm_avro_data.specs.Number.{IsLong}
 use Rattle.pm_avro_file.specs.Reader.{Reader}
@@ -14,19 +14,27 @@ use Rattle.pm_run_bytes.specs.declared.direct.Direct.{Direct}
 use Rattle.pm_run.specs.declared.form.Field.{Field}
 use Rattle.pm_run.specs.Form.{Form, written_fields}
 use Rattle.pm_run.specs.Kinds.{field_type, run_type, typed_field}
-use Rattle.pm_run.specs.Row.{row_in, value_data, values_data}
+use Rattle.pm_run.specs.Row.{row_data, row_in, value_data, values_data}
 use Rattle.pm_run.specs.Rows.{Opened, all_judged, judged, placed}
-use Rattle.pm_run.specs.Typed.{FitFields, FitsField}
+use Rattle.pm_run.specs.Typed.{FitFields, FitsField, IsWritable}
+use Rattle.pm_run_scalars.specs.Spelled.{IsSpelled}
 
--- Private: the source is a value of a field, and then the rest
+-- Private: the source is a value of a field, as it is written, and then the rest
 abbrev pub IsCell : Field → Value → List ℕ → List ℕ → Type 0
 IsCell x value source rest = IsDatum (field_type x) (value_data x value) source rest × FitsField x value
+    × IsSpelled source rest (value_data x value)
 
--- Private: the source is one value for each field, and then the rest
+-- Private: the source is one value for each field, each as it is written, and then the rest
 abbrev pub AreCells : List Field → Values → List ℕ → List ℕ → Type 0
 AreCells fields values source rest =
     AreFields (fields_of (map typed_field fields)) (items_of (values_data fields values)) source rest
     × FitFields fields values
+    × IsSpelled source rest (record_of (items_of (values_data fields values)))
+
+-- Private: the source is what is written of a row that can be written, and then the rest
+pub record IsWrittenRow (f : Form) (x : Stamped) (source rest : List ℕ) : Type 0 where
+  pub writable : IsWritable f x
+  pub written : IsSpelled source rest (row_data f x)
 
 -- what is written of a form has the type
 pub record IsWritten (f : Form) (t : Avro) : Type 0 where

@@ -3,6 +3,7 @@
 
 ghost use Rattle.std.specs.Prelude.{◌≡◌, ◌≢◌, ◌<◌, ◌≤◌, ◌-◌, ◌++◌, List, [], ℕ, Ok, Some, IfOk, IfSome};
 ghost use Rattle.std.specs.Prelude.{MatchOption, drop, length, pos, take};
+ghost use Rattle.pm_avro_data.specs.Datum.{int, long};
 ghost use Rattle.pm_avro_data.specs.Number.{IsInt, IsLong};
 ghost use Rattle.pm_avro_file.specs.Reader.{IsOpened};
 ghost use Rattle.pm_values.specs.Kind.{code_of};
@@ -10,6 +11,7 @@ ghost use Rattle.pm_run_bytes.specs.Block.{JudgesBlock, ReadsBlock};
 ghost use Rattle.pm_run_bytes.specs.Direct.{AreRows, HasContent, IsCell, IsDirect, IsDirectOr, IsWritten};
 ghost use Rattle.pm_run.specs.Row.{most_sequence, row_kind};
 ghost use Rattle.pm_run.specs.Rows.{Opened};
+ghost use Rattle.pm_run_scalars.specs.Spelled.{IsSpelled};
 ghost use Rattle.pm_row_slots.specs.Seen.{seen_row, seen_value};
 
 use crate::judge::{judge_rows, see_row};
@@ -203,6 +205,7 @@ fn copied(alloc: Global, seen: &SeenRow) -> Result<Stamped, AllocError>
 #[inline(always)]
 pub(crate) fn read_sequence(alloc: Global, bytes: &[u8]) -> Option<(u64, &[u8])>
     ensures long { IfSome result (λ x. IsLong (pos x.0) bytes.now x.1.now) }
+    ensures written { IfSome result (λ x. IsSpelled bytes.now x.1.now (long (pos x.0))) }
     ensures within { IfSome result (λ x. x.0 ≤ most_sequence) }
 {
     let (number, rest) = read_long(alloc, bytes)?;
@@ -223,6 +226,7 @@ pub(crate) fn read_kind(
     bytes: &[u8],
 ) -> Option<(Kind, &[u8])>
     ensures number { IfSome result (λ x. IsInt (pos (code_of x.0)) bytes.now x.1.now) }
+    ensures written { IfSome result (λ x. IsSpelled bytes.now x.1.now (int (pos (code_of x.0)))) }
     ensures kept { IfSome result (λ x. row_kind changes engine x.0 ≡ Ok x.0) }
 {
     let (number, rest) = read_int(alloc, bytes)?;

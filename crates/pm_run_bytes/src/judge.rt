@@ -7,7 +7,7 @@ ghost use Rattle.std.specs.Ordering.{is_eq};
 ghost use Rattle.pm_model_history.specs.Merge.{key_of, value_at};
 ghost use Rattle.pm_values.specs.Order.{value_cmp};
 ghost use Rattle.pm_values.specs.declared.record.Stamped.{Stamped};
-ghost use Rattle.pm_run_bytes.specs.Direct.{AreCells, AreRows, IsRow};
+ghost use Rattle.pm_run_bytes.specs.Direct.{AreCells, AreRows, IsRow, IsWrittenRow};
 ghost use Rattle.pm_run.specs.Order.{last_key, may_follow};
 ghost use Rattle.pm_run.specs.Row.{agree};
 ghost use Rattle.pm_run_bytes.specs.Seen.{seen_key};
@@ -55,8 +55,8 @@ pub(crate) fn judge_rows(
     }
 }
 
-/// The row that the bytes begin with, where it lies, and the rest: its key are values of it. It takes no memory but
-/// where the row is longer than those before it.
+/// The row that the bytes begin with, as it is written, where it lies, and the rest: its key are values of it. It takes
+/// no memory but where the row is longer than those before it.
 pub(crate) fn see_row<'b>(
     alloc: Global,
     form: &TableForm,
@@ -64,7 +64,8 @@ pub(crate) fn see_row<'b>(
     bytes: &'b [u8],
     into: &mut SeenRow<'b>,
 ) -> Option<&'b [u8]>
-    ensures { IfSome result (λ rest. IsRow form.now changes (seen_row into.new) bytes.now rest.now) }
+    ensures row { IfSome result (λ rest. IsRow form.now changes (seen_row into.new) bytes.now rest.now) }
+    ensures written { IfSome result (λ rest. IsWrittenRow form.now (seen_row into.new) bytes.now rest.now) }
 {
     let rest = see_values(alloc, &form.keys, bytes, &mut into.key)?;
     let (seq, rest) = read_sequence(alloc, rest)?;

@@ -6,7 +6,8 @@
 //! nothing is answered nothing is known of the block: it is read by its data, which also finds the refusal.
 //!
 //! `FileRows` gives rows one after another where they lie, into a place that keeps its memory (`specs/Lying.antt`). It
-//! knows which they are, since bytes have one list of rows (`specs/Known.antt`).
+//! knows which they are, since bytes have one list of rows (`specs/Known.antt`). A row that is read where it lies is
+//! spelled as it is written, so its bytes can be copied to another file of the form (`FileRows::fill_written`).
 #![tactic(auto)]
 
 mod direct;

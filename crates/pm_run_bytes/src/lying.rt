@@ -1,6 +1,6 @@
 //! Rows of a judged file that are given one after another, where they lie in its bytes.
 
-ghost use Rattle.std.specs.Prelude.{◌≡◌, ◌<◌, List, None, OnOk};
+ghost use Rattle.std.specs.Prelude.{◌≡◌, ◌<◌, ◌≤◌, ◌-◌, List, None, OnOk, length, take};
 ghost use Rattle.std.specs.Coded.{codes};
 ghost use Rattle.pm_values.specs.declared.record.Stamped.{Stamped};
 ghost use Rattle.pm_run_bytes.specs.Known.{KnownRows, LieAt, one_known};
@@ -30,7 +30,8 @@ pub struct FileRows<'b> {
 }
 
 impl<'b> FileRows<'b> {
-    ghost use Rattle.pm_run_bytes.specs.Lying.{GivesFirst, lying_rows};
+    ghost use Rattle.std.specs.Prelude.{IfOk};
+    ghost use Rattle.pm_run_bytes.specs.Lying.{GivesFirst, IsContentOf, lying_rows};
 
     /// The rows of the blocks from an offset on.
     pub fn new(
@@ -61,13 +62,30 @@ impl<'b> FileRows<'b> {
         requires { slot.old ≡ None }
         ensures { OnOk result (GivesFirst (lying_rows self.old) slot.new (lying_rows self.new)) }
     {
+        let _own = self.fill_written(alloc, slot)?;
+        Ok(())
+    }
+
+    /// The same, and the bytes of the row, which are those that are written of it; none at the end.
+    #[inline(always)]
+    pub fn fill_written(
+        &mut self,
+        alloc: Global,
+        slot: &mut RowSlot<'b>,
+    ) -> Result<&'b [u8], AllocError>
+        requires { slot.old ≡ None }
+        ensures first { OnOk result (GivesFirst (lying_rows self.old) slot.new (lying_rows self.new)) }
+        ensures written { IfOk result (λ own. IsContentOf self.old.form.now slot.new own.now) }
+        ensures form { OnOk result (self.new.form.now ≡ self.old.form.now) }
+    {
         if self.left == 0 {
             if self.next == self.bytes.len() {
-                return Ok(());
+                return Ok(&[]);
             }
             self.next_block(alloc)?;
         }
-        self.next_row(alloc, slot)
+        let own = self.next_row(alloc, slot)?;
+        Ok(own)
     }
 
     /// Takes the next block in hand, where no row is left of the last one. A block that was judged has rows.
@@ -75,6 +93,7 @@ impl<'b> FileRows<'b> {
         requires { self.old.left ≡ 0 }
         ensures same { OnOk result (lying_rows self.new ≡ lying_rows self.old) }
         ensures some { OnOk result (0 < self.new.left) }
+        ensures form { OnOk result (self.new.form.now ≡ self.old.form.now) }
     {
         let Some((count, content, next)) = self.direct.content(alloc, self.bytes, self.next) else {
             return Err(AllocError);
@@ -85,19 +104,32 @@ impl<'b> FileRows<'b> {
         Ok(())
     }
 
-    /// Puts the next row of the block in hand into an empty place.
-    fn next_row(&mut self, alloc: Global, slot: &mut RowSlot<'b>) -> Result<(), AllocError>
+    /// Puts the next row of the block in hand into an empty place, and answers its bytes.
+    #[inline(always)]
+    fn next_row(&mut self, alloc: Global, slot: &mut RowSlot<'b>) -> Result<&'b [u8], AllocError>
         requires left { 0 < self.old.left }
         requires none { slot.old ≡ None }
-        ensures { OnOk result (GivesFirst (lying_rows self.old) slot.new (lying_rows self.new)) }
+        ensures first { OnOk result (GivesFirst (lying_rows self.old) slot.new (lying_rows self.new)) }
+        ensures written { IfOk result (λ own. IsContentOf self.old.form.now slot.new own.now) }
+        ensures form { OnOk result (self.new.form.now ≡ self.old.form.now) }
     {
         let mut row = slot.take_room(alloc);
         let Some(rest) = see_row(alloc, self.form, self.changes, self.rest, &mut row) else {
             return Err(AllocError);
         };
+        let own = before_rest(self.rest, rest);
         slot.put_lying(row);
         self.rest = rest;
         self.left -= 1;
-        Ok(())
+        Ok(own)
     }
+}
+
+/// The bytes before a rest.
+#[inline(always)]
+fn before_rest<'b>(bytes: &'b [u8], rest: &[u8]) -> &'b [u8]
+    requires { length rest.now ≤ length bytes.now }
+    ensures { result.now ≡ take (length bytes.now - length rest.now) bytes.now }
+{
+    bytes.split_at(bytes.len() - rest.len()).0
 }

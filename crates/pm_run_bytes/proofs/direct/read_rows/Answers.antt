@@ -16,7 +16,7 @@ loop-preserved c =
     record {
       many = omega (arith, c.loop.invariant.many, ap length pushed, length-append c.loop.rows.items (c.in_ok-row.row ∷ []));
       rows = rows_more c.args.form.now c.args.changes c.args.before.now c.loop.rows.items c.push.new.self.items c.in_ok-row.row c.args.bytes.now c.loop.rest.now c.in_ok-after.after.now pushed
-          c.loop.invariant.rows (subst (λ (x : Stamped). IsRow c.args.form.now c.args.changes x c.loop.rest.now c.in_ok-after.after.now) (sym copy) c.in_ok-after.ensures) follows;
+          c.loop.invariant.rows (subst (λ (x : Stamped). IsRow c.args.form.now c.args.changes x c.loop.rest.now c.in_ok-after.after.now) (sym copy) c.in_ok-after.ensures.row) follows;
     }
 
 pub returns-then-is_empty-clause-rows : goal.returns-then-is_empty-clause-rows

@@ -23,7 +23,7 @@ loop-preserved c =
       | else-some-via-else-some w ↦ follows_none c.args.changes c.loop.some c.loop.last.items (last_key c.args.before.now rows) x.key last (search rules)
     ] in (
       rows ++ x ∷ [],
-      rows_push c.args.form.now c.args.changes c.args.before.now rows x c.args.bytes.now c.loop.rest.now c.in_ok-after.after.now are c.in_ok-after.ensures
+      rows_push c.args.form.now c.args.changes c.args.before.now rows x c.args.bytes.now c.loop.rest.now c.in_ok-after.after.now are c.in_ok-after.ensures.row
           follows,
       omega (arith, many, length-append rows (x ∷ [])),
       ap (λ (v : _). Some (map seen_value v.items)) c.swap.ensures.x_after ∙ last_more c.args.before.now rows x,
