@@ -1,5 +1,6 @@
 -- Runs whose keys rise.
 use Rattle.std.proofs.Common.{◌≡◌, [], ◌∷◌, ◌++◌, List, Vec, All, map, refl, ap, sym, subst}
+use Rattle.std.specs.List.{AllByRecursion}
 use Rattle.std.specs.declared.alloc.Global.{Global}
 use Rattle.std.proofs.lemmas.List.{map-append}
 use Rattle.std.proofs.lemmas.List.Elements.{All-push}
@@ -10,8 +11,9 @@ use Rattle.pm_engine.specs.Covers.{IsRising, Run}
 use Rattle.pm_engines.specs.TableEngine.{HasEngine, Serves}
 use Rattle.pm_merge.specs.Merge.{runs_of}
 use Rattle.pm_merge.specs.Merging.{runs_in}
-use Rattle.pm_scan_rows.specs.Stored.{rest_of, run_left}
-use Rattle.pm_scan_rows.specs.declared.rows.StoredRows.{StoredRows}
+use Rattle.pm_run.specs.Form.{Form, form_of}
+use Rattle.pm_scan_rows.specs.Stored.{AreGivenFor, rest_of, run_left}
+use Rattle.pm_scan_rows.specs.declared.written_rows.WrittenRows.{WrittenRows}
 
 -- one run more
 pub rising_push : (runs new : List (Vec Stamped Global)) (run : Vec Stamped Global) → new ≡ runs ++ run ∷ [] → All IsRising (runs_of runs) → IsRising run.items → All IsRising (runs_of new)
@@ -23,13 +25,17 @@ rising_push runs new run items before rising =
 pub rising_next : (runs new : List Run) (run : Run) → new ≡ runs ++ run ∷ [] → All IsRising runs → IsRising run → All IsRising new
 rising_next runs new run is before rising = subst (All IsRising) (sym is) (All-push IsRising runs run before rising)
 
-rows_left_in : (sources : List StoredRows) → runs_in (map rest_of sources) ≡ map run_left sources
+rows_left_in : (sources : List WrittenRows) → runs_in (map (λ r. rest_of r.rows) sources) ≡ map (λ r. run_left r.rows) sources
 rows_left_in [] = refl
-rows_left_in (r ∷ sources) = ap (λ (runs : List Run). run_left r ∷ runs) (rows_left_in sources)
+rows_left_in (r ∷ sources) = ap (λ (runs : List Run). run_left r.rows ∷ runs) (rows_left_in sources)
 
 -- what is left of rising runs rises
-pub rising_sources : (sources : List StoredRows) (runs : List Run) → map run_left sources ≡ runs → All IsRising runs → All IsRising (runs_in (map rest_of sources))
+pub rising_sources : (sources : List WrittenRows) (runs : List Run) → map (λ r. run_left r.rows) sources ≡ runs → All IsRising runs → All IsRising (runs_in (map (λ r. rest_of r.rows) sources))
 rising_sources sources runs are rising = subst (All IsRising) (sym (rows_left_in sources)) (subst (All IsRising) (sym are) rising)
+
+-- the form of a schema is that of the files that are written of it
+pub given_for : (sources : List WrittenRows) (f : Form) (s : TableSchema) → f ≡ form_of s → AllByRecursion (AreGivenFor f) sources → AllByRecursion (λ r. AreGivenFor (form_of s) r) sources
+given_for sources f s same given = subst (λ (h : Form). AllByRecursion (λ r. AreGivenFor h r) sources) same given
 
 -- ---- the engine
 

@@ -13,9 +13,10 @@ use pm_cases::Case;
 use pm_compact::{drops_by_kind_law, rewrite};
 use pm_engines::TableEngine;
 use pm_run::{RunFile, order_law};
+use pm_run_form::TableForm;
 use pm_run_reader::RunReader;
 use pm_run_writer::write_data;
-use pm_scan_rows::{StoredRun, sources};
+use pm_scan_rows::{StoredRun, written_sources};
 use pm_schema::EngineKind;
 use pm_values::{Refusal, Stamped};
 use std::alloc::{AllocError, Global};
@@ -203,14 +204,15 @@ pub fn rewrite_runs(
 }
 
 /// The same of a table that keeps last rows.
-#[tactic(auto, using(crate::proofs::RunLemmas::rising_sources, crate::proofs::RunLemmas::serves_last))]
+#[tactic(auto, using(crate::proofs::RunLemmas::given_for, crate::proofs::RunLemmas::rising_sources, crate::proofs::RunLemmas::serves_last))]
 fn rewrite_by_last(alloc: Global, table: Table, runs: &[StoredRun]) -> Result<Vec<RunFile>, Refusal>
     requires rising { All IsRising runs.now }
     requires engine { table.schema.now.options.engine ≡ engines.Deduplicate }
 {
     drops_by_kind_law();
     let engine = TableEngine::of_schema(alloc, table.schema)?;
-    let older_first = sources(alloc, runs)?;
+    let form = TableForm::of(alloc, table.schema)?;
+    let older_first = written_sources(alloc, runs, &form)?;
     let mut names = names();
     let files = rewrite(
         alloc,

@@ -13,8 +13,8 @@ use Rattle.pm_merge.specs.Merging.{GivesAll, GivesLeast, HasLeft, HaveNoRow, fir
 use Rattle.pm_merge.specs.Source.{Rest}
 use Rattle.pm_run.specs.Writing.{AreFilesOf, IsFileWith, data_prefix, suffix}
 use Rattle.pm_run.specs.declared.run.RunFile.{RunFile}
-use Rattle.pm_run_writer.specs.Written.{HasAdded, HasEnded, HasFinished, HasInHand}
-use Rattle.pm_compact.specs.Rewriting.{AreAsked, Asked, GivesFile, HasGiven, IsFull}
+use Rattle.pm_run_writer.specs.Written.{HasAdded, HasEnded, HasFinished, HasInHand, HasNames}
+use Rattle.pm_compact.specs.Rewriting.{AreAsked, AreWrittenFor, Asked, GivesFile, HasGiven, IsFull, row_at}
 use Rattle.pm_compact.specs.Rewritten.{kept_rows, most_in_file}
 use Rattle.pm_compact.specs.declared.rewriting.Rewriting.{Rewriting}
 use Rattle.pm_compact.proofs.OwnRowsLemmas.{ReadsFiles, read_whole}
@@ -71,10 +71,11 @@ KeptRises = (m : Meaning) (run : Run) → IsRising run → IsRising (without_dro
 
 -- ---- what was given
 
-module _ {S : Type 0} (m : Meaning) (rest : S → Rest) (asked : Asked) (given : List RunFile) (rows : List Stamped) (now : Naming) (before : Rewriting S)
-    (h : HasGiven m rest asked given rows now before) where
+module _ {S : Type 0} (m : Meaning) (rest : S → Rest) (fits : S → TableSchema → Type 0) (asked : Asked) (given : List RunFile) (rows : List Stamped) (now : Naming) (before : Rewriting S)
+    (h : HasGiven m rest fits asked given rows now before) where
   abbrev pub IsLeftAfter : Stamped → List Rest → Rewriting S → Type 0
-  IsLeftAfter x later after = GivesLeast m h.left x later × HasLeft m (λ p. p) rest after.merging later × (after.drop ≡ before.drop)
+  IsLeftAfter x later after =
+      GivesLeast m h.left x later × HasLeft m row_at rest after.merging later × (after.drop ≡ before.drop) × AreWrittenFor fits asked.schema after.merging
 
   -- the rows in hand and what is kept of one more
   abbrev pub more_rows : Stamped → List Stamped
@@ -95,7 +96,7 @@ module _ {S : Type 0} (m : Meaning) (rest : S → Rest) (asked : Asked) (given :
         kept_push m asked.drop h.run x ∙ ap (λ (xs : List Stamped). xs ++ kept_rows m asked.drop (x ∷ [])) h.same ∙ append_assoc h.filed rows (kept_rows m asked.drop (x ∷ []))
 
     -- a row more is in hand
-    pub given_row : HasInHand asked.schema most_in_file asked.level now.session (more_rows x) after.writer → HasGiven m rest asked given (more_rows x) now after
+    pub given_row : HasInHand asked.schema most_in_file asked.level now.session (more_rows x) after.writer → HasGiven m rest fits asked given (more_rows x) now after
     given_row hand = record {
       rising = h.rising;
       run = h.run ++ x ∷ [];
@@ -109,11 +110,12 @@ module _ {S : Type 0} (m : Meaning) (rest : S → Rest) (asked : Asked) (given :
       named = h.named;
       hand = hand;
       drops = is.2 ∙ h.drops;
+      written = is.3;
     }
 
     -- with a row more a file is full
     pub given_full : (f : RunFile) → length (more_rows x) ≡ most_in_file → HasEnded asked.schema most_in_file asked.level now (more_rows x) f after.writer
-        → HasGiven m rest asked (given ++ f ∷ []) [] (counted now) after
+        → HasGiven m rest fits asked (given ++ f ∷ []) [] (counted now) after
     given_full f many ended = record {
       rising = h.rising;
       run = h.run ++ x ∷ [];
@@ -127,12 +129,13 @@ module _ {S : Type 0} (m : Meaning) (rest : S → Rest) (asked : Asked) (given :
       named = ap counted h.named ∙ ap (λ (n : ℕ). record asked.names { count = n }) (let longer = length-append given (f ∷ []) in omega arith);
       hand = ended.none;
       drops = is.2 ∙ h.drops;
+      written = is.3;
     }
 
   -- the last rows are given, where nothing is left
-  pub given_last : (left : List Rest) (after : Rewriting S) → left ≡ h.left → HaveNoRow left → first_refusal left ≡ None → HasLeft m (λ p. p) rest after.merging left → after.drop ≡ before.drop → (f : RunFile)
-      → 1 ≤ length rows → HasEnded asked.schema most_in_file asked.level now rows f after.writer → HasGiven m rest asked (given ++ f ∷ []) [] (counted now) after
-  given_last left after same none well has drops f some ended = record {
+  pub given_last : (left : List Rest) (after : Rewriting S) → left ≡ h.left → HaveNoRow left → first_refusal left ≡ None → HasLeft m row_at rest after.merging left → after.drop ≡ before.drop → AreWrittenFor fits asked.schema after.merging → (f : RunFile)
+      → 1 ≤ length rows → HasEnded asked.schema most_in_file asked.level now rows f after.writer → HasGiven m rest fits asked (given ++ f ∷ []) [] (counted now) after
+  given_last left after same none well has drops written f some ended = record {
     rising = h.rising;
     run = h.run;
     left = left;
@@ -145,6 +148,7 @@ module _ {S : Type 0} (m : Meaning) (rest : S → Rest) (asked : Asked) (given :
     named = ap counted h.named ∙ ap (λ (n : ℕ). record asked.names { count = n }) (let longer = length-append given (f ∷ []) in omega arith);
     hand = ended.none;
     drops = drops ∙ h.drops;
+    written = written;
   }
     where
       all_full : AllByRecursion IsFull given ⊎ ((rows ≡ []) × HaveNoRow h.left × (first_refusal h.left ≡ None)) → AllByRecursion IsFull given
@@ -152,9 +156,9 @@ module _ {S : Type 0} (m : Meaning) (rest : S → Rest) (asked : Asked) (given :
       all_full (inr over) = absurd (omega (arith, ap length over.0))
 
   -- no row is in hand, and nothing is left
-  pub given_none : (left : List Rest) (after : Rewriting S) → left ≡ h.left → HaveNoRow left → first_refusal left ≡ None → HasLeft m (λ p. p) rest after.merging left → after.drop ≡ before.drop
-      → rows ≡ [] → HasInHand asked.schema most_in_file asked.level now.session [] after.writer → HasGiven m rest asked given [] now after
-  given_none left after same none well has drops empty hand = record {
+  pub given_none : (left : List Rest) (after : Rewriting S) → left ≡ h.left → HaveNoRow left → first_refusal left ≡ None → HasLeft m row_at rest after.merging left → after.drop ≡ before.drop
+      → AreWrittenFor fits asked.schema after.merging → rows ≡ [] → HasInHand asked.schema most_in_file asked.level now.session [] after.writer → HasGiven m rest fits asked given [] now after
+  given_none left after same none well has drops written empty hand = record {
     rising = h.rising;
     run = h.run;
     left = left;
@@ -167,21 +171,22 @@ module _ {S : Type 0} (m : Meaning) (rest : S → Rest) (asked : Asked) (given :
     named = h.named;
     hand = hand;
     drops = drops ∙ h.drops;
+    written = written;
   }
 
   -- what a row more makes of it: it is in hand, or its file was ended
   abbrev pub GivesStep : Option RunFile → List Stamped → Naming → Rewriting S → Type 0
-  GivesStep None own next after = HasGiven m rest asked given own next after
-  GivesStep (Some f) own next after = HasGiven m rest asked (given ++ f ∷ []) [] next after
+  GivesStep None own next after = HasGiven m rest fits asked given own next after
+  GivesStep (Some f) own next after = HasGiven m rest fits asked (given ++ f ∷ []) [] next after
 
   pub given_step : ((s : Stamped) (later : List Rest) → GivesLeast m h.left s later → GivesAll m asked.rests (h.run ++ s ∷ []) later)
       → ((s : Stamped) (later : List Rest) → GivesLeast m h.left s later → HaveNoRow h.left → ⊥) → (x : Stamped) (later : List Rest) (after : Rewriting S) → IsLeftAfter x later after
       → (file : Option RunFile) (next : Naming) → next ≡ past (length (option_to_list file)) now → HasAdded asked.schema most_in_file asked.level now (more_rows x) file after.writer
       → GivesStep file (more_rows x) next after
   given_step more some x later after is None next named added =
-      subst (λ (n : Naming). HasGiven m rest asked given (more_rows x) n after) (ap (λ (n : ℕ). record now { count = n }) (omega arith) ∙ sym named) (given_row more some x later after is added)
+      subst (λ (n : Naming). HasGiven m rest fits asked given (more_rows x) n after) (ap (λ (n : ℕ). record now { count = n }) (omega arith) ∙ sym named) (given_row more some x later after is added)
   given_step more some x later after is (Some f) next named added =
-      subst (λ (n : Naming). HasGiven m rest asked (given ++ f ∷ []) [] n after) (sym named) (given_full more some x later after is f added.0 added.1)
+      subst (λ (n : Naming). HasGiven m rest fits asked (given ++ f ∷ []) [] n after) (sym named) (given_full more some x later after is f added.0 added.1)
 
   -- nothing is left, and no row in hand: the files are those that were asked for
   pub given_all : ReadsFiles → OwnKinds → StoredAgain → KeptRises → (HaveNoRow h.left → IsMerge m (runs_in asked.rests) h.run) → HaveNoRow h.left → first_refusal h.left ≡ None → rows ≡ []
@@ -203,18 +208,18 @@ module _ {S : Type 0} (m : Meaning) (rest : S → Rest) (asked : Asked) (given :
 
   -- what the end makes of it: the last file, or none
   pub given_end : ReadsFiles → OwnKinds → StoredAgain → KeptRises → (HaveNoRow h.left → IsMerge m (runs_in asked.rests) h.run) → (left : List Rest) → HaveNoRow h.left × (first_refusal h.left ≡ None) × (left ≡ h.left)
-      → (after : Rewriting S) → HasLeft m (λ p. p) rest after.merging left → after.drop ≡ before.drop → (file : Option RunFile) (next : Naming) → next ≡ past (length (option_to_list file)) now
-      → HasFinished asked.schema most_in_file asked.level now rows file after.writer → GivesFile m rest asked given file next after
-  given_end reads own again rises merges left over after has drops None next named finished =
+      → (after : Rewriting S) → HasLeft m row_at rest after.merging left → after.drop ≡ before.drop → AreWrittenFor fits asked.schema after.merging → (file : Option RunFile) (next : Naming)
+      → next ≡ past (length (option_to_list file)) now → HasFinished asked.schema most_in_file asked.level now rows file after.writer → GivesFile m rest fits asked given file next after
+  given_end reads own again rises merges left over after has drops written None next named finished =
       let same = over.2 in (
         given_all reads own again rises merges over.0 over.1 finished.0,
-        subst (λ (n : Naming). HasGiven m rest asked given [] n after) (ap (λ (n : ℕ). record now { count = n }) (omega arith) ∙ sym named)
-            (given_none h.left after refl over.0 over.1 (subst (HasLeft m (λ p. p) rest after.merging) same has) drops finished.0 finished.1),
+        subst (λ (n : Naming). HasGiven m rest fits asked given [] n after) (ap (λ (n : ℕ). record now { count = n }) (omega arith) ∙ sym named)
+            (given_none h.left after refl over.0 over.1 (subst (HasLeft m row_at rest after.merging) same has) drops written finished.0 finished.1),
       )
-  given_end reads own again rises merges left over after has drops (Some f) next named finished =
+  given_end reads own again rises merges left over after has drops written (Some f) next named finished =
       let same = over.2 in
-      subst (λ (n : Naming). HasGiven m rest asked (given ++ f ∷ []) [] n after) (sym named)
-      (given_last h.left after refl over.0 over.1 (subst (HasLeft m (λ p. p) rest after.merging) same has) drops f finished.0 finished.1)
+      subst (λ (n : Naming). HasGiven m rest fits asked (given ++ f ∷ []) [] n after) (sym named)
+      (given_last h.left after refl over.0 over.1 (subst (HasLeft m row_at rest after.merging) same has) drops written f finished.0 finished.1)
 
 -- the next name, by its count
 pub past_is : (old new : Naming) (many : ℕ) → new ≡ record old { count = new.count } → new.count ≡ old.count + many → new ≡ past many old

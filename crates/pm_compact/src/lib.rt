@@ -3,8 +3,9 @@
 //! `Rewriting` merges the runs of a group, whatever their rows come from, and gives the run that they become file by
 //! file, each of at most 65536 rows, at a level. Rows go from where they stand into the bytes of a file, one after
 //! another, so that beside what the sources hold there are in memory the file in hand, and two places for rows of each
-//! two sources that are merged. The droppable rows are left out where the caller says so, which is right where all runs
-//! of the group are taken. `rewrite` makes all files at once. `specs/Rewritten.antt` says which files these are, and `specs/Rewriting.antt` what was given.
+//! two sources that are merged. A row whose bytes are known is written by a copy of them. The droppable rows are left
+//! out where the caller says so, which is right where all runs of the group are taken. `rewrite` makes all files at
+//! once. `specs/Rewritten.antt` says which files these are, and `specs/Rewriting.antt` what was given.
 //!
 //! `rewritten_law` says what that is for: the run takes the place of the runs, between whatever others, or, without
 //! the droppable rows, where none is older; it is no file exactly where it has no row; each file tells the level and

@@ -2,6 +2,7 @@
 
 ghost use Rattle.std.specs.Prelude.{◌≡◌, ◌≢◌, ◌+◌, ◌<◌, ◌≤◌, ◌^◌, ◌∷◌, [], ◌++◌, ℕ, All, IfErr, IfOk, None, OnOk, Some};
 ghost use Rattle.std.specs.Prelude.{List, length, map, option_to_list};
+ghost use Rattle.std.specs.List.{AllByRecursion};
 ghost use Rattle.pm_schema.specs.declared.schema.TableSchema.{TableSchema as SchemaView};
 ghost use Rattle.pm_values.specs.Names.{Naming};
 ghost use Rattle.pm_values.specs.Order.{Values};
@@ -10,15 +11,18 @@ ghost use Rattle.pm_values.specs.declared.refusal.Refusal.TheVariants.{Memory};
 ghost use Rattle.pm_engine.specs.Covers.{IsRising, row_of};
 ghost use Rattle.pm_engine.specs.Meaning.{Meaning};
 ghost use Rattle.pm_merge.specs.Merging.{runs_in};
+ghost use Rattle.pm_run.specs.Form.{form_of};
 ghost use Rattle.pm_run.specs.declared.run.RunFile.{RunFile as FileView};
+ghost use Rattle.pm_run_bytes.specs.Lying.{HasContentOf};
 ghost use Rattle.pm_run_writer.specs.Written.{HasAdded, HasInHand, IsWriting};
 ghost use Rattle.pm_compact.specs.Rewriting.{Asked, CanGive, GivesFile, HasGiven, asked_of, most_left};
 ghost use Rattle.pm_compact.specs.Rewritten.{AreRewritten, DropsByKind, RefusesAfter, kept_rows};
 
 use pm_engine::{MergeEngine, Stored, own_kind_law};
-use pm_merge::{Merging, RowSource, given_law, merged_law, oldest_law};
+use pm_merge::{Merging, RowPlace, RowSource, given_law, merged_law, oldest_law};
 use pm_row_slots::{PlacedRow, RowSlot};
 use pm_run::RunFile;
+use pm_run_bytes::WrittenPlace;
 use pm_run_writer::{RunWriter, files_law};
 use pm_schema::TableSchema;
 use pm_values::{Kind, Names, Refusal, Row};
@@ -30,12 +34,12 @@ const MOST_IN_FILE: usize = 65536;
 /// A group's runs that are being made into one, file by file: what is left of them, and the file in hand.
 #[derive(Drop)]
 pub struct Rewriting<'b, S> {
-    merging: Merging<RowSlot<'b>, S>,
+    merging: Merging<WrittenPlace<'b>, S>,
     writer: RunWriter<'b>,
     drop: bool,
 }
 
-impl<'b, S: RowSource<RowSlot<'b>>> Rewriting<'b, S> {
+impl<'b, S: RowSource<WrittenPlace<'b>>> Rewriting<'b, S> {
     /// A group's runs, the oldest first, before they are made into files at a level; with `drop` without the droppable
     /// rows. It takes time and memory by the number of sources, and asks none for a row yet.
     pub fn begin(
@@ -47,8 +51,9 @@ impl<'b, S: RowSource<RowSlot<'b>>> Rewriting<'b, S> {
         names: &Names,
     ) -> Result<Rewriting<'b, S>, AllocError>
         requires rising { All IsRising (runs_in (map S.rest older_first.items)) }
+        requires form { AllByRecursion (λ s. S.fits s schema.now) older_first.items }
         ensures none { IfOk result (λ w. (m : Meaning)
-            → HasGiven m S.rest (asked_of schema.now level drop names.now (map S.rest older_first.items)) [] []
+            → HasGiven m S.rest S.fits (asked_of schema.now level drop names.now (map S.rest older_first.items)) [] []
             names.now w) }
         ensures ready { IfOk result CanGive }
     {
@@ -72,14 +77,14 @@ impl<'b, S: RowSource<RowSlot<'b>>> Rewriting<'b, S> {
         requires by_kind { DropsByKind (E.meaning engine.now) }
         requires count { names.old.count < 18446744073709551615 }
         ensures gives { IfOk result (λ file. (asked : Asked) (given : List FileView)
-            → HasGiven (E.meaning engine.now) S.rest asked given [] names.old self.old
-            → GivesFile (E.meaning engine.now) S.rest asked given file names.new self.new) }
+            → HasGiven (E.meaning engine.now) S.rest S.fits asked given [] names.old self.old
+            → GivesFile (E.meaning engine.now) S.rest S.fits asked given file names.new self.new) }
         ensures fewer { IfOk result (λ file. (asked : Asked) (given : List FileView)
-            → HasGiven (E.meaning engine.now) S.rest asked given [] names.old self.old
+            → HasGiven (E.meaning engine.now) S.rest S.fits asked given [] names.old self.old
             → length (option_to_list file) + most_left S.rest self.new ≤ most_left S.rest self.old) }
         ensures ready { OnOk result (CanGive self.new) }
         ensures refuses { IfErr result (λ e. e ≢ Memory → (asked : Asked) (given : List FileView)
-            → HasGiven (E.meaning engine.now) S.rest asked given [] names.old self.old
+            → HasGiven (E.meaning engine.now) S.rest S.fits asked given [] names.old self.old
             → RefusesAfter (E.meaning engine.now) asked.rests e) }
         ensures names { names.new ≡ record names.old { count = names.new.count } }
         ensures counted { names.old.count ≤ names.new.count }
@@ -90,10 +95,10 @@ impl<'b, S: RowSource<RowSlot<'b>>> Rewriting<'b, S> {
         oldest_law();
         own_kind_law();
         files_law();
-        let mut place = Box::new(alloc, RowSlot::new(alloc))?;
+        let mut place = Box::new(alloc, WrittenPlace::empty(alloc))?;
         loop {
             self.merging.fill(alloc, engine, &mut place)?;
-            if place.is_none() {
+            if place.slot.is_none() {
                 return Ok(self.writer.finish(alloc, names)?);
             }
             let (writer, leaves_out) = (&mut self.writer, self.drop);
@@ -107,7 +112,7 @@ impl<'b, S: RowSource<RowSlot<'b>>> Rewriting<'b, S> {
 
 /// The files of the run that a group's runs become, all of them, the oldest first, at a level; with `drop` it lacks the
 /// droppable rows. It refuses as `next_file` does.
-pub fn rewrite<'b, E: MergeEngine, S: RowSource<RowSlot<'b>>>(
+pub fn rewrite<'b, E: MergeEngine, S: RowSource<WrittenPlace<'b>>>(
     alloc: Global,
     engine: &E,
     schema: &TableSchema,
@@ -117,6 +122,7 @@ pub fn rewrite<'b, E: MergeEngine, S: RowSource<RowSlot<'b>>>(
     names: &mut Names,
 ) -> Result<Vec<RunFile>, Refusal>
     requires rising { All IsRising (runs_in (map S.rest older_first.items)) }
+    requires form { AllByRecursion (λ s. S.fits s schema.now) older_first.items }
     requires by_kind { DropsByKind (E.meaning engine.now) }
     requires count { names.old.count < 2 ^ 62 }
     ensures files { IfOk result (λ files. AreRewritten schema.now (E.meaning engine.now) drop level names.old
@@ -140,7 +146,7 @@ fn write_placed<'b, E: MergeEngine>(
     alloc: Global,
     engine: &E,
     drop: bool,
-    place: &mut Box<RowSlot<'b>>,
+    place: &mut Box<WrittenPlace<'b>>,
     writer: &mut RunWriter<'b>,
     names: &mut Names,
 ) -> Result<Option<RunFile>, AllocError>
@@ -148,20 +154,47 @@ fn write_placed<'b, E: MergeEngine>(
     requires ready { IsWriting writer.old }
     requires count { names.old.count < 18446744073709551615 }
     ensures added { IfOk result (λ file. (s : SchemaView) (limit level : ℕ) (rows : List Stamped) (x : Stamped)
-        → place.old.value ≡ Some x → HasInHand s limit level names.old.session rows writer.old
+        → place.old.value.slot ≡ Some x → HasContentOf (form_of s) (Some x) place.old.value.content
+        → HasInHand s limit level names.old.session rows writer.old
         → HasAdded s limit level names.old (rows ++ kept_rows (E.meaning engine.now) drop (x ∷ [])) file writer.new) }
     ensures ready { OnOk result (IsWriting writer.new) }
-    ensures none { OnOk result (place.new.value ≡ None) }
+    ensures none { OnOk result (place.new.value.slot ≡ None) }
     ensures names { names.new ≡ record names.old { count = names.new.count } }
     ensures counted { names.old.count ≤ names.new.count }
     ensures taken { IfOk result (λ file. names.new.count ≡ names.old.count + length (option_to_list file)) }
 {
-    if drop && is_droppable(alloc, engine, place) {
-        place.clear();
+    if drop && is_droppable(alloc, engine, &place.slot) {
+        place.slot.clear();
         return Ok(None);
     }
-    let file = writer.add(alloc, place, names)?;
+    let file = add_placed(alloc, place.as_mut(), writer, names)?;
     Ok(file)
+}
+
+/// Writes the row of a place, which leaves it: by a copy of its bytes, where they are known.
+#[inline(always)]
+fn add_placed<'b>(
+    alloc: Global,
+    place: &mut WrittenPlace<'b>,
+    writer: &mut RunWriter<'b>,
+    names: &mut Names,
+) -> Result<Option<RunFile>, AllocError>
+    requires ready { IsWriting writer.old }
+    requires count { names.old.count < 18446744073709551615 }
+    ensures added { IfOk result (λ file. (s : SchemaView) (limit level : ℕ) (rows : List Stamped) (x : Stamped)
+        → place.old.slot ≡ Some x → HasContentOf (form_of s) (Some x) place.old.content
+        → HasInHand s limit level names.old.session rows writer.old
+        → HasAdded s limit level names.old (rows ++ x ∷ []) file writer.new) }
+    ensures ready { OnOk result (IsWriting writer.new) }
+    ensures none { OnOk result (place.new.slot ≡ None) }
+    ensures names { names.new ≡ record names.old { count = names.new.count } }
+    ensures counted { names.old.count ≤ names.new.count }
+    ensures taken { IfOk result (λ file. names.new.count ≡ names.old.count + length (option_to_list file)) }
+{
+    match place.content {
+        Some(content) => writer.add_written(alloc, &mut place.slot, content, names),
+        None => writer.add(alloc, &mut place.slot, names),
+    }
 }
 
 /// Whether the row of a place is droppable.

@@ -1,5 +1,6 @@
 mod GivenLemmas
 mod MergeLemmas
+mod FitLemmas
 mod MergingLemmas
 mod OneLemmas
 mod PrefixLemmas

@@ -111,6 +111,13 @@ rows_left held rest (Two' p older q newer first_older first_newer) =
     (length (option_to_list (held first_older.value)) + rows_left held rest older)
     + (length (option_to_list (held first_newer.value)) + rows_left held rest newer)
 
+-- each source and each place is as it has to be
+abbrev pub AllFit : {P S : Type 0} → (P → Type 0) → (S → Type 0) → Merging P S → Type 0
+AllFit place source Nothing = Unit {0}
+AllFit place source (One s) = source s
+AllFit place source (Two' p older q newer first_older first_newer) =
+    (place first_older.value × AllFit place source older) × (place first_newer.value × AllFit place source newer)
+
 -- Private: the key is below that of the row, if there is one
 abbrev pub IsBelow : Values → Option Stamped → Type 0
 IsBelow key None = ⊤

@@ -6,10 +6,12 @@ ghost use Rattle.std.specs.declared.cmp.Ordering.TheVariants.{Equal};
 ghost use Rattle.std.specs.Vec.{vec_len};
 ghost use Rattle.pm_engine.specs.Meaning.{Meaning};
 ghost use Rattle.pm_engine.specs.Needed.{raised};
-ghost use Rattle.pm_merge.specs.Merging.{Chooses, CombineFirst, GivesOne, HasLeft, HaveNoRow};
+ghost use Rattle.std.specs.List.{AllByRecursion};
+ghost use Rattle.pm_merge.specs.Merging.{AllFit, Chooses, CombineFirst, GivesOne, HasLeft, HaveNoRow};
 ghost use Rattle.pm_merge.specs.Merging.{first_refusal, rows_left};
 ghost use Rattle.pm_merge.specs.Source.{Rest};
 ghost use Rattle.pm_row_slots.specs.Slot.{OrdersFirst, number_of};
+ghost use Rattle.pm_schema.specs.declared.schema.TableSchema.{TableSchema};
 ghost use Rattle.pm_values.specs.declared.refusal.Refusal.TheVariants.{Memory};
 
 use crate::place::RowPlace;
@@ -48,8 +50,11 @@ impl<P: RowPlace, S: RowSource<P>> Merging<P, S> {
     /// The merge of sources, the oldest first. It takes time and memory by the number of sources, and asks none for a
     /// row yet.
     pub fn of(alloc: Global, older_first: Vec<S>) -> Result<Merging<P, S>, AllocError>
-        ensures { IfOk result (λ merging. (m : Meaning)
+        ensures left { IfOk result (λ merging. (m : Meaning)
             → HasLeft m P.held S.rest merging (map S.rest older_first.items)) }
+        ensures fits { IfOk result (λ merging. (table : TableSchema)
+            → AllByRecursion (λ s. S.fits s table) older_first.items
+            → AllFit (λ p. P.fits p table) (λ s. S.fits s table) merging) }
     {
         let mut sources = older_first;
         let half = sources.len() / 2;
@@ -84,6 +89,9 @@ impl<P: RowPlace, S: RowSource<P>> Merging<P, S> {
         ensures fewer { OnOk result
             (length (option_to_list (P.held slot.new.value)) + rows_left P.held S.rest self.new
             ≤ rows_left P.held S.rest self.old) }
+        ensures fits { OnOk result ((table : TableSchema) → P.fits slot.old.value table
+            → AllFit (λ p. P.fits p table) (λ s. S.fits s table) self.old
+            → P.fits slot.new.value table × AllFit (λ p. P.fits p table) (λ s. S.fits s table) self.new) }
         ensures refuses { IfErr result (λ e. e ≢ Memory → (rests : List Rest)
             → HasLeft (E.meaning engine.now) P.held S.rest self.old rests → first_refusal rests ≡ Some e) }
         ensures none { IfErr result (λ e. e ≢ Memory → P.held slot.new.value ≡ None) }
@@ -111,6 +119,9 @@ impl<P: RowPlace, S: RowSource<P>> Merging<P, S> {
         ensures fewer { OnOk result
             (length (option_to_list (P.held slot.new.value)) + rows_left P.held S.rest self.new
             ≤ rows_left P.held S.rest self.old) }
+        ensures fits { OnOk result ((table : TableSchema) → P.fits slot.old.value table
+            → AllFit (λ p. P.fits p table) (λ s. S.fits s table) self.old
+            → P.fits slot.new.value table × AllFit (λ p. P.fits p table) (λ s. S.fits s table) self.new) }
         ensures memory { OnOk result (cause.new ≡ Memory) }
         ensures refuses { OnErr result (cause.new ≢ Memory → (rests : List Rest)
             → HasLeft (E.meaning engine.now) P.held S.rest self.old rests → first_refusal rests ≡ Some cause.new) }
@@ -151,6 +162,8 @@ fn let_go<P: RowPlace, S: RowSource<P>>(side: &mut Box<Merging<P, S>>, first: &B
         × (first_refusal rests ≡ None)) → HasLeft m P.held S.rest side.old.value rests
         → HasLeft m P.held S.rest side.new.value rests }
     ensures fewer { rows_left P.held S.rest side.new.value ≤ rows_left P.held S.rest side.old.value }
+    ensures fits { (table : TableSchema) → AllFit (λ p. P.fits p table) (λ s. S.fits s table) side.old.value
+        → AllFit (λ p. P.fits p table) (λ s. S.fits s table) side.new.value }
 {
     if first.is_empty() {
         **side = Merging::Nothing;
@@ -166,8 +179,11 @@ fn choose<P: RowPlace, E: MergeEngine>(
     slot: &mut Box<P>,
 ) -> Result<(), AllocError>
     requires { P.held slot.old.value ≡ None }
-    ensures { OnOk result (Chooses (E.meaning engine.now) (P.held older.old.value) (P.held newer.old.value)
+    ensures chooses { OnOk result (Chooses (E.meaning engine.now) (P.held older.old.value) (P.held newer.old.value)
         (P.held slot.new.value) (P.held older.new.value) (P.held newer.new.value)) }
+    ensures fits { OnOk result ((table : TableSchema) → P.fits slot.old.value table → P.fits older.old.value table
+        → P.fits newer.old.value table
+        → P.fits slot.new.value table × P.fits older.new.value table × P.fits newer.new.value table) }
 {
     match older.order(newer) {
         Some(Ordering::Less) => mem::swap(slot, older),
@@ -192,6 +208,9 @@ fn join<P: RowPlace, E: MergeEngine>(
     ensures combines { OnOk result (CombineFirst (E.meaning engine.now) (P.held older.old.value)
         (P.held newer.old.value) (P.held slot.new.value)) }
     ensures takes { OnOk result ((P.held older.new.value ≡ None) × (P.held newer.new.value ≡ None)) }
+    ensures fits { OnOk result ((table : TableSchema) → P.fits slot.old.value table → P.fits older.old.value table
+        → P.fits newer.old.value table
+        → P.fits slot.new.value table × P.fits older.new.value table × P.fits newer.new.value table) }
 {
     match engine.needed() {
         Needed::Older => keep(older, newer, slot),
@@ -207,6 +226,8 @@ fn keep<P: RowPlace>(needed: &mut Box<P>, other: &mut Box<P>, slot: &mut Box<P>)
     ensures keeps { P.held slot.new.value
         ≡ option_map (raised (number_of (P.held other.old.value))) (P.held needed.old.value) }
     ensures takes { (P.held needed.new.value ≡ None) × (P.held other.new.value ≡ None) }
+    ensures fits { (table : TableSchema) → P.fits slot.old.value table → P.fits needed.old.value table
+        → P.fits slot.new.value table × P.fits needed.new.value table × P.fits other.new.value table }
 {
     needed.raise(other.number());
     other.clear();
@@ -227,6 +248,8 @@ fn combine<P: RowPlace, E: MergeEngine>(
     ensures combines { OnOk result
         (CombineFirst (E.meaning engine.now) (P.held older.old) (P.held newer.old) (P.held slot.new)) }
     ensures takes { OnOk result ((P.held older.new ≡ None) × (P.held newer.new ≡ None)) }
+    ensures fits { OnOk result ((table : TableSchema) → P.fits slot.old table
+        → P.fits slot.new table × P.fits older.new table × P.fits newer.new table) }
 {
     if let (Some(older), Some(newer)) = (older.take(alloc)?, newer.take(alloc)?) {
         slot.put(combined(alloc, engine, older, newer)?);
@@ -237,7 +260,9 @@ fn combine<P: RowPlace, E: MergeEngine>(
 /// The only source, or no row.
 fn only<P: RowPlace, S: RowSource<P>>(sources: Vec<S>) -> Merging<P, S>
     requires { vec_len sources ≤ 1 }
-    ensures { (m : Meaning) → HasLeft m P.held S.rest result (map S.rest sources.items) }
+    ensures left { (m : Meaning) → HasLeft m P.held S.rest result (map S.rest sources.items) }
+    ensures fits { (table : TableSchema) → AllByRecursion (λ s. S.fits s table) sources.items
+        → AllFit (λ p. P.fits p table) (λ s. S.fits s table) result }
 {
     let mut sources = sources;
     match sources.pop() {

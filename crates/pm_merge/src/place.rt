@@ -11,14 +11,19 @@ use std::cmp::Ordering;
 
 /// A place for one row at a time, or none.
 pub trait RowPlace: Drop {
+    ghost use Rattle.pm_schema.specs.declared.schema.TableSchema.{TableSchema};
     ghost use Rattle.pm_values.specs.declared.record.Stamped.{Stamped as StampedView};
 
     /// The row that stands in it.
     ghost held: { Self → Option StampedView };
 
+    /// What else there is of its row is as it has to be of one of a table of the schema.
+    ghost fits: { Self → TableSchema → Type 0 };
+
     /// A place without a row.
     fn empty(alloc: Global) -> Self
-        ensures { held result ≡ None };
+        ensures none { held result ≡ None }
+        ensures fits { (table : TableSchema) → fits result table };
 
     /// Whether no row stands in it.
     fn is_empty(&self) -> bool
@@ -35,25 +40,31 @@ pub trait RowPlace: Drop {
 
     /// Gives its row the number, where this is greater than the row's own.
     fn raise(&mut self, number: u64)
-        ensures { held self.new ≡ option_map (raised number) (held self.old) };
+        ensures raised { held self.new ≡ option_map (raised number) (held self.old) }
+        ensures fits { (table : TableSchema) → fits self.old table → fits self.new table };
 
     /// No row stands in it any more.
     fn clear(&mut self)
-        ensures { held self.new ≡ None };
+        ensures none { held self.new ≡ None }
+        ensures fits { (table : TableSchema) → fits self.new table };
 
     /// The row, which leaves the place, in memory of its own.
     fn take(&mut self, alloc: Global) -> Result<Option<Stamped>, AllocError>
         ensures row { IfOk result (λ taken. taken ≡ held self.old) }
-        ensures none { OnOk result (held self.new ≡ None) };
+        ensures none { OnOk result (held self.new ≡ None) }
+        ensures fits { OnOk result ((table : TableSchema) → fits self.new table) };
 
     /// Puts a row into an empty place.
     fn put(&mut self, stamped: Stamped)
         requires { held self.old ≡ None }
-        ensures { held self.new ≡ Some stamped };
+        ensures row { held self.new ≡ Some stamped }
+        ensures fits { (table : TableSchema) → fits self.new table };
 }
 
 impl<'b> RowPlace for RowSlot<'b> {
     ghost held = { λ s. s };
+
+    ghost fits = { λ s table. Unit {0} };
 
     #[inline]
     fn empty(alloc: Global) -> RowSlot<'b> {

@@ -1,31 +1,38 @@
 -- What is made of rows that were read: they have no refusal, so the only one is that memory ran out.
 use Rattle.std.proofs.Common.{◌≡◌, ◌≢◌, List, [], ◌∷◌, ◌++◌, Some, All, map, refl, ap, sym, subst, ◌∙◌, suc, Vec, Global, Result, Ok, Err, IfErr, arith}
+use Rattle.std.specs.List.{AllByRecursion}
+use Rattle.pm_schema.specs.declared.schema.TableSchema.{TableSchema}
 use Rattle.pm_values.specs.declared.refusal.Refusal.{Refusal}
 use Rattle.pm_values.specs.declared.refusal.Refusal.TheVariants.{Memory}
 use Rattle.pm_engine.specs.Covers.{IsRising, Run}
 use Rattle.pm_engine.specs.Meaning.{Meaning}
 use Rattle.pm_merge.specs.Merging.{GivesAll, HaveNoRefusal, first_refusal, rests_of, runs_in}
 use Rattle.pm_merge.specs.Source.{Rest}
+use Rattle.pm_run.specs.Form.{Form, form_of}
 use Rattle.pm_compact.specs.Rewritten.{RefusesAfter}
 use Rattle.pm_scan_rows.specs.Shown.{groups_of}
-use Rattle.pm_scan_rows.specs.Stored.{rest_of, run_left}
-use Rattle.pm_scan_rows.specs.declared.rows.StoredRows.{StoredRows}
+use Rattle.pm_scan_rows.specs.Stored.{AreGivenFor, rest_of, run_left}
+use Rattle.pm_scan_rows.specs.declared.written_rows.WrittenRows.{WrittenRows}
 
 -- runs as rests are the rests of these runs
-rests-joined : (rows : List StoredRows) → map rest_of rows ≡ rests_of (map run_left rows)
+rests-joined : (rows : List WrittenRows) → map (λ r. rest_of r.rows) rows ≡ rests_of (map (λ r. run_left r.rows) rows)
 rests-joined [] = refl
-rests-joined (r ∷ rows) = ap (λ (rests : List Rest). rest_of r ∷ rests) (rests-joined rows)
+rests-joined (r ∷ rows) = ap (λ (rests : List Rest). rest_of r.rows ∷ rests) (rests-joined rows)
 
-pub rests_are : (rows : List StoredRows) (runs : List Run) → map run_left rows ≡ runs → map rest_of rows ≡ rests_of runs
+pub rests_are : (rows : List WrittenRows) (runs : List Run) → map (λ r. run_left r.rows) rows ≡ runs → map (λ r. rest_of r.rows) rows ≡ rests_of runs
 rests_are rows runs are = rests-joined rows ∙ ap rests_of are
 
 pub runs-again : (runs : List Run) → runs_in (rests_of runs) ≡ runs
 runs-again [] = refl
 runs-again (run ∷ runs) = ap (λ (rest : List Run). run ∷ rest) (runs-again runs)
 
-pub rests_rise : (rows : List StoredRows) (runs : List Run) → map run_left rows ≡ runs → All IsRising runs → All IsRising (runs_in (map rest_of rows))
+pub rests_rise : (rows : List WrittenRows) (runs : List Run) → map (λ r. run_left r.rows) rows ≡ runs → All IsRising runs → All IsRising (runs_in (map (λ r. rest_of r.rows) rows))
 rests_rise rows runs are rising =
     subst (All IsRising) (sym (ap runs_in (rests_are rows runs are) ∙ runs-again runs)) rising
+
+-- where the form is that of the table, so are the rows those of its files
+pub given_for : (rows : List WrittenRows) (f : Form) (s : TableSchema) → f ≡ form_of s → AllByRecursion (AreGivenFor f) rows → AllByRecursion (λ r. AreGivenFor (form_of s) r) rows
+given_for rows f s same given = subst (λ (h : Form). AllByRecursion (λ r. AreGivenFor h r) rows) same given
 
 no-refusal : (runs : List Run) → HaveNoRefusal (rests_of runs)
 no-refusal [] = tt

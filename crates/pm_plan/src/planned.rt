@@ -1,11 +1,12 @@
 //! What a compaction has planned, and what it has made so far.
 
 ghost use Rattle.std.specs.Prelude.{◌≡◌, ◌∷◌, [], All, IfErr, IfOk, OnOk, map};
+ghost use Rattle.std.specs.List.{AllByRecursion};
 ghost use Rattle.pm_engine.specs.Covers.{IsRising};
 ghost use Rattle.pm_engine.specs.OfSchema.{meaning_of};
 ghost use Rattle.pm_engines.specs.TableEngine.{HasEngine};
 ghost use Rattle.pm_merge.specs.Merging.{rests_of, runs_in};
-ghost use Rattle.pm_scan_rows.specs.Stored.{rest_of};
+ghost use Rattle.pm_scan_rows.specs.Stored.{AreGivenFor, rest_of};
 ghost use Rattle.pm_scan_rows.specs.Shown.{groups_of};
 ghost use Rattle.pm_schema.specs.Folder.{FitsPartition};
 ghost use Rattle.pm_compact.specs.Rewritten.{AreRewritten};
@@ -24,7 +25,8 @@ use pm_merge::given_law;
 use pm_model_contents::data_path;
 use pm_put::CommitFile;
 use pm_run::RunFile;
-use pm_scan_rows::{StoredRows, StoredRun, sources};
+use pm_run_form::TableForm;
+use pm_scan_rows::{StoredRun, WrittenRows, written_sources};
 use pm_schema::TableSchema;
 use pm_values::{Group, Names, Refusal};
 use std::alloc::{AllocError, Global};
@@ -158,6 +160,7 @@ impl Planned {
 
     /// The files that a group's runs become at its level, with the next names: without the droppable rows where all of
     /// its runs go.
+    #[tactic(auto, using(crate::proofs::MakeLemmas::given_for))]
     fn make(
         &mut self,
         alloc: Global,
@@ -175,7 +178,8 @@ impl Planned {
         drops_by_kind_law();
         given_law();
         let engine = TableEngine::of_schema(alloc, &self.schema)?;
-        let rows = rows_of(alloc, runs)?;
+        let form = TableForm::of(alloc, &self.schema)?;
+        let rows = rows_of(alloc, runs, &form)?;
         let names = &mut self.names;
         rewrite(
             alloc,
@@ -256,12 +260,17 @@ impl Planned {
     }
 }
 
-/// The rows of runs that were read, as they are merged.
+/// The rows of runs that were read, with their bytes, as they are merged into files of a form.
 #[tactic(auto, using(crate::proofs::MakeLemmas::rests_are, crate::proofs::MakeLemmas::rests_rise))]
-fn rows_of<'b>(alloc: Global, runs: &'b [StoredRun]) -> Result<Vec<StoredRows<'b>>, AllocError>
+fn rows_of<'b>(
+    alloc: Global,
+    runs: &'b [StoredRun],
+    form: &'b TableForm,
+) -> Result<Vec<WrittenRows<'b>>, AllocError>
     requires { All IsRising runs.now }
-    ensures rests { IfOk result (λ rows. map rest_of rows.items ≡ rests_of runs.now) }
-    ensures rising { IfOk result (λ rows. All IsRising (runs_in (map rest_of rows.items))) }
+    ensures rests { IfOk result (λ rows. map (λ r. rest_of r.rows) rows.items ≡ rests_of runs.now) }
+    ensures rising { IfOk result (λ rows. All IsRising (runs_in (map (λ r. rest_of r.rows) rows.items))) }
+    ensures form { IfOk result (λ rows. AllByRecursion (AreGivenFor form.now) rows.items) }
 {
-    sources(alloc, runs)
+    written_sources(alloc, runs, form)
 }

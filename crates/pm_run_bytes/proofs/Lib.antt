@@ -1,3 +1,4 @@
 mod DirectLemmas
 mod JudgeLemmas
 mod LyingLemmas
+pub mod PlaceLemmas

@@ -1,5 +1,6 @@
 -- Rows that are given one after another, where they lie in the bytes of a file.
 use Rattle.std.specs.Prelude.{◌≡◌, ℕ, List, [], ◌∷◌, Option, None, Some}
+use Rattle.std.specs.Borrow.{Bor}
 use Rattle.pm_avro_data.specs.Adding.{Adds}
 use Rattle.pm_values.specs.declared.record.Stamped.{Stamped}
 use Rattle.pm_run.specs.Form.{Form}
@@ -21,3 +22,9 @@ GivesFirst old (Some x) new = old ≡ x ∷ new
 abbrev pub IsContentOf : Form → Option Stamped → List ℕ → Type 0
 IsContentOf f None content = Unit {0}
 IsContentOf f (Some x) content = IsWritable f x × Adds [] content (row_data f x)
+
+-- so where its bytes are known
+abbrev pub HasContentOf : Form → Option Stamped → Option (Bor (List ℕ)) → Type 0
+HasContentOf f None content = Unit {0}
+HasContentOf f (Some x) None = Unit {0}
+HasContentOf f (Some x) (Some content) = IsContentOf f (Some x) content.now

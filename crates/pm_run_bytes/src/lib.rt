@@ -7,13 +7,17 @@
 //!
 //! `FileRows` gives rows one after another where they lie, into a place that keeps its memory (`specs/Lying.antt`). It
 //! knows which they are, since bytes have one list of rows (`specs/Known.antt`). A row that is read where it lies is
-//! spelled as it is written, so its bytes can be copied to another file of the form (`FileRows::fill_written`).
+//! spelled as it is written, so its bytes can be copied to another file of the form (`FileRows::fill_written`). They
+//! stand beside it in a `WrittenPlace`.
 #![tactic(auto)]
 
+mod alike;
 mod direct;
 mod judge;
 mod lying;
+mod place;
 mod same;
 
 pub use direct::Direct;
 pub use lying::FileRows;
+pub use place::WrittenPlace;

@@ -5,6 +5,7 @@ ghost use Rattle.std.specs.Coded.{codes};
 ghost use Rattle.pm_values.specs.declared.record.Stamped.{Stamped};
 ghost use Rattle.pm_run_bytes.specs.Known.{KnownRows, LieAt, one_known};
 
+use crate::alike::are_alike;
 use crate::direct::Direct;
 use crate::judge::see_row;
 use pm_row_slots::RowSlot;
@@ -30,7 +31,7 @@ pub struct FileRows<'b> {
 }
 
 impl<'b> FileRows<'b> {
-    ghost use Rattle.std.specs.Prelude.{IfOk};
+    ghost use Rattle.std.specs.Prelude.{IfOk, IsTrue};
     ghost use Rattle.pm_run_bytes.specs.Lying.{GivesFirst, IsContentOf, lying_rows};
 
     /// The rows of the blocks from an offset on.
@@ -86,6 +87,13 @@ impl<'b> FileRows<'b> {
         }
         let own = self.next_row(alloc, slot)?;
         Ok(own)
+    }
+
+    /// Whether it is known that the rows are of the form.
+    pub fn has_form(&self, form: &TableForm) -> bool
+        ensures { IsTrue result → self.now.form.now ≡ form.now }
+    {
+        are_alike(self.form, form)
     }
 
     /// Takes the next block in hand, where no row is left of the last one. A block that was judged has rows.

@@ -111,3 +111,10 @@ module _ (whole : WholeBegun) (f : Form) (marker : List ℕ) (rows : List Stampe
         container = whole (run_type f) blocks marker out begun_so;
         written = begun_so.written;
       }
+
+-- bytes that are added of a datum are added after others, too
+pub adds_after : (d : Data) (before after content : List ℕ) → after ≡ before ++ content → Adds [] content d → Adds before after d
+adds_after d before after content copied alone = record {
+  added = copied ∙ ap (λ (bs : List ℕ). before ++ bs) alone.added;
+  fits = alone.fits;
+}

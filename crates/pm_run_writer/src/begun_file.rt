@@ -2,6 +2,7 @@
 
 ghost use Rattle.std.specs.Prelude.{◌≡◌, ◌++◌, ◌∷◌, [], ◌<◌, ◌≤◌, ℕ, List, IfOk, OnOk, length, map, false, true};
 ghost use Rattle.std.specs.List.{AllByRecursion};
+ghost use Rattle.pm_avro_data.specs.Adding.{Adds};
 ghost use Rattle.pm_avro_data.specs.Datum.{Data};
 ghost use Rattle.pm_avro_file.specs.Begun.{AreEncoded, IsBegun};
 ghost use Rattle.pm_avro_schema.specs.Avro.{Avro, takes_no_byte};
@@ -107,7 +108,23 @@ impl BegunFile {
         Ok(())
     }
 
+    /// Adds a row of which these are the bytes that are written: they are copied.
+    #[inline(always)]
+    pub(crate) fn add_written(&mut self, content: &[u8]) -> Result<(), AllocError>
+        requires within { self.old.count ≤ 1024 }
+        ensures begun { OnOk result ((f : Form) (marker : List ℕ) (rows : List StampedView) (x : StampedView) →
+            IsWritable f x → Adds [] content.now (row_data f x) → HasBegun f marker rows self.old
+            → HasBegun f marker (rows ++ x ∷ []) self.new) }
+        ensures within { OnOk result (self.new.count ≤ 1024) }
+    {
+        self.make_room()?;
+        self.block.extend_from_slice(content)?;
+        self.count += 1;
+        Ok(())
+    }
+
     /// Ends the block that comes next where it is full.
+    #[inline(always)]
     fn make_room(&mut self) -> Result<(), AllocError>
         requires within { self.old.count ≤ 1024 }
         ensures begun { OnOk result ((f : Form) (marker : List ℕ) (rows : List StampedView) →

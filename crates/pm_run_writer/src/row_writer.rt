@@ -88,6 +88,7 @@ fn add_values(out: &mut Vec<u8>, fields: &[Field], row: PlacedRow) -> Result<(),
 }
 
 /// Adds the value that a row has of a field at the index; out of memory where it has none.
+#[inline(always)]
 fn add_at(out: &mut Vec<u8>, field: &Field, row: PlacedRow, index: usize) -> Result<(), AllocError>
     ensures added { OnOk result (Adds out.old.items out.new.items
         (value_data field.now (value_at (placed_row row.entry).row index))) }
@@ -101,6 +102,7 @@ fn add_at(out: &mut Vec<u8>, field: &Field, row: PlacedRow, index: usize) -> Res
 }
 
 /// The same of values that lie in bytes or are lent.
+#[inline(always)]
 fn add_seen(out: &mut Vec<u8>, field: &Field, row: &[Seen], index: usize) -> Result<(), AllocError>
     ensures added { OnOk result (Adds out.old.items out.new.items
         (value_data field.now (value_at (map seen_value row.now) index))) }
@@ -126,6 +128,7 @@ fn add_own(out: &mut Vec<u8>, field: &Field, row: &[Value], index: usize) -> Res
 }
 
 /// Adds a field's value.
+#[inline(always)]
 fn add_value(out: &mut Vec<u8>, field: &Field, value: Seen) -> Result<(), AllocError>
     ensures added { OnOk result (Adds out.old.items out.new.items (value_data field.now (seen_value value.entry))) }
     ensures typed { OnOk result (HasType (field_type field.now) (value_data field.now (seen_value value.entry))) }
@@ -138,6 +141,7 @@ fn add_value(out: &mut Vec<u8>, field: &Field, value: Seen) -> Result<(), AllocE
 }
 
 /// Adds a value that may be null.
+#[inline(always)]
 fn add_optional(out: &mut Vec<u8>, kind: ColType, value: Seen) -> Result<(), AllocError>
     ensures added { OnOk result (Adds out.old.items out.new.items (optional_data kind (seen_value value.entry))) }
     ensures typed { OnOk result (HasType (or_null (value_type kind)) (optional_data kind (seen_value value.entry))) }
@@ -168,6 +172,7 @@ fn add_present(out: &mut Vec<u8>, kind: ColType, value: Seen) -> Result<(), Allo
 }
 
 /// Adds a value that isn't null.
+#[inline(always)]
 fn add_scalar(out: &mut Vec<u8>, kind: ColType, value: Seen) -> Result<(), AllocError>
     ensures added { OnOk result (Adds out.old.items out.new.items (scalar_data kind (seen_value value.entry))) }
     ensures typed { OnOk result (HasType (value_type kind) (scalar_data kind (seen_value value.entry))) }

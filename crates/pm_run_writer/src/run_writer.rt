@@ -2,10 +2,13 @@
 
 ghost use Rattle.std.specs.Prelude.{◌≡◌, ◌+◌, ◌<◌, ◌≤◌, ◌∷◌, [], ◌++◌, ℕ, List, IfOk, None, OnOk, Some};
 ghost use Rattle.std.specs.Prelude.{length, option_map, option_to_list};
+ghost use Rattle.pm_avro_data.specs.Adding.{Adds};
 ghost use Rattle.pm_schema.specs.declared.schema.TableSchema.{TableSchema};
 ghost use Rattle.pm_values.specs.Names.{counted};
 ghost use Rattle.pm_values.specs.declared.record.Stamped.{Stamped as StampedView};
-ghost use Rattle.pm_run.specs.Form.{form_of};
+ghost use Rattle.pm_run.specs.Form.{Form, form_of};
+ghost use Rattle.pm_run.specs.Row.{row_data};
+ghost use Rattle.pm_run.specs.Typed.{IsWritable};
 ghost use Rattle.pm_run.specs.Writing.{IsFileWith};
 ghost use Rattle.pm_run_writer.specs.Begun.{HasBegun};
 ghost use Rattle.pm_run_writer.specs.Summary.{IsSummary};
@@ -33,7 +36,7 @@ pub struct RunWriter<'b> {
     level: u32,
     file: BegunFile,
     summary: RowSummary,
-    last: Box<RowSlot<'b>>,
+    last: RowSlot<'b>,
 }
 
 impl Drop for RunWriter<'_> {
@@ -71,7 +74,7 @@ impl<'b> RunWriter<'b> {
             level,
             file,
             summary: RowSummary::none(),
-            last: Box::new(alloc, RowSlot::new(alloc))?,
+            last: RowSlot::new(alloc),
         })
     }
 
@@ -82,22 +85,63 @@ impl<'b> RunWriter<'b> {
     pub fn add(
         &mut self,
         alloc: Global,
-        place: &mut Box<RowSlot<'b>>,
+        place: &mut RowSlot<'b>,
         names: &mut Names,
     ) -> Result<Option<RunFile>, AllocError>
         requires ready { IsWriting self.old }
         requires count { names.old.count < 18446744073709551615 }
         ensures added { IfOk result (λ file. (s : TableSchema) (limit level : ℕ) (rows : List StampedView)
-            (x : StampedView) → place.old.value ≡ Some x
-            → HasInHand s limit level names.old.session rows self.old
+            (x : StampedView) → place.old ≡ Some x → HasInHand s limit level names.old.session rows self.old
             → HasAdded s limit level names.old (rows ++ x ∷ []) file self.new) }
         ensures ready { OnOk result (IsWriting self.new) }
-        ensures empty { OnOk result (place.new.value ≡ None) }
+        ensures empty { OnOk result (place.new ≡ None) }
         ensures names { names.new ≡ record names.old { count = names.new.count } }
         ensures counted { names.old.count ≤ names.new.count }
         ensures taken { IfOk result (λ file. names.new.count ≡ names.old.count + length (option_to_list file)) }
     {
         self.put(alloc, place)?;
+        let file = self.end_full(alloc, names)?;
+        Ok(file)
+    }
+
+    /// The same of a row whose bytes are those that are written of it, which are copied. Whether they are isn't tested.
+    pub fn add_written(
+        &mut self,
+        alloc: Global,
+        place: &mut RowSlot<'b>,
+        content: &[u8],
+        names: &mut Names,
+    ) -> Result<Option<RunFile>, AllocError>
+        requires ready { IsWriting self.old }
+        requires count { names.old.count < 18446744073709551615 }
+        ensures added { IfOk result (λ file. (s : TableSchema) (limit level : ℕ) (rows : List StampedView)
+            (x : StampedView) → place.old ≡ Some x → IsWritable (form_of s) x
+            → Adds [] content.now (row_data (form_of s) x) → HasInHand s limit level names.old.session rows self.old
+            → HasAdded s limit level names.old (rows ++ x ∷ []) file self.new) }
+        ensures ready { OnOk result (IsWriting self.new) }
+        ensures empty { OnOk result (place.new ≡ None) }
+        ensures names { names.new ≡ record names.old { count = names.new.count } }
+        ensures counted { names.old.count ≤ names.new.count }
+        ensures taken { IfOk result (λ file. names.new.count ≡ names.old.count + length (option_to_list file)) }
+    {
+        self.put_written(alloc, place, content)?;
+        let file = self.end_full(alloc, names)?;
+        Ok(file)
+    }
+
+    /// Ends the file in hand where it is full.
+    #[inline(always)]
+    fn end_full(&mut self, alloc: Global, names: &mut Names) -> Result<Option<RunFile>, AllocError>
+        requires ready { CanEnd self.old }
+        requires count { names.old.count < 18446744073709551615 }
+        ensures added { IfOk result (λ file. (s : TableSchema) (limit level : ℕ) (rows : List StampedView)
+            → HasInHand s limit level names.old.session rows self.old
+            → HasAdded s limit level names.old rows file self.new) }
+        ensures ready { OnOk result (IsWriting self.new) }
+        ensures names { names.new ≡ record names.old { count = names.new.count } }
+        ensures counted { names.old.count ≤ names.new.count }
+        ensures taken { IfOk result (λ file. names.new.count ≡ names.old.count + length (option_to_list file)) }
+    {
         if self.summary.count < self.limit {
             return Ok(None);
         }
@@ -128,13 +172,13 @@ impl<'b> RunWriter<'b> {
     }
 
     /// Writes the row of a place, which leaves it, to the file in hand.
-    fn put(&mut self, alloc: Global, place: &mut Box<RowSlot<'b>>) -> Result<(), AllocError>
+    fn put(&mut self, alloc: Global, place: &mut RowSlot<'b>) -> Result<(), AllocError>
         requires ready { IsWriting self.old }
         ensures more { OnOk result ((s : TableSchema) (limit level : ℕ) (marker : List ℕ) (rows : List StampedView)
-            (x : StampedView) → place.old.value ≡ Some x → HasInHand s limit level marker rows self.old
+            (x : StampedView) → place.old ≡ Some x → HasInHand s limit level marker rows self.old
             → HasInHand s limit level marker (rows ++ x ∷ []) self.new) }
         ensures ready { OnOk result (CanEnd self.new) }
-        ensures empty { OnOk result (place.new.value ≡ None) }
+        ensures empty { OnOk result (place.new ≡ None) }
     {
         write_row(
             alloc,
@@ -143,6 +187,27 @@ impl<'b> RunWriter<'b> {
             &mut self.file,
             &mut self.summary,
         )?;
+        mem::swap(&mut self.last, place);
+        place.clear();
+        Ok(())
+    }
+
+    /// The same of a row whose bytes are those that are written of it.
+    fn put_written(
+        &mut self,
+        alloc: Global,
+        place: &mut RowSlot<'b>,
+        content: &[u8],
+    ) -> Result<(), AllocError>
+        requires ready { IsWriting self.old }
+        ensures more { OnOk result ((s : TableSchema) (limit level : ℕ) (marker : List ℕ) (rows : List StampedView)
+            (x : StampedView) → place.old ≡ Some x → IsWritable (form_of s) x
+            → Adds [] content.now (row_data (form_of s) x) → HasInHand s limit level marker rows self.old
+            → HasInHand s limit level marker (rows ++ x ∷ []) self.new) }
+        ensures ready { OnOk result (CanEnd self.new) }
+        ensures empty { OnOk result (place.new ≡ None) }
+    {
+        copy_row(alloc, content, place, &mut self.file, &mut self.summary)?;
         mem::swap(&mut self.last, place);
         place.clear();
         Ok(())
@@ -209,6 +274,31 @@ fn write_row(
         return Err(AllocError);
     };
     file.add(form, row)?;
+    summary.add(alloc, row)?;
+    Ok(())
+}
+
+/// Writes the row of a place to a file that was begun, by a copy of the bytes that are written of it.
+fn copy_row(
+    alloc: Global,
+    content: &[u8],
+    place: &RowSlot,
+    file: &mut BegunFile,
+    summary: &mut RowSummary,
+) -> Result<(), AllocError>
+    requires within { file.old.count ≤ 1024 }
+    requires room { summary.old.count < 18446744073709551615 }
+    ensures begun { OnOk result ((f : Form) (marker : List ℕ) (rows : List StampedView) (x : StampedView)
+        → IsWritable f x → Adds [] content.now (row_data f x) → HasBegun f marker rows file.old
+        → HasBegun f marker (rows ++ x ∷ []) file.new) }
+    ensures within { OnOk result (file.new.count ≤ 1024) }
+    ensures summary { OnOk result ((rows : List StampedView) (x : StampedView) → place.now ≡ Some x
+        → IsSummary rows summary.old → IsSummary (rows ++ x ∷ []) summary.new) }
+{
+    let Some(row) = place.row() else {
+        return Err(AllocError);
+    };
+    file.add_written(content)?;
     summary.add(alloc, row)?;
     Ok(())
 }

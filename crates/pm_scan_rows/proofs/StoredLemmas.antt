@@ -1,16 +1,18 @@
 -- The rows of files that were read of a run.
 use Rattle.std.proofs.Common.{◌≡◌, false, List, [], ◌∷◌, ◌++◌, Option, Some, None, Ok, refl, sym, ap, subst, ◌∙◌, append-nil}
-use Rattle.std.specs.Prelude.{is_none}
+use Rattle.std.specs.Prelude.{IsTrue, is_none}
 use Rattle.std.proofs.lemmas.Grind.{flat_map-append}
 use Rattle.pm_values.specs.Order.{Values}
 use Rattle.pm_values.specs.declared.record.Stamped.{Stamped}
 use Rattle.pm_engine.specs.Covers.{Run}
 use Rattle.pm_merge.specs.Merging.{whole_rest}
 use Rattle.pm_merge.specs.Source.{Fills}
+use Rattle.pm_run.specs.Form.{Form}
 use Rattle.pm_run.specs.Order.{last_key}
 use Rattle.pm_run_bytes.specs.Lying.{GivesFirst}
-use Rattle.pm_scan_rows.specs.Stored.{all_of, rows_of}
+use Rattle.pm_scan_rows.specs.Stored.{AreGivenFor, IsOfForm, all_of, rows_of}
 use Rattle.pm_scan_rows.specs.declared.file.ReadFile.{ReadFile}
+use Rattle.pm_scan_rows.specs.declared.written_rows.WrittenRows.{WrittenRows}
 
 -- ---- what is read
 
@@ -51,3 +53,12 @@ first_in files later file rows new next parts is some gives =
 pub fills_with : (old new : Run) (next : Option Stamped) (done : Unit {0}) → GivesFirst old next new → Fills (whole_rest old) (Ok done) (whole_rest new) next
 fills_with old new None done gives = (gives.0, refl, ap whole_rest gives.1)
 fills_with old new (Some x) done gives = (gives, refl)
+
+-- ---- with their bytes
+
+-- a file was opened, whose rows may be of the form
+pub opened_for : (f : Form) (before after : WrittenRows) → after.form.now ≡ before.form.now → (IsTrue after.alike → IsOfForm before.form.now after.rows.own) → AreGivenFor f before → AreGivenFor f after
+opened_for f before after form known given = record {
+  form = form ∙ given.form;
+  alike = λ yes. subst (λ (g : Form). IsOfForm g after.rows.own) given.form (known yes);
+}

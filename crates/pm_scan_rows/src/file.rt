@@ -1,6 +1,6 @@
 //! The rows of a file that was read.
 
-ghost use Rattle.std.specs.Prelude.{◌≡◌, None, IfErr, IfOk, OnOk};
+ghost use Rattle.std.specs.Prelude.{◌≡◌, None, IfErr, IfOk, IsTrue, OnOk};
 ghost use Rattle.pm_run.specs.Order.{last_key};
 ghost use Rattle.pm_run.specs.Reader.{StopsAfter};
 ghost use Rattle.pm_run.specs.Rows.{Follow};
@@ -9,6 +9,7 @@ ghost use Rattle.pm_scan_rows.specs.Stored.{left_in, rows_of};
 
 use pm_row_slots::RowSlot;
 use pm_run_bytes::FileRows;
+use pm_run_form::TableForm;
 use pm_run_reader::{JudgedFile, RunReader};
 use pm_values::{Key, Refusal, Stamped};
 use std::alloc::{AllocError, Global};
@@ -87,6 +88,42 @@ impl<'b> RowsLeft<'b> {
         match self {
             RowsLeft::Lying(rows) => rows.fill(alloc, slot),
             RowsLeft::Decoded(rest) => lend_first(rest, slot),
+        }
+    }
+}
+
+impl<'b> RowsLeft<'b> {
+    ghost use Rattle.pm_run.specs.Form.{Form};
+    ghost use Rattle.pm_run_bytes.specs.Lying.{HasContentOf};
+    ghost use Rattle.pm_scan_rows.specs.Stored.{IsOfForm};
+
+    /// The same as `fill`, and the row's bytes, where it lies in those of a file.
+    pub(crate) fn fill_written(
+        &mut self,
+        alloc: Global,
+        slot: &mut RowSlot<'b>,
+    ) -> Result<Option<&'b [u8]>, AllocError>
+        requires { slot.old ≡ None }
+        ensures first { OnOk result (GivesFirst (left_in self.old) slot.new (left_in self.new)) }
+        ensures written { IfOk result (λ content. (f : Form) → IsOfForm f self.old
+            → HasContentOf f slot.new content × IsOfForm f self.new) }
+    {
+        match self {
+            RowsLeft::Lying(rows) => Ok(Some(rows.fill_written(alloc, slot)?)),
+            RowsLeft::Decoded(rest) => {
+                lend_first(rest, slot)?;
+                Ok(None)
+            }
+        }
+    }
+
+    /// Whether it is known that its rows are of a form, where they lie in the bytes of a file.
+    pub(crate) fn has_form(&self, form: &TableForm) -> bool
+        ensures { IsTrue result → IsOfForm form.now self.now }
+    {
+        match self {
+            RowsLeft::Lying(rows) => rows.has_form(form),
+            RowsLeft::Decoded(_) => true,
         }
     }
 }

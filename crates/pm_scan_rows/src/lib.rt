@@ -4,7 +4,8 @@
 //! A `StoredRun` has the rows of the files that were read of a run, one file after another, and is seen as them. Of a
 //! file whose rows lie in its bytes as they are written only the bytes are kept, once its rows were judged; of any
 //! other the rows. They are given one after another as a source of a merge (`StoredRows`), each where it lies or lent,
-//! so that none is copied. `specs/Stored.antt` says what a run takes of a file, and what is still given of it.
+//! so that none is copied; with their bytes, for files that are written of a form (`WrittenRows`). `specs/Stored.antt`
+//! says what a run takes of a file, and what is still given of it.
 //!
 //! `print_groups` merges the runs of all groups at once and prints the rows that show, each as a line that inserts it
 //! and where it lies, but where it is combined. `scan_law` says that this is the text of a scan: where the runs of each
@@ -20,9 +21,11 @@ mod print;
 mod rows;
 mod shown;
 mod stored_run;
+mod written_rows;
 
 pub use laws::{scan_law, shows_by_kind_law};
 pub use print::print_groups;
 pub use rows::StoredRows;
 pub use shown::sources;
 pub use stored_run::StoredRun;
+pub use written_rows::{WrittenRows, written_sources};

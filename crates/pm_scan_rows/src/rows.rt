@@ -27,6 +27,8 @@ impl<'b> RowSource<RowSlot<'b>> for StoredRows<'b> {
 
     ghost rest = { rest_of };
 
+    ghost fits = { λ r table. Unit {0} };
+
     fn fill(&mut self, alloc: Global, slot: &mut RowSlot<'b>) -> Result<(), Refusal> {
         self.own.fill(alloc, slot)?;
         if slot.is_none() {

@@ -2,10 +2,12 @@
 
 ghost use Rattle.std.specs.Prelude.{◌≡◌, [], IfErr, OnErr, OnOk};
 ghost use Rattle.pm_run.specs.Reader.{Appends};
-ghost use Rattle.pm_scan_rows.specs.Stored.{RefusesRows, run_left};
+ghost use Rattle.pm_scan_rows.specs.Stored.{AreGivenFor, RefusesRows, run_left};
 
 use crate::file::{ReadFile, RowsLeft};
 use crate::rows::StoredRows;
+use crate::written_rows::WrittenRows;
+use pm_run_form::TableForm;
 use pm_run_reader::RunReader;
 use pm_values::{Key, Refusal};
 use std::alloc::Global;
@@ -67,6 +69,18 @@ impl StoredRun {
         StoredRows {
             own: RowsLeft::Decoded(&[]),
             files: self.files.as_slice(),
+        }
+    }
+
+    /// The same with their bytes, for files that are written of a form.
+    pub fn written_rows<'b>(&'b self, form: &'b TableForm) -> WrittenRows<'b>
+        ensures left { run_left result.rows ≡ self.now }
+        ensures form { AreGivenFor form.now result }
+    {
+        WrittenRows {
+            rows: self.rows(),
+            form,
+            alike: false,
         }
     }
 }

@@ -15,7 +15,7 @@ loop-slot-init g c =
     let rests = rests_of (runs_of c.args.older_first.items) in
     record {
       given = rw c.in_ok-run.ensures.items
-          (rests, refl, subst (λ (rs : List Rest). HasLeft m (λ s. s) rest_in_memory c.in_ok-merging.merging rs) c.in_ok-sources_of.ensures (c.in_ok-merging.ensures m));
+          (rests, refl, subst (λ (rs : List Rest). HasLeft m (λ s. s) rest_in_memory c.in_ok-merging.merging rs) c.in_ok-sources_of.ensures (c.in_ok-merging.ensures.left m));
       none = c.in_ok-slot.ensures.ok ∙ c.new.ensures;
     }
 

@@ -17,3 +17,7 @@ returns-in-Newer-clause-combines g c =
 pub returns-in_ok-combine-in-Both-clause-combines : goal.returns-in_ok-combine-in-Both-clause-combines
 returns-in_ok-combine-in-Both-clause-combines g c =
     rw (c.as_mut.ensures.value, c.as_mut-in-Both.ensures.value) at c.in_ok-combine-in-Both.ensures.combines
+
+-- the places go with them
+pub returns-in-Newer-clause-fits : goal.returns-in-Newer-clause-fits
+returns-in-Newer-clause-fits g c = λ table place older newer. let kept = c.keep-in-Newer.ensures.fits table place newer in (kept.0, kept.2, kept.1)

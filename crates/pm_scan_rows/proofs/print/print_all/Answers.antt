@@ -8,7 +8,7 @@ use Rattle.pm_scan_rows.proofs.print.print_all.Goals as goal
 pub loop-text-init : goal.loop-text-init
 loop-text-init g c =
     let m = g.E.MergeEngine.meaning c.args.engine.now in
-    printed_none m c.args.groups.now c.in_ok-sources_of.field-0.items c.in_ok-merging.merging c.in_ok-sources_of.ensures (c.in_ok-merging.ensures m) _ (search rules)
+    printed_none m c.args.groups.now c.in_ok-sources_of.field-0.items c.in_ok-merging.merging c.in_ok-sources_of.ensures (c.in_ok-merging.ensures.left m) _ (search rules)
 
 -- one row more
 pub loop-text-preserved : goal.loop-text-preserved

@@ -1,5 +1,9 @@
 use Rattle.std.proofs.Common.{◌≡◌, ◌∷◌, [], ◌++◌, None, false, true, is_none, length, option_to_list, refl, sym, ap, ◌∙◌, arith}
 use Rattle.std.proofs.lemmas.Result.{err_from_is_err_and}
+use Rattle.pm_run.specs.Form.{form_of}
+use Rattle.pm_run_bytes.specs.declared.place.WrittenPlace.{WrittenPlace}
+use Rattle.pm_run_bytes.proofs.PlaceLemmas.{none_has_content}
+use Rattle.pm_compact.specs.Rewriting.{row_at}
 use Rattle.pm_compact.specs.Rewritten.{kept_rows, most_in_file}
 use Rattle.pm_compact.proofs.GivenLemmas.{fewer_in, finished_some, given_end, given_step, names_kept, past_is}
 use Rattle.pm_compact.proofs.RewriteLemmas.{none_stands, some_stands}
@@ -8,7 +12,7 @@ use Rattle.pm_compact.proofs.rewriting.Rewriting.next_file.Goals as goal
 pub loop-place-init : goal.loop-place-init
 loop-place-init g c = record {
   so_far = λ asked given first. ([], first, omega arith);
-  none = c.in_ok-place.ensures.ok ∙ c.new.ensures;
+  none = ap row_at c.in_ok-place.ensures.ok ∙ c.empty.ensures.none;
   ready = c.requires.ready;
   names = refl;
 }
@@ -26,13 +30,15 @@ pub returns-then-is_none-clause-gives : goal.returns-then-is_none-clause-gives
 returns-then-is_none-clause-gives g c = λ asked given first.
     let m = g.E.MergeEngine.meaning c.args.engine.now in
     let rest = g.S.RowSource.rest in
+    let fits = g.S.RowSource.fits in
     let (rows, h, less) = c.loop-place.invariant.so_far asked given first in
-    let over : is_none c.fill.new.slot.value ≡ true = ap is_none (sym c.deref.ensures) ∙ sym c.is_none.ensures ∙ c.if-is_none.true in
-    let none : c.fill.new.slot.value ≡ None = none_stands c.fill.new.slot.value over in
+    let over : is_none c.fill.new.slot.value.slot ≡ true = ap (λ (p : WrittenPlace). is_none p.slot) (sym c.deref.ensures) ∙ sym c.is_none.ensures ∙ c.if-is_none.true in
+    let none : c.fill.new.slot.value.slot ≡ None = none_stands c.fill.new.slot.value.slot over in
+    let fit = c.in_ok-fill.ensures.fits asked.schema (none_has_content (form_of asked.schema) c.loop-place.place.value.slot c.loop-place.place.value.content c.loop-place.invariant.none) h.written in
     let (left, gives, new) = c.in_ok-fill.ensures.gives h.left h.has in
     let ended = rw none at gives in
-    given_end m rest asked given rows c.loop-place.names c.loop-place.self h c.files_law.ensures c.own_kind_law.ensures c.merged_law.ensures.again c.oldest_law.ensures.rising
-    (λ empty. c.given_law.ensures.all m asked.rests h.left h.run h.rising h.gave empty) left ended _ new refl c.in_ok-finish.field-0 c.finish.new.names
+    given_end m rest fits asked given rows c.loop-place.names c.loop-place.self h c.files_law.ensures c.own_kind_law.ensures c.merged_law.ensures.again c.oldest_law.ensures.rising
+    (λ empty. c.given_law.ensures.all m asked.rests h.left h.run h.rising h.gave empty) left ended _ new refl fit.1 c.in_ok-finish.field-0 c.finish.new.names
     (past_is c.loop-place.names c.finish.new.names (length (option_to_list c.in_ok-finish.field-0)) c.in_ok-finish.ensures.names c.in_ok-finish.ensures.taken)
     (c.in_ok-finish.ensures.finished asked.schema most_in_file asked.level rows h.hand)
 
@@ -48,22 +54,25 @@ pub returns-in-Some-clause-gives : goal.returns-in-Some-clause-gives
 returns-in-Some-clause-gives g c = λ asked given first.
     let m = g.E.MergeEngine.meaning c.args.engine.now in
     let rest = g.S.RowSource.rest in
+    let fits = g.S.RowSource.fits in
     let (rows, h, less) = c.loop-place.invariant.so_far asked given first in
-    let some : is_none c.fill.new.slot.value ≡ false = ap is_none (sym c.deref.ensures) ∙ sym c.is_none.ensures ∙ c.if-is_none.false in
-    let (x, stands) = some_stands c.fill.new.slot.value some in
+    let some : is_none c.fill.new.slot.value.slot ≡ false = ap (λ (p : WrittenPlace). is_none p.slot) (sym c.deref.ensures) ∙ sym c.is_none.ensures ∙ c.if-is_none.false in
+    let (x, stands) = some_stands c.fill.new.slot.value.slot some in
+    let fit = c.in_ok-fill.ensures.fits asked.schema (none_has_content (form_of asked.schema) c.loop-place.place.value.slot c.loop-place.place.value.content c.loop-place.invariant.none) h.written in
     let (later, gives, new) = c.in_ok-fill.ensures.gives h.left h.has in
-    let added = c.in_ok-file.ensures.added asked.schema most_in_file asked.level rows x stands h.hand in
-    let step = given_step m rest asked given rows c.loop-place.names c.loop-place.self h (λ s. λ next. λ least. c.given_law.ensures.more m asked.rests h.left next h.run s h.gave least)
-    (λ s. λ next. λ least. c.given_law.ensures.some m h.left next s least) x later _ (rw stands at gives, new, refl) c.in_ok-file.field-0 c.write_placed.new.names
+    let added = c.in_ok-file.ensures.added asked.schema most_in_file asked.level rows x stands (rw stands at fit.0) h.hand in
+    let step = given_step m rest fits asked given rows c.loop-place.names c.loop-place.self h (λ s. λ next. λ least. c.given_law.ensures.more m asked.rests h.left next h.run s h.gave least)
+    (λ s. λ next. λ least. c.given_law.ensures.some m h.left next s least) x later _ (rw stands at gives, new, refl, fit.1) c.in_ok-file.field-0 c.write_placed.new.names
     (past_is c.loop-place.names c.write_placed.new.names (length (option_to_list c.in_ok-file.field-0)) c.in_ok-file.ensures.names c.in_ok-file.ensures.taken) (rw h.drops at added) in
     rw c.in-Some.is at step
 
 pub returns-in-Some-clause-fewer : goal.returns-in-Some-clause-fewer
 returns-in-Some-clause-fewer g c = λ asked given first.
     let (rows, h, less) = c.loop-place.invariant.so_far asked given first in
-    let some : is_none c.fill.new.slot.value ≡ false = ap is_none (sym c.deref.ensures) ∙ sym c.is_none.ensures ∙ c.if-is_none.false in
-    let (x, stands) = some_stands c.fill.new.slot.value some in
-    let added = rw c.in-Some.is at (c.in_ok-file.ensures.added asked.schema most_in_file asked.level rows x stands h.hand) in
+    let some : is_none c.fill.new.slot.value.slot ≡ false = ap (λ (p : WrittenPlace). is_none p.slot) (sym c.deref.ensures) ∙ sym c.is_none.ensures ∙ c.if-is_none.false in
+    let (x, stands) = some_stands c.fill.new.slot.value.slot some in
+    let fit = c.in_ok-fill.ensures.fits asked.schema (none_has_content (form_of asked.schema) c.loop-place.place.value.slot c.loop-place.place.value.content c.loop-place.invariant.none) h.written in
+    let added = rw c.in-Some.is at (c.in_ok-file.ensures.added asked.schema most_in_file asked.level rows x stands (rw stands at fit.0) h.hand) in
     let less = fewer_in (g.E.MergeEngine.meaning c.args.engine.now) c.loop-place.self.drop rows x _ _ _ less (rw stands at c.in_ok-fill.ensures.fewer) in
     omega (arith, less, added.0)
 
@@ -73,13 +82,15 @@ loop-place-preserved g c = record {
   so_far = λ asked given first.
       let m = g.E.MergeEngine.meaning c.args.engine.now in
       let rest = g.S.RowSource.rest in
+      let fits = g.S.RowSource.fits in
       let (rows, h, less) = c.loop-place.invariant.so_far asked given first in
-      let some : is_none c.fill.new.slot.value ≡ false = ap is_none (sym c.deref.ensures) ∙ sym c.is_none.ensures ∙ c.if-is_none.false in
-      let (x, stands) = some_stands c.fill.new.slot.value some in
+      let some : is_none c.fill.new.slot.value.slot ≡ false = ap (λ (p : WrittenPlace). is_none p.slot) (sym c.deref.ensures) ∙ sym c.is_none.ensures ∙ c.if-is_none.false in
+      let (x, stands) = some_stands c.fill.new.slot.value.slot some in
+      let fit = c.in_ok-fill.ensures.fits asked.schema (none_has_content (form_of asked.schema) c.loop-place.place.value.slot c.loop-place.place.value.content c.loop-place.invariant.none) h.written in
       let (later, gives, new) = c.in_ok-fill.ensures.gives h.left h.has in
-      let added = c.in_ok-file.ensures.added asked.schema most_in_file asked.level rows x stands h.hand in
-      let step = given_step m rest asked given rows c.loop-place.names c.loop-place.self h (λ s. λ next. λ least. c.given_law.ensures.more m asked.rests h.left next h.run s h.gave least)
-      (λ s. λ next. λ least. c.given_law.ensures.some m h.left next s least) x later _ (rw stands at gives, new, refl) c.in_ok-file.field-0 c.write_placed.new.names
+      let added = c.in_ok-file.ensures.added asked.schema most_in_file asked.level rows x stands (rw stands at fit.0) h.hand in
+      let step = given_step m rest fits asked given rows c.loop-place.names c.loop-place.self h (λ s. λ next. λ least. c.given_law.ensures.more m asked.rests h.left next h.run s h.gave least)
+      (λ s. λ next. λ least. c.given_law.ensures.some m h.left next s least) x later _ (rw stands at gives, new, refl, fit.1) c.in_ok-file.field-0 c.write_placed.new.names
       (past_is c.loop-place.names c.write_placed.new.names (length (option_to_list c.in_ok-file.field-0)) c.in_ok-file.ensures.names c.in_ok-file.ensures.taken) (rw h.drops at added) in (
         rows ++ kept_rows m asked.drop (x ∷ []),
         rw c.in-None.is at step,

@@ -7,10 +7,10 @@ use Rattle.pm_compact.proofs.rewriting.Rewriting.next_file.Given as goal
 -- after the files that were given some rows are in hand, and as many fewer are left
 abbrev pub invariant-loop-place : goal.invariant-loop-place
 invariant-loop-place g l = record {
-  so_far : (asked : Asked) (given : List RunFile) → HasGiven (g.E.MergeEngine.meaning l.engine) g.S.RowSource.rest asked given [] l.fn.names l.fn.self
-      → (rows : List Stamped) × HasGiven (g.E.MergeEngine.meaning l.engine) g.S.RowSource.rest asked given rows l.names l.self
+  so_far : (asked : Asked) (given : List RunFile) → HasGiven (g.E.MergeEngine.meaning l.engine) g.S.RowSource.rest g.S.RowSource.fits asked given [] l.fn.names l.fn.self
+      → (rows : List Stamped) × HasGiven (g.E.MergeEngine.meaning l.engine) g.S.RowSource.rest g.S.RowSource.fits asked given rows l.names l.self
       × (length rows + most_left g.S.RowSource.rest l.self ≤ most_left g.S.RowSource.rest l.fn.self);
-  none : l.place.value ≡ None;
+  none : l.place.value.slot ≡ None;
   ready : CanGive l.self;
   names : l.names ≡ l.fn.names;
 }

@@ -1,4 +1,4 @@
-use Rattle.std.proofs.Common.{refl, ap, ◌∙◌, arith}
+use Rattle.std.proofs.Common.{refl, ◌∙◌, arith}
 use Rattle.pm_run_writer.proofs.WrittenLemmas.{in_hand_more}
 use Rattle.pm_run_writer.proofs.run_writer.RunWriter.put.Goals as goal
 
@@ -8,6 +8,6 @@ write_row-requires-clause-room c = omega (arith, c.requires.ready.room, c.requir
 pub returns-clause-more : goal.returns-clause-more
 returns-clause-more c = λ s limit level marker rows x stands hand.
     in_hand_more s limit level marker rows c.args.self.now hand x _ c.requires.ready.room refl refl refl
-    (λ some begun. c.in_ok-write_row.ensures.begun marker some x (c.deref.ensures ∙ stands) begun)
-    (λ some summary. c.in_ok-write_row.ensures.summary some x (c.deref.ensures ∙ stands) summary)
-    (ap (λ b. b.value) c.swap.ensures.x_after ∙ stands)
+    (λ some begun. c.in_ok-write_row.ensures.begun marker some x stands begun)
+    (λ some summary. c.in_ok-write_row.ensures.summary some x stands summary)
+    (c.swap.ensures.x_after ∙ stands)
