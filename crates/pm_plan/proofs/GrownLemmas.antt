@@ -96,6 +96,7 @@ module _ (me : Actor) (p : Past) (x y : Planned) (done : List RewrittenGroup) (t
           session = knows.names.session;
           actor = knows.names.actor;
           based = knows.names.based;
+          room = (let room = counts c r in omega (arith, room));
         };
         quiet = knows.quiet;
         made = AllByRecursion-append (IsRewrittenAt me x.schema x.newest.id p) done (z ∷ []) knows.made (group-known c is r, tt);
@@ -114,7 +115,7 @@ module _ (me : Actor) (p : Past) (x y : Planned) (done : List RewrittenGroup) (t
 
   grows-of : (cs : List ChosenGroup) → x.left.items ≡ cs → AreTakenAt x.schema x.newest.id p cs (t ∷ takings) → RewritesOf cs x (from_oldest t.taken) y
       → (z : RewrittenGroup) × (z.taking ≡ t) × KnowsPlanned me p y (done ++ z ∷ []) takings
-  grows-of [] left taken rewrites = absurd taken
+  grows-of [] left taken rewrites = absurd rewrites
   grows-of (c ∷ rest) left taken rewrites =
       (group-of x t c rewrites.made, refl, grows-with c rest left taken.0 taken.1 rewrites)
 

@@ -1,3 +1,5 @@
+mod BeginLemmas
 mod GrownLemmas
+mod LeftLemmas
 mod MakeLemmas
 mod StayLemmas

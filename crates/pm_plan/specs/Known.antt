@@ -2,9 +2,11 @@
 -- never changes, and of the runs there.
 use Rattle.std.specs.Prelude.{◌≡◌, ◌≢◌, ◌↔◌, ℕ, ◌≤◌, List, [], ◌++◌, map, true, Some}
 use Rattle.std.specs.List.{AllByRecursion, AllZip, flat_map}
+use Rattle.std.specs.List.Sorted.{IsStrictlySortedBy}
+use Rattle.pm_values.specs.GroupOrder.{group_cmp}
+use Rattle.pm_values.specs.Names.{based}
 use Rattle.pm_schema.specs.declared.schema.TableSchema.{TableSchema}
 use Rattle.pm_model_history.specs.History.{IsTableOf}
-use Rattle.pm_snapshot.specs.Names.{MayName}
 use Rattle.pm_snapshot.specs.declared.snapshot.Snapshot.{Snapshot}
 use Rattle.pm_runs.specs.Stand.{top_of}
 use Rattle.pm_runs.specs.Succession.{IsTaken, Taking}
@@ -13,10 +15,13 @@ use Rattle.pm_model_folder.specs.Folder.{GroupsRise}
 use Rattle.pm_model_folder.specs.Ledger.{IsKnown, Past}
 use Rattle.pm_model_folder.specs.Meaning.{SnapshotAt}
 use Rattle.pm_model_folder.specs.Runs.{view_of}
-use Rattle.pm_choice.specs.Choice.{named_groups, removed_entries, taken_runs}
+use Rattle.pm_choice.specs.Choice.{group_of, named_groups, removed_entries, taken_runs, IsChosen}
+use Rattle.pm_choice.specs.Question.{rule_of}
 use Rattle.pm_choice.specs.declared.choice.ChosenGroup.{ChosenGroup}
-use Rattle.pm_compaction.specs.Plan.{IsRewrittenAt, RewrittenGroup, TellsNothing, comes_of, goes_of, made_files}
-use Rattle.pm_compaction.specs.Plan.{named_group}
+use Rattle.pm_made.specs.declared.newest.Newest.{Newest}
+use Rattle.pm_compaction.specs.Plan.{IsRewrittenAt, NamesSoMany, RewrittenGroup, TellsNothing, comes_of, goes_of}
+use Rattle.pm_compaction.specs.Plan.{made_files, named_group}
+use Rattle.pm_plan.specs.declared.planned.Asking.{Asking}
 use Rattle.pm_plan.specs.declared.planned.Planned.{Planned}
 
 -- of a group at the base those runs go that were chosen, to that level
@@ -31,16 +36,9 @@ pub record IsTakenAt (s : TableSchema) (base : ℕ) (p : Past) (c : ChosenGroup)
 abbrev pub AreTakenAt : TableSchema → ℕ → Past → List ChosenGroup → List Taking → Type 0
 AreTakenAt s base p left takings = AllZip (IsTakenAt s base p) left takings
 
--- the actor makes the plan's names, whose base is that of the commit
-pub record NamesPlan (me : Actor) (x : Planned) : Type 0 where
-  pub may : MayName x.names
-  pub session : x.names.session ≡ me.session
-  pub actor : x.names.actor ≡ me.number
-  pub based : x.names.base ≡ x.newest.id
-
 -- What is known of a plan of an actor, of which these groups were made, and this is taken of each that is left. It is
 -- of the table at its base; the files that go are those of all groups, and what came are the files of the groups that
--- were made. Where it was asked in full, it bears the appends of its base. Once no group is left, this is what a
+-- were made. Where it bears a count of appends, this is that of its base. Once no group is left, this is what a
 -- compaction has to know of its plan.
 pub record KnowsPlanned (me : Actor) (p : Past) (x : Planned) (done : List RewrittenGroup) (takings : List Taking)
     : Type 0 where
@@ -48,7 +46,7 @@ pub record KnowsPlanned (me : Actor) (p : Past) (x : Planned) (done : List Rewri
   pub known : IsKnown p x.newest.id
   pub since : p.since ≤ x.newest.id
   pub author : x.author.base ≡ x.newest.id
-  pub names : NamesPlan me x
+  pub names : NamesSoMany me x.newest.id 0 x.names
   pub quiet : TellsNothing x.schema
   pub made : AllByRecursion (IsRewrittenAt me x.schema x.newest.id p) done
   pub left : AreTakenAt x.schema x.newest.id p x.left.items takings
@@ -60,3 +58,26 @@ pub record KnowsPlanned (me : Actor) (p : Past) (x : Planned) (done : List Rewri
   pub files : x.files.items ≡ flat_map (made_files x.schema) done
   pub full : (appends : ℕ) → x.full ≡ Some appends
       → (y : Snapshot) × SnapshotAt (p.stood x.newest.id) x.newest.id y × (appends ≡ y.appends)
+
+-- ---- as it begins
+
+-- these groups were chosen of the runs that they had at the base
+abbrev pub AreChosenAt : ℕ → Past → List ChosenGroup → Type 0
+AreChosenAt base p chosen =
+    AllByRecursion (λ (c : ChosenGroup). c.levels ≡ map view_of (p.runs base c.group)) chosen
+
+-- An actor may begin with these groups of a view: this is one of the table at a known snapshot, from which on runs are
+-- known; the groups rise, some, each chosen of the runs there; the names are the actor's; and a compaction tells
+-- nothing of the table.
+pub record MayBegin (me : Actor) (p : Past) (asking : Asking) (s : TableSchema) (newest : Newest)
+    (chosen : List ChosenGroup) : Type 0 where
+  pub table : IsTableOf s p.history
+  pub known : IsKnown p newest.id
+  pub since : p.since ≤ newest.id
+  pub snapshot : (y : Snapshot) × (newest.snapshot ≡ Some y) × SnapshotAt (p.stood newest.id) newest.id y
+  pub names : NamesSoMany me newest.id 0 (based newest.id asking.names)
+  pub quiet : TellsNothing s
+  pub some : chosen ≢ []
+  pub rise : IsStrictlySortedBy group_cmp (map group_of chosen)
+  pub each : AllByRecursion (IsChosen (rule_of s)) chosen
+  pub levels : AreChosenAt newest.id p chosen

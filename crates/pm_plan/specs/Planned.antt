@@ -10,16 +10,14 @@ use Rattle.pm_engine.specs.OfSchema.{meaning_of}
 use Rattle.pm_engines.specs.TableEngine.{HasEngine}
 use Rattle.pm_merge.specs.Merging.{rests_of}
 use Rattle.pm_run.specs.declared.run.RunFile.{RunFile}
-use Rattle.pm_levels.specs.declared.choice.Asked.{Asked}
-use Rattle.pm_model_contents.specs.Runs.{data_path}
-use Rattle.pm_put.specs.declared.putting.CommitFile.{CommitFile}
 use Rattle.pm_compact.specs.Rewritten.{AreRewritten}
 use Rattle.pm_made.specs.declared.intent.Plan.{Plan}
 use Rattle.pm_made.specs.declared.newest.Author.{Author}
 use Rattle.pm_made.specs.declared.newest.Newest.{Newest}
 use Rattle.pm_choice.specs.Choice.{live_entry, named_groups, removed_entries}
-use Rattle.pm_choice.specs.Question.{full_appends}
+use Rattle.pm_choice.specs.Question.{full_appends, question}
 use Rattle.pm_choice.specs.declared.choice.ChosenGroup.{ChosenGroup}
+use Rattle.pm_compaction.specs.Plan.{TellsNothing, group_file}
 use Rattle.pm_plan.specs.declared.planned.Asking.{Asking}
 use Rattle.pm_plan.specs.declared.planned.Planned.{Planned}
 use Rattle.pm_plan.specs.declared.planned.PlannedCommit.{PlannedCommit}
@@ -31,15 +29,16 @@ abbrev pub author_of : Asking → ℕ → Author
 author_of asking base =
     record { user = asking.user; identifier = pos (2 ^ 63 - 1); base = base; time = asking.now_millis }
 
--- The plan of these groups of a view of which so much was asked, before a file is read: it bears who asked and what the
--- view has, which is its base, all files of the runs that go, and nothing that was made.
-pub record IsPlanOf (asking : Asking) (s : TableSchema) (newest : Newest) (asked : Asked) (chosen : List ChosenGroup)
-    (p : Planned) : Type 0 where
+-- The plan of these groups of a view, before a file is read: it bears who asked and what the view has, which is its
+-- base, all files of the runs that go, and nothing that was made. Where all runs are asked for, by the word or by the
+-- table's options, it bears the appends of the view.
+pub record IsPlanOf (asking : Asking) (s : TableSchema) (newest : Newest) (chosen : List ChosenGroup) (p : Planned)
+    : Type 0 where
   pub author_is : p.author ≡ author_of asking newest.id
   pub names_are : p.names ≡ based newest.id asking.names
   pub schema_is : p.schema ≡ s
   pub newest_is : p.newest ≡ newest
-  pub full : p.full ≡ full_appends asked newest.snapshot
+  pub full : p.full ≡ full_appends (question asking.full s newest.snapshot) newest.snapshot
   pub groups : p.groups.items ≡ named_groups chosen
   pub removed : p.removed.items ≡ removed_entries s chosen
   pub left : p.left.items ≡ chosen
@@ -55,14 +54,10 @@ names_after made names = record names { count = names.count + length made }
 abbrev pub named_by : List RunFile → Planned → Planned
 named_by made p = record p { names = names_after made p.names }
 
--- the file of a group that was made, at its path
-abbrev pub made_file : TableSchema → Group → RunFile → CommitFile
-made_file s g x = record { path = data_path s g x.meta.name; bytes = x.bytes }
-
 -- these files of a group were put to the others, each with its entry, and nothing else changed
 pub record AddsFiles (old : Planned) (g : Group) (made : List RunFile) (new : Planned) : Type 0 where
   pub added : new.added.items ≡ old.added.items ++ map (λ (x : RunFile). live_entry old.schema g x.meta) made
-  pub files : new.files.items ≡ old.files.items ++ map (made_file old.schema g) made
+  pub files : new.files.items ≡ old.files.items ++ map (group_file old.schema g) made
   pub same : new ≡ record old { added = new.added; files = new.files }
 
 -- The first group that is left became files at its level, from its runs that go, the oldest first: with the next names,
@@ -73,9 +68,9 @@ pub record HasRewritten (old : Planned) (c : ChosenGroup) (runs : List Run) (new
   pub first : old.left.items ≡ c ∷ new.left.items
   pub put : AddsFiles (record (named_by made old) { left = new.left }) c.group made new
 
--- the first group that is left became files; where none is left nothing changed
+-- the first group that is left, of which there are some, became files
 abbrev pub RewritesOf : List ChosenGroup → Planned → List Run → Planned → Type 0
-RewritesOf [] old runs new = new ≡ old
+RewritesOf [] old runs new = ⊥
 RewritesOf (c ∷ left) old runs new = HasRewritten old c runs new
 
 abbrev pub RewritesFirst : Planned → List Run → Planned → Type 0
@@ -96,15 +91,17 @@ pub record HasRoom (p : Planned) : Type 0 where
   pub named : p.names.count ≤ 2 ^ 60 + length p.files.items
   pub few : length p.files.items ≤ 2 ^ 32
 
--- files can be made of the groups that are left: the table has an engine, their folders have paths, and names are left
+-- Files can be made of the groups that are left: the table has an engine, and no producer that tells of a compaction,
+-- their folders have paths, and names are left.
 pub record CanMake (p : Planned) : Type 0 where
   pub engine : HasEngine p.schema
+  pub quiet : TellsNothing p.schema
   pub fit : FitChosen p.schema p.left.items
   pub room : HasRoom p
 
 -- ---- its end
 
--- what the commit is for; it has no changelog, as no producer that a compaction serves is built
+-- what the commit is for; it has no changelog, as a compaction tells nothing of the table
 pub record IsPlanFor (p : Planned) (plan : Plan) : Type 0 where
   pub groups : plan.groups ≡ p.groups
   pub removed : plan.removed ≡ p.removed

@@ -1,6 +1,6 @@
 //! What a compaction has planned, and what it has made so far.
 
-ghost use Rattle.std.specs.Prelude.{◌≡◌, ◌∷◌, [], All, IfErr, IfOk, OnOk, map};
+ghost use Rattle.std.specs.Prelude.{◌≡◌, ◌≢◌, ◌∷◌, ◌≤◌, [], All, IfErr, IfOk, OnOk, length, map};
 ghost use Rattle.std.specs.List.{AllByRecursion};
 ghost use Rattle.pm_engine.specs.Covers.{IsRising};
 ghost use Rattle.pm_engine.specs.OfSchema.{meaning_of};
@@ -11,14 +11,14 @@ ghost use Rattle.pm_scan_rows.specs.Shown.{groups_of};
 ghost use Rattle.pm_schema.specs.Folder.{FitsPartition};
 ghost use Rattle.pm_compact.specs.Rewritten.{AreRewritten};
 ghost use Rattle.pm_values.specs.declared.refusal.Refusal.TheVariants.{Memory};
+ghost use Rattle.pm_compaction.specs.Plan.{TellsNothing};
 ghost use Rattle.pm_plan.specs.Planned.{AllRewritten, FitChosen, AddsFiles, HasRoom, IsCommitOf, IsPlanOf, CanMake};
 ghost use Rattle.pm_plan.specs.Planned.{RewritesFirst, named_by};
 
 use pm_base::Txt;
-use pm_choice::{ChosenGroup, full_in, groups_in, removed_in};
+use pm_choice::{ChosenGroup, asked_in, full_in, groups_in, removed_in};
 use pm_compact::{drops_by_kind_law, rewrite};
 use pm_engines::TableEngine;
-use pm_levels::Asked;
 use pm_made::{Author, Newest, Plan};
 use pm_manifest::Entry;
 use pm_merge::given_law;
@@ -32,7 +32,7 @@ use pm_values::{Group, Names, Refusal};
 use std::alloc::{AllocError, Global};
 use std::collections::VecDeque;
 
-/// So many files stand in no memory.
+/// More files than this are answered as out of memory.
 const MOST_FILES: usize = 1 << 32;
 
 /// What is asked of a compaction: whether in full by the word, who runs it under which names, and when, in milliseconds
@@ -74,20 +74,20 @@ pub struct PlannedCommit {
     pub files: VecDeque<CommitFile>,
 }
 
-/// The plan of these groups of a view, before a file of theirs is read, where so much was asked of each. The view is
-/// the base of the commit and of its names.
+/// The plan of these groups of a view, before a file of theirs is read, where the word and the table's options say how
+/// much is asked of each. The view is the base of the commit and of its names.
 pub fn planned_of(
     alloc: Global,
     asking: Asking,
     schema: TableSchema,
     newest: Newest,
-    asked: Asked,
     chosen: Vec<ChosenGroup>,
 ) -> Result<Planned, AllocError>
-    ensures { IfOk result (IsPlanOf asking schema newest asked chosen.items) }
+    ensures { IfOk result (IsPlanOf asking schema newest chosen.items) }
 {
     let removed = removed_in(alloc, &schema, chosen.as_slice())?;
     let groups = groups_in(alloc, chosen.as_slice())?;
+    let asked = asked_in(asking.full, &schema, &newest.snapshot);
     let full = full_in(asked, &newest.snapshot);
     let Asking {
         user,
@@ -118,37 +118,37 @@ pub fn planned_of(
 
 impl Planned {
     /// Makes the runs of groups that were read whole into files, each with the oldest first: those of the first groups
-    /// that are left.
+    /// that are left. Where memory runs out the plan is gone, as a group may be off it of which no file is there.
     pub fn rewrite_groups(
-        &mut self,
+        self,
         alloc: Global,
         groups: Vec<Vec<StoredRun>>,
-    ) -> Result<(), Refusal>
-        requires ready { CanMake self.old }
+    ) -> Result<Planned, Refusal>
+        requires ready { CanMake self }
         requires rising { All (All IsRising) (groups_of groups.items) }
-        ensures rewritten { OnOk result (AllRewritten self.old (groups_of groups.items) self.new) }
-        ensures ready { OnOk result (CanMake self.new) }
+        requires few { length groups.items ≤ length self.left.items }
+        ensures rewritten { IfOk result (AllRewritten self (groups_of groups.items)) }
+        ensures ready { IfOk result CanMake }
         ensures memory { IfErr result (λ e. e ≡ Memory) }
     {
+        let mut planned = self;
         for runs in groups {
-            self.rewrite_first(alloc, runs.as_slice())?;
+            planned.rewrite_first(alloc, runs.as_slice())?;
         }
-        Ok(())
+        Ok(planned)
     }
 
     /// Makes the runs of the first group that is left into files at its level.
     fn rewrite_first(&mut self, alloc: Global, runs: &[StoredRun]) -> Result<(), Refusal>
         requires ready { CanMake self.old }
         requires rising { All IsRising runs.now }
+        requires some { self.old.left.items ≢ [] }
         ensures rewritten { OnOk result (RewritesFirst self.old runs.now self.new) }
         ensures ready { OnOk result (CanMake self.new) }
         ensures memory { IfErr result (λ e. e ≡ Memory) }
     {
-        if self.left.is_empty() {
-            return Ok(());
-        }
         let Some(chosen) = self.left.pop_front() else {
-            return Ok(());
+            unreachable!()
         };
         let made = self.make(alloc, &chosen, runs)?;
         self.put_files(alloc, &chosen.group, made)?;
@@ -227,6 +227,8 @@ impl Planned {
 
     /// What the commit is for, once no group is left.
     pub fn into_commit(self, alloc: Global) -> PlannedCommit
+        requires done { self.left.items ≡ [] }
+        requires quiet { TellsNothing self.schema }
         ensures { IsCommitOf self result }
     {
         let Planned {
@@ -237,11 +239,10 @@ impl Planned {
             full,
             groups,
             removed,
-            left,
             added,
             files,
+            ..
         } = self;
-        drop(left);
         let plan = Plan {
             groups,
             removed,

@@ -1,6 +1,10 @@
+use Rattle.pm_plan.proofs.BeginLemmas.{planned-begins}
 use Rattle.pm_plan.proofs.GrownLemmas.{planned-grows, planned-whole}
 use Rattle.pm_plan.proofs.StayLemmas.{planned-stays}
 use Rattle.pm_plan.proofs.laws.planned_law.Goals as goal
+
+pub returns-clause-begins : goal.returns-clause-begins
+returns-clause-begins c me p asking s newest chosen x is may = planned-begins me p asking s newest chosen x is may
 
 pub returns-clause-stays : goal.returns-clause-stays
 returns-clause-stays c me other f after p q x done takings advances knows =
