@@ -113,7 +113,7 @@ module _ (s : TableSchema) (g : Group) where
 -- ---- keys that rise
 
 -- whether a key is among these
-abbrev has : Values → List Values → Bool
+abbrev pub has : Values → List Values → Bool
 has q keys = list_any (eq_by_cmp key_cmp q) keys
 
 -- keys with nothing beside them
@@ -176,7 +176,7 @@ rows-rise s rows = sorted-keys (entries_of (table_of s rows)) (entries_sorted (t
 -- ---- the keys of runs
 
 -- some items
-abbrev are_some : {A : Type 0} → List A → Bool
+abbrev pub are_some : {A : Type 0} → List A → Bool
 are_some [] = false
 are_some (x ∷ xs) = true
 
@@ -246,7 +246,7 @@ some-filter primary q (r ∷ rows) =
     elim (eq_by_cmp key_cmp q (key_of primary r.1)) as (λ t. (t || list_any (eq_by_cmp key_cmp q) (map (λ (e : Values × HistoryRow). e.0) (map (λ (r : HistoryRow). (key_of primary r.1, r)) rows)))
     ≡ are_some (cond t (r ∷ rows_of primary q rows) (rows_of primary q rows))) [ true ↦ refl | false ↦ some-filter primary q rows ]
 
-has-keys : (s : TableSchema) (rows : List HistoryRow) (q : Values) → has q (keys_in s rows) ≡ are_some (rows_of (primary_of s) q rows)
+pub has-keys : (s : TableSchema) (rows : List HistoryRow) (q : Values) → has q (keys_in s rows) ≡ are_some (rows_of (primary_of s) q rows)
 has-keys s rows q =
     sym (contains_key-keys (table_of s rows) q) ∙ ap is_some (get-from_entries key_total (keyed s rows) q) ∙ is_some-find key_cmp q (keyed s rows) ∙ some-filter (primary_of s) q rows
 

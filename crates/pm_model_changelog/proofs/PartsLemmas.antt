@@ -1,11 +1,12 @@
 -- Rows by rising key that have of each group the change's part of it.
-use Rattle.std.proofs.Common.{◌≡◌, ◌≢◌, ℕ, List, [], ◌∷◌, ◌++◌, T, drop, true, false, cond, refl, sym, ap, subst, ◌∙◌}
+use Rattle.std.proofs.Common.{◌≡◌, ◌≢◌, ◌||◌, ℕ, List, [], ◌∷◌, ◌++◌, T, drop, true, false, cond, refl, sym, ap, subst, ◌∙◌, append-nil}
 use Rattle.std.specs.FinMap.Entries.{below_all, is_sorted}
 use Rattle.std.specs.List.{AllByRecursion, flat_map}
 use Rattle.std.specs.Cmp.{tied_itself}
 use Rattle.std.specs.Ordering.{eq_by_cmp, is_eq, is_lt, ordering_reverse}
 use Rattle.std.specs.declared.cmp.Ordering.{Ordering}
 use Rattle.std.specs.declared.cmp.Ordering.TheVariants.{Less, Equal, Greater}
+use Rattle.std.proofs.lemmas.List.Elements.{filter-append}
 use Rattle.pm_base.proofs.Laws.{AllByRecursion-append}
 use Rattle.pm_options.specs.declared.kinds.Producer.{Producer}
 use Rattle.pm_options.specs.declared.kinds.Producer.TheVariants as producers
@@ -19,10 +20,10 @@ use Rattle.pm_model_history.specs.History.{Entry, entry_rows}
 use Rattle.pm_model_history.specs.Merge.{AllFit, HistoryRow, key_of, rows_of}
 use Rattle.pm_model_history.specs.Merged.{primary_of}
 use Rattle.pm_engine.proofs.Rising.{tied, ties_itself}
-use Rattle.pm_model_following.specs.Following.{change, change_by, keys_in, newly_passed, rows_at, told_at}
+use Rattle.pm_model_following.specs.Following.{by_key, change, change_by, keys_in, newly_passed, rows_at, told_at}
 use Rattle.pm_model_following.specs.Groups.{group_of, rows_in}
 use Rattle.pm_model_changelog.specs.Log.{AreByKey}
-use Rattle.pm_model_changelog.proofs.ChangeLemmas.{KeysLaw, alone, first-T, rows-rise, second-T}
+use Rattle.pm_model_changelog.proofs.ChangeLemmas.{KeysLaw, alone, are_some, first-T, has, has-keys, rows-rise, second-T}
 use Rattle.pm_model_changelog.proofs.GroupLemmas.{key_rows_in}
 use Rattle.pm_model_changelog.proofs.OrderLemmas.{keys-of, of-key}
 
@@ -133,6 +134,16 @@ module _ (s : TableSchema) where
       at [] low = tt
       at (z ∷ zs) low = ((λ above. let bad : Less ≡ Greater = sym low.0 ∙ ap (λ q. key_cmp q (key z)) (sym have.0) ∙ above in cc), at zs low.1)
 
+  own-all : (k l : Values) (rows : List HistoryRow) → eq_by_cmp key_cmp k l ≡ true → HaveKey l rows → own k rows ≡ rows
+  own-all k l [] e all = refl
+  own-all k l (r ∷ rows) e all =
+      ap (λ b. cond b (r ∷ own k rows) (own k rows)) (ap (eq_by_cmp key_cmp k) all.0 ∙ e) ∙ ap (λ ys. r ∷ ys) (own-all k l rows e all.1)
+
+  own-none : (k l : Values) (rows : List HistoryRow) → eq_by_cmp key_cmp k l ≡ false → HaveKey l rows → own k rows ≡ []
+  own-none k l [] e all = refl
+  own-none k l (r ∷ rows) e all =
+      ap (λ b. cond b (r ∷ own k rows) (own k rows)) (ap (eq_by_cmp key_cmp k) all.0 ∙ e) ∙ own-none k l rows e all.1
+
   module _ (tell : Values → List HistoryRow) (have : (k : Values) → HaveKey k (tell k)) where
     tell-below : (k l : Values) (rows : List HistoryRow) → key_cmp k l ≡ Less → HaveKey l rows → IsBelow k rows
     tell-below k l [] less all = tt
@@ -152,10 +163,42 @@ module _ (s : TableSchema) where
         (flat-below k ks (first-T (below_all key_cmp k (alone ks)) (is_sorted key_cmp (alone ks)) low))
         (flat-rise ks (second-T (below_all key_cmp k (alone ks)) (is_sorted key_cmp (alone ks)) low))
 
+    -- of each key that is told of it has what is told
+    own-told : (k : Values) (ks : List Values) → T (is_sorted key_cmp (alone ks)) → own k (flat_map tell ks) ≡ cond (has k ks) (tell k) []
+    own-told k [] low = refl
+    own-told k (l ∷ ks) low =
+        filter-append (λ (r : HistoryRow). eq_by_cmp key_cmp k (key r)) (tell l) (flat_map tell ks)
+        ∙ elim (eq_by_cmp key_cmp k l) as (λ t. eq_by_cmp key_cmp k l ≡ t → own k (tell l) ++ own k (flat_map tell ks) ≡ cond (t || has k ks) (tell k) []) [
+          | true ↦ λ e.
+              ap (λ ys. ys ++ own k (flat_map tell ks)) (own-all k l (tell l) e (have l))
+              ∙ ap (λ ys. tell l ++ ys)
+              (subst (λ q. own q (flat_map tell ks) ≡ []) (sym (tied k l e))
+              (none-own l (flat_map tell ks) (flat-below l ks (first-T (below_all key_cmp l (alone ks)) (is_sorted key_cmp (alone ks)) low))))
+              ∙ append-nil (tell l) ∙ ap tell (sym (tied k l e))
+          | false ↦ λ e.
+              ap (λ ys. ys ++ own k (flat_map tell ks)) (own-none k l (tell l) e (have l))
+              ∙ own-told k ks (second-T (below_all key_cmp l (alone ks)) (is_sorted key_cmp (alone ks)) low)
+        ] refl
+
+  some-or : (rows : List HistoryRow) → cond (are_some rows) rows [] ≡ rows
+  some-or [] = refl
+  some-or (r ∷ rows) = refl
+
+  pub given-rise : (rows : List HistoryRow) → AreByKey s (by_key s rows)
+  given-rise rows = flat-rise (λ k. own k rows) (λ k. keys-of (primary_of s) k rows) (keys_in s rows) (rows-rise s rows)
+
+  pub given-own : (k : Values) (rows : List HistoryRow) → own k (by_key s rows) ≡ own k rows
+  given-own k rows =
+      own-told (λ k. own k rows) (λ k. keys-of (primary_of s) k rows) k (keys_in s rows) (rows-rise s rows)
+      ∙ ap (λ b. cond b (own k rows) []) (has-keys s rows k) ∙ some-or (own k rows)
+
+  pub only-given : (rows given : List HistoryRow) → AreByKey s rows → ((k : Values) → own k rows ≡ own k given) → rows ≡ by_key s given
+  only-given rows given rise same = one-list rows (by_key s given) rise (given-rise given) (λ k. same k ∙ sym (given-own k given))
+
   change-rise : KeysLaw → (p : Producer) (entries : List Entry) (n : ℕ) → AllFit s.columns (flat_map entry_rows entries) → AreByKey s (change_by p s entries n)
   change-rise law producers.None entries n fit = tt
   change-rise law producers.Input entries n fit =
-      flat-rise (λ k. own k (rows_at entries n)) (λ k. keys-of (primary_of s) k (rows_at entries n)) (keys_in s (rows_at entries n)) (rows-rise s (rows_at entries n))
+      given-rise (rows_at entries n)
   change-rise law producers.Lookup entries n fit =
       flat-rise (told_at s entries n) (λ k. law s entries n k fit) (keys_in s (newly_passed s entries n)) (rows-rise s (newly_passed s entries n))
   change-rise law producers.FullCompaction entries n fit =

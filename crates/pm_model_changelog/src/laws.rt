@@ -10,7 +10,7 @@ ghost use Rattle.pm_values.specs.Order.{Values};
 ghost use Rattle.pm_values.specs.declared.group.Group.{Group};
 ghost use Rattle.pm_values.specs.declared.record.Stamped.{Stamped};
 ghost use Rattle.pm_model_history.specs.History.{Entry, entry_rows};
-ghost use Rattle.pm_model_history.specs.Merge.{AllFit, HistoryRow, key_of};
+ghost use Rattle.pm_model_history.specs.Merge.{AllFit, HistoryRow, key_of, rows_of};
 ghost use Rattle.pm_model_history.specs.Merged.{primary_of};
 ghost use Rattle.pm_model_following.specs.Following.{base_of, by_key, change, told_at};
 ghost use Rattle.pm_model_following.specs.Groups.{rows_in};
@@ -70,6 +70,16 @@ pub fn input_law()
     ensures { (s : TableSchema) (g : Group) (entries : List Entry) (e : Entry)
         → partition_holds s ≡ true → s.options.producer ≡ Input
         → rows_in s g (change s (entries ++ e ∷ []) (suc (length entries))) ≡ by_key s (rows_in s g (entry_rows e)) }
+{}
+
+/// Rows by key rise, and have of each key the rows in their order; only they do.
+pub fn by_key_law()
+    ensures rise { (s : TableSchema) (rows : List HistoryRow) → AreByKey s (by_key s rows) }
+    ensures same { (s : TableSchema) (key : Values) (rows : List HistoryRow)
+        → rows_of (primary_of s) key (by_key s rows) ≡ rows_of (primary_of s) key rows }
+    ensures only { (s : TableSchema) (rows given : List HistoryRow) → AreByKey s rows
+        → ((key : Values) → rows_of (primary_of s) key rows ≡ rows_of (primary_of s) key given)
+        → rows ≡ by_key s given }
 {}
 
 /// The keys of runs are those of a run that rises and has a key exactly where they do, as a merge of them is.

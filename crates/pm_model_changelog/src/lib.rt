@@ -14,6 +14,6 @@
 mod laws;
 
 pub use laws::{
-    full_log_law, input_law, keys_law, log_law, lookup_log_law, merged_log_law, parts_law,
-    quiet_law, told_keys_law, told_law,
+    by_key_law, full_log_law, input_law, keys_law, log_law, lookup_log_law, merged_log_law,
+    parts_law, quiet_law, told_keys_law, told_law,
 };
