@@ -1,0 +1,3 @@
+mod LogLemmas
+mod NumberLemmas
+mod OrderLemmas

@@ -1,0 +1,2 @@
+pub mod GroupLog
+pub mod Written
