@@ -24,7 +24,7 @@ use Rattle.pm_made.specs.declared.intent.Intent.TheVariants as intents
 use Rattle.pm_made.specs.declared.intent.Plan.{Plan}
 use Rattle.pm_made.specs.declared.newest.Newest.{Newest}
 use Rattle.pm_made.proofs.ListLemmas.{all-of, each-of, in-map}
-use Rattle.pm_compaction.specs.Plan.{IsRewrittenAt, KnowsPlan, comes_of}
+use Rattle.pm_compaction.specs.Plan.{IsRewrittenAt, KnowsPlan, comes_of, group_file, made_files}
 use Rattle.pm_compaction.proofs.ListLemmas.{in-flat}
 use Rattle.pm_compaction.proofs.MadeLemmas.{named-file, own-file}
 use Rattle.pm_compaction.proofs.NewestLemmas.{OneRuns, found, found-appends, stood}
@@ -45,6 +45,19 @@ module _ (me : Actor) (s : TableSchema) (plain : HavePlainNames s) (base : ℕ) 
   own-files = subst (AllByRecursion (λ (e : files.Entry). IsOwnFile me base (data_path s e.group e.file.name)))
       (sym (ap (λ (es : List files.Entry). plan.added.items ++ es) knows.untold ∙ append-nil plan.added.items))
       (all-of (λ (e : files.Entry). IsOwnFile me base (data_path s e.group e.file.name)) plan.added.items own-entry)
+
+  -- and so are those that were created
+  created-own : (file : CommitFile) → Contains given file → IsOwnFile me base file.path
+  created-own file h =
+      let (x, there, own) = in-flat (made_files s) knows.groups file (subst (λ (files : List CommitFile). Contains files file) knows.given_are h) in
+      let (f, has, same) = in-map (group_file s x.group) x.files file own in
+      let is = each-of (IsRewrittenAt me s base p) knows.groups x knows.each there in
+      let (k, within, name) = named-file s most_in_file x.taking.out x.names is.made.run x.files f is.made.files has in
+      subst (λ (file : CommitFile). IsOwnFile me base file.path) same
+      (own-file me base (length x.files) x.names is.names s x.group f.meta.name k plain within name)
+
+  pub given-own : AllByRecursion (λ (file : CommitFile). IsOwnFile me base file.path) given
+  given-own = all-of (λ (file : CommitFile). IsOwnFile me base file.path) given created-own
 
 pub attempt-own : (me : Actor) (s : TableSchema) (t : Attempt) (plan : Plan) (given : List CommitFile) (p : Past) → HavePlainNames s
     → KnowsPlan me s t.author.base plan given p → t.intent ≡ intents.Compact plan → AreOwnFiles me s t

@@ -7,7 +7,7 @@ ghost use Rattle.pm_store.specs.Files.{Files, Puts};
 ghost use Rattle.pm_values.specs.declared.group.Group.{Group};
 ghost use Rattle.pm_model_history.specs.History.{Entry, table};
 ghost use Rattle.pm_schema.specs.declared.schema.TableSchema.{TableSchema};
-ghost use Rattle.pm_model_folder.specs.Changes.{Actor, HavePlainNames, NamesOwn};
+ghost use Rattle.pm_model_folder.specs.Changes.{Actor, HavePlainNames, IsOwnFile, NamesOwn};
 ghost use Rattle.pm_model_folder.specs.Commits.{IsCommit};
 ghost use Rattle.pm_model_folder.specs.Folder.{IsEntryAfter};
 ghost use Rattle.pm_model_folder.specs.Ledger.{Advances, HasNamedNone, Past, Stands};
@@ -44,8 +44,9 @@ pub fn plan_law()
 }
 
 /// So it shows of a try by the plan what this needs to be ready: its base is a snapshot of the table, the files that
-/// were made are the actor's, the count of appends that it bears is within that of the newest snapshot, and its delta's
-/// entries, as they are written, can stand in a manifest, and no two that go, and no two that come, are of one file.
+/// were made are the actor's, as they were created, the count of appends that it bears is within that of the newest
+/// snapshot, and its delta's entries, as they are written, can stand in a manifest, and no two that go, and no two that
+/// come, are of one file.
 pub fn ready_law()
     ensures base { (me : Actor) (p : Past) (s : TableSchema) (entries : List Entry) (base : ℕ) (plan : Plan)
         (given : List FileView) → p.history ≡ table s entries → KnowsPlan me s base plan given p →
@@ -53,6 +54,9 @@ pub fn ready_law()
     ensures own { (me : Actor) (p : Past) (s : TableSchema) (t : Attempt) (plan : Plan) (given : List FileView) →
         HavePlainNames s → KnowsPlan me s t.author.base plan given p → t.intent ≡ intents.Compact plan →
         AreOwnFiles me s t }
+    ensures given { (me : Actor) (p : Past) (s : TableSchema) (base : ℕ) (plan : Plan) (given : List FileView) →
+        HavePlainNames s → KnowsPlan me s base plan given p →
+        AllByRecursion (λ (file : FileView). IsOwnFile me base file.path) given }
     ensures full { (me : Actor) (f : Files) (p : Past) (s : TableSchema) (entries : List Entry) (newest : Newest)
         (base : ℕ) (plan : Plan) (given : List FileView) → Stands f p → p.history ≡ table s entries →
         IsNewestOf f s entries newest → KnowsPlan me s base plan given p →

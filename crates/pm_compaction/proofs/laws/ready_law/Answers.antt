@@ -3,7 +3,7 @@ use Rattle.pm_model_history.specs.History.{History}
 use Rattle.pm_model_folder.specs.Folder.{Folder}
 use Rattle.pm_model_folder.specs.Ledger.{KnowsPast}
 use Rattle.pm_model_folder.specs.Paths.{schema_path}
-use Rattle.pm_compaction.proofs.GivenLemmas.{attempt-own, base-to, full-within}
+use Rattle.pm_compaction.proofs.GivenLemmas.{attempt-own, base-to, full-within, given-own}
 use Rattle.pm_compaction.proofs.MayLemmas.{attempt-change}
 use Rattle.pm_compaction.proofs.laws.ready_law.Goals as goal
 
@@ -11,6 +11,7 @@ pub returns : goal.returns
 returns c = record {
   base = λ me p s entries base plan given was knows. base-to me s entries base plan given p was knows;
   own = λ me p s t plan given plain knows is. attempt-own me s t plan given p plain knows is;
+  given = λ me p s base plan given plain knows. given-own me s plain base plan given p knows;
   full = λ me f p s entries newest base plan given stands was is knows.
       full-within c.appends_law.ensures c.one_contents_law.ensures c.same_law.ensures c.one_runs_law.ensures me f p s entries newest base plan given stands was is knows;
   change = λ me f p s entries base t plan given stands was knows is made.
