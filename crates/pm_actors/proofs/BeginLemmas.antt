@@ -1,5 +1,5 @@
 -- Machines may begin, in a folder that is found and beside others.
-use Rattle.std.proofs.Common.{◌≡◌, inl, inr, ℕ, List, [], ◌∷◌, ◌++◌, sym, subst, arith}
+use Rattle.std.proofs.Common.{◌≡◌, inl, inr, ℕ, List, [], ◌∷◌, ◌++◌, refl, sym, subst, arith}
 use Rattle.std.specs.List.{AllByRecursion}
 use Rattle.pm_store.specs.declared.call.Op.{Op}
 use Rattle.pm_store.specs.Files.{Files, files_after}
@@ -22,6 +22,7 @@ use Rattle.pm_commit.specs.Meaning as commit
 use Rattle.pm_commit.specs.Meaning.{KnowsOwn}
 use Rattle.pm_commit.specs.Own as owner
 use Rattle.pm_commit.specs.declared.phase.Phase as committing
+use Rattle.pm_commit.proofs.OwnLemmas.{append-planned}
 use Rattle.pm_actors.specs.World.{AllKnow, Begins, BeginsCommit, IsWorld, KeepsActor, Knows, MayBegin, MayFollow, MayJoin, Worker, commits, creates, lists, scans, waits}
 use Rattle.pm_actors.proofs.WorldLemmas.{replaced}
 
@@ -41,13 +42,18 @@ module _ (f : Files) (p : Past) where
   commit_begins e m begins =
       let own : KnowsOwn begins.begun e begins.schema p = record {
         is_table = begins.table;
-        appends = (subst IsCommitter begins.is begins.is_committer).1;
         means = begins.means;
         may = begins.may;
         unnamed = begins.unnamed;
         from = (let none = begins.no_base in omega (arith, none));
       } in
-      (begins.is_committer, subst (λ (m : committing.Phase). commit.KnowsIn e m f p) (sym begins.is) own)
+      let appends = (subst IsCommitter begins.is begins.is_committer).1 in
+      let me : Actor = owner.actor_of begins.begun in (
+        begins.is_committer,
+        subst (λ (m : committing.Phase). commit.KnowsIn e m f p) (sym begins.is) own,
+        subst (λ (m : committing.Phase). commit.HasGiven m f p) (sym begins.is)
+            ([], (append-planned begins.begun.intent me begins.begun.author.base [] p appends refl, inr tt)),
+      )
 
   pub joined : (w : Worker) → MayJoin p w → Knows w f p
   joined (waits me) named = named

@@ -30,7 +30,7 @@ makes-put own next found made (Err refusal) is_made allowed named is memory = in
 -- the reader of the view went on
 pub still-reads : EntriesRead → (own : OwnView) (m : view_phase.Phase) (answer : Answer) (new : view_phase.Phase) → IsViewing own m → reader.Goes m answer new
     → (s : TableSchema) × Reads new s × IsOwn s own
-still-reads law own m answer new (left, (s, reads, own_of)) goes = (s, (reads-on law s m answer new reads goes).reads, own_of)
+still-reads law own m answer new (left, (s, reads, own_of), may) goes = (s, (reads-on law s m answer new reads goes).reads, own_of)
 
 pub view-on : (own : OwnView) (m new : view_phase.Phase) (answer : Answer) (outcome : Outcome) → reader.Goes m answer new → AfterReader own new outcome
     → AfterView own m answer outcome

@@ -42,6 +42,7 @@ use Rattle.pm_commit.proofs.AloneLemmas.{either-way}
 use Rattle.pm_commit.proofs.CommittedLemmas.{bears-commit}
 use Rattle.pm_commit.proofs.CommitterLemmas.{begun-at}
 use Rattle.pm_commit.proofs.FoundLemmas.{LiveEntries}
+use Rattle.pm_commit.proofs.OwnLemmas.{append-planned}
 use Rattle.pm_commit.proofs.FailLemmas.{after-failed, shows-failed}
 use Rattle.pm_commit.proofs.KnownLemmas.{count-bound}
 use Rattle.pm_commit.proofs.PublishLemmas as publish
@@ -308,7 +309,6 @@ first-known found s b f same is begin table_is =
     (subst (λ (f : Files). Names f t id path) (stood id) names) by in
     let knows : KnowsOwn b.own b.entry s past = record {
       is_table = subst (IsTableOf s) (sym history) table_is;
-      appends = is.1;
       means = begin.means;
       may = begin.may;
       unnamed = named (actor_of b.own) begin.start.1;
@@ -317,7 +317,7 @@ first-known found s b f same is begin table_is =
       past,
       subst (λ (f : Files). Stands f past) (sym same) stands,
       record { stood = λ id known within. stood id; others = λ other apart none. named other none },
-      ((is, knows), (history, ((λ path. ap (λ (f : Files). map.get f path) same), refl))),
+      ((is, knows, ([], (append-planned b.own.intent (actor_of b.own) b.own.author.base [] past is.1 refl, inr tt))), (history, ((λ path. ap (λ (f : Files). map.get f path) same), refl))),
     )
 
 leaves-of : (b : Beginning) (result : Result Appended Refusal) (known : Option (List Op))

@@ -163,13 +163,13 @@ calm-caused laws causes b (phases.Names own s) (answers.Listed names) refusal f 
         subst (λ (o : OwnView). FindsUsed o.names names.items (Some path)) own_is finds,
       ),
     )
-calm-caused laws causes b (phases.View own m) answer refusal f p calm stands ((committer, (s, reads, known, reading, origin)), (same, (unchanged, is, newest))) (inl shown) =
+calm-caused laws causes b (phases.View own m) answer refusal f p calm stands ((committer, (s, reads, known, reading, origin), gave), (same, (unchanged, is, newest))) (inl shown) =
     if-is (reader.next_call m) _ (λ call at told.
     (let rests = some-at (reader.next_call m) call _ at (view-rests m f) in
     subst (λ (g : Files). AloneRefused b refusal g p) (sym rests)
     (seen-caused laws b f p stands same refusal (shown-none s m answer refusal reads shown) (shown-newest (newest_id b) m answer refusal newest shown)
     (causes m call answer refusal f p stands reading at told shown))))
-calm-caused laws causes b (phases.View own m) answer refusal f p calm stands ((committer, (s, reads, known, reading, origin)), (same, (unchanged, is, newest)))
+calm-caused laws causes b (phases.View own m) answer refusal f p calm stands ((committer, (s, reads, known, reading, origin), gave), (same, (unchanged, is, newest)))
     (inr (to, goes, on)) =
     if-is (reader.next_call m) _ (λ call at told.
     (let rests = some-at (reader.next_call m) call _ at (view-rests m f) in
@@ -181,7 +181,7 @@ calm-caused laws causes b (phases.Search own q) (answers.Found None) refusal f p
     make-caused laws b f p stands same own q.found refusal unchanged is sees on
 calm-caused laws causes b (phases.Search own q) (answers.Found (Some bytes)) refusal f p calm stands (known, (same, alone)) (inl memory) = λ told.
     forgotten laws b f p stands same refusal memory
-calm-caused laws causes b (phases.Search own q) (answers.Found (Some bytes)) refusal f p calm stands (((may, few, ids), (known, is_found)), alone) (inr (inl (bad, is))) = λ told.
+calm-caused laws causes b (phases.Search own q) (answers.Found (Some bytes)) refusal f p calm stands (((may, few, ids), (known, is_found), gave), alone) (inr (inl (bad, is))) = λ told.
     absurd (good-snapshot f p q.found.schema q.id bytes stands known.is_table ids.0.0 ids.0.1 told bad)
 calm-caused laws causes b (phases.Search own q) (answers.Found (Some bytes)) refusal f p calm stands (known, (same, (unchanged, is, sees, asked))) (inr (inr (x, reads, on))) = λ told.
     heard-refused (AloneRefused b refusal f p) own q.found q.left (seen_of own.author x) refusal
@@ -189,7 +189,7 @@ calm-caused laws causes b (phases.Search own q) (answers.Found (Some bytes)) ref
 calm-caused laws causes b (phases.Put own s id (puts.Publish x)) answer refusal f p calm stands known after = absurd calm
 calm-caused laws causes b (phases.Put own s id (puts.Create making)) (answers.Made created.Created) refusal f p calm stands known (inr (to, goes, on)) =
     absurd (next-not own s id making.publishing making.rest to refusal goes on)
-calm-caused laws causes b (phases.Put own s id (puts.Create making)) (answers.Made created.Exists) refusal f p calm stands (((tried, some, few), (known, is_try)), (same, alone)) (inl is) = λ told.
+calm-caused laws causes b (phases.Put own s id (puts.Create making)) (answers.Made created.Exists) refusal f p calm stands (((tried, some, few), (known, is_try), gave), (same, alone)) (inl is) = λ told.
     subst (λ (r : Refusal). AloneRefused b r (carried (create_call making.next) f) p) (sym is)
     (met-caused laws b own s id making f p tried known is_try same alone told)
 calm-caused laws causes b (phases.Put own s id m) answer refusal f p calm stands known (inl shown) = absurd shown

@@ -50,7 +50,7 @@ use Rattle.pm_commit.proofs.AloneCauseLemmas.{begun-same, calm-caused, view-rest
 use Rattle.pm_commit.proofs.ApartLemmas.{PathParts, rest-apart, untouched-puts}
 use Rattle.pm_commit.proofs.CauseLemmas.{ReaderCauses}
 use Rattle.pm_commit.proofs.CommitterLemmas.{begun-at, still-committer}
-use Rattle.pm_commit.proofs.Facts.{Laws, NoPublish, by-publish, changes-on, keeps-on, makes-on, next-on, published-leads, putter-at}
+use Rattle.pm_commit.proofs.Facts.{Laws, NoPublish, by-publish, changes-on, gave-after, keeps-on, makes-on, next-on, published-leads, putter-at}
 use Rattle.pm_commit.proofs.MadeLemmas.{allowed-id}
 use Rattle.pm_commit.proofs.NewestLemmas.{never-lost, reads-newest}
 use Rattle.pm_commit.proofs.OutcomeLemmas.{err-ok, heard, ok-same, read-on, tried}
@@ -135,7 +135,7 @@ module _ (laws : Laws) (causes : ReaderCauses) (parts : PathParts) (b : Beginnin
   -- no try is lost
   lost-never : (own : OwnView) (s : TableSchema) (id : ℕ) (x : Publishing) (answer : Published) (f : Files) (p : Past) → Stands f p
       → KnewAlone b (phases.Put own s id (puts.Publish x)) f p → Answers (publish_call x) (answers.Published answer) f → IsLost answer → ⊥
-  lost-never own s id x answer f p stands ((putting, (known, is_try)), (same, (is, untouched))) told lost =
+  lost-never own s id x answer f p stands ((putting, (known, is_try), gave), (same, (is, untouched))) told lost =
       never-lost f p s id is_try.attempt.made.text x answer stands known.is_table (is.1 ∙ ap (λ (h : History). count_of h + 1) (sym same))
       (try-bound own b.entry s id (puts.Publish x) f p is_try) (try-last own b.entry s id x f p is_try) told lost
 
@@ -144,7 +144,7 @@ module _ (laws : Laws) (causes : ReaderCauses) (parts : PathParts) (b : Beginnin
       → IfSome (next_call m) (λ call. Answers call answer f → AloneAt b new (carried call f) p.history)
   alone-on (phases.Names own s) (answers.Listed names) new f p calm (none, to) stands (known, (same, (unchanged, is))) = λ told.
       to-alone b f p.history same (first_of_try own s) new to (same, (unchanged, is, tt))
-  alone-on (phases.View own m) answer new f p calm (to, goes, after) stands ((committer, (s, reads, known, reading, origin)), (same, (unchanged, is, newest))) =
+  alone-on (phases.View own m) answer new f p calm (to, goes, after) stands ((committer, (s, reads, known, reading, origin), gave), (same, (unchanged, is, newest))) =
       if-is (reader.next_call m) _ (λ call at told.
       (let rests = some-at (reader.next_call m) call _ at (view-rests m f) in
       let newest_to = some-at (reader.next_call m) call _ at
@@ -157,7 +157,7 @@ module _ (laws : Laws) (causes : ReaderCauses) (parts : PathParts) (b : Beginnin
   alone-on (phases.Search own q) (answers.Found (Some bytes)) new f p calm (x, reads, on) stands (known, (same, (unchanged, is, sees, asked))) = λ told.
       hears-alone b f p.history same unchanged own q.found q.left (seen_of own.author x) new is sees asked on
   alone-on (phases.Put own s id (puts.Publish x)) answer new f p calm after stands known = absurd calm
-  alone-on (phases.Put own s id (puts.Create making)) (answers.Made creates.Created) new f p calm (to, goes, on) stands ((putting, (known, is_try)), (same, (is, untouched))) = λ told.
+  alone-on (phases.Put own s id (puts.Create making)) (answers.Made creates.Created) new f p calm (to, goes, on) stands ((putting, (known, is_try), gave), (same, (is, untouched))) = λ told.
       let call : Call = create_call making.next in
       let put_at : Puts f making.next.path (Some making.next.bytes) (carried call f) = Answers-Changed call (answers.Made creates.Created) f told in
       let apart = rest-apart parts own b.entry s id making f p is_try in
@@ -176,22 +176,34 @@ module _ (laws : Laws) (causes : ReaderCauses) (parts : PathParts) (b : Beginnin
       both_if (next_call m) _ _ _ (λ call keeps alone told. (
         p,
         (keeps told).0,
-        ((still-committer laws.read m answer new known.0.0 after, (keeps told).1), alone told),
+        (
+          (
+            still-committer laws.read m answer new known.0.0 after,
+            (keeps told).1,
+            gave-after laws b.entry m answer new f (carried call f) p p stands known.0.0 known.0.1 known.0.2 after (keeps told).0,
+          ),
+          alone told,
+        ),
       )) (keeps-on laws b.entry m answer new f p calm after stands known.0.0 known.0.1) (alone-on m answer new f p calm after stands known)
 
   went-published : (own : OwnView) (s : TableSchema) (id : ℕ) (x : Publishing) (answer : Answer) (new : Phase) (f : Files) (p : Past)
       → After (phases.Put own s id (puts.Publish x)) answer (Ok new) → Stands f p → KnewAlone b (phases.Put own s id (puts.Publish x)) f p
       → Answers (publish_call x) answer f → WentAlone (phases.Put own s id (puts.Publish x)) new f p (carried (publish_call x) f)
-  went-published own s id x (answers.Published published.Created) new f p (to, goes, on) stands ((putting, known), (same, (at, untouched))) told =
+  went-published own s id x (answers.Published published.Created) new f p (to, goes, on) stands ((putting, known, gave), (same, (at, untouched))) told =
       let is = putter-at own s id to puts.Published (Ok new) goes on in
-      let leads = published-leads laws b.entry own s id x new f p is stands putting.0 known.0 known.1 told in
+      let leads = published-leads laws b.entry own s id x new f p is stands putting.0 known.0 known.1 gave told in
       let appended = leads.2.1 ∙ ap (with_entry b.entry) same in
       let next = leads.2.2 ∙ ap (λ (h : History). count_of h + 1) same in
       let author = ap (λ (o : OwnView). o.author) at.0.1 in (
         leads.0,
         leads.1,
         (
-          (still-committer laws.read (phases.Put own s id (puts.Publish x)) (answers.Published published.Created) new putting (to, goes, on), leads.2.0),
+          (
+            still-committer laws.read (phases.Put own s id (puts.Publish x)) (answers.Published published.Created) new putting (to, goes, on),
+            leads.2.0,
+            gave-after laws b.entry (phases.Put own s id (puts.Publish x)) (answers.Published published.Created) new f (carried (publish_call x) f) p leads.0 stands putting
+                known gave (to, goes, on) leads.1,
+          ),
           subst (λ (m : Phase). AloneAt b m (carried (publish_call x) f) leads.0.history) (sym (ok-same new _ is)) (appended, (author, next, at.2)),
         ),
       )
@@ -243,8 +255,8 @@ module _ (laws : Laws) (causes : ReaderCauses) (parts : PathParts) (b : Beginnin
   failed-published : (own : OwnView) (s : TableSchema) (id : ℕ) (x : Publishing) (effect : Effect) (f : Files) (p : Past) → Stands f p
       → KnewAlone b (phases.Put own s id (puts.Publish x)) f p
       → FailedAlone (phases.Put own s id (puts.Publish x)) (publish_call x) f p (after_effect (publish_call x) effect f)
-  failed-published own s id x effect f p stands ((putting, known), (same, (at, untouched))) =
-      let change = changes-on laws b.entry (phases.Put own s id (puts.Publish x)) f p stands putting known effect in
+  failed-published own s id x effect f p stands ((putting, known, gave), (same, (at, untouched))) =
+      let change = changes-on laws b.entry (phases.Put own s id (puts.Publish x)) f p stands putting known gave effect in
       let either = either-way b p.history change.0.history same change.1.appends in
       let last = try-last own b.entry s id x f p known.1 in (
         change.0,
@@ -274,7 +286,7 @@ module _ (laws : Laws) (causes : ReaderCauses) (parts : PathParts) (b : Beginnin
       let keeps : (ops : List Op) → Answers call answer (files_after ops)
       → Keeps Stands (MakesEntry b.entry old) (KnewAlone b old) (KnewAlone b new) (whole call) (files_after ops) =
       λ ops here p stands known. (
-        (rw is at (changes-on laws b.entry old (files_after ops) p stands known.0.0 known.0.1)),
+        (rw is at (changes-on laws b.entry old (files_after ops) p stands known.0.0 known.0.1 known.0.2)),
         (rw is at (went-on old answer new (files_after ops) p on stands known)) here,
       ) in
       inl (whole call, Steps-weaker (whole call) _ _ before after keeps came.0)
@@ -282,7 +294,7 @@ module _ (laws : Laws) (causes : ReaderCauses) (parts : PathParts) (b : Beginnin
       let keeps : (ops : List Op) → Answers call answer (files_after ops)
       → Keeps Stands (MakesEntry b.entry old) (KnewAlone b old) (AloneRefused b refusal) (whole call) (files_after ops) =
       λ ops here p stands known. (
-        (rw is at (changes-on laws b.entry old (files_after ops) p stands known.0.0 known.0.1)),
+        (rw is at (changes-on laws b.entry old (files_after ops) p stands known.0.0 known.0.1 known.0.2)),
         (rw is at (refused-on old answer refusal (files_after ops) p on.0 stands known)) here,
       ) in
       inl (whole call, Steps-weaker (whole call) _ _ before after keeps came.0)
@@ -294,7 +306,7 @@ module _ (laws : Laws) (causes : ReaderCauses) (parts : PathParts) (b : Beginnin
       let keeps : (ops : List Op) → MayHave call effect (files_after ops)
       → Keeps Stands (MakesEntry b.entry old) (KnewAlone b old) (AloneRefused b (refusals.StoreFault (path_of call))) op (files_after ops) =
       λ ops may p stands known. (
-        (rw is at (changes-on laws b.entry old (files_after ops) p stands known.0.0 known.0.1)),
+        (rw is at (changes-on laws b.entry old (files_after ops) p stands known.0.0 known.0.1 known.0.2)),
         rw is at (failed-on old effect (files_after ops) p (has-call is) stands known),
       ) in
       inl (op, Steps-weaker op _ _ before after keeps came.0.1)

@@ -4,7 +4,7 @@ use Rattle.std.proofs.Common.{refl, sym, ap, ◌∙◌, subst, arith}
 use Rattle.std.specs.FinMap as map
 use Rattle.std.proofs.lemmas.List.Elements.{Contains-append_left, Contains-append_right}
 use Rattle.pm_store.specs.Files.{Files}
-use Rattle.pm_model_history.specs.History.{Entry, History, IsTableOf, append, no_table, table}
+use Rattle.pm_model_history.specs.History.{Entry, History, IsTableOf, append, compaction, no_table, table}
 use Rattle.pm_schema.specs.declared.schema.TableSchema.{TableSchema}
 use Rattle.pm_snapshot.specs.declared.snapshot.Snapshot.{Snapshot}
 use Rattle.pm_manifest.specs.declared.entry.Entry as files
@@ -18,11 +18,16 @@ use Rattle.pm_model_folder.specs.Meaning.{HasSnapshotAt}
 use Rattle.pm_model_folder.specs.Paths.{snapshot_path}
 use Rattle.pm_model_folder.proofs.LedgerFacts.{at-table}
 use Rattle.pm_model_folder.proofs.HoldLemmas.{SameContents}
-use Rattle.pm_made.specs.Files.{merges}
+use Rattle.pm_made.specs.Delta.{entries_of}
+use Rattle.pm_made.specs.Files.{delta_of_plan, merges}
+use Rattle.pm_made.specs.Snapshot.{new_snapshot}
+use Rattle.pm_made.specs.declared.intent.Intent.TheVariants as intents
+use Rattle.pm_made.specs.declared.intent.Plan.{Plan}
 use Rattle.pm_made.specs.declared.newest.Author.{Author}
 use Rattle.pm_made.specs.declared.newest.Newest.{Newest}
 use Rattle.pm_append.specs.Commit.{AreBaseIf, HasAppended}
 use Rattle.pm_append.specs.Snapshot.{append_snapshot}
+use Rattle.pm_compaction.specs.Compacted.{HasCompacted}
 use Rattle.pm_commit.specs.AllCalls.{BearsCommit, StoodSo}
 use Rattle.pm_commit.specs.Alone.{Beginning, SeesNewest, begun_at, newest_id, with_entry}
 use Rattle.pm_commit.specs.Meaning.{BearsAdded, HasCommitted}
@@ -81,6 +86,36 @@ appended-held same f g s newest author count has own held =
       few = has.few;
     }
 
+-- of a compaction
+compacted-held : SameContents → (f g : Files) (s : TableSchema) (newest : Newest) (author : Author) (plan : Plan)
+    → (has : HasCompacted f s newest author plan)
+    → ((path : List ℕ) → (path ≡ snapshot_path (newest.id + 1)) → map.get g path ≡ map.get f path)
+    → ((path : List ℕ) → IsNamed s (new_snapshot s newest author (intents.Compact plan) (delta_of_plan plan) has.lists) has.contents path
+    → map.get g path ≡ map.get f path)
+    → HasCompacted g s newest author plan
+compacted-held same f g s newest author plan has own held =
+    let x : Snapshot = new_snapshot s newest author (intents.Compact plan) (delta_of_plan plan) has.lists in
+    let c : Contents = has.contents in
+    let at : (meta : ManifestMeta) → Contains (c.base ++ c.delta) meta → map.get g (manifest_path meta.name) ≡ map.get f (manifest_path meta.name) =
+    λ meta h. held (manifest_path meta.name) (named.manifest meta (inl h)) in
+    record {
+      lists = has.lists;
+      contents = c;
+      commit = (
+        (has.commit.0.0, own (snapshot_path (newest.id + 1)) refl ∙ has.commit.0.1, has.commit.0.2),
+        same f g s x c held has.commit.1,
+      );
+      kept = has.kept;
+      merged = λ enough. (
+        entries-held f g s c.base newest.live.items (λ meta h. at meta (Contains-append_left c.base c.delta meta h)) (has.merged enough).0,
+        (has.merged enough).1,
+      );
+      delta = entries-held f g s c.delta (entries_of (delta_of_plan plan)) (λ meta h. at meta (Contains-append_right c.base c.delta meta h)) has.delta;
+      live = has.live;
+      untold = has.untold;
+      unlisted = has.unlisted;
+    }
+
 pub added-held : SameContents → (f g : Files) (s : TableSchema) (newest : Newest) (author : Author) (e : Entry) → BearsAdded f s newest author e
     → ((path : List ℕ) → (path ≡ snapshot_path (newest.id + 1)) → map.get g path ≡ map.get f path)
     → ((x : Snapshot) (c : Contents) (path : List ℕ) → HasCommit f s (newest.id + 1) x c → IsNamed s x c path → map.get g path ≡ map.get f path)
@@ -90,6 +125,13 @@ added-held same f g s newest author (append user identifier rows) (same_user, sa
   same_identifier,
   appended-held same f g s newest author (length rows) has own
       (λ path names. held (append_snapshot s newest author has.added has.lists) has.contents path has.commit names),
+)
+added-held same f g s newest author (compaction base groups) (plan, same_base, same_groups, has) own held = (
+  plan,
+  same_base,
+  same_groups,
+  compacted-held same f g s newest author plan has own
+      (λ path names. held (new_snapshot s newest author (intents.Compact plan) (delta_of_plan plan) has.lists) has.contents path has.commit names),
 )
 added-held same f g s newest author other has own held = absurd has
 

@@ -16,7 +16,7 @@ use Rattle.pm_made.specs.Intent.{most_files}
 use Rattle.pm_made.specs.declared.newest.Made.{Made}
 use Rattle.pm_put.specs.declared.putting.CommitFile.{CommitFile}
 use Rattle.pm_commit.specs.Committer.{AreIds, After, AfterPutter, AfterReader, Hears, IsCommitter, IsPutting, Makes, MayMake, Outcome, Reads, Tries, first_of_try, found_in, newest_of, publishing_of}
-use Rattle.pm_commit.specs.Own.{IsOwn, IsTried, OwnView, begun, begun_after, tries, with_lost, with_named}
+use Rattle.pm_commit.specs.Own.{IsOwn, IsTried, MayView, OwnView, begun, begun_after, tries, with_lost, with_named}
 use Rattle.pm_commit.specs.Search.{older_ids, seen_in, seen_of}
 use Rattle.pm_commit.specs.declared.search.Seen.{Seen}
 use Rattle.pm_commit.specs.declared.found.Found.{Found}
@@ -34,12 +34,15 @@ use Rattle.pm_commit.proofs.ReadsLemmas.{EntriesRead, IsOn, reads-on}
 -- ---- what is known of a commit
 
 -- its first try sets its base, and no later one
-pub begun-at : (P : OwnView → Type 0) (own : OwnView) (n : ℕ) → P own → P (begun_after [] n own) → P (begun n own)
-begun-at P own n stays sets = at own.lost
+pub begun-first : (P : OwnView → Type 0) (own : OwnView) (n : ℕ) → P own → (own.lost ≡ [] → P (begun_after [] n own)) → P (begun n own)
+begun-first P own n stays sets = at own.lost refl
   where
-    at : (lost : List ℕ) → P (begun_after lost n own)
-    at [] = sets
-    at (id ∷ lost) = stays
+    at : (lost : List ℕ) → own.lost ≡ lost → P (begun_after lost n own)
+    at [] first = sets first
+    at (id ∷ lost) later = stays
+
+pub begun-at : (P : OwnView → Type 0) (own : OwnView) (n : ℕ) → P own → P (begun_after [] n own) → P (begun n own)
+begun-at P own n stays sets = begun-first P own n stays (λ first. sets)
 
 pub begun-own : (s : TableSchema) (own : OwnView) (n : ℕ) → IsOwn s own → IsOwn s (begun n own)
 begun-own s own n is = begun-at (IsOwn s) own n is
@@ -81,6 +84,10 @@ lost-own s own id left tried =
       named = (let count = tried.named in omega (arith, longer, count));
     }
 
+-- after a loss it may begin by a view
+lost-view : (own : OwnView) (id : ℕ) → MayView (with_lost id own)
+lost-view own id none = absurd (let longer = length-append own.lost (id ∷ []) in let empty = ap length none in omega (arith, longer, empty))
+
 -- ---- what is asked
 
 pub asked-same : (a b : Asked) → Some a ≡ Some b → a ≡ b
@@ -111,7 +118,7 @@ put-committer : (own : OwnView) (s : TableSchema) (id : ℕ) (x : Publishing) (f
     → IsCommitter (phases.Put own s id (put.create_next x files))
 put-committer own s id x files tried few = let left = put_facts.next_left x files in (tried, omega (arith, left), omega (arith, left, few))
 
-makes-committer : (own : OwnView) (found : Found) (later : Phase) → IsOwn found.schema own → Makes own found (Ok later) → IsCommitter later
+pub makes-committer : (own : OwnView) (found : Found) (later : Phase) → IsOwn found.schema own → Makes own found (Ok later) → IsCommitter later
 makes-committer own found later own_of (made, is_made, allowed, is) =
     let few = made-few found.schema found.newest own.author own.intent own.names made is_made in
     subst IsCommitter (sym is)
@@ -135,14 +142,15 @@ tries-committer own v later may ids on =
     tried (IsCommitter later) own v (Ok later) (λ unasked on. makes-committer own (found_in v) later may.own_of on)
     (λ asked on. hears-committer own (found_in v) (older_ids v.listed.items) (seen_in own.author v.snapshot) later may (older-are v.listed.items ids) on) on
 
-reader-committer : (own : OwnView) (s : TableSchema) (m : view_phase.Phase) (later : Phase) → IsOn s m → IsOwn s own → AfterReader own m (Ok later) → IsCommitter later
-reader-committer own s m later on own_of after =
+reader-committer : (own : OwnView) (s : TableSchema) (m : view_phase.Phase) (later : Phase) → IsOn s m → IsOwn s own → MayView own → AfterReader own m (Ok later)
+    → IsCommitter later
+reader-committer own s m later on own_of may after =
     read-on (λ (o : Outcome). IfOk o IsCommitter) (IsOn s) own (Ok later)
     (λ v on tries. tries-committer (begun v.id own) v later (ready-may own v s on.reads own_of) on.reads.ids tries)
-    (λ m none on. (elim (on.left) as (λ _. 0 < reader.calls_left m) [ inl ready ↦ absurd (none ready) | inr left ↦ left ], (s, on.reads, own_of))) m on after
+    (λ m none on. (elim (on.left) as (λ _. 0 < reader.calls_left m) [ inl ready ↦ absurd (none ready) | inr left ↦ left ], (s, on.reads, own_of), may)) m on after
 
-first-committer : (own : OwnView) (s : TableSchema) (later : Phase) → IsOwn s own → later ≡ first_of_try own s → IsCommitter later
-first-committer own s later own_of is = subst IsCommitter (sym is) (omega arith, (s, record { asked = refl; numbers = tt; ids = tt }, own_of))
+first-committer : (own : OwnView) (s : TableSchema) (later : Phase) → IsOwn s own → MayView own → later ≡ first_of_try own s → IsCommitter later
+first-committer own s later own_of may is = subst IsCommitter (sym is) (omega arith, (s, record { asked = refl; numbers = tt; ids = tt }, own_of), may)
 
 -- the putter goes on
 as-putting : (own : OwnView) (s : TableSchema) (id : ℕ) (m : put_phase.Phase) (later : Phase) → IsTried s own → 0 < put.calls_left m
@@ -153,16 +161,16 @@ putter-committer : (own : OwnView) (s : TableSchema) (id : ℕ) (m to : put_phas
     → AfterPutter own s id to (Ok later) → IsCommitter later
 putter-committer own s id m puts.Published answer later (tried, some, few) goes is = subst IsCommitter (sym (ok-same later _ is)) tt
 putter-committer own s id m puts.Lost answer later (tried, some, few) goes (left, is) =
-    first-committer (with_lost id own) s later (lost-own s own id left tried) is
+    first-committer (with_lost id own) s later (lost-own s own id left tried) (lost-view own id) is
 putter-committer own s id m to answer later (tried, some, few) goes is =
     let on = put_facts.goes m answer to goes in
     let fewer = on.0 in
     as-putting own s id to later tried on.1 (omega (arith, fewer, few)) is
 
 pub still-committer : EntriesRead → (m : Phase) (answer : Answer) (later : Phase) → IsCommitter m → After m answer (Ok later) → IsCommitter later
-still-committer law (phases.Names own s) (answers.Listed names) later (own_of, appends) (none, is) = first-committer own s later own_of is
-still-committer law (phases.View own m) answer later (left, (s, reads, own_of)) (new, goes, after) =
-    reader-committer own s new later (reads-on law s m answer new reads goes) own_of after
+still-committer law (phases.Names own s) (answers.Listed names) later (own_of, appends) (none, is) = first-committer own s later own_of (λ first. appends) is
+still-committer law (phases.View own m) answer later (left, (s, reads, own_of), may) (new, goes, after) =
+    reader-committer own s new later (reads-on law s m answer new reads goes) own_of may after
 still-committer law (phases.Search own q) (answers.Found None) later (may, few, ids) on = makes-committer own q.found later may.own_of on
 still-committer law (phases.Search own q) (answers.Found (Some bytes)) later (may, few, ids) (x, reads, on) =
     hears-committer own q.found q.left (seen_of own.author x) later may ids.1 on

@@ -24,7 +24,7 @@ use Rattle.pm_commit.proofs.PathLemmas.{InTable, no-origin}
 use Rattle.pm_commit.proofs.PublishLemmas.{own-same}
 use Rattle.pm_commit.proofs.StillLemmas.{OwnFiles}
 
-all-at : (P : CommitFile → Type 0) (before after : List CommitFile) (file : CommitFile) → AllByRecursion P (before ++ file ∷ after) → P file
+pub all-at : (P : CommitFile → Type 0) (before after : List CommitFile) (file : CommitFile) → AllByRecursion P (before ++ file ∷ after) → P file
 all-at P [] after file all = all.0
 all-at P (other ∷ before) after file all = all-at P before after file all.1
 

@@ -34,8 +34,8 @@ use Rattle.pm_machine.proofs.PhaseFacts.{both_if}
 use Rattle.pm_read_table.proofs.Facts.{Joined, OneList}
 use Rattle.pm_commit.specs.Alone.{with_entry}
 use Rattle.pm_commit.specs.Committer.{After, AfterPutter, AfterReader, Goes, IsCommitter, Loses, Outcome, Reads, Refuses, Stops, Tries, first_of_try, found_in, manifests_call, newest_of, next_call}
-use Rattle.pm_commit.specs.Meaning.{HasOrigin, IsFoundIn, Knows, KnowsIn, KnowsOwn, KnowsTry, MakesEntry, MakesOwn}
-use Rattle.pm_commit.specs.Own.{IsOwn, IsTried, OwnView, begun, with_lost}
+use Rattle.pm_commit.specs.Meaning.{HasGiven, HasOrigin, IsFoundIn, Knows, KnowsIn, KnowsOwn, KnowsTry, MakesEntry, MakesOwn}
+use Rattle.pm_commit.specs.Own.{IsOwn, IsTried, MayView, OwnView, begun, with_lost}
 use Rattle.pm_commit.specs.Search.{seen_of}
 use Rattle.pm_put.proofs.Facts as put_facts
 use Rattle.pm_put.proofs.Facts.{created_absent}
@@ -56,7 +56,8 @@ use Rattle.pm_commit.proofs.FoundLemmas.{LiveEntries}
 use Rattle.pm_commit.proofs.KnownLemmas.{begun-known, count-bound, hears-known, lost-known, makes-known, tries-known, view-within}
 use Rattle.pm_commit.proofs.OriginLemmas.{origin-on}
 use Rattle.pm_commit.proofs.OutcomeLemmas.{err-ok, ok-same, read-on}
-use Rattle.pm_commit.proofs.PublishLemmas.{AppendsTry, IsNewest, NamesNone, own-same, publish-makes, published-whole}
+use Rattle.pm_commit.proofs.GivenLemmas.{gave-on}
+use Rattle.pm_commit.proofs.PublishLemmas.{AppendsTry, CompactLaws, IsNewest, NamesNone, own-same, publish-makes, published-whole}
 use Rattle.pm_commit.proofs.ReadsLemmas.{EntriesRead, reads-on}
 
 -- what the laws of lower crates say
@@ -71,6 +72,7 @@ pub record Laws : Type 0 where
   pub newest : IsNewest
   pub unnamed : NamesNone
   pub append : AppendsTry
+  pub compact : CompactLaws
   pub own_files : OwnFiles
 
 -- ---- what its calls may change
@@ -120,39 +122,40 @@ module _ (laws : Laws) (e : Entry) where
 
   -- the publish appends, or leaves the history
   publish-changes : (own : OwnView) (s : TableSchema) (id : ℕ) (x : Publishing) (f : Files) (p : Past) → Stands f p → IsTried s own → KnowsOwn own e s p
-      → KnowsTry own e s id (puts.Publish x) f p → Changes (MakesOwn own e) (publish_call x) f p
-  publish-changes own s id x f p stands tried known is_try effect =
-      publish-makes laws.one laws.same laws.paths laws.live laws.newest laws.unnamed laws.append own e s id x f p stands tried known is_try
+      → KnowsTry own e s id (puts.Publish x) f p → HasGiven (phases.Put own s id (puts.Publish x)) f p → Changes (MakesOwn own e) (publish_call x) f p
+  publish-changes own s id x f p stands tried known is_try gave effect =
+      publish-makes laws.one laws.same laws.paths laws.live laws.newest laws.unnamed laws.append laws.compact own e s id x f p stands tried known is_try gave
       (after_effect (publish_call x) effect f) (put_facts.call_makes (puts.Publish x) f effect)
 
-  pub changes-on : (m : Phase) (f : Files) (p : Past) → Stands f p → IsCommitter m → KnowsIn e m f p → IfSome (next_call m) (λ call. Changes (MakesEntry e m) call f p)
+  pub changes-on : (m : Phase) (f : Files) (p : Past) → Stands f p → IsCommitter m → KnowsIn e m f p → HasGiven m f p
+      → IfSome (next_call m) (λ call. Changes (MakesEntry e m) call f p)
   changes-on m f p stands =
-      by-publish (λ m. IsCommitter m → KnowsIn e m f p → IfSome (next_call m) (λ call. Changes (MakesEntry e m) call f p))
-      (λ own s id x is known. publish-changes own s id x f p stands is.0 known.0 known.1)
-      (λ m calm is known. IfSome_then (next_call m) (makes-on m f p calm stands is known) (λ call makes effect. (p, makes effect))) m
+      by-publish (λ m. IsCommitter m → KnowsIn e m f p → HasGiven m f p → IfSome (next_call m) (λ call. Changes (MakesEntry e m) call f p))
+      (λ own s id x is known gave. publish-changes own s id x f p stands is.0 known.0 known.1 gave)
+      (λ m calm is known gave. IfSome_then (next_call m) (makes-on m f p calm stands is known) (λ call makes effect. (p, makes effect))) m
 
   -- ---- what it knows
 
   -- the try goes on with its view once that is ready
-  ready-known : (own : OwnView) (s : TableSchema) (v : View) (new : Phase) (f g : Files) (p : Past) → Stands f p → Reads (readers.Ready v) s → IsOwn s own
+  ready-known : (own : OwnView) (s : TableSchema) (v : View) (new : Phase) (f g : Files) (p : Past) → Stands f p → Reads (readers.Ready v) s → IsOwn s own → MayView own
       → KnowsOwn own e s p → reader_meaning.Knows (readers.Ready v) g p → HasOrigin (readers.Ready v) → Tries (begun v.id own) v (Ok new) → KnowsIn e new g p
-  ready-known own s v new f g p stands reads own_of known (is_table, stood, sought) origin tried =
+  ready-known own s v new f g p stands reads own_of may known (is_table, stood, sought) origin tried =
       let same = ready-schema v s reads in
       let within = view-within p v stood in
       let most = count-bound f p s stands known.is_table in
       let begun_of : IsOwn v.schema (begun v.id own) = subst (λ (t : TableSchema). IsOwn t (begun v.id own)) (sym same) (begun-own s own v.id own_of) in
       let begun_is : KnowsOwn (begun v.id own) e v.schema p =
       subst (λ (t : TableSchema). KnowsOwn (begun v.id own) e t p) (sym same)
-      (begun-known e s p own v.id within (omega (arith, within, most)) known) in
+      (begun-known e s p own v.id within (omega (arith, within, most)) may known) in
       let wanted = ap (λ (a : Asked). a.wanted) (asked-same (asked_of v.schema v.wanted) (newest_of s) reads.asked) in
       let is_found : IsFoundIn p (found_in v) = record { view = v; is = refl; wanted = wanted; stood = stood; origin = origin } in
       tries-known e g p (begun v.id own) v new begun_of begun_is is_found tried
 
-  reader-known : (own : OwnView) (s : TableSchema) (m : view_phase.Phase) (new : Phase) (f g : Files) (p : Past) → Stands f p → Reads m s → IsOwn s own
+  reader-known : (own : OwnView) (s : TableSchema) (m : view_phase.Phase) (new : Phase) (f g : Files) (p : Past) → Stands f p → Reads m s → IsOwn s own → MayView own
       → KnowsOwn own e s p → reader_meaning.Knows m g p → HasOrigin m → AfterReader own m (Ok new) → KnowsIn e new g p
-  reader-known own s m new f g p stands reads own_of known reading origin on =
+  reader-known own s m new f g p stands reads own_of may known reading origin on =
       read-on (λ (o : Outcome). IfOk o (λ m. KnowsIn e m g p)) (λ m. Reads m s × reader_meaning.Knows m g p × HasOrigin m) own (Ok new)
-      (λ v has on. ready-known own s v new f g p stands has.0 own_of known has.1 has.2 on) (λ m none has. (s, has.0, known, has.1, has.2)) m (reads, reading, origin) on
+      (λ v has on. ready-known own s v new f g p stands has.0 own_of may known has.1 has.2 on) (λ m none has. (s, has.0, known, has.1, has.2)) m (reads, reading, origin) on
 
   -- its putter goes on
   pub next-on : (own : OwnView) (s : TableSchema) (id : ℕ) (x : Publishing) (files : List CommitFile) (to : put_phase.Phase) (new : Phase)
@@ -177,14 +180,14 @@ module _ (laws : Laws) (e : Entry) where
 
   -- the reader of its view went on
   view-keeps : (own : OwnView) (s t : TableSchema) (m to : view_phase.Phase) (new : Phase) (f after : Files) (p : Past) → Stands f p
-      → (answer : Answer) → reader.Goes m answer to → AfterReader own to (Ok new) → Reads m s → Reads m t → IsOwn t own → KnowsOwn own e s p
+      → (answer : Answer) → reader.Goes m answer to → AfterReader own to (Ok new) → Reads m s → Reads m t → IsOwn t own → MayView own → KnowsOwn own e s p
       → Leads IsKept (reader_meaning.Knows to) f p after → HasOrigin to → Keeps own new f p after
-  view-keeps own s t m to new f after p stands answer goes on reads reads_t own_of known (later, kept, reading) origin =
+  view-keeps own s t m to new f after p stands answer goes on reads reads_t own_of may known (later, kept, reading) origin =
       let same : t ≡ s = ap (λ (a : Asked). a.schema) (asked-same (newest_of t) (newest_of s) (sym reads_t.asked ∙ reads.asked)) in
       let reading_at : reader_meaning.Knows to after p = subst (λ (q : Past). reader_meaning.Knows to after q) kept.past reading in (
         own-same own e f after p kept.files,
         reader-known own s to new f after p stands (reads-on laws.read s m answer to reads goes).reads (subst (λ (u : TableSchema). IsOwn u own) same own_of)
-            known reading_at origin on,
+            may known reading_at origin on,
       )
 
   abbrev pub KeepsAt : Phase → Phase → Files → Past → Files → Type 0
@@ -195,8 +198,8 @@ module _ (laws : Laws) (e : Entry) where
       → KnowsIn e m f p → IfSome (next_call m) (λ call. Answers call answer f → KeepsAt m new f p (carried call f))
   keeps-on (phases.Names own s) (answers.Listed names) new f p calm (none, is) stands committer known = λ told.
       keeps-still own new f (carried manifests_call f) p (list_effect (codes "manifest") effects.Whole f) (first-known own s new f p known is)
-  keeps-on (phases.View own m) answer new f p calm (to, goes, after) stands (left, (t, reads_t, own_of)) (s, reads, known, reading, origin) =
-      both_if (reader.next_call m) _ _ _ (λ call leads has told. view-keeps own s t m to new f (carried call f) p stands answer goes after reads reads_t own_of known (leads told) (has told))
+  keeps-on (phases.View own m) answer new f p calm (to, goes, after) stands (left, (t, reads_t, own_of), may) (s, reads, known, reading, origin) =
+      both_if (reader.next_call m) _ _ _ (λ call leads has told. view-keeps own s t m to new f (carried call f) p stands answer goes after reads reads_t own_of may known (leads told) (has told))
       ((reader_facts.sound laws.joined laws.lists).went m to answer f p goes stands reading)
       (origin-on f p s m answer to stands reads reading origin goes)
   keeps-on (phases.Search own q) (answers.Found None) new f p calm on stands (may, few, ids) (known, is_found) = λ told.
@@ -240,11 +243,12 @@ module _ (laws : Laws) (e : Entry) where
   pub published-leads : (own : OwnView) (s : TableSchema) (id : ℕ) (x : Publishing) (new : Phase) (f : Files) (p : Past)
       → ◌≡◌ {A = Outcome} (Ok new) (Ok (phases.Committed own.author id))
       → Stands f p → IsTried s own → KnowsOwn own e s p → KnowsTry own e s id (puts.Publish x) f p
-      → Answers (publish_call x) (answers.Published published.Created) f
+      → HasGiven (phases.Put own s id (puts.Publish x)) f p → Answers (publish_call x) (answers.Published published.Created) f
       → Leads (MakesOwn own e) (λ g q. KnowsIn e new g q × (q.history ≡ with_entry e p.history)
       × (id ≡ count_of p.history + 1)) f p (carried (publish_call x) f)
-  published-leads own s id x new f p is stands tried known is_try told =
-      let all = published-whole laws.one laws.same laws.paths laws.live laws.newest laws.unnamed laws.append own e s id x f p stands tried known is_try told in
+  published-leads own s id x new f p is stands tried known is_try gave told =
+      let all = published-whole laws.one laws.same laws.paths laws.live laws.newest laws.unnamed laws.append laws.compact own e s id x f p stands tried known is_try gave
+      told in
       (all.0, all.1, (subst (λ (m : Phase). KnowsIn e m (carried (publish_call x) f) all.0) (sym (ok-same new _ is)) all.2, all.3.0, all.3.1))
 
   leads-at : (own : OwnView) (new : Phase) (f after : Files) (p : Past) → Keeps own new f p after → Leads (MakesOwn own e) (KnowsIn e new) f p after
@@ -252,31 +256,36 @@ module _ (laws : Laws) (e : Entry) where
 
   publish-leads : (own : OwnView) (s : TableSchema) (id : ℕ) (x : Publishing) (answer : Answer) (new : Phase) (f : Files) (p : Past)
       → After (phases.Put own s id (puts.Publish x)) answer (Ok new) → Stands f p → IsTried s own → KnowsOwn own e s p × KnowsTry own e s id (puts.Publish x) f p
-      → Answers (publish_call x) answer f → Leads (MakesOwn own e) (KnowsIn e new) f p (carried (publish_call x) f)
-  publish-leads own s id x (answers.Published published.Created) new f p (to, goes, on) stands tried (known, is_try) told =
-      let leads = published-leads own s id x new f p (putter-at own s id to puts.Published (Ok new) goes on) stands tried known is_try told in
+      → HasGiven (phases.Put own s id (puts.Publish x)) f p → Answers (publish_call x) answer f → Leads (MakesOwn own e) (KnowsIn e new) f p (carried (publish_call x) f)
+  publish-leads own s id x (answers.Published published.Created) new f p (to, goes, on) stands tried (known, is_try) gave told =
+      let leads = published-leads own s id x new f p (putter-at own s id to puts.Published (Ok new) goes on) stands tried known is_try gave told in
       (leads.0, leads.1, leads.2.0)
-  publish-leads own s id x (answers.Published published.Exists) new f p (to, goes, on) stands tried (known, is_try) told =
+  publish-leads own s id x (answers.Published published.Exists) new f p (to, goes, on) stands tried (known, is_try) gave told =
       leads-at own new f (carried (publish_call x) f) p
       (lost-leads own s id x published.Exists new f p tt (putter-at own s id to puts.Lost (Ok new) goes on) known told)
-  publish-leads own s id x (answers.Published published.AfterGone) new f p (to, goes, on) stands tried (known, is_try) told =
+  publish-leads own s id x (answers.Published published.AfterGone) new f p (to, goes, on) stands tried (known, is_try) gave told =
       leads-at own new f (carried (publish_call x) f) p
       (lost-leads own s id x published.AfterGone new f p tt (putter-at own s id to puts.Lost (Ok new) goes on) known told)
-  publish-leads own s id x answer new f p (to, goes, on) stands tried known told = absurd goes
+  publish-leads own s id x answer new f p (to, goes, on) stands tried known gave told = absurd goes
 
-  leads-on : (m : Phase) (answer : Answer) (new : Phase) (f : Files) (p : Past) → After m answer (Ok new) → Stands f p → IsCommitter m → KnowsIn e m f p
+  leads-on : (m : Phase) (answer : Answer) (new : Phase) (f : Files) (p : Past) → After m answer (Ok new) → Stands f p → IsCommitter m → KnowsIn e m f p → HasGiven m f p
       → IfSome (next_call m) (λ call. Answers call answer f → Leads (MakesEntry e m) (KnowsIn e new) f p (carried call f))
   leads-on m answer new f p after stands =
-      by-publish (λ m. After m answer (Ok new) → IsCommitter m → KnowsIn e m f p
+      by-publish (λ m. After m answer (Ok new) → IsCommitter m → KnowsIn e m f p → HasGiven m f p
       → IfSome (next_call m) (λ call. Answers call answer f → Leads (MakesEntry e m) (KnowsIn e new) f p (carried call f)))
-      (λ own s id x after is known. publish-leads own s id x answer new f p after stands is.0 known)
-      (λ m calm after is known. IfSome_then (next_call m) (keeps-on m answer new f p calm after stands is known)
+      (λ own s id x after is known gave. publish-leads own s id x answer new f p after stands is.0 known gave)
+      (λ m calm after is known gave. IfSome_then (next_call m) (keeps-on m answer new f p calm after stands is known)
       (λ call keeps told. (let kept = keeps told in (p, kept.0, kept.1)))) m after
 
   -- ---- a machine
 
+  -- what it was given is there after a call
+  pub gave-after : (m : Phase) (answer : Answer) (new : Phase) (f after : Files) (p q : Past) → Stands f p → IsCommitter m → KnowsIn e m f p → HasGiven m f p
+      → After m answer (Ok new) → MakesEntry e m f p after q → HasGiven new after q
+  gave-after m answer new f after p q = gave-on laws.compact.stays laws.compact.given laws.own_files e m answer new f after p q
+
   over-knows : (new : Phase) (f : Files) (p : Past) → new ≡ phases.Over → Knows e new f p
-  over-knows new f p over = subst (λ (m : Phase). Knows e m f p) (sym over) (tt, tt)
+  over-knows new f p over = subst (λ (m : Phase). Knows e m f p) (sym over) (tt, tt, ([], tt))
 
   over-leads : (m new : Phase) (call : Call) (f : Files) (p : Past) (effect : Effect) → new ≡ phases.Over → Changes (MakesEntry e m) call f p
       → Leads (MakesEntry e m) (Knows e new) f p (after_effect call effect f)
@@ -286,12 +295,20 @@ module _ (laws : Laws) (e : Entry) where
 
   pub sound : Sound next_call Goes Refuses Stops Stands (MakesEntry e) (Knows e)
   sound = record {
-    changes = λ m f p stands known. changes-on m f p stands known.0 known.1;
-    went = λ m new answer f p goes stands known. IfSome_then (next_call m) (leads-on m answer new f p goes stands known.0 known.1)
-        (λ call leads told. (let led = leads told in (led.0, led.1, (still-committer laws.read m answer new known.0 goes, led.2))));
-    refused = λ m new answer refusal f p refuses stands known. IfSome_then (next_call m) (changes-on m f p stands known.0 known.1)
+    changes = λ m f p stands known. changes-on m f p stands known.0 known.1 known.2;
+    went = λ m new answer f p goes stands known. IfSome_then (next_call m) (leads-on m answer new f p goes stands known.0 known.1 known.2)
+        (λ call leads told. (let led = leads told in (
+          led.0,
+          led.1,
+          (
+            still-committer laws.read m answer new known.0 goes,
+            led.2,
+            gave-after m answer new f (carried call f) p led.0 stands known.0 known.1 known.2 goes led.1,
+          ),
+        )));
+    refused = λ m new answer refusal f p refuses stands known. IfSome_then (next_call m) (changes-on m f p stands known.0 known.1 known.2)
         (λ call changes told. over-leads m new call f p effects.Whole refuses.1 changes);
-    failed = λ m new effect f p stops stands known. IfSome_then (next_call m) (changes-on m f p stands known.0 known.1)
+    failed = λ m new effect f p stops stands known. IfSome_then (next_call m) (changes-on m f p stands known.0 known.1 known.2)
         (λ call changes may. over-leads m new call f p effect stops changes);
     stopped = λ m new f p called stops stands known. over-knows new f p stops;
   }

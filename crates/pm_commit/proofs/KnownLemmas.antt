@@ -1,5 +1,5 @@
 -- What a committer knows after an answer.
-use Rattle.std.proofs.Common.{◌≡◌, inr, ℕ, ◌+◌, ◌^◌, ◌<◌, ◌≤◌, List, length, Ok, IfOk, refl, sym, ap, ◌∙◌, subst, arith}
+use Rattle.std.proofs.Common.{◌≡◌, inr, ℕ, ◌+◌, ◌^◌, ◌<◌, ◌≤◌, List, length, None, Ok, IfOk, refl, sym, ap, ◌∙◌, subst, arith}
 use Rattle.pm_store.specs.Files.{Files}
 use Rattle.pm_model_history.specs.History.{Entry, History, IsTableOf, no_table, table}
 use Rattle.pm_schema.specs.declared.schema.TableSchema.{TableSchema}
@@ -9,17 +9,22 @@ use Rattle.pm_model_folder.specs.Ledger.{Past, Stands, count_of}
 use Rattle.pm_read_table.specs.Meaning.{IsViewIn, view_origin, view_snapshot}
 use Rattle.pm_read_table.specs.declared.view.View.{View}
 use Rattle.pm_made.specs.Commit.{Attempt}
+use Rattle.pm_made.specs.Files.{IsMadeOf}
+use Rattle.pm_made.specs.Intent.{most_files}
+use Rattle.pm_made.specs.Refusals.{refusal_of}
 use Rattle.pm_made.specs.declared.newest.Author.{Author}
-use Rattle.pm_commit.specs.Committer.{Hears, Makes, Outcome, Tries, found_in, put_of}
+use Rattle.pm_made.specs.declared.newest.Made.{Made}
+use Rattle.pm_commit.specs.Committer.{Hears, Makes, Outcome, Tries, first_of_put, found_in, put_of}
 use Rattle.pm_commit.specs.Meaning.{AreThere, HasEarlier, IsFoundIn, KnowsIn, KnowsOwn}
-use Rattle.pm_commit.specs.Own.{IsOwn, OwnView, begun, with_lost, with_named}
+use Rattle.pm_commit.specs.Own.{IsOwn, MayView, OwnView, begun, with_lost, with_named}
 use Rattle.pm_commit.specs.Search.{older_ids, seen_in}
 use Rattle.pm_commit.specs.declared.search.Seen.{Seen}
 use Rattle.pm_commit.specs.declared.search.Seen.TheVariants as seen
 use Rattle.pm_commit.specs.declared.found.Found.{Found}
 use Rattle.pm_put.proofs.Facts.{at_first}
 use Rattle.pm_commit.specs.declared.phase.Phase.{Phase}
-use Rattle.pm_commit.proofs.CommitterLemmas.{begun-at, made-tried}
+use Rattle.pm_commit.proofs.CommitterLemmas.{begun-first}
+use Rattle.pm_commit.proofs.MadeLemmas.{made-few}
 use Rattle.pm_commit.proofs.OutcomeLemmas.{heard, tried}
 use Rattle.pm_commit.proofs.OwnLemmas.{based-means}
 
@@ -36,11 +41,11 @@ count-bound f p s stands is = at p.history is stands.folder
 -- ---- what is known of a commit
 
 module _ (e : Entry) (s : TableSchema) (p : Past) where
-  pub begun-known : (own : OwnView) (n : ℕ) → n ≤ count_of p.history → n ≤ greatest → KnowsOwn own e s p → KnowsOwn (begun n own) e s p
-  begun-known own n within bound known = begun-at (λ o. KnowsOwn o e s p) own n known (record {
+  pub begun-known : (own : OwnView) (n : ℕ) → n ≤ count_of p.history → n ≤ greatest → MayView own → KnowsOwn own e s p
+      → KnowsOwn (begun n own) e s p
+  begun-known own n within bound may known = begun-first (λ o. KnowsOwn o e s p) own n known (λ first. record {
     is_table = known.is_table;
-    appends = known.appends;
-    means = based-means s own.author n own.intent e known.appends known.means;
+    means = based-means s own.author n own.intent e (may first) known.means;
     may = record {
       is_maker = record {
         sixteen = known.may.is_maker.sixteen;
@@ -59,7 +64,6 @@ module _ (e : Entry) (s : TableSchema) (p : Past) where
   pub named-known : (own : OwnView) (count : ℕ) → count < 2 ^ 64 → KnowsOwn own e s p → KnowsOwn (with_named count own) e s p
   named-known own count bound known = record {
     is_table = known.is_table;
-    appends = known.appends;
     means = known.means;
     may = record {
       is_maker = record {
@@ -79,7 +83,6 @@ module _ (e : Entry) (s : TableSchema) (p : Past) where
   pub lost-known : (own : OwnView) (id : ℕ) → KnowsOwn own e s p → KnowsOwn (with_lost id own) e s p
   lost-known own id known = record {
     is_table = known.is_table;
-    appends = known.appends;
     means = known.means;
     may = known.may;
     unnamed = known.unnamed;
@@ -89,36 +92,38 @@ module _ (e : Entry) (s : TableSchema) (p : Past) where
 -- ---- what a try leads to
 
 module _ (e : Entry) (f : Files) (p : Past) where
-  pub makes-known : (own : OwnView) (found : Found) (later : Phase) → IsOwn found.schema own → KnowsOwn own e found.schema p → IsFoundIn p found
-      → Makes own found (Ok later) → KnowsIn e later f p
-  makes-known own found later own_of known is_found (made, is_made, allowed, is) =
-      let tried = made-tried own found made is_made own_of in
-      let named = own_of.named in
-      let within = own_of.within in
-      let count = tried.named in
+  -- the files of a try are yet to be put
+  pub made-known : (own : OwnView) (found : Found) (made : Made) (later : Phase) → own.names.base ≡ own.author.base
+      → own.names.count + most_files own.intent < 2 ^ 64 → KnowsOwn own e found.schema p → IsFoundIn p found
+      → IsMadeOf found.schema found.newest own.author own.intent own.names made → refusal_of found.newest own.author own.intent ≡ None
+      → later ≡ first_of_put own found.schema made → KnowsIn e later f p
+  made-known own found made later based room known is_found is_made allowed is =
+      let few = made-few found.schema found.newest own.author own.intent own.names made is_made in
       let attempt : Attempt = record { intent = own.intent; author = own.author; newest = found.newest; names = own.names; made = made } in
       let total : ℕ = own.names.count + length made.files.items in
       let next : OwnView = with_named total own in
       subst (λ (m : Phase). KnowsIn e m f p) (sym is) (
-        named-known e found.schema p own total (omega (arith, count, within)) known,
+        named-known e found.schema p own total (omega (arith, few, room)) known,
         record {
           attempt = attempt;
           same_intent = refl;
           same_author = refl;
           found = is_found;
-          names = record {
-            session = refl;
-            actor = refl;
-            based = own_of.same_base;
-            may = known.may;
-            room = (let few = own_of.few in omega (arith, named, within, few));
-          };
+          names = record { session = refl; actor = refl; based = based; may = known.may; room = room };
           made = is_made;
           allowed = allowed;
           is = refl;
           put = at_first (put_of found.schema made) (AreThere next f p) (inr tt);
         },
       )
+
+  pub makes-known : (own : OwnView) (found : Found) (later : Phase) → IsOwn found.schema own → KnowsOwn own e found.schema p → IsFoundIn p found
+      → Makes own found (Ok later) → KnowsIn e later f p
+  makes-known own found later own_of known is_found (made, is_made, allowed, is) =
+      let named = own_of.named in
+      let within = own_of.within in
+      let few = own_of.few in
+      made-known own found made later own_of.same_base (omega (arith, named, within, few)) known is_found is_made allowed is
 
   -- the newest snapshot is an earlier commit of the author's
   newest-earlier : (author : Author) (v : View) → IsFoundIn p (found_in v) → seen_in author v.snapshot ≡ seen.Reached → HasEarlier author p

@@ -6,6 +6,7 @@ mod AloneCauseLemmas
 mod AloneLemmas
 mod ApartLemmas
 mod BatchLemmas
+mod BeginLemmas
 mod CauseLemmas
 mod CommittedLemmas
 mod CommitterLemmas
@@ -14,6 +15,7 @@ mod Facts
 mod FailLemmas
 mod FenceLemmas
 mod FoundLemmas
+mod GivenLemmas
 mod GrowLemmas
 mod KnownLemmas
 mod MadeLemmas
@@ -24,6 +26,7 @@ mod OriginLemmas
 mod OutcomeLemmas
 pub mod OwnLemmas
 mod PathLemmas
+mod PhaseLemmas
 mod PublishLemmas
 mod ReadsLemmas
 mod StepLemmas

@@ -52,7 +52,7 @@ use Rattle.pm_commit.specs.Committer.{newest_of, next_call, put_of}
 use Rattle.pm_commit.specs.Marks.{FindsUsed, HaveNone, mark_of}
 use Rattle.pm_commit.specs.Own.{AreAlike, AreAlikeFor, OwnView, begun, begun_after, counts_of, tries}
 use Rattle.pm_commit.specs.Search.{older_ids, seen_in, seen_of}
-use Rattle.pm_commit.specs.Trace.{AfterLost, Commits, DidSoFar, FindsDone, FindsReason, HasListed, HasSearch, HasTry, HaveLost, HavePassed, IsUsed, LosesLast, LosesTry, MayCommit, MeetsFile, Meets, Misreads, Searched, ShowsOwn, Views, at_newest, at_older, has_begun, has_lost, is_absent, is_below, is_none, listed_manifests, lost_by, not_asked}
+use Rattle.pm_commit.specs.Trace.{AfterLost, Commits, DidSoFar, FindsDone, FindsReason, HasListed, HasSearch, HasTry, HaveLost, HavePassed, LosesLast, LosesTry, MayCommit, MeetsFile, Meets, Misreads, Searched, ShowsOwn, Views, at_newest, at_older, has_begun, has_lost, is_absent, is_below, is_none, listed_manifests, lost_by, not_asked}
 use Rattle.pm_commit.specs.declared.all_calls.Appended.{Appended}
 use Rattle.pm_commit.specs.declared.all_calls.Appended.TheVariants as appends
 use Rattle.pm_commit.specs.declared.search.Seen.{Seen}
@@ -658,7 +658,7 @@ module _ (laws : view.OneLaws) (s : TableSchema) where
             let l = left_of o earlier gone in
             of_tries l.names (l.rest ++ later) l.unused (is ∙ ap (λ (own : List Event). own ++ later) l.is) (l.follows later (Err e) (refused_at e m refl lead refused))
 
-    used_shown : (path : List ℕ) (own : List Event) → IsUsed s first path own → IsShown (Err (refusals.SessionUsed path)) own
+    used_shown : (path : List ℕ) (own : List Event) → ShowsOwn s first (refusals.SessionUsed path) own → IsShown (Err (refusals.SessionUsed path)) own
     used_shown path own (inl (names, used, is)) = of_names names path used is refl
     used_shown path own (inr after) = by_tries (Err (refusals.SessionUsed path)) own (MeetsFile s path) after (meets_file path)
 

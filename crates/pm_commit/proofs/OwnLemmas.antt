@@ -1,11 +1,13 @@
 -- What a commit is for.
-use Rattle.std.proofs.Common.{◌≡◌, ◌≢◌, ℕ, ◌+◌, Bool, true, false, if◌then◌else◌, List, [], length, Option, None, Some, sym, refl, subst}
+use Rattle.std.proofs.Common.{◌≡◌, ◌≢◌, ℕ, ◌+◌, Bool, true, false, if◌then◌else◌, List, [], length, Option, None, Some, sym, subst}
 use Rattle.std.specs.List.{AllByRecursion}
 use Rattle.pm_values.specs.declared.refusal.Refusal.{Refusal}
 use Rattle.pm_values.specs.declared.refusal.Refusal.TheVariants as refusals
 use Rattle.pm_model_history.specs.History.{Entry}
 use Rattle.pm_schema.specs.declared.schema.TableSchema.{TableSchema}
-use Rattle.pm_model_folder.specs.Changes.{HavePlainNames}
+use Rattle.pm_model_folder.specs.Changes.{Actor, HavePlainNames}
+use Rattle.pm_model_folder.specs.Ledger.{Past}
+use Rattle.pm_put.specs.declared.putting.CommitFile.{CommitFile}
 use Rattle.pm_write.specs.Batch.{Groups}
 use Rattle.pm_write.specs.Files.{no_sequence}
 use Rattle.pm_made.specs.Intent.{Means, ProducesNone}
@@ -15,15 +17,16 @@ use Rattle.pm_made.specs.declared.intent.Intent.TheVariants as intents
 use Rattle.pm_made.specs.declared.newest.Author.{Author}
 use Rattle.pm_made.specs.declared.newest.Newest.{Newest}
 use Rattle.pm_append.specs.Commit.{IsBuilt}
+use Rattle.pm_commit.specs.Meaning.{PlannedIn}
 use Rattle.pm_commit.specs.Own.{IsAppend, IsNoAppend}
 
 -- ---- an append
 
--- it has a batch
-pub batch-in : (intent : Intent) → IsAppend intent → (batch : Groups) × (intent ≡ intents.Append batch)
-batch-in (intents.Append batch) is = (batch, refl)
-batch-in (intents.Compact plan) is = absurd is
-batch-in (intents.Fence number) is = absurd is
+-- it was given no files of rows
+pub append-planned : (intent : Intent) (me : Actor) (base : ℕ) (given : List CommitFile) (p : Past) → IsAppend intent → given ≡ [] → PlannedIn intent me base given p
+append-planned (intents.Append batch) me base given p is none = none
+append-planned (intents.Compact plan) me base given p is none = absurd is
+append-planned (intents.Fence number) me base given p is none = absurd is
 
 -- its entry is the same with another base
 pub based-means : (s : TableSchema) (author : Author) (base : ℕ) (intent : Intent) (e : Entry) → IsAppend intent → Means s author intent e

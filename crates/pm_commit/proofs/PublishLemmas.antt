@@ -9,10 +9,10 @@ use Rattle.pm_store.specs.declared.answer.Answer.TheVariants as answers
 use Rattle.pm_store.specs.declared.answer.Published.TheVariants as published
 use Rattle.pm_store.proofs.ChangeLaws.{Answers-Changed}
 use Rattle.pm_values.specs.declared.group.Group.{Group}
-use Rattle.pm_model_history.specs.History.{Entry, History, IsTableOf, append, entry_rows, table}
+use Rattle.pm_model_history.specs.History.{Entry, History, IsTableOf, append, compaction, entry_rows, table}
 use Rattle.pm_schema.specs.declared.schema.TableSchema.{TableSchema}
 use Rattle.pm_snapshot.specs.Names.{greatest}
-use Rattle.pm_model_folder.specs.Changes.{Actor, IsNamedBy, NamesOwn, committed as commits}
+use Rattle.pm_model_folder.specs.Changes.{Actor, HavePlainNames, IsNamedBy, NamesOwn, committed as commits}
 use Rattle.pm_model_folder.specs.Commits.{IsCommit, Names}
 use Rattle.pm_model_folder.specs.Entries.{IsFenced}
 use Rattle.pm_model_folder.specs.Folder.{Folder, HasTable, IsEntryAfter}
@@ -25,18 +25,22 @@ use Rattle.pm_model_folder.proofs.LedgerFacts.{at-table, count-is}
 use Rattle.pm_read_table.specs.declared.view.View.{View}
 use Rattle.pm_write.specs.Batch.{Groups}
 use Rattle.pm_runs.specs.Succession.{KnownRun}
-use Rattle.pm_made.specs.Commit.{Attempt, IsAsMade, IsFoundAs}
+use Rattle.pm_made.specs.Commit as made
+use Rattle.pm_made.specs.Commit.{Attempt, AreOwnFiles, IsAsMade, IsFoundAs, IsFullWithin, IsNewestOf, MayChange, MayRaise}
 use Rattle.pm_made.specs.Files.{IsMadeOf}
-use Rattle.pm_made.specs.Intent.{AppendsBatch, Means, most_files}
+use Rattle.pm_made.specs.Intent.{AppendsBatch, IsEntryFor, IsMadeFor, Means, most_files}
 use Rattle.pm_made.specs.Refusals.{refusal_of}
 use Rattle.pm_made.specs.declared.intent.Intent.{Intent}
 use Rattle.pm_made.specs.declared.intent.Intent.TheVariants as intents
+use Rattle.pm_made.specs.declared.intent.Plan.{Plan}
 use Rattle.pm_made.specs.declared.newest.Author.{Author}
 use Rattle.pm_made.specs.declared.newest.Newest.{Newest}
+use Rattle.pm_compaction.specs.Compacted.{GoesOnWith, HasCompacted}
+use Rattle.pm_compaction.specs.Plan.{KnowsPlan}
 use Rattle.pm_append.specs.Commit.{Grows, HasAppended, IsReady, Try, attempt_of, entry_of}
 use Rattle.pm_commit.specs.Alone.{with_entry}
 use Rattle.pm_commit.specs.Committer.{after_path, newest_in, publishing_of}
-use Rattle.pm_commit.specs.Meaning.{BearsAdded, HasCommitted, HasEntry, KnowsOwn, KnowsTry, MakesOwn}
+use Rattle.pm_commit.specs.Meaning.{AreThere, BearsAdded, HasCommitted, HasEntry, HasGiven, KnowsOwn, KnowsTry, MakesOwn, PlannedIn}
 use Rattle.pm_commit.specs.Own.{IsTried, OwnView, actor_of}
 use Rattle.pm_commit.specs.declared.found.Found.{Found}
 use Rattle.pm_put.proofs.Facts.{published_absent, published_there}
@@ -44,14 +48,16 @@ use Rattle.pm_put.specs.Meaning as put
 use Rattle.pm_put.specs.Meaning.{IsPut}
 use Rattle.pm_put.specs.Putter.{publish_call}
 use Rattle.pm_put.specs.declared.phase.Phase.TheVariants as putters
+use Rattle.pm_put.specs.declared.putting.CommitFile.{CommitFile}
 use Rattle.pm_put.specs.declared.putting.Publishing.{Publishing}
-use Rattle.pm_commit.proofs.AdvanceLemmas.{GoesWith, NamedPaths, append-advances, later_past, same-advances}
+use Rattle.pm_commit.specs.declared.phase.Phase.TheVariants as phases
+use Rattle.pm_commit.proofs.AdvanceLemmas.{GoesWith, NamedPaths, append-advances, later_past, one-table, same-advances}
 use Rattle.pm_commit.proofs.FenceLemmas.{newest-fence, not-fenced}
 use Rattle.pm_commit.proofs.FoundLemmas.{LiveEntries, found-there}
 use Rattle.pm_commit.proofs.GrowLemmas.{goes-with, new_runs}
 use Rattle.pm_commit.proofs.MadeLemmas.{allowed-id}
-use Rattle.pm_commit.proofs.OwnLemmas.{batch-in}
-use Rattle.pm_commit.proofs.StillLemmas.{found-still}
+use Rattle.pm_commit.proofs.OwnLemmas.{plain-names}
+use Rattle.pm_commit.proofs.StillLemmas.{OwnGiven, PlanStays, found-still}
 
 -- ---- what the laws of lower crates say
 
@@ -72,6 +78,26 @@ AppendsTry = (me : Actor) (f after : Files) (s : TableSchema) (entries : List En
     → IsCommit f after s entries (entry_of t) × NamesOwn me f after s (length entries)
     × IsAsMade after s (suc (length entries)) (attempt_of t) ready.made × HasAppended after s t.newest t.author (length t.rows)
     × ((g : Group) → Grows me f after s (length entries) g t.rows)
+
+-- a plan of a compaction, and a try by it
+pub record CompactLaws : Type 0 where
+  pub stays : PlanStays
+  pub given : OwnGiven
+  pub own : (me : Actor) (p : Past) (s : TableSchema) (t : Attempt) (plan : Plan) (given : List CommitFile) → HavePlainNames s
+      → KnowsPlan me s t.author.base plan given p → t.intent ≡ intents.Compact plan → AreOwnFiles me s t
+  pub full : (me : Actor) (f : Files) (p : Past) (s : TableSchema) (entries : List Entry) (newest : Newest) (base : ℕ) (plan : Plan) (given : List CommitFile)
+      → Stands f p → p.history ≡ table s entries → IsNewestOf f s entries newest → KnowsPlan me s base plan given p
+      → IsFullWithin newest.snapshot (intents.Compact plan)
+  pub change : (me : Actor) (f : Files) (p : Past) (s : TableSchema) (entries : List Entry) (base : ℕ) (t : Attempt) (plan : Plan) (given : List CommitFile)
+      → Stands f p → p.history ≡ table s entries → KnowsPlan me s base plan given p → t.intent ≡ intents.Compact plan
+      → (made : IsMadeOf s t.newest t.author t.intent t.names t.made) → MayChange s made.delta
+  pub compacts : (me : Actor) (f after : Files) (p : Past) (s : TableSchema) (entries : List Entry) (e : Entry) (t : Attempt) (plan : Plan) (given : List CommitFile)
+      → Stands f p → p.history ≡ table s entries → HasNamedNone me p → KnowsPlan me s t.author.base plan given p → AllByRecursion (IsPut f) given
+      → t.intent ≡ intents.Compact plan → (ready : made.IsReady me f s entries e t) → map.get f (snapshot_path (suc (length entries))) ≡ None
+      → Puts f (snapshot_path (suc (length entries))) (Some t.made.text) after
+      → IsEntryAfter s entries e × IsCommit f after s entries e × NamesOwn me f after s (length entries)
+      × IsAsMade after s (suc (length entries)) t ready.made × HasCompacted after s t.newest t.author plan
+      × ((g : Group) → GoesOnWith after s entries e p g)
 
 -- ---- nothing changes
 
@@ -101,8 +127,9 @@ before-there f s (suc k) origin there =
 -- ---- a try that is published
 
 module _ (one : OneContents) (same : SameContents) (paths : NamedPaths) (live_law : LiveEntries) (newest_law : IsNewest) (none_law : NamesNone) (append_law : AppendsTry)
-    (own : OwnView) (e : Entry) (s : TableSchema) (id : ℕ) (x : Publishing) (f : Files) (p : Past) (stands : Stands f p)
-    (tried : IsTried s own) (known : KnowsOwn own e s p) (is_try : KnowsTry own e s id (putters.Publish x) f p) where
+    (compact : CompactLaws) (own : OwnView) (e : Entry) (s : TableSchema) (id : ℕ) (x : Publishing) (f : Files) (p : Past) (stands : Stands f p)
+    (tried : IsTried s own) (known : KnowsOwn own e s p) (is_try : KnowsTry own e s id (putters.Publish x) f p)
+    (gave : HasGiven (phases.Put own s id (putters.Publish x)) f p) where
   abbrev t : Attempt
   t = is_try.attempt
 
@@ -160,14 +187,18 @@ module _ (one : OneContents) (same : SameContents) (paths : NamedPaths) (live_la
     found-here : IsFoundAs f s t.newest t.newest.snapshot
     found-here = found-there same live_law f p (record { schema = s; newest = t.newest }) stands is_try.found before
 
-    all-there : AllByRecursion (IsPut f) t.made.files.items
-    all-there = elim is_try.put.1 as (λ _. AllByRecursion (IsPut f) t.made.files.items) [
+    -- which has not fenced its base
+    there-all : (files : List CommitFile) → AreThere own f p files → AllByRecursion (IsPut f) files
+    there-all files there = elim there as (λ _. AllByRecursion (IsPut f) files) [
       | inl fenced ↦ absurd (not-fenced t.newest t.author t.intent s entries is_try.allowed
           (newest-fence f p s entries stands own-table.1 (record { schema = s; newest = t.newest }) is_try.found newest-is)
           (subst (λ (h : History). IsFenced t.author.base h) own-table.1
           (subst (λ (a : Author). IsFenced a.base p.history) (sym is_try.same_author) fenced)))
       | inr all ↦ all
     ]
+
+    all-there : AllByRecursion (IsPut f) t.made.files.items
+    all-there = there-all t.made.files.items is_try.put.1
 
     absent-next : map.get f (snapshot_path (suc (length entries))) ≡ None
     absent-next = subst (λ (n : ℕ). map.get f (snapshot_path n) ≡ None) next-is absent
@@ -180,6 +211,10 @@ module _ (one : OneContents) (same : SameContents) (paths : NamedPaths) (live_la
 
     bound : suc (length entries) ≤ greatest
     bound = let last = newest-is in let low = below in omega (arith, last, low)
+
+    names-none : (id : ℕ) (path : List ℕ) → 1 ≤ id → id ≤ length entries → Names f s id path → IsNamedBy (actor_of own) path → ⊥
+    names-none id path low high named by =
+        none_law (actor_of own) f p s id path stands known.is_table (let bound = own-table.2.snapshots.within in omega (arith, high, bound)) known.unnamed named by
 
     -- ---- by what it is for
 
@@ -234,8 +269,7 @@ module _ (one : OneContents) (same : SameContents) (paths : NamedPaths) (live_la
           room = subst (λ (intent : Intent). t.names.count + most_files intent < 2 ^ 64) intent-is is_try.names.room;
         };
         there = all-there;
-        unnamed = λ id path low high named by.
-            none_law (actor_of own) f p s id path stands known.is_table (let bound = own-table.2.snapshots.within in omega (arith, high, bound)) known.unnamed named by;
+        unnamed = names-none;
       }
 
       same-entry : entry_of appended ≡ e
@@ -259,8 +293,70 @@ module _ (one : OneContents) (same : SameContents) (paths : NamedPaths) (live_la
                 (goes-with same (actor_of own) f after p s entries user identifier (entry_rows e) stands own-table.1 known.unnamed newest-there holds g (all.4 g));
           }
 
+    -- a plan is compacted by
+    module _ (plan : Plan) (is_compact : own.intent ≡ intents.Compact plan) where
+      compacts-by : t.intent ≡ intents.Compact plan
+      compacts-by = is_try.same_intent ∙ is_compact
+
+      same-base : t.author.base ≡ own.author.base
+      same-base = ap (λ (a : Author). a.base) is_try.same_author
+
+      abbrev given : List CommitFile
+      given = gave.0
+
+      knows : KnowsPlan (actor_of own) s t.author.base plan given p
+      knows =
+          let planned : PlannedIn (intents.Compact plan) (actor_of own) own.author.base given p =
+          subst (λ (intent : Intent). PlannedIn intent (actor_of own) own.author.base given p) is_compact gave.1.0 in
+          subst (λ (base : ℕ). KnowsPlan (actor_of own) s base plan given p) (sym same-base)
+          (subst (λ (u : TableSchema). KnowsPlan (actor_of own) u own.author.base plan given p)
+          (one-table planned.0 s p.history planned.1.table known.is_table) planned.1)
+
+      entry-is : e ≡ compaction own.author.base plan.groups.items
+      entry-is = subst (λ (intent : Intent). Means s own.author intent e) is_compact known.means
+
+      by-try : e ≡ compaction t.author.base plan.groups.items
+      by-try = entry-is ∙ ap (λ (base : ℕ). compaction base plan.groups.items) (sym same-base)
+
+      plan-ready : made.IsReady (actor_of own) f s entries e t
+      plan-ready = record {
+        folder = own-table.2;
+        newest = record { id = newest-is; found = found-here };
+        means = subst (λ (intent : Intent). IsEntryFor t.author intent e) (sym compacts-by) by-try;
+        may_raise = subst (MayRaise entries) (sym compacts-by) tt;
+        made = is_try.made;
+        may_change = compact.change (actor_of own) f p s entries t.author.base t plan given stands own-table.1 knows compacts-by is_try.made;
+        allowed = is_try.allowed;
+        base = (let from = known.from in let same = same-base in let last = newest-is in let size = many in omega (arith, from, same, last, size));
+        full = subst (IsFullWithin t.newest.snapshot) (sym compacts-by)
+            (compact.full (actor_of own) f p s entries t.newest t.author.base plan given stands own-table.1 (record { id = newest-is; found = found-here }) knows);
+        maker = is_try.names;
+        own = compact.own (actor_of own) p s t plan given (plain-names s tried.built) knows compacts-by;
+        there = all-there;
+        unnamed = names-none;
+      }
+
+      compact-adds : Adds
+      compact-adds =
+          let all = compact.compacts (actor_of own) f after p s entries e t plan given stands own-table.1 known.unnamed knows (there-all given gave.1.1)
+          compacts-by plan-ready absent-next puts in
+          record {
+            follows = all.0;
+            commit = all.1;
+            names = all.2;
+            added = subst (BearsAdded after s t.newest own.author) (sym entry-is)
+                (plan, refl, refl, subst (λ (a : Author). HasCompacted after s t.newest a plan) is_try.same_author all.4);
+            runs = λ g. (all.5 g).runs;
+            goes = λ g. ((all.5 g).are, (all.5 g).follow);
+          }
+
     adds : Adds
-    adds = let appending = batch-in own.intent known.appends in append-adds appending.0 appending.1
+    adds = by own.intent refl
+      where
+        by : (intent : Intent) → own.intent ≡ intent → Adds
+        by (intents.Append batch) is = append-adds batch is
+        by (intents.Compact plan) is = compact-adds plan is
+        by (intents.Fence number) is = absurd (subst IsMadeFor is tried.made_for)
 
     -- ---- whatever it is for
 

@@ -4,8 +4,7 @@ use Rattle.pm_values.specs.declared.refusal.Refusal.{Refusal}
 use Rattle.pm_store.specs.Store.{StoreView}
 use Rattle.pm_store.specs.declared.answer.Answer.{Answer}
 use Rattle.pm_store.specs.declared.answer.Answer.TheVariants as answers
-use Rattle.pm_store.specs.declared.call.Call.{Call}
-use Rattle.pm_machine.specs.Step.{Answered, Stepped, Rested, Went, Refused, Stopped, Failed}
+use Rattle.pm_machine.specs.Step.{Stepped, Rested, Went, Refused, Stopped, Failed}
 use Rattle.pm_schema.specs.declared.schema.TableSchema.{TableSchema}
 use Rattle.pm_read_table.specs.Reader as reader
 use Rattle.pm_read_table.specs.Reader.{most}
@@ -176,22 +175,21 @@ putter-ahead own s id m puts.Lost answer new goes (left, is) =
     subst (λ (k : ℕ). IsAhead (k + later_tries own) new) on.2 (lost-ahead own s id new left is)
 putter-ahead own s id m to answer new goes is = let on = put_facts.goes m answer to goes in as-ahead own s id m to new on.0 on.1 is
 
-goes-ahead : EntriesRead → (m : Phase) (answer : Answer) (new : Phase) (call : Call) (before after : StoreView) → next_call m ≡ Some call → Answered call answer before after
-    → After m answer (Ok new) → IsCommitter m → IsAhead (calls_left m) new
-goes-ahead law (phases.Names own s) (answers.Listed names) new call before after at came (none, is) own_of =
+pub goes-ahead : EntriesRead → (m : Phase) (answer : Answer) (new : Phase) → After m answer (Ok new) → IsCommitter m → IsAhead (calls_left m) new
+goes-ahead law (phases.Names own s) (answers.Listed names) new (none, is) own_of =
     first-ahead own s new (1 + most_of_try own.intent + later_tries own) (next-more (most_of_try own.intent) (later_tries own)) is
-goes-ahead law (phases.View own m) answer new call before after at came (to, goes, on) (left, (s, reads, own_of)) =
+goes-ahead law (phases.View own m) answer new (to, goes, on) (left, (s, reads, own_of), may) =
     let ahead = reader_facts.goes_ahead m answer to goes in
     reader-ahead own s m to new own_of (reads-on law s m answer to reads goes).reads ahead.0 on
-goes-ahead law (phases.Search own q) (answers.Found None) new call before after at came on (may, few, ids) =
+goes-ahead law (phases.Search own q) (answers.Found None) new on (may, few, ids) =
     makes-ahead own q.found new (length q.left + 1 + (most_files own.intent + 1) + later_tries own) may.own_of
     (search-over (length q.left) (most_files own.intent) (later_tries own)) on
-goes-ahead law (phases.Search own q) (answers.Found (Some bytes)) new call before after at came (x, reads, on) (may, few, ids) =
+goes-ahead law (phases.Search own q) (answers.Found (Some bytes)) new (x, reads, on) (may, few, ids) =
     hears-ahead own q.found q.left (seen_of own.author x) new (length q.left + 1 + (most_files own.intent + 1) + later_tries own) may.own_of
     (search-over (length q.left) (most_files own.intent) (later_tries own))
     (λ id rest is few. search-next (length q.left) (length rest) (most_files own.intent) (later_tries own) (ap length is)) on
-goes-ahead law (phases.Put own s id m) answer new call before after at came (to, goes, on) known = putter-ahead own s id m to answer new goes on
-goes-ahead law m answer new call before after at came on known = absurd on
+goes-ahead law (phases.Put own s id m) answer new (to, goes, on) known = putter-ahead own s id m to answer new goes on
+goes-ahead law m answer new on known = absurd on
 
 reader-call : (r : view_phase.Phase) → 0 < reader.calls_left r → IsSome (reader.next_call r)
 reader-call (readers.Ready v) left = absurd (let none : 0 < 0 = left in omega (arith, none))
@@ -199,9 +197,9 @@ reader-call readers.Over left = absurd (let none : 0 < 0 = left in omega (arith,
 reader-call r left = refl
 
 -- a committer with calls left has a next one
-has-call : (m : Phase) → IsCommitter m → 0 < calls_left m → IsSome (next_call m)
+pub has-call : (m : Phase) → IsCommitter m → 0 < calls_left m → IsSome (next_call m)
 has-call (phases.Names own s) is left = refl
-has-call (phases.View own m) (has, reads) left = reader-call m has
+has-call (phases.View own m) (has, reads, may) left = reader-call m has
 has-call (phases.Search own q) is left = refl
 has-call (phases.Put own s id m) is left = put_facts.has_call m is.1
 has-call m is left = absurd (let none : 0 < 0 = left in omega (arith, none))
@@ -212,7 +210,7 @@ pub steps-on : EntriesRead → {old new : Phase} {before after : StoreView} {res
     → OnOk result ((calls_left new < calls_left old) × Reaches (reached_at new) new)
 steps-on law {old = old} {new = new} (Rested none same still) is left =
     absurd (let called = has-call old is left in let clash = rw none at called in cc)
-steps-on law {old = old} {new = new} {before = before} {after = after} (Went call answer at came on) is left = goes-ahead law old answer new call before after at came on is
+steps-on law {old = old} {new = new} {before = before} {after = after} (Went call answer at came on) is left = goes-ahead law old answer new on is
 steps-on law (Refused call answer refusal at came on) is left = tt
 steps-on law (Stopped call at meanwhile stop) is left = tt
 steps-on law (Failed call at came stop) is left = tt

@@ -1,9 +1,9 @@
 -- What a committer knows stays true through the changes of others.
-use Rattle.std.proofs.Common.{◌≡◌, ◌≢◌, ◌⊎◌, inl, inr, ℕ, ◌≤◌, List, [], ◌∷◌, ◌++◌, length, length-append, Option, IsSome, refl, sym, ap, ◌∙◌, subst, append_assoc, arith}
+use Rattle.std.proofs.Common.{◌≡◌, ◌≢◌, ◌⊎◌, inl, inr, ℕ, ◌≤◌, List, [], ◌∷◌, ◌++◌, length, length-append, append-nil, Option, None, Some, IfSome, IsSome, refl, sym, ap, ◌∙◌, subst, append_assoc, arith}
 use Rattle.std.specs.FinMap as map
 use Rattle.std.specs.List.{AllByRecursion}
 use Rattle.pm_store.specs.Files.{Files}
-use Rattle.pm_model_history.specs.History.{Entry, GoesOn, History, no_table, table}
+use Rattle.pm_model_history.specs.History.{Entry, GoesOn, History, IsTableOf, no_table, table}
 use Rattle.pm_schema.specs.declared.schema.TableSchema.{TableSchema}
 use Rattle.pm_model_folder.specs.Changes.{Actor, HavePlainNames, IsOwnFile}
 use Rattle.pm_model_folder.specs.Entries.{IsFenced}
@@ -12,23 +12,30 @@ use Rattle.pm_model_folder.specs.Meaning.{SnapshotAt}
 use Rattle.pm_model_folder.proofs.Facts.{goes_on}
 use Rattle.pm_model_folder.proofs.LedgerFacts.{known-still, own-stays}
 use Rattle.pm_model_contents.specs.Lists.{HasEntries}
+use Rattle.pm_read_table.specs.Asked.{Asked}
 use Rattle.pm_read_table.specs.Meaning.{IsViewIn, view_origin, view_snapshot}
 use Rattle.pm_read_table.specs.declared.view.View.{View}
 use Rattle.pm_read_table.proofs.Facts as reader_facts
 use Rattle.pm_append.specs.Commit.{IsBuilt}
 use Rattle.pm_made.specs.Commit.{Attempt, MakesNames}
 use Rattle.pm_made.specs.Files.{IsMadeOf}
+use Rattle.pm_made.specs.declared.intent.Intent.{Intent}
+use Rattle.pm_made.specs.declared.intent.Intent.TheVariants as intents
+use Rattle.pm_made.specs.declared.intent.Plan.{Plan}
 use Rattle.pm_made.specs.declared.newest.Author.{Author}
+use Rattle.pm_compaction.specs.Plan.{KnowsPlan}
 use Rattle.pm_put.proofs.Facts.{at_weaker}
 use Rattle.pm_put.specs.Meaning.{IsPut}
 use Rattle.pm_put.specs.declared.phase.Phase as put_phase
 use Rattle.pm_put.specs.declared.putting.CommitFile.{CommitFile}
-use Rattle.pm_commit.specs.Meaning.{AreThere, BearsAdded, HasCommitted, HasEarlier, HasEntry, IsFoundIn, IsOtherThan, Knows, KnowsIn, KnowsOwn, KnowsTry}
-use Rattle.pm_commit.specs.Committer.{IsCommitter, put_of}
+use Rattle.pm_commit.specs.Meaning.{AreThere, BearsAdded, HasCommitted, HasEarlier, HasEntry, IsFoundIn, IsOtherThan, IsPlanned, Knows, KnowsBut, KnowsIn, KnowsOwn, KnowsTry, PlannedIn, own_in}
+use Rattle.pm_commit.specs.Committer.{IsCommitter, newest_of, put_of}
 use Rattle.pm_commit.specs.Own.{IsTried, OwnView, actor_of}
 use Rattle.pm_commit.specs.declared.found.Found.{Found}
 use Rattle.pm_commit.specs.declared.phase.Phase.{Phase}
 use Rattle.pm_commit.specs.declared.phase.Phase.TheVariants as phases
+use Rattle.pm_commit.proofs.AdvanceLemmas.{one-table}
+use Rattle.pm_commit.proofs.CommitterLemmas.{asked-same}
 use Rattle.pm_commit.proofs.FenceLemmas.{fenced-later}
 use Rattle.pm_commit.proofs.OwnLemmas.{plain-names}
 
@@ -54,7 +61,7 @@ first-of P [] later all = tt
 first-of P (file ∷ before) later all = (all.0, first-of P before later all.1)
 
 -- a file of the actor's own among those that snapshots name, with this base
-abbrev IsMadeBy : Actor → ℕ → CommitFile → Type 0
+abbrev pub IsMadeBy : Actor → ℕ → CommitFile → Type 0
 IsMadeBy me base file = IsOwnFile me base file.path
 
 -- so is each file of a try, with the commit's
@@ -92,15 +99,18 @@ module _ (actor : Actor) (f after : Files) (p q : Past) (advances : Advances act
     origin = is_found.origin;
   }
 
-module _ (law : OthersNone) (own_files : OwnFiles) (e : Entry) (other : Actor) (f after : Files) (p q : Past) (stands : Stands f p)
+-- that no known snapshot names a file of the actor stays so
+abbrev KeepsNone : Past → Past → OwnView → Type 0
+KeepsNone p q own = HasNamedNone (actor_of own) p → HasNamedNone (actor_of own) q
+
+module _ (own_files : OwnFiles) (e : Entry) (other : Actor) (f after : Files) (p q : Past) (stands : Stands f p)
     (advances : Advances other f p after q) where
-  own-still : (own : OwnView) (s : TableSchema) → actor_of own ≢ other → KnowsOwn own e s p → KnowsOwn own e s q
+  own-still : (own : OwnView) (s : TableSchema) → KeepsNone p q own → KnowsOwn own e s p → KnowsOwn own e s q
   own-still own s apart known = record {
     is_table = reader_facts.table_still other f after p q s advances known.is_table;
-    appends = known.appends;
     means = known.means;
     may = known.may;
-    unnamed = law (actor_of own) other f after p q stands advances apart known.unnamed;
+    unnamed = apart known.unnamed;
     from =
         (let low = known.from in
         let more = count-grows p.history q.history (goes_on other f after p.history q.history advances.change) in
@@ -122,7 +132,7 @@ module _ (law : OthersNone) (own_files : OwnFiles) (e : Entry) (other : Actor) (
     puts-still [] made all = inr tt
     puts-still (file ∷ files) (own, made) (is, rest) = both-unless (put-still file own is) (puts-still files made rest)
 
-  there-still : (own : OwnView) (files : List CommitFile) → HasNamedNone (actor_of own) p → AllByRecursion (IsMadeBy (actor_of own) own.author.base) files
+  pub there-still : (own : OwnView) (files : List CommitFile) → HasNamedNone (actor_of own) p → AllByRecursion (IsMadeBy (actor_of own) own.author.base) files
       → AreThere own f p files → AreThere own after q files
   there-still own files none made (inl fenced) =
       inl (fenced-later own.author.base p.history q.history (goes_on other f after p.history q.history advances.change) fenced)
@@ -181,7 +191,7 @@ module _ (law : OthersNone) (own_files : OwnFiles) (e : Entry) (other : Actor) (
     reached = has.reached;
   }
 
-  in-still : (m : Phase) → IsCommitter m → IsOtherThan other m → KnowsIn e m f p → KnowsIn e m after q
+  pub in-still : (m : Phase) → IsCommitter m → IfSome (own_in m) (KeepsNone p q) → KnowsIn e m f p → KnowsIn e m after q
   in-still (phases.Names own s) is apart known = own-still own s apart known
   in-still (phases.View own m) is apart (s, reads, known, reading, origin) =
       (s, reads, own-still own s apart known, reader_facts.knows_still m other f after p q stands advances reading, origin)
@@ -192,5 +202,86 @@ module _ (law : OthersNone) (own_files : OwnFiles) (e : Entry) (other : Actor) (
   in-still (phases.Already author) is apart known = earlier-still author known
   in-still phases.Over is apart known = tt
 
-  pub knows-still : (m : Phase) → IsOtherThan other m → Knows e m f p → Knows e m after q
-  knows-still m apart known = (known.0, in-still m known.0 apart known.1)
+-- ---- the files of rows that it was given
+
+-- what the law of a plan says: it stays so, whoever commits
+abbrev pub PlanStays : Type 0
+PlanStays = (me other : Actor) (f after : Files) (p q : Past) (s : TableSchema) (base : ℕ) (plan : Plan) (given : List CommitFile)
+    → Advances other f p after q → KnowsPlan me s base plan given p → KnowsPlan me s base plan given q
+
+-- and what that of its files does: they are the actor's
+abbrev pub OwnGiven : Type 0
+OwnGiven = (me : Actor) (p : Past) (s : TableSchema) (base : ℕ) (plan : Plan) (given : List CommitFile) → HavePlainNames s
+    → KnowsPlan me s base plan given p → AllByRecursion (IsMadeBy me base) given
+
+planned-still : PlanStays → (intent : Intent) (me other : Actor) (base : ℕ) (given : List CommitFile) (f after : Files) (p q : Past)
+    → Advances other f p after q → PlannedIn intent me base given p → PlannedIn intent me base given q
+planned-still law (intents.Append batch) me other base given f after p q advances none = none
+planned-still law (intents.Compact plan) me other base given f after p q advances (s, knows) =
+    (s, law me other f after p q s base plan given advances knows)
+planned-still law (intents.Fence number) me other base given f after p q advances is = absurd is
+
+pub given-own : OwnGiven → (intent : Intent) (me : Actor) (base : ℕ) (given : List CommitFile) (p : Past) (s : TableSchema) → IsTableOf s p.history → IsBuilt s
+    → PlannedIn intent me base given p → AllByRecursion (IsMadeBy me base) given
+given-own law (intents.Append batch) me base given p s is built none = subst (AllByRecursion (IsMadeBy me base)) (sym none) tt
+given-own law (intents.Compact plan) me base given p s is built (t, knows) =
+    law me p t base plan given (subst HavePlainNames (one-table s t p.history is knows.table) (plain-names s built)) knows
+given-own law (intents.Fence number) me base given p s is built none = absurd none
+
+-- a commit of a table that is built, of which this is known
+abbrev pub IsHeld : Entry → Past → OwnView → Type 0
+IsHeld e p own = (s : TableSchema) × IsBuilt s × KnowsOwn own e s p
+
+pub held-in : (e : Entry) (m : Phase) (f : Files) (p : Past) → IsCommitter m → KnowsIn e m f p → IfSome (own_in m) (IsHeld e p)
+held-in e (phases.Names own s) f p (own_of, appends) known = (s, own_of.built, known)
+held-in e (phases.View own m) f p (left, (t, reads_t, own_of), may) (s, reads, known, reading, origin) =
+    let same : t ≡ s = ap (λ (a : Asked). a.schema) (asked-same (newest_of t) (newest_of s) (sym reads_t.asked ∙ reads.asked)) in
+    (s, subst IsBuilt same own_of.built, known)
+held-in e (phases.Search own q) f p (may, few, ids) (known, is_found) = (q.found.schema, may.own_of.built, known)
+held-in e (phases.Put own s id m) f p (tried, some, few) (known, is_try) = (s, tried.built, known)
+held-in e (phases.Committed author id) f p is known = tt
+held-in e (phases.Already author) f p is known = tt
+held-in e phases.Over f p is known = tt
+
+-- of these files it was given, and those done are there
+abbrev pub WasGivenBy : List CommitFile → List CommitFile → Files → Past → OwnView → Type 0
+WasGivenBy given done f p own = IsPlanned own given p × AreThere own f p done
+
+-- that stays so, whoever acts
+pub was-still : PlanStays → OwnGiven → OwnFiles → (e : Entry) (o : Option OwnView) (given done left : List CommitFile) (f after : Files) (p q : Past) → Stands f p
+    → given ≡ done ++ left → IfSome o (IsHeld e p) → IfSome o (λ own. (other : Actor) × Advances other f p after q) → IfSome o (WasGivenBy given done f p)
+    → IfSome o (WasGivenBy given done after q)
+was-still stays law own_files e None given done left f after p q stands parts held changes was = tt
+was-still stays law own_files e (Some own) given done left f after p q stands parts (s, built, known) (other, advances) (planned, there) =
+    let all = given-own law own.intent (actor_of own) own.author.base given p s known.is_table built planned in (
+      planned-still stays own.intent (actor_of own) other own.author.base given f after p q advances planned,
+      there-still own_files e other f after p q stands advances own done known.unnamed
+          (first-of (IsMadeBy (actor_of own) own.author.base) done left (subst (AllByRecursion (IsMadeBy (actor_of own) own.author.base)) parts all)) there,
+    )
+
+-- ---- all that it knows
+
+each-if : {A : Type 0} {P Q : A → Type 0} (o : Option A) → ((x : A) → P x → Q x) → IfSome o P → IfSome o Q
+each-if None each none = tt
+each-if (Some x) each is = each x is
+
+pub always-if : {A : Type 0} {P : A → Type 0} (o : Option A) → ((x : A) → P x) → IfSome o P
+always-if None each = tt
+always-if (Some x) each = each x
+
+-- what it knows, with some of the files that it was given
+pub but-still : OthersNone → PlanStays → OwnGiven → OwnFiles → (e : Entry) (given done left : List CommitFile) (other : Actor) (f after : Files) (p q : Past) → Stands f p
+    → given ≡ done ++ left → Advances other f p after q → (m : Phase) → IsOtherThan other m → KnowsBut e given done m f p → KnowsBut e given done m after q
+but-still law stays given_law own_files e given done left other f after p q stands parts advances m apart (is, known, was) = (
+  is,
+  in-still own_files e other f after p q stands advances m is
+      (each-if (own_in m) (λ own apart none. law (actor_of own) other f after p q stands advances apart none) apart) known,
+  was-still stays given_law own_files e (own_in m) given done left f after p q stands parts (held-in e m f p is known)
+      (always-if (own_in m) (λ own. (other, advances))) was,
+)
+
+pub knows-still : OthersNone → PlanStays → OwnGiven → OwnFiles → (e : Entry) (other : Actor) (f after : Files) (p q : Past) → Stands f p
+    → Advances other f p after q → (m : Phase) → IsOtherThan other m → Knows e m f p → Knows e m after q
+knows-still law stays given_law own_files e other f after p q stands advances m apart (is, known, (given, was)) =
+    let now = but-still law stays given_law own_files e given given [] other f after p q stands (sym (append-nil given)) advances m apart (is, known, was) in
+    (now.0, now.1, (given, now.2))

@@ -1,5 +1,5 @@
 -- What the calls of a committer show.
-use Rattle.std.proofs.Common.{◌≡◌, inl, inr, ℕ, ◌+◌, ◌<◌, Bool, true, false, if◌then◌else◌, List, [], ◌∷◌, ◌++◌, length, Option, None, Some, IsSome, IfSome, Ok, Err, IfOk, refl, sym, ap, ◌∙◌, subst, append_assoc}
+use Rattle.std.proofs.Common.{◌≡◌, ◌⊎◌, inl, inr, ℕ, ◌+◌, ◌<◌, Bool, true, false, if◌then◌else◌, List, [], ◌∷◌, ◌++◌, length, Option, None, Some, IsSome, IfSome, Ok, Err, IfOk, refl, sym, ap, ◌∙◌, subst, append_assoc, arith}
 use Rattle.std.proofs.lemmas.List.{append-nil}
 use Rattle.std.proofs.lemmas.Option.{IfSome_then}
 use Rattle.pm_values.specs.declared.refusal.Refusal.{Refusal}
@@ -38,7 +38,7 @@ use Rattle.pm_commit.specs.Committer.{After, AfterPutter, AfterReader, Goes, Hea
 use Rattle.pm_commit.specs.Marks.{FindsUsed}
 use Rattle.pm_commit.specs.Own.{IsNoAppend, OwnView, begun, tries, with_lost}
 use Rattle.pm_commit.specs.Search.{SearchingView, older_ids, seen_in, seen_of}
-use Rattle.pm_commit.specs.Trace.{AfterLost, Did, DidInTry, DidSoFar, FindsReason, HasListed, HasPut, HasSearch, HasTry, HaveLost, HavePassed, LosesTry, MayCommit, MayTakeMemory, Meets, Searched, Shows, ShowsOwn, Views, at_newest, at_older, has_begun, has_lost, is_absent, is_below, is_none, listed_manifests, lost_by, named_by, not_asked}
+use Rattle.pm_commit.specs.Trace.{AfterBegun, AfterLost, Did, DidAfter, DidFirst, DidInTry, DidSoFar, DidToEnd, FindsReason, HasListed, HasPut, HasSearch, HasTry, HaveLost, HavePassed, ListsUsed, LosesFirst, LosesTry, MayCommit, MayTakeMemory, Meets, Searched, Shows, ShowsAfter, ShowsBegun, Views, at_newest, at_older, has_begun, has_lost, is_absent, is_below, is_none, listed_manifests, lost_by, named_by, named_first, not_asked}
 use Rattle.pm_commit.specs.declared.search.Seen.{Seen}
 use Rattle.pm_commit.specs.declared.search.Seen.TheVariants as seen
 use Rattle.pm_commit.specs.declared.found.Found.{Found}
@@ -294,10 +294,15 @@ module _ (s : TableSchema) where
 
   -- ---- all tries
 
-  module _ (first : OwnView) where
+  -- of a commit that began so
+  module _ (Begins : OwnView → List Event → Type 0) where
+    -- in a phase of a try
+    abbrev Tried : Phase → List Event → Type 0
+    Tried m own = AfterBegun s Begins (DidInTry s m) own
+
     -- the try goes on with an event
     after-push : (P Q : OwnView → List Event → Type 0) (own : List Event) (event : Event) → ((p : OwnView) (later : List Event) → P p later → Q p (later ++ event ∷ []))
-        → AfterLost s first P own → AfterLost s first Q (own ++ event ∷ [])
+        → AfterBegun s Begins P own → AfterBegun s Begins Q (own ++ event ∷ [])
     after-push P Q own event more (p, earlier, later, lost, tried, is) = (
       p,
       earlier,
@@ -307,14 +312,8 @@ module _ (s : TableSchema) where
       ap (λ (own : List Event). own ++ event ∷ []) is ∙ append_assoc earlier later (event ∷ []),
     )
 
-    -- so far, in a phase of a try
-    in-try : (m : Phase) (own : List Event) → AfterLost s first (DidInTry s m) own → Did s first m own
-    in-try (phases.Names o t) own (p, earlier, later, lost, tried, is) = absurd tried
-    in-try phases.Over own (p, earlier, later, lost, tried, is) = absurd tried
-    in-try m own after = after
-
     -- the next try begins
-    begin-try : (p : OwnView) (own : List Event) → HaveLost s (HasListed first) p own → Did s first (first_of_try p s) own
+    begin-try : (p : OwnView) (own : List Event) → HaveLost s Begins p own → Tried (first_of_try p s) own
     begin-try p own lost = (p, own, [], lost, (refl, (refl, refl, tt)), sym (append-nil own))
 
     lost-calls : (event : Event) (earlier later own : List Event) → own ≡ earlier ++ later → own ++ event ∷ [] ≡ earlier ++ (later ++ event ∷ [])
@@ -325,28 +324,218 @@ module _ (s : TableSchema) where
     same-lost p v made o same = ap (λ (o : OwnView). o.lost) same ∙ begun-lost p v.id
 
     lost-on : (o : OwnView) (t : TableSchema) (id : ℕ) (new : Phase) (p : OwnView) (v : View) (made : Made) (earlier later own : List Event)
-        → o ≡ named_by p v made → t ≡ s → id ≡ made.id → HaveLost s (HasListed first) p earlier → own ≡ earlier ++ later → LosesTry s p v made later
-        → Loses o t id (Ok new) → Did s first new own
+        → o ≡ named_by p v made → t ≡ s → id ≡ made.id → HaveLost s Begins p earlier → own ≡ earlier ++ later → LosesTry s p v made later
+        → Loses o t id (Ok new) → Tried new own
     lost-on o t id new p v made earlier later own same is_t is_id lost is loses_it (left, on) =
         let few : length p.lost + 1 < tries = subst (λ (ids : List ℕ). length ids + 1 < tries) (same-lost p v made o same) left in
         let next : OwnView = lost_by p v made in
         let is_next : new ≡ first_of_try next s =
         on ∙ ap (first_of_try (with_lost id o)) is_t
         ∙ ap (λ (o : OwnView). first_of_try o s) (ap (with_lost id) same ∙ ap (λ (id : ℕ). with_lost id (named_by p v made)) is_id) in
-        subst (λ (m : Phase). Did s first m own) (sym is_next)
-        (begin-try next own (subst (HaveLost s (HasListed first) next) (sym is) (has_lost p v made earlier later few lost loses_it)))
+        subst (λ (m : Phase). Tried m own) (sym is_next)
+        (begin-try next own (subst (HaveLost s Begins next) (sym is) (has_lost p v made earlier later few lost loses_it)))
 
     -- the putter of a try came so far
     did-putter : (o : OwnView) (t : TableSchema) (id : ℕ) (to : put_phase.Phase) (new : Phase) (p : OwnView) (v : View) (made : Made) (earlier later own : List Event)
-        → o ≡ named_by p v made → t ≡ s → id ≡ made.id → HaveLost s (HasListed first) p earlier → own ≡ earlier ++ later → HasPut s p v made to later
-        → AfterPutter o t id to (Ok new) → Did s first new own
+        → o ≡ named_by p v made → t ≡ s → id ≡ made.id → HaveLost s Begins p earlier → own ≡ earlier ++ later → HasPut s p v made to later
+        → AfterPutter o t id to (Ok new) → Tried new own
     did-putter o t id puts.Published new p v made earlier later own same is_t is_id lost is tried on =
-        subst (λ (m : Phase). Did s first m own) (sym (ok-same new _ on))
+        subst (λ (m : Phase). Tried m own) (sym (ok-same new _ on))
         (p, earlier, later, lost, (v, made, ap (λ (o : OwnView). o.author) same, is_id, tried), is)
     did-putter o t id puts.Lost new p v made earlier later own same is_t is_id lost is tried on =
         lost-on o t id new p v made earlier later own same is_t is_id lost is tried on
     did-putter o t id to new p v made earlier later own same is_t is_id lost is tried on =
-        subst (λ (m : Phase). Did s first m own) (sym (ok-same new _ on)) (p, earlier, later, lost, (v, made, same, is_t, is_id, tried), is)
+        subst (λ (m : Phase). Tried m own) (sym (ok-same new _ on)) (p, earlier, later, lost, (v, made, same, is_t, is_id, tried), is)
+
+    tried-on : Joined → (m : Phase) (answer : Answer) (new : Phase) (own : List Event) → After m answer (Ok new) → Tried m own
+        → IfSome (next_call m) (λ call. MayAnswer call answer → Tried new (own ++ answered call answer ∷ []))
+    tried-on law (phases.Names o t) answer new own on (p, earlier, later, lost, none, is) = absurd none
+    tried-on law (phases.View o m) answer new own (to, goes, after) (p, earlier, later, lost, (same, did), is) =
+        IfSome_then (reader.next_call m) ((reader_facts.recounts law (newest_of s)).went m to answer later goes did)
+        (λ call did may. (p, earlier, later ++ answered call answer ∷ [], lost, did-after p o to new (later ++ answered call answer ∷ []) same after (did may), lost-calls (answered call answer) earlier later own is))
+    tried-on law (phases.Search o q) (answers.Found None) new own on did = λ may.
+        (after-push (DidInTry s (phases.Search o q)) (DidInTry s new) own (read_file (snapshot_path q.id) None)
+        (λ p later did_now. let (v, same, is_found, searched) = did_now in search-ended p o q v new later same is_found searched on) did)
+    tried-on law (phases.Search o q) (answers.Found (Some bytes)) new own (x, reads, on) did = λ may.
+        (after-push (DidInTry s (phases.Search o q)) (DidInTry s new) own (read_file (snapshot_path q.id) (Some bytes))
+        (λ p later did_now. let (v, same, is_found, searched) = did_now in search-went p o q v bytes x new later same is_found searched reads on) did)
+    tried-on law (phases.Put o t id m) answer new own (to, goes, on) (p, earlier, later, lost, (v, made, same, is_t, is_id, tried), is) =
+        IfSome_then (putters.next_call m) ((put_facts.recounts (put_of s made)).went m to answer tried.puts goes tried.put_so)
+        (λ call did may. did-putter o t id to new p v made earlier (later ++ answered call answer ∷ []) (own ++ answered call answer ∷ []) same is_t is_id lost
+        (lost-calls (answered call answer) earlier later own is)
+        (try-push p v made (put.Did (put_of s made) m) (put.Did (put_of s made) to) later (answered call answer) tried (did may)) on)
+    tried-on law m answer new own after did = absurd after
+
+    -- ---- refusals
+
+    -- where it came to its phases by these calls, and these show that a path was in use at its beginning
+    module _ (first : OwnView) (begun-for : (o : OwnView) (own : List Event) → Begins o own → o.intent ≡ first.intent) (Came : Phase → List Event → Type 0)
+        (Uses : List ℕ → List Event → Type 0) where
+      abbrev Own : Refusal → List Event → Type 0
+      Own = ShowsBegun s first Begins Came Uses
+
+      abbrev Shown-by : Refusal → List Event → Type 0
+      Shown-by refusal own = AfterBegun s Begins (λ o later. reader_trace.Shows (newest_of s) refusal later) own ⊎ Own refusal own
+
+      as-shown : (refusal defined : Refusal) (own : List Event) → refusal ≡ defined → Own defined own → Shown-by refusal own
+      as-shown refusal defined own is shows = inr (subst (λ (e : Refusal). Own e own) (sym is) shows)
+
+      -- memory ran out after an answer
+      forgot : (m : Phase) (call : Call) (answer : Answer) (refusal : Refusal) (own : List Event) → Came m own → next_call m ≡ Some call → MayAnswer call answer
+          → MayTakeMemory answer → refusal ≡ refusals.Memory → Shown-by refusal (own ++ answered call answer ∷ [])
+      forgot m call answer refusal own did is may none memory =
+          as-shown refusal refusals.Memory _ memory (after_answer m call answer own did is may none refl)
+
+      -- tries that were lost don't change what the commit is for
+      lost-intent : (o : OwnView) (own : List Event) → HaveLost s Begins o own → o.intent ≡ first.intent
+      lost-intent o own (has_begun _ _ begins) = begun-for o own begins
+      lost-intent o own (has_lost p v made earlier later left lost loses) = begun-intent p v.id ∙ lost-intent p earlier lost
+
+      -- there is a reason against the commit
+      found-reason : (refusal : Refusal) (own : List Event) → IsReason refusal → AfterBegun s Begins (FindsReason s refusal) own → Shown-by refusal own
+      found-reason (refusals.Fenced base fence) own is found = inr found
+      found-reason (refusals.CompactTaken file) own is (o, earlier, later, lost, (v, reason, searched), at) =
+          let p : OwnView = begun v.id o in
+          let same : p.intent ≡ first.intent = begun-intent o v.id ∙ lost-intent o earlier lost in
+          let none : IsNoAppend p.intent = none-taken (newest_in v) p.author p.intent file reason in
+          inr (subst IsNoAppend same none, (o, earlier, later, lost, (v, reason, searched), at))
+      found-reason (refusals.Limit which number) own is found = inr found
+      found-reason other own is found = absurd is
+
+      module _ (m : Phase) (call : Call) (answer : Answer) (p : OwnView) (refusal : Refusal) (earlier later own : List Event) (did : Came m own)
+          (at : next_call m ≡ Some call) (may : MayAnswer call answer) (takes : MayTakeMemory answer) (lost : HaveLost s Begins p earlier)
+          (is : own ≡ earlier ++ later) where
+        abbrev calls_now : List Event
+        calls_now = later ++ answered call answer ∷ []
+
+        abbrev ShowsIt : Type 0
+        ShowsIt = Shown-by refusal (own ++ answered call answer ∷ [])
+
+        -- no files are made after an event: memory ran out, or there is a reason
+        refused-make : (v : View) → HasSearch s p v MayCommit calls_now → Makes (begun v.id p) (found_in v) (Err refusal) → ShowsIt
+        refused-make v searched (inl memory) = forgot m call answer refusal own did at may takes memory
+        refused-make v searched (inr reason) =
+            found-reason refusal _ (is-reason (newest_in v) (begun v.id p).author (begun v.id p).intent refusal reason)
+            (p, earlier, calls_now, lost, (v, reason, searched), lost-calls (answered call answer) earlier later own is)
+
+        refused-hear : (v : View) (left : List ℕ) (said : Seen) → (said ≡ seen.Other → HasSearch s p v (λ o v. Searched o v left) calls_now)
+            → HasSearch s p v (λ o v. Meets o v said) calls_now → Hears (begun v.id p) (found_in v) left said (Err refusal) → ShowsIt
+        refused-hear v left said searched meets on =
+            heard-refused ShowsIt (begun v.id p) (found_in v) left said refusal (λ free on. refused-make v (free-search p v left said calls_now searched meets free) on) on
+
+        -- the view is ready, and no files are made for it
+        refused-ready : (v : View) → Views s v calls_now → Tries (begun v.id p) v (Err refusal) → ShowsIt
+        refused-ready v viewed on =
+            tried ShowsIt (begun v.id p) v (Err refusal) (λ unasked on. refused-make v (search-none p v MayCommit calls_now viewed (not_asked unasked refl)) on)
+            (λ asked on. refused-hear v (older_ids v.listed.items) (seen_in (begun v.id p).author v.snapshot) (newest-searched p v calls_now viewed asked)
+            (newest-meets p v calls_now viewed asked) on) on
+
+        refused-reader : (o : OwnView) (to : view_phase.Phase) → o ≡ p → reader_trace.Did (newest_of s) to calls_now → AfterReader o to (Err refusal) → ShowsIt
+        refused-reader o to same did_to on =
+            read-refused ShowsIt (λ to. reader_trace.Did (newest_of s) to calls_now) o refusal
+            (λ v did_to on. refused-ready v did_to (subst (λ (o : OwnView). Tries (begun v.id o) v (Err refusal)) same on)) to did_to on
+
+      -- eleven tries were lost, or it refuses nothing
+      refused-putter : (o : OwnView) (t : TableSchema) (id : ℕ) (to : put_phase.Phase) (refusal : Refusal) (p : OwnView) (v : View) (made : Made)
+          (earlier later own : List Event) → o ≡ named_by p v made → id ≡ made.id → HaveLost s Begins p earlier → own ≡ earlier ++ later → HasPut s p v made to later
+          → AfterPutter o t id to (Err refusal) → Shown-by refusal own
+      refused-putter o t id puts.Lost refusal p v made earlier later own same is_id lost is tried (last, contended) =
+          let ids_are : o.lost ≡ p.lost = same-lost p v made o same in
+          let ids : o.lost ++ id ∷ [] ≡ p.lost ++ made.id ∷ [] =
+          ap (λ (ids : List ℕ). ids ++ id ∷ []) ids_are ∙ ap (λ (id : ℕ). p.lost ++ id ∷ []) is_id in
+          as-shown refusal (refusals.Contended (o.lost ++ id ∷ [])) _ contended
+          (p, earlier, later, lost, (v, made, tried, subst (λ (ids : List ℕ). length ids + 1 ≡ tries) ids_are last, ids), is)
+      refused-putter o t id to refusal p v made earlier later own same is_id lost is tried on = absurd (err-ok refusal _ on)
+
+      -- a putter refuses where a create met a file
+      put-met : (m : put_phase.Phase) (answer : Answer) (refusal : Refusal) → putters.Shown m answer refusal → (path : List ℕ) × (refusal ≡ refusals.SessionUsed path)
+      put-met (puts.Create making) (answers.Made created.Exists) refusal is = (making.next.path, is)
+      put-met m answer refusal shown = absurd shown
+
+      refused-tried : Joined → (m : Phase) (call : Call) (answer : Answer) (refusal : Refusal) (own : List Event) → After m answer (Err refusal) → Came m own
+          → Tried m own → next_call m ≡ Some call → MayAnswer call answer → Shown-by refusal (own ++ answered call answer ∷ [])
+      refused-tried law (phases.Names o t) call answer refusal own on came (p, earlier, later, lost, none, is) at may = absurd none
+      refused-tried law (phases.View o m) call answer refusal own (inl shown) came (p, earlier, later, lost, (same, did), is) at may =
+          let shows = some-at (reader.next_call m) call _ at ((reader_facts.recounts law (newest_of s)).refused m readers.Over answer refusal later (shown, refl) did) may in
+          inl (p, earlier, later ++ answered call answer ∷ [], lost, shows.1, lost-calls (answered call answer) earlier later own is)
+      refused-tried law (phases.View o m) call answer refusal own (inr (to, goes, on)) came (p, earlier, later, lost, (same, did), is) at may =
+          let did_to = some-at (reader.next_call m) call _ at ((reader_facts.recounts law (newest_of s)).went m to answer later goes did) may in
+          let none = some-at (reader.next_call m) call _ at (reader-no m answer) may in
+          refused-reader (phases.View o m) call answer p refusal earlier later own came at may none lost is o to same did_to on
+      refused-tried law (phases.Search o q) call (answers.Found None) refusal own on came did at may =
+          let (p, earlier, later, lost, tried, is) = did in
+          let (v, same, is_found, searched) = tried in
+          let event_is : read_file (snapshot_path q.id) None ≡ answered call (answers.Found None) =
+          ap (λ (call : Call). answered call (answers.Found None)) (call-same (calls.Read (snapshot_path q.id)) call at) in
+          refused-make (phases.Search o q) call (answers.Found None) p refusal earlier later own came at may tt lost is v
+          (subst (λ (e : Event). HasSearch s p v MayCommit (later ++ e ∷ [])) event_is (older-absent p v q.id q.left later searched))
+          (subst (λ (found : Found). Makes (begun v.id p) found (Err refusal)) is_found (subst (λ (o : OwnView). Makes o q.found (Err refusal)) same on))
+      refused-tried law (phases.Search o q) call (answers.Found (Some bytes)) refusal own (inl memory) came did at may =
+          forgot (phases.Search o q) call (answers.Found (Some bytes)) refusal own came at may tt memory
+      refused-tried law (phases.Search o q) call (answers.Found (Some bytes)) refusal own (inr (inl (bad, is_damaged))) came did at may =
+          let (p, earlier, later, lost, tried, is) = did in
+          let (v, same, is_found, searched) = tried in
+          let event_is : answered call (answers.Found (Some bytes)) ≡ read_file (snapshot_path q.id) (Some bytes) =
+          ap (λ (call : Call). answered call (answers.Found (Some bytes))) (sym (call-same (calls.Read (snapshot_path q.id)) call at)) in
+          as-shown refusal (refusals.Damaged (snapshot_path q.id) 0) _ is_damaged (
+            p,
+            earlier,
+            later ++ answered call (answers.Found (Some bytes)) ∷ [],
+            lost,
+            (v, q.id, q.left, bytes, later, searched, bad, refl, refl, ap (λ (e : Event). later ++ e ∷ []) event_is),
+            lost-calls (answered call (answers.Found (Some bytes))) earlier later own is,
+          )
+      refused-tried law (phases.Search o q) call (answers.Found (Some bytes)) refusal own (inr (inr (x, reads, on))) came did at may =
+          let (p, earlier, later, lost, tried, is) = did in
+          let (v, same, is_found, searched) = tried in
+          let event_is : read_file (snapshot_path q.id) (Some bytes) ≡ answered call (answers.Found (Some bytes)) =
+          ap (λ (call : Call). answered call (answers.Found (Some bytes))) (call-same (calls.Read (snapshot_path q.id)) call at) in
+          let on_own : Hears (begun v.id p) q.found q.left (seen_of (begun v.id p).author x) (Err refusal) =
+          subst (λ (o : OwnView). Hears o q.found q.left (seen_of o.author x) (Err refusal)) same on in
+          refused-hear (phases.Search o q) call (answers.Found (Some bytes)) p refusal earlier later own came at may tt lost is v q.left (seen_of (begun v.id p).author x)
+          (λ other. subst (λ (e : Event). HasSearch s p v (λ o v. Searched o v q.left) (later ++ e ∷ [])) event_is
+          (older-searched p v q.id q.left bytes x later searched reads other))
+          (subst (λ (e : Event). HasSearch s p v (λ o v. Meets o v (seen_of (begun v.id p).author x)) (later ++ e ∷ [])) event_is
+          (older-meets p v q.id q.left bytes x later searched reads))
+          (subst (λ (found : Found). Hears (begun v.id p) found q.left (seen_of (begun v.id p).author x) (Err refusal)) is_found on_own)
+      refused-tried law (phases.Put o t id m) call answer refusal own (inl shown) came (p, earlier, later, lost, (v, made, same, is_t, is_id, tried), is) at may =
+          let (path, used) = put-met m answer refusal shown in
+          let shows = some-at (putters.next_call m) call _ at
+          ((put_facts.recounts (put_of s made)).refused m puts.Over answer refusal tried.puts (shown, refl) tried.put_so) may in
+          let event : Event = answered call answer in
+          let met : put.MeetsFile (put_of s made) path (tried.puts ++ event ∷ []) =
+          subst (λ (e : Refusal). put.Shows (put_of s made) e (tried.puts ++ event ∷ [])) used shows.1 in
+          as-shown refusal (refusals.SessionUsed path) _ used (inr (
+            p,
+            earlier,
+            later ++ event ∷ [],
+            lost,
+            (v, made, try-push p v made (put.Did (put_of s made) m) (put.MeetsFile (put_of s made) path) later event tried met),
+            lost-calls event earlier later own is,
+          ))
+      refused-tried law (phases.Put o t id m) call answer refusal own (inr (to, goes, on)) came (p, earlier, later, lost, (v, made, same, is_t, is_id, tried), is) at may =
+          let event : Event = answered call answer in
+          let did = some-at (putters.next_call m) call _ at ((put_facts.recounts (put_of s made)).went m to answer tried.puts goes tried.put_so) may in
+          refused-putter o t id to refusal p v made earlier (later ++ event ∷ []) (own ++ event ∷ []) same is_id lost (lost-calls event earlier later own is)
+          (try-push p v made (put.Did (put_of s made) m) (put.Did (put_of s made) to) later event tried did) on
+      refused-tried law m call answer refusal own after came did at may = absurd after
+
+  -- ---- a commit that begins with the names
+
+  module _ (first : OwnView) where
+    listed-for : (o : OwnView) (own : List Event) → HasListed first o own → o.intent ≡ first.intent
+    listed-for o own listed = ap (λ (o : OwnView). o.intent) listed.0
+
+    -- so far, in a phase of a try
+    in-try : (m : Phase) (own : List Event) → AfterLost s first (DidInTry s m) own → Did s first m own
+    in-try (phases.Names o t) own (p, earlier, later, lost, tried, is) = absurd tried
+    in-try phases.Over own (p, earlier, later, lost, tried, is) = absurd tried
+    in-try m own after = after
+
+    try-on : Joined → (m : Phase) (answer : Answer) (new : Phase) (own : List Event) → After m answer (Ok new) → AfterLost s first (DidInTry s m) own
+        → IfSome (next_call m) (λ call. MayAnswer call answer → Did s first new (own ++ answered call answer ∷ []))
+    try-on law m answer new own on did = IfSome_then (next_call m) (tried-on (HasListed first) law m answer new own on did)
+        (λ call after may. in-try new (own ++ answered call answer ∷ []) (after may))
 
     went-on : Joined → (m : Phase) (answer : Answer) (new : Phase) (own : List Event) → After m answer (Ok new) → Did s first m own
         → IfSome (next_call m) (λ call. MayAnswer call answer → Did s first new (own ++ answered call answer ∷ []))
@@ -356,174 +545,28 @@ module _ (s : TableSchema) where
         let lost : HaveLost s (HasListed first) first (own ++ event ∷ []) =
         has_begun first (own ++ event ∷ []) (refl, names, subst (λ (o : OwnView). FindsUsed o.names names.items None) same none, calls_are) in
         let begins : new ≡ first_of_try first s = is ∙ ap (λ (o : OwnView). first_of_try o t) same ∙ ap (first_of_try first) is_t in
-        subst (λ (m : Phase). Did s first m (own ++ event ∷ [])) (sym begins) (begin-try first (own ++ event ∷ []) lost)
-    went-on law (phases.View o m) answer new own (to, goes, after) (p, earlier, later, lost, (same, did), is) =
-        IfSome_then (reader.next_call m) ((reader_facts.recounts law (newest_of s)).went m to answer later goes did)
-        (λ call did may. in-try new (own ++ answered call answer ∷ [])
-        (p, earlier, later ++ answered call answer ∷ [], lost, did-after p o to new (later ++ answered call answer ∷ []) same after (did may), lost-calls (answered call answer) earlier later own is))
-    went-on law (phases.Search o q) (answers.Found None) new own on did = λ may.
-        in-try new _ (after-push (DidInTry s (phases.Search o q)) (DidInTry s new) own (read_file (snapshot_path q.id) None)
-        (λ p later did_now. let (v, same, is_found, searched) = did_now in search-ended p o q v new later same is_found searched on) did)
-    went-on law (phases.Search o q) (answers.Found (Some bytes)) new own (x, reads, on) did = λ may.
-        in-try new _ (after-push (DidInTry s (phases.Search o q)) (DidInTry s new) own (read_file (snapshot_path q.id) (Some bytes))
-        (λ p later did_now. let (v, same, is_found, searched) = did_now in search-went p o q v bytes x new later same is_found searched reads on) did)
-    went-on law (phases.Put o t id m) answer new own (to, goes, on) (p, earlier, later, lost, (v, made, same, is_t, is_id, tried), is) =
-        IfSome_then (putters.next_call m) ((put_facts.recounts (put_of s made)).went m to answer tried.puts goes tried.put_so)
-        (λ call did may. did-putter o t id to new p v made earlier (later ++ answered call answer ∷ []) (own ++ answered call answer ∷ []) same is_t is_id lost
-        (lost-calls (answered call answer) earlier later own is)
-        (try-push p v made (put.Did (put_of s made) m) (put.Did (put_of s made) to) later (answered call answer) tried (did may)) on)
+        subst (λ (m : Phase). Did s first m (own ++ event ∷ [])) (sym begins) (begin-try (HasListed first) first (own ++ event ∷ []) lost)
+    went-on law (phases.View o m) answer new own on did = try-on law (phases.View o m) answer new own on did
+    went-on law (phases.Search o q) answer new own on did = try-on law (phases.Search o q) answer new own on did
+    went-on law (phases.Put o t id m) answer new own on did = try-on law (phases.Put o t id m) answer new own on did
     went-on law m answer new own after did = absurd after
-
-    -- ---- refusals
-
-    as-shown : (refusal defined : Refusal) (own : List Event) → refusal ≡ defined → ShowsOwn s first defined own → Shows s first refusal own
-    as-shown refusal defined own is shows = inr (subst (λ (e : Refusal). ShowsOwn s first e own) (sym is) shows)
-
-    -- memory ran out after an answer
-    forgot : (m : Phase) (call : Call) (answer : Answer) (refusal : Refusal) (own : List Event) → DidSoFar s first m own → next_call m ≡ Some call → MayAnswer call answer
-        → MayTakeMemory answer → refusal ≡ refusals.Memory → Shows s first refusal (own ++ answered call answer ∷ [])
-    forgot m call answer refusal own did is may none memory =
-        as-shown refusal refusals.Memory _ memory (after_answer m call answer own did is may none refl)
-
-    -- tries that were lost don't change what the commit is for
-    lost-intent : (o : OwnView) (own : List Event) → HaveLost s (HasListed first) o own → o.intent ≡ first.intent
-    lost-intent o own (has_begun _ _ begins) = ap (λ (o : OwnView). o.intent) begins.0
-    lost-intent o own (has_lost p v made earlier later left lost loses) = begun-intent p v.id ∙ lost-intent p earlier lost
-
-    -- there is a reason against the commit
-    found-reason : (refusal : Refusal) (own : List Event) → IsReason refusal → AfterLost s first (FindsReason s refusal) own → Shows s first refusal own
-    found-reason (refusals.Fenced base fence) own is found = inr found
-    found-reason (refusals.CompactTaken file) own is (o, earlier, later, lost, (v, reason, searched), at) =
-        let p : OwnView = begun v.id o in
-        let same : p.intent ≡ first.intent = begun-intent o v.id ∙ lost-intent o earlier lost in
-        let none : IsNoAppend p.intent = none-taken (newest_in v) p.author p.intent file reason in
-        inr (subst IsNoAppend same none, (o, earlier, later, lost, (v, reason, searched), at))
-    found-reason (refusals.Limit which number) own is found = inr found
-    found-reason other own is found = absurd is
-
-    module _ (m : Phase) (call : Call) (answer : Answer) (p : OwnView) (refusal : Refusal) (earlier later own : List Event) (did : DidSoFar s first m own)
-        (at : next_call m ≡ Some call) (may : MayAnswer call answer) (takes : MayTakeMemory answer) (lost : HaveLost s (HasListed first) p earlier)
-        (is : own ≡ earlier ++ later) where
-      abbrev calls_now : List Event
-      calls_now = later ++ answered call answer ∷ []
-
-      abbrev ShowsIt : Type 0
-      ShowsIt = Shows s first refusal (own ++ answered call answer ∷ [])
-
-      -- no files are made after an event: memory ran out, or there is a reason
-      refused-make : (v : View) → HasSearch s p v MayCommit calls_now → Makes (begun v.id p) (found_in v) (Err refusal) → ShowsIt
-      refused-make v searched (inl memory) = forgot m call answer refusal own did at may takes memory
-      refused-make v searched (inr reason) =
-          found-reason refusal _ (is-reason (newest_in v) (begun v.id p).author (begun v.id p).intent refusal reason)
-          (p, earlier, calls_now, lost, (v, reason, searched), lost-calls (answered call answer) earlier later own is)
-
-      refused-hear : (v : View) (left : List ℕ) (said : Seen) → (said ≡ seen.Other → HasSearch s p v (λ o v. Searched o v left) calls_now)
-          → HasSearch s p v (λ o v. Meets o v said) calls_now → Hears (begun v.id p) (found_in v) left said (Err refusal) → ShowsIt
-      refused-hear v left said searched meets on =
-          heard-refused ShowsIt (begun v.id p) (found_in v) left said refusal (λ free on. refused-make v (free-search p v left said calls_now searched meets free) on) on
-
-      -- the view is ready, and no files are made for it
-      refused-ready : (v : View) → Views s v calls_now → Tries (begun v.id p) v (Err refusal) → ShowsIt
-      refused-ready v viewed on =
-          tried ShowsIt (begun v.id p) v (Err refusal) (λ unasked on. refused-make v (search-none p v MayCommit calls_now viewed (not_asked unasked refl)) on)
-          (λ asked on. refused-hear v (older_ids v.listed.items) (seen_in (begun v.id p).author v.snapshot) (newest-searched p v calls_now viewed asked)
-          (newest-meets p v calls_now viewed asked) on) on
-
-      refused-reader : (o : OwnView) (to : view_phase.Phase) → o ≡ p → reader_trace.Did (newest_of s) to calls_now → AfterReader o to (Err refusal) → ShowsIt
-      refused-reader o to same did_to on =
-          read-refused ShowsIt (λ to. reader_trace.Did (newest_of s) to calls_now) o refusal
-          (λ v did_to on. refused-ready v did_to (subst (λ (o : OwnView). Tries (begun v.id o) v (Err refusal)) same on)) to did_to on
-
-    -- eleven tries were lost, or it refuses nothing
-    refused-putter : (o : OwnView) (t : TableSchema) (id : ℕ) (to : put_phase.Phase) (refusal : Refusal) (p : OwnView) (v : View) (made : Made)
-        (earlier later own : List Event) → o ≡ named_by p v made → id ≡ made.id → HaveLost s (HasListed first) p earlier → own ≡ earlier ++ later → HasPut s p v made to later
-        → AfterPutter o t id to (Err refusal) → Shows s first refusal own
-    refused-putter o t id puts.Lost refusal p v made earlier later own same is_id lost is tried (last, contended) =
-        let ids_are : o.lost ≡ p.lost = same-lost p v made o same in
-        let ids : o.lost ++ id ∷ [] ≡ p.lost ++ made.id ∷ [] =
-        ap (λ (ids : List ℕ). ids ++ id ∷ []) ids_are ∙ ap (λ (id : ℕ). p.lost ++ id ∷ []) is_id in
-        as-shown refusal (refusals.Contended (o.lost ++ id ∷ [])) _ contended
-        (p, earlier, later, lost, (v, made, tried, subst (λ (ids : List ℕ). length ids + 1 ≡ tries) ids_are last, ids), is)
-    refused-putter o t id to refusal p v made earlier later own same is_id lost is tried on = absurd (err-ok refusal _ on)
-
-    -- a putter refuses where a create met a file
-    put-met : (m : put_phase.Phase) (answer : Answer) (refusal : Refusal) → putters.Shown m answer refusal → (path : List ℕ) × (refusal ≡ refusals.SessionUsed path)
-    put-met (puts.Create making) (answers.Made created.Exists) refusal is = (making.next.path, is)
-    put-met m answer refusal shown = absurd shown
 
     refused-on : Joined → (m : Phase) (call : Call) (answer : Answer) (refusal : Refusal) (own : List Event) → After m answer (Err refusal) → Did s first m own
         → next_call m ≡ Some call → MayAnswer call answer → Shows s first refusal (own ++ answered call answer ∷ [])
     refused-on law (phases.Names o t) call (answers.Listed names) refusal own (inl memory) did at may =
-        forgot (phases.Names o t) call (answers.Listed names) refusal own did at may tt memory
+        forgot (HasListed first) first listed-for (DidSoFar s first) (ListsUsed first) (phases.Names o t) call (answers.Listed names) refusal own did at may tt memory
     refused-on law (phases.Names o t) call (answers.Listed names) refusal own (inr (path, finds, is)) (same, is_t, quiet) at may =
         let calls_are : own ++ answered call (answers.Listed names) ∷ [] ≡ listed_manifests names ∷ [] =
         ap (λ (own : List Event). own ++ answered call (answers.Listed names) ∷ []) quiet
         ∙ ap (λ (call : Call). answered call (answers.Listed names) ∷ []) (sym (call-same manifests_call call at)) in
-        as-shown refusal (refusals.SessionUsed path) _ is
+        as-shown (HasListed first) first listed-for (DidSoFar s first) (ListsUsed first) refusal (refusals.SessionUsed path) _ is
         (inl (names, subst (λ (o : OwnView). FindsUsed o.names names.items (Some path)) same finds, calls_are))
-    refused-on law (phases.View o m) call answer refusal own (inl shown) (p, earlier, later, lost, (same, did), is) at may =
-        let shows = some-at (reader.next_call m) call _ at ((reader_facts.recounts law (newest_of s)).refused m readers.Over answer refusal later (shown, refl) did) may in
-        inl (p, earlier, later ++ answered call answer ∷ [], lost, shows.1, lost-calls (answered call answer) earlier later own is)
-    refused-on law (phases.View o m) call answer refusal own (inr (to, goes, on)) (p, earlier, later, lost, (same, did), is) at may =
-        let did_to = some-at (reader.next_call m) call _ at ((reader_facts.recounts law (newest_of s)).went m to answer later goes did) may in
-        let none = some-at (reader.next_call m) call _ at (reader-no m answer) may in
-        refused-reader (phases.View o m) call answer p refusal earlier later own (p, earlier, later, lost, (same, did), is) at may none lost is o to same did_to on
-    refused-on law (phases.Search o q) call (answers.Found None) refusal own on did at may =
-        let (p, earlier, later, lost, tried, is) = did in
-        let (v, same, is_found, searched) = tried in
-        let event_is : read_file (snapshot_path q.id) None ≡ answered call (answers.Found None) =
-        ap (λ (call : Call). answered call (answers.Found None)) (call-same (calls.Read (snapshot_path q.id)) call at) in
-        refused-make (phases.Search o q) call (answers.Found None) p refusal earlier later own did at may tt lost is v
-        (subst (λ (e : Event). HasSearch s p v MayCommit (later ++ e ∷ [])) event_is (older-absent p v q.id q.left later searched))
-        (subst (λ (found : Found). Makes (begun v.id p) found (Err refusal)) is_found (subst (λ (o : OwnView). Makes o q.found (Err refusal)) same on))
-    refused-on law (phases.Search o q) call (answers.Found (Some bytes)) refusal own (inl memory) did at may =
-        forgot (phases.Search o q) call (answers.Found (Some bytes)) refusal own did at may tt memory
-    refused-on law (phases.Search o q) call (answers.Found (Some bytes)) refusal own (inr (inl (bad, is_damaged))) did at may =
-        let (p, earlier, later, lost, tried, is) = did in
-        let (v, same, is_found, searched) = tried in
-        let event_is : answered call (answers.Found (Some bytes)) ≡ read_file (snapshot_path q.id) (Some bytes) =
-        ap (λ (call : Call). answered call (answers.Found (Some bytes))) (sym (call-same (calls.Read (snapshot_path q.id)) call at)) in
-        as-shown refusal (refusals.Damaged (snapshot_path q.id) 0) _ is_damaged (
-          p,
-          earlier,
-          later ++ answered call (answers.Found (Some bytes)) ∷ [],
-          lost,
-          (v, q.id, q.left, bytes, later, searched, bad, refl, refl, ap (λ (e : Event). later ++ e ∷ []) event_is),
-          lost-calls (answered call (answers.Found (Some bytes))) earlier later own is,
-        )
-    refused-on law (phases.Search o q) call (answers.Found (Some bytes)) refusal own (inr (inr (x, reads, on))) did at may =
-        let (p, earlier, later, lost, tried, is) = did in
-        let (v, same, is_found, searched) = tried in
-        let event_is : read_file (snapshot_path q.id) (Some bytes) ≡ answered call (answers.Found (Some bytes)) =
-        ap (λ (call : Call). answered call (answers.Found (Some bytes))) (call-same (calls.Read (snapshot_path q.id)) call at) in
-        let on_own : Hears (begun v.id p) q.found q.left (seen_of (begun v.id p).author x) (Err refusal) =
-        subst (λ (o : OwnView). Hears o q.found q.left (seen_of o.author x) (Err refusal)) same on in
-        refused-hear (phases.Search o q) call (answers.Found (Some bytes)) p refusal earlier later own did at may tt lost is v q.left (seen_of (begun v.id p).author x)
-        (λ other. subst (λ (e : Event). HasSearch s p v (λ o v. Searched o v q.left) (later ++ e ∷ [])) event_is
-        (older-searched p v q.id q.left bytes x later searched reads other))
-        (subst (λ (e : Event). HasSearch s p v (λ o v. Meets o v (seen_of (begun v.id p).author x)) (later ++ e ∷ [])) event_is
-        (older-meets p v q.id q.left bytes x later searched reads))
-        (subst (λ (found : Found). Hears (begun v.id p) found q.left (seen_of (begun v.id p).author x) (Err refusal)) is_found on_own)
-    refused-on law (phases.Put o t id m) call answer refusal own (inl shown) (p, earlier, later, lost, (v, made, same, is_t, is_id, tried), is) at may =
-        let (path, used) = put-met m answer refusal shown in
-        let shows = some-at (putters.next_call m) call _ at
-        ((put_facts.recounts (put_of s made)).refused m puts.Over answer refusal tried.puts (shown, refl) tried.put_so) may in
-        let event : Event = answered call answer in
-        let met : put.MeetsFile (put_of s made) path (tried.puts ++ event ∷ []) =
-        subst (λ (e : Refusal). put.Shows (put_of s made) e (tried.puts ++ event ∷ [])) used shows.1 in
-        as-shown refusal (refusals.SessionUsed path) _ used (inr (
-          p,
-          earlier,
-          later ++ event ∷ [],
-          lost,
-          (v, made, try-push p v made (put.Did (put_of s made) m) (put.MeetsFile (put_of s made) path) later event tried met),
-          lost-calls event earlier later own is,
-        ))
-    refused-on law (phases.Put o t id m) call answer refusal own (inr (to, goes, on)) (p, earlier, later, lost, (v, made, same, is_t, is_id, tried), is) at may =
-        let event : Event = answered call answer in
-        let did = some-at (putters.next_call m) call _ at ((put_facts.recounts (put_of s made)).went m to answer tried.puts goes tried.put_so) may in
-        refused-putter o t id to refusal p v made earlier (later ++ event ∷ []) (own ++ event ∷ []) same is_id lost (lost-calls event earlier later own is)
-        (try-push p v made (put.Did (put_of s made) m) (put.Did (put_of s made) to) later event tried did) on
+    refused-on law (phases.View o m) call answer refusal own on did at may =
+        refused-tried (HasListed first) first listed-for (DidSoFar s first) (ListsUsed first) law (phases.View o m) call answer refusal own on did did at may
+    refused-on law (phases.Search o q) call answer refusal own on did at may =
+        refused-tried (HasListed first) first listed-for (DidSoFar s first) (ListsUsed first) law (phases.Search o q) call answer refusal own on did did at may
+    refused-on law (phases.Put o t id m) call answer refusal own on did at may =
+        refused-tried (HasListed first) first listed-for (DidSoFar s first) (ListsUsed first) law (phases.Put o t id m) call answer refusal own on did did at may
     refused-on law m call answer refusal own after did at may = absurd after
 
     -- before its end
@@ -535,3 +578,80 @@ module _ (s : TableSchema) where
     recounts law = recounts_of next_call Goes Shown phases.Over (DidSoFar s first) (Did s first) (λ m. MayTakeMemory) (Shows s first) so-far
         (λ refusal own shows. (refusal, shows)) (λ path own failed. inr failed) (λ own ends. inr ends) (went-on law)
         (λ m answer refusal own shown did. if-is (next_call m) _ (λ call at may. refused-on law m call answer refusal own shown did at may))
+
+  -- ---- a commit whose first try was made before
+
+  module _ (first : OwnView) (made : Made) where
+    lost-for : (o : OwnView) (own : List Event) → LosesFirst s first made o own → o.intent ≡ first.intent
+    lost-for o own (same, did) = ap (λ (o : OwnView). o.intent) same
+
+    in-later : (m : Phase) (own : List Event) → AfterBegun s (LosesFirst s first made) (DidInTry s m) own → DidToEnd s first made m own
+    in-later phases.Over own (p, earlier, later, lost, none, is) = absurd none
+    in-later m own after = inr after
+
+    -- the putter of the first try came so far
+    first-putter : (o : OwnView) (t : TableSchema) (id : ℕ) (to : put_phase.Phase) (new : Phase) (own : List Event) → o ≡ named_first first made → t ≡ s
+        → id ≡ made.id → put.Did (put_of s made) to own → AfterPutter o t id to (Ok new) → DidToEnd s first made new own
+    first-putter o t id puts.Published new own same is_t is_id did on =
+        subst (λ (m : Phase). DidToEnd s first made m own) (sym (ok-same new _ on)) (inl (ap (λ (o : OwnView). o.author) same, is_id, did))
+    first-putter o t id puts.Lost new own same is_t is_id did (left, on) =
+        let next : OwnView = with_lost made.id (named_first first made) in
+        let is_next : new ≡ first_of_try next s =
+        on ∙ ap (first_of_try (with_lost id o)) is_t
+        ∙ ap (λ (o : OwnView). first_of_try o s) (ap (with_lost id) same ∙ ap (λ (id : ℕ). with_lost id (named_first first made)) is_id) in
+        subst (λ (m : Phase). DidToEnd s first made m own) (sym is_next)
+        (inr (begin-try (LosesFirst s first made) next own (has_begun next own (refl, did))))
+    first-putter o t id to new own same is_t is_id did on =
+        subst (λ (m : Phase). DidToEnd s first made m own) (sym (ok-same new _ on)) (inl (same, is_t, is_id, did))
+
+    first-on : (m : Phase) (answer : Answer) (new : Phase) (own : List Event) → After m answer (Ok new) → DidFirst s first made m own
+        → IfSome (next_call m) (λ call. MayAnswer call answer → DidToEnd s first made new (own ++ answered call answer ∷ []))
+    first-on (phases.Put o t id m) answer new own (to, goes, on) (same, is_t, is_id, did) =
+        IfSome_then (putters.next_call m) ((put_facts.recounts (put_of s made)).went m to answer own goes did)
+        (λ call came may. first-putter o t id to new (own ++ answered call answer ∷ []) same is_t is_id (came may) on)
+    first-on (phases.Committed author id) answer new own on did = tt
+    first-on m answer new own on did = absurd did
+
+    after-on : Joined → (m : Phase) (answer : Answer) (new : Phase) (own : List Event) → After m answer (Ok new) → DidAfter s first made m own
+        → IfSome (next_call m) (λ call. MayAnswer call answer → DidToEnd s first made new (own ++ answered call answer ∷ []))
+    after-on law m answer new own on (inl did) = first-on m answer new own on did
+    after-on law m answer new own on (inr did) = IfSome_then (next_call m) (tried-on (LosesFirst s first made) law m answer new own on did)
+        (λ call came may. in-later new (own ++ answered call answer ∷ []) (came may))
+
+    to-later : Joined → (m : Phase) (answer : Answer) (new : Phase) (own : List Event) → After m answer (Ok new) → DidToEnd s first made m own
+        → IfSome (next_call m) (λ call. MayAnswer call answer → DidToEnd s first made new (own ++ answered call answer ∷ []))
+    to-later law phases.Over answer new own on did = tt
+    to-later law m answer new own on did = after-on law m answer new own on did
+
+    -- a putter that refuses, of the first try: eleven tries weren't lost yet
+    first-refused : first.lost ≡ [] → (m : Phase) (call : Call) (answer : Answer) (refusal : Refusal) (own : List Event) → After m answer (Err refusal)
+        → DidFirst s first made m own → next_call m ≡ Some call → MayAnswer call answer → ShowsAfter s first made refusal (own ++ answered call answer ∷ [])
+    first-refused none (phases.Put o t id m) call answer refusal own (inl shown) (same, is_t, is_id, did) at may =
+        let (path, used) = put-met (LosesFirst s first made) first lost-for (DidAfter s first made) (put.MeetsFile (put_of s made)) m answer refusal shown in
+        let shows = some-at (putters.next_call m) call _ at ((put_facts.recounts (put_of s made)).refused m puts.Over answer refusal own (shown, refl) did) may in
+        as-shown (LosesFirst s first made) first lost-for (DidAfter s first made) (put.MeetsFile (put_of s made)) refusal (refusals.SessionUsed path) _ used
+        (inl (subst (λ (e : Refusal). put.Shows (put_of s made) e (own ++ answered call answer ∷ [])) used shows.1))
+    first-refused none (phases.Put o t id m) call answer refusal own (inr (to, goes, on)) (same, is_t, is_id, did) at may = absurd (still to on)
+      where
+        still : (to : put_phase.Phase) → AfterPutter o t id to (Err refusal) → ⊥
+        still puts.Lost (last, contended) =
+            let few : length o.lost ≡ 0 = ap (λ (o : OwnView). length o.lost) same ∙ ap length none in omega (arith, few, last)
+        still to on = err-ok refusal _ on
+    first-refused none (phases.Committed author id) call answer refusal own on did at may = absurd on
+    first-refused none m call answer refusal own on did at may = absurd did
+
+    after-refused : first.lost ≡ [] → Joined → (m : Phase) (call : Call) (answer : Answer) (refusal : Refusal) (own : List Event) → After m answer (Err refusal)
+        → DidAfter s first made m own → next_call m ≡ Some call → MayAnswer call answer → ShowsAfter s first made refusal (own ++ answered call answer ∷ [])
+    after-refused none law m call answer refusal own on (inl did) at may = first-refused none m call answer refusal own on did at may
+    after-refused none law m call answer refusal own on (inr did) at may =
+        refused-tried (LosesFirst s first made) first lost-for (DidAfter s first made) (put.MeetsFile (put_of s made)) law m call answer refusal own on (inr did) did at may
+
+    so-later : (m : Phase) (own : List Event) → IsSome (next_call m) → DidToEnd s first made m own → DidAfter s first made m own
+    so-later phases.Over own called did = absurd (let clash = called in cc)
+    so-later m own called did = did
+
+    pub recounts-later : first.lost ≡ [] → Joined → Recounts next_call Goes Refuses Stops (DidToEnd s first made) (ShowsAfter s first made)
+    recounts-later none law = recounts_of next_call Goes Shown phases.Over (DidAfter s first made) (DidToEnd s first made) (λ m. MayTakeMemory) (ShowsAfter s first made)
+        so-later (λ refusal own shows. (refusal, shows)) (λ path own failed. inr failed) (λ own ends. inr ends) (to-later law)
+        (λ m answer refusal own shown did. if-is (next_call m) _
+        (λ call at may. after-refused none law m call answer refusal own shown (so-later m own (subst (λ (o : Option Call). IsSome o) (sym at) refl) did) at may))

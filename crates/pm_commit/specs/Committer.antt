@@ -2,6 +2,7 @@
 use Rattle.std.specs.Prelude.{◌≡◌, ◌⊎◌, ℕ, ◌+◌, ◌-◌, ◌*◌, ◌<◌, ◌≤◌, List, [], ◌∷◌, ◌++◌, codes, length, nat_le}
 use Rattle.std.specs.Prelude.{Bool, true, false, Option, None, Some, Result, Ok, Err, if◌then◌else◌}
 use Rattle.std.specs.List.{AllByRecursion}
+use Rattle.pm_values.specs.Names.{Naming}
 use Rattle.pm_values.specs.declared.refusal.Refusal.{Refusal}
 use Rattle.pm_values.specs.declared.refusal.Refusal.TheVariants as refusals
 use Rattle.pm_store.specs.declared.answer.Answer.{Answer}
@@ -34,11 +35,12 @@ use Rattle.pm_made.specs.Files.{IsMadeOf}
 use Rattle.pm_made.specs.Intent.{most_files}
 use Rattle.pm_made.specs.Refusals.{refusal_of}
 use Rattle.pm_made.specs.declared.intent.Intent.{Intent}
+use Rattle.pm_made.specs.declared.intent.Plan.{Plan}
 use Rattle.pm_made.specs.declared.newest.Author.{Author}
 use Rattle.pm_made.specs.declared.newest.Made.{Made}
 use Rattle.pm_made.specs.declared.newest.Newest.{Newest}
 use Rattle.pm_commit.specs.Marks.{FindsUsed}
-use Rattle.pm_commit.specs.Own.{IsAppend, IsOwn, IsTried, OwnView, begun, tries, with_lost, with_named}
+use Rattle.pm_commit.specs.Own.{IsAppend, IsOwn, IsTried, MayView, OwnView, begun, own_for_plan, tries, with_lost, with_named}
 use Rattle.pm_commit.specs.Search.{SearchingView, older_ids, searching_of, seen_in, seen_of}
 use Rattle.pm_commit.specs.declared.search.Seen.{Seen}
 use Rattle.pm_commit.specs.declared.search.Seen.TheVariants as seen
@@ -92,6 +94,10 @@ most_of_try intent = (most + 5) + (most + (most_files intent + 1))
 -- and how many the tries after this one make
 abbrev pub later_tries : OwnView → ℕ
 later_tries own = (tries - (length own.lost + 1)) * most_of_try own.intent
+
+-- how many calls a compaction makes at most from its first try's files on
+abbrev pub most_calls : ℕ
+most_calls = tries * ((most + 5) + (most + 7))
 
 -- how many calls are left at most, where no refusal comes
 abbrev pub calls_left : Phase → ℕ
@@ -153,9 +159,9 @@ pub record Reads (m : view_phase.Phase) (s : TableSchema) : Type 0 where
 
 -- ---- its invariant
 
--- the reader of a view has a call left, and reads the table to which the commit is made
+-- the reader of a view has a call left, and reads the table to which the commit is made, which may begin so
 abbrev pub IsViewing : OwnView → view_phase.Phase → Type 0
-IsViewing own m = (0 < reader.calls_left m) × ((s : TableSchema) × Reads m s × IsOwn s own)
+IsViewing own m = (0 < reader.calls_left m) × ((s : TableSchema) × Reads m s × IsOwn s own) × MayView own
 
 -- what a try found is a table to which the commit can be made
 pub record MayMake (own : OwnView) (found : Found) : Type 0 where
@@ -199,6 +205,12 @@ Makes own found (Ok later) = (made : Made)
     × (later ≡ first_of_put own found.schema made)
 Makes own found (Err refusal) =
     (refusal ≡ refusals.Memory) ⊎ (refusal_of found.newest own.author own.intent ≡ Some refusal)
+
+-- The committer of a compaction by a plan of the newest snapshot, whose first try is made: its files are to be put. The
+-- files of rows are created before that, by whoever made them.
+abbrev pub Begins : TableSchema → Newest → Author → Plan → Naming → Phase → Type 0
+Begins s newest author plan names m =
+    Makes (own_for_plan plan author names) (record { schema = s; newest = newest }) (Ok m)
 
 -- the next of these older snapshots is to be read, or none is left
 abbrev pub Seeks : OwnView → Found → List ℕ → Outcome → Type 0

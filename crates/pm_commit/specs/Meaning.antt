@@ -8,9 +8,9 @@ use Rattle.pm_values.specs.declared.refusal.Refusal.TheVariants as refusals
 use Rattle.pm_store.specs.Files.{Files, IsListing}
 use Rattle.pm_store.specs.Store.{StoreView}
 use Rattle.pm_machine.specs.Moves.{Moves}
-use Rattle.pm_put.specs.Meaning.{IsAt, IsPut}
+use Rattle.pm_put.specs.Meaning.{Appears, AreSame, IsAt, IsPut}
 use Rattle.pm_put.specs.declared.phase.Phase as put_phase
-use Rattle.pm_model_history.specs.History.{Entry, History, IsTableOf, append, table}
+use Rattle.pm_model_history.specs.History.{Entry, History, IsTableOf, append, compaction, table}
 use Rattle.pm_schema.specs.declared.schema.TableSchema.{TableSchema}
 use Rattle.pm_snapshot.specs.Names.{MayName}
 use Rattle.pm_snapshot.specs.declared.snapshot.Snapshot.{Snapshot}
@@ -30,11 +30,16 @@ use Rattle.pm_made.specs.Intent.{Means}
 use Rattle.pm_made.specs.Refusals.{refusal_of}
 use Rattle.pm_made.specs.declared.newest.Author.{Author}
 use Rattle.pm_made.specs.declared.newest.Newest.{Newest}
+use Rattle.pm_made.specs.declared.intent.Intent.{Intent}
+use Rattle.pm_made.specs.declared.intent.Intent.TheVariants as intents
+use Rattle.pm_made.specs.declared.intent.Plan.{Plan}
 use Rattle.pm_append.specs.Commit.{HasAppended}
+use Rattle.pm_compaction.specs.Compacted.{HasCompacted}
+use Rattle.pm_compaction.specs.Plan.{KnowsPlan}
 use Rattle.pm_put.specs.declared.putting.CommitFile.{CommitFile}
 use Rattle.pm_commit.specs.Committer.{IsCommitter, Reads, found_in, put_of}
 use Rattle.pm_commit.specs.Marks.{FindsUsed}
-use Rattle.pm_commit.specs.Own.{IsAppend, IsNoAppend, OwnView, actor_of, tries}
+use Rattle.pm_commit.specs.Own.{IsNoAppend, OwnView, actor_of, tries}
 use Rattle.pm_commit.specs.Search.{seen_of}
 use Rattle.pm_commit.specs.declared.search.Seen.TheVariants as seen
 use Rattle.pm_commit.specs.declared.found.Found.{Found}
@@ -73,11 +78,10 @@ MakesEntry e m f p after later = MakesIn (own_in m) e f p after later
 
 -- ---- what it knows
 
--- The entry is the commit's, and appends rows: nothing else is known to be committed yet. The actor's names may stand
--- in paths, and no known snapshot names a file that it named; and its base is a snapshot's that was committed.
+-- The entry is the commit's. The actor's names may stand in paths, and no known snapshot names a file that it named;
+-- and its base is a snapshot's that was committed.
 pub record KnowsOwn (own : OwnView) (e : Entry) (s : TableSchema) (p : Past) : Type 0 where
   pub is_table : IsTableOf s p.history
-  pub appends : IsAppend own.intent
   pub means : Means s own.author own.intent e
   pub may : MayName own.names
   pub unnamed : HasNamedNone (actor_of own) p
@@ -124,10 +128,12 @@ HasEntry e id p = (s : TableSchema) × (before after : List Entry)
     × (p.history ≡ table s (before ++ e ∷ after)) × (id ≡ length before + 1)
 
 -- The snapshot after the newest is there, and to its last field but the names of its lists it is the one that adds the
--- entry for the author. Only appends are committed.
+-- entry for the author. Of a compaction it is that of some plan which names the entry's groups.
 abbrev pub BearsAdded : Files → TableSchema → Newest → Author → Entry → Type 0
 BearsAdded f s newest author (append user identifier rows) =
     (user ≡ author.user) × (identifier ≡ author.identifier) × HasAppended f s newest author (length rows)
+BearsAdded f s newest author (compaction base groups) = (plan : Plan) × (base ≡ author.base)
+    × (groups ≡ plan.groups.items) × HasCompacted f s newest author plan
 BearsAdded f s newest author other = ⊥
 
 -- The snapshot with this id is the commit's: the history has its entry, and, as the snapshot stood, it was to its last
@@ -150,6 +156,25 @@ pub record HasEarlier (author : Author) (p : Past) : Type 0 where
   pub stood : SnapshotAt (p.stood id) id snapshot
   pub reached : seen_of author snapshot ≡ seen.Reached
 
+-- ---- the files of rows that it was given
+
+-- What was planned of a commit with this base by an actor, and these are the files of rows that were created for it: an
+-- append makes its own at each try.
+abbrev pub PlannedIn : Intent → Actor → ℕ → List CommitFile → Past → Type 0
+PlannedIn (intents.Append batch) me base given p = given ≡ []
+PlannedIn (intents.Compact plan) me base given p = (s : TableSchema) × KnowsPlan me s base plan given p
+PlannedIn (intents.Fence number) me base given p = ⊥
+
+abbrev pub IsPlanned : OwnView → List CommitFile → Past → Type 0
+IsPlanned own given p = PlannedIn own.intent (actor_of own) own.author.base given p
+
+-- of these files it was given, and those done are there, but where its base is fenced; and all are
+abbrev pub WasGiven : List CommitFile → List CommitFile → Phase → Files → Past → Type 0
+WasGiven given done m f p = IfSome (own_in m) (λ own. IsPlanned own given p × AreThere own f p done)
+
+abbrev pub HasGiven : Phase → Files → Past → Type 0
+HasGiven m f p = (given : List CommitFile) × WasGiven given given m f p
+
 -- what it knows in each phase
 abbrev pub KnowsIn : Entry → Phase → Files → Past → Type 0
 KnowsIn e (phases.Names own s) f p = KnowsOwn own e s p
@@ -161,9 +186,19 @@ KnowsIn e (phases.Committed author id) f p = HasCommitted author e id p
 KnowsIn e (phases.Already author) f p = HasEarlier author p
 KnowsIn e phases.Over f p = Unit {0}
 
--- What it knows, whatever others do, where this is its entry.
+-- What it knows, whatever others do, where this is its entry: and that the files of rows that it was given are there.
 abbrev pub Knows : Entry → Phase → Files → Past → Type 0
-Knows e m f p = IsCommitter m × KnowsIn e m f p
+Knows e m f p = IsCommitter m × KnowsIn e m f p × HasGiven m f p
+
+-- what it knows while those that it is given are yet to be created: of these those done are there
+abbrev pub KnowsBut : Entry → List CommitFile → List CommitFile → Phase → Files → Past → Type 0
+KnowsBut e given done m f p = IsCommitter m × KnowsIn e m f p × WasGiven given done m f p
+
+-- ---- the creates of the files that it is given
+
+-- what such a create may change: nothing, or the file appears, whole or in part
+abbrev pub MakesFile : CommitFile → Files → Files → Type 0
+MakesFile file f after = AreSame f after ⊎ ((content : List ℕ) × Appears file.path content f after)
 
 -- the actor isn't the one that commits
 abbrev pub IsOtherThan : Actor → Phase → Type 0

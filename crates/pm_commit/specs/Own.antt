@@ -1,5 +1,5 @@
 -- What a commit is made of, and by whom.
-use Rattle.std.specs.Prelude.{◌≡◌, ℕ, ℤ, ◌+◌, ◌*◌, ◌<◌, ◌≤◌, ◌^◌, List, [], ◌∷◌, ◌++◌, length, map, Bool}
+use Rattle.std.specs.Prelude.{◌≡◌, ℕ, ℤ, ◌+◌, ◌*◌, ◌<◌, ◌≤◌, ◌^◌, List, [], ◌∷◌, ◌++◌, length, map, Bool, false}
 use Rattle.pm_values.specs.Names.{Naming, based}
 use Rattle.pm_values.specs.declared.group.Group.{Group}
 use Rattle.pm_schema.specs.declared.schema.TableSchema.{TableSchema}
@@ -8,6 +8,7 @@ use Rattle.pm_write.specs.Batch.{GroupRows, Groups}
 use Rattle.pm_made.specs.Intent.{FitsGroups, IsMadeFor, most_files}
 use Rattle.pm_made.specs.declared.intent.Intent.{Intent}
 use Rattle.pm_made.specs.declared.intent.Intent.TheVariants as intents
+use Rattle.pm_made.specs.declared.intent.Plan.{Plan}
 use Rattle.pm_made.specs.declared.newest.Author.{Author}
 use Rattle.pm_append.specs.Commit.{IsBuilt}
 
@@ -31,6 +32,10 @@ new_author user identifier time = record { user = user; identifier = identifier;
 -- a commit that appends a batch, before its first try
 abbrev pub new_own : Groups → Author → Bool → Naming → OwnView
 new_own batch author check names = own_of (intents.Append batch) author check (based 0 names) []
+
+-- a commit that compacts, with its first try's view as its base
+abbrev pub own_for_plan : Plan → Author → Naming → OwnView
+own_for_plan plan author names = own_of (intents.Compact plan) author false names []
 
 -- the actor that makes the names
 abbrev pub actor_of : OwnView → Actor
@@ -83,6 +88,10 @@ IsAppend other = ⊥
 abbrev pub IsNoAppend : Intent → Type 0
 IsNoAppend intent = IsAppend intent → ⊥
 
+-- a commit that begins by a view appends: a compaction begins with its first try made
+abbrev pub MayView : OwnView → Type 0
+MayView own = own.lost ≡ [] → IsAppend own.intent
+
 -- rows that are appended are those of one group
 abbrev pub AppendsOneGroup : Intent → Type 0
 AppendsOneGroup (intents.Append batch) = length batch ≡ 1
@@ -92,7 +101,7 @@ AppendsOneGroup other = Unit {0}
 abbrev pub file_limit : ℕ
 file_limit = 2 ^ 40
 
--- A commit of a table that is built, after so many tries that took names: it is one that is made, its groups fit the
+-- A commit of a table that is built, after so many tries that took names: it appends or compacts, its groups fit the
 -- table, an append has one of them, its base is that of its names, and there are names and tries enough.
 pub record IsOwnAfter (tried : ℕ) (s : TableSchema) (own : OwnView) : Type 0 where
   pub built : IsBuilt s

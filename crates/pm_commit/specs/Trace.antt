@@ -123,9 +123,13 @@ pub data HaveLost (s : TableSchema) (Begins : OwnView → List Event → Type 0)
       → HaveLost s Begins (lost_by o v made) (earlier ++ later)
 
 -- and then came these calls of one more try
-abbrev pub AfterLost : TableSchema → OwnView → (OwnView → List Event → Type 0) → List Event → Type 0
-AfterLost s first Tried own = (o : OwnView) × (earlier later : List Event) × HaveLost s (HasListed first) o earlier
+abbrev pub AfterBegun : TableSchema → (OwnView → List Event → Type 0) → (OwnView → List Event → Type 0) → List Event
+    → Type 0
+AfterBegun s Begins Tried own = (o : OwnView) × (earlier later : List Event) × HaveLost s Begins o earlier
     × Tried o later × (own ≡ earlier ++ later)
+
+abbrev pub AfterLost : TableSchema → OwnView → (OwnView → List Event → Type 0) → List Event → Type 0
+AfterLost s first Tried own = AfterBegun s (HasListed first) Tried own
 
 -- ---- what they show
 
@@ -143,11 +147,10 @@ FindsDone s author o own = (v : View) × (author ≡ (begun v.id o).author)
 abbrev pub MeetsFile : TableSchema → List ℕ → OwnView → List Event → Type 0
 MeetsFile s path o own = (v : View) × (made : Made) × HasTry s o v made (put.MeetsFile (put_of s made) path) own
 
--- a file of the actor's name was there before: one that was listed, or one that a create met
-abbrev pub IsUsed : TableSchema → OwnView → List ℕ → List Event → Type 0
-IsUsed s first path own =
-    ((names : Names) × FindsUsed first.names names.items (Some path) × (own ≡ listed_manifests names ∷ []))
-    ⊎ AfterLost s first (MeetsFile s path) own
+-- a name that was listed has the actor's mark
+abbrev pub ListsUsed : OwnView → List ℕ → List Event → Type 0
+ListsUsed first path own =
+    (names : Names) × FindsUsed first.names names.items (Some path) × (own ≡ listed_manifests names ∷ [])
 
 -- there is a reason against the commit in what a try found
 abbrev pub FindsReason : TableSchema → Refusal → OwnView → List Event → Type 0
@@ -165,10 +168,6 @@ Misreads s path place o own = (v : View) × (id : ℕ) × (left bytes : List ℕ
 abbrev pub LosesLast : TableSchema → List ℕ → OwnView → List Event → Type 0
 LosesLast s ids o own = (v : View) × (made : Made) × LosesTry s o v made own × (length o.lost + 1 ≡ tries)
     × (ids ≡ o.lost ++ made.id ∷ [])
-
--- eleven tries were lost
-abbrev pub IsContended : TableSchema → OwnView → List ℕ → List Event → Type 0
-IsContended s first ids own = AfterLost s first (LosesLast s ids) own
 
 -- the calls of the try, begun as this, in each of its phases
 abbrev pub DidInTry : TableSchema → Phase → OwnView → List Event → Type 0
@@ -193,18 +192,27 @@ MayTakeMemory (answers.Made made) = ⊥
 MayTakeMemory (answers.Published answer) = ⊥
 MayTakeMemory answer = Unit {0}
 
--- which calls show a refusal, but those of a view's reader
+-- Which calls show a refusal, but those of a view's reader, of a commit that began so as this, came to its phases by
+-- these calls and found a path in use at its beginning by those.
+abbrev pub ShowsBegun : TableSchema → OwnView → (OwnView → List Event → Type 0) → (Phase → List Event → Type 0)
+    → (List ℕ → List Event → Type 0) → Refusal → List Event → Type 0
+ShowsBegun s first Begins Came Uses refusals.Memory own = MayEnd next_call Came (λ m. MayTakeMemory) own
+ShowsBegun s first Begins Came Uses (refusals.StoreFault path) own = IsFailed next_call Came path own
+ShowsBegun s first Begins Came Uses (refusals.SessionUsed path) own =
+    Uses path own ⊎ AfterBegun s Begins (MeetsFile s path) own
+ShowsBegun s first Begins Came Uses (refusals.Contended ids) own = AfterBegun s Begins (LosesLast s ids) own
+ShowsBegun s first Begins Came Uses (refusals.Damaged path place) own = AfterBegun s Begins (Misreads s path place) own
+ShowsBegun s first Begins Came Uses (refusals.Fenced base fence) own =
+    AfterBegun s Begins (FindsReason s (refusals.Fenced base fence)) own
+ShowsBegun s first Begins Came Uses (refusals.CompactTaken file) own =
+    IsNoAppend first.intent × AfterBegun s Begins (FindsReason s (refusals.CompactTaken file)) own
+ShowsBegun s first Begins Came Uses (refusals.Limit which number) own =
+    AfterBegun s Begins (FindsReason s (refusals.Limit which number)) own
+ShowsBegun s first Begins Came Uses other own = ⊥
+
 abbrev pub ShowsOwn : TableSchema → OwnView → Refusal → List Event → Type 0
-ShowsOwn s first refusals.Memory own = MayEnd next_call (DidSoFar s first) (λ m. MayTakeMemory) own
-ShowsOwn s first (refusals.StoreFault path) own = IsFailed next_call (DidSoFar s first) path own
-ShowsOwn s first (refusals.SessionUsed path) own = IsUsed s first path own
-ShowsOwn s first (refusals.Contended ids) own = IsContended s first ids own
-ShowsOwn s first (refusals.Damaged path place) own = AfterLost s first (Misreads s path place) own
-ShowsOwn s first (refusals.Fenced base fence) own = AfterLost s first (FindsReason s (refusals.Fenced base fence)) own
-ShowsOwn s first (refusals.CompactTaken file) own =
-    IsNoAppend first.intent × AfterLost s first (FindsReason s (refusals.CompactTaken file)) own
-ShowsOwn s first (refusals.Limit which number) own = AfterLost s first (FindsReason s (refusals.Limit which number)) own
-ShowsOwn s first other own = ⊥
+ShowsOwn s first refusal own =
+    ShowsBegun s first (HasListed first) (DidSoFar s first) (ListsUsed first) refusal own
 
 -- Which calls show a refusal: the reader of a try's view does, or one of these.
 abbrev pub Shows : TableSchema → OwnView → Refusal → List Event → Type 0
@@ -222,3 +230,38 @@ abbrev pub CommitterActed : Phase → Phase → StoreView → StoreView → Resu
 CommitterActed old new before after result = (s : TableSchema) (first : OwnView)
     → Acts (Did s first old) (λ own. Did s first new own × IfErr result (λ refusal. Shows s first refusal own))
     before after
+
+-- ---- a commit whose first try was made before the first of these calls
+
+-- the commit once its first try has named its files
+abbrev pub named_first : OwnView → Made → OwnView
+named_first first made = with_named (first.names.count + length made.files.items) first
+
+-- the first try was lost
+abbrev pub LosesFirst : TableSchema → OwnView → Made → OwnView → List Event → Type 0
+LosesFirst s first made o own =
+    (o ≡ with_lost made.id (named_first first made)) × put.Did (put_of s made) puts.Lost own
+
+-- the calls of the first try
+abbrev pub DidFirst : TableSchema → OwnView → Made → Phase → List Event → Type 0
+DidFirst s first made (phases.Put o t id m) own =
+    (o ≡ named_first first made) × (t ≡ s) × (id ≡ made.id) × put.Did (put_of s made) m own
+DidFirst s first made (phases.Committed author id) own =
+    (author ≡ first.author) × (id ≡ made.id) × put.Did (put_of s made) puts.Published own
+DidFirst s first made other own = ⊥
+
+-- its calls so far: those of the first try, or of one after that
+abbrev pub DidAfter : TableSchema → OwnView → Made → Phase → List Event → Type 0
+DidAfter s first made m own =
+    DidFirst s first made m own ⊎ AfterBegun s (LosesFirst s first made) (DidInTry s m) own
+
+-- which of its calls show a refusal: a create of the first try met a file, or as in later tries of each commit
+abbrev pub ShowsAfter : TableSchema → OwnView → Made → Refusal → List Event → Type 0
+ShowsAfter s first made refusal own =
+    AfterBegun s (LosesFirst s first made) (λ o later. reader.Shows (newest_of s) refusal later) own
+    ⊎ ShowsBegun s first (LosesFirst s first made) (DidAfter s first made) (put.MeetsFile (put_of s made)) refusal own
+
+-- at its end they show a refusal
+abbrev pub DidToEnd : TableSchema → OwnView → Made → Phase → List Event → Type 0
+DidToEnd s first made phases.Over own = (refusal : Refusal) × ShowsAfter s first made refusal own
+DidToEnd s first made m own = DidAfter s first made m own

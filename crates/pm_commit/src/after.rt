@@ -235,7 +235,7 @@ fn misread(alloc: Global, id: u64, fault: SnapFault) -> Refusal
 }
 
 /// What follows once nothing keeps the try from its commit: what it makes is to be put.
-fn make(alloc: Global, own: Own, found: Found) -> Result<Phase, Refusal>
+pub(crate) fn make(alloc: Global, own: Own, found: Found) -> Result<Phase, Refusal>
     requires { MayMake own found }
     ensures { Makes own found result }
 {

@@ -1,22 +1,28 @@
 //! The committer of a batch.
 
-ghost use Rattle.std.specs.Prelude.{◌≡◌, ◌≢◌, ◌<◌, ◌≤◌, ◌^◌, [], List, IfOk, OnOk, OnErr};
+ghost use Rattle.std.specs.Prelude.{◌≡◌, ◌≢◌, ◌⊎◌, ◌<◌, ◌≤◌, ◌^◌, [], List, IfErr, IfOk, OnOk, OnErr, Some};
+ghost use Rattle.pm_values.specs.declared.refusal.Refusal.TheVariants.{Memory};
+ghost use Rattle.pm_made.specs.Refusals.{refusal_of};
+ghost use Rattle.pm_made.specs.declared.intent.Intent.TheVariants as intents;
 ghost use Rattle.pm_model_history.specs.Merge.{HistoryRow};
 ghost use Rattle.pm_store.specs.Store.{IsLater};
 ghost use Rattle.pm_write.specs.Batch.{IsBatchOf};
 ghost use Rattle.pm_append.specs.Commit.{IsBuilt};
 ghost use Rattle.pm_commit.specs.Alone.{CommitterAlone};
-ghost use Rattle.pm_commit.specs.Committer.{calls_left, reached_at, Reaches};
+ghost use Rattle.pm_commit.specs.Committer.{calls_left, most_calls, reached_at, AreNumbered, Begins, IsCommitter, Reaches};
 ghost use Rattle.pm_commit.specs.Meaning.{CommitterMoved};
 ghost use Rattle.pm_commit.specs.Own.{new_author, new_own};
 ghost use Rattle.pm_commit.specs.Trace.{CommitterActed};
 ghost use Rattle.pm_commit.specs.declared.phase.Phase.TheVariants as phases;
 
+use crate::after::make;
+use crate::found::Found;
 use crate::laws::machine_law;
 use crate::own::Own;
 use crate::phase::Phase;
 use pm_base::Txt;
 use pm_machine::{Running, step};
+use pm_made::{Author, Newest, Plan};
 use pm_manifest::read_entry_law;
 use pm_schema::TableSchema;
 use pm_store::FileStore;
@@ -33,7 +39,7 @@ pub enum CommitStep {
     Already,
 }
 
-/// Appends the rows of a batch to a table, a call of the store a step.
+/// Appends the rows of a batch to a table, or commits a compaction of it, a call of the store a step.
 pub type Committer = Running<Phase>;
 
 /// The committer of a batch that isn't empty, to the table with this schema, which was just read, by a user with an
@@ -58,6 +64,33 @@ pub fn new_committer(
         own: Own::new(batch, user, identifier, check, names, now_millis),
         schema,
     })
+}
+
+/// The committer of a compaction that was planned of the newest snapshot, which is its base: with the files of its
+/// first try made, and judged as each try is. The files of rows of the plan are to be created before its next call.
+/// The refusal is why nothing of it is created.
+pub fn new_compaction(
+    alloc: Global,
+    schema: TableSchema,
+    newest: Newest,
+    author: Author,
+    plan: Plan,
+    names: Names,
+) -> Result<Committer, Refusal>
+    requires built { IsBuilt schema }
+    requires numbers { AreNumbered newest.live.items }
+    requires based { (author.base ≡ newest.id) × (names.base ≡ newest.id) }
+    requires count { names.count ≤ 2 ^ 61 }
+    ensures begins { IfOk result (Begins schema newest author plan names) }
+    ensures is_committer { IfOk result (λ m. IsCommitter m × (0 < calls_left m) × (calls_left m ≤ most_calls)) }
+    ensures refuses { IfErr result (λ e. (e ≡ Memory)
+        ⊎ (refusal_of newest author (intents.Compact plan) ≡ Some e)) }
+{
+    let own = Own::of_plan(plan, author, names);
+    match make(alloc, own, Found { schema, newest }) {
+        Ok(phase) => Ok(Running::new(phase)),
+        Err(refusal) => Err(refusal),
+    }
 }
 
 /// Makes the next call of the store. After a refusal, and once the batch is committed or was before, no call is left.

@@ -12,11 +12,7 @@ use uuid::Uuid;
 
 /// The path of the first name that has the mark of a maker of names, which is the first in the order of bytes where the
 /// names rise.
-pub(crate) fn used_path(
-    alloc: Global,
-    maker: &Names,
-    names: &[Txt],
-) -> Result<Option<Txt>, AllocError>
+pub fn used_path(alloc: Global, maker: &Names, names: &[Txt]) -> Result<Option<Txt>, AllocError>
     ensures { IfOk result (FindsUsed maker.now names.now) }
 {
     let mark = mark_of(alloc, maker)?;

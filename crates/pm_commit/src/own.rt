@@ -1,11 +1,11 @@
 //! What a commit is made of, and by whom.
 
 ghost use Rattle.std.specs.Prelude.{◌≡◌};
-ghost use Rattle.pm_commit.specs.Own.{begun, new_author, new_own};
+ghost use Rattle.pm_commit.specs.Own.{begun, new_author, new_own, own_for_plan};
 
 use crate::lost::Lost;
 use pm_base::Txt;
-use pm_made::{Author, Intent};
+use pm_made::{Author, Intent, Plan};
 use pm_values::Names;
 use pm_write::Batch;
 use std::marker::Model;
@@ -52,6 +52,19 @@ impl Own {
                 time: now_millis,
             },
             check,
+            names,
+            lost: Lost::new(),
+        }
+    }
+
+    /// A commit that compacts by a plan, once its first try's view was read, which is its base.
+    pub(crate) fn of_plan(plan: Plan, author: Author, names: Names) -> Own
+        ensures { result ≡ own_for_plan plan author names }
+    {
+        Own {
+            intent: Intent::Compact { plan },
+            author,
+            check: false,
             names,
             lost: Lost::new(),
         }

@@ -16,6 +16,14 @@ returns c =
       newest = c.newest_law.ensures;
       unnamed = c.unnamed_law.ensures.here;
       append = c.append_law.ensures;
+      compact = record {
+        stays = c.plan_law.ensures;
+        given = c.ready_law.ensures.given;
+        own = c.ready_law.ensures.own;
+        full = c.ready_law.ensures.full;
+        change = c.ready_law.ensures.change;
+        compacts = c.compaction_law.ensures;
+      };
       own_files = own-files-of c.own_files_law.ensures;
     } in
     caused laws c.causes_law.ensures

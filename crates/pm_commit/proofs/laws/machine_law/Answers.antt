@@ -1,7 +1,7 @@
 use Rattle.pm_commit.proofs.AloneLemmas.{alone-moves}
 use Rattle.pm_commit.proofs.Facts.{Laws, sound}
 use Rattle.pm_commit.proofs.StillLemmas.{own-files-of}
-use Rattle.pm_commit.proofs.TraceLemmas.{recounts}
+use Rattle.pm_commit.proofs.TraceLemmas.{recounts, recounts-later}
 use Rattle.pm_commit.proofs.laws.machine_law.Goals as goal
 
 pub returns-clause-sound : goal.returns-clause-sound
@@ -17,6 +17,14 @@ returns-clause-sound c =
       newest = c.newest_law.ensures;
       unnamed = c.unnamed_law.ensures.here;
       append = c.append_law.ensures;
+      compact = record {
+        stays = c.plan_law.ensures;
+        given = c.ready_law.ensures.given;
+        own = c.ready_law.ensures.own;
+        full = c.ready_law.ensures.full;
+        change = c.ready_law.ensures.change;
+        compacts = c.compaction_law.ensures;
+      };
       own_files = own-files-of c.own_files_law.ensures;
     } in
     sound laws
@@ -34,9 +42,20 @@ returns-clause-alone c = λ old new before after result stepped b.
       newest = c.newest_law.ensures;
       unnamed = c.unnamed_law.ensures.here;
       append = c.append_law.ensures;
+      compact = record {
+        stays = c.plan_law.ensures;
+        given = c.ready_law.ensures.given;
+        own = c.ready_law.ensures.own;
+        full = c.ready_law.ensures.full;
+        change = c.ready_law.ensures.change;
+        compacts = c.compaction_law.ensures;
+      };
       own_files = own-files-of c.own_files_law.ensures;
     } in
     alone-moves laws c.causes_law.ensures c.path_law.ensures b stepped
 
 pub returns-clause-recounts : goal.returns-clause-recounts
 returns-clause-recounts c = λ s first. recounts s first (c.joined_law.ensures.left, c.joined_law.ensures.order)
+
+pub returns-clause-later : goal.returns-clause-later
+returns-clause-later c = λ s first made none. recounts-later s first made none (c.joined_law.ensures.left, c.joined_law.ensures.order)
