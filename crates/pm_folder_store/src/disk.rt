@@ -1,7 +1,7 @@
 //! What a store on a folder asks of its host. No clause tells of content.
 //!
 //! A file is put in its place by a rename, so that a reader sees all of it or nothing, and each change is made
-//! under the folder's lock.
+//! under the folder's lock. It is begun under the lock, too, and written without it, but for a short one that is owed.
 //!
 //! What is on the disk, and when:
 //!
@@ -43,6 +43,9 @@ use pm_base::{Blob, Txt};
 use pm_store::{StoreFail, is_expected, listed};
 use std::alloc::{AllocError, Global};
 use std::collections::BTreeSet;
+
+/// How many bytes of a file that is owed are written under the lock at most: these take less time than the lock.
+const SHORT: usize = 65536;
 
 /// When a file is written.
 #[derive(Clone, Copy)]
@@ -86,6 +89,8 @@ pub(crate) struct Disk<H: Host + Drop> {
     is_root_new: bool,
     /// Whether this process has seen the folder's own name on the disk.
     is_root_synced: bool,
+    /// Whether this process took away what killed writers left.
+    is_swept: bool,
     synced: Synced,
     owed: Owed,
     shown: Shown,
@@ -99,6 +104,7 @@ impl<H: Host + Drop> Drop for Disk<H> {
             root,
             is_root_new,
             is_root_synced,
+            is_swept,
             synced,
             owed,
             shown,
@@ -118,6 +124,7 @@ impl<H: Host + Drop> Disk<H> {
             root,
             is_root_new: false,
             is_root_synced: false,
+            is_swept: false,
             synced: Synced::new(alloc),
             owed: Owed::new(alloc),
             shown: Shown::new(alloc),
@@ -171,6 +178,9 @@ impl<H: Host + Drop> Disk<H> {
         }
         if !is_replaced(condition) {
             self.make_root()?;
+        }
+        if is_short(path, bytes) {
+            return self.put_short(alloc, path, full, condition, bytes);
         }
         let mut begun = self.begin(alloc)?;
         let answer = self.put_in_place(alloc, path, full, condition, bytes, &mut begun);
@@ -364,6 +374,62 @@ impl<H: Host + Drop> Disk<H> {
         }
     }
 
+    /// Writes a short file that is owed under one lock: nothing of it waits for the disk. The file is closed after the
+    /// lock, since a file system may have its bytes on their way then.
+    fn put_short(
+        &mut self,
+        alloc: Global,
+        path: &str,
+        full: &str,
+        condition: Condition,
+        bytes: &[u8],
+    ) -> Result<Verdict, StoreFail>
+        ensures { IfOk result (Judges condition.entry) }
+    {
+        let lock = self.locked(alloc, true)?;
+        let mut begun = match self.begin_locked(alloc) {
+            Ok(begun) => begun,
+            Err(fail) => {
+                self.host.close(lock);
+                return Err(fail);
+            }
+        };
+        let answer = self.fill_locked(alloc, path, full, condition, bytes, &mut begun);
+        self.host.close(lock);
+        self.end(begun);
+        answer
+    }
+
+    /// Writes the bytes of a temporary file, and renames it to its path where the condition holds, under the lock.
+    fn fill_locked(
+        &mut self,
+        alloc: Global,
+        path: &str,
+        full: &str,
+        condition: Condition,
+        bytes: &[u8],
+        begun: &mut Begun<H::File>,
+    ) -> Result<Verdict, StoreFail>
+        ensures { IfOk result (Judges condition.entry) }
+    {
+        self.fill(full, condition, bytes, begun)?;
+        self.put_locked(alloc, path, full, condition, begun)
+    }
+
+    /// Writes the bytes of a temporary file, which gets the mode of the one that it replaces.
+    fn fill(
+        &mut self,
+        full: &str,
+        condition: Condition,
+        bytes: &[u8],
+        begun: &mut Begun<H::File>,
+    ) -> Result<(), StoreFail> {
+        if is_replaced(condition) {
+            self.copy_mode(full, &begun.file)?;
+        }
+        Ok(self.host.write(&mut begun.file, bytes)?)
+    }
+
     /// Writes a temporary file to the disk, and renames it to its path where the condition holds.
     fn put_in_place(
         &mut self,
@@ -376,10 +442,7 @@ impl<H: Host + Drop> Disk<H> {
     ) -> Result<Verdict, StoreFail>
         ensures { IfOk result (Judges condition.entry) }
     {
-        if is_replaced(condition) {
-            self.copy_mode(full, &begun.file)?;
-        }
-        self.host.write(&mut begun.file, bytes)?;
+        self.fill(full, condition, bytes, begun)?;
         if !is_named_elsewhere(store_folder_of(path)) {
             self.host.sync(&begun.file)?;
             self.settle_owed(alloc)?;
@@ -562,11 +625,18 @@ impl<H: Host + Drop> Disk<H> {
 
     /// A new temporary file, locked as long as it is open.
     fn begin(&mut self, alloc: Global) -> Result<Begun<H::File>, StoreFail> {
-        let folder = format!(in alloc; "{}/.new", self.root)?;
         let lock = self.locked(alloc, true)?;
-        let begun = begin_file(alloc, &mut self.host, folder.as_str());
+        let begun = self.begin_locked(alloc);
         self.host.close(lock);
         begun
+    }
+
+    /// The same under the lock. What killed writers left is taken away at the first.
+    fn begin_locked(&mut self, alloc: Global) -> Result<Begun<H::File>, StoreFail> {
+        let folder = format!(in alloc; "{}/.new", self.root)?;
+        let begun = begin_file(alloc, &mut self.host, folder.as_str(), self.is_swept)?;
+        self.is_swept = true;
+        Ok(begun)
     }
 
     /// Closes a temporary file, and takes it away where it wasn't put in its place. It is locked while its name is
@@ -660,6 +730,11 @@ fn can_be_made<H: Host>(host: &mut H, root: &str) -> Result<(), StoreFail> {
         Kind::Folder => Ok(()),
         Kind::File | Kind::Other => Err(StoreFail::Failed),
     }
+}
+
+/// Whether a file is owed, and so short that it is written under the lock.
+fn is_short(path: &str, bytes: &[u8]) -> bool {
+    bytes.len() <= SHORT && is_named_elsewhere(store_folder_of(path))
 }
 
 /// Whether a file is replaced. Then each folder around it had its name on the disk before anything was in it.

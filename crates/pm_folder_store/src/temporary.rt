@@ -21,15 +21,16 @@ pub(crate) struct Begun<F: Drop> {
     pub(crate) is_placed: bool,
 }
 
-/// A new file in the folder, locked as long as it is open. Those that killed writers left are taken away: nobody holds
-/// a lock on them. It is called under the lock of the table.
+/// A new file in the folder, locked as long as it is open. `is_swept` says that this process had the folder ready
+/// before. It is called under the lock of the table.
 pub(crate) fn begin_file<H: Host>(
     alloc: Global,
     host: &mut H,
     folder: &str,
+    is_swept: bool,
 ) -> Result<Begun<H::File>, StoreFail> {
-    if !make_folder(host, folder)? {
-        sweep(alloc, host, folder)?;
+    if !is_swept || !is_folder(host, folder)? {
+        make_ready(alloc, host, folder)?;
     }
     for n in 0..TEMPORARY_NAMES {
         let path = format!(in alloc; "{folder}/{n}")?;
@@ -40,6 +41,20 @@ pub(crate) fn begin_file<H: Host>(
         }
     }
     Err(StoreFail::Failed)
+}
+
+/// Whether a folder is there.
+fn is_folder<H: Host>(host: &mut H, folder: &str) -> Result<bool, StoreFail> {
+    Ok(matches!(kind_at(host, folder)?, Some(Kind::Folder)))
+}
+
+/// Makes the folder. Where it is there, the files that killed writers left in it are taken away: nobody holds a lock on
+/// them.
+fn make_ready<H: Host>(alloc: Global, host: &mut H, folder: &str) -> Result<(), StoreFail> {
+    if !make_folder(host, folder)? {
+        sweep(alloc, host, folder)?;
+    }
+    Ok(())
 }
 
 /// A file that was made, once it is locked.
