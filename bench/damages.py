@@ -29,7 +29,9 @@ SAMPLE = 20  # each so many commands one runs under strace
 SECRET = b'["+I",666,"a secret of somebody else"]'
 KNOWN = ("/dev/urandom", "/dev/random")
 OWN_FILE = rb"(data|manifest|manifest-list|ORIGIN)-[0-9a-f-]{36}-0[0-9a-z.-]*"
-OWN = re.compile(rb"\.lock|\.new(/\d+)?|(bucket-0|manifest|snapshot|schema)(/" + OWN_FILE + rb")?")
+SEAL = rb"\.sealed-(manifest|snapshot|schema)-[\d-]+"
+LEFT = re.compile(rb"\.new/(0|[1-9]\d*)|" + SEAL)
+OWN = re.compile(rb"\.lock|\.new(/\d+)?|" + SEAL + rb"|(bucket-0|manifest|snapshot|schema)(/" + OWN_FILE + rb")?")
 TABLES = {
     "deduplicate": (
         {},
@@ -315,8 +317,8 @@ class Trial:
         return ended
 
     def is_left(self, path, held):
-        """Whether something may be what a killed writer left."""
-        return held[0] == stat.S_IFREG and re.fullmatch(rb"\.new/(0|[1-9]\d*)", path)
+        """Whether something may be what a killed writer left, or a seal that counts no more."""
+        return held[0] == stat.S_IFREG and LEFT.fullmatch(path)
 
     def run(self):
         folder = reference_files.Folder(self.folder)

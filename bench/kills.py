@@ -20,13 +20,14 @@ import time
 from trials import DRAFT, Tally, copy, fault_of, random_of, read_arguments, run, tree, work_folder
 
 CHANGES = ("openat", "write", "fsync", "fdatasync", "rename", "renameat", "renameat2", "unlink", "unlinkat", "mkdir")
-CHANGES += ("mkdirat", "rmdir", "flock", "fchmod", "ftruncate")
+CHANGES += ("mkdirat", "rmdir", "flock", "fchmod", "ftruncate", "utimensat")
 LOOKS = ("chdir", "open", "read", "getdents64", "statx", "stat", "lstat", "fstat", "newfstatat", "close")
 ERRORS = ("EIO", "ENOSPC")
 MERGING = DRAFT[:-1] + b',"options":{"manifest.merge-min-count":"2"}}'
 
-# A folder, a command on it, and the keys that the table has before and after it; none where there is no table.
-Case = collections.namedtuple("Case", "name folder words data before after")
+# A folder, a command on it, the keys that the table has before and after it, none where there is no table, and those
+# that are written to a copy of the folder first: a copy's folders aren't sealed.
+Case = collections.namedtuple("Case", "name folder words data before after first", defaults=[()])
 Injected = collections.namedtuple("Injected", "call number how")
 
 
@@ -73,7 +74,9 @@ class Trials:
             Case("a write that merges manifests", many, ["write"], rows, [1, 2, 3], [1, 2, 3, 8, 9]),
             Case("a write by a user", many, ["write", "--user", "u", "--ident", "1"], rows, [1, 2, 3], [1, 2, 3, 8, 9]),
             Case("a write after a killed one", left, ["write"], rows, [1, 2], [1, 2, 8, 9]),
+            Case("a write to sealed folders", many, ["write"], rows, [1, 2, 3, 4], [1, 2, 3, 4, 8, 9], [4]),
             Case("scan", many, ["scan"], b"", [1, 2, 3], [1, 2, 3]),
+            Case("scan of sealed folders", many, ["scan"], b"", [1, 2, 3, 4], [1, 2, 3, 4], [4]),
             Case("snapshots", many, ["snapshots"], b"", [1, 2, 3], [1, 2, 3]),
         ]
 
@@ -84,6 +87,9 @@ class Trials:
             copy(case.folder, folder)
         else:
             copy(self.work / "empty", folder).rmdir()
+        if case.first:
+            self.command(folder, "write", data=batch(*case.first))
+        self.stood = tree(folder) if folder.exists() else None
         calls = ",".join(f"?{call}" for call in CHANGES + LOOKS)
         words = ["strace", "-f", "-qq", "-o", trace, "-e", f"trace={calls}", *options]
         ended = run([*words, self.program, folder, *case.words], case.data)
@@ -125,7 +131,7 @@ class Trials:
             self.tally.breaks(where, f"it answered {ended} and the table is {found}")
         if "KILL" not in how:
             self.judge_refusal(case, injected, ended, found, where)
-        if case.before == case.after and case.folder.exists() and tree(case.folder) != tree(folder):
+        if case.before == case.after and self.stood != tree(folder):
             self.tally.breaks(where, "a command that only reads changed the folder")
         self.go_on(folder, found, where)
 

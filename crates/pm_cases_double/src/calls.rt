@@ -113,6 +113,19 @@ impl World {
         Ok(())
     }
 
+    /// Sets when the content of what is open changed last.
+    pub(crate) fn set_changed(&mut self, handle: usize, time: Duration) -> Result<(), HostError> {
+        let thing = self.begin_at(Act::SetChanged, handle)?;
+        let tick = self.tick();
+        let Some(node) = self.nodes.get_mut(thing) else {
+            return Err(HostError::NotFound);
+        };
+        node.changed = u64::try_from(time.as_micros()).unwrap_or(0);
+        node.touched = tick;
+        self.done();
+        Ok(())
+    }
+
     /// Has what is open on the disk.
     pub(crate) fn sync(&mut self, handle: usize) -> Result<(), HostError> {
         let thing = self.begin_at(Act::Sync, handle)?;
@@ -213,6 +226,7 @@ impl World {
             device: 1,
             inode: u64::try_from(thing).unwrap_or(0),
             changed: Duration::from_micros(node.changed),
+            touched: Duration::from_micros(node.touched),
         })
     }
 
@@ -298,6 +312,7 @@ impl World {
             return Err(HostError::NotFound);
         };
         node.changed = tick;
+        node.touched = tick;
         match &mut node.thing {
             Thing::File(bytes) => {
                 bytes.is_synced = false;

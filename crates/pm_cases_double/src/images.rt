@@ -77,6 +77,7 @@ fn choice(alloc: Global, node: &Node, digits: &mut Digits) -> Result<Node, HostE
     Ok(Node {
         thing,
         changed: node.changed,
+        touched: node.touched,
         around: node.around,
     })
 }

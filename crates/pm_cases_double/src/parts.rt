@@ -127,10 +127,12 @@ impl Drop for Thing {
     }
 }
 
-/// A thing, when its content changed last, in microseconds since 1970, and the folder around it, if it is a folder.
+/// A thing, when its content changed last, or what was set as that, and when anything of it did, in microseconds since
+/// 1970, and the folder around it, if it is a folder.
 pub struct Node {
     pub thing: Thing,
     pub changed: u64,
+    pub touched: u64,
     pub around: usize,
 }
 
@@ -139,6 +141,7 @@ impl Drop for Node {
         let Node {
             thing,
             changed,
+            touched,
             around,
         } = self;
     }

@@ -99,6 +99,10 @@ impl<B: Beside + Drop> Host for Seat<'_, B> {
         self.double()?.copy_mode(from, file.number)
     }
 
+    fn set_changed(&mut self, file: &Handle, time: Duration) -> Result<(), HostError> {
+        self.double()?.set_changed(file.number, time)
+    }
+
     fn sync(&mut self, file: &Handle) -> Result<(), HostError> {
         self.double()?.sync(file.number)
     }

@@ -13,6 +13,7 @@ pub enum Act {
     Read,
     Write,
     CopyMode,
+    SetChanged,
     Sync,
     Lock,
     Share,
@@ -35,6 +36,7 @@ impl Act {
             Act::Read => "read",
             Act::Write => "write",
             Act::CopyMode => "mode",
+            Act::SetChanged => "date",
             Act::Sync => "sync",
             Act::Lock => "lock",
             Act::Share => "share",
@@ -63,7 +65,11 @@ impl Act {
 
     /// Whether the call is one that changes something, has it on the disk, or concerns a lock.
     fn is_told(self) -> bool {
-        self.is_change() || matches!(self, Act::CopyMode | Act::Lock | Act::Share | Act::Unlock)
+        self.is_change()
+            || matches!(
+                self,
+                Act::CopyMode | Act::SetChanged | Act::Lock | Act::Share | Act::Unlock
+            )
     }
 }
 

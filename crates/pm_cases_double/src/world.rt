@@ -76,6 +76,7 @@ impl World {
         nodes.push(Node {
             thing: Thing::Folder(Vec::new(alloc)),
             changed: 0,
+            touched: 0,
             around: TOP,
         })?;
         Ok(World::of(alloc, nodes))
@@ -320,6 +321,7 @@ impl World {
             return Err(HostError::NotFound);
         };
         node.changed = tick;
+        node.touched = tick;
         let Thing::Folder(names) = &mut node.thing else {
             return Err(HostError::NotADirectory);
         };
@@ -332,6 +334,7 @@ impl World {
         let node = Node {
             thing,
             changed: self.tick(),
+            touched: self.tick(),
             around,
         };
         self.nodes.push(node)?;

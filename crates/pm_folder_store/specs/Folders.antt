@@ -20,3 +20,7 @@ is_named_elsewhere folder =
 -- no file of the folder is ever replaced, or made anew once it was taken away: it has snapshots, or schemas
 abbrev pub is_made_once : List ℕ → Bool
 is_made_once folder = bytes_eq folder (codes "snapshot") || bytes_eq folder (codes "schema")
+
+-- the folder is sealed: it has manifests and their lists, snapshots, or schemas
+abbrev pub can_be_sealed : List ℕ → Bool
+can_be_sealed folder = bytes_eq folder (codes "manifest") || is_made_once folder

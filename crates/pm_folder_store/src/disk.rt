@@ -15,26 +15,29 @@
 //! - A change elsewhere is on the disk before it is answered.
 //! - A look into a folder whose files are named elsewhere syncs nothing: what names a file came to the disk after it. A
 //!   look elsewhere is on the disk before it is answered: the folder is synced where it changed since this process last
-//!   synced it. What a read finds under a name that this process listed needs none, in a folder where nothing is
-//!   replaced or made anew: that name was there since the listing.
+//!   synced it, but for a listing of one that is sealed as it is (`seal.rt`). What a read finds under a name that this
+//!   process listed needs none, in a folder where nothing is replaced or made anew: that name was there since the
+//!   listing.
 //!
 //! The folder itself may be what a link leads to. Inside it nothing is followed: each folder on a path is looked at
 //! before what stands in it is. What is open is closed on each path by the host's own call.
 
-ghost use Rattle.std.specs.Prelude.{◌≡◌, ◌↔◌, IfOk, IsTrue};
+ghost use Rattle.std.specs.Prelude.{◌≡◌, ◌↔◌, IfErr, IfOk, IsTrue};
 ghost use Rattle.std.specs.Cmp.Lexicographic.{slice_cmp};
 ghost use Rattle.std.specs.List.Sorted.{IsStrictlySortedBy};
 ghost use Rattle.std.specs.Ordering.{nat_cmp};
 ghost use Rattle.pm_folder_store.specs.Disk.{Judges, IsReplaced};
 
 use crate::host::{Host, HostError, Kind};
-use crate::listing::shown_names;
+use crate::listing::{Content, shown_names};
 use crate::lock::locked;
-use crate::look::{is_absent, kind_at, make_folder, read_at};
+use crate::look::{is_absent, judge_root, kind_at, make_folder, read_at};
 use crate::owed::Owed;
 use crate::paths::{
-    folder_of, has_folders, is_named_elsewhere, is_path, place_of, store_folder_of, without_end,
+    can_be_sealed, folder_of, has_folders, is_named_elsewhere, is_path, place_of, store_folder_of,
+    without_end,
 };
+use crate::seal::{Before, before_change, dated, is_sealed, seal};
 use crate::shown::Shown;
 use crate::standing::Standing;
 use crate::syncing::Synced;
@@ -74,11 +77,13 @@ struct Way {
     is_whole: bool,
 }
 
-/// What a listing found: the last folder that is there on the way to the one that is listed, and the names in that one.
+/// What a listing found: the last folder that is there on the way to the one that is listed, the names in that one, and
+/// whether that one is sealed.
 #[derive(Drop)]
 struct Listing {
     folder: String,
     names: Vec<Txt>,
+    is_sealed: bool,
 }
 
 /// A folder, and what this process knows and owes of what is on the disk.
@@ -142,9 +147,12 @@ impl<H: Host + Drop> Disk<H> {
         let Listing {
             folder: reached,
             names,
+            is_sealed,
         } = self.listing(alloc, folder)?;
         if !is_named_elsewhere(folder) {
-            self.settle(alloc, reached.as_str())?;
+            if !is_sealed {
+                self.settle(alloc, reached.as_str())?;
+            }
             self.shown.keep(alloc, folder, &names)?;
         }
         Ok(names)
@@ -213,6 +221,7 @@ impl<H: Host + Drop> Disk<H> {
             return Ok(false);
         }
         let is_owed = self.owe_folder(alloc, path, full)?;
+        let before = self.before_change(alloc, path)?;
         self.host.remove_file(full)?;
         let mut folder = folder_of(full);
         for _ in 0..path.len() {
@@ -221,9 +230,7 @@ impl<H: Host + Drop> Disk<H> {
             }
             folder = folder_of(folder);
         }
-        if !is_owed {
-            self.synced.sync(alloc, &mut self.host, folder)?;
-        }
+        self.end_change(alloc, before, folder, is_owed)?;
         Ok(true)
     }
 
@@ -474,12 +481,47 @@ impl<H: Host + Drop> Disk<H> {
             self.make_folders(alloc, store_folder_of(path))?;
         }
         self.standing.keep(alloc, full)?;
+        let before = self.before_change(alloc, path)?;
         self.host.rename(begun.path.as_str(), full)?;
         begun.is_placed = true;
-        if !is_owed {
-            self.synced.sync(alloc, &mut self.host, folder_of(full))?;
-        }
+        self.end_change(alloc, before, folder_of(full), is_owed)?;
         Ok(verdict)
+    }
+
+    /// How the folder of a path is before it is changed, if it can be sealed.
+    fn before_change(&mut self, alloc: Global, path: &str) -> Result<Option<Before>, StoreFail> {
+        let folder = store_folder_of(path);
+        if !can_be_sealed(folder) {
+            return Ok(None);
+        }
+        before_change(alloc, &mut self.host, self.root.as_str(), folder)
+    }
+
+    /// Has a change in a folder on the disk, by the names in this one, unless it is owed, and seals the folder, if it
+    /// can be sealed. It can't be out of memory any more.
+    fn end_change(
+        &mut self,
+        alloc: Global,
+        before: Option<Before>,
+        place: &str,
+        is_owed: bool,
+    ) -> Result<(), StoreFail>
+        ensures { IfErr result (λ fail. fail ≡ StoreFail.Failed) }
+    {
+        let dated = match &before {
+            Some(before) => dated(&mut self.host, before),
+            None => None,
+        };
+        if !is_owed {
+            self.synced.sync(alloc, &mut self.host, place)?;
+        }
+        let Some(before) = before else {
+            return Ok(());
+        };
+        if let Some(found) = dated {
+            let _ = seal(alloc, &mut self.host, self.root.as_str(), before, found);
+        }
+        Ok(())
     }
 
     /// Gives a file the mode of the one that it is to replace.
@@ -658,38 +700,52 @@ impl<H: Host + Drop> Disk<H> {
         ensures { IfOk result (λ found. IsStrictlySortedBy (slice_cmp nat_cmp) found.names.items) }
     {
         if !self.has_lock(alloc)? {
-            let found = self.names_in(alloc, folder)?;
+            let found = self.names_in(alloc, folder, false)?;
             if !self.has_lock(alloc)? {
                 return Ok(found);
             }
         }
         let lock = self.locked(alloc, false)?;
-        let found = self.names_in(alloc, folder);
+        let found = self.names_in(alloc, folder, true);
         self.host.close(lock);
         found
     }
 
-    /// The names in a folder of the store.
-    fn names_in(&mut self, alloc: Global, folder: &str) -> Result<Listing, StoreFail>
+    /// The names in a folder of the store; none where it isn't there. Its seal counts where the lock is held.
+    fn names_in(
+        &mut self,
+        alloc: Global,
+        folder: &str,
+        is_locked: bool,
+    ) -> Result<Listing, StoreFail>
         ensures { IfOk result (λ found. IsStrictlySortedBy (slice_cmp nat_cmp) found.names.items) }
     {
         let way = self.way(alloc, folder)?;
-        let names = self.names_at(alloc, &way, folder)?;
+        if !way.is_whole {
+            return Ok(Listing {
+                folder: way.folder,
+                names: listed(alloc, BTreeSet::new(alloc))?,
+                is_sealed: false,
+            });
+        }
+        let reached = way.folder;
+        let names = self.host.names(alloc, reached.as_str())?;
+        let is_sealed = is_locked && self.is_sealed(alloc, folder)?;
+        let content = Content::of(folder, is_sealed);
+        let names = shown_names(alloc, &mut self.host, reached.as_str(), names, content)?;
         Ok(Listing {
-            folder: way.folder,
+            folder: reached,
             names,
+            is_sealed,
         })
     }
 
-    /// The names in the folder of the store that a way leads to; none where it isn't whole.
-    fn names_at(&mut self, alloc: Global, way: &Way, folder: &str) -> Result<Vec<Txt>, StoreFail>
-        ensures { IfOk result (λ names. IsStrictlySortedBy (slice_cmp nat_cmp) names.items) }
-    {
-        if !way.is_whole {
-            return Ok(listed(alloc, BTreeSet::new(alloc))?);
+    /// Whether a folder of the store is sealed as it is.
+    fn is_sealed(&mut self, alloc: Global, folder: &str) -> Result<bool, StoreFail> {
+        if !can_be_sealed(folder) {
+            return Ok(false);
         }
-        let reached = way.folder.as_str();
-        shown_names(alloc, &mut self.host, reached, has_folders(folder))
+        is_sealed(alloc, &mut self.host, self.root.as_str(), folder)
     }
 
     /// Whether anything stands where the lock file does.
@@ -703,32 +759,6 @@ impl<H: Host + Drop> Disk<H> {
         let path = format!(in alloc; "{}/.lock", self.root)?;
         let turns = format!(in alloc; "{}/.new", self.root)?;
         locked(&mut self.host, path.as_str(), turns.as_str(), is_change)
-    }
-}
-
-/// A folder that is there can be listed, or can be made.
-fn judge_root<H: Host>(alloc: Global, host: &mut H, root: &str) -> Result<(), StoreFail> {
-    match host.look_through(root) {
-        Ok(found) if matches!(found.kind, Kind::Folder) => {
-            let folder = host.open(format!(in alloc; "{root}/.")?.as_str())?;
-            host.close(folder);
-            Ok(())
-        }
-        Ok(_) => Err(StoreFail::Failed),
-        Err(HostError::NotFound) => can_be_made(host, root),
-        Err(e) => Err(StoreFail::from(e)),
-    }
-}
-
-/// A folder that isn't there can be made where its parent is a folder. What stands there, as a link to nothing, is a
-/// fault.
-fn can_be_made<H: Host>(host: &mut H, root: &str) -> Result<(), StoreFail> {
-    if root.is_empty() || kind_at(host, root)?.is_some() {
-        return Err(StoreFail::Failed);
-    }
-    match host.look_through(folder_of(root))?.kind {
-        Kind::Folder => Ok(()),
-        Kind::File | Kind::Other => Err(StoreFail::Failed),
     }
 }
 

@@ -19,13 +19,15 @@ pub enum Kind {
 }
 
 /// What a look found. Two looks that found equal device and inode numbers found the same thing. `changed` is the time
-/// since 1970 at which its content changed last; of a folder that is its names.
+/// since 1970 at which its content changed last, of a folder its names, unless it was set since. `touched` is the time
+/// at which anything about it changed last, that time too; it can't be set.
 #[derive(Clone, Copy)]
 pub struct Found {
     pub kind: Kind,
     pub device: u64,
     pub inode: u64,
     pub changed: Duration,
+    pub touched: Duration,
 }
 
 /// Why a call of a host failed. It is a small value, so that no function has much to drop where it comes.
@@ -108,6 +110,9 @@ pub trait Host {
 
     /// Gives a file the mode of the one at a path.
     fn copy_mode(&mut self, from: &str, file: &Self::File) -> Result<(), HostError>;
+
+    /// Sets the time at which the content of what is open changed last.
+    fn set_changed(&mut self, file: &Self::File, time: Duration) -> Result<(), HostError>;
 
     /// Has what is open on the disk: a file's bytes, a folder's names.
     fn sync(&mut self, file: &Self::File) -> Result<(), HostError>;

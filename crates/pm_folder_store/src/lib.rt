@@ -2,10 +2,10 @@
 //!
 //! What it asks of its host, and when, no clause tells. What is proved is that it is safe and ends, that a failure
 //! counts as a fault, which verdict answers which condition (`specs/Disk.antt`), where a path of the store stands,
-//! which is below the folder or nowhere (`specs/Paths.antt`), which folders have files that others name, and which have
-//! files that are made once (`specs/Folders.antt`), which names temporary files have (`specs/Temporary.antt`), and
-//! which names the bytes of a folder are (`specs/Names.antt`). A double of the host shows the rest in cases; of
-//! `System`, the operating system itself, nothing is shown.
+//! which is below the folder or nowhere (`specs/Paths.antt`), which folders have files that others name, which have
+//! files that are made once, and which are sealed (`specs/Folders.antt`), which names temporary files have
+//! (`specs/Temporary.antt`), and which names the bytes of a folder are (`specs/Names.antt`). A double of the host shows
+//! the rest in cases; of `System`, the operating system itself, nothing is shown.
 #![tactic(auto)]
 
 mod disk;
@@ -17,6 +17,7 @@ mod look;
 mod names;
 mod owed;
 mod paths;
+mod seal;
 mod shown;
 mod standing;
 mod syncing;

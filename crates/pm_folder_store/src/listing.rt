@@ -8,40 +8,64 @@ ghost use Rattle.std.specs.Ordering.{nat_cmp};
 
 use crate::host::{Host, Kind};
 use crate::look::kind_at;
-use crate::paths::{is_name, place_in, put_place};
+use crate::paths::{has_folders, is_name, place_in, put_place};
 use pm_base::Txt;
 use pm_store::StoreFail;
 use std::alloc::{AllocError, Global};
 
-/// The shown names in a folder that is there, put in order once. `has_folders` says that folders stand in it, and no
-/// files: killed writers may have left empty ones. In any other folder an empty folder stands where a file should.
+/// What stands in a folder under its names.
+#[derive(Clone, Copy)]
+pub(crate) enum Content {
+    /// Files, as its seal says: none of them is looked at.
+    SealedFiles,
+    /// Files: an empty folder stands where one should.
+    Files,
+    /// Folders: killed writers may have left empty ones.
+    Folders,
+}
+
+impl Content {
+    /// What stands in a folder of the store.
+    pub(crate) fn of(folder: &str, is_sealed: bool) -> Content {
+        if is_sealed {
+            return Content::SealedFiles;
+        }
+        if has_folders(folder) {
+            return Content::Folders;
+        }
+        Content::Files
+    }
+}
+
+/// The shown ones among the names that a folder was read as, put in order once.
 pub(crate) fn shown_names<H: Host>(
     alloc: Global,
     host: &mut H,
     folder: &str,
-    has_folders: bool,
+    names: Vec<Txt>,
+    content: Content,
 ) -> Result<Vec<Txt>, StoreFail>
     ensures { IfOk result (λ names. IsStrictlySortedBy (slice_cmp nat_cmp) names.items) }
 {
-    let mut shown = unordered(alloc, host, folder, has_folders)?;
+    let mut shown = unordered(alloc, host, folder, names, content)?;
     put_in_order(&mut shown)?;
     Ok(shown)
 }
 
-/// The shown names in a folder that is there, in any order.
+/// The same, in any order.
 fn unordered<H: Host>(
     alloc: Global,
     host: &mut H,
     folder: &str,
-    has_folders: bool,
+    names: Vec<Txt>,
+    content: Content,
 ) -> Result<Vec<Txt>, StoreFail> {
-    let names = host.names(alloc, folder)?;
     let mut place = String::new(alloc);
     let mut shown = Vec::with_capacity(alloc, names.len())?;
     for name in names {
         if is_name(name.as_str()) {
             put_place(&mut place, folder, name.as_str())?;
-            if is_shown(alloc, host, place.as_str(), has_folders)? {
+            if is_shown(alloc, host, place.as_str(), content)? {
                 shown.push(name)?;
             }
         }
@@ -64,15 +88,18 @@ fn is_shown<H: Host>(
     alloc: Global,
     host: &mut H,
     place: &str,
-    has_folders: bool,
+    content: Content,
 ) -> Result<bool, StoreFail> {
+    if matches!(content, Content::SealedFiles) {
+        return Ok(true);
+    }
     match kind_at(host, place)? {
         None => Ok(false),
         Some(Kind::File) => Ok(true),
         Some(Kind::Other) => Err(StoreFail::Failed),
         Some(Kind::Folder) => {
             let is_full = holds_file(alloc, host, String::from_str(alloc, place)?)?;
-            if !is_full && !has_folders {
+            if !is_full && !matches!(content, Content::Folders) {
                 return Err(StoreFail::Failed);
             }
             Ok(is_full)

@@ -1,6 +1,7 @@
 //! What stands at a path in the file system. Nothing is followed: a link is neither a file nor a folder.
 
 use crate::host::{Found, Host, HostError, Kind};
+use crate::paths::folder_of;
 use pm_base::Blob;
 use pm_store::StoreFail;
 use std::alloc::Global;
@@ -102,7 +103,7 @@ fn open_looked<H: Host>(
 }
 
 /// Whether two looks found the same thing.
-fn is_same(one: Found, other: Found) -> bool {
+pub(crate) fn is_same(one: Found, other: Found) -> bool {
     one.device == other.device && one.inode == other.inode
 }
 
@@ -115,5 +116,35 @@ pub(crate) fn make_folder<H: Host>(host: &mut H, folder: &str) -> Result<bool, S
             _ => Err(StoreFail::Failed),
         },
         Err(e) => Err(StoreFail::from(e)),
+    }
+}
+
+/// A folder that is there can be listed, or can be made.
+pub(crate) fn judge_root<H: Host>(
+    alloc: Global,
+    host: &mut H,
+    root: &str,
+) -> Result<(), StoreFail> {
+    match host.look_through(root) {
+        Ok(found) if matches!(found.kind, Kind::Folder) => {
+            let folder = host.open(format!(in alloc; "{root}/.")?.as_str())?;
+            host.close(folder);
+            Ok(())
+        }
+        Ok(_) => Err(StoreFail::Failed),
+        Err(HostError::NotFound) => can_be_made(host, root),
+        Err(e) => Err(StoreFail::from(e)),
+    }
+}
+
+/// A folder that isn't there can be made where its parent is a folder. What stands there, as a link to nothing, is a
+/// fault.
+fn can_be_made<H: Host>(host: &mut H, root: &str) -> Result<(), StoreFail> {
+    if root.is_empty() || kind_at(host, root)?.is_some() {
+        return Err(StoreFail::Failed);
+    }
+    match host.look_through(folder_of(root))?.kind {
+        Kind::Folder => Ok(()),
+        Kind::File | Kind::Other => Err(StoreFail::Failed),
     }
 }

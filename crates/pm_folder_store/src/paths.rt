@@ -3,7 +3,7 @@
 ghost use Rattle.std.specs.Prelude.{◌≡◌, ◌++◌, ◌∷◌, IfOk, OnOk, MatchOption, string_bytes};
 ghost use Rattle.pm_folder_store.specs.Paths.{is_name, is_path, IsPlace};
 ghost use Rattle.pm_folder_store.specs.Paths.{HasNoSlash, IsCutAtLast, IsFolderOf, IsStoreFolderOf};
-ghost use Rattle.pm_folder_store.specs.Folders.{is_made_once, is_named_elsewhere, last_part};
+ghost use Rattle.pm_folder_store.specs.Folders.{can_be_sealed, is_made_once, is_named_elsewhere, last_part};
 
 use std::alloc::{AllocError, Global};
 
@@ -99,6 +99,13 @@ pub(crate) fn is_made_once(folder: &str) -> bool
     ensures { result ≡ is_made_once folder.now }
 {
     folder == "snapshot" || folder == "schema"
+}
+
+/// Whether a folder of the store is sealed: it is listed often, and has files alone.
+pub(crate) fn can_be_sealed(folder: &str) -> bool
+    ensures { result ≡ can_be_sealed folder.now }
+{
+    folder == "manifest" || is_made_once(folder)
 }
 
 /// Whether folders alone stand in a folder of the store: in the store's own, and in a partition's, whose name has a

@@ -9,7 +9,7 @@ use std::fs::{File, Metadata, TryLockError};
 use std::io::{ErrorKind, Read, Write};
 use std::os::unix::fs::MetadataExt;
 use std::rt::{Clock, Files};
-use std::time::Duration;
+use std::time::{Duration, UNIX_EPOCH};
 use std::{fs, io};
 
 /// How many bytes of a folder are read at once. There is room in them for any name.
@@ -108,6 +108,13 @@ impl<R: Files<File = File> + AllocGlobal + Clock + Clone + Drop> Host for System
         Ok(file.set_permissions(looked.permissions())?)
     }
 
+    fn set_changed(&mut self, file: &File, time: Duration) -> Result<(), HostError> {
+        match UNIX_EPOCH.checked_add(time) {
+            Some(time) => Ok(file.set_modified(time)?),
+            None => Err(HostError::Other),
+        }
+    }
+
     fn sync(&mut self, file: &File) -> Result<(), HostError> {
         Ok(file.sync_all()?)
     }
@@ -167,14 +174,15 @@ fn found(looked: &Metadata) -> Found {
         kind,
         device: looked.dev(),
         inode: looked.ino(),
-        changed: changed(looked),
+        changed: since_1970(looked.mtime(), looked.mtime_nsec()),
+        touched: since_1970(looked.ctime(), looked.ctime_nsec()),
     }
 }
 
-/// When the content of what was looked at changed last.
-fn changed(looked: &Metadata) -> Duration {
-    let nanos = u64::try_from(looked.mtime_nsec()).unwrap_or(0);
-    match u64::try_from(looked.mtime()) {
+/// A time of the kit's look.
+fn since_1970(secs: i64, nanos: i64) -> Duration {
+    let nanos = u64::try_from(nanos).unwrap_or(0);
+    match u64::try_from(secs) {
         Ok(secs) => Duration::from_secs(secs).saturating_add(Duration::from_nanos(nanos)),
         Err(_) => Duration::ZERO,
     }
