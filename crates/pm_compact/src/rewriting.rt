@@ -167,34 +167,7 @@ fn write_placed<'b, E: MergeEngine>(
         place.slot.clear();
         return Ok(None);
     }
-    let file = add_placed(alloc, place.as_mut(), writer, names)?;
-    Ok(file)
-}
-
-/// Writes the row of a place, which leaves it: by a copy of its bytes, where they are known.
-#[inline(always)]
-fn add_placed<'b>(
-    alloc: Global,
-    place: &mut WrittenPlace<'b>,
-    writer: &mut RunWriter<'b>,
-    names: &mut Names,
-) -> Result<Option<RunFile>, AllocError>
-    requires ready { IsWriting writer.old }
-    requires count { names.old.count < 18446744073709551615 }
-    ensures added { IfOk result (λ file. (s : SchemaView) (limit level : ℕ) (rows : List Stamped) (x : Stamped)
-        → place.old.slot ≡ Some x → HasContentOf (form_of s) (Some x) place.old.content
-        → HasInHand s limit level names.old.session rows writer.old
-        → HasAdded s limit level names.old (rows ++ x ∷ []) file writer.new) }
-    ensures ready { OnOk result (IsWriting writer.new) }
-    ensures none { OnOk result (place.new.slot ≡ None) }
-    ensures names { names.new ≡ record names.old { count = names.new.count } }
-    ensures counted { names.old.count ≤ names.new.count }
-    ensures taken { IfOk result (λ file. names.new.count ≡ names.old.count + length (option_to_list file)) }
-{
-    match place.content {
-        Some(content) => writer.add_written(alloc, &mut place.slot, content, names),
-        None => writer.add(alloc, &mut place.slot, names),
-    }
+    writer.add(alloc, place, names)
 }
 
 /// Whether the row of a place is droppable.

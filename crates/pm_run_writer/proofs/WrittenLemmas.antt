@@ -25,7 +25,7 @@ last_is_new rows x last is =
 module _ (s : TableSchema) (limit level : ℕ) (marker : List ℕ) where
   -- no row is in hand
   pub in_hand_none : (w : RunWriter) → IsWriterOf s w.writer → all_differ (written_fields w.writer.form) ≡ true → w.limit ≡ limit → w.level ≡ level → HasBegun (form_of s) marker [] w.file
-      → IsSummary [] w.summary → w.last ≡ None → HasInHand s limit level marker [] w
+      → IsSummary [] w.summary → w.last.value.slot ≡ None → HasInHand s limit level marker [] w
   in_hand_none w writer differ limited levelled begun summary last = record {
     writer = writer;
     names = subst (λ (f : Form). all_differ (written_fields f) ≡ true) writer.form differ;
@@ -41,7 +41,7 @@ module _ (s : TableSchema) (limit level : ℕ) (marker : List ℕ) where
     -- one row more, where there is room
     pub in_hand_more : (x : Stamped) (after : RunWriter) → before.summary.count < before.limit → after.writer ≡ before.writer → after.limit ≡ before.limit → after.level ≡ before.level
         → ((some : List Stamped) → HasBegun before.writer.form marker some before.file → HasBegun before.writer.form marker (some ++ x ∷ []) after.file)
-        → ((some : List Stamped) → IsSummary some before.summary → IsSummary (some ++ x ∷ []) after.summary) → after.last ≡ Some x
+        → ((some : List Stamped) → IsSummary some before.summary → IsSummary (some ++ x ∷ []) after.summary) → after.last.value.slot ≡ Some x
         → HasInHand s limit level marker (rows ++ x ∷ []) after
     in_hand_more x after room writer limited levelled begun summary last = record {
       writer = subst (IsWriterOf s) (sym writer) h.writer;
@@ -57,14 +57,14 @@ module _ (s : TableSchema) (limit level : ℕ) (marker : List ℕ) where
           let count = h.summary.count in
           let most = h.limited in
           omega arith;
-      last = last_is_new rows x after.last last;
+      last = last_is_new rows x after.last.value.slot last;
     }
 
 -- the file in hand was ended
 pub ended : (s : TableSchema) (limit level : ℕ) (names : Naming) (rows : List Stamped) (before : RunWriter) → HasInHand s limit level names.session rows before → (f : RunFile)
-    → (HasBegun (form_of s) names.session rows before.file → IsSummary rows before.summary → IsLastOf rows before.last → IsFileWith s before.level names.session (name_of data_prefix suffix names) rows f)
+    → (HasBegun (form_of s) names.session rows before.file → IsSummary rows before.summary → IsLastOf rows before.last.value.slot → IsFileWith s before.level names.session (name_of data_prefix suffix names) rows f)
     → (after : RunWriter) → after.writer ≡ before.writer → after.limit ≡ before.limit → after.level ≡ before.level → HasBegun (form_of s) names.session [] after.file → IsSummary [] after.summary
-    → after.last ≡ None → HasEnded s limit level names rows f after
+    → after.last.value.slot ≡ None → HasEnded s limit level names rows f after
 ended s limit level names rows before h f is after writer limited levelled begun summary last = record {
   file = subst (λ (n : ℕ). IsFileWith s n names.session (name_of data_prefix suffix names) rows f) h.levelled (is h.begun h.summary h.last);
   none = in_hand_none s limit level names.session after (subst (IsWriterOf s) (sym writer) h.writer)

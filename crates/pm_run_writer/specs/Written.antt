@@ -56,7 +56,7 @@ pub record HasInHand (s : TableSchema) (limit level : ℕ) (marker : List ℕ) (
   pub begun : HasBegun (form_of s) marker rows w.file
   pub summary : IsSummary rows w.summary
   pub within : length rows ≤ limit
-  pub last : IsLastOf rows w.last
+  pub last : IsLastOf rows w.last.value.slot
 
 -- the file of these rows was ended, with the next name, and no row is in hand
 pub record HasEnded (s : TableSchema) (limit level : ℕ) (names : Naming) (rows : List Stamped) (f : RunFile)

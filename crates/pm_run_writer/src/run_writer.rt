@@ -2,14 +2,13 @@
 
 ghost use Rattle.std.specs.Prelude.{◌≡◌, ◌+◌, ◌<◌, ◌≤◌, ◌∷◌, [], ◌++◌, ℕ, List, IfOk, None, OnOk, Some};
 ghost use Rattle.std.specs.Prelude.{length, option_map, option_to_list};
-ghost use Rattle.pm_avro_data.specs.Adding.{Adds};
+ghost use Rattle.pm_row_slots.specs.Slot.{placed_row};
 ghost use Rattle.pm_schema.specs.declared.schema.TableSchema.{TableSchema};
 ghost use Rattle.pm_values.specs.Names.{counted};
 ghost use Rattle.pm_values.specs.declared.record.Stamped.{Stamped as StampedView};
-ghost use Rattle.pm_run.specs.Form.{Form, form_of};
-ghost use Rattle.pm_run.specs.Row.{row_data};
-ghost use Rattle.pm_run.specs.Typed.{IsWritable};
+ghost use Rattle.pm_run.specs.Form.{form_of};
 ghost use Rattle.pm_run.specs.Writing.{IsFileWith};
+ghost use Rattle.pm_run_bytes.specs.Lying.{HasContentOf};
 ghost use Rattle.pm_run_writer.specs.Begun.{HasBegun};
 ghost use Rattle.pm_run_writer.specs.Summary.{IsSummary};
 ghost use Rattle.pm_run_writer.specs.Written.{CanEnd, CanWrite, HasAdded, HasEnded, HasFinished, HasInHand, IsLastOf};
@@ -20,8 +19,9 @@ use crate::placed::key_of;
 use crate::summary::RowSummary;
 use crate::writer::FileWriter;
 use pm_base::{Blob, Txt};
-use pm_row_slots::RowSlot;
+use pm_row_slots::{PlacedRow, RowSlot};
 use pm_run::RunFile;
+use pm_run_bytes::WrittenPlace;
 use pm_run_form::TableForm;
 use pm_schema::TableSchema;
 use pm_values::{Key, Names};
@@ -36,7 +36,7 @@ pub struct RunWriter<'b> {
     level: u32,
     file: BegunFile,
     summary: RowSummary,
-    last: RowSlot<'b>,
+    last: Box<WrittenPlace<'b>>,
 }
 
 impl Drop for RunWriter<'_> {
@@ -74,74 +74,35 @@ impl<'b> RunWriter<'b> {
             level,
             file,
             summary: RowSummary::none(),
-            last: RowSlot::new(alloc),
+            last: Box::new(alloc, no_row(alloc))?,
         })
     }
 
-    /// Writes the row of a place, which leaves it, and hands the file out that it fills. Out of memory is also answered
-    /// where no row stands there, where it has another number of values than the schema has columns, where a value
-    /// isn't of its column's type, and where the sequence number is above 2^62 - 1; then nothing is said of what was
-    /// written.
+    /// Writes the row of a place, which leaves it, and hands the file out that it fills. Bytes that stand with it are
+    /// copied: they have to be those that are written of it, which isn't tested. Out of memory is also answered where no
+    /// row stands there, and, where its bytes aren't known, where it has another number of values than the schema has
+    /// columns, where a value isn't of its column's type, and where the sequence number is above 2^62 - 1; then nothing
+    /// is said of what was written.
     pub fn add(
         &mut self,
         alloc: Global,
-        place: &mut RowSlot<'b>,
+        place: &mut Box<WrittenPlace<'b>>,
         names: &mut Names,
     ) -> Result<Option<RunFile>, AllocError>
         requires ready { IsWriting self.old }
         requires count { names.old.count < 18446744073709551615 }
         ensures added { IfOk result (λ file. (s : TableSchema) (limit level : ℕ) (rows : List StampedView)
-            (x : StampedView) → place.old ≡ Some x → HasInHand s limit level names.old.session rows self.old
+            (x : StampedView) → place.old.value.slot ≡ Some x
+            → HasContentOf (form_of s) (Some x) place.old.value.content
+            → HasInHand s limit level names.old.session rows self.old
             → HasAdded s limit level names.old (rows ++ x ∷ []) file self.new) }
         ensures ready { OnOk result (IsWriting self.new) }
-        ensures empty { OnOk result (place.new ≡ None) }
+        ensures empty { OnOk result (place.new.value.slot ≡ None) }
         ensures names { names.new ≡ record names.old { count = names.new.count } }
         ensures counted { names.old.count ≤ names.new.count }
         ensures taken { IfOk result (λ file. names.new.count ≡ names.old.count + length (option_to_list file)) }
     {
         self.put(alloc, place)?;
-        let file = self.end_full(alloc, names)?;
-        Ok(file)
-    }
-
-    /// The same of a row whose bytes are those that are written of it, which are copied. Whether they are isn't tested.
-    pub fn add_written(
-        &mut self,
-        alloc: Global,
-        place: &mut RowSlot<'b>,
-        content: &[u8],
-        names: &mut Names,
-    ) -> Result<Option<RunFile>, AllocError>
-        requires ready { IsWriting self.old }
-        requires count { names.old.count < 18446744073709551615 }
-        ensures added { IfOk result (λ file. (s : TableSchema) (limit level : ℕ) (rows : List StampedView)
-            (x : StampedView) → place.old ≡ Some x → IsWritable (form_of s) x
-            → Adds [] content.now (row_data (form_of s) x) → HasInHand s limit level names.old.session rows self.old
-            → HasAdded s limit level names.old (rows ++ x ∷ []) file self.new) }
-        ensures ready { OnOk result (IsWriting self.new) }
-        ensures empty { OnOk result (place.new ≡ None) }
-        ensures names { names.new ≡ record names.old { count = names.new.count } }
-        ensures counted { names.old.count ≤ names.new.count }
-        ensures taken { IfOk result (λ file. names.new.count ≡ names.old.count + length (option_to_list file)) }
-    {
-        self.put_written(alloc, place, content)?;
-        let file = self.end_full(alloc, names)?;
-        Ok(file)
-    }
-
-    /// Ends the file in hand where it is full.
-    #[inline(always)]
-    fn end_full(&mut self, alloc: Global, names: &mut Names) -> Result<Option<RunFile>, AllocError>
-        requires ready { CanEnd self.old }
-        requires count { names.old.count < 18446744073709551615 }
-        ensures added { IfOk result (λ file. (s : TableSchema) (limit level : ℕ) (rows : List StampedView)
-            → HasInHand s limit level names.old.session rows self.old
-            → HasAdded s limit level names.old rows file self.new) }
-        ensures ready { OnOk result (IsWriting self.new) }
-        ensures names { names.new ≡ record names.old { count = names.new.count } }
-        ensures counted { names.old.count ≤ names.new.count }
-        ensures taken { IfOk result (λ file. names.new.count ≡ names.old.count + length (option_to_list file)) }
-    {
         if self.summary.count < self.limit {
             return Ok(None);
         }
@@ -172,13 +133,15 @@ impl<'b> RunWriter<'b> {
     }
 
     /// Writes the row of a place, which leaves it, to the file in hand.
-    fn put(&mut self, alloc: Global, place: &mut RowSlot<'b>) -> Result<(), AllocError>
+    fn put(&mut self, alloc: Global, place: &mut Box<WrittenPlace<'b>>) -> Result<(), AllocError>
         requires ready { IsWriting self.old }
         ensures more { OnOk result ((s : TableSchema) (limit level : ℕ) (marker : List ℕ) (rows : List StampedView)
-            (x : StampedView) → place.old ≡ Some x → HasInHand s limit level marker rows self.old
+            (x : StampedView) → place.old.value.slot ≡ Some x
+            → HasContentOf (form_of s) (Some x) place.old.value.content
+            → HasInHand s limit level marker rows self.old
             → HasInHand s limit level marker (rows ++ x ∷ []) self.new) }
         ensures ready { OnOk result (CanEnd self.new) }
-        ensures empty { OnOk result (place.new ≡ None) }
+        ensures empty { OnOk result (place.new.value.slot ≡ None) }
     {
         write_row(
             alloc,
@@ -188,28 +151,7 @@ impl<'b> RunWriter<'b> {
             &mut self.summary,
         )?;
         mem::swap(&mut self.last, place);
-        place.clear();
-        Ok(())
-    }
-
-    /// The same of a row whose bytes are those that are written of it.
-    fn put_written(
-        &mut self,
-        alloc: Global,
-        place: &mut RowSlot<'b>,
-        content: &[u8],
-    ) -> Result<(), AllocError>
-        requires ready { IsWriting self.old }
-        ensures more { OnOk result ((s : TableSchema) (limit level : ℕ) (marker : List ℕ) (rows : List StampedView)
-            (x : StampedView) → place.old ≡ Some x → IsWritable (form_of s) x
-            → Adds [] content.now (row_data (form_of s) x) → HasInHand s limit level marker rows self.old
-            → HasInHand s limit level marker (rows ++ x ∷ []) self.new) }
-        ensures ready { OnOk result (CanEnd self.new) }
-        ensures empty { OnOk result (place.new ≡ None) }
-    {
-        copy_row(alloc, content, place, &mut self.file, &mut self.summary)?;
-        mem::swap(&mut self.last, place);
-        place.clear();
+        place.slot.clear();
         Ok(())
     }
 
@@ -234,11 +176,11 @@ impl<'b> RunWriter<'b> {
             &self.writer,
             rows,
             summary,
-            &self.last,
+            &self.last.slot,
             self.level,
             name,
         )?;
-        self.last.clear();
+        self.last.slot.clear();
         Ok(file)
     }
 }
@@ -254,53 +196,60 @@ fn begun(alloc: Global, writer: &FileWriter, marker: [u8; 16]) -> Result<BegunFi
     Ok(file)
 }
 
+/// A place without a row.
+fn no_row<'b>(alloc: Global) -> WrittenPlace<'b>
+    ensures { result.slot ≡ None }
+{
+    WrittenPlace {
+        slot: RowSlot::new(alloc),
+        content: None,
+    }
+}
+
 /// Writes the row of a place to a file that was begun.
 fn write_row(
     alloc: Global,
     form: &TableForm,
-    place: &RowSlot,
+    place: &WrittenPlace,
     file: &mut BegunFile,
     summary: &mut RowSummary,
 ) -> Result<(), AllocError>
     requires within { file.old.count ≤ 1024 }
     requires room { summary.old.count < 18446744073709551615 }
-    ensures begun { OnOk result ((marker : List ℕ) (rows : List StampedView) (x : StampedView) → place.now ≡ Some x
+    ensures begun { OnOk result ((marker : List ℕ) (rows : List StampedView) (x : StampedView)
+        → place.now.slot ≡ Some x → HasContentOf form.now (Some x) place.now.content
         → HasBegun form.now marker rows file.old → HasBegun form.now marker (rows ++ x ∷ []) file.new) }
     ensures within { OnOk result (file.new.count ≤ 1024) }
-    ensures summary { OnOk result ((rows : List StampedView) (x : StampedView) → place.now ≡ Some x
+    ensures summary { OnOk result ((rows : List StampedView) (x : StampedView) → place.now.slot ≡ Some x
         → IsSummary rows summary.old → IsSummary (rows ++ x ∷ []) summary.new) }
 {
-    let Some(row) = place.row() else {
+    let Some(row) = place.slot.row() else {
         return Err(AllocError);
     };
-    file.add(form, row)?;
+    add_placed(form, row, place.content, file)?;
     summary.add(alloc, row)?;
     Ok(())
 }
 
-/// Writes the row of a place to a file that was begun, by a copy of the bytes that are written of it.
-fn copy_row(
-    alloc: Global,
-    content: &[u8],
-    place: &RowSlot,
+/// Adds a row to a file that was begun, by a copy of the bytes that are written of it, where they are known.
+#[inline(always)]
+fn add_placed(
+    form: &TableForm,
+    row: PlacedRow,
+    content: Option<&[u8]>,
     file: &mut BegunFile,
-    summary: &mut RowSummary,
 ) -> Result<(), AllocError>
     requires within { file.old.count ≤ 1024 }
-    requires room { summary.old.count < 18446744073709551615 }
-    ensures begun { OnOk result ((f : Form) (marker : List ℕ) (rows : List StampedView) (x : StampedView)
-        → IsWritable f x → Adds [] content.now (row_data f x) → HasBegun f marker rows file.old
-        → HasBegun f marker (rows ++ x ∷ []) file.new) }
+    ensures begun { OnOk result ((marker : List ℕ) (rows : List StampedView)
+        → HasContentOf form.now (Some (placed_row row.entry)) content.entry
+        → HasBegun form.now marker rows file.old
+        → HasBegun form.now marker (rows ++ placed_row row.entry ∷ []) file.new) }
     ensures within { OnOk result (file.new.count ≤ 1024) }
-    ensures summary { OnOk result ((rows : List StampedView) (x : StampedView) → place.now ≡ Some x
-        → IsSummary rows summary.old → IsSummary (rows ++ x ∷ []) summary.new) }
 {
-    let Some(row) = place.row() else {
-        return Err(AllocError);
-    };
-    file.add_written(content)?;
-    summary.add(alloc, row)?;
-    Ok(())
+    match content {
+        Some(content) => file.add_written(content),
+        None => file.add(form, row),
+    }
 }
 
 /// The file of rows that were written to one, of which the last stands in a place.

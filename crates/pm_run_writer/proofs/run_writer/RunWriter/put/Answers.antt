@@ -1,4 +1,7 @@
-use Rattle.std.proofs.Common.{refl, ◌∙◌, arith}
+use Rattle.std.proofs.Common.{Some, refl, sym, ap, subst, ◌∙◌, arith}
+use Rattle.pm_run.specs.Form.{Form}
+use Rattle.pm_run_bytes.specs.Lying.{HasContentOf}
+use Rattle.pm_run_bytes.specs.declared.place.WrittenPlace.{WrittenPlace}
 use Rattle.pm_run_writer.proofs.WrittenLemmas.{in_hand_more}
 use Rattle.pm_run_writer.proofs.run_writer.RunWriter.put.Goals as goal
 
@@ -6,8 +9,10 @@ pub write_row-requires-clause-room : goal.write_row-requires-clause-room
 write_row-requires-clause-room c = omega (arith, c.requires.ready.room, c.requires.ready.begun.bits)
 
 pub returns-clause-more : goal.returns-clause-more
-returns-clause-more c = λ s limit level marker rows x stands hand.
+returns-clause-more c = λ s limit level marker rows x stands has hand.
+    let slot = ap (λ (p : WrittenPlace). p.slot) c.deref.ensures ∙ stands in
+    let known = subst (λ (f : Form). HasContentOf f (Some x) c.args.place.now.value.content) (sym hand.writer.form) has in
     in_hand_more s limit level marker rows c.args.self.now hand x _ c.requires.ready.room refl refl refl
-    (λ some begun. c.in_ok-write_row.ensures.begun marker some x stands begun)
-    (λ some summary. c.in_ok-write_row.ensures.summary some x stands summary)
-    (c.swap.ensures.x_after ∙ stands)
+    (λ some begun. c.in_ok-write_row.ensures.begun marker some x slot (rw c.deref.ensures known) begun)
+    (λ some summary. c.in_ok-write_row.ensures.summary some x slot summary)
+    (ap (λ b. b.value.slot) c.swap.ensures.x_after ∙ stands)
