@@ -1,89 +1,122 @@
-//! Rows of a batch made into one run.
+//! Rows of a batch made into one run, where they lie packed: one at a time is taken out to be stored.
 
-ghost use Rattle.std.specs.Prelude.{◌≡◌, ◌↔◌, [], ◌∷◌, map, All, IfOk, OnOk};
+ghost use Rattle.std.specs.Prelude.{◌≡◌, ◌↔◌, ◌+◌, ◌<◌, ◌≤◌, [], ◌∷◌, ◌++◌, drop, get_or, length, map, take};
+ghost use Rattle.std.specs.Prelude.{true, All, IfNone, IfOk, IfSome, OnOk};
 ghost use Rattle.std.specs.List.{FoldsTo};
-ghost use Rattle.std.specs.List.Sorted.{IsSortedByKey, IsPermutation, IsStableByKey};
+ghost use Rattle.std.specs.Ordering.{eq_by_cmp};
 ghost use Rattle.pm_values.specs.Order.{Values, key_cmp};
-ghost use Rattle.pm_values.specs.declared.record.Stamped.{Stamped};
+ghost use Rattle.pm_values.specs.declared.record.Stamped.{Stamped as StampedView};
 ghost use Rattle.pm_model_history.specs.declared.verdict.Verdict.TheVariants.{Take};
 ghost use Rattle.pm_engine.specs.Covers.{CoversAll, IsKeyed, IsRising, of_key, row_of};
-ghost use Rattle.pm_engine.specs.Reducing.{HasGreatestNumbers, HasKinds, IsLifted, IsCombined, Puts};
+ghost use Rattle.pm_engine.specs.Reducing.{EndsApart, HasGreatestNumbers, HasKinds, IsLifted, IsCombined, Puts};
 
 use crate::engine::MergeEngine;
 use crate::stored::Stored;
+use pm_packed::PackedRows;
 use pm_values::Stamped;
 use std::alloc::{AllocError, Global};
+use std::cmp::Ordering;
 
 /// One stored row for each key that rows have, and of no other, by rising key. A stored row has the greatest number of
 /// its rows, and their kind.
 pub fn reduce<E: MergeEngine>(
     alloc: Global,
     engine: &E,
-    rows: Vec<Stamped>,
-) -> Result<Vec<Stamped>, AllocError>
-    requires { All (λ s. (E.meaning engine.now).verdict s.kind ≡ Take) rows.items }
-    ensures rising { IfOk result (λ run. IsRising run.items) }
-    ensures keys { IfOk result (λ run. (key : Values)
-        → (of_key key run.items ≡ []) ↔ (of_key key rows.items ≡ [])) }
-    ensures numbers { IfOk result (λ run. HasGreatestNumbers run.items rows.items) }
-    ensures kinds { IfOk result (λ run. HasKinds (E.meaning engine.now) run.items rows.items) }
-    ensures covers { IfOk result (λ run. All (IsKeyed (E.meaning engine.now)) rows.items →
-        CoversAll (E.meaning engine.now) (run.items ∷ []) (map row_of rows.items)) }
+    rows: PackedRows,
+) -> Result<PackedRows, AllocError>
+    requires { All (λ s. (E.meaning engine.now).verdict s.kind ≡ Take) rows }
+    ensures rising { IfOk result IsRising }
+    ensures keys { IfOk result (λ run. (key : Values) → (of_key key run ≡ []) ↔ (of_key key rows ≡ [])) }
+    ensures numbers { IfOk result (λ run. HasGreatestNumbers run rows) }
+    ensures kinds { IfOk result (λ run. HasKinds (E.meaning engine.now) run rows) }
+    ensures covers { IfOk result (λ run. All (IsKeyed (E.meaning engine.now)) rows →
+        CoversAll (E.meaning engine.now) (run ∷ []) (map row_of rows)) }
 {
-    let rows = sorted(rows)?;
+    let mut rows = rows;
+    rows.sort()?;
     gathered(alloc, engine, rows)
 }
 
-/// The run of sorted rows.
+/// The run of sorted rows. It is made where they lie: its rows are the first ones, no more than were taken. The last one
+/// is in hand until another key comes, so that what is joined to it isn't packed each time.
 fn gathered<E: MergeEngine>(
     alloc: Global,
     engine: &E,
-    rows: Vec<Stamped>,
-) -> Result<Vec<Stamped>, AllocError>
-    requires { All (λ s. (E.meaning engine.now).verdict s.kind ≡ Take) rows.items }
-    ensures { IfOk result (λ run. FoldsTo (Puts (E.meaning engine.now)) [] rows.items run.items) }
-{
-    let mut run = Vec::with_capacity(alloc, rows.len())?;
-    for row in rows {
-        put(alloc, engine, &mut run, row)?;
-    }
-    Ok(run)
-}
-
-/// The rows by rising key, those of one key in their order.
-fn sorted(rows: Vec<Stamped>) -> Result<Vec<Stamped>, AllocError>
-    ensures sorted { IfOk result (λ new. IsSortedByKey (λ (s : Stamped). s.key) key_cmp new.items) }
-    ensures stable { IfOk result (λ new. IsStableByKey (λ (s : Stamped). s.key) key_cmp rows.items new.items) }
-    ensures same { IfOk result (λ new. IsPermutation rows.items new.items) }
+    rows: PackedRows,
+) -> Result<PackedRows, AllocError>
+    requires { All (λ s. (E.meaning engine.now).verdict s.kind ≡ Take) rows }
+    ensures { IfOk result (λ run. FoldsTo (Puts (E.meaning engine.now)) [] rows run) }
 {
     let mut rows = rows;
-    rows.sort_by(|a, b| a.key.cmp(&b.key))?;
+    if rows.len() == 0 {
+        return Ok(rows);
+    }
+    let mut last = stored_at(alloc, engine, &rows, 0)?;
+    let mut count = 0;
+    for index in 1..rows.len() {
+        (count, last) = put(alloc, engine, &mut rows, count, index, last)?;
+    }
+    let end = rows.len() - 1;
+    keep(&mut rows, count, end, &last)?;
+    rows.truncate(count + 1);
     Ok(rows)
 }
 
-/// Takes one row more into the run, of which no key is above the row's.
+/// Takes the row at the index into the run, of which no key is above the row's: it is the first rows, so many, and the
+/// last one in hand. Gives how many those are then, and the one in hand.
 fn put<E: MergeEngine>(
     alloc: Global,
     engine: &E,
-    run: &mut Vec<Stamped>,
-    row: Stamped,
-) -> Result<(), AllocError>
-    requires { (E.meaning engine.now).verdict row.kind ≡ Take }
-    ensures { OnOk result (Puts (E.meaning engine.now) run.old.items row run.new.items) }
+    rows: &mut PackedRows,
+    count: usize,
+    index: usize,
+    last: Stamped,
+) -> Result<(usize, Stamped), AllocError>
+    requires before { count < index }
+    requires within { index < length rows.old }
+    requires taken { (none : StampedView) → (E.meaning engine.now).verdict (get_or rows.old index none).kind ≡ Take }
+    ensures puts { IfOk result (λ run. (none : StampedView) → Puts (E.meaning engine.now)
+        (take count rows.old ++ last ∷ []) (get_or rows.old index none) (take run.0 rows.new ++ run.1 ∷ [])) }
+    ensures before { IfOk result (λ run. run.0 ≤ index) }
+    ensures later { OnOk result (drop index rows.new ≡ drop index rows.old) }
+    ensures as_many { OnOk result (length rows.new ≡ length rows.old) }
 {
-    let stored = lifted(alloc, engine, row)?;
-    match run.pop() {
-        Some(last) => {
-            if last.key == stored.key {
-                run.push(combined(alloc, engine, last, stored)?)?;
-            } else {
-                run.push(last)?;
-                run.push(stored)?;
-            }
+    let stored = stored_at(alloc, engine, rows, index)?;
+    match last.key.cmp(&stored.key) {
+        Ordering::Equal => Ok((count, combined(alloc, engine, last, stored)?)),
+        _ => {
+            keep(rows, count, index - 1, &last)?;
+            Ok((count + 1, stored))
         }
-        None => run.push(stored)?,
     }
-    Ok(())
+}
+
+/// The row at the index as a stored row.
+fn stored_at<E: MergeEngine>(
+    alloc: Global,
+    engine: &E,
+    rows: &PackedRows,
+    index: usize,
+) -> Result<Stamped, AllocError>
+    requires within { index < length rows.now }
+    requires taken { (none : StampedView) → (E.meaning engine.now).verdict (get_or rows.now index none).kind ≡ Take }
+    ensures { IfOk result (λ stored. (none : StampedView) →
+        IsLifted (E.meaning engine.now) (get_or rows.now index none) stored) }
+{
+    let own = rows.unpacked(alloc, index)?;
+    lifted(alloc, engine, own)
+}
+
+/// Packs a row of the run at its index. Where it is the one that lies at an index from there on, no bytes are added.
+fn keep(rows: &mut PackedRows, count: usize, from: usize, row: &Stamped) -> Result<(), AllocError>
+    requires before { count ≤ from }
+    requires within { from < length rows.old }
+    ensures front { OnOk result (take (count + 1) rows.new ≡ take count rows.old ++ row.now ∷ []) }
+    ensures later { OnOk result (drop (from + 1) rows.new ≡ drop (from + 1) rows.old) }
+    ensures as_many { OnOk result (length rows.new ≡ length rows.old) }
+{
+    rows.copy_back(from, count);
+    rows.set(count, row)
 }
 
 /// The row as a stored row.

@@ -2,9 +2,8 @@
 use Rattle.std.proofs.Common.{◌≡◌, ℕ, zero, suc, ◌+◌, ◌<◌, ◌≤◌, List, [], ◌∷◌, ◌++◌, length, map, drop, get_or, Bool, true, false, ◌||◌, refl, sym, ap, subst, ◌∙◌, append_assoc, append-nil, arith}
 use Rattle.std.specs.Prelude.{nat_lt}
 use Rattle.std.specs.BTreeMap.{BTreeMap}
-use Rattle.std.proofs.Math.ListN.{set}
 use Rattle.std.proofs.lemmas.Bool.Decides.{nat_tests}
-use Rattle.std.proofs.lemmas.List.{at_drop_more, drop_all, get_or-map, length-map, length_push, map-set, set-get_or}
+use Rattle.std.proofs.lemmas.List.{at_drop_more, drop_all, get_or-map, length-map, length_push}
 use Rattle.pm_values.specs.Names.{Naming, counted, with_count}
 use Rattle.pm_values.specs.declared.group.Group.{Group}
 use Rattle.pm_schema.specs.declared.schema.TableSchema.{TableSchema}
@@ -15,11 +14,6 @@ use Rattle.pm_write.specs.Files.{AreFilesOfRuns, IsNewFile, exceeds, exceeds_at,
 use Rattle.pm_write.specs.Held.{all_groups, group_rows}
 use Rattle.pm_write.specs.declared.files.NewFile.{NewFile}
 use Rattle.pm_write.specs.declared.held.HeldRows.{HeldRows}
-
--- one group that is counted anew is seen as it was
-pub kept_at : (groups : List HeldRows) (all : Groups) (i : ℕ) (d new : HeldRows) → all_groups groups ≡ all → group_rows new ≡ group_rows (get_or groups i d) → all_groups (set groups i new) ≡ all
-kept_at groups all i d new seen same =
-    map-set group_rows groups i new ∙ ap (set (all_groups groups) i) same ∙ sym (map-set group_rows groups i (get_or groups i d)) ∙ ap all_groups (set-get_or groups i d) ∙ seen
 
 pub neither : (a b : Bool) → (a || b) ≡ false → (a ≡ false) × (b ≡ false)
 neither true b e = cc

@@ -1,4 +1,5 @@
 mod FileLemmas
+mod FileOfRunLemmas
 mod GroupLemmas
 mod LawLemmas
 mod ListLemmas

@@ -1,27 +1,19 @@
 -- Rows whose numbers are counted from another number.
-use Rattle.std.proofs.Common.{◌≡◌, ℕ, ◌+◌, ◌-◌, ◌≤◌, List, [], ◌∷◌, map, length, max, All, true, false, cond, refl, sym, ap, subst, ◌∙◌, arith}
+use Rattle.std.proofs.Common.{◌≡◌, ℕ, ◌+◌, ◌≤◌, List, [], ◌∷◌, length, max, true, false, cond, refl, sym, ap, subst, ◌∙◌, arith}
 use Rattle.std.specs.List.{AllByRecursion, AllZip}
 use Rattle.std.specs.Ordering.{eq_by_cmp}
-use Rattle.std.proofs.lemmas.List.{length-map}
-use Rattle.std.proofs.lemmas.List.Elements.{All-from_recursion, recursion_from_All}
 use Rattle.pm_values.specs.Order.{Values, key_cmp}
 use Rattle.pm_values.specs.declared.record.Stamped.{Stamped}
 use Rattle.pm_schema.specs.declared.schema.TableSchema.{TableSchema}
 use Rattle.pm_model_history.specs.Merge.{HistoryRow}
-use Rattle.pm_engine.specs.Covers.{CoversAll, Holds, IsRising, Run, of_key}
+use Rattle.pm_engine.specs.Covers.{CoversAll, Holds, Run, of_key}
 use Rattle.pm_engine.specs.Meaning.{Meaning}
 use Rattle.pm_engine.specs.Reducing.{greatest_number}
 use Rattle.pm_run.specs.Row.{IsOfFile, most_sequence}
 use Rattle.pm_run.specs.Writing.{first_sequence, greatest_of, least_of}
 use Rattle.pm_write.specs.Batch.{IsStoredRow, numbered}
-use Rattle.pm_write.specs.Held.{IsHeld, IsNumberedWithin, all_moved, group_rows, moved}
-use Rattle.pm_write.specs.declared.held.HeldRows.{HeldRows}
 
 -- ---- what numbers leave as it is
-
-keys_moved : (from to : ℕ) (run : Run) → map (λ (x : Stamped). x.key) (all_moved from to run) ≡ map (λ (x : Stamped). x.key) run
-keys_moved from to [] = refl
-keys_moved from to (x ∷ xs) = ap (λ (ks : List Values). x.key ∷ ks) (keys_moved from to xs)
 
 of_key-numbered : (n : ℕ) (key : Values) (run : Run) → of_key key (numbered n run) ≡ numbered n (of_key key run)
 of_key-numbered n key [] = refl
@@ -74,46 +66,3 @@ least_numbered d n (x ∷ xs) least = let rest = least_numbered d n xs least in 
 pub least_first : (n : ℕ) (run : Run) → 1 ≤ length run → n ≤ least_of (first_sequence (numbered n run)) (numbered n run)
 least_first n [] some = absurd (omega arith)
 least_first n (x ∷ xs) some = least_numbered (n + x.seq) n (x ∷ xs) (omega arith)
-
--- ---- rows that are kept
-
--- numbers that are counted anew are seen as they were
-moved_back : (first next : ℕ) (run : Run) → all_moved next 0 (all_moved first next run) ≡ all_moved first 0 run
-moved_back first next [] = refl
-moved_back first next (x ∷ xs) =
-    let same : 0 + ((next + (x.seq - first)) - next) ≡ 0 + (x.seq - first) = omega arith in
-    ap (λ (n : ℕ). record x { seq = n } ∷ all_moved next 0 (all_moved first next xs)) same
-    ∙ ap (λ (ys : Run). moved first 0 x ∷ ys) (moved_back first next xs)
-
-moved_numbered : (first next : ℕ) (run : Run) → all_moved first next run ≡ numbered next (all_moved first 0 run)
-moved_numbered first next [] = refl
-moved_numbered first next (x ∷ xs) =
-    let same : next + (x.seq - first) ≡ next + (0 + (x.seq - first)) = omega arith in
-    ap (λ (n : ℕ). record x { seq = n } ∷ all_moved first next xs) same
-    ∙ ap (λ (ys : Run). record x { seq = next + (0 + (x.seq - first)) } ∷ ys) (moved_numbered first next xs)
-
-within_moved : (first count next : ℕ) (run : Run) → AllByRecursion (IsNumberedWithin first count) run → AllByRecursion (IsNumberedWithin next count) (all_moved first next run)
-within_moved first count next [] within = tt
-within_moved first count next (x ∷ xs) within =
-    let least = within.0.least in
-    let below = within.0.below in
-    (record { least = omega arith; below = omega arith }, within_moved first count next xs within.1)
-
-module _ (old : HeldRows) (next : ℕ) (run : Run) (is : run ≡ all_moved old.first next old.run.items) where
-  pub run_numbered : run ≡ numbered next (group_rows old).1.run
-  run_numbered = is ∙ moved_numbered old.first next old.run.items
-
-  pub still_seen : all_moved next 0 run ≡ (group_rows old).1.run
-  still_seen = ap (all_moved next 0) is ∙ moved_back old.first next old.run.items
-
-  module _ (held : IsHeld old) where
-    pub still_some : 1 ≤ length run
-    still_some = let same = ap length is ∙ length-map old.run.items (moved old.first next) in let some = held.some in omega arith
-
-    pub still_rising : IsRising run
-    still_rising = rw (ap (map (λ (x : Stamped). x.key)) is ∙ keys_moved old.first next old.run.items) held.rising
-
-    pub still_within : All (IsNumberedWithin next old.count) run
-    still_within =
-        subst (All (IsNumberedWithin next old.count)) (sym is) (All-from_recursion (IsNumberedWithin next old.count) (all_moved old.first next old.run.items)
-        (within_moved old.first old.count next old.run.items (recursion_from_All (IsNumberedWithin old.first old.count) old.run.items held.within)))

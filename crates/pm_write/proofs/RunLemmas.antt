@@ -1,5 +1,5 @@
 -- What reducing all rows of a group gives: stored rows of their keys, and the last row's number as the greatest.
-use Rattle.std.proofs.Common.{◌≡◌, ℕ, ◌+◌, ◌-◌, ◌<◌, ◌≤◌, List, [], ◌∷◌, map, length, max, All, Bool, true, false, cond, refl, sym, ap, subst, ◌∙◌, append-nil, arith}
+use Rattle.std.proofs.Common.{◌≡◌, ℕ, ◌+◌, ◌<◌, ◌≤◌, List, [], ◌∷◌, map, length, max, All, Bool, true, false, cond, refl, sym, ap, subst, ◌∙◌, append-nil, arith}
 use Rattle.std.specs.List.{AllByRecursion, AllZip, flat_map}
 use Rattle.std.specs.List.Sorted.{IsStrictlySortedBy}
 use Rattle.std.specs.Ordering.{eq_by_cmp}
@@ -18,7 +18,7 @@ use Rattle.pm_engine.specs.Reducing.{AreStoredRows, HasGreatestNumbers, greatest
 use Rattle.pm_engine.proofs.Rising.{apart, apart_back, tied, ties_itself}
 use Rattle.pm_run.specs.Writing.{CountFrom}
 use Rattle.pm_write.specs.Batch.{AreRowsOf, AreStoredOf, IsStoredRow, all_stamped}
-use Rattle.pm_write.specs.Held.{IsNumberedWithin, all_moved, moved}
+use Rattle.pm_write.specs.Held.{IsNumberedBelow}
 use Rattle.pm_write.specs.Taken.{IsTakenRow, stamped}
 use Rattle.pm_write.proofs.ListLemmas.{both_of, from_map, none_mapped, weaker}
 
@@ -134,14 +134,6 @@ greatest_own m key run rows keyed numbers covers =
         let most : y.seq ≤ greatest_number run = first.2 in
         omega arith
 
--- numbers counted from 0 in the place of 0
-all_moved-none : (run : Run) → all_moved 0 0 run ≡ run
-all_moved-none [] = refl
-all_moved-none (x ∷ xs) =
-    let same : 0 + (x.seq - 0) ≡ x.seq = omega arith in
-    let first : moved 0 0 x ≡ x = ap (λ (n : ℕ). record x { seq = n }) same in
-    ap (λ (y : Stamped). y ∷ all_moved 0 0 xs) first ∙ ap (λ (ys : Run). x ∷ ys) (all_moved-none xs)
-
 -- rows that are counted from a number, with their keys
 stamped_again : (s : TableSchema) (n : ℕ) (rows : Run) → AllByRecursion (IsKeyed (meaning_of s)) rows → CountFrom n rows → all_stamped (primary_of s) n (map row_of rows) ≡ rows
 stamped_again s n [] keyed counts = refl
@@ -206,7 +198,7 @@ module _ (s : TableSchema) (run rows : Run) (rising : IsRising run) (numbers : H
       weaker (λ (x : Stamped). row_of x ≡ stored_of (meaning_of s) (map row_of (of_key x.key rows))) (λ (x : Stamped). row_of x ≡ stored_of (meaning_of s) (rows_of (primary_of s) x.key (map row_of rows)))
       (λ x own. own ∙ ap (stored_of (meaning_of s)) (sym (keyed_rows (meaning_of s) x.key rows keyed))) run stored
 
-  pub rows_reduced : AreStoredRows (meaning_of s) run rows → (count : ℕ) → count ≡ length rows → AreRowsOf s (map row_of rows) (record { count = count; run = all_moved 0 0 run })
+  pub rows_reduced : AreStoredRows (meaning_of s) run rows → (count : ℕ) → count ≡ length rows → AreRowsOf s (map row_of rows) (record { count = count; run = run })
   rows_reduced stored count is =
       let whole : AreRowsOf s (map row_of rows) (record { count = length rows; run = run }) =
       record {
@@ -218,11 +210,10 @@ module _ (s : TableSchema) (run rows : Run) (rising : IsRising run) (numbers : H
         numbers = subst (HasGreatestNumbers run) (sym (stamped_again s 0 rows keyed counts)) numbers;
         last = last_number;
       } in
-      subst (λ (n : ℕ). AreRowsOf s (map row_of rows) (record { count = n; run = all_moved 0 0 run })) (sym is)
-      (subst (λ (r : Run). AreRowsOf s (map row_of rows) (record { count = length rows; run = r })) (sym (all_moved-none run)) whole)
+      subst (λ (n : ℕ). AreRowsOf s (map row_of rows) (record { count = n; run = run })) (sym is) whole
 
-  pub within_reduced : (count : ℕ) → count ≡ length rows → All (IsNumberedWithin 0 count) run
+  pub within_reduced : (count : ℕ) → count ≡ length rows → All (IsNumberedBelow count) run
   within_reduced count is =
-      subst (λ (n : ℕ). All (IsNumberedWithin 0 n) run) (sym is)
-      (All-from_recursion (IsNumberedWithin 0 (length rows)) run
-      (weaker (IsStoredRow s (length rows)) (IsNumberedWithin 0 (length rows)) (λ x is. let below = is.below in record { least = omega arith; below = omega arith }) run stored_rows))
+      subst (λ (n : ℕ). All (IsNumberedBelow n) run) (sym is)
+      (All-from_recursion (IsNumberedBelow (length rows)) run
+      (weaker (IsStoredRow s (length rows)) (IsNumberedBelow (length rows)) (λ x is. is.below) run stored_rows))

@@ -8,7 +8,7 @@ use Rattle.pm_model_history.specs.Merge.{HistoryRow}
 use Rattle.pm_schema.specs.declared.schema.TableSchema.{TableSchema}
 use Rattle.pm_input.specs.Rows.{refusal_in}
 use Rattle.pm_run.specs.Writing.{CountFrom}
-use Rattle.pm_write.specs.Taken.{no_room, taken_at, taken_in, taken_of, with_taken}
+use Rattle.pm_write.specs.Taken.{no_room, taken_in, taken_of, with_taken}
 
 -- what is taken of a line, and then of the later ones
 abbrev and_later : Result (List HistoryRow) Refusal → Result (List HistoryRow) Refusal → Result (List HistoryRow) Refusal

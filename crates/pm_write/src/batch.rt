@@ -18,14 +18,14 @@ use crate::taken::taken_rows;
 use pm_engine::{reduce, stored_law};
 use pm_engines::TableEngine;
 use pm_input::InputLines;
+use pm_packed::PackedRows;
 use pm_schema::TableSchema;
-use pm_values::{Group, Names, Refusal, Row, Stamped};
+use pm_values::{Group, Names, Refusal, Row};
 use std::alloc::{AllocError, Global};
 use std::collections::BTreeMap;
 use std::marker::Model;
 
-/// The rows that a table took of a batch, by rising group. They are seen with numbers that count each group's rows from
-/// 0, whatever numbers the last try gave them.
+/// The rows that a table took of a batch, by rising group, packed. Their numbers count each group's rows from 0.
 pub struct Batch {
     groups: Vec<HeldRows>,
 }
@@ -105,20 +105,20 @@ impl Batch {
         if exceeds(&self.groups, next) {
             return Err(no_sequence(alloc)?);
         }
-        write_groups(alloc, schema, &mut self.groups, next, names)
+        write_groups(alloc, schema, &self.groups, next, names)
     }
 }
 
 /// The batch of rows, which are all of one group.
-fn of_rows(alloc: Global, engine: &TableEngine, rows: Vec<Stamped>) -> Result<Batch, AllocError>
+fn of_rows(alloc: Global, engine: &TableEngine, rows: PackedRows) -> Result<Batch, AllocError>
     requires bucket { (schema_of engine.now).options.bucket ≡ 1 }
     requires partition { (schema_of engine.now).partition ≡ [] }
-    requires taken { AllByRecursion (IsTakenRow (schema_of engine.now)) rows.items }
-    requires numbers { CountFrom 0 rows.items }
-    ensures { IfOk result (IsBatchOf (schema_of engine.now) (map row_of rows.items)) }
+    requires taken { AllByRecursion (IsTakenRow (schema_of engine.now)) rows }
+    requires numbers { CountFrom 0 rows }
+    ensures { IfOk result (IsBatchOf (schema_of engine.now) (map row_of rows)) }
 {
     let mut groups = Vec::new(alloc);
-    if rows.is_empty() {
+    if rows.len() == 0 {
         return Ok(Batch { groups });
     }
     groups.push(held_rows(alloc, engine, rows)?)?;
@@ -126,17 +126,13 @@ fn of_rows(alloc: Global, engine: &TableEngine, rows: Vec<Stamped>) -> Result<Ba
 }
 
 /// The rows of the one group, of which there are some.
-fn held_rows(
-    alloc: Global,
-    engine: &TableEngine,
-    rows: Vec<Stamped>,
-) -> Result<HeldRows, AllocError>
-    requires some { 1 ≤ length rows.items }
-    requires taken { AllByRecursion (IsTakenRow (schema_of engine.now)) rows.items }
-    requires numbers { CountFrom 0 rows.items }
+fn held_rows(alloc: Global, engine: &TableEngine, rows: PackedRows) -> Result<HeldRows, AllocError>
+    requires some { 1 ≤ length rows }
+    requires taken { AllByRecursion (IsTakenRow (schema_of engine.now)) rows }
+    requires numbers { CountFrom 0 rows }
     ensures group { IfOk result (λ held. held.group ≡ only_group) }
     ensures rows { IfOk result (λ held.
-        AreRowsOf (schema_of engine.now) (map row_of rows.items) (group_rows held).1) }
+        AreRowsOf (schema_of engine.now) (map row_of rows) (group_rows held).1) }
     ensures held { IfOk result IsHeld }
 {
     stored_law();
@@ -145,7 +141,6 @@ fn held_rows(
     Ok(HeldRows {
         group: only_group(alloc),
         count,
-        first: 0,
         run,
     })
 }

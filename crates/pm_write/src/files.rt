@@ -8,9 +8,9 @@ ghost use Rattle.pm_write.specs.Batch.{numbered};
 ghost use Rattle.pm_write.specs.Files.{next_of, exceeds, no_sequence, AreNewFiles, IsNewFile};
 ghost use Rattle.pm_write.specs.Held.{all_groups, group_rows, IsHeld};
 
-use crate::held::{HeldRows, count_from};
+use crate::held::HeldRows;
+use crate::numbered::write_numbered;
 use pm_run::RunFile;
-use pm_run_writer::write_data;
 use pm_schema::TableSchema;
 use pm_values::{Blob, FileMeta, Group, Names, Refusal, Txt};
 use std::alloc::{AllocError, Global};
@@ -63,24 +63,22 @@ pub(crate) fn no_sequence(alloc: Global) -> Result<Refusal, AllocError>
 pub(crate) fn write_groups(
     alloc: Global,
     schema: &TableSchema,
-    groups: &mut [HeldRows],
+    groups: &[HeldRows],
     next: &BTreeMap<Group, u64>,
     names: &mut Names,
 ) -> Result<Vec<NewFile>, Refusal>
-    requires held { All IsHeld groups.old }
-    requires within { exceeds next.now (all_groups groups.old) ≡ false }
-    requires count { names.old.count + length groups.old ≤ 2 ^ 62 }
+    requires held { All IsHeld groups.now }
+    requires within { exceeds next.now (all_groups groups.now) ≡ false }
+    requires count { names.old.count + length groups.now ≤ 2 ^ 62 }
     ensures files { IfOk result (λ files.
-        AreNewFiles schema.now next.now names.old (all_groups groups.old) files.items) }
-    ensures kept { all_groups groups.new ≡ all_groups groups.old }
-    ensures held { All IsHeld groups.new }
+        AreNewFiles schema.now next.now names.old (all_groups groups.now) files.items) }
     ensures names { names.new ≡ record names.old { count = names.new.count } }
     ensures counted { names.old.count ≤ names.new.count }
     ensures taken { IfOk result (λ files. names.new.count ≡ names.old.count + length files.items) }
     ensures memory { IfErr result (λ e. e ≡ Memory) }
 {
     let mut files = Vec::with_capacity(alloc, groups.len())?;
-    for held in groups.iter_mut() {
+    for held in groups {
         let first = next_of(next, &held.group);
         files.push(write_group(alloc, schema, held, first, names)?)?;
     }
@@ -91,25 +89,22 @@ pub(crate) fn write_groups(
 fn write_group(
     alloc: Global,
     schema: &TableSchema,
-    held: &mut HeldRows,
+    held: &HeldRows,
     first: u64,
     names: &mut Names,
 ) -> Result<NewFile, Refusal>
-    requires held { IsHeld held.old }
-    requires within { first + held.old.count ≤ most_sequence + 1 }
+    requires held { IsHeld held.now }
+    requires within { first + held.now.count ≤ most_sequence + 1 }
     requires count { names.old.count < 2 ^ 62 }
-    ensures file { IfOk result (IsNewFile schema.now names.old held.old.group
-        (numbered first (group_rows held.old).1.run)) }
-    ensures kept { group_rows held.new ≡ group_rows held.old }
-    ensures held { IsHeld held.new }
+    ensures file { IfOk result (IsNewFile schema.now names.old held.now.group
+        (numbered first (group_rows held.now).1.run)) }
     ensures names { names.new ≡ record names.old { count = names.new.count } }
     ensures counted { names.old.count ≤ names.new.count }
     ensures taken { OnOk result (names.new ≡ counted names.old) }
     ensures memory { IfErr result (λ e. e ≡ Memory) }
 {
-    count_from(held, first);
     let group = held.group.copy(alloc)?;
-    let RunFile { meta, bytes } = write_data(alloc, schema, &held.run, 0, names)?;
+    let RunFile { meta, bytes } = write_numbered(alloc, schema, &held.run, first, names)?;
     Ok(NewFile {
         group,
         meta,

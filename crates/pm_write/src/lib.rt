@@ -4,9 +4,9 @@
 //! refusal (`specs/Taken.antt`). It makes one run of each group's rows, whose numbers count them from 0
 //! (`specs/Batch.antt`). `Batch::files` writes each run to a file of its own at level 0, its numbers counted from the
 //! group's next one (`specs/Files.antt`). It leaves the batch as it was, so that a commit that lost is tried again with
-//! other numbers and other names: the rows stand in the batch, and their numbers are changed in place. `src/laws.rt`
-//! has what follows: a run covers its group's rows whatever number they count from, each of its rows is the stored row
-//! of its key's rows, and a file is read as its run.
+//! other numbers and other names: the rows stand in the batch, packed, and are counted as they are written.
+//! `src/laws.rt` has what follows: a run covers its group's rows whatever number they count from, each of its rows is
+//! the stored row of its key's rows, and a file is read as its run.
 //!
 //! The table is one that is built: it has one bucket, no partition columns and no changelog producer. Only bodies rest
 //! on that there is one group; the definitions speak of all.
@@ -16,6 +16,7 @@ mod batch;
 mod files;
 mod held;
 mod laws;
+mod numbered;
 mod taken;
 
 pub use batch::Batch;

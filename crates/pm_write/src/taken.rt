@@ -1,4 +1,4 @@
-//! The rows that a table takes of the lines of a batch.
+//! The rows that a table takes of the lines of a batch, packed.
 
 ghost use Rattle.std.specs.Prelude.{◌≡◌, [], ◌∷◌, ◌++◌, length, map, IfOk, OnOk, Ok};
 ghost use Rattle.std.specs.List.{AllByRecursion};
@@ -15,6 +15,7 @@ ghost use Rattle.pm_write.specs.Taken.{IsTakenRow, stamped, with_taken};
 use pm_engines::{TableEngine, Verdict};
 use pm_input::{InputLine, InputLines, LIMITS, LimitKind, row_at};
 use pm_model_history::{key_of, primary_of};
+use pm_packed::PackedRows;
 use pm_row_lines::LineReader;
 use pm_schema::TableSchema;
 use pm_values::{Kind, Refusal, Row, Stamped, Txt};
@@ -26,16 +27,16 @@ pub(crate) fn taken_rows(
     schema: &TableSchema,
     engine: &TableEngine,
     lines: &InputLines,
-) -> Result<Vec<Stamped>, Refusal>
+) -> Result<PackedRows, Refusal>
     requires { schema_of engine.now ≡ schema.now }
-    ensures exact { Gives (λ rows. map row_of rows.items) refusal_in result
+    ensures exact { Gives (λ rows. map row_of rows) refusal_in result
         (all_taken schema.now lines.now) }
-    ensures taken { IfOk result (λ rows. AllByRecursion (IsTakenRow schema.now) rows.items) }
-    ensures numbers { IfOk result (λ rows. CountFrom 0 rows.items) }
+    ensures taken { IfOk result (λ rows. AllByRecursion (IsTakenRow schema.now) rows) }
+    ensures numbers { IfOk result (λ rows. CountFrom 0 rows) }
 {
     let primary = primary_of(alloc, schema)?;
     let mut reader = LineReader::new(alloc);
-    let mut rows = Vec::new(alloc);
+    let mut rows = PackedRows::new(alloc);
     let mut room = LIMITS.rows;
     let mut left = lines.left();
     while let Some(line) = left.next() {
@@ -75,15 +76,15 @@ fn take_line(
     engine: &TableEngine,
     primary: &[usize],
     line: &InputLine,
-    rows: &mut Vec<Stamped>,
+    rows: &mut PackedRows,
 ) -> Result<(), Refusal>
     requires own { schema_of engine.now ≡ schema.now }
     requires primary { primary.now ≡ primary_of schema.now }
-    ensures exact { Gives (λ _. map row_of rows.new.items) refusal_in result
-        (with_taken (map row_of rows.old.items) (taken_of schema.now (line_view line.now))) }
-    ensures taken { OnOk result (AllByRecursion (IsTakenRow schema.now) rows.old.items
-        → AllByRecursion (IsTakenRow schema.now) rows.new.items) }
-    ensures numbers { OnOk result (CountFrom 0 rows.old.items → CountFrom 0 rows.new.items) }
+    ensures exact { Gives (λ _. map row_of rows.new) refusal_in result
+        (with_taken (map row_of rows.old) (taken_of schema.now (line_view line.now))) }
+    ensures taken { OnOk result (AllByRecursion (IsTakenRow schema.now) rows.old
+        → AllByRecursion (IsTakenRow schema.now) rows.new) }
+    ensures numbers { OnOk result (CountFrom 0 rows.old → CountFrom 0 rows.new) }
 {
     let (kind, row) = row_at(alloc, reader, schema.columns.as_slice(), line)?;
     match engine.verdict(alloc, kind)? {
@@ -100,20 +101,20 @@ fn take_line(
 fn keep(
     alloc: Global,
     primary: &[usize],
-    rows: &mut Vec<Stamped>,
+    rows: &mut PackedRows,
     kind: Kind,
     row: Row,
 ) -> Result<(), AllocError>
-    ensures { OnOk result (rows.new.items
-        ≡ rows.old.items ++ stamped primary.now (length rows.old.items) (kind, row) ∷ []) }
+    ensures { OnOk result (rows.new
+        ≡ rows.old ++ stamped primary.now (length rows.old) (kind, row) ∷ []) }
 {
     let key = key_of(alloc, primary, &row)?;
     let seq = rows.len() as u64;
-    rows.push(Stamped {
+    let own = Stamped {
         key,
         seq,
         kind,
         row,
-    })?;
-    Ok(())
+    };
+    rows.push(&own)
 }

@@ -1,24 +1,74 @@
-use Rattle.std.proofs.Common.{◌≡◌, [], ◌∷◌, ◌++◌, ap, sym, ◌∙◌, append_assoc}
-use Rattle.std.specs.Vec.Iter.{into_iter_items}
+use Rattle.std.proofs.Common.{◌≡◌, ℕ, suc, ◌+◌, ◌<◌, List, [], ◌∷◌, ◌++◌, take, drop, length, get_or, ap, refl, sym, subst, ◌∙◌, arith}
+use Rattle.std.specs.List.{FoldsTo}
+use Rattle.std.proofs.Math.Seq.{take-suc}
+use Rattle.std.proofs.lemmas.List.{drop_more}
+use Rattle.pm_values.specs.declared.kind.Kind.TheVariants as kinds
+use Rattle.pm_values.specs.declared.record.Stamped.{Stamped}
 use Rattle.pm_model_history.specs.declared.verdict.Verdict.TheVariants.{Take}
-use Rattle.pm_engine.specs.Reducing.{Puts}
-use Rattle.pm_engine.proofs.ReduceLemmas.{All-here, FoldsTo-push}
+use Rattle.pm_engine.specs.Meaning.{Meaning}
+use Rattle.pm_engine.specs.Reducing.{IsLifted, Puts, begins}
+use Rattle.pm_engine.proofs.ReduceLemmas.{FoldsTo-push}
 use Rattle.pm_engine.proofs.reducing.gathered.Goals as goal
 
--- the kind of each row is taken
-pub put-requires : goal.put-requires
-put-requires g c =
-    let done = c.loop-row.yielded in
-    let rest = into_iter_items c.next.new.self in
-    let joined : done ++ c.in-Some.row ∷ rest ≡ c.args.rows.items = ap (λ ss. done ++ ss) (sym c.in-Some.ensures.steps.0) ∙ c.loop-row.invariant.parts in
-    All-here (λ s. (g.E.MergeEngine.meaning c.args.engine.now).verdict s.kind ≡ Take) done c.in-Some.row rest c.args.rows.items joined c.requires
+-- lists that are alike from an index on have the same row there, and are alike after it
+record AreAlike (xs ys : List Stamped) (i : ℕ) (none : Stamped) : Type 0 where
+  here : get_or xs i none ≡ get_or ys i none
+  later : drop (i + 1) xs ≡ drop (i + 1) ys
+
+alike : (xs ys : List Stamped) (i : ℕ) (none : Stamped) → i < length xs → i < length ys → drop i xs ≡ drop i ys → AreAlike xs ys i none
+alike xs ys i none in_xs in_ys same =
+    let both : get_or xs i none ∷ drop (i + 1) xs ≡ get_or ys i none ∷ drop (i + 1) ys = sym (drop_more xs i none in_xs) ∙ same ∙ drop_more ys i none in_ys in
+    record { here = ap (λ (zs : List Stamped). get_or zs 0 none) both; later = ap (drop 1) both }
+
+blank : Stamped
+blank = record { key = []; seq = 0; kind = kinds.Insert; row = [] }
+
+-- the run of the first row
+first_row : (m : Meaning) (rows : List Stamped) (stored : Stamped) → 0 < length rows → ((none : Stamped) → IsLifted m (get_or rows 0 none) stored) → FoldsTo (Puts m) [] (take 1 rows) (stored ∷ [])
+first_row m [] stored some lifted = absurd (omega (arith, some))
+first_row m (x ∷ xs) stored some lifted = (stored ∷ [], begins stored (lifted x) tt, refl)
+
+pub loop-index-init : goal.loop-index-init
+loop-index-init g c =
+    let some : 0 < length c.args.rows = omega (arith, c.len.ensures, c.if-len-eq0.false) in
+    record {
+      before = omega arith;
+      within = omega (arith, some);
+      as_many = refl;
+      later = refl;
+      folds = first_row (g.E.MergeEngine.meaning c.args.engine.now) c.args.rows c.in_ok-last.last some c.in_ok-last.ensures;
+    }
+
+pub put-requires-clause-taken : goal.put-requires-clause-taken
+put-requires-clause-taken g c = λ none.
+    let m = g.E.MergeEngine.meaning c.args.engine.now in
+    let it = c.loop-index.invariant in
+    let first : List Stamped = c.args.rows in
+    let i : ℕ = c.loop-index.index in
+    let inside : i < length first = omega (arith, c.loop-index-test.true, c.loop-index.auto, c.len-index-end.ensures) in
+    let same = (alike c.loop-index.rows first i none (omega (arith, it.as_many, inside)) inside it.later).here in
+    subst (λ (s : Stamped). m.verdict s.kind ≡ Take) (sym same) (c.requires i none inside)
 
 -- one row more
-pub loop-row-preserved : goal.loop-row-preserved
-loop-row-preserved g c =
-    let done = c.loop-row.yielded in
-    let rest = into_iter_items c.next.new.self in
+pub loop-index-preserved : goal.loop-index-preserved
+loop-index-preserved g c =
+    let m = g.E.MergeEngine.meaning c.args.engine.now in
+    let it = c.loop-index.invariant in
+    let first : List Stamped = c.args.rows in
+    let i : ℕ = c.loop-index.index in
+    let inside : i < length first = omega (arith, c.loop-index-test.true, c.loop-index.auto, c.len-index-end.ensures) in
+    let same = alike c.loop-index.rows first i blank (omega (arith, it.as_many, inside)) inside it.later in
+    let before : List Stamped = take c.loop-index.count c.loop-index.rows ++ c.loop-index.last ∷ [] in
+    let after : List Stamped = take c.in_ok-count.field-0-0 c.put.new.rows ++ c.in_ok-count.field-0-1 ∷ [] in
+    let puts = subst (λ (s : Stamped). Puts m before s after) same.here (c.in_ok-count.ensures.puts blank) in
+    let more : i + 1 ≡ suc i = omega arith in
+    let front : take (i + 1) first ≡ take i first ++ get_or first i blank ∷ [] = ap (λ (n : ℕ). take n first) more ∙ take-suc first i blank inside in
+    let left : drop i c.put.new.rows ≡ drop i first = c.in_ok-count.ensures.later ∙ it.later in
     record {
-      parts = append_assoc done (c.in-Some.row ∷ []) rest ∙ ap (λ ss. done ++ ss) (sym c.in-Some.ensures.steps.0) ∙ c.loop-row.invariant.parts;
-      folds = FoldsTo-push (Puts (g.E.MergeEngine.meaning c.args.engine.now)) [] _ _ done c.in-Some.row c.loop-row.invariant.folds c.in_ok-put.ensures;
+      before = omega (arith, c.in_ok-count.ensures.before);
+      within = omega (arith, inside);
+      as_many = c.in_ok-count.ensures.as_many ∙ it.as_many;
+      later = (alike c.put.new.rows first i blank (omega (arith, c.in_ok-count.ensures.as_many, it.as_many, inside)) inside left).later;
+      folds = subst (λ (xs : List Stamped). FoldsTo (Puts m) [] xs after) (sym front)
+          (FoldsTo-push (Puts m) [] _ _ (take i first) (get_or first i blank) it.folds puts);
     }

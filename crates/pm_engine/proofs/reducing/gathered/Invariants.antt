@@ -1,12 +1,14 @@
-use Rattle.std.proofs.Common.{◌≡◌, [], ◌++◌}
+use Rattle.std.proofs.Common.{◌≡◌, ◌<◌, ◌≤◌, [], ◌∷◌, ◌++◌, take, drop, length}
 use Rattle.std.specs.List.{FoldsTo}
-use Rattle.std.specs.Vec.Iter.{into_iter_items}
 use Rattle.pm_engine.specs.Reducing.{Puts}
 use Rattle.pm_engine.proofs.reducing.gathered.Given as goal
 
--- the rows so far are in the run
-abbrev pub invariant-loop-row : goal.invariant-loop-row
-invariant-loop-row g l = record {
-  parts : l.yielded ++ into_iter_items l.row-iterator ≡ l.fn.rows.items;
-  folds : FoldsTo (Puts (g.E.MergeEngine.meaning l.engine)) [] l.yielded l.run.items;
+-- the rows so far are in the run, which is the first rows and the one in hand; those after them stand as they did
+abbrev pub invariant-loop-index : goal.invariant-loop-index
+invariant-loop-index g l = record {
+  before : l.count < l.index;
+  within : l.index ≤ length l.fn.rows;
+  as_many : length l.rows ≡ length l.fn.rows;
+  later : drop l.index l.rows ≡ drop l.index l.fn.rows;
+  folds : FoldsTo (Puts (g.E.MergeEngine.meaning l.engine)) [] (take l.index l.fn.rows) (take l.count l.rows ++ l.last ∷ []);
 }

@@ -9,35 +9,35 @@ use Rattle.pm_engine.proofs.reducing.reduce.Goals as goal
 -- the kind of each row is taken, in whichever order
 pub gathered-requires : goal.gathered-requires
 gathered-requires g c =
-    All-permutation (λ s. (g.E.MergeEngine.meaning c.args.engine.now).verdict s.kind ≡ Take) c.args.rows.items c.in_ok-rows.rows.items c.in_ok-rows.ensures.same c.requires
+    All-permutation (λ s. (g.E.MergeEngine.meaning c.args.engine.now).verdict s.kind ≡ Take) c.args.rows c.sort.new.self c.in_ok-sort.ensures.same c.requires
 
 pub returns-clause-rising : goal.returns-clause-rising
 returns-clause-rising g c =
     let m = g.E.MergeEngine.meaning c.args.engine.now in
-    IfOk-weaker c.gathered.result _ _ (λ run folds. (gathers-all m c.in_ok-rows.rows.items run.items c.in_ok-rows.ensures.sorted folds).rising) c.gathered.ensures
+    IfOk-weaker c.gathered.result _ _ (λ run folds. (gathers-all m c.sort.new.self run c.in_ok-sort.ensures.sorted folds).rising) c.gathered.ensures
 
 pub returns-clause-keys : goal.returns-clause-keys
 returns-clause-keys g c =
     let m = g.E.MergeEngine.meaning c.args.engine.now in
-    let sorted = c.in_ok-rows.rows.items in
-    IfOk-weaker c.gathered.result _ _ (λ run folds. keys_all m c.args.rows.items sorted run.items (gathers-all m sorted run.items c.in_ok-rows.ensures.sorted folds) c.in_ok-rows.ensures.stable) c.gathered.ensures
+    let sorted = c.sort.new.self in
+    IfOk-weaker c.gathered.result _ _ (λ run folds. keys_all m c.args.rows sorted run (gathers-all m sorted run c.in_ok-sort.ensures.sorted folds) c.in_ok-sort.ensures.stable) c.gathered.ensures
 
 pub returns-clause-numbers : goal.returns-clause-numbers
 returns-clause-numbers g c =
     let m = g.E.MergeEngine.meaning c.args.engine.now in
-    let sorted = c.in_ok-rows.rows.items in
-    IfOk-weaker c.gathered.result _ _ (λ run folds. numbers_all m c.args.rows.items sorted run.items (gathers-all m sorted run.items c.in_ok-rows.ensures.sorted folds) c.in_ok-rows.ensures.stable) c.gathered.ensures
+    let sorted = c.sort.new.self in
+    IfOk-weaker c.gathered.result _ _ (λ run folds. numbers_all m c.args.rows sorted run (gathers-all m sorted run c.in_ok-sort.ensures.sorted folds) c.in_ok-sort.ensures.stable) c.gathered.ensures
 
 pub returns-clause-kinds : goal.returns-clause-kinds
 returns-clause-kinds g c =
     let m = g.E.MergeEngine.meaning c.args.engine.now in
-    let sorted = c.in_ok-rows.rows.items in
-    IfOk-weaker c.gathered.result _ _ (λ run folds. kinds_all m c.args.rows.items sorted run.items (gathers-all m sorted run.items c.in_ok-rows.ensures.sorted folds) c.in_ok-rows.ensures.stable) c.gathered.ensures
+    let sorted = c.sort.new.self in
+    IfOk-weaker c.gathered.result _ _ (λ run folds. kinds_all m c.args.rows sorted run (gathers-all m sorted run c.in_ok-sort.ensures.sorted folds) c.in_ok-sort.ensures.stable) c.gathered.ensures
 
 pub returns-clause-covers : goal.returns-clause-covers
 returns-clause-covers g c =
     let m = g.E.MergeEngine.meaning c.args.engine.now in
-    let rows = c.args.rows.items in
-    let sorted = c.in_ok-rows.rows.items in
-    IfOk-weaker c.gathered.result _ _ (λ run folds keyed. covers_all m rows sorted run.items (gathers-all m sorted run.items c.in_ok-rows.ensures.sorted folds) c.in_ok-rows.ensures.stable
-    (All-permutation (IsKeyed m) rows sorted c.in_ok-rows.ensures.same keyed) keyed) c.gathered.ensures
+    let rows = c.args.rows in
+    let sorted = c.sort.new.self in
+    IfOk-weaker c.gathered.result _ _ (λ run folds keyed. covers_all m rows sorted run (gathers-all m sorted run c.in_ok-sort.ensures.sorted folds) c.in_ok-sort.ensures.stable
+    (All-permutation (IsKeyed m) rows sorted c.in_ok-sort.ensures.same keyed) keyed) c.gathered.ensures

@@ -7,21 +7,21 @@ use Rattle.pm_write.proofs.batch.held_rows.Goals as goal
 pub returns-clause-rows : goal.returns-clause-rows
 returns-clause-rows c =
     let s = schema_of c.args.engine.now in
-    let rows = c.args.rows.items in
-    let run = c.in_ok-run.run'.items in
+    let rows = c.args.rows in
+    let run = c.in_ok-run.run' in
     let keyed = all_keyed s rows c.requires.taken in
     let covers = c.in_ok-run.ensures.covers keyed in
-    let count : c.len-count.result ≡ length rows = omega (arith, c.args.rows.ok) in
+    let count : c.len-count.result ≡ length rows = omega arith in
     rows_reduced s run rows c.in_ok-run.ensures.rising c.in_ok-run.ensures.numbers covers c.requires.taken c.requires.numbers c.requires.some
     (c.stored_law.ensures.run (meaning_of s) run rows c.in_ok-run.ensures.rising keyed covers c.in_ok-run.ensures.kinds) c.len-count.result count
 
 pub returns-clause-held : goal.returns-clause-held
 returns-clause-held c =
     let s = schema_of c.args.engine.now in
-    let rows = c.args.rows.items in
-    let run = c.in_ok-run.run'.items in
+    let rows = c.args.rows in
+    let run = c.in_ok-run.run' in
     let covers = c.in_ok-run.ensures.covers (all_keyed s rows c.requires.taken) in
-    let count : c.len-count.result ≡ length rows = omega (arith, c.args.rows.ok) in
+    let count : c.len-count.result ≡ length rows = omega arith in
     record {
       some = some_stored s run rows c.in_ok-run.ensures.rising c.in_ok-run.ensures.numbers covers c.requires.taken c.requires.numbers c.requires.some;
       rising = c.in_ok-run.ensures.rising;

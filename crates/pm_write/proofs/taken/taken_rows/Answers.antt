@@ -10,12 +10,12 @@ pub returns-in_err-take_line-clause-exact : goal.returns-in_err-take_line-clause
 returns-in_err-take_line-clause-exact c =
     let p = err_from_is_err_and c.from_residual-in_err-take_line.result c.from_residual-in_err-take_line.ensures.1 in
     rw (p.1, p.2)
-    (refused_here c.args.schema.now c.loop-line.room (line_view c.in-Some.line) c.loop-line.left c.next.new.self (map row_of c.loop-line.rows.items) _ c.in_err-take_line.field-0.0
+    (refused_here c.args.schema.now c.loop-line.room (line_view c.in-Some.line) c.loop-line.left c.next.new.self (map row_of c.loop-line.rows) _ c.in_err-take_line.field-0.0
     c.in-Some.ensures.line c.if-room-eq0.false c.in_err-take_line.ensures.exact c.loop-line.invariant.exact)
 
 pub loop-line-preserved : goal.loop-line-preserved
 loop-line-preserved c = record {
-  exact = taken_more c.args.schema.now c.loop-line.room (line_view c.in-Some.line) c.loop-line.left c.next.new.self (map row_of c.loop-line.rows.items) (map row_of c.take_line.new.rows.items) _
+  exact = taken_more c.args.schema.now c.loop-line.room (line_view c.in-Some.line) c.loop-line.left c.next.new.self (map row_of c.loop-line.rows) (map row_of c.take_line.new.rows) _
       c.in-Some.ensures.line c.if-room-eq0.false c.in_ok-take_line.ensures.exact c.loop-line.invariant.exact;
   taken = c.in_ok-take_line.ensures.taken c.loop-line.invariant.taken;
   numbers = c.in_ok-take_line.ensures.numbers c.loop-line.invariant.numbers;

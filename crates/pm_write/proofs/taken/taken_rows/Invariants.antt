@@ -8,9 +8,9 @@ use Rattle.pm_write.proofs.taken.taken_rows.Given as goal
 -- the rows so far, and those that are taken of the lines that are left
 abbrev pub invariant-loop-line : goal.invariant-loop-line
 invariant-loop-line l = record {
-  exact : with_taken (map row_of l.rows.items) (taken_in l.schema l.room l.left) ≡ all_taken l.schema l.lines;
-  taken : AllByRecursion (IsTakenRow l.schema) l.rows.items;
-  numbers : CountFrom 0 l.rows.items;
+  exact : with_taken (map row_of l.rows) (taken_in l.schema l.room l.left) ≡ all_taken l.schema l.lines;
+  taken : AllByRecursion (IsTakenRow l.schema) l.rows;
+  numbers : CountFrom 0 l.rows;
 }
 
 abbrev pub decreases-loop-line : goal.decreases-loop-line

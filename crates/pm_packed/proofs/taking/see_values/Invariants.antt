@@ -1,0 +1,13 @@
+use Rattle.std.proofs.Common.{◌≡◌, ◌++◌, ◌-◌, ◌≤◌, map}
+use Rattle.pm_row_slots.specs.Seen.{seen_value}
+use Rattle.pm_packed.specs.Values.{values_in}
+use Rattle.pm_packed.proofs.taking.see_values.Given as goal
+
+-- those that are left come after those so far
+abbrev pub invariant-loop : goal.invariant-loop
+invariant-loop l = record {
+  within : l.counter ≤ l.count;
+  values : map seen_value l.into.items ++ (values_in (l.count - l.counter) l.rest).0
+      ≡ map seen_value l.fn.into.items ++ (values_in l.count l.bytes).0;
+  rest : (values_in (l.count - l.counter) l.rest).1 ≡ (values_in l.count l.bytes).1;
+}
