@@ -123,8 +123,46 @@ fn seen_at<'b>(row: &[Seen<'b>], index: usize) -> Seen<'b>
     }
 }
 
-/// The values of fields that the bytes begin with, where they lie, and the rest.
+/// The values of fields that the bytes begin with, where they lie, and the rest. As many values as those before are put
+/// in their place, one by one, so that none is moved.
+#[inline(always)]
 fn see_values<'b>(
+    alloc: Global,
+    fields: &[Field],
+    bytes: &'b [u8],
+    into: &mut Vec<Seen<'b>>,
+) -> Option<&'b [u8]>
+    ensures { IfSome result (λ rest. AreCells fields.now (map seen_value into.new.items) bytes.now rest.now) }
+{
+    if into.len() == fields.len() {
+        return see_each(alloc, fields, bytes, into);
+    }
+    see_first(alloc, fields, bytes, into)
+}
+
+/// The same where as many values stand there.
+#[inline(always)]
+fn see_each<'b>(
+    alloc: Global,
+    fields: &[Field],
+    bytes: &'b [u8],
+    into: &mut [Seen<'b>],
+) -> Option<&'b [u8]>
+    requires { length into.old ≡ length fields.now }
+    ensures { IfSome result (λ rest. AreCells fields.now (map seen_value into.new) bytes.now rest.now) }
+{
+    let mut rest = bytes;
+    for (index, field) in fields.iter().enumerate() {
+        let (seen, after) = see_value(alloc, field, rest)?;
+        into[index] = seen;
+        rest = after;
+    }
+    Some(rest)
+}
+
+/// The same where others stand there.
+#[inline(never)]
+fn see_first<'b>(
     alloc: Global,
     fields: &[Field],
     bytes: &'b [u8],
@@ -150,7 +188,8 @@ fn are_at(places: &[usize], row: &[Seen], keys: &[Seen]) -> bool
     match (places.split_first(), keys.split_first()) {
         (None, None) => true,
         (Some((place, places)), Some((key, keys))) => {
-            is_at(row, *place, *key) && are_at(places, row, keys)
+            is_at(row, *place, *key)
+                && (places.is_empty() && keys.is_empty() || are_at(places, row, keys))
         }
         _ => false,
     }

@@ -79,10 +79,10 @@ impl<'b> RunWriter<'b> {
     }
 
     /// Writes the row of a place, which leaves it, and hands the file out that it fills. Bytes that stand with it are
-    /// copied: they have to be those that are written of it, which isn't tested. Out of memory is also answered where no
-    /// row stands there, and, where its bytes aren't known, where it has another number of values than the schema has
-    /// columns, where a value isn't of its column's type, and where the sequence number is above 2^62 - 1; then nothing
-    /// is said of what was written.
+    /// copied: they have to be those that are written of it, which isn't tested. Out of memory is also answered where
+    /// no row stands there, and, where its bytes aren't known, where it has another number of values than the schema
+    /// has columns, where a value isn't of its column's type, and where the sequence number is above 2^62 - 1; then
+    /// nothing is said of what was written.
     pub fn add(
         &mut self,
         alloc: Global,

@@ -1,7 +1,7 @@
 use Rattle.std.proofs.Common.{map, take}
 use Rattle.pm_run_bytes.specs.Direct.{AreCells}
 use Rattle.pm_row_slots.specs.Seen.{seen_value}
-use Rattle.pm_run_bytes.proofs.judge.see_values.Given as goal
+use Rattle.pm_run_bytes.proofs.judge.see_first.Given as goal
 
 -- the values so far
 abbrev pub invariant-loop-field : goal.invariant-loop-field

@@ -2,7 +2,7 @@ use Rattle.std.proofs.Common.{◌≡◌, [], ◌∷◌, ◌++◌, map, ap, ◌�
 use Rattle.std.proofs.lemmas.List.{map-append}
 use Rattle.pm_row_slots.specs.Seen.{seen_value}
 use Rattle.pm_run_bytes.proofs.DirectLemmas.{cells_end, cells_next}
-use Rattle.pm_run_bytes.proofs.judge.see_values.Goals as goal
+use Rattle.pm_run_bytes.proofs.judge.see_first.Goals as goal
 
 pub loop-field-preserved : goal.loop-field-preserved
 loop-field-preserved c =
