@@ -23,6 +23,23 @@ lines_in-push text (first ∷ marks) m line whole len =
     ∙ ap (λ (bytes : List ℕ). (first.number, take first.len text) ∷ lines_in bytes (marks ++ m ∷ [])) (drop-append-le first.len text line inside)
     ∙ ap (λ (lines : List (ℕ × List ℕ)). (first.number, take first.len text) ∷ lines) (lines_in-push (drop first.len text) marks m line (omega arith) len)
 
+-- lines of a text stand before those of another
+pub lines_in-append : (text later : List ℕ) (first marks : List LineMark) → marked_length first ≡ length text → lines_in (text ++ later) (first ++ marks) ≡ lines_in text first ++ lines_in later marks
+lines_in-append text later [] marks whole =
+    ap (λ (before : List ℕ). lines_in (before ++ later) marks) (nil_from_length text (sym whole))
+lines_in-append text later (m ∷ first) marks whole =
+    let inside : m.len ≤ length text = omega (arith, whole) in
+    let fewer = length-drop m.len text in
+    ap (λ (bytes : List ℕ). (m.number, bytes) ∷ lines_in (drop m.len (text ++ later)) (first ++ marks)) (take-append-le m.len text later inside)
+    ∙ ap (λ (bytes : List ℕ). (m.number, take m.len text) ∷ lines_in bytes (first ++ marks)) (drop-append-le m.len text later inside)
+    ∙ ap (λ (lines : List (ℕ × List ℕ)). (m.number, take m.len text) ∷ lines) (lines_in-append (drop m.len text) later first marks (omega (arith, whole, fewer)))
+
+pub marked_length-append : (first marks : List LineMark) → marked_length (first ++ marks) ≡ marked_length first + marked_length marks
+marked_length-append [] marks = omega arith
+marked_length-append (m ∷ first) marks =
+    let more = marked_length-append first marks in
+    omega (arith, more)
+
 pub lines_in_count : (text : List ℕ) (marks : List LineMark) → length (lines_in text marks) ≡ length marks
 lines_in_count text [] = refl
 lines_in_count text (m ∷ marks) = ap suc (lines_in_count (drop m.len text) marks)

@@ -1,7 +1,7 @@
 //! The lines of an input, kept.
 
-ghost use Rattle.std.specs.Prelude.{◌≡◌, [], ◌∷◌, ◌++◌, length, IfNone, IfSome, OnOk};
-ghost use Rattle.pm_input.specs.Kept.{line_view};
+ghost use Rattle.std.specs.Prelude.{◌≡◌, ◌<◌, ◌^◌, [], ◌∷◌, ◌++◌, length, IfNone, IfOk, IfSome, OnOk};
+ghost use Rattle.pm_input.specs.Kept.{line_view, marked_length};
 
 use std::alloc::{AllocError, Global};
 use std::marker::Model;
@@ -73,6 +73,27 @@ impl InputLines {
         self.marks.len()
     }
 
+    /// The first half of them and the later one, each in memory of its own: so what the first takes can be let go before
+    /// the later ones are taken.
+    pub fn halves(self) -> Result<(InputLines, InputLines), AllocError>
+        ensures { IfOk result (λ halves. self ≡ halves.0 ++ halves.1) }
+    {
+        let InputLines { text, marks } = self;
+        let (mut text, mut marks) = (text, marks);
+        let count = marks.len() / 2;
+        let (first, _) = marks.split_at(count);
+        let end = text_length(first);
+        let later_text = text.split_off(end)?;
+        let later_marks = marks.split_off(count)?;
+        text.shrink_to_fit();
+        marks.shrink_to_fit();
+        let later = InputLines {
+            text: later_text,
+            marks: later_marks,
+        };
+        Ok((InputLines { text, marks }, later))
+    }
+
     /// All of them, to be taken one after another.
     pub fn left(&self) -> LinesLeft<'_>
         ensures { result ≡ self.now }
@@ -82,6 +103,18 @@ impl InputLines {
             marks: &self.marks,
         }
     }
+}
+
+/// How long lines are in all.
+fn text_length(marks: &[LineMark]) -> usize
+    requires { marked_length marks.now < 2 ^ 64 }
+    ensures { result ≡ marked_length marks.now }
+{
+    let mut length: usize = 0;
+    for mark in marks {
+        length += mark.len as usize;
+    }
+    length
 }
 
 /// The lines that are left to be taken.

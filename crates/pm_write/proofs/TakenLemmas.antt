@@ -1,5 +1,5 @@
 -- The rows that are taken of lines, one line after another.
-use Rattle.std.proofs.Common.{◌≡◌, ◌≢◌, ℕ, ◌+◌, ◌-◌, ◌==◌, List, [], ◌∷◌, ◌++◌, length, Bool, false, cond, Option, Some, None, Result, Ok, Err, refl, sym, ap, ◌∙◌, append_assoc, arith}
+use Rattle.std.proofs.Common.{◌≡◌, ◌≢◌, ℕ, ◌+◌, ◌-◌, ◌==◌, List, [], ◌∷◌, ◌++◌, length, Bool, false, cond, Option, Some, None, Result, Ok, Err, refl, sym, ap, subst, ◌∙◌, append_assoc, append-nil, arith}
 use Rattle.std.proofs.lemmas.Bool.Decides.{nat_tests}
 use Rattle.pm_base.specs.Outcome.{◌>>=◌, Fails}
 use Rattle.pm_values.specs.declared.record.Stamped.{Stamped}
@@ -48,6 +48,34 @@ pub taken_more : (s : TableSchema) (room : ℕ) (line : ℕ × List ℕ) (left l
     → with_taken now (taken_in s (room - 1) later) ≡ all
 taken_more s room line left later before now all is some step same =
     sym (with_taken-step before now (taken_of s line) (taken_in s (room - 1) later) step) ∙ ap (with_taken before) (sym (taken_here s room line left later is some)) ∙ same
+
+-- no rows stand before
+pub with_taken-none : (taken : Result (List HistoryRow) Refusal) → with_taken [] taken ≡ taken
+with_taken-none (Ok rows) = refl
+with_taken-none (Err e) = refl
+
+-- the lines of two halves, one after the other: the first that is refused, and all rows
+pub first_refused : (s : TableSchema) (n : ℕ) (lines first later : List (ℕ × List ℕ)) (before : List HistoryRow) (fault : Option Refusal) → lines ≡ first ++ later → before ≡ []
+    → Fails fault (with_taken before (taken_in s n (first ++ later))) → Fails fault (taken_in s n lines)
+first_refused s n lines first later before fault halves none fails =
+    subst (Fails fault) (ap (λ (rows : List HistoryRow). with_taken rows (taken_in s n (first ++ later))) none ∙ with_taken-none (taken_in s n (first ++ later)) ∙ ap (taken_in s n) (sym halves)) fails
+
+pub later_refused : (s : TableSchema) (n left : ℕ) (lines first later : List (ℕ × List ℕ)) (before now : List HistoryRow) (fault : Option Refusal) → lines ≡ first ++ later → before ≡ []
+    → with_taken now (taken_in s left later) ≡ with_taken before (taken_in s n (first ++ later)) → Fails fault (with_taken now (taken_in s left (later ++ []))) → Fails fault (taken_in s n lines)
+later_refused s n left lines first later before now fault halves none more fails =
+    first_refused s n lines first later before fault halves none (subst (Fails fault) (ap (λ (ls : List (ℕ × List ℕ)). with_taken now (taken_in s left ls)) (append-nil later) ∙ more) fails)
+
+pub all_halves : (s : TableSchema) (n left end : ℕ) (lines first later : List (ℕ × List ℕ)) (before now all : List HistoryRow) → lines ≡ first ++ later → before ≡ []
+    → with_taken now (taken_in s left later) ≡ with_taken before (taken_in s n (first ++ later)) → with_taken all (taken_in s end []) ≡ with_taken now (taken_in s left (later ++ []))
+    → taken_in s n lines ≡ Ok all
+all_halves s n left end lines first later before now all halves none more last =
+    ap (taken_in s n) halves
+    ∙ sym (with_taken-none (taken_in s n (first ++ later)))
+    ∙ ap (λ (rows : List HistoryRow). with_taken rows (taken_in s n (first ++ later))) (sym none)
+    ∙ sym more
+    ∙ ap (λ (ls : List (ℕ × List ℕ)). with_taken now (taken_in s left ls)) (sym (append-nil later))
+    ∙ sym last
+    ∙ ap Ok (append-nil all)
 
 -- the numbers count on
 pub CountFrom-push : (n : ℕ) (xs : List Stamped) (x : Stamped) → CountFrom n xs → x.seq ≡ n + length xs → CountFrom n (xs ++ x ∷ [])

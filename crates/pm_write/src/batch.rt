@@ -50,7 +50,7 @@ impl Model for Batch {
 impl Batch {
     /// The rows that the table takes of lines that aren't blank, or the first refusal: a bad line, a row that the
     /// engine refuses, or a line for which a batch has no room. It takes time linear in the lines, but for the sort by
-    /// key. The lines are let go as soon as their rows are taken.
+    /// key. The lines are let go as their rows are taken, one half and then the other.
     pub fn read(
         alloc: Global,
         schema: &TableSchema,
@@ -62,8 +62,7 @@ impl Batch {
         requires own { schema_of engine.now ≡ schema.now }
         ensures { ReadsBatch schema.now result (all_taken schema.now lines) }
     {
-        let rows = taken_rows(alloc, schema, engine, &lines)?;
-        drop(lines);
+        let rows = taken_rows(alloc, schema, engine, lines)?;
         Ok(of_rows(alloc, engine, rows)?)
     }
 

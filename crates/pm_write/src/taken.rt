@@ -1,15 +1,15 @@
 //! The rows that a table takes of the lines of a batch, packed.
 
-ghost use Rattle.std.specs.Prelude.{◌≡◌, [], ◌∷◌, ◌++◌, length, map, IfOk, OnOk, Ok};
+ghost use Rattle.std.specs.Prelude.{◌≡◌, ℕ, List, [], ◌∷◌, ◌++◌, length, map, IfErr, IfOk, OnOk, Ok};
 ghost use Rattle.std.specs.List.{AllByRecursion};
-ghost use Rattle.pm_base.specs.Outcome.{Gives};
+ghost use Rattle.pm_base.specs.Outcome.{Fails, Gives};
 ghost use Rattle.pm_model_history.specs.Merged.{primary_of};
 ghost use Rattle.pm_input.specs.Kept.{line_view};
 ghost use Rattle.pm_input.specs.Rows.{refusal_in};
 ghost use Rattle.pm_engine.specs.Covers.{row_of};
 ghost use Rattle.pm_engines.specs.TableEngine.{schema_of};
 ghost use Rattle.pm_run.specs.Writing.{CountFrom};
-ghost use Rattle.pm_write.specs.Taken.{all_taken, no_room, taken_by, taken_of};
+ghost use Rattle.pm_write.specs.Taken.{all_taken, no_room, taken_by, taken_in, taken_of};
 ghost use Rattle.pm_write.specs.Taken.{IsTakenRow, stamped, with_taken};
 
 use pm_engines::{TableEngine, Verdict};
@@ -21,40 +21,80 @@ use pm_schema::TableSchema;
 use pm_values::{Kind, Refusal, Row, Stamped, Txt};
 use std::alloc::{AllocError, Global};
 
-/// The rows that the table takes of the lines, with their keys, their numbers counted from 0.
+/// The rows that the table takes of the lines, with their keys, their numbers counted from 0. The first half of the lines
+/// is let go before the rows of the later one are taken.
 pub(crate) fn taken_rows(
     alloc: Global,
     schema: &TableSchema,
     engine: &TableEngine,
-    lines: &InputLines,
+    lines: InputLines,
 ) -> Result<PackedRows, Refusal>
     requires { schema_of engine.now ≡ schema.now }
     ensures exact { Gives (λ rows. map row_of rows) refusal_in result
-        (all_taken schema.now lines.now) }
+        (all_taken schema.now lines) }
     ensures taken { IfOk result (λ rows. AllByRecursion (IsTakenRow schema.now) rows) }
     ensures numbers { IfOk result (λ rows. CountFrom 0 rows) }
 {
     let primary = primary_of(alloc, schema)?;
     let mut reader = LineReader::new(alloc);
     let mut rows = PackedRows::new(alloc);
-    let mut room = LIMITS.rows;
+    let (first, later) = lines.halves()?;
+    let room = take_lines(
+        alloc,
+        &mut reader,
+        schema,
+        engine,
+        &primary,
+        &first,
+        LIMITS.rows,
+        &mut rows,
+    )?;
+    drop(first);
+    take_lines(
+        alloc,
+        &mut reader,
+        schema,
+        engine,
+        &primary,
+        &later,
+        room,
+        &mut rows,
+    )?;
+    Ok(rows)
+}
+
+/// Takes the rows of lines, where there is room for so many. Gives the room that is left.
+fn take_lines(
+    alloc: Global,
+    reader: &mut LineReader,
+    schema: &TableSchema,
+    engine: &TableEngine,
+    primary: &[usize],
+    lines: &InputLines,
+    room: usize,
+    rows: &mut PackedRows,
+) -> Result<usize, Refusal>
+    requires own { schema_of engine.now ≡ schema.now }
+    requires primary { primary.now ≡ primary_of schema.now }
+    ensures more { IfOk result (λ left. (later : List (ℕ × List ℕ)) →
+        with_taken (map row_of rows.new) (taken_in schema.now left later)
+        ≡ with_taken (map row_of rows.old) (taken_in schema.now room (lines.now ++ later))) }
+    ensures refused { IfErr result (λ e. (later : List (ℕ × List ℕ)) → Fails (refusal_in e)
+        (with_taken (map row_of rows.old) (taken_in schema.now room (lines.now ++ later)))) }
+    ensures taken { OnOk result (AllByRecursion (IsTakenRow schema.now) rows.old
+        → AllByRecursion (IsTakenRow schema.now) rows.new) }
+    ensures numbers { OnOk result (CountFrom 0 rows.old → CountFrom 0 rows.new) }
+{
+    let mut room = room;
     let mut left = lines.left();
     while let Some(line) = left.next() {
         if room == 0 {
             return Err(no_room(alloc)?);
         }
-        take_line(
-            alloc,
-            &mut reader,
-            schema,
-            engine,
-            &primary,
-            &line,
-            &mut rows,
-        )?;
+        take_line(alloc, reader, schema, engine, primary, &line, rows)?;
         room -= 1;
     }
-    Ok(rows)
+    Ok(room)
 }
 
 /// The refusal of a line for which a batch has no room.

@@ -1,22 +1,27 @@
-use Rattle.std.proofs.Common.{map}
+use Rattle.std.proofs.Common.{[], map, ap}
 use Rattle.std.proofs.lemmas.Result.{err_from_is_err_and}
-use Rattle.pm_input.specs.Kept.{line_view}
+use Rattle.pm_input.specs.Rows.{refusal_in}
 use Rattle.pm_engine.specs.Covers.{row_of}
-use Rattle.pm_write.proofs.TakenLemmas.{refused_here, taken_more}
+use Rattle.pm_write.proofs.TakenLemmas.{all_halves, first_refused, later_refused}
 use Rattle.pm_write.proofs.taken.taken_rows.Goals as goal
 
--- the first line that is refused
-pub returns-in_err-take_line-clause-exact : goal.returns-in_err-take_line-clause-exact
-returns-in_err-take_line-clause-exact c =
-    let p = err_from_is_err_and c.from_residual-in_err-take_line.result c.from_residual-in_err-take_line.ensures.1 in
+-- a line of the first half is refused
+pub returns-in_err-room-clause-exact : goal.returns-in_err-room-clause-exact
+returns-in_err-room-clause-exact c =
+    let p = err_from_is_err_and c.from_residual-in_err-room.result c.from_residual-in_err-room.ensures.1 in
     rw (p.1, p.2)
-    (refused_here c.args.schema.now c.loop-line.room (line_view c.in-Some.line) c.loop-line.left c.next.new.self (map row_of c.loop-line.rows) _ c.in_err-take_line.field-0.0
-    c.in-Some.ensures.line c.if-room-eq0.false c.in_err-take_line.ensures.exact c.loop-line.invariant.exact)
+    (first_refused c.args.schema.now 100000 c.args.lines c.in_ok-first.first c.in_ok-first.later (map row_of c.new-rows.result) (refusal_in c.in_err-room.field-0.0)
+    c.in_ok-first.ensures (ap (map row_of) c.new-rows.ensures) (c.in_err-room.ensures.refused c.in_ok-first.later))
 
-pub loop-line-preserved : goal.loop-line-preserved
-loop-line-preserved c = record {
-  exact = taken_more c.args.schema.now c.loop-line.room (line_view c.in-Some.line) c.loop-line.left c.next.new.self (map row_of c.loop-line.rows) (map row_of c.take_line.new.rows) _
-      c.in-Some.ensures.line c.if-room-eq0.false c.in_ok-take_line.ensures.exact c.loop-line.invariant.exact;
-  taken = c.in_ok-take_line.ensures.taken c.loop-line.invariant.taken;
-  numbers = c.in_ok-take_line.ensures.numbers c.loop-line.invariant.numbers;
-}
+-- one of the later half is
+pub returns-in_err-take_lines-clause-exact : goal.returns-in_err-take_lines-clause-exact
+returns-in_err-take_lines-clause-exact c =
+    let p = err_from_is_err_and c.from_residual-in_err-take_lines.result c.from_residual-in_err-take_lines.ensures.1 in
+    rw (p.1, p.2)
+    (later_refused c.args.schema.now 100000 c.in_ok-room.room c.args.lines c.in_ok-first.first c.in_ok-first.later (map row_of c.new-rows.result) (map row_of c.take_lines.new.rows) (refusal_in c.in_err-take_lines.field-0.0)
+    c.in_ok-first.ensures (ap (map row_of) c.new-rows.ensures) (c.in_ok-room.ensures.more c.in_ok-first.later) (c.in_err-take_lines.ensures.refused []))
+
+pub returns-clause-exact : goal.returns-clause-exact
+returns-clause-exact c =
+    all_halves c.args.schema.now 100000 c.in_ok-room.room c.in_ok-take_lines.field-0 c.args.lines c.in_ok-first.first c.in_ok-first.later (map row_of c.new-rows.result) (map row_of c.take_lines.new.rows) (map row_of c.take_lines-2.new.rows)
+    c.in_ok-first.ensures (ap (map row_of) c.new-rows.ensures) (c.in_ok-room.ensures.more c.in_ok-first.later) (c.in_ok-take_lines.ensures.more [])
