@@ -1,65 +1,87 @@
 #!/usr/bin/env python3
 """Runs the cases of crates/pm_cases_commands with the second program (reference_*.py), which was written from the
 documents, and compares its answers with those that stand there. It promises that they are equal, in each case up to the
-first line that it doesn't follow: calls that others come between, streams that fail, files that bear a session's name,
-and writes on files that stand there. Where calls are to fail it makes each call of a command, in the order that the
-documents tell. It ends with 1 where two answers differ. The gate never runs it. docs/DEVELOPING.md has what it printed.
+first line that it doesn't follow: commands whose streams fail. It makes each call of a command, in the order that the
+documents tell, and has calls fail and others act between them as the case says. It ends with 1 where two answers
+differ. The gate never runs it. docs/DEVELOPING.md has what it printed.
 
 usage: bench/check_cases.py [CASES ANSWERS]     the cases and the answers of other files than those of the crate
 """
 
-import copy
 import json
 import pathlib
 import re
 import sys
 
+import reference_commands
 import reference_files
-from reference_commands import GREATEST, Table, read_words
-from reference_table import Refused, read_draft
+from reference_table import Refused
 from trials import TOP, Tally
 
 CASES = TOP / "crates/pm_cases_commands"
 FOLLOWED = {"open"}  # the options of a run that it follows
-READERS = [["scan"], ["snapshots"]]  # the commands whose session isn't asked for
 
 
 class NotFollowed(Exception):
     """A line that this script doesn't follow."""
 
 
-class Memory(reference_files.Folder):
-    """A folder in memory. Its calls are counted, and those of a plan fail."""
+class Calls(reference_files.Memory):
+    """A folder in memory. Its calls are counted, those of a plan fail, and others act between them."""
 
     def __init__(self):
-        self.files, self.plan, self.calls = {}, {}, 0
+        super().__init__()
+        self.plan, self.calls = {}, 0  # of the case's calls, from 1
+        self.deeds, self.made, self.is_theirs = [], 0, False  # of the command's calls, from 1
 
-    def call(self, path, content=None, can_be_cut=False):
-        """Makes the next call, which puts this content at a path where nothing is, if any; of one that fails as much as
-        is planned."""
+    def begin(self):
+        """A command begins."""
+        self.made = 0
+
+    def call(self, path, put=None, cut_to=None):
+        """Makes the next call, which puts something, if it does: of one that fails as much as is planned."""
+        if self.is_theirs:
+            return put() if put else None
         self.calls += 1
+        self.made += 1
+        self.do_deeds()
         effect = self.plan.get(self.calls, "")
-        if effect.startswith("part ") and can_be_cut:
-            content = bytes.fromhex(effect[5:])
-        elif effect not in ("", "whole"):
-            content = None
-        if content is not None:
-            self.files.setdefault(path, content)
-        if effect:
-            raise Refused(f"E5 store {path}")
+        if effect == "":
+            return put() if put else None
+        if effect == "whole" and put:
+            put()
+        elif effect.startswith("part ") and cut_to:
+            cut_to(bytes.fromhex(effect[5:]))
+        raise Refused(f"E5 store {path}")
+
+    def do_deeds(self):
+        """Does what others do now."""
+        now = [deed for at, deed in self.deeds if at == self.made]
+        self.deeds = [(at, deed) for at, deed in self.deeds if at != self.made]
+        self.is_theirs = True
+        for deed in now:
+            deed()
+        self.is_theirs = False
 
     def read(self, path):
         self.call(path)
-        return self.files.get(path)
+        return super().read(path)
 
     def list(self, folder):
         self.call(folder)
-        return {path[len(folder) + 1 :].split("/")[0] for path in self.files if path.startswith(f"{folder}/")}
+        return super().list(folder)
 
-    def put(self, files):
-        """Creates files, and then publishes or swaps in the last one."""
-        for at, (path, content) in enumerate(files.items(), 1):
-            self.call(path, content, at < len(files))
+    def create(self, path, data):
+        put = super().create
+        return self.call(path, lambda: put(path, data), lambda part: put(path, part))
+
+    def swap_in(self, path, data):
+        put = super().create
+        return self.call(path, lambda: put(path, data))
+
+    def publish(self, path, after, data):
+        put = super().create
+        return self.call(path, lambda: after in self.files and put(path, data))
 
 
 KINDS = {"+I", "-U", "+U", "-D"}
@@ -143,80 +165,58 @@ class Case:
     """One case: its folder, the answers that are left of it, and the files that earlier ones ended with, by name."""
 
     def __init__(self, answers, ended):
-        self.folder, self.answers, self.ended = Memory(), answers, ended
-        self.table, self.is_own = Table(), True
+        self.folder, self.answers, self.ended = Calls(), answers, ended
 
     def follow(self, line):
         """Does a line; gives what it has to print and what it prints."""
-        if line[0] == "put":
-            self.folder.files[line[1]] = line[2]
+        if line[0] == "run":
+            return self.run(*line[1:])
+        if line[0] == "before":
+            self.folder.deeds.append((line[1], lambda: self.act(line[2])))
         elif line[0] == "as" and line[1] in self.ended:
             self.folder.files |= self.ended[line[1]]
-        elif line[0] == "take":
-            self.folder.files.pop(line[1], None)
-        elif line[0] == "run" and set(line[5]) <= FOLLOWED:
-            return self.run(*line[1:5])
-        elif line[0] == "store" and self.is_own and not self.folder.calls:
+        elif line[0] == "store":
             self.folder.plan = dict(line[1])
-            return [], []
         elif line[0] == "files":
             return self.list_files(line[1:] == ["sum"])
-        else:
+        elif line[0] == "list":
+            return self.told(sorted(reference_files.Memory.list(self.folder, line[1]), key=str.encode))
+        elif line[0] == "calls":
+            return self.told([f"{self.folder.made} calls"])
+        elif not self.act(line):
             raise NotFollowed
-        self.is_own = False
         return [], []
 
-    def run(self, number, now, words, data):
-        session = f"00000000-0000-0000-0000-{number:012x}"
-        if words[:1] not in READERS and any(session in path for path in self.folder.files):
-            raise NotFollowed
-        try:
-            printed, status = self.answer(words, data, session, now), 0
-        except Refused as refused:
-            printed, status = f"{refused}\n", refused.status
-            if status == 8 and not self.folder.plan:
-                self.folder.files[f"snapshot/ORIGIN-{session}-0"] = b""
-        found = [*printed.split("\n")[:-1], f"-- {status}"]
+    def told(self, found):
         return self.answers[: len(found)], found
 
-    def answer(self, words, data, session, now):
-        command, options = read_words(words)
-        if command == "snapshots":
-            return reference_files.list_snapshots(self.folder)
-        if command == "scan":
-            asked = options.get("--snapshot")
-            return reference_files.scan(self.folder, None if asked is None else int(asked))
-        if not self.is_own and command == "write" and "--user" not in options:
-            printed = reference_files.judge_write(self.folder, data)
-            if printed is None:
-                raise NotFollowed
-            return printed
-        if not self.is_own:
-            raise NotFollowed
-        earlier = self.table
-        self.table = copy.deepcopy(earlier) if self.folder.plan else earlier
-        if self.folder.plan:
-            printed = self.make_calls(command, options, data, session)
-            if printed is not None:
-                return printed
-        printed, files = self.table.answer(words, data, session, now)
-        try:
-            self.folder.put(files)
-        finally:
-            if files and list(files)[-1] not in self.folder.files:
-                self.table = earlier
-        return printed
+    def act(self, line):
+        """Does what a command or others do, between calls too; tells whether it is known."""
+        if line[0] == "put":
+            self.folder.files[line[1]] = line[2]
+        elif line[0] == "take":
+            self.folder.files.pop(line[1], None)
+        elif line[0] == "run":
+            self.answer(*line[1:])
+        else:
+            return False
+        return True
 
-    def make_calls(self, command, options, data, session):
-        """Makes the calls of a command before it makes a file; gives what it prints where it makes none."""
-        if command == "create" and self.table.writer is not None:
-            read_draft(data)
-            self.folder.put({f"snapshot/ORIGIN-{session}-0": b"", "schema/schema-0": b""})
-            raise Refused("E8 table exists")
-        if command == "write":
-            user, ident = options.get("--user"), int(options.get("--ident", GREATEST))
-            return reference_files.judge_write(self.folder, data, user, ident)
-        return None
+    def run(self, number, now, words, data, options):
+        self.folder.begin()
+        if not set(options) <= FOLLOWED:
+            raise NotFollowed
+        printed, status = self.answer(number, now, words, data, options)
+        self.folder.deeds = []
+        return self.told([*printed.split("\n")[:-1], f"-- {status}"])
+
+    def answer(self, number, now, words, data, _):
+        """What a command prints, and its status."""
+        session = f"00000000-0000-0000-0000-{number:012x}"
+        try:
+            return reference_commands.answer(self.folder, words, data, session, now), 0
+        except Refused as refused:
+            return f"{refused}\n", refused.status
 
     def list_files(self, is_sum):
         files = sorted(self.folder.files.items(), key=lambda item: item[0].encode())
@@ -224,13 +224,15 @@ class Case:
         if is_sum:
             text = "".join(line + "\n" for line in found)
             found = [f"{len(files)} files {checksum(text.encode())}"]
-        return self.answers[: len(found)], found
+        return self.told(found)
 
 
 def main():
     tally, case, name, at, ended = Tally(), None, "", 0, {}
     cases, answers = sys.argv[1:] or (CASES / "stdin", CASES / "stdout")
     answers = pathlib.Path(answers).read_text().split("\n")
+    if "E2 words compact" in answers:
+        reference_commands.leave_out("compact")
     for line in lines_in_full(pathlib.Path(cases).read_text()):
         if line[0] == "case":
             if case:

@@ -1,6 +1,7 @@
 #!/usr/bin/env python3
 """Random drafts, words, rows and options, and what the program answers to them, beside what a second program does that
-was written from the documents (reference_*.py). It promises, of each command on a table that nobody else writes:
+was written from the documents (reference_*.py). Compactions come where the program knows that command. It promises, of
+each command on a table that nobody else writes:
   - its status, what it prints and what it says are those of the second program;
   - the files that it makes are byte by byte those that the second program writes, and no other file changes;
   - the second program reads of the files what the commands' rows are worth.
@@ -14,11 +15,12 @@ import re
 import time
 
 import reference_files
-from reference_commands import Table
+from reference_commands import Table, leave_out
 from reference_table import KINDS, TYPES, Refused
-from trials import DRAFT, Tally, fault_of, random_of, read_arguments, run, tree, work_folder
+from trials import DRAFT, Tally, fault_of, knows, random_of, read_arguments, run, tree, work_folder
 
 SESSION = "[0-9a-f]{8}(?:-[0-9a-f]{4}){3}-[0-9a-f]{12}"
+NO_SESSION = "00000000-0000-0000-0000-000000000000"
 TEXTS = ["", "a", "ab", "abcdefg", "abcdefgh", "é", "\u20ac\U0001d11e", 'q"\\', "\n\t\x01\x7f", "x" * 300]
 DATES = ["0001-01-01", "9999-12-31", "1970-01-01", "2024-02-29", "1969-12-31"]
 BAD_DATES = ["2023-02-29", "0000-01-01", "1970-1-1", "", "1970-01-01x"]
@@ -49,7 +51,14 @@ OTHER_OPTIONS = {
     "a key of its own": ["", "any\ntext"],
 }
 ODD_NAMES = ["", "1a", "_KEY_a", "_VALUE_KIND", "_SEQUENCE_NUMBER", "a" * 64, "a" * 65, "é", "a b", "a\n"]
-ODD_WORDS = ["create", "scan", "--snapshot", "--snapshot=1", "-1", "", "é", "a\nb", "write", "--user=", "--ident", "01"]
+SIZES = {
+    "num-sorted-run.compaction-trigger": ["1", "2", "2", "3", "5"],
+    "compaction.max-size-amplification-percent": ["0", "50", "200", "1000000"],
+    "compaction.size-ratio": ["0", "1", "100", "1000000"],
+    "full-compaction.delta-commits": ["1", "2", "3"],
+}
+ODD_WORDS = ["create", "scan", "--snapshot", "--snapshot=1", "-1", "", "é", "a\nb", "write", "--user=", "--ident"]
+ODD_WORDS += ["01", "compact", "--full", "--full=", "--full=1"]
 
 
 def maybe(random, chance):
@@ -80,6 +89,9 @@ def draw_draft(random):
         options["ignore-delete"] = random.choice(["true", "false"])
     if maybe(random, 0.5):
         options["manifest.merge-min-count"] = random.choice(["2", "3", "4"])
+    options |= {key: random.choice(texts) for key, texts in SIZES.items() if maybe(random, 0.3)}
+    if maybe(random, 0.3):
+        options["num-levels"] = str(int(options.get("num-sorted-run.compaction-trigger", "5")) + random.randint(1, 2))
     draft = {"fields": fields, "primaryKeys": primary, "options": options}
     if maybe(random, 0.2):
         draft["comment"] = random.choice(TEXTS)
@@ -180,8 +192,10 @@ def draw_words(random):
     """Words of a command, mostly good ones."""
     if maybe(random, 0.1):
         return random.choices(ODD_WORDS, k=random.randrange(4))
-    word = random.choice(["write", "write", "write", "scan", "scan", "snapshots", "create"])
+    word = random.choice(["write"] * 6 + ["scan"] * 4 + ["compact"] * 4 + ["snapshots"] * 2 + ["create"])
     words = [word]
+    if word == "compact" and maybe(random, 0.4):
+        words.append("--full")
     if word == "scan" and maybe(random, 0.5):
         words += random.choice([["--snapshot", str(random.randrange(6))], [f"--snapshot={random.randrange(6)}"]])
     if word == "write" and maybe(random, 0.4):
@@ -194,9 +208,9 @@ def draw_words(random):
 def found_in(files):
     """The session that made these files, and the time in them."""
     texts = [data.decode() for path, data in files.items() if path.startswith(("schema/", "snapshot/"))]
-    session = re.search(f"(?:ORIGIN|data)-({SESSION})-0", " ".join(files))
+    session = re.search(f"(?:ORIGIN|data|manifest)-({SESSION})-0", " ".join(files))
     millis = re.search('"timeMillis":(-?[0-9]+)', " ".join(texts))
-    return session[1] if session else "none", int(millis[1]) if millis else 0
+    return session[1] if session else NO_SESSION, int(millis[1]) if millis else 0
 
 
 class Trial:
@@ -243,17 +257,17 @@ class Trial:
         return ended.status == tuple(wanted)[0]
 
     def input_of(self, words):
-        if words[:1] == ["write"] and self.table.writer:
-            return write_input(self.random, self.table.writer.schema)
+        if words[:1] == ["write"] and self.table.schema:
+            return write_input(self.random, self.table.schema)
         return draft_input(self.random)
 
     def run(self):
         """Makes a table, and runs commands on it while both programs agree."""
-        while self.table.writer is None:
+        while self.table.schema is None:
             data = DRAFT if maybe(self.random, 0.05) else draft_input(self.random)
             if not self.command(["create"], data):
                 return
-        for _ in range(self.random.randint(3, 14)):
+        for _ in range(self.random.randint(3, 24)):
             words = draw_words(self.random)
             if not self.command(words, self.input_of(words)):
                 return
@@ -271,6 +285,8 @@ def main():
     found = read_arguments(__doc__, 1000)
     tally = Tally()
     with work_folder() as work:
+        if not knows(found.program, work, "compact"):
+            leave_out("compact")
         for number in range(found.count):
             Trial(tally, found.program, work / str(number), random_of(found.seed, number)).run()
             tally.add("tables")

@@ -6,8 +6,9 @@ command on such a folder:
   - it ends within ten seconds, with 0 or a refusal's status, and a refusal is one line on standard error;
   - `scan` and `snapshots` print, or say, what a second program does that was written from the documents
     (reference_files.py), and change nothing;
-  - a refused `create` or `write` changes no file, but that files of its own may be left, which no snapshot names; one
-    that ends with 0 shows in the next `scan`;
+  - a refused `create`, `write` or `compact` changes no file, but that files of its own may be left, which no snapshot
+    names; `write` and `compact`, where the program knows that, print and say what the second program does, but where
+    the store fails; a write that ends with 0 shows in the next `scan`, and a compaction leaves that as it was;
   - nothing outside the folder is changed or printed, and, of a sample under strace, no path outside of it is opened.
 It ends with 1 where a promise broke. The gate never runs it. It wants strace. docs/DEVELOPING.md has what it printed.
 
@@ -21,9 +22,10 @@ import shutil
 import stat
 
 import reference_avro
+import reference_commands
 import reference_files
 from reference_table import Refused
-from trials import DRAFT, Tally, copy, fault_of, random_of, read_arguments, run, tree, work_folder
+from trials import DRAFT, Tally, copy, fault_of, knows, random_of, read_arguments, run, tree, work_folder
 
 SAMPLE = 20  # each so many commands one runs under strace
 SECRET = b'["+I",666,"a secret of somebody else"]'
@@ -254,11 +256,17 @@ def expected(read):
         return refused.status, b"", f"{refused}\n".encode(errors="replace")
 
 
+def expected_change(folder, words, data):
+    """What the second program prints, or says, where it changes a folder; it changes a copy in memory."""
+    copied, session = reference_files.Memory(folder), "00000000-0000-0000-0000-000000000000"
+    return expected(lambda: reference_commands.answer(copied, words, data, session, 0))
+
+
 class Trial:
     """Commands on one damaged table."""
 
-    def __init__(self, tally, program, folder, spelling, outside, how):
-        self.tally, self.program, self.how = tally, program, how
+    def __init__(self, tally, program, folder, spelling, outside, how, compacts):
+        self.tally, self.program, self.how, self.compacts = tally, program, how, compacts
         self.folder, self.spelling, self.outside = folder, spelling, outside
         self.before_outside = tree(outside)
 
@@ -327,31 +335,47 @@ class Trial:
             self.read("scan", "--snapshot", str(number), wanted=lambda at=number: reference_files.scan(folder, at))
         self.read("snapshots", wanted=lambda: reference_files.list_snapshots(folder))
         self.change("create", data=DRAFT)
-        row = b'["+I",77,"new"]'
-        wanted = expected(lambda: reference_files.judge_write(folder, row) or "")
-        ended = self.change("write", data=row)
-        if ended.status != 5 and (ended.status, ended.err) != (wanted[0], wanted[2]):
-            self.breaks("write", f"{ended} in the place of {wanted}")
-        if ended.status == 0:
+        if self.change_beside(folder, ["write"], b'["+I",77,"new"]').status == 0:
             self.tally.add("writes")
-            self.judge_write(ended, folder)
+            self.judge_scan(folder, b'["+I",77,')
+        if self.compacts:
+            before = expected(lambda: reference_files.scan(folder))
+            if self.change_beside(folder, ["compact", "--full"], b"").out.startswith(b"snapshot "):
+                self.tally.add("compactions")
+                if self.judge_scan(folder, b"") != before:
+                    self.breaks("scan after a compaction", f"it isn't {before} any more")
 
-    def judge_write(self, ended, folder):
-        """A row that was written is in the table, unless the table can't be read."""
+    def change_beside(self, folder, words, data):
+        """A command that changes the table, beside the second program."""
+        wanted = expected_change(folder, words, data)
+        ended = self.change(*words, data=data)
+        if ended.status != 5 and tuple(ended) != wanted:
+            self.breaks(words, f"{ended} in the place of {wanted}")
+        return ended
+
+    def judge_scan(self, folder, row):
+        """A row that was written is in the table, unless the table can't be read; gives what is printed."""
         wanted = expected(lambda: reference_files.scan(folder))
         scanned = self.command("scan")
-        if tuple(scanned) != wanted or scanned.status == 0 and b'["+I",77,' not in scanned.out:
-            self.breaks("scan after a write", f"{ended}, and then {scanned} in the place of {wanted}")
+        if tuple(scanned) != wanted or scanned.status == 0 and row not in scanned.out:
+            self.breaks("scan after a change", f"{scanned} in the place of {wanted}, with {row!r}")
+        return wanted
 
 
-def make_tables(program, work):
-    """The tables that are damaged."""
+def make_tables(program, work, compacts):
+    """The tables that are damaged; one of them was compacted, where the program knows how."""
     for name, (options, batches) in TABLES.items():
         draft = json.loads(DRAFT) | {"options": options}
         run([program, work / name, "create"], json.dumps(draft).encode())
         for lines in batches:
             if run([program, work / name, "write"], lines.encode()).status:
                 raise SystemExit(f"no table {name} can be made")
+    if not compacts:
+        return list(TABLES)
+    folder = copy(work / "deduplicate", work / "compacted")
+    run([program, folder, "compact", "--full"])
+    run([program, folder, "write"], b'["+I",1,"once more"]\n["-D",3,null]')
+    return [*TABLES, "compacted"]
 
 
 def make_outside(table, outside):
@@ -385,16 +409,17 @@ def main():
     tally = Tally()
     with work_folder() as work:
         try_no_folders(tally, found.program, work)
-        make_tables(found.program, work)
+        compacts = knows(found.program, work, "compact")
+        tables = make_tables(found.program, work, compacts)
         (work / "link").symlink_to("damaged")
         for number in range(found.count):
             random = random_of(found.seed, number)
-            table = work / random.choice(list(TABLES))
+            table = work / random.choice(tables)
             make_outside(table, work / "outside")
             folder = copy(table, work / "damaged")
             how = f"table {number} ({Damage(folder, work / 'outside', random).do()})"
             spelling = random.choice([folder, f"{folder}/", f"{folder}//.", work / "link", f"{work}/link/"])
-            Trial(tally, found.program, folder, spelling, work / "outside", how).run()
+            Trial(tally, found.program, folder, spelling, work / "outside", how, compacts).run()
             tally.add("damaged tables")
     tally.end()
 

@@ -1,18 +1,34 @@
-"""What the commands answer, by docs/FORMATS.md and docs/BEHAVIOUR.md: of words alone, and of a table that nobody else
-writes. What a table is worth is in reference_table.py, and what its files hold in reference_files.py.
+"""What the commands answer, by docs/FORMATS.md and docs/BEHAVIOUR.md: of words alone, of a folder, and of a table that
+nobody else writes. What a table is worth is in reference_table.py, what its files hold in reference_files.py, and what
+the commands do to them in reference_changes.py.
 """
 
 import re
 
-from reference_files import Writer
-from reference_table import Refused, printable, print_json, read_batch, read_draft, scanned
+import reference_changes
+import reference_files
+from reference_table import Refused, printable, read_batch, read_draft, scanned
 
 GREATEST = 2**63 - 1
-OPTIONS = {"create": (), "scan": ("--snapshot",), "snapshots": (), "write": ("--user", "--ident")}
+OPTIONS = {
+    "compact": ("--full",),
+    "create": (),
+    "scan": ("--snapshot",),
+    "snapshots": (),
+    "write": ("--user", "--ident"),
+}
+FLAGS = ("--full",)  # the options that take no text
+
+
+def leave_out(command):
+    """Has the words of a command give none, for a program that hasn't it yet."""
+    OPTIONS.pop(command, None)
 
 
 def is_value(option, text):
-    """Whether an option takes a text."""
+    """Whether an option takes a text, or none."""
+    if option in FLAGS:
+        return text is None
     if option == "--user":
         return re.fullmatch("[A-Za-z0-9._-]{1,64}", text) is not None
     return re.fullmatch("0|[1-9][0-9]*", text) is not None and int(text) <= GREATEST
@@ -26,7 +42,9 @@ def read_words(words):
     found, left = {}, list(words[1:])
     while left:
         option, is_one_word, value = left.pop(0).partition("=")
-        if not is_one_word:
+        if option in FLAGS and not is_one_word:
+            value = None
+        elif not is_one_word:
             if not left or left[0].startswith("-"):
                 raise refused
             value = left.pop(0)
@@ -51,58 +69,67 @@ def judge_limits(data):
         raise Refused(f"E21 limit {min(exceeded)[2]}")
 
 
+def answer(folder, words, data, session, time):
+    """What a command prints of a folder, which it may change; it is refused else."""
+    command, options = read_words(words)
+    if command in ("create", "write"):
+        judge_limits(data)
+    if command == "create":
+        return reference_changes.create(folder, data, session, time)
+    if command == "write":
+        ident = options.get("--ident")
+        number = None if ident is None else int(ident)
+        return reference_changes.write(folder, data, session, time, options.get("--user"), number)
+    if command == "compact":
+        return reference_changes.compact(folder, "--full" in options, session, time)
+    if command == "scan":
+        asked = options.get("--snapshot")
+        return reference_files.scan(folder, None if asked is None else int(asked))
+    return reference_files.list_snapshots(folder)
+
+
 class Table:
-    """What the commands answer of one folder, one after another."""
+    """What the commands answer of one folder, one after another, by what was done to it; and its files."""
 
     def __init__(self):
-        self.writer = None
-        self.commits = []  # of each its user, its identifier, its time and the rows of its file
+        self.schema = None
+        self.commits = []  # of each its user and its identifier
+        self.rows = []  # of each commit the rows that it took
+        self.folder = reference_files.Memory()
 
     def answer(self, words, data, session, time):
         """What a command prints, and the files that it makes; it is refused else."""
         command, options = read_words(words)
-        if command in ("create", "write"):
+        if command == "create" and self.schema is not None:
             judge_limits(data)
-        if command == "create":
-            return self.create(data, session, time)
-        if self.writer is None:
-            raise Refused("E9 no table")
-        if command == "scan":
-            return self.scan(options.get("--snapshot")), {}
-        if command == "snapshots":
-            return self.list(), {}
-        return self.write(data, session, time, options.get("--user"), options.get("--ident"))
-
-    def create(self, data, session, time):
-        schema, comment = read_draft(data)
-        if self.writer is not None:
+            read_draft(data)
             raise Refused("E8 table exists")
-        self.writer = Writer(schema, session, time, comment)
-        return "created\n", self.writer.created()
+        before = dict(self.folder.files)
+        printed = answer(self.folder, words, data, session, time)
+        if command == "create":
+            self.schema, _ = read_draft(data)
+        elif command == "write":
+            self.write(data, session, options.get("--user"), int(options.get("--ident", GREATEST)), printed)
+        elif command == "compact" and printed.startswith("snapshot "):
+            self.commits.append((f"{session}-0", GREATEST))
+            self.rows.append([])
+        elif command == "scan":
+            printed = self.scan(options.get("--snapshot"))
+        return printed, {path: held for path, held in self.folder.files.items() if path not in before}
 
-    def write(self, data, session, time, user, ident):
-        rows = read_batch(self.writer.schema, data)
-        if not rows:
-            return "nothing to commit\n", {}
-        number = GREATEST if ident is None else int(ident)
-        earlier = [known for of, known, _, _ in self.commits if user is not None and of == user]
-        if earlier and earlier[-1] >= number:
-            return "already\n", {}
-        files = self.writer.commit(rows, session, time, user, number)
-        total = sum(entry["_FILE"]["_ROW_COUNT"] for entry in self.writer.live)
-        self.commits.append((user or f"{session}-0", number, time, total))
-        return f"snapshot {len(self.commits)}\n", files
+    def write(self, data, session, user, ident, printed):
+        """Takes the rows of a batch; that the files say the same is for it to see."""
+        rows = read_batch(self.schema, data)
+        earlier = [known for of, known in self.commits if user is not None and of == user]
+        if not rows or earlier and earlier[-1] >= ident:
+            wanted = "already\n" if rows else "nothing to commit\n"
+        else:
+            self.commits.append((user or f"{session}-0", ident))
+            self.rows.append(rows)
+            wanted = f"snapshot {len(self.commits)}\n"
+        if printed != wanted:
+            raise AssertionError(f"the files say {printed!r} in the place of {wanted!r}")
 
     def scan(self, asked):
-        newest = len(self.commits)
-        number = newest if asked is None else int(asked)
-        if number > newest:
-            raise Refused(f"E12 snapshot {number} latest {newest}")
-        return scanned(self.writer.schema, [row for rows in self.writer.rows[:number] for row in rows])
-
-    def list(self):
-        lines = (
-            [number, "APPEND", user, ident, time, total]
-            for number, (user, ident, time, total) in enumerate(self.commits, 1)
-        )
-        return "".join(print_json(line) + "\n" for line in lines)
+        number = len(self.commits) if asked is None else int(asked)
+        return scanned(self.schema, [row for rows in self.rows[:number] for row in rows])

@@ -1,5 +1,6 @@
-"""The files of a table, by docs/FORMATS.md: read as `scan` and `snapshots` read them, and written as `create` and
-`write` do. A program that knows no line of the crates; what a table's rows are worth is in reference_table.py.
+"""The files of a table, by docs/FORMATS.md: read as `scan` and `snapshots` read them, and written as `create`, `write`
+and `compact` do. A program that knows no line of the crates; what a table's rows are worth is in reference_table.py,
+and the calls of the commands that change a table are in reference_changes.py.
 """
 
 import datetime
@@ -8,6 +9,7 @@ import re
 import stat
 
 from reference_avro import FIRST_DAY, LAST_DAY, Bad, Blocks, binary, read_binary, written
+from reference_compact import stored_row
 from reference_table import (
     ADDING,
     BITS,
@@ -23,7 +25,6 @@ from reference_table import (
     read_json,
     scanned,
     unsupported,
-    worth,
 )
 
 GREATEST_ID = 2**53 - 1
@@ -90,6 +91,38 @@ class Folder:
             if self.kind(path, folder) == "folder" and not holds_file(path):
                 raise Refused(f"E5 store {folder}")
         return [name.decode() for name in names]
+
+
+class Memory:
+    """A folder in memory, over one that is read alone, if any: what is put comes beside its files."""
+
+    def __init__(self, below=None):
+        self.files, self.below = {}, below
+
+    def read(self, path):
+        found = self.files.get(path)
+        return self.below.read(path) if found is None and self.below else found
+
+    def list(self, folder):
+        names = {path[len(folder) + 1 :].split("/")[0] for path in self.files if path.startswith(f"{folder}/")}
+        return sorted(names | set(self.below.list(folder) if self.below else []))
+
+    def is_there(self, path):
+        return path in self.files or self.below is not None and self.below.read(path) is not None
+
+    def create(self, path, data):
+        """Puts a file where nothing is; tells whether it did."""
+        is_free = not self.is_there(path)
+        if is_free:
+            self.files[path] = data
+        return is_free
+
+    def swap_in(self, path, data):
+        return self.create(path, data)
+
+    def publish(self, path, after, data):
+        """Puts a file where nothing is, and the one before it stands; tells whether it did."""
+        return self.is_there(after) and self.create(path, data)
 
 
 def is_utf8(name):
@@ -284,13 +317,13 @@ LIST_FIELDS = {
 
 
 def read_meta(kind, record):
-    """A manifest's name, of a record of a list."""
+    """What a record of a list tells of a manifest."""
     if record is None:
         raise Bad
     fields = record_fields(kind)
     for name, (wanted, bounds) in LIST_FIELDS.items():
         value_of(fields, record, name, wanted, bounds)
-    return record["_FILE_NAME"]
+    return {name: record[name] for name in LIST_FIELDS}
 
 
 def read_list(path, data):
@@ -347,9 +380,14 @@ def read_file_meta(schema, fields, record):
         "name": name,
         "level": level,
         "schema": record["_SCHEMA_ID"],
+        "size": record["_FILE_SIZE"],
+        "rows": record["_ROW_COUNT"],
+        "keys": (least, greatest),
         "least": orders[0],
         "greatest": orders[1],
+        "oldest": record["_MIN_SEQUENCE_NUMBER"],
         "newest": record["_MAX_SEQUENCE_NUMBER"],
+        "time": record["_CREATION_TIME"],
     }
 
 
@@ -392,7 +430,7 @@ def column_value(fields, record, name, kind, nullable):
 
 
 class RunReader:
-    """Reads the rows of a run's files, one after another: their keys rise."""
+    """Reads the rows of a run's files, one after another, each with its number and its kind: their keys rise."""
 
     def __init__(self, schema):
         self.schema = schema
@@ -419,7 +457,8 @@ class RunReader:
         if self.last is not None and key <= self.last:
             raise Bad
         self.last = key
-        return of_row if schema.engine in ("deduplicate", "first-row") else "+I", row
+        kept = of_row if schema.engine in ("deduplicate", "first-row") else "+I"
+        return record["_SEQUENCE_NUMBER"], kept, row
 
 
 # A table at a snapshot.
@@ -434,7 +473,7 @@ def scan(folder, asked=None):
         raise Refused(f"E12 snapshot {number} latest {newest}")
     view, rows = View(folder, schema, number), []
     for run in runs(view.live_files()):
-        rows = view.run_rows(run) + rows
+        rows = [(kind, row) for _, kind, row in view.run_rows(run)] + rows
     return scanned(schema, rows)
 
 
@@ -452,6 +491,8 @@ class View:
             raise Refused(f"E13 expired {number}")
         if number and self.found["schemaId"] != schema.id:
             raise damaged(f"schema/schema-{self.found['schemaId']}")
+        self.properties = {"fence": "-1", "appends": "0", "full": "0"} | ((self.found or {}).get("properties") or {})
+        self.metas = []
 
     def read(self, path):
         """The bytes at a path that the snapshot names."""
@@ -465,9 +506,10 @@ class View:
     def live_files(self):
         """The files that are live after the entries of the snapshot's manifests, in their order."""
         lists = [self.found[name] for name in ("baseManifestList", "deltaManifestList")] if self.found else []
-        names = [name for path in (f"manifest/{name}" for name in lists) for name in read_list(path, self.read(path))]
+        paths = [f"manifest/{name}" for name in lists]
+        self.metas = [meta for path in paths for meta in read_list(path, self.read(path))]
         live = {}
-        for path in [f"manifest/{name}" for name in names]:
+        for path in [f"manifest/{meta['_FILE_NAME']}" for meta in self.metas]:
             for adds, file in read_manifest(path, self.schema, self.read(path)):
                 known = file["name"], file["level"]
                 if adds == (known in live):
@@ -505,51 +547,6 @@ def runs(live):
 def share_keys(file, other):
     """Whether the key ranges of two files meet. One whose least key is above its greatest has no keys."""
     return max(file["least"], other["least"]) <= min(file["greatest"], other["greatest"])
-
-
-def judge_write(folder, data, user=None, ident=None):
-    """Makes the calls of a `write` of an input before it makes a file, and refuses what they bring. It gives what is
-    printed where none is made."""
-    schema = read_schema(folder)
-    rows = read_batch(schema, data)
-    if not rows:
-        return "nothing to commit\n"
-    folder.list("manifest")
-    known = snapshot_ids(folder)
-    newest = max(known, default=0)
-    view = View(folder, schema, newest)
-    live = view.live_files()
-    runs(live)
-    if user is not None and has_committed(folder, view, known[:-1], user, ident):
-        return "already\n"
-    judge_commit(view, len(live), 1)
-    if max((file["newest"] for file in live), default=-1) + len(rows) > GREATEST_SEQUENCE:
-        raise Refused(f"E21 limit sequence {GREATEST_SEQUENCE}")
-    judge_id(newest)
-    return None
-
-
-def has_committed(folder, view, older, user, ident):
-    """Whether the newest commit of a user that is found has that identifier or a greater one."""
-    found = view.found
-    while found is not None and found["commitUser"] != user and older:
-        found = read_snapshot(folder, older[-1])
-        older = older[:-1]
-    return found is not None and found["commitUser"] == user and found["commitIdentifier"] >= ident
-
-
-def judge_commit(view, live, more):
-    """Refuses a commit that the view stands against, or that leaves more files live than there may be."""
-    fence = int(((view.found or {}).get("properties") or {}).get("fence", "-1"))
-    if view.number <= fence:
-        raise Refused(f"E16 fenced base {view.number} fence {fence}")
-    if live + more > 10000:
-        raise Refused("E21 limit live-files 10000")
-
-
-def judge_id(newest):
-    if newest >= GREATEST_ID:
-        raise Refused(f"E21 limit snapshot-id {GREATEST_ID}")
 
 
 # What a commit writes.
@@ -605,9 +602,7 @@ def stored_run(schema, rows, first):
         numbers[schema.key(row)] = at
     run = []
     for of_key in by_key(schema, rows):
-        kind, row = of_key[-1] if schema.engine == "deduplicate" else of_key[0]
-        if schema.engine in ("partial-update", "aggregation"):
-            kind, row = "+I", worth(schema, of_key)
+        kind, row = stored_row(schema, of_key)
         run.append((numbers[schema.key(row)], kind, row))
     return run
 
@@ -627,117 +622,88 @@ def data_file(schema, run, marker):
     return written(("record", fields), records, marker)
 
 
-class Writer:
-    """A table as its files are written, with the sessions and the times that it is told."""
+def schema_file(schema, session, time, comment=None):
+    """The file of a schema that a `create` makes."""
+    fields = [
+        {"id": at, "name": name, "type": kind + ("" if nullable else " NOT NULL")}
+        for at, (name, kind, nullable) in enumerate(schema.columns)
+    ]
+    value = {
+        "comment": comment,
+        "fields": fields,
+        "highestFieldId": len(fields) - 1,
+        "id": 0,
+        "options": written_options(schema.options),
+        "origin": f"ORIGIN-{session}-0",
+        "partitionKeys": [],
+        "primaryKeys": schema.primary,
+        "timeMillis": time,
+        "version": 3,
+    }
+    return print_json(value).encode()
 
-    def __init__(self, schema, session, time, comment=None):
-        self.schema = schema
-        self.origin = f"ORIGIN-{session}-0"
-        self.rows = []  # of each commit the rows that it took
-        self.metas, self.live = [], []  # the records of the manifests that the newest snapshot names, and its entries
-        self.next = 0
-        fields = [
-            {"id": at, "name": name, "type": kind + ("" if nullable else " NOT NULL")}
-            for at, (name, kind, nullable) in enumerate(schema.columns)
-        ]
-        self.schema_file = {
-            "comment": comment,
-            "fields": fields,
-            "highestFieldId": len(fields) - 1,
-            "id": 0,
-            "options": written_options(schema.options),
-            "origin": self.origin,
-            "partitionKeys": [],
-            "primaryKeys": schema.primary,
-            "timeMillis": time,
-            "version": 3,
-        }
 
-    def created(self):
-        """The files that `create` makes."""
-        return {f"snapshot/{self.origin}": b"", "schema/schema-0": print_json(self.schema_file).encode()}
+def file_of(schema, name, data, run, level):
+    """What an entry tells of a new data file that has the rows of a run."""
+    rows = [run[0][2], run[-1][2]]
+    kinds = [(key, kind) for key, kind, _ in schema.key_columns()]
+    keys = [[stored(kind, row[schema.names.index(key)]) for key, kind in kinds] for row in rows]
+    orders = [tuple(stored_order(value) for value in key) for key in keys]
+    return {
+        "name": name,
+        "level": level,
+        "schema": schema.id,
+        "size": len(data),
+        "rows": len(run),
+        "keys": tuple(keys),
+        "least": orders[0],
+        "greatest": orders[1],
+        "oldest": min(number for number, _, _ in run),
+        "newest": max(number for number, _, _ in run),
+        "time": None,
+    }
 
-    def commit(self, rows, session, time, user=None, ident=None):
-        """The files that a `write` of these rows makes, and the number of its snapshot."""
-        base, marker = len(self.rows), bytes.fromhex(session.replace("-", ""))
-        counter = iter(range(10))
 
-        def name(word, end=""):
-            return f"{word}-{session}-0-{base}-{next(counter)}{end}"
+def entry(schema, adds, file):
+    """The record of an entry that adds a file, or takes it away."""
+    kinds = [kind for _, kind, _ in schema.key_columns()]
+    record = {
+        "_FILE_NAME": file["name"],
+        "_FILE_SIZE": file["size"],
+        "_ROW_COUNT": file["rows"],
+        "_MIN_KEY": binary(kinds, file["keys"][0]),
+        "_MAX_KEY": binary(kinds, file["keys"][1]),
+        "_KEY_STATS": no_statistics(len(kinds)),
+        "_VALUE_STATS": no_statistics(len(schema.columns)),
+        "_MIN_SEQUENCE_NUMBER": file["oldest"],
+        "_MAX_SEQUENCE_NUMBER": file["newest"],
+        "_SCHEMA_ID": file["schema"],
+        "_LEVEL": file["level"],
+        "_CREATION_TIME": file["time"],
+    }
+    own = {"_VERSION": 2, "_KIND": int(not adds), "_PARTITION": binary([], []), "_BUCKET": 0, "_TOTAL_BUCKETS": 1}
+    return own | {"_FILE": record}
 
-        files = {}
-        run = stored_run(self.schema, rows, self.next)
-        entry = self.add_data(files, name("data", ".avro"), run, marker)
-        taken_over = self.metas
-        if len(self.metas) >= int(self.schema.options.get("manifest.merge-min-count", "30")):
-            taken_over = [self.add_manifest(files, name("manifest"), self.live, marker)]
-        added = [self.add_manifest(files, name("manifest"), [entry], marker)]
-        delta, whole = name("manifest-list"), name("manifest-list")
-        files[f"manifest/{delta}"] = written(("record", LIST), added, marker)
-        files[f"manifest/{whole}"] = written(("record", LIST), taken_over, marker)
-        self.metas, self.live = taken_over + added, [*self.live, entry]
-        self.rows.append(rows)
-        self.next += len(rows)
-        snapshot = self.snapshot(whole, delta, len(run), time)
-        snapshot |= {"commitUser": user or f"{session}-0", "commitIdentifier": 2**63 - 1 if ident is None else ident}
-        files[f"snapshot/snapshot-{len(self.rows)}"] = print_json(snapshot).encode()
-        return files
 
-    def add_data(self, files, name, run, marker):
-        """Puts a run's file to the others, and gives the entry that adds it."""
-        data = files[f"bucket-0/{name}"] = data_file(self.schema, run, marker)
-        keys = self.schema.key_columns()
-        kinds = [kind for _, kind, _ in keys]
-        rows = [run[0][2], run[-1][2]]
-        values = [[stored(kind, row[self.schema.names.index(key)]) for key, kind, _ in keys] for row in rows]
-        file = {
-            "_FILE_NAME": name,
-            "_FILE_SIZE": len(data),
-            "_ROW_COUNT": len(run),
-            "_MIN_KEY": binary(kinds, values[0]),
-            "_MAX_KEY": binary(kinds, values[1]),
-            "_KEY_STATS": no_statistics(len(keys)),
-            "_VALUE_STATS": no_statistics(len(self.schema.columns)),
-            "_MIN_SEQUENCE_NUMBER": min(number for number, _, _ in run),
-            "_MAX_SEQUENCE_NUMBER": max(number for number, _, _ in run),
-            "_SCHEMA_ID": 0,
-            "_LEVEL": 0,
-            "_CREATION_TIME": None,
-        }
-        own = {"_VERSION": 2, "_KIND": 0, "_PARTITION": binary([], []), "_BUCKET": 0, "_TOTAL_BUCKETS": 1}
-        return own | {"_FILE": file}
+def manifest_file(entries, marker):
+    return written(("record", MANIFEST), entries, marker)
 
-    def add_manifest(self, files, name, entries, marker):
-        """Puts a manifest of these entries to the others, and gives its record for a list."""
-        data = files[f"manifest/{name}"] = written(("record", MANIFEST), entries, marker)
-        return {
-            "_VERSION": 2,
-            "_FILE_NAME": name,
-            "_FILE_SIZE": len(data),
-            "_NUM_ADDED_FILES": len(entries),
-            "_NUM_DELETED_FILES": 0,
-            "_PARTITION_STATS": no_statistics(0),
-            "_SCHEMA_ID": 0,
-        }
 
-    def snapshot(self, whole, delta, count, time):
-        """The newest snapshot's object, without its user."""
-        number = len(self.rows)
-        return {
-            "baseManifestList": whole,
-            "changelogManifestList": None,
-            "changelogRecordCount": 0,
-            "commitKind": "APPEND",
-            "deltaManifestList": delta,
-            "deltaRecordCount": count,
-            "id": number,
-            "properties": {"appends": str(number), "base": str(number - 1), "fence": "-1", "full": "0"},
-            "schemaId": 0,
-            "timeMillis": time,
-            "totalRecordCount": sum(entry["_FILE"]["_ROW_COUNT"] for entry in self.live),
-            "version": 3,
-            "watermark": None,
-        }
+def list_file(metas, marker):
+    own = {"_VERSION": 2, "_PARTITION_STATS": no_statistics(0)}
+    return written(("record", LIST), [own | meta for meta in metas], marker)
+
+
+def meta_of(schema, name, data, entries):
+    """What a record of a list tells of a new manifest."""
+    deleted = sum(entry["_KIND"] for entry in entries)
+    return {
+        "_FILE_NAME": name,
+        "_FILE_SIZE": len(data),
+        "_NUM_ADDED_FILES": len(entries) - deleted,
+        "_NUM_DELETED_FILES": deleted,
+        "_SCHEMA_ID": schema.id,
+    }
 
 
 DEFAULTS = {

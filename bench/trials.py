@@ -43,6 +43,11 @@ def run(words, data=b"", seconds=SECONDS):
     return Ended(ended.returncode, ended.stdout, ended.stderr)
 
 
+def knows(program, work, word):
+    """Whether a word gives a command of the program: asked of a folder that isn't there it then finds no table."""
+    return run([program, work / "nothing", word]).status == 9
+
+
 def fault_of(ended):
     """What is wrong with how a command ended, if anything: it prints, or is refused with one line. Where the output
     failed a part of what it printed may be there."""

@@ -1,0 +1,246 @@
+"""The commands that change a table, by docs/BEHAVIOUR.md: `create`, `write` and `compact`, as the calls that they make
+of a folder, in their order, over whatever files stand there and whatever others do between the calls. Part of the
+second program: reference_files.py has the folders, and what the files hold.
+"""
+
+import itertools
+
+from reference_compact import Choice, asked_in, merged, pieces
+from reference_files import (
+    GREATEST_ID,
+    GREATEST_SEQUENCE,
+    View,
+    data_file,
+    entry,
+    file_of,
+    list_file,
+    manifest_file,
+    meta_of,
+    print_json,
+    read_schema,
+    read_snapshot,
+    runs,
+    schema_file,
+    snapshot_ids,
+    stored_run,
+)
+from reference_table import Refused, read_batch, read_draft
+
+TRIES = 11
+MOST_LIVE = 10000
+GREATEST = 2**63 - 1
+
+
+class Session:
+    """One command: its files bear its session, and the newest snapshot of its first try."""
+
+    def __init__(self, folder, session, time):
+        self.folder, self.session, self.time = folder, session, time
+        self.marker = bytes.fromhex(session.replace("-", ""))
+        self.base, self.counter = None, itertools.count()
+
+    def name(self, word, end=""):
+        return f"{word}-{self.session}-0-{self.base}-{next(self.counter)}{end}"
+
+    def create(self, path, data):
+        if not self.folder.create(path, data):
+            raise Refused(f"E20 session used {path}")
+
+    def judge_names(self):
+        """Refuses where another command wrote under this one's name."""
+        used = [name for name in self.folder.list("manifest") if f"-{self.session}-0-" in name]
+        if used:
+            raise Refused(f"E20 session used manifest/{min(used, key=str.encode)}")
+
+    def add_data(self, schema, run, level):
+        """Creates the data file of a run."""
+        name = self.name("data", ".avro")
+        data = data_file(schema, run, self.marker)
+        self.create(f"bucket-0/{name}", data)
+        return file_of(schema, name, data, run, level)
+
+    def add_manifest(self, schema, entries):
+        name = self.name("manifest")
+        data = manifest_file(entries, self.marker)
+        self.create(f"manifest/{name}", data)
+        return meta_of(schema, name, data, entries)
+
+    def add_list(self, metas):
+        name = self.name("manifest-list")
+        self.create(f"manifest/{name}", list_file(metas, self.marker))
+        return name
+
+
+def create(folder, data, session, time):
+    schema, comment = read_draft(data)
+    Session(folder, session, time).create(f"snapshot/ORIGIN-{session}-0", b"")
+    if not folder.swap_in("schema/schema-0", schema_file(schema, session, time, comment)):
+        raise Refused("E8 table exists")
+    return "created\n"
+
+
+def write(folder, data, session, time, user=None, ident=None):
+    schema = read_schema(folder)
+    rows = read_batch(schema, data)
+    if not rows:
+        return "nothing to commit\n"
+    made = Session(folder, session, time)
+    made.judge_names()
+    return commit(made, schema, Append(rows, user, GREATEST if ident is None else ident))
+
+
+def compact(folder, full, session, time):
+    schema = read_schema(folder)
+    view = newest_view(folder, schema)
+    found = runs(view.live)
+    asked = asked_in(schema, full, int(view.properties["appends"]), int(view.properties["full"]))
+    sizes = [(run[0]["level"], sum(file["size"] for file in run)) for run in found]
+    choice = Choice(schema, sizes).of(asked)
+    if choice is None:
+        return "nothing to compact\n"
+    made = Session(folder, session, time)
+    made.judge_names()
+    count, level = choice
+    rows = [view.run_rows(run) for run in found[:count]][::-1]
+    files = pieces(merged(schema, rows, count == len(found)))
+    removed = [file for run in found[:count] for file in run]
+    full_at = view.properties["appends"] if asked == "all" else None
+    return commit(made, schema, Compaction(removed, files, level, full_at), view)
+
+
+class Append:
+    """Rows that become one run at level 0, by a user or by the session itself."""
+
+    kind, appends, made, full, removed = "APPEND", 1, 1, None, ()
+
+    def __init__(self, rows, user, ident):
+        self.rows, self.user, self.ident = rows, user, ident
+
+    def is_done(self, view):
+        """Whether the newest commit of the user that is found has this identifier or a greater one."""
+        found, older = view.found, view.known[:-1]
+        if self.user is None:
+            return False
+        while found is not None and found["commitUser"] != self.user and older:
+            found = read_snapshot(view.folder, older[-1])
+            older = older[:-1]
+        return found is not None and found["commitUser"] == self.user and found["commitIdentifier"] >= self.ident
+
+    def judge(self, view):
+        if first_number(view) + len(self.rows) - 1 > GREATEST_SEQUENCE:
+            raise Refused(f"E21 limit sequence {GREATEST_SEQUENCE}")
+
+    def judge_files(self, view):
+        """An append takes no file away."""
+
+    def added(self, made, schema, view):
+        """Creates the data files."""
+        return [made.add_data(schema, stored_run(schema, self.rows, first_number(view)), 0)]
+
+
+def first_number(view):
+    return max((file["newest"] for file in view.live), default=-1) + 1
+
+
+class Compaction:
+    """Files that go, and the rows of those that come in their place, made in the first try alone."""
+
+    kind, appends, user, ident = "COMPACT", 0, None, GREATEST
+
+    def __init__(self, removed, files, level, full):
+        self.removed, self.files, self.level, self.full = removed, files, level, full
+        self.made, self.created = len(files), None
+
+    def is_done(self, view):
+        """A compaction looks for no user."""
+
+    def judge(self, view):
+        """It has the numbers of the rows that it replaces."""
+
+    def judge_files(self, view):
+        live = {(file["name"], file["level"]) for file in view.live}
+        for file in self.removed:
+            if (file["name"], file["level"]) not in live:
+                raise Refused(f"E15 taken {file['name']}")
+
+    def added(self, made, schema, view):
+        if self.created is None:
+            self.created = [made.add_data(schema, run, self.level) for run in self.files]
+        return self.created
+
+
+def newest_view(folder, schema):
+    """The newest snapshot, with its live files."""
+    known = snapshot_ids(folder)
+    view = View(folder, schema, max(known, default=0))
+    view.known, view.live = known, view.live_files()
+    return view
+
+
+def commit(made, schema, change, view=None):
+    """Has a change become the next snapshot, in at most eleven tries; the first one may have its view already."""
+    lost = []
+    while len(lost) < TRIES:
+        if view is None:
+            view = newest_view(made.folder, schema)
+            runs(view.live)
+        made.base = view.number if made.base is None else made.base
+        if change.is_done(view):
+            return "already\n"
+        judge_commit(made.base, view, change)
+        snapshot = files_of(made, schema, change, view)
+        number = view.number + 1
+        before = f"snapshot-{view.number}" if view.number else schema.origin or "snapshot-0"
+        if made.folder.publish(f"snapshot/snapshot-{number}", f"snapshot/{before}", snapshot):
+            return f"snapshot {number}\n"
+        lost.append(str(number))
+        view = None
+    raise Refused(f"E14 contended {' '.join(lost)}")
+
+
+def judge_commit(base, view, change):
+    """Refuses a commit that the newest snapshot stands against."""
+    fence = int(view.properties["fence"])
+    if base <= fence:
+        raise Refused(f"E16 fenced base {base} fence {fence}")
+    change.judge_files(view)
+    if len(view.live) - len(change.removed) + change.made > MOST_LIVE:
+        raise Refused(f"E21 limit live-files {MOST_LIVE}")
+    change.judge(view)
+    if view.number >= GREATEST_ID:
+        raise Refused(f"E21 limit snapshot-id {GREATEST_ID}")
+
+
+def files_of(made, schema, change, view):
+    """Creates the files of a try, and gives its snapshot."""
+    added = change.added(made, schema, view)
+    metas = view.metas
+    if len(metas) >= int(schema.options.get("manifest.merge-min-count", "30")):
+        metas = [made.add_manifest(schema, [entry(schema, True, file) for file in view.live])] if view.live else []
+    entries = [entry(schema, False, file) for file in change.removed] + [entry(schema, True, file) for file in added]
+    delta = made.add_list([made.add_manifest(schema, entries)])
+    counts = [sum(file["rows"] for file in files) for files in (view.live, added, change.removed)]
+    appends = int(view.properties["appends"]) + change.appends
+    value = {
+        "baseManifestList": made.add_list(metas),
+        "changelogManifestList": None,
+        "changelogRecordCount": 0,
+        "commitIdentifier": change.ident,
+        "commitKind": change.kind,
+        "commitUser": change.user or f"{made.session}-0",
+        "deltaManifestList": delta,
+        "deltaRecordCount": max(counts[1] - counts[2], -(2**63)),
+        "id": view.number + 1,
+        "properties": {
+            "appends": str(appends),
+            "base": str(made.base),
+            "fence": view.properties["fence"],
+            "full": view.properties["full"] if change.full is None else change.full,
+        },
+        "schemaId": schema.id,
+        "timeMillis": made.time,
+        "totalRecordCount": counts[0] + counts[1] - counts[2],
+        "version": 3,
+        "watermark": (view.found or {}).get("watermark"),
+    }
+    return print_json(value).encode()
