@@ -3,10 +3,10 @@
 also after one that was killed and beside one that is held up in the middle. After each change it takes the images that
 the file system may have then: of the names that came or went in a folder since its last sync, which ones are there, in
 every combination as far as they are few and else a choice of them; and of each file that isn't synced nothing, half or
-all of its bytes. It promises, of each image:
+all of its bytes. Compactions are among the commands where the program knows them. It promises, of each image:
   - `scan` prints the rows of whole batches, no others, and those of each command that had answered; and where a `scan`
     had answered, what it had printed;
-  - `snapshots` lists ids that rise by one from 1;
+  - `snapshots` lists ids that rise by one from 1, and each that was printed;
   - one more write succeeds, after a `create` where there is no table yet, and leaves no file that is being written.
 It ends with 1 where a promise broke. The gate never runs it. It wants strace. docs/DEVELOPING.md has what it printed.
 
@@ -24,7 +24,7 @@ import subprocess
 import time
 
 from kills import MERGING, batch, quiet
-from trials import DRAFT, Ended, Tally, random_of, read_arguments, run, work_folder
+from trials import DRAFT, Ended, Tally, knows, random_of, read_arguments, run, work_folder
 
 CALLS = "openat open creat write pwrite64 fsync fdatasync rename renameat renameat2 unlink unlinkat mkdir mkdirat rmdir"
 CALLS += " ftruncate"
@@ -212,6 +212,22 @@ def build(names, folder):
 # Cases.
 
 
+def compactions(syncs):
+    """What is recorded where the program knows compactions: whole, beside a write, and killed before one of each."""
+    full = Step(["compact", "--full"])
+    for is_quiet in (True, False):
+        how = "quiet" if is_quiet else "hot"
+        yield Case(f"a compaction, {how}", DRAFT, [(1, 2), (3,)], is_quiet, [full])
+        yield Case(f"a compaction that merges manifests, {how}", MERGING, [(1, 2), (3,)], is_quiet, [full])
+    for sync in range(1, syncs + 1):
+        held = [full._replace(held=sync)]
+        yield Case(f"a compaction held up at sync {sync}, and a write meanwhile", DRAFT, [(1, 2), (3,)], True, held)
+        for then in (full, Step(["write"], batch(8, 9)), Step(["scan"])):
+            steps = [full._replace(killed=sync), then]
+            name = f"a compaction killed at sync {sync}, then {then.words[0]}"
+            yield Case(name, DRAFT, [(1, 2), (3,)], True, steps)
+
+
 def cases(syncs):
     """What is recorded. A killed writer is killed at each of its last syncs, when its names aren't on the disk."""
     write = [Step(["write"], batch(8, 9))]
@@ -242,6 +258,7 @@ class Trial:
         self.known = set()  # the keys that were acknowledged, or printed
         self.batches = [set(keys) for keys in case.batches]
         self.is_made = case.draft is not None
+        self.newest = 0  # the greatest snapshot's id that was printed
         self.seen = {}
 
     def command(self, folder, *words, data=b""):
@@ -320,19 +337,20 @@ class Trial:
         self.known = self.known | set(keys_of(ended.out))
         if ended.out.startswith(b"snapshot"):
             self.known = self.known | set(keys_of(step.data))
+            self.newest = max(self.newest, int(ended.out.split()[1]))
 
     def collect(self, disk):
         """Takes the images of now that weren't there yet; of the same image the last one has the most to hold."""
         for names in images(disk, self.random):
             names = names.get("table", {})
-            self.seen[signature(names)] = names, self.known, self.is_made
+            self.seen[signature(names)] = names, self.known, self.is_made, self.newest
 
     def judge_all(self):
         found = list(self.seen.values())
-        for names, known, is_made in found if len(found) <= self.most else self.random.sample(found, self.most):
-            self.judge(names, known, is_made)
+        for image_known in found if len(found) <= self.most else self.random.sample(found, self.most):
+            self.judge(*image_known)
 
-    def judge(self, names, known, is_made):
+    def judge(self, names, known, is_made, newest):
         """Judges an image."""
         self.tally.add("images")
         folder = self.work / "image"
@@ -345,6 +363,9 @@ class Trial:
             return self.breaks(names, f"scan answered {scanned}")
         if found != whole or not known <= found or scanned.out != batch(*sorted(found)):
             return self.breaks(names, f"scan printed the keys {sorted(found)}; these had to be there: {sorted(known)}")
+        listed = self.command(folder, "snapshots").out.count(b"\n")
+        if listed < newest:
+            return self.breaks(names, f"{listed} snapshots are there, and {newest} was printed")
         return self.go_on(names, folder, found, scanned.status == 9)
 
     def go_on(self, names, folder, found, is_none):
@@ -394,7 +415,8 @@ def main():
     found = read_arguments(__doc__, 400)
     tally = Tally()
     with work_folder() as work:
-        for number, case in enumerate(cases(16)):
+        more = compactions(16) if knows(found.program, work, "compact") else []
+        for number, case in enumerate([*cases(16), *more]):
             random = random_of(found.seed, number)
             Trial(found.program, work, tally, case, random, found.count).run()
             tally.add("cases")

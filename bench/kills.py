@@ -2,9 +2,10 @@
 """Kills a command at each of its system calls from the first on that names the table, and lets each of them fail, once
 and from there on, by strace. It promises:
   - after a kill the table reads, as it was before the command or with its whole batch; with the batch where the command
-    had acknowledged it; all that was acknowledged earlier is there;
+    had acknowledged it; all that was acknowledged earlier is there; it has a snapshot more exactly where it has the
+    batch, and after a compaction, where the program knows that, it has the same rows and a snapshot more or none;
   - after a failed call the command is refused with one line, or it ends with 0 and its effect stands; after E5 at
-    another path than the snapshot's the table is as before, and after E4 the batch stands;
+    another path than the snapshot's the table is as before, and after E4 the batch, or the snapshot, stands;
   - then one more write succeeds, and leaves no file that is being written;
   - a command that only reads changes nothing.
 It ends with 1 where a promise broke. The gate never runs it. It wants strace. docs/DEVELOPING.md has what it printed.
@@ -17,7 +18,7 @@ import os
 import re
 import time
 
-from trials import DRAFT, Tally, copy, fault_of, random_of, read_arguments, run, tree, work_folder
+from trials import DRAFT, Tally, copy, fault_of, knows, random_of, read_arguments, run, tree, work_folder
 
 CHANGES = ("openat", "write", "fsync", "fdatasync", "rename", "renameat", "renameat2", "unlink", "unlinkat", "mkdir")
 CHANGES += ("mkdirat", "rmdir", "flock", "fchmod", "ftruncate", "utimensat")
@@ -25,8 +26,8 @@ LOOKS = ("chdir", "open", "read", "getdents64", "statx", "stat", "lstat", "fstat
 ERRORS = ("EIO", "ENOSPC")
 MERGING = DRAFT[:-1] + b',"options":{"manifest.merge-min-count":"2"}}'
 
-# A folder, a command on it, the keys that the table has before and after it, none where there is no table, and those
-# that are written to a copy of the folder first: a copy's folders aren't sealed.
+# A folder, a command on it, the keys and the number of snapshots that the table has before and after it, none where there
+# is no table, and those keys that are written to a copy of the folder first: a copy's folders aren't sealed.
 Case = collections.namedtuple("Case", "name folder words data before after first", defaults=[()])
 Injected = collections.namedtuple("Injected", "call number how")
 
@@ -44,40 +45,59 @@ class Trials:
     def command(self, folder, *words, data=b""):
         return run([self.program, folder, *words], data)
 
-    def keys(self, folder):
-        """The keys of a table; none where there is no table, and a text where it doesn't read."""
-        ended = self.command(folder, "scan")
+    def state(self, folder):
+        """The keys of a table and the number of its snapshots; none where it isn't there, and a text where it doesn't
+        read."""
+        ended, listed = self.command(folder, "scan"), self.command(folder, "snapshots")
         if ended.status == 9:
             return None
         found = sorted(int(key) for key in re.findall(rb'(?m)^\["\+I",(\d+),', ended.out))
-        return found if ended.status == 0 and ended.out == batch(*found) else f"{ended}"
+        if ended.status or listed.status or ended.out != batch(*found):
+            return f"{ended}, {listed}"
+        return found, listed.out.count(b"\n")
 
     def table(self, name, batches, draft=DRAFT):
         """A table of these batches whose folders didn't change for a while."""
         folder = self.work / name
         self.command(folder, "create", data=draft)
-        for keys in batches:
-            self.command(folder, "write", data=batch(*keys))
+        for rows in batches:
+            self.command(folder, "write", data=rows)
         quiet(folder)
         return folder
 
     def cases(self):
         """What is tried."""
-        none, one, many = self.work / "none", self.table("one", []), self.table("many", [(1, 2), (3,)], MERGING)
-        left = self.table("left", [(1, 2)])
+        none, one = self.work / "none", self.table("one", [])
+        many = self.table("many", [batch(1, 2), batch(3)], MERGING)
+        left = self.table("left", [batch(1, 2)])
         (left / ".new" / "0").write_bytes(b"left by a killed writer")
         quiet(left)
-        rows = batch(8, 9)
+        rows, found, then = batch(8, 9), ([1, 2, 3], 2), ([1, 2, 3, 8, 9], 3)
+        sealed = ([1, 2, 3, 4], 3)
         return [
-            Case("create", none, ["create"], DRAFT, None, []),
-            Case("the first write", one, ["write"], rows, [], [8, 9]),
-            Case("a write that merges manifests", many, ["write"], rows, [1, 2, 3], [1, 2, 3, 8, 9]),
-            Case("a write by a user", many, ["write", "--user", "u", "--ident", "1"], rows, [1, 2, 3], [1, 2, 3, 8, 9]),
-            Case("a write after a killed one", left, ["write"], rows, [1, 2], [1, 2, 8, 9]),
-            Case("a write to sealed folders", many, ["write"], rows, [1, 2, 3, 4], [1, 2, 3, 4, 8, 9], [4]),
-            Case("scan", many, ["scan"], b"", [1, 2, 3], [1, 2, 3]),
-            Case("scan of sealed folders", many, ["scan"], b"", [1, 2, 3, 4], [1, 2, 3, 4], [4]),
-            Case("snapshots", many, ["snapshots"], b"", [1, 2, 3], [1, 2, 3]),
+            Case("create", none, ["create"], DRAFT, None, ([], 0)),
+            Case("the first write", one, ["write"], rows, ([], 0), ([8, 9], 1)),
+            Case("a write that merges manifests", many, ["write"], rows, found, then),
+            Case("a write by a user", many, ["write", "--user", "u", "--ident", "1"], rows, found, then),
+            Case("a write after a killed one", left, ["write"], rows, ([1, 2], 1), ([1, 2, 8, 9], 2)),
+            Case("a write to sealed folders", many, ["write"], rows, sealed, ([1, 2, 3, 4, 8, 9], 4), [4]),
+            Case("scan", many, ["scan"], b"", found, found),
+            Case("scan of sealed folders", many, ["scan"], b"", sealed, sealed, [4]),
+            Case("snapshots", many, ["snapshots"], b"", found, found),
+            *self.compactions(many),
+        ]
+
+    def compactions(self, many):
+        """Compactions, where the program knows them."""
+        if not knows(self.program, self.work, "compact"):
+            return []
+        found, full = ([1, 2, 3], 2), ["compact", "--full"]
+        few, gone = self.table("few", [batch(1), batch(2)]), self.table("gone", [batch(1), b'["-D",1,null]'])
+        return [
+            Case("a compaction that merges manifests", many, full, b"", found, ([1, 2, 3], 3)),
+            Case("a compaction", few, full, b"", ([1, 2], 2), ([1, 2], 3)),
+            Case("a compaction that leaves no file", gone, full, b"", ([], 2), ([], 3)),
+            Case("a compaction that takes nothing", many, ["compact"], b"", found, found),
         ]
 
     def traced(self, case, *options):
@@ -123,7 +143,7 @@ class Trials:
         folder, ended, _ = self.traced(case, "-e", f"inject={call}:{how}:when={number}")
         where = f"{case.name}, {how} at {call} {number}"
         self.tally.add("kills" if "KILL" in how else "failed calls")
-        found = self.keys(folder)
+        found = self.state(folder)
         if found not in (case.before, case.after):
             self.tally.breaks(where, f"the table is {found} after {ended}")
             return
@@ -152,9 +172,10 @@ class Trials:
         if found is None and self.command(folder, "create", data=DRAFT).out != b"created\n":
             self.tally.breaks(where, "no table can be made after it")
         ended = self.command(folder, "write", data=batch(7))
-        keys = self.keys(folder)
-        if ended.status != 0 or keys != sorted([*(found or []), 7]):
-            self.tally.breaks(where, f"one more write answered {ended}, and the table is {keys}")
+        keys, count = found or ([], 0)
+        then = self.state(folder)
+        if ended.status != 0 or then != (sorted([*keys, 7]), count + 1):
+            self.tally.breaks(where, f"one more write answered {ended}, and the table is {then}")
         if os.listdir(folder / ".new"):
             self.tally.breaks(where, f"files are left that were being written: {os.listdir(folder / '.new')}")
 
