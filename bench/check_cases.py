@@ -1,9 +1,10 @@
 #!/usr/bin/env python3
 """Runs the cases of crates/pm_cases_commands with the second program (reference_*.py), which was written from the
 documents, and compares its answers with those that stand there. It promises that they are equal, in each case up to the
-first line that it doesn't follow: commands whose streams fail. It makes each call of a command, in the order that the
-documents tell, and has calls fail and others act between them as the case says. It ends with 1 where two answers
-differ. The gate never runs it. docs/DEVELOPING.md has what it printed.
+first line that it doesn't follow: a read of the input that fails, and a text of several pieces that the sink doesn't
+take. It makes each call of a command, in the order that the documents tell, and has calls fail and others act between
+them as the case says. It ends with 1 where two answers differ. The gate never runs it. docs/DEVELOPING.md has what it
+printed.
 
 usage: bench/check_cases.py [CASES ANSWERS]     the cases and the answers of other files than those of the crate
 """
@@ -19,7 +20,7 @@ from reference_table import Refused
 from trials import TOP, Tally
 
 CASES = TOP / "crates/pm_cases_commands"
-FOLLOWED = {"open"}  # the options of a run that it follows
+ONE_PIECE = ("compact", "create", "write")  # the commands of which it knows that they print by one write
 
 
 class NotFollowed(Exception):
@@ -161,6 +162,12 @@ def checksum(data):
     return found
 
 
+def taken_of(text, options):
+    """What a sink takes of a text that comes by one write, and whether that is all of it."""
+    room = 0 if 1 in options.get("sink", []) else options.get("room", len(text.encode()))
+    return text.encode()[:room].decode(errors="replace"), room >= len(text.encode())
+
+
 class Case:
     """One case: its folder, the answers that are left of it, and the files that earlier ones ended with, by name."""
 
@@ -204,11 +211,20 @@ class Case:
 
     def run(self, number, now, words, data, options):
         self.folder.begin()
-        if not set(options) <= FOLLOWED:
+        is_one = words[:1] and words[0] in ONE_PIECE
+        if "source" in options and words[:1] != ["compact"]:
             raise NotFollowed
         printed, status = self.answer(number, now, words, data, options)
         self.folder.deeds = []
-        return self.told([*printed.split("\n")[:-1], f"-- {status}"])
+        said = printed if status else ""
+        taken, is_whole = taken_of("" if status else printed, options)
+        if not is_one and (not is_whole or not status and printed and "sink" in options):
+            raise NotFollowed
+        if not is_whole:
+            said, status = f"E4 sink{' ' + printed.strip() if printed.startswith('snapshot ') else ''}\n", 4
+        if "sum" in options:
+            taken = f"{len(taken.encode())} {checksum(taken.encode())}\n"
+        return self.told([*f"{taken}{said}".split("\n")[:-1], f"-- {status}"])
 
     def answer(self, number, now, words, data, _):
         """What a command prints, and its status."""
