@@ -1,14 +1,16 @@
 #!/usr/bin/env bash
-# Has 8 processes write to one table at once for a minute, each one command after another, with a row of its own each time.
-# It promises:
+# Has 8 processes write to one table at once for a minute, each one command after another, with a row of its own each time,
+# and two compact it meanwhile, where the program knows `compact`: every other time in full. It promises:
 #   - each command that ended with 0 has its row in the table, once, and each that ended with 14 (contended) hasn't, and
 #     names eleven ids;
+#   - each compaction that ended with 0 committed a snapshot, or found nothing to compact; each other one was contended, or
+#     another compaction took its files (15);
 #   - none ended with 5 (the store failed), nor with anything else;
 #   - no snapshot's id was printed twice, the ids that were printed are those from 1 on, without a gap, and `snapshots`
-#     lists just these.
+#     lists just these, those of the compactions as such.
 # It ends with 1 where a promise fails. The gate never runs it. docs/DEVELOPING.md has what it printed.
 #
-# usage: bench/many_writers.sh [PROGRAM [SECONDS [WRITERS]]]     without a program: the one that ./paimon builds
+# usage: bench/many_writers.sh [PROGRAM [SECONDS [WRITERS [COMPACTORS]]]]     without a program: the one that ./paimon builds
 set -u
 top=$(dirname -- "$(dirname -- "$(readlink -f -- "$0")")")
 work=$(mktemp -d) || exit 1
@@ -19,10 +21,14 @@ fi
 program=${1:-$top/crates/paimon/out/ready/paimon}
 seconds=${2:-60}
 writers=${3:-8}
+compactors=${4:-2}
 table=$work/table
 bad=0
 committed=0
 contended=0
+compacted=0
+spared=0
+taken=0
 
 broken() {
     echo "BROKEN: $*"
@@ -43,10 +49,30 @@ write_rows() {
     done
 }
 
+# compacts until the time is over; a line for each command: its status, what it printed or said
+compact_runs() {
+    local full=
+    while [ "$(date +%s)" -lt "$end" ]; do
+        local said status
+        # shellcheck disable=SC2086
+        said=$("$program" "$table" compact $full 2>&1)
+        status=$?
+        printf '%d\t%s\n' "$status" "$said"
+        [ -z "$full" ] && full=--full || full=
+    done
+}
+
+"$program" "$work/nothing" compact 2>"$work/said"
+[ "$(<"$work/said")" = "E9 no table" ] || compactors=0
 "$program" "$table" create <"$top/examples/table.json" >"$work/created" || exit 1
+: >"$work/ids.unsorted"
+: >"$work/compactions.unsorted"
 end=$(($(date +%s) + seconds))
 for ((w = 0; w < writers; w++)); do
     write_rows "$w" >"$work/log.$w" &
+done
+for ((c = 0; c < compactors; c++)); do
+    compact_runs >"$work/compact.$c" &
 done
 wait
 
@@ -70,12 +96,34 @@ while IFS=$'\t' read -r key status said; do
     esac
 done < <(cat "$work"/log.*)
 [ "$(wc -l <"$work/read")" -eq "$committed" ] || broken "the table has other rows than those of the commits"
-sort -n "$work/ids.unsorted" >"$work/ids"
+while IFS=$'\t' read -r status said; do
+    case $status,$said in
+    0,"snapshot "*)
+        compacted=$((compacted + 1))
+        printf '%s\n' "${said#snapshot }" >>"$work/compactions.unsorted"
+        ;;
+    0,"nothing to compact") spared=$((spared + 1)) ;;
+    14,*)
+        contended=$((contended + 1))
+        [ "$(wc -w <<<"$said")" -eq 13 ] || broken "a compaction was contended, and said: $said"
+        ;;
+    15,"E15 taken data-"*) taken=$((taken + 1)) ;;
+    *) broken "a compaction ended with $status: $said" ;;
+    esac
+done < <([ "$compactors" -eq 0 ] || cat "$work"/compact.*)
+sort -n "$work/ids.unsorted" "$work/compactions.unsorted" >"$work/ids"
+sort -n "$work/compactions.unsorted" >"$work/compactions"
 [ -z "$(uniq -d "$work/ids")" ] || broken "an id was printed twice"
-seq "$committed" | cmp -s - "$work/ids" || broken "the ids that were printed aren't those from 1 to $committed"
-"$program" "$table" snapshots | sed 's/^\[\([0-9]*\),.*/\1/' | cmp -s - "$work/ids" ||
+newest=$((committed + compacted))
+seq "$newest" | cmp -s - "$work/ids" || broken "the ids that were printed aren't those from 1 to $newest"
+"$program" "$table" snapshots >"$work/snapshots" || broken "the snapshots can't be listed: status $?"
+sed 's/^\[\([0-9]*\),.*/\1/' "$work/snapshots" | cmp -s - "$work/ids" ||
     broken "the snapshots that are there aren't those whose ids were printed"
+sed -n 's/^\[\([0-9]*\),"COMPACT",.*/\1/p' "$work/snapshots" | cmp -s - "$work/compactions" ||
+    broken "the compactions that are there aren't those whose ids were printed"
 
-echo "$writers writers in $seconds s: $committed committed, $contended contended"
+echo "$writers writers and $compactors compactors in $seconds s: $committed writes committed, $contended commands contended"
+[ "$compactors" -eq 0 ] ||
+    echo "$compacted compactions committed, $spared found nothing to compact, $taken found their files taken"
 [ "$bad" -eq 0 ] && echo "every promise was kept"
 exit "$bad"
