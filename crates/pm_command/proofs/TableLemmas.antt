@@ -1,5 +1,6 @@
 -- Facts on files that stay, and on why a table is refused, for all commands.
-use Rattle.std.proofs.Common.{codes, decimal, ◌≡◌, ◌⊎◌, inl, inr, ℕ, ◌==◌, List, [], ◌∷◌, if◌then◌else◌, Bool, true, false, Option, None, Some, IfSome, IsSomeAnd, refl, sym, subst}
+use Rattle.std.proofs.Common.{codes, decimal, ◌≡◌, ◌⊎◌, inl, inr, ℕ, suc, ◌+◌, ◌≤◌, ◌==◌, List, [], ◌∷◌, length, if◌then◌else◌, Bool, true, false, Option, None, Some, IsSome, IfSome, IsSomeAnd, refl, sym, subst, ◌∙◌, arith}
+use Rattle.std.specs.FinMap as map
 use Rattle.std.specs.Option.{option_or}
 use Rattle.pm_values.specs.declared.refusal.Refusal.{Refusal}
 use Rattle.pm_values.specs.declared.refusal.Refusal.TheVariants as refusals
@@ -9,15 +10,19 @@ use Rattle.pm_store.specs.Images.{Extends}
 use Rattle.pm_store.specs.Store.{StoreView}
 use Rattle.pm_store.proofs.ImageLaws.{Extends-weaker}
 use Rattle.pm_machine.specs.Trace.{Event, HasTrace}
-use Rattle.pm_model_history.specs.History.{History, IsTableOf}
+use Rattle.pm_model_history.specs.History.{History, IsTableOf, no_table, table}
 use Rattle.pm_options.specs.declared.kinds.Producer.{Producer}
 use Rattle.pm_options.specs.declared.kinds.Producer.TheVariants as producers
 use Rattle.pm_schema.specs.declared.schema.TableSchema.{TableSchema}
+use Rattle.pm_snapshot.specs.Names.{greatest}
 use Rattle.pm_model_folder.specs.Folder.{Folder}
+use Rattle.pm_model_folder.specs.Ledger.{count_of}
+use Rattle.pm_model_folder.specs.Meaning.{HasSnapshotAt}
+use Rattle.pm_model_folder.specs.Paths.{snapshot_path}
 use Rattle.pm_create.specs.Making.{LeavesFiles}
 use Rattle.pm_read_schema.specs.AllCalls.{HasFiles, IsCaused}
 use Rattle.pm_draft.specs.Built.{unbuilt, unbuilt_producer, unbuilt_bucket, unbuilt_partition}
-use Rattle.pm_command.specs.Outside.{HaveSame, ImagesRest, Rests}
+use Rattle.pm_command.specs.Outside.{HaveSame, ImagesRest, Rests, next_path}
 use Rattle.pm_command.specs.Table.{MayRefuse}
 
 pub trace_weaker : (P Q : List Event → Type 0) → ((own : List Event) → P own → Q own) → (before after : StoreView) → HasTrace P before after → HasTrace Q before after
@@ -42,6 +47,19 @@ leaves_of P f store = at_ops store.ops
 pub images_of : (P : Files → Type 0) (f : Files) (first after : Option (List Op)) → Extends (λ image. image ≡ f) first after → P f → Extends P first after
 images_of P f first after images p = Extends-weaker (λ image. image ≡ f) P first after (λ image is. subst P (sym is) p) images
 
+-- a store leaves the same files
+pub files_same : (f g : Files) (store : StoreView) → HasFiles f store → HasFiles g store → f ≡ g
+files_same f g store one other = at store.ops one other
+  where
+    at : (ops : Option (List Op)) → IsSomeAnd ops (λ ops. files_after ops ≡ f) → IsSomeAnd ops (λ ops. files_after ops ≡ g) → f ≡ g
+    at None one other = absurd one
+    at (Some ops) one other = sym one ∙ other
+
+pub leaves_weaker : (P Q : Files → Type 0) → ((f : Files) → P f → Q f) → (store : StoreView) → LeavesFiles P store → LeavesFiles Q store
+leaves_weaker P Q weaker store left =
+    let files = files_of P store left in
+    leaves_of Q files.0 store files.1 (weaker files.0 files.2)
+
 -- files that stay are the same as at first
 pub rests_of : (h : History) (f : Files) (first after : StoreView) → HasFiles f first → HasFiles f after → Folder f h → Rests h first after
 rests_of h f first after was is folder = record {
@@ -55,6 +73,20 @@ pub images_rest : (h : History) (f : Files) (first after : StoreView) → HasFil
 images_rest h f first after has folder images =
     leaves_of (λ f. Extends (λ g. Folder g h × HaveSame f g) first.ops after.ops) f first has
     (images_of (λ g. Folder g h × HaveSame f g) f first.ops after.ops images (folder, λ path. refl))
+
+-- files that stand for a history don't have its next snapshot
+pub none_next : (h : History) (f : Files) → Folder f h → count_of h + 1 ≤ greatest → IsSome (map.get f (next_path h)) → ⊥
+none_next no_table f folder within there = none_there (map.get f (snapshot_path 1)) (folder.snapshots 1 within) there
+  where
+    none_there : (o : Option (List ℕ)) → o ≡ None → IsSome o → ⊥
+    none_there None is there = let no : IsSome {T = List ℕ} None = there in cc
+    none_there (Some x) is there = let no : Some x ≡ None = is in cc
+none_next (table s entries) f folder within there =
+    let n = length entries in
+    let more : n + 1 ≡ suc n = omega arith in
+    let here : HasSnapshotAt f s (suc n) = subst (λ (id : ℕ). IsSome (map.get f (snapshot_path id))) more there in
+    let high = ((folder.snapshots.exact (suc n) (omega (arith, within))).0 here).1 in
+    omega (arith, high)
 
 -- ---- what a history may be refused for
 

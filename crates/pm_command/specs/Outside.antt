@@ -1,6 +1,7 @@
 -- What a command has to do with, what it prints and says there, and how it ends.
-use Rattle.std.specs.Prelude.{◌≡◌, ◌⊎◌, ℕ, ◌≤◌, List, Option, None, Some}
+use Rattle.std.specs.Prelude.{◌≡◌, ◌⊎◌, ℕ, ◌+◌, ◌≤◌, List, ◌∷◌, ◌++◌, decimal, Option, None, Some}
 use Rattle.std.specs.FinMap as map
+use Rattle.uuid.specs.Text.{hyphenated_text, hyphen, lower}
 use Rattle.pm_base.specs.Faults.{Rose}
 use Rattle.pm_base.specs.Known.{and_then}
 use Rattle.pm_values.specs.declared.refusal.Refusal.{Refusal}
@@ -13,6 +14,8 @@ use Rattle.pm_store.specs.Store.{StoreView, IsLater}
 use Rattle.pm_model_history.specs.History.{History}
 use Rattle.pm_model_folder.specs.Changes.{Actor}
 use Rattle.pm_model_folder.specs.Folder.{Folder}
+use Rattle.pm_model_folder.specs.Ledger.{count_of}
+use Rattle.pm_model_folder.specs.Paths.{snapshot_path}
 use Rattle.pm_create.specs.Making.{LeavesFiles}
 use Rattle.pm_command.specs.declared.start.Start.{Start}
 use Rattle.pm_report.specs.Report.{code_of, report_text}
@@ -20,6 +23,10 @@ use Rattle.pm_report.specs.Report.{code_of, report_text}
 -- a single command is actor 0 of its session
 abbrev pub actor : Start → Actor
 actor start = record { session = start.session; number = 0 }
+
+-- an actor as a user: its session and its number
+abbrev pub own_user : Actor → List ℕ
+own_user me = hyphenated_text lower me.session ++ hyphen ∷ decimal me.number
 
 -- what a command has to do with: its input, where it prints, and the store
 pub record Outside : Type 0 where
@@ -75,7 +82,11 @@ Said (Some refusal) before after =
     (after.taken ≡ and_then before.taken (report_text refusal))
     ⊎ (SinkFailed before after × TookPrefix before.taken after.taken (report_text refusal))
 
--- ---- what stays
+-- ---- a history
+
+-- the path of the snapshot that a commit publishes
+abbrev pub next_path : History → List ℕ
+next_path h = snapshot_path (count_of h + 1)
 
 -- no path has another content
 abbrev pub HaveSame : Files → Files → Type 0

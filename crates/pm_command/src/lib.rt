@@ -3,9 +3,11 @@
 #![tactic(auto)]
 
 mod judging;
+mod own;
 mod printing;
 mod start;
 
 pub use judging::judge;
-pub use printing::print;
+pub use own::{own_names, own_user};
+pub use printing::{print, print_snapshot};
 pub use start::Start;

@@ -1,13 +1,15 @@
 //! What commands print.
 
-ghost use Rattle.std.specs.Prelude.{◌≡◌, None, IfErr, OnOk, OnErr};
+ghost use Rattle.std.specs.Prelude.{◌≡◌, ◌++◌, None, Some, IfErr, OnOk, OnErr, codes, decimal};
 ghost use Rattle.std.specs.Result.{result_err};
 ghost use Rattle.pm_base.specs.Known.{and_then};
+ghost use Rattle.pm_base.specs.Newline.{line};
 ghost use Rattle.pm_io.specs.Sink.{SinkFailed, SinkLater, TookPrefix};
 ghost use Rattle.pm_values.specs.declared.refusal.Refusal.TheVariants as refusals;
 ghost use Rattle.pm_command.specs.Outside.{Prints};
 
-use pm_io::{Sink, write_all};
+use itoa::Buffer;
+use pm_io::{LineBuffer, Sink, write_all};
 use pm_values::Refusal;
 
 /// Prints a text, after the commit of that snapshot where there is one.
@@ -23,4 +25,19 @@ pub fn print<W: Sink>(out: &mut W, text: &[u8], snapshot: Option<u64>) -> Result
         Ok(()) => Ok(()),
         Err(_) => Err(Refusal::SinkFault { snapshot }),
     }
+}
+
+/// Says which snapshot was committed, in one piece.
+pub fn print_snapshot<W: Sink>(out: &mut W, id: u64) -> Result<(), Refusal>
+    ensures prints { Prints (line (codes "snapshot " ++ decimal id)) (Some id) None (W.seen out.old) (W.seen out.new)
+        (result_err result) }
+    ensures later { SinkLater (W.seen out.old) (W.seen out.new) }
+{
+    let mut buffer = Buffer::new();
+    let number = buffer.format(id);
+    let mut text = LineBuffer::new();
+    text.hold(b"snapshot ");
+    text.hold(number.as_bytes());
+    text.hold(b"\n");
+    print(out, text.bytes(), Some(id))
 }
