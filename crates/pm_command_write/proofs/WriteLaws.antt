@@ -1,5 +1,5 @@
 -- Laws of `write`: what is so of its input, of its calls, and of a history.
-use Rattle.std.proofs.Common.{◌≡◌, ◌≢◌, ◌⊎◌, inl, inr, ℕ, suc, ◌+◌, ◌-◌, ◌≤◌, ◌==◌, ◌++◌, Bool, true, false, if◌then◌else◌, List, [], ◌∷◌, length, Option, None, Some, IfSome, IsSome, IsSomeAnd, Result, Ok, Err, refl, sym, ap, ◌∙◌, subst, arith}
+use Rattle.std.proofs.Common.{◌≡◌, ◌≢◌, ◌⊎◌, inl, inr, ℕ, ◌+◌, ◌-◌, ◌≤◌, ◌==◌, ◌++◌, Bool, true, false, if◌then◌else◌, List, [], ◌∷◌, Option, None, Some, IfSome, IsSome, IsSomeAnd, Result, Ok, Err, refl, sym, ap, ◌∙◌, subst}
 use Rattle.std.specs.FinMap as map
 use Rattle.std.specs.List.{AllByRecursion}
 use Rattle.std.specs.Result.{result_err}
@@ -17,7 +17,7 @@ use Rattle.pm_store.specs.Images.{Extends}
 use Rattle.pm_store.specs.Store.{StoreView, at_first_own}
 use Rattle.pm_store.proofs.ImageLaws.{Extends-refl, Extends-weaker}
 use Rattle.pm_machine.specs.Trace.{Event, HasTrace}
-use Rattle.pm_model_history.specs.History.{History, IsTableOf, no_table, table}
+use Rattle.pm_model_history.specs.History.{History, IsTableOf}
 use Rattle.pm_model_history.specs.Merge.{HistoryRow}
 use Rattle.pm_model_history.specs.Taken.{verdict}
 use Rattle.pm_model_history.specs.declared.verdict.Verdict.{Verdict as VerdictByIndex}
@@ -36,7 +36,6 @@ use Rattle.pm_engines.specs.declared.verdict.Verdict.TheVariants.{Take, Ignore, 
 use Rattle.pm_model_folder.specs.Changes.{Actor}
 use Rattle.pm_model_folder.specs.Folder.{Folder, IsRowOf}
 use Rattle.pm_model_folder.specs.Ledger.{count_of}
-use Rattle.pm_model_folder.specs.Meaning.{HasSnapshotAt}
 use Rattle.pm_model_folder.specs.Paths.{snapshot_path}
 use Rattle.pm_create.specs.Making.{LeavesFiles}
 use Rattle.pm_read_schema.specs.AllCalls.{DidRead, HasFiles, Stay, ReadsTables}
@@ -49,14 +48,14 @@ use Rattle.pm_commit.specs.Alone.{Beginning, GivesReason, IsUnchanged, WasUsed, 
 use Rattle.pm_commit.specs.declared.all_calls.Appended.{Appended}
 use Rattle.pm_commit.specs.declared.all_calls.Appended.TheVariants as appends
 use Rattle.pm_command_write.specs.Input.{HasLines, MayRefuseInput, RefusesInput}
-use Rattle.pm_command.specs.Outside.{HaveSame, Outside, outside, actor, Prints, Rests}
+use Rattle.pm_command.specs.Outside.{HaveSame, Outside, outside, actor, next_path, Prints, Rests}
 use Rattle.pm_command.specs.declared.start.Start.{Start}
 use Rattle.pm_command.specs.Table as tables
-use Rattle.pm_command_write.specs.Write.{ActsWrite, AnswersLines, AnswersWrite, BeginsWith, DidWrite, HasRows, IsCommittedTo, IsImage, IsWritten, Keeps, KeepsHistories, Lines, MakesOf, MayStartAfter, Spoils, StandsAfterFault, StandsForEither, TakesRows, WritesLines, WritesTable, WritesTables, commit_of, entry_by, next_path, snapshot_of, text_of}
+use Rattle.pm_command_write.specs.Write.{ActsWrite, AnswersLines, AnswersWrite, BeginsWith, DidWrite, HasRows, IsCommittedTo, IsImage, IsWritten, Keeps, KeepsHistories, Lines, MakesOf, MayStartAfter, Spoils, StandsAfterFault, StandsForEither, TakesRows, WritesLines, WritesTable, WritesTables, commit_of, entry_by, snapshot_of, text_of}
 use Rattle.pm_command_write.specs.declared.writer.Writer.{Writer}
 use Rattle.pm_command_write.specs.declared.write.Written.{Written}
 use Rattle.pm_command_write.specs.declared.write.Written.TheVariants as written
-use Rattle.pm_command.proofs.TableLemmas.{trace_weaker, files_of, leaves_of, rests_of, images_of, caused, judged_caused}
+use Rattle.pm_command.proofs.TableLemmas.{trace_weaker, files_of, files_same, leaves_of, leaves_weaker, none_next, rests_of, images_of, caused, judged_caused}
 use Rattle.pm_command.proofs.Uncalled.{at_known, uncalled}
 
 -- ---- the rows that are taken
@@ -163,14 +162,6 @@ appended_trace start w lines s batch made before after t =
     trace_weaker (DidAppend s (commit_of start w batch) made) (DidWrite start w lines (written_of made)) (λ own did. appended_did start w lines s batch made own t did) before after
 
 -- ---- what its calls do to histories
-
--- a store leaves the same files
-files_same : (f g : Files) (store : StoreView) → HasFiles f store → HasFiles g store → f ≡ g
-files_same f g store one other = at store.ops one other
-  where
-    at : (ops : Option (List Op)) → IsSomeAnd ops (λ ops. files_after ops ≡ f) → IsSomeAnd ops (λ ops. files_after ops ≡ g) → f ≡ g
-    at None one other = absurd one
-    at (Some ops) one other = sym one ∙ other
 
 -- files that stay go on to stand for the history
 stay_keeps : (start : Start) (w : Writer) (lines : Lines) (h : History) (f : Files) (first after : StoreView) (made : Result Written Refusal)
@@ -314,11 +305,6 @@ module _ (start : Start) (w : Writer) (lines : Lines) (s : TableSchema) (batch :
   start-rows other apart none g (inr stands) =
       inr (record { rows = t.rows; takes = takes; some = t.some; stands = (stands.folder, stands.free other apart none) })
 
-  left-weaker : (P Q : Files → Type 0) → ((g : Files) → P g → Q g) → (store : StoreView) → LeavesFiles P store → LeavesFiles Q store
-  left-weaker P Q weaker store left =
-      let files = files_of P store left in
-      leaves_of Q files.0 store files.1 (weaker files.0 files.2)
-
   -- what is so of the beginning is so at the first call
   at-first : (P : Beginning → Type 0) (first : StoreView) → HasFiles f first → P b → LeavesFiles (BeginsWith start w lines h P) first
   unfolding takes
@@ -329,9 +315,9 @@ module _ (start : Start) (w : Writer) (lines : Lines) (s : TableSchema) (batch :
   -- where no path has another content than at first
   unchanged : (first after : StoreView) → HasFiles f first → LeavesFiles (λ g. Folder g h × IsUnchanged b g) after → Rests h first after
   unchanged first after has left = record {
-    folder = left-weaker (λ g. Folder g h × IsUnchanged b g) (λ g. Folder g h) (λ g is. is.0) after left;
+    folder = leaves_weaker (λ g. Folder g h × IsUnchanged b g) (λ g. Folder g h) (λ g is. is.0) after left;
     same = leaves_of (λ f. LeavesFiles (HaveSame f) after) f first has
-        (left-weaker (λ g. Folder g h × IsUnchanged b g) (HaveSame f) (λ g is. is.1) after left);
+        (leaves_weaker (λ g. Folder g h × IsUnchanged b g) (HaveSame f) (λ g is. is.1) after left);
   }
 
   fault-leaves : (path : List ℕ) (g : Files) → commit.LeavesFolder b (Err (refusals.StoreFault path)) g → StandsAfterFault start w lines h path g
@@ -341,7 +327,7 @@ module _ (start : Start) (w : Writer) (lines : Lines) (s : TableSchema) (batch :
   spoiled : (first after : StoreView) (e : Refusal) → HasFiles f first → commit.AppendsTable b s first after (Err e) → Spoils start w lines h first after e
   spoiled first after refusals.Memory has does = does.leaves
   spoiled first after (refusals.StoreFault path) has does =
-      (does.counted, left-weaker (commit.LeavesFolder b (Err (refusals.StoreFault path))) (StandsAfterFault start w lines h path) (fault-leaves path) after does.leaves)
+      (does.counted, leaves_weaker (commit.LeavesFolder b (Err (refusals.StoreFault path))) (StandsAfterFault start w lines h path) (fault-leaves path) after does.leaves)
   spoiled first after (refusals.SessionUsed path) has does = (at-first (λ b. WasUsed b path) first has does.says, does.leaves)
   spoiled first after (refusals.Fenced base fence) has does = (
     at-first (λ b. GivesReason b (Some (refusals.Fenced base fence))) first has does.says,
@@ -363,9 +349,9 @@ module _ (start : Start) (w : Writer) (lines : Lines) (s : TableSchema) (batch :
   )
   commit-makes first after (Ok (appends.Committed id)) has does = (
     does.says.0,
-    left-weaker (commit.LeavesFolder b (Ok (appends.Committed id))) (λ g. LeavesFiles (BeginsWith start w lines h (IsCommittedTo g)) first)
+    leaves_weaker (commit.LeavesFolder b (Ok (appends.Committed id))) (λ g. LeavesFiles (BeginsWith start w lines h (IsCommittedTo g)) first)
         (λ g is. at-first (IsCommittedTo g) first has (record { allowed = does.says.1; bears = is.1 })) after does.leaves,
-    left-weaker (commit.LeavesFolder b (Ok (appends.Committed id))) (HasRows start w lines h) (λ g is. has-rows g is.0) after does.leaves,
+    leaves_weaker (commit.LeavesFolder b (Ok (appends.Committed id))) (HasRows start w lines h) (λ g is. has-rows g is.0) after does.leaves,
   )
   commit-makes first after (Err e) has does = spoiled first after e has does
 
@@ -400,21 +386,8 @@ appended_keeps fits start w lines s batch made before after t may appends = λ a
 pub image_of : (start : Start) (w : Writer) (lines : Lines) (h : History) (f : Files) → StandsForEither start w lines h f → IsImage start w lines h f
 image_of start w lines h f either = record { either = either; published = λ within there. published_of h either within there }
   where
-    none_there : (o : Option (List ℕ)) → o ≡ None → IsSome o → ⊥
-    none_there None is there = let no : IsSome {T = List ℕ} None = there in cc
-    none_there (Some x) is there = let no : Some x ≡ None = is in cc
-
-    before : (h : History) → Folder f h → count_of h + 1 ≤ greatest → IsSome (map.get f (next_path h)) → ⊥
-    before no_table folder within there = none_there (map.get f (snapshot_path 1)) (folder.snapshots 1 within) there
-    before (table s entries) folder within there =
-        let n = length entries in
-        let more : n + 1 ≡ suc n = omega arith in
-        let here : HasSnapshotAt f s (suc n) = subst (λ (id : ℕ). IsSome (map.get f (snapshot_path id))) more there in
-        let high = ((folder.snapshots.exact (suc n) (omega (arith, within))).0 here).1 in
-        omega (arith, high)
-
     published_of : (h : History) → StandsForEither start w lines h f → count_of h + 1 ≤ greatest → IsSome (map.get f (next_path h)) → HasRows start w lines h f
-    published_of h (inl folder) within there = absurd (before h folder within there)
+    published_of h (inl folder) within there = absurd (none_next h f folder within there)
     published_of h (inr rows) within there = rows
 
 images_are : (start : Start) (w : Writer) (lines : Lines) (h : History) (first after : Option (List Op)) → Extends (StandsForEither start w lines h) first after

@@ -1,9 +1,8 @@
 -- What the command `write` answers, what it prints, and what it does to a history.
-use Rattle.std.specs.Prelude.{◌≡◌, ◌≢◌, ◌⊎◌, ℕ, ℤ, pos, ◌+◌, ◌≤◌, min, List, [], ◌∷◌, ◌++◌, codes, decimal, is_some}
+use Rattle.std.specs.Prelude.{◌≡◌, ◌≢◌, ◌⊎◌, ℕ, ℤ, pos, ◌+◌, ◌≤◌, min, List, [], ◌++◌, codes, decimal, is_some}
 use Rattle.std.specs.Prelude.{Option, None, Some, IsSome, Result, Ok, Err}
 use Rattle.std.specs.FinMap as map
 use Rattle.std.specs.Result.{result_err}
-use Rattle.uuid.specs.Text.{hyphenated_text, hyphen, lower}
 use Rattle.pm_base.specs.Faults.{Rose}
 use Rattle.pm_base.specs.Known.{and_then}
 use Rattle.pm_base.specs.Newline.{line}
@@ -24,7 +23,6 @@ use Rattle.pm_snapshot.specs.Names.{greatest}
 use Rattle.pm_model_folder.specs.Changes.{Actor}
 use Rattle.pm_model_folder.specs.Folder.{Folder}
 use Rattle.pm_model_folder.specs.Ledger.{count_of}
-use Rattle.pm_model_folder.specs.Paths.{snapshot_path}
 use Rattle.pm_create.specs.Making.{LeavesFiles}
 use Rattle.pm_read_schema.specs.Trace as reader
 use Rattle.pm_draft.specs.Built.{IsBuilt, unbuilt}
@@ -37,7 +35,7 @@ use Rattle.pm_commit.specs.Own.{OwnView, new_author, new_own}
 use Rattle.pm_commit.specs.declared.all_calls.Appended.{Appended}
 use Rattle.pm_commit.specs.declared.all_calls.Appended.TheVariants as appends
 use Rattle.pm_command_write.specs.Input.{MayRefuseInput, RefusesInput}
-use Rattle.pm_command.specs.Outside.{Outside, actor, IsUntouched, Prints, Rests}
+use Rattle.pm_command.specs.Outside.{Outside, actor, IsUntouched, Prints, Rests, next_path, own_user}
 use Rattle.pm_command.specs.declared.start.Start.{Start}
 use Rattle.pm_command.specs.Table.{EndsAtSchema}
 use Rattle.pm_command_write.specs.declared.write.Written.{Written}
@@ -57,9 +55,9 @@ abbrev pub identifier_of : Option ℕ → ℤ
 identifier_of None = pos greatest_identifier
 identifier_of (Some n) = pos (min n greatest_identifier)
 
--- the user where none is asked for: the actor's session and number
+-- the user: the actor where none is asked for
 abbrev pub user_of : Actor → Option (List ℕ) → List ℕ
-user_of me None = hyphenated_text lower me.session ++ hyphen ∷ decimal me.number
+user_of me None = own_user me
 user_of me (Some name) = name
 
 -- the author of its commit, before a base is known
@@ -177,10 +175,6 @@ StandsForEither start w lines h f = Folder f h ⊎ HasRows start w lines h f
 -- and an actor may start there, as no snapshot names a file of its name
 abbrev pub MayStartAfter : Actor → Start → Writer → Lines → History → Files → Type 0
 MayStartAfter other start w lines h f = MayStart other h f ⊎ HasRowsAs (MayStart other) start w lines h f
-
--- the path of the snapshot that the commit publishes
-abbrev pub next_path : History → List ℕ
-next_path h = snapshot_path (count_of h + 1)
 
 -- What a crash may leave: files that stand for a history, or for it with the rows at its end; and for the latter from
 -- the publish on, which put the next snapshot there.

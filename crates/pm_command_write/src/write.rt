@@ -1,11 +1,8 @@
 //! The command `write`: append the rows of the input to the table as one commit.
 
-ghost use Rattle.std.specs.Prelude.{◌≡◌, ◌≢◌, ℕ, ◌<◌, ◌++◌, List, [], length, map, All, IfOk, OnOk, None, Some, Ok, codes};
-ghost use Rattle.std.specs.Prelude.{decimal};
+ghost use Rattle.std.specs.Prelude.{◌≡◌, ◌≢◌, ℕ, List, [], IfOk, OnOk, None, Some, Ok};
 ghost use Rattle.std.specs.Result.{result_err};
-ghost use Rattle.pm_base.specs.Newline.{line};
 ghost use Rattle.pm_commit.specs.declared.phase.Phase.TheVariants as phases;
-ghost use Rattle.pm_create.specs.Creator.{actor_of};
 ghost use Rattle.pm_draft.specs.Built.{IsBuilt};
 ghost use Rattle.pm_model_history.specs.Merge.{HistoryRow};
 ghost use Rattle.pm_io.specs.Sink.{SinkLater};
@@ -16,28 +13,26 @@ ghost use Rattle.pm_store.specs.Store.{IsLater};
 ghost use Rattle.pm_values.specs.Names.{naming};
 ghost use Rattle.pm_write.specs.Batch.{IsBatchOf, ReadsBatch};
 ghost use Rattle.pm_write.specs.Taken.{all_taken};
-ghost use Rattle.pm_command.specs.Outside.{outside, AllLater, Prints};
+ghost use Rattle.pm_command.specs.Outside.{actor, outside, AllLater, Prints};
 ghost use Rattle.pm_command_write.specs.Write.{AnswersWrite, ActsWrite, WritesTables};
 ghost use Rattle.pm_command_write.specs.Write.{commit_of, identifier_of, user_of, DidWrite, IsWritten, KeepsHistories};
 ghost use Rattle.pm_command_write.specs.Write.{snapshot_of, text_of};
 
 use crate::input::read_input;
 use crate::writer::Writer;
-use itoa::Buffer;
 use pm_base::Txt;
-use pm_command::{Start, judge, print};
+use pm_command::{Start, judge, own_names, own_user, print, print_snapshot};
 use pm_commit::{Appended, Committer, append_rows, new_committer};
 use pm_engines::{TableEngine, declared_law};
 use pm_input::InputLines;
-use pm_io::{LineBuffer, Sink, Source};
+use pm_io::{Sink, Source};
 use pm_read_schema::read_table_schema;
 use pm_rows::fit_law;
 use pm_schema::TableSchema;
 use pm_store::FileStore;
-use pm_values::{Names, Refusal};
+use pm_values::Refusal;
 use pm_write::{Batch, batch_law};
 use std::alloc::{AllocError, Global};
-use uuid::Uuid;
 
 /// The greatest identifier of a commit.
 const GREATEST_IDENTIFIER: u64 = 9223372036854775807;
@@ -153,9 +148,9 @@ fn committer_of(
 {
     let Writer { user, identifier } = writer;
     let check = user.is_some();
-    let user = user_of(alloc, start.session, 0, user)?;
+    let user = user_of(alloc, start, user)?;
     let identifier = identifier_of(identifier);
-    let names = names_of(start.session);
+    let names = own_names(start);
     Ok(new_committer(
         schema,
         batch,
@@ -168,21 +163,12 @@ fn committer_of(
 }
 
 /// The user that is asked for, or the actor.
-fn user_of(
-    alloc: Global,
-    session: [u8; 16],
-    actor: u32,
-    user: Option<Txt>,
-) -> Result<Txt, AllocError>
-    ensures { IfOk result (λ name. name ≡ user_of (actor_of session actor) user) }
+fn user_of(alloc: Global, start: &Start, user: Option<Txt>) -> Result<Txt, AllocError>
+    ensures { IfOk result (λ name. name ≡ user_of (actor start.now) user) }
 {
     match user {
         Some(user) => Ok(user),
-        None => {
-            let session = Uuid::from_bytes(session);
-            let text = format!(in alloc; "{session}-{actor}")?;
-            Txt::from_str(alloc, text.as_str())
-        }
+        None => own_user(alloc, start),
     }
 }
 
@@ -193,24 +179,6 @@ fn identifier_of(asked: Option<u64>) -> i64
     match asked {
         Some(n) if n < GREATEST_IDENTIFIER => n as i64,
         _ => GREATEST_IDENTIFIER as i64,
-    }
-}
-
-/// The names of the actor of a single command.
-fn names_of(session: [u8; 16]) -> Names
-    ensures names { result ≡ naming session 0 0 }
-    ensures may { MayName result }
-{
-    bytes_fit(&session);
-    Names::new(session, 0, 0)
-}
-
-/// Each byte has eight bits, which no clause says of an array: this walk reads them, and has no effect.
-fn bytes_fit(session: &[u8; 16])
-    ensures { (length session.now ≡ 16) × All (λ b. b < 256) session.now }
-{
-    for i in 0..16 {
-        let _ = session[i];
     }
 }
 
@@ -225,19 +193,4 @@ fn print_written<W: Sink>(out: &mut W, written: Written) -> Result<(), Refusal>
         Written::Already => print(out, b"already\n", None),
         Written::Committed(id) => print_snapshot(out, id),
     }
-}
-
-/// Says which snapshot was committed, in one piece.
-fn print_snapshot<W: Sink>(out: &mut W, id: u64) -> Result<(), Refusal>
-    ensures prints { Prints (line (codes "snapshot " ++ decimal id)) (Some id) None (W.seen out.old) (W.seen out.new)
-        (result_err result) }
-    ensures later { SinkLater (W.seen out.old) (W.seen out.new) }
-{
-    let mut buffer = Buffer::new();
-    let number = buffer.format(id);
-    let mut text = LineBuffer::new();
-    text.hold(b"snapshot ");
-    text.hold(number.as_bytes());
-    text.hold(b"\n");
-    print(out, text.bytes(), Some(id))
 }
