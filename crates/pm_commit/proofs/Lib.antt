@@ -1,34 +1,34 @@
 mod ActorLemmas
 mod AdvanceLemmas
 mod AfterLemmas
-mod AllCallsLemmas
-mod AloneCauseLemmas
-mod AloneLemmas
+pub mod AllCallsLemmas
+pub mod AloneCauseLemmas
+pub mod AloneLemmas
 mod ApartLemmas
 mod BatchLemmas
-mod BeginLemmas
+pub mod BeginLemmas
 mod CauseLemmas
 mod CommittedLemmas
-mod CommitterLemmas
+pub mod CommitterLemmas
 mod CreateLemmas
 mod Facts
 mod FailLemmas
-mod FenceLemmas
+pub mod FenceLemmas
 mod FoundLemmas
 mod GivenLemmas
 mod GrowLemmas
-mod KnownLemmas
+pub mod KnownLemmas
 mod MadeLemmas
 mod MarkLemmas
 mod NewestLemmas
 pub mod OneLemmas
 mod OriginLemmas
-mod OutcomeLemmas
+pub mod OutcomeLemmas
 pub mod OwnLemmas
 mod PathLemmas
-mod PhaseLemmas
+pub mod PhaseLemmas
 mod PublishLemmas
-mod ReadsLemmas
+pub mod ReadsLemmas
 mod StepLemmas
-mod StillLemmas
-mod TraceLemmas
+pub mod StillLemmas
+pub mod TraceLemmas
