@@ -62,7 +62,7 @@ view-rests m f = refl
 -- ---- each refusal
 
 -- a listing of files that are the same
-listing-same : (f g : Files) (folder : List ℕ) (names : List (List ℕ)) → ((path : List ℕ) → map.get f path ≡ map.get g path) → IsListing folder names f
+pub listing-same : (f g : Files) (folder : List ℕ) (names : List (List ℕ)) → ((path : List ℕ) → map.get f path ≡ map.get g path) → IsListing folder names f
     → IsListing folder names g
 listing-same f g folder names same listing = record {
   rising = listing.rising;
@@ -81,7 +81,7 @@ module _ (laws : Laws) (b : Beginning) (f : Files) (p : Past) (stands : Stands f
   forgotten refusal memory = subst (λ (r : Refusal). AloneRefused b r f p) (sym memory) same
 
   -- what a try found of the newest snapshot is as it was
-  found-sees : (found : Found) → IsUnchanged b f → IsFoundIn p found → IsTableOf found.schema p.history → found.newest.id ≡ newest_id b → SeesNewest b found
+  pub found-sees : (found : Found) → IsUnchanged b f → IsFoundIn p found → IsTableOf found.schema p.history → found.newest.id ≡ newest_id b → SeesNewest b found
   found-sees found unchanged is_found table newest =
       let there : HasSnapshotAt f found.schema found.newest.id =
       subst (HasSnapshotAt f found.schema) (sym (newest ∙ many)) (newest-at f p found.schema stands table) in record {
@@ -117,7 +117,7 @@ module _ (laws : Laws) (b : Beginning) (f : Files) (p : Past) (stands : Stands f
       (found, sees, subst (λ (o : OwnView). refusal_of found.newest o.author o.intent ≡ Some refusal) is reason)
 
   -- a view's reader shows nothing but that memory ran out
-  seen-caused : (refusal : Refusal) → IsNone refusal → IsOfNewest (newest_id b) refusal → reader_meaning.MayRefuse f p refusal → AloneRefused b refusal f p
+  pub seen-caused : (refusal : Refusal) → IsNone refusal → IsOfNewest (newest_id b) refusal → reader_meaning.MayRefuse f p refusal → AloneRefused b refusal f p
   seen-caused refusals.Memory none newest may = same
   seen-caused (refusals.Expired id) none newest may = absurd (expired-never f p id stands (newest ∙ many) may)
   seen-caused (refusals.NoSnapshot id latest) none newest may = absurd none

@@ -62,18 +62,18 @@ module _ (b : Beginning) (f : Files) (now : History) (same : now ≡ b.history) 
   to-alone : (to new : Phase) → new ≡ to → AloneAt b to f now → AloneAt b new f now
   to-alone to new is at = subst (λ (m : Phase). AloneAt b m f now) (sym is) at
 
-  put-alone : (own : OwnView) (s : TableSchema) (id : ℕ) (x : Publishing) (files : List CommitFile) → IsTryAt b own id → AreUntouched b files f
+  pub put-alone : (own : OwnView) (s : TableSchema) (id : ℕ) (x : Publishing) (files : List CommitFile) → IsTryAt b own id → AreUntouched b files f
       → AloneAt b (phases.Put own s id (put.create_next x files)) f now
   put-alone own s id x [] is untouched = (same, (is, tt))
   put-alone own s id x (file ∷ files) is untouched = (same, (is, untouched))
 
   -- before the first file is created
   module _ (unchanged : IsUnchanged b f) where
-    all-untouched : (files : List CommitFile) → AreUntouched b files f
+    pub all-untouched : (files : List CommitFile) → AreUntouched b files f
     all-untouched [] = tt
     all-untouched (file ∷ files) = (unchanged file.path, all-untouched files)
 
-    makes-alone : (own : OwnView) (found : Found) (new : Phase) → own ≡ begun_at b → SeesNewest b found → Makes own found (Ok new) → AloneAt b new f now
+    pub makes-alone : (own : OwnView) (found : Found) (new : Phase) → own ≡ begun_at b → SeesNewest b found → Makes own found (Ok new) → AloneAt b new f now
     makes-alone own found new is sees (made, is_made, allowed, to) =
         let count : ℕ = own.names.count + length made.files.items in
         to-alone _ new to
@@ -108,7 +108,7 @@ module _ (b : Beginning) (f : Files) (now : History) (same : now ≡ b.history) 
 -- ---- a step
 
 -- before the publish the history is the same
-calm-same : (b : Beginning) (m : Phase) (f : Files) (now : History) → IsSome (next_call m) → AloneAt b m f now → now ≡ b.history
+pub calm-same : (b : Beginning) (m : Phase) (f : Files) (now : History) → IsSome (next_call m) → AloneAt b m f now → now ≡ b.history
 calm-same b (phases.Committed author id) f now some alone = absurd (let clash = some in cc)
 calm-same b m f now some alone = alone.0
 
@@ -210,7 +210,7 @@ module _ (laws : Laws) (causes : ReaderCauses) (parts : PathParts) (b : Beginnin
   went-published own s id x (answers.Published answer) new f p (to, goes, on) stands known told = absurd (lost-never own s id x answer f p stands known told tt)
   went-published own s id x answer new f p (to, goes, on) stands known told = absurd goes
 
-  went-on : (m : Phase) (answer : Answer) (new : Phase) (f : Files) (p : Past) → After m answer (Ok new) → Stands f p
+  pub went-on : (m : Phase) (answer : Answer) (new : Phase) (f : Files) (p : Past) → After m answer (Ok new) → Stands f p
       → KnewAlone b m f p → IfSome (next_call m) (λ call. Answers call answer f → WentAlone m new f p (carried call f))
   went-on m answer new f p after stands =
       by-publish (λ m. After m answer (Ok new) → KnewAlone b m f p → IfSome (next_call m) (λ call. Answers call answer f → WentAlone m new f p (carried call f)))
@@ -236,7 +236,7 @@ module _ (laws : Laws) (causes : ReaderCauses) (parts : PathParts) (b : Beginnin
   refused-published own s id x (answers.Published answer) refusal f p (inr (to, goes, on)) stands known told = lost-never own s id x answer f p stands known told tt
   refused-published own s id x answer refusal f p (inr (to, goes, on)) stands known told = goes
 
-  refused-on : (m : Phase) (answer : Answer) (refusal : Refusal) (f : Files) (p : Past) → After m answer (Err refusal) → Stands f p
+  pub refused-on : (m : Phase) (answer : Answer) (refusal : Refusal) (f : Files) (p : Past) → After m answer (Err refusal) → Stands f p
       → KnewAlone b m f p → IfSome (next_call m) (λ call. Answers call answer f → RefusedAlone m refusal f p (carried call f))
   refused-on m answer refusal f p after stands =
       by-publish (λ m. After m answer (Err refusal) → KnewAlone b m f p → IfSome (next_call m) (λ call. Answers call answer f → RefusedAlone m refusal f p (carried call f)))
@@ -267,7 +267,7 @@ module _ (laws : Laws) (causes : ReaderCauses) (parts : PathParts) (b : Beginnin
         ],
       )
 
-  failed-on : (m : Phase) (effect : Effect) (f : Files) (p : Past) → IsSome (next_call m) → Stands f p → KnewAlone b m f p
+  pub failed-on : (m : Phase) (effect : Effect) (f : Files) (p : Past) → IsSome (next_call m) → Stands f p → KnewAlone b m f p
       → IfSome (next_call m) (λ call. FailedAlone m call f p (after_effect call effect f))
   failed-on m effect f p some stands =
       by-publish (λ m. IsSome (next_call m) → KnewAlone b m f p → IfSome (next_call m) (λ call. FailedAlone m call f p (after_effect call effect f)))

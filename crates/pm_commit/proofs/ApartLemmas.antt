@@ -38,22 +38,22 @@ PathParts = (folder other : List ℕ) (file more : BasedFile) (m n : Naming) →
 
 module _ (t : Naming) where
   -- the maker of names with this count
-  abbrev at : ℕ → Naming
+  abbrev pub at : ℕ → Naming
   at n = record t { count = n }
 
   -- the path is of a file with the name of this count
-  record IsCounted (n : ℕ) (path : List ℕ) : Type 0 where
-    folder : List ℕ
-    file : BasedFile
-    is : path ≡ folder ++ 47 ∷ name_of (prefix_of file) (suffix_of file) (at n)
+  pub record IsCounted (n : ℕ) (path : List ℕ) : Type 0 where
+    pub folder : List ℕ
+    pub file : BasedFile
+    pub is : path ≡ folder ++ 47 ∷ name_of (prefix_of file) (suffix_of file) (at n)
 
-  abbrev AreCounted : ℕ → List CommitFile → Type 0
+  abbrev pub AreCounted : ℕ → List CommitFile → Type 0
   AreCounted n [] = Unit {0}
   AreCounted n (file ∷ files) = IsCounted n file.path × AreCounted (n + 1) files
 
   -- ---- the files of a try are counted
 
-  counted-join : (n : ℕ) (first later : List CommitFile) → AreCounted n first → AreCounted (n + length first) later → AreCounted n (first ++ later)
+  pub counted-join : (n : ℕ) (first later : List CommitFile) → AreCounted n first → AreCounted (n + length first) later → AreCounted n (first ++ later)
   counted-join n [] later none are = subst (λ (k : ℕ). AreCounted k later) (let same : n + 0 ≡ n = omega arith in same) are
   counted-join n (file ∷ first) later (is, rest) are = (
     is,
@@ -61,12 +61,12 @@ module _ (t : Naming) where
         (subst (λ (k : ℕ). AreCounted k later) (let same : n + suc (length first) ≡ n + 1 + length first = omega arith in same) are),
   )
 
-  counted-later : (n : ℕ) (first later : List CommitFile) → AreCounted n (first ++ later) → AreCounted (n + length first) later
+  pub counted-later : (n : ℕ) (first later : List CommitFile) → AreCounted n (first ++ later) → AreCounted (n + length first) later
   counted-later n [] later are = subst (λ (k : ℕ). AreCounted k later) (let same : n ≡ n + 0 = omega arith in same) are
   counted-later n (file ∷ first) later (is, rest) =
       subst (λ (k : ℕ). AreCounted k later) (let same : n + 1 + length first ≡ n + suc (length first) = omega arith in same) (counted-later (n + 1) first later rest)
 
-  data-counted : (s : TableSchema) (n : ℕ) (runs : List (Group × Run)) (files : List NewFile) → AreFilesOfRuns s (at n) runs files
+  pub data-counted : (s : TableSchema) (n : ℕ) (runs : List (Group × Run)) (files : List NewFile) → AreFilesOfRuns s (at n) runs files
       → AreCounted n (map (data_file s) files)
   data-counted s n [] [] are = tt
   data-counted s n [] (x ∷ files) are = absurd are
@@ -81,7 +81,7 @@ module _ (t : Naming) where
   )
 
   -- a manifest or a list, by its name
-  manifest-counted : (n : ℕ) (file : BasedFile) (path name : List ℕ) (names : Naming) → path ≡ codes "manifest" ++ 47 ∷ name
+  pub manifest-counted : (n : ℕ) (file : BasedFile) (path name : List ℕ) (names : Naming) → path ≡ codes "manifest" ++ 47 ∷ name
       → name ≡ name_of (prefix_of file) (suffix_of file) names → names ≡ at n → IsCounted n path
   manifest-counted n file path name names is named same = record {
     folder = codes "manifest";
@@ -157,7 +157,7 @@ module _ (t : Naming) where
         (counted-join second are.changes_files (are.delta_list ∷ (are.changes_list ++ are.base_list ∷ [])) changes.0
         (delta_list, counted-join (third + 1) are.changes_list (are.base_list ∷ []) list.0 (base_list, tt))))
 
-    made-counted : AreCounted t.count made.files.items
+    pub made-counted : AreCounted t.count made.files.items
     made-counted =
         let rows = rows-counted s newest intent is.delta is.row_files is.left is.has_delta in
         let after : ℕ = t.count + length is.row_files in
@@ -169,7 +169,7 @@ module _ (t : Naming) where
 
   -- ---- so their paths differ
 
-  may-count : (n : ℕ) → MayName t → n < 2 ^ 64 → MayName (at n)
+  pub may-count : (n : ℕ) → MayName t → n < 2 ^ 64 → MayName (at n)
   may-count n may bits = record {
     is_maker = record {
       sixteen = may.is_maker.sixteen;
@@ -182,12 +182,12 @@ module _ (t : Naming) where
     base_within = may.base_within;
   }
 
-  one-count : PathParts → (may : MayName t) (n m : ℕ) (path : List ℕ) → n < 2 ^ 64 → m < 2 ^ 64 → IsCounted n path → IsCounted m path → n ≡ m
+  pub one-count : PathParts → (may : MayName t) (n m : ℕ) (path : List ℕ) → n < 2 ^ 64 → m < 2 ^ 64 → IsCounted n path → IsCounted m path → n ≡ m
   one-count parts may n m path low high one other =
       ap (λ (names : Naming). names.count)
       (parts one.folder other.folder one.file other.file (at n) (at m) (may-count n may low) (may-count m may high) (sym one.is ∙ other.is)).2
 
-  counted-apart : PathParts → (may : MayName t) (k n : ℕ) (path : List ℕ) (files : List CommitFile) → k < n → n + length files ≤ 2 ^ 64 → IsCounted k path
+  pub counted-apart : PathParts → (may : MayName t) (k n : ℕ) (path : List ℕ) (files : List CommitFile) → k < n → n + length files ≤ 2 ^ 64 → IsCounted k path
       → AreCounted n files → AllByRecursion (λ (file : CommitFile). file.path ≢ path) files
   counted-apart parts may k n path [] below room is are = tt
   counted-apart parts may k n path (file ∷ files) below room is (one, rest) = (

@@ -1,34 +1,34 @@
-mod ActorLemmas
-mod AdvanceLemmas
-mod AfterLemmas
+pub mod ActorLemmas
+pub mod AdvanceLemmas
+pub mod AfterLemmas
 pub mod AllCallsLemmas
 pub mod AloneCauseLemmas
 pub mod AloneLemmas
-mod ApartLemmas
-mod BatchLemmas
+pub mod ApartLemmas
+pub mod BatchLemmas
 pub mod BeginLemmas
-mod CauseLemmas
-mod CommittedLemmas
+pub mod CauseLemmas
+pub mod CommittedLemmas
 pub mod CommitterLemmas
-mod CreateLemmas
-mod Facts
-mod FailLemmas
+pub mod CreateLemmas
+pub mod Facts
+pub mod FailLemmas
 pub mod FenceLemmas
-mod FoundLemmas
-mod GivenLemmas
-mod GrowLemmas
+pub mod FoundLemmas
+pub mod GivenLemmas
+pub mod GrowLemmas
 pub mod KnownLemmas
-mod MadeLemmas
-mod MarkLemmas
-mod NewestLemmas
+pub mod MadeLemmas
+pub mod MarkLemmas
+pub mod NewestLemmas
 pub mod OneLemmas
-mod OriginLemmas
+pub mod OriginLemmas
 pub mod OutcomeLemmas
 pub mod OwnLemmas
-mod PathLemmas
+pub mod PathLemmas
 pub mod PhaseLemmas
-mod PublishLemmas
+pub mod PublishLemmas
 pub mod ReadsLemmas
-mod StepLemmas
+pub mod StepLemmas
 pub mod StillLemmas
 pub mod TraceLemmas

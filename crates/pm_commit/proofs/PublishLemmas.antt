@@ -336,6 +336,13 @@ module _ (one : OneContents) (same : SameContents) (paths : NamedPaths) (live_la
         unnamed = names-none;
       }
 
+      -- the snapshot is to its last field the one of the plan
+      plan-compacts : HasCompacted after s t.newest own.author plan
+      plan-compacts =
+          subst (λ (a : Author). HasCompacted after s t.newest a plan) is_try.same_author
+          (compact.compacts (actor_of own) f after p s entries e t plan given stands own-table.1 known.unnamed knows (there-all given gave.1.1)
+          compacts-by plan-ready absent-next puts).4
+
       compact-adds : Adds
       compact-adds =
           let all = compact.compacts (actor_of own) f after p s entries e t plan given stands own-table.1 known.unnamed knows (there-all given gave.1.1)
@@ -417,3 +424,14 @@ module _ (one : OneContents) (same : SameContents) (paths : NamedPaths) (live_la
       publish-makes-own (carried (publish_call x) f) (published_there (map.get f x.path) (map.get f x.after) told)
       (published_absent (map.get f x.path) (map.get f x.after) told)
       (Answers-Changed (publish_call x) (answers.Published published.Created) f told)
+
+  -- what is there then of a compaction
+  pub compacted-whole : (plan : Plan) → own.intent ≡ intents.Compact plan → Answers (publish_call x) (answers.Published published.Created) f
+      → HasCompacted (carried (publish_call x) f) s t.newest own.author plan
+  compacted-whole plan is told =
+      let after : Files = carried (publish_call x) f in
+      plan-compacts after
+      (subst (λ (y : Publishing). map.get f y.path ≡ None) last-is (published_absent (map.get f x.path) (map.get f x.after) told))
+      (subst (λ (y : Publishing). IsSome (map.get f y.after)) last-is (published_there (map.get f x.path) (map.get f x.after) told))
+      (subst (λ (y : Publishing). Puts f y.path (Some y.bytes) after) last-is (Answers-Changed (publish_call x) (answers.Published published.Created) f told))
+      plan is
