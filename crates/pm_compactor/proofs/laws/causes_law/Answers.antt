@@ -1,0 +1,14 @@
+use Rattle.pm_compactor.proofs.CauseLemmas.{CauseLaws, causes}
+use Rattle.pm_compactor.proofs.laws.causes_law.Goals as goal
+
+pub returns : goal.returns
+returns c =
+    let laws : CauseLaws = record {
+      committer = c.causes_law.ensures;
+      files = c.causes_law-2.ensures;
+      view = c.causes_law-3.ensures;
+      one = c.one_contents_law.ensures;
+      live = c.entries_law.ensures;
+      whole = c.whole_law.ensures;
+    } in
+    causes laws
