@@ -1,5 +1,5 @@
 -- Of files that a store leaves, and of what is known of an execution.
-use Rattle.std.proofs.Common.{◌≡◌, ◌≤◌, ◌+◌, ℕ, nat_lt, Bool, true, false, if◌then◌else◌, List, [], ◌∷◌, ◌++◌, length, Option, None, Some, IsSomeAnd, ◌==◌, ◌⊎◌, codes, decimal, inl, inr, refl, sym, subst, ap, ◌∙◌, length-append, take_all, arith}
+use Rattle.std.proofs.Common.{◌≡◌, ◌≢◌, ◌≤◌, ◌+◌, ℕ, suc, nat_lt, Bool, true, false, if◌then◌else◌, List, [], ◌∷◌, ◌++◌, length, Option, None, Some, IsSomeAnd, ◌==◌, ◌⊎◌, codes, decimal, inl, inr, refl, sym, subst, ap, ◌∙◌, length-append, take_all, arith}
 use Rattle.std.specs.Option.{option_or}
 use Rattle.std.proofs.lemmas.Bool.Decides.{nat_tests}
 use Rattle.pm_values.specs.declared.refusal.Refusal.{Refusal}
@@ -10,7 +10,9 @@ use Rattle.pm_store.specs.Images.{AllImages, Extends}
 use Rattle.pm_store.specs.Store.{StoreView}
 use Rattle.pm_model_history.specs.History.{Entry, History, no_table, table}
 use Rattle.pm_schema.specs.declared.schema.TableSchema.{TableSchema}
-use Rattle.pm_model_folder.specs.Changes.{Actor}
+use Rattle.pm_snapshot.specs.Names.{greatest}
+use Rattle.pm_model_folder.specs.Changes.{Actor, origin_name}
+use Rattle.pm_model_folder.specs.Folder.{HasTable}
 use Rattle.pm_options.specs.declared.kinds.Producer.{Producer}
 use Rattle.pm_options.specs.declared.kinds.Producer.TheVariants as producers
 use Rattle.pm_create.specs.Making.{LeavesFiles}
@@ -195,6 +197,23 @@ schema_not s snapshot (inr why) = unsupported s (refusals.SinkFault snapshot) wh
 
 pub sink_same : (one other : Option ℕ) → refusals.SinkFault one ≡ refusals.SinkFault other → one ≡ other
 sink_same one other is = cc
+
+-- ---- one history at a time
+
+-- files that stand for a history have no snapshot more
+pub one_more : (f : Files) (s : TableSchema) (es : List Entry) (e : Entry) → HasTable f s es → HasTable f s (es ++ e ∷ []) → ⊥
+one_more f s es e less greater =
+    let count : length (es ++ e ∷ []) ≡ length es + 1 = length-append es (e ∷ []) in
+    let most = greater.snapshots.within in
+    let low = greater.snapshots.some in
+    let within : suc (length es) ≤ greatest = omega (arith, count, most) in
+    let low_enough : greater.snapshots.least ≤ suc (length es) = omega (arith, count, low) in
+    let there = (greater.snapshots.exact (suc (length es)) within).1 (low_enough, omega (arith, count)) in
+    let high = ((less.snapshots.exact (suc (length es)) within).0 there).1 in
+    omega (arith, high)
+
+pub other_than : (me other : Actor) → HaveOtherNames me other → other ≢ me
+other_than me other names same = names (ap origin_name same)
 
 -- ---- refusals but that of the sink
 

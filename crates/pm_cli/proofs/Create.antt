@@ -35,7 +35,7 @@ use Rattle.pm_command.specs.declared.start.Start.{Start}
 use Rattle.pm_command_create.specs.Create as create
 use Rattle.pm_command_create.specs.Create.{ActsCreate, CreatesTable, IsDraftOf, IsImage, LeavesTable, StandsForEither, created_text, its_table}
 use Rattle.pm_cli.specs.InTurn.{IsExecuted}
-use Rattle.pm_cli.specs.Promise.{Does, Execution, HasMade, Keeps, KeepsIt, MayMake, StandsForOthers, creates}
+use Rattle.pm_cli.specs.Promise.{Does, Execution, HasMade, Keeps, KeepsIt, MayMake, StandsForOthers, creates, found_by}
 use Rattle.pm_cli.specs.Start.{HaveOtherNames, IsNew, changed_path, snapshot_made}
 use Rattle.pm_cli.proofs.Common.{NotSink, StandsForSomeFreely, WasNew, any_files, extends_each, leaves_both, leaves_each, leaves_some, leaves_weaker, makes_nothing, sink_same, with_command}
 use Rattle.pm_cli.proofs.Origin.{FolderKept, IsKept, all_kept, create_calls}
@@ -86,8 +86,8 @@ module _ (e : Execution) (h : History) where
   abbrev it : Execution
   it = with_command commands.Create e
 
-  does : (s : TableSchema) → h ≡ no_table → IsDraftOf e.start e.input s → Does e.start e.input commands.Create h (table s []) created_text
-  does s none draft = subst (λ (h : History). Does e.start e.input commands.Create h (table s []) created_text) (sym none) (creates s draft)
+  does : (s : TableSchema) → h ≡ no_table → IsDraftOf e.start e.input s → Does e.start e.input (found_by e) commands.Create h (table s []) created_text
+  does s none draft = subst (λ (h : History). Does e.start e.input (found_by e) commands.Create h (table s []) created_text) (sym none) (creates s draft)
 
   abbrev IsEnd : Option Refusal → Files → Type 0
   IsEnd answer f = (later : History) × (HasMade it h answer later × MayMake it h later) × Folder f later
@@ -176,7 +176,7 @@ new_made law e other later f names (inl same) folder =
     (record { folder = subst (λ (later : History). Folder f later) same folder; origin = tt; names = λ t id path is low high named by. is })
 new_made law e other later f names (inr (text, does)) folder = by later text does folder
   where
-    by : (later : History) (text : List ℕ) → Does e.start e.input commands.Create no_table later text → Folder f later → IsNew other later f
+    by : (later : History) (text : List ℕ) → Does e.start e.input (found_by e) commands.Create no_table later text → Folder f later → IsNew other later f
     by later text (creates s draft) folder =
         record { folder = folder; origin = no_origin law e.start e.input s other draft names; names = none_named other s f }
 

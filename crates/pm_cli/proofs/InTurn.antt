@@ -25,7 +25,7 @@ use Rattle.pm_command.proofs.Uncalled.{next_stands}
 use Rattle.pm_command_create.specs.Create.{IsDraftOf}
 use Rattle.pm_command_write.specs.Write.{entry_by, writer_of}
 use Rattle.pm_cli.specs.InTurn.{AreInTurn, Ending, HaveOwnNames, IsExecuted, HandsOn, MakeInTurn, MakesBy, Turn, ended, others_op, seen_by_another, stopped, to_its_end}
-use Rattle.pm_cli.specs.Promise.{Does, Execution, Keeps, KeepsIt, HasMade, MayMake, StandsForOthers, commits, creates, has_already, scans, takes_none}
+use Rattle.pm_cli.specs.Promise.{Does, Execution, Keeps, KeepsIt, HasMade, MayMake, StandsForOthers, commits, creates, found_by, has_already, scans, takes_none}
 use Rattle.pm_cli.specs.Start.{HaveOtherNames, IsNew, MayStart}
 use Rattle.pm_cli.proofs.Common.{StandsForSomeFreely, leaves_some, leaves_weaker}
 use Rattle.pm_cli.proofs.First.{acts_goes_on, first_same, from_before}
@@ -126,9 +126,9 @@ at_nothing P store is here = subst (λ (ops : Option (List Op)). IsSomeAnd ops (
 -- ---- three commands
 
 -- a table, and what it takes
-pub created : (start : Start) (bytes text : List ℕ) (later : History) → Does start bytes commands.Create no_table later text
+pub created : (start : Start) (bytes text : List ℕ) (found : StoreView) (later : History) → Does start bytes found commands.Create no_table later text
     → (s : TableSchema) × IsDraftOf start bytes s × (later ≡ table s [])
-created start bytes text later (creates s draft) = (s, draft, refl)
+created start bytes text found later (creates s draft) = (s, draft, refl)
 
 none_at : (i : ℕ) (e : Entry) → slice_get [] i ≡ Some e → ⊥
 none_at i e is = let no : None ≡ Some e = is in cc
@@ -138,28 +138,28 @@ abbrev Takes : TableSchema → List ℕ → History → Type 0
 Takes s bytes later = (rows : List HistoryRow) × (all_taken s (row_lines bytes) ≡ Ok rows)
     × ((es : List Entry) × (later ≡ table s es) × (rows_up_to es (length es) ≡ rows))
 
-wrote : (start : Start) (bytes text : List ℕ) (user : Option (List ℕ)) (number : Option ℕ) (s : TableSchema) (later : History)
-    → Does start bytes (commands.Write user number) (table s []) later text → Takes s bytes later
-wrote start bytes text user number s later (takes_none u n t es took) = ([], took, ([], refl, refl))
-wrote start bytes text user number s later (has_already name n t es rows i e took some at reached) = absurd (none_at i e at)
-wrote start bytes text user number s later (commits u n t es rows took some) =
+wrote : (start : Start) (bytes text : List ℕ) (found : StoreView) (user : Option (List ℕ)) (number : Option ℕ) (s : TableSchema) (later : History)
+    → Does start bytes found (commands.Write user number) (table s []) later text → Takes s bytes later
+wrote start bytes text found user number s later (takes_none u n t es took) = ([], took, ([], refl, refl))
+wrote start bytes text found user number s later (has_already name n t es rows i e took some at reached borne) = absurd (none_at i e at)
+wrote start bytes text found user number s later (commits u n t es rows took some) =
     (rows, took, (entry_by start (writer_of user number) rows ∷ [], refl, append-nil rows))
 
-scanned : (start : Start) (bytes : List ℕ) (s : TableSchema) (es : List Entry) (later : History) (text : List ℕ)
-    → Does start bytes (commands.Scan None) (table s es) later text → text ≡ scan_text s (rows_up_to es (length es))
-scanned start bytes s es later text (scans at t entries within) = refl
+scanned : (start : Start) (bytes : List ℕ) (found : StoreView) (s : TableSchema) (es : List Entry) (later : History) (text : List ℕ)
+    → Does start bytes found (commands.Scan None) (table s es) later text → text ≡ scan_text s (rows_up_to es (length es))
+scanned start bytes found s es later text (scans at t entries within) = refl
 
 -- what a command did that succeeded
 pub does_at : (e : Execution) (h later : History) (command : Command) → e.command ≡ command → e.refusal ≡ None → HasMade e h e.refusal later
-    → (text : List ℕ) × Does e.start e.input command h later text × (e.after.out.taken ≡ and_then e.before.out.taken text)
+    → (text : List ℕ) × Does e.start e.input (found_by e) command h later text × (e.after.out.taken ≡ and_then e.before.out.taken text)
 does_at e h later command is done makes =
     let made = subst (λ (refusal : Option Refusal). HasMade e h refusal later) done makes in
-    (made.0, subst (λ (command : Command). Does e.start e.input command h later made.0) is made.1, made.2)
+    (made.0, subst (λ (command : Command). Does e.start e.input (found_by e) command h later made.0) is made.1, made.2)
 
 -- it stood on this history
-does_on : (start : Start) (bytes text : List ℕ) (command : Command) (h at later : History) → h ≡ at → Does start bytes command h later text
-    → Does start bytes command at later text
-does_on start bytes text command h at later is = subst (λ (h : History). Does start bytes command h later text) is
+does_on : (start : Start) (bytes text : List ℕ) (found : StoreView) (command : Command) (h at later : History) → h ≡ at
+    → Does start bytes found command h later text → Does start bytes found command at later text
+does_on start bytes text found command h at later is = subst (λ (h : History). Does start bytes found command h later text) is
 
 abbrev pub FirstSteps : Execution → Execution → Execution → Type 0
 FirstSteps create write scan = (s : TableSchema) × (rows : List HistoryRow) × IsDraftOf create.start create.input s
@@ -171,13 +171,13 @@ pub first_steps : (create write scan : Execution) (user : Option (List ℕ)) (nu
     → (last : History) → MakeInTurn (to_its_end create ∷ to_its_end write ∷ to_its_end scan ∷ []) no_table last → FirstSteps create write scan
 first_steps create write scan user number is_create created_it is_write wrote_it is_scan scanned_it last (one, makes_one, (two, makes_two, (three, makes_three, end))) =
     let first = does_at create no_table one commands.Create is_create created_it makes_one in
-    let made = created create.start create.input first.0 one first.1 in
+    let made = created create.start create.input first.0 (found_by create) one first.1 in
     let s = made.0 in
     let second = does_at write one two (commands.Write user number) is_write wrote_it makes_two in
-    let took = wrote write.start write.input second.0 user number s two
-    (does_on write.start write.input second.0 (commands.Write user number) one (table s []) two made.2 second.1) in
+    let took = wrote write.start write.input second.0 (found_by write) user number s two
+    (does_on write.start write.input second.0 (found_by write) (commands.Write user number) one (table s []) two made.2 second.1) in
     let es = took.2.0 in
     let third = does_at scan two three (commands.Scan None) is_scan scanned_it makes_three in
-    let text = scanned scan.start scan.input s es three third.0
-    (does_on scan.start scan.input third.0 (commands.Scan None) two (table s es) three took.2.1 third.1) in
+    let text = scanned scan.start scan.input (found_by scan) s es three third.0
+    (does_on scan.start scan.input third.0 (found_by scan) (commands.Scan None) two (table s es) three took.2.1 third.1) in
     (s, took.0, made.1, took.1, third.2 ∙ ap (and_then scan.before.out.taken) (text ∙ ap (scan_text s) took.2.2))

@@ -1,4 +1,5 @@
 mod Common
+mod Compact
 mod Create
 mod First
 mod InTurn

@@ -1,5 +1,5 @@
 -- What a command promises that ran out of memory before it did anything.
-use Rattle.std.proofs.Common.{inl, ℕ, List, [], Option, None, Some, IfSome, Err, refl}
+use Rattle.std.proofs.Common.{inl, ℕ, Bool, List, [], Option, None, Some, IfSome, Err, refl}
 use Rattle.pm_values.specs.declared.refusal.Refusal.TheVariants as refusals
 use Rattle.pm_io.specs.Sink.{SinkView}
 use Rattle.pm_io.specs.Source.{SourceView}
@@ -14,10 +14,12 @@ use Rattle.pm_words.specs.declared.command.Command.TheVariants as commands
 use Rattle.pm_command.specs.Outside.{outside}
 use Rattle.pm_command.specs.declared.start.Start.{Start}
 use Rattle.pm_cli.specs.Commands.{Acts, Answers, ServesHistories}
+use Rattle.pm_command_compact.specs.Compact as compact
 use Rattle.pm_command_scan.specs.Scan as scan
 use Rattle.pm_command_snapshots.specs.Snapshots as snapshots
 use Rattle.pm_command_write.specs.Write.{writer_of}
 use Rattle.pm_command_create.proofs.CreateLaws.{nothing_made}
+use Rattle.pm_command_compact.proofs.CompactLaws as compacts
 use Rattle.pm_command_scan.proofs.ScanLaws as scans
 use Rattle.pm_command_snapshots.proofs.SnapshotLaws as lists
 use Rattle.pm_command_write.proofs.WriteLaws.{input_acts, input_refused, refused_serves}
@@ -39,6 +41,12 @@ listed_none out store =
     lists.refused_listed refusals.Memory out store store (lists.read_refused refusals.Memory store store (read_none store))
     (lists.read_keeps refusals.Memory store store (reads_none store))
 
+compacted_none : (start : Start) (full : Bool) (out : SinkView) (store : StoreView)
+    → compact.IsCompacted start full out out store store (Some refusals.Memory)
+compacted_none start full out store =
+    compacts.refused_compacted start full refusals.Memory out store store (compacts.read_refused start full refusals.Memory store store (read_none store))
+    (compacts.read_keeps start full refusals.Memory store store (reads_none store))
+
 any_bytes : (left : Option (List ℕ)) → IfSome left (λ bytes. Unit {0})
 any_bytes None = tt
 any_bytes (Some bytes) = tt
@@ -51,6 +59,8 @@ module _ (start : Start) (input : SourceView) (out : SinkView) (store : StoreVie
       (refl, scans.scanned_answers at (outside input out store) (outside input out store) (Some refusals.Memory) (scanned_none at out store))
   nothing_answers commands.Snapshots =
       (refl, lists.listed_answers (outside input out store) (outside input out store) (Some refusals.Memory) (listed_none out store))
+  nothing_answers (commands.Compact full) =
+      (refl, compacts.compacted_answers start full (outside input out store) (outside input out store) (Some refusals.Memory) (compacted_none start full out store))
 
   pub nothing_acts : (command : Command) → Acts command start (outside input out store) (outside input out store) (Some refusals.Memory)
   nothing_acts commands.Create = inl (refusals.Memory, refl, tt, record { store = refl; out = refl })
@@ -58,6 +68,8 @@ module _ (start : Start) (input : SourceView) (out : SinkView) (store : StoreVie
   nothing_acts (commands.Scan at) =
       scans.scanned_answers at (outside input out store) (outside input out store) (Some refusals.Memory) (scanned_none at out store)
   nothing_acts commands.Snapshots = lists.listed_answers (outside input out store) (outside input out store) (Some refusals.Memory) (listed_none out store)
+  nothing_acts (commands.Compact full) =
+      compacts.compacted_answers start full (outside input out store) (outside input out store) (Some refusals.Memory) (compacted_none start full out store)
 
   pub nothing_serves : (command : Command) → ServesHistories command start (outside input out store) (outside input out store) (Some refusals.Memory)
   nothing_serves commands.Create = nothing_made start input out store
@@ -66,3 +78,5 @@ module _ (start : Start) (input : SourceView) (out : SinkView) (store : StoreVie
   nothing_serves (commands.Scan at) =
       scans.scanned_serves at (outside input out store) (outside input out store) (Some refusals.Memory) (scanned_none at out store)
   nothing_serves commands.Snapshots = lists.listed_serves (outside input out store) (outside input out store) (Some refusals.Memory) (listed_none out store)
+  nothing_serves (commands.Compact full) =
+      compacts.compacted_serves start full (outside input out store) (outside input out store) (Some refusals.Memory) (compacted_none start full out store)

@@ -8,7 +8,6 @@ use Rattle.pm_values.specs.declared.refusal.Refusal.TheVariants as refusals
 use Rattle.pm_io.specs.Sink.{SinkView}
 use Rattle.pm_machine.specs.Trace.{Event}
 use Rattle.pm_store.specs.Files.{Files}
-use Rattle.pm_store.specs.Store.{StoreView, at_first_own}
 use Rattle.pm_model_history.specs.History.{Entry, append, compaction, fence, History, no_table, table}
 use Rattle.pm_schema.specs.declared.schema.TableSchema.{TableSchema}
 use Rattle.pm_snapshot.specs.Names.{greatest}
@@ -29,7 +28,8 @@ use Rattle.pm_words.specs.declared.command.Command.TheVariants as commands
 use Rattle.pm_command.specs.Outside.{Prints}
 use Rattle.pm_command_snapshots.specs.Snapshots.{AnswersHistory, DidSnapshots, ListsSnapshots, text_of}
 use Rattle.pm_cli.specs.InTurn.{IsExecuted}
-use Rattle.pm_cli.specs.Promise.{AreLines, Does, Execution, Keeps, LineBears, HasMade, lists}
+use Rattle.pm_cli.specs.Promise.{Does, Execution, Keeps, HasMade, found_by, lists}
+use Rattle.pm_cli.specs.Snapshots.{AreLines, LineBears}
 use Rattle.pm_cli.proofs.Common.{any_both, makes_nothing, none_made, schema_not, sink_same, with_command}
 use Rattle.pm_cli.proofs.Resting.{SameStarts, resting, unprinted}
 
@@ -114,12 +114,13 @@ lines_are f s es lines stands are = record {
 
 -- ---- what it does
 
-does : (e : Execution) (h : History) (lines : List SnapshotLine) (first : StoreView) → h ≢ no_table → LeavesFiles (λ f. AreLinesOf f lines) first
-    → LeavesFiles (λ f. Folder f h) first → Does e.start e.input commands.Snapshots h h (snapshots_text lines)
-does e no_table lines first some are stands = absurd (some refl)
-does e (table s es) lines first some are stands =
+does : (e : Execution) (h : History) (lines : List SnapshotLine) → h ≢ no_table → LeavesFiles (λ f. AreLinesOf f lines) (found_by e)
+    → LeavesFiles (λ f. Folder f h) (found_by e) → Does e.start e.input (found_by e) commands.Snapshots h h (snapshots_text lines)
+does e no_table lines some are stands = absurd (some refl)
+does e (table s es) lines some are stands =
     lists s es lines
-    (any_both (λ f. Folder f (table s es)) (λ f. AreLinesOf f lines) (AreLines es lines) first (λ f folder are. lines_are f s es lines folder are) stands are)
+    (any_both (λ f. Folder f (table s es)) (λ f. AreLinesOf f lines) (AreLines es lines) (found_by e)
+    (λ f folder are. lines_are f s es lines folder are) stands are) are
 
 -- no calls of a listing show a fault of the sink
 not_shown : (own : List Event) (snapshot : Option ℕ) → DidSnapshots (Err (refusals.SinkFault snapshot)) own → ⊥
@@ -134,17 +135,17 @@ none_named (Ok lines) own before after snapshot did says = sink_same snapshot No
 none_named (Err e) own before after snapshot did says =
     absurd (not_shown own snapshot (subst (λ (e : Refusal). DidSnapshots (Err e) own) (let same : e ≡ refusals.SinkFault snapshot = cc in same) did))
 
-makes : (e : Execution) (h : History) (first : StoreView) (answer : Option Refusal) → ListsSnapshots e.before e.after answer
-    → LeavesFiles (λ f. Folder f h) first → AnswersHistory h first e.before e.after answer → HasMade (with_command commands.Snapshots e) h answer h
-makes e h first None acts stands (some, (lines, are, taken)) = (snapshots_text lines, does e h lines first some are stands, taken)
-makes e h first (Some (refusals.SinkFault snapshot)) (made, (own, did, traces), says) stands (failed, some, (lines, are, taken)) =
+makes : (e : Execution) (h : History) (answer : Option Refusal) → ListsSnapshots e.before e.after answer
+    → LeavesFiles (λ f. Folder f h) (found_by e) → AnswersHistory h (found_by e) e.before e.after answer
+    → HasMade (with_command commands.Snapshots e) h answer h
+makes e h None acts stands (some, (lines, are, taken)) = (snapshots_text lines, does e h lines some are stands, taken)
+makes e h (Some (refusals.SinkFault snapshot)) (made, (own, did, traces), says) stands (failed, some, (lines, are, taken)) =
     let none = none_named made own e.before.out e.after.out snapshot did says in
-    (snapshots_text lines, does e h lines first some are stands, taken, none ∙ none_made h)
-makes e h first (Some refusal) (made, trace, prints) stands may =
+    (snapshots_text lines, does e h lines some are stands, taken, none ∙ none_made h)
+makes e h (Some refusal) (made, trace, prints) stands may =
     makes_nothing (with_command commands.Snapshots e) h refusal tt (unprinted (text_of made) (result_err made) e.before.out e.after.out refusal tt prints)
 
 pub keeps : SameStarts → (e : Execution) → IsExecuted (with_command commands.Snapshots e) → Keeps (with_command commands.Snapshots e)
 keeps law e is = λ alone h stands input.
-    let first = at_first_own e.before.store e.after.store in
     let was = is.history alone h stands in
-    resting law (with_command commands.Snapshots e) h first (makes e h first e.refusal is.acts stands was.answers) was.rests was.images
+    resting law (with_command commands.Snapshots e) h (found_by e) (makes e h e.refusal is.acts stands was.answers) was.rests was.images

@@ -1,11 +1,11 @@
 -- The promise of `write`.
-use Rattle.std.proofs.Common.{◌≡◌, ◌≢◌, ◌⊎◌, inl, inr, ℕ, ℤ, suc, ◌+◌, ◌-◌, ◌≤◌, List, [], ◌∷◌, ◌++◌, length, length-append, slice_get, Bool, true, false, not, bytes_eq, int_lt, if◌then◌else◌, Option, None, Some, IsSome, Result, Ok, refl, sym, subst, ap, ◌∙◌, arith}
+use Rattle.std.proofs.Common.{◌≡◌, ◌⊎◌, inl, inr, ℕ, ℤ, zero, suc, ◌+◌, ◌-◌, ◌≤◌, List, [], ◌∷◌, ◌++◌, length, slice_get, Bool, true, false, not, bytes_eq, int_lt, if◌then◌else◌, Option, None, Some, IsSome, Result, Ok, refl, sym, ap, subst, ◌∙◌, arith}
 use Rattle.std.proofs.lemmas.Slice.Eq.{bytes_eq-Decides}
 use Rattle.pm_values.specs.declared.refusal.Refusal.{Refusal}
 use Rattle.pm_values.specs.declared.refusal.Refusal.TheVariants as refusals
 use Rattle.pm_store.specs.Files.{Files}
 use Rattle.pm_store.specs.Images.{Extends}
-use Rattle.pm_store.specs.Store.{StoreView, at_first_own}
+use Rattle.pm_store.specs.Store.{StoreView}
 use Rattle.pm_store.proofs.ImageLaws.{Extends-weaker}
 use Rattle.pm_model_history.specs.History.{Entry, append, compaction, fence, History, no_table, table}
 use Rattle.pm_model_history.specs.Merge.{HistoryRow}
@@ -13,10 +13,11 @@ use Rattle.pm_input.specs.Lines.{row_lines}
 use Rattle.pm_schema.specs.declared.schema.TableSchema.{TableSchema}
 use Rattle.pm_snapshot.specs.declared.snapshot.Snapshot.{Snapshot}
 use Rattle.pm_snapshot.specs.Names.{greatest}
-use Rattle.pm_model_folder.specs.Changes.{Actor, IsNoOrigin, origin_name}
+use Rattle.pm_model_folder.specs.Changes.{Actor, IsNoOrigin}
 use Rattle.pm_model_folder.specs.Entries.{BearsEntry}
 use Rattle.pm_model_folder.specs.Folder.{Folder, HasTable, IsFrom}
 use Rattle.pm_model_folder.specs.Ledger.{count_of}
+use Rattle.pm_model_folder.specs.Meaning.{SnapshotAt}
 use Rattle.pm_create.specs.Creator.{own_origin}
 use Rattle.pm_create.specs.Making.{LeavesFiles}
 use Rattle.pm_write.specs.Taken.{all_taken}
@@ -26,18 +27,19 @@ use Rattle.pm_commit.specs.AllCalls as commit
 use Rattle.pm_commit.specs.Search.{seen_of}
 use Rattle.pm_commit.specs.declared.search.Seen.TheVariants as seen
 use Rattle.pm_words.specs.declared.command.Command.TheVariants as commands
-use Rattle.pm_command.specs.Outside.{actor}
+use Rattle.pm_command.specs.Outside.{actor, next_path}
 use Rattle.pm_command.specs.declared.start.Start.{Start}
 use Rattle.pm_command_write.specs.Input.{RefusesInput}
-use Rattle.pm_command_write.specs.Write.{AnswersHistory, AnswersLines, Becomes, BeginsWith, HasRows, HasRowsAs, IsImage, Lines, MayStartAfter, Spoils, StandsAfterFault, TakesRows, WritesTable, author_of, entry_by, next_path, snapshot_of, text_of, writer_of}
+use Rattle.pm_command_write.specs.Write.{AnswersHistory, AnswersLines, Becomes, BeginsWith, HasRows, HasRowsAs, IsImage, Lines, MayStartAfter, Spoils, StandsAfterFault, TakesRows, WritesTable, author_of, entry_by, snapshot_of, text_of, writer_of}
 use Rattle.pm_command_write.specs.declared.writer.Writer.{Writer}
 use Rattle.pm_command_write.specs.declared.write.Written.{Written}
 use Rattle.pm_command_write.specs.declared.write.Written.TheVariants as written
 use Rattle.pm_io.specs.Source.{SourceView}
 use Rattle.pm_cli.specs.InTurn.{IsExecuted}
-use Rattle.pm_cli.specs.Promise.{Does, Execution, HasReached, Keeps, KeepsIt, HasMade, MayMake, StandsForOthers, commits, has_already, takes_none}
-use Rattle.pm_cli.specs.Start.{HaveOtherNames, IsNew, snapshot_made}
-use Rattle.pm_cli.proofs.Common.{NotSink, StandsForSome, StandsForSomeFreely, WasNew, any_both, any_files, extends_each, extends_end, leaves_each, leaves_some, leaves_weaker, makes_nothing, none_made, one_made, with_command}
+use Rattle.pm_cli.specs.Promise.{Does, Execution, Keeps, KeepsIt, HasMade, MayMake, StandsForOthers, commits, found_by, has_already, takes_none}
+use Rattle.pm_cli.specs.Snapshots.{HasReached, IsReachedAt}
+use Rattle.pm_cli.specs.Start.{IsNew, snapshot_made}
+use Rattle.pm_cli.proofs.Common.{NotSink, StandsForSome, StandsForSomeFreely, WasNew, any_files, any_here, extends_each, extends_end, leaves_both, leaves_each, leaves_some, leaves_weaker, makes_nothing, none_made, one_made, one_more, other_than, with_command}
 use Rattle.pm_cli.proofs.Snapshots.{bears_entry, from_there}
 
 -- ---- an earlier commit of the user
@@ -65,37 +67,33 @@ entry_reached (append name number rows) x author bears is =
 entry_reached (compaction base groups) x author bears is = tt
 entry_reached (fence number) x author bears is = tt
 
-abbrev Reaches : Author → List Entry → Type 0
-Reaches author es = (i : ℕ) × (e : Entry) × (slice_get es i ≡ Some e) × HasReached author.user author.identifier e
+abbrev Reaches : Author → List Entry → Files → Type 0
+Reaches author es f = (i : ℕ) × (e : Entry) × (slice_get es i ≡ Some e) × HasReached author.user author.identifier e
+    × IsReachedAt (suc i) author.user author.identifier f
 
-at_entry : (author : Author) (es : List Entry) (x : Snapshot) (i : ℕ) (o : Option Entry) → slice_get es i ≡ o → BearsEntry o x
-    → seen_of author x ≡ seen.Reached → Reaches author es
-at_entry author es x i None at bears is = absurd bears
-at_entry author es x i (Some e) at bears is = (i, e, at, entry_reached e x author bears is)
+at_entry : (author : Author) (es : List Entry) (f : Files) (x : Snapshot) (i : ℕ) (o : Option Entry) → slice_get es i ≡ o → BearsEntry o x
+    → seen_of author x ≡ seen.Reached → SnapshotAt f (suc i) x → Reaches author es f
+at_entry author es f x i None at bears is there = absurd bears
+at_entry author es f x i (Some e) at bears is there =
+    let reached = seen_reached author x is in
+    (i, e, at, entry_reached e x author bears is, (x, there, reached.0, reached.1))
 
-borne : (f : Files) (s : TableSchema) (es : List Entry) (author : Author) → HasTable f s es → HasBorne author f (table s es) → Reaches author es
+suc_less : (id : ℕ) → 1 ≤ id → suc (id - 1) ≡ id
+suc_less zero low = absurd (omega (arith, low))
+suc_less (suc k) low = let same : suc k - 1 ≡ k = omega arith in ap suc same
+
+borne : (f : Files) (s : TableSchema) (es : List Entry) (author : Author) → HasTable f s es → HasBorne author f (table s es) → Reaches author es f
 borne f s es author stands was =
     let most = stands.snapshots.within in
     let to : was.id ≤ length es = was.within in
     let within : was.id ≤ greatest = omega (arith, to, most) in
     let there = subst (λ (o : Option (List ℕ)). IsSome o) (sym was.there.1) refl in
     let from : IsFrom stands.snapshots.least (length es) was.id = from_there f s es stands was.id was.after_origin within there in
-    at_entry author es was.snapshot (was.id - 1) (slice_get es (was.id - 1)) refl
+    at_entry author es f was.snapshot (was.id - 1) (slice_get es (was.id - 1)) refl
     (bears_entry f s es stands was.id was.snapshot was.there from) was.reached
+    (subst (λ (id : ℕ). SnapshotAt f id was.snapshot) (sym (suc_less was.id was.after_origin)) was.there)
 
 -- ---- one history at a time
-
--- files that stand for a history have no snapshot more
-one_more : (f : Files) (s : TableSchema) (es : List Entry) (e : Entry) → HasTable f s es → HasTable f s (es ++ e ∷ []) → ⊥
-one_more f s es e less greater =
-    let count : length (es ++ e ∷ []) ≡ length es + 1 = length-append es (e ∷ []) in
-    let most = greater.snapshots.within in
-    let low = greater.snapshots.some in
-    let within : suc (length es) ≤ greatest = omega (arith, count, most) in
-    let low_enough : greater.snapshots.least ≤ suc (length es) = omega (arith, count, low) in
-    let there = (greater.snapshots.exact (suc (length es)) within).1 (low_enough, omega (arith, count)) in
-    let high = ((less.snapshots.exact (suc (length es)) within).0 there).1 in
-    omega (arith, high)
 
 ok_same : (taken : Result (List HistoryRow) Refusal) (a b : List HistoryRow) → taken ≡ Ok a → taken ≡ Ok b → a ≡ b
 ok_same taken a b is other = cc
@@ -111,7 +109,7 @@ module _ (user : Option (List ℕ)) (number : Option ℕ) (e : Execution) where
   lines = row_lines e.input
 
   abbrev Done : History → History → List ℕ → Type 0
-  Done h later text = Does e.start e.input (commands.Write user number) h later text
+  Done h later text = Does e.start e.input (found_by e) (commands.Write user number) h later text
 
   -- ---- the rows are at the end of the history
 
@@ -154,19 +152,24 @@ none_some : (o : Option (List ℕ)) → o ≡ None → IsSome o → ⊥
 none_some o none is = cc
 
 already_named : (name : List ℕ) (number : Option ℕ) (e : Execution) (h : History) (f : Files) → Was (Some name) number e h f → Folder f h
-    → Done (Some name) number e h h (text_of (Ok written.Already))
-already_named name number e no_table f begins folder = absurd begins.takes.1
-already_named name number e (table t es) f begins folder =
+    → ((T : Files → Type 0) → T f → LeavesFiles T (found_by e)) → Done (Some name) number e h h (text_of (Ok written.Already))
+already_named name number e no_table f begins folder here = absurd begins.takes.1
+already_named name number e (table t es) f begins folder here =
     let took = taken_by (Some name) number e t begins.takes.0 begins.rows begins.takes.1 begins.takes.2 in
-    let found : Reaches (author_of e.start (writer_of (Some name) number)) es = borne f t es (author_of e.start (writer_of (Some name) number)) folder begins.is in
+    let author = author_of e.start (writer_of (Some name) number) in
+    let found : Reaches author es f = borne f t es author folder begins.is in
     has_already name number t es begins.rows found.0 found.1 took begins.some found.2 found.3
+    (here (IsReachedAt (suc found.0) author.user author.identifier) found.4)
 
-already_done : (user : Option (List ℕ)) (number : Option ℕ) (e : Execution) (h : History) (first : StoreView) → IsSome user
-    → LeavesFiles (Was user number e h) first → LeavesFiles (λ f. Folder f h) first → Done user number e h h (text_of (Ok written.Already))
-already_done None number e h first some was stands = absurd (none_some None refl some)
-already_done (Some name) number e h first some was stands =
-    any_both (Was (Some name) number e h) (λ f. Folder f h) (Done (Some name) number e h h (text_of (Ok written.Already))) first
-    (λ f was folder. already_named name number e h f was folder) was stands
+already_done : (user : Option (List ℕ)) (number : Option ℕ) (e : Execution) (h : History) → IsSome user
+    → LeavesFiles (Was user number e h) (found_by e) → LeavesFiles (λ f. Folder f h) (found_by e)
+    → Done user number e h h (text_of (Ok written.Already))
+already_done None number e h some was stands = absurd (none_some None refl some)
+already_done (Some name) number e h some was stands =
+    any_here (λ f. Was (Some name) number e h f × Folder f h) (Done (Some name) number e h h (text_of (Ok written.Already))) (found_by e)
+    (λ f both here. already_named name number e h f both.0 both.1 here)
+    (leaves_both (Was (Some name) number e h) (λ f. Folder f h) (λ f. Was (Some name) number e h f × Folder f h) (found_by e)
+    (λ f was folder. (was, folder)) was stands)
 
 abbrev NotStore : Refusal → Type 0
 NotStore (refusals.StoreFault path) = ⊥
@@ -189,9 +192,12 @@ not_sink_input : (bytes : List ℕ) (before after : SourceView) (e : Refusal) �
 not_sink_input bytes before after (refusals.SinkFault snapshot) refuses = absurd refuses
 not_sink_input bytes before after e refuses = tt
 
-module _ (user : Option (List ℕ)) (number : Option ℕ) (e : Execution) (h : History) (first : StoreView) (stands : LeavesFiles (λ f. Folder f h) first) where
+module _ (user : Option (List ℕ)) (number : Option ℕ) (e : Execution) (h : History) (stands : LeavesFiles (λ f. Folder f h) (found_by e)) where
   abbrev after : StoreView
   after = e.after.store
+
+  abbrev first : StoreView
+  first = found_by e
 
   -- ---- what became of the lines
 
@@ -200,7 +206,7 @@ module _ (user : Option (List ℕ)) (number : Option ℕ) (e : Execution) (h : H
 
   did : (done : Written) → Becomes e.start (w user number e) (lines user number e) h first after done → Did done
   did written.Nothing becomes = (h, (none_done user number e h becomes.0, none_made h), becomes.1.folder)
-  did written.Already becomes = (h, (already_done user number e h first becomes.0 becomes.1 stands, none_made h), becomes.2.folder)
+  did written.Already becomes = (h, (already_done user number e h becomes.0 becomes.1 stands, none_made h), becomes.2.folder)
   did (written.Committed id) becomes =
       leaves_some (λ later. Done user number e h later (text_of (Ok (written.Committed id))) × (Some id ≡ snapshot_made h later)) (λ later f. Folder f later) after
       (leaves_weaker (HasRows e.start (w user number e) (lines user number e) h) (DoneAs user number e (λ h f. Folder f h) h id) after
@@ -265,10 +271,10 @@ new_with_rows user number e t es other f rows origin took folder (inr has) =
 
 new_done : (user : Option (List ℕ)) (number : Option ℕ) (e : Execution) (t : TableSchema) (es : List Entry) (other : Actor) (f : Files)
     (later : History) (text : List ℕ) → IsNoOrigin (table t es) (own_origin other)
-    → Does e.start e.input (commands.Write user number) (table t es) later text → Folder f later → MayNow user number e (table t es) other f
+    → Does e.start e.input (found_by e) (commands.Write user number) (table t es) later text → Folder f later → MayNow user number e (table t es) other f
     → IsNew other later f
 new_done user number e t es other f later text origin (takes_none u n s entries took) folder starts = new_here user number e t es other f origin folder starts
-new_done user number e t es other f later text origin (has_already name n s entries rows i entry took some at reached) folder starts =
+new_done user number e t es other f later text origin (has_already name n s entries rows i entry took some at reached there) folder starts =
     new_here (Some name) number e t es other f origin folder starts
 new_done user number e t es other f later text origin (commits u n s entries rows took some) folder starts =
     new_with_rows user number e t es other f rows origin took folder starts
@@ -290,20 +296,18 @@ new_end user number e no_table later other f origin (inl same) folder (inl may) 
 new_end user number e no_table later other f origin (inr (text, does)) folder (inl may) = elim does [ ]
 new_end user number e (table t es) later other f origin make folder starts = new_at_end user number e t es later other f origin make folder starts
 
-another : (me other : Actor) → HaveOtherNames me other → other ≢ me
-another me other names same = names (ap origin_name same)
-
-keeps_it : (user : Option (List ℕ)) (number : Option ℕ) (e : Execution) (h : History) (first : StoreView) → LeavesFiles (λ f. Folder f h) first
-    → WritesTable e.start (writer_of user number) e.input h first e.before e.after e.refusal
-    → KeepsIt (with_command (commands.Write user number) e) h first
-keeps_it user number e h first stands was =
+keeps_it : (user : Option (List ℕ)) (number : Option ℕ) (e : Execution) (h : History) → LeavesFiles (λ f. Folder f h) (found_by e)
+    → WritesTable e.start (writer_of user number) e.input h (found_by e) e.before e.after e.refusal
+    → KeepsIt (with_command (commands.Write user number) e) h (found_by e)
+keeps_it user number e h stands was =
+    let first = found_by e in
     let after = e.after.store in
     let own : Execution = with_command (commands.Write user number) e in
-    let end = ended user number e h first stands e.refusal was.answers in
+    let end = ended user number e h stands e.refusal was.answers in
     let known : LeavesFiles (λ f. Unit {0}) first = leaves_weaker (λ f. Folder f h) (λ f. Unit {0}) first (λ f folder. tt) stands in
     let AfterIt : Actor → Files → Type 0 = λ other. MayStartAfter other e.start (writer_of user number) (row_lines e.input) h in
     let starts : (other : Actor) → WasNew own h first other → Extends (AfterIt other) first.ops after.ops = λ other (names, new).
-    was.free other (another (actor e.start) other names)
+    was.free other (other_than (actor e.start) other names)
     (leaves_weaker (IsNew other h) (commit.MayStart other h) first (λ f is. (is.folder, is.names)) new) in
     let freely : (later : History) (f : Files) → MayMake own h later → Folder f later → ((other : Actor) → WasNew own h first other → AfterIt other f)
     → StandsForOthers own h first later f = λ later f make folder others. record {
@@ -330,6 +334,5 @@ keeps_it user number e h first stands was =
 pub keeps : (user : Option (List ℕ)) (number : Option ℕ) (e : Execution) → IsExecuted (with_command (commands.Write user number) e)
     → Keeps (with_command (commands.Write user number) e)
 keeps user number e is = λ alone h may input.
-    let first = at_first_own e.before.store e.after.store in
-    keeps_it user number e h first (leaves_weaker (commit.MayStart (actor e.start) h) (λ f. Folder f h) first (λ f may. may.0) may)
+    keeps_it user number e h (leaves_weaker (commit.MayStart (actor e.start) h) (λ f. Folder f h) (found_by e) (λ f may. may.0) may)
     (is.history alone h e.input may input)

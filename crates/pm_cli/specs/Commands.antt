@@ -4,6 +4,7 @@ use Rattle.pm_values.specs.declared.refusal.Refusal.{Refusal}
 use Rattle.pm_command_create.specs.Create.{AnswersCreate, ActsCreate, CreatesTables}
 use Rattle.pm_command.specs.Outside.{Outside}
 use Rattle.pm_command.specs.declared.start.Start.{Start}
+use Rattle.pm_command_compact.specs.Compact.{Compacts, CompactsTables}
 use Rattle.pm_command_scan.specs.Scan.{Scans, ScansTables}
 use Rattle.pm_command_snapshots.specs.Snapshots.{ListsSnapshots, ListsTables}
 use Rattle.pm_command_write.specs.Write.{AnswersWrite, ActsWrite, WritesTables, writer_of}
@@ -18,6 +19,8 @@ Answers (commands.Scan snapshot) start before after answer =
     (after.input ≡ before.input) × Scans snapshot before after answer
 Answers commands.Snapshots start before after answer =
     (after.input ≡ before.input) × ListsSnapshots before after answer
+Answers (commands.Compact full) start before after answer =
+    (after.input ≡ before.input) × Compacts start full before after answer
 Answers (commands.Write user identifier) start before after answer =
     (bytes : List ℕ) → before.input.left ≡ Some bytes
     → AnswersWrite start (writer_of user identifier) bytes before after answer
@@ -27,6 +30,7 @@ abbrev pub Acts : Command → Start → Outside → Outside → Option Refusal �
 Acts commands.Create start before after answer = ActsCreate start before after answer
 Acts (commands.Scan snapshot) start before after answer = Scans snapshot before after answer
 Acts commands.Snapshots start before after answer = ListsSnapshots before after answer
+Acts (commands.Compact full) start before after answer = Compacts start full before after answer
 Acts (commands.Write user identifier) start before after answer =
     ActsWrite start (writer_of user identifier) before after answer
 
@@ -35,5 +39,6 @@ abbrev pub ServesHistories : Command → Start → Outside → Outside → Optio
 ServesHistories commands.Create start before after answer = CreatesTables start before after answer
 ServesHistories (commands.Scan snapshot) start before after answer = ScansTables snapshot before after answer
 ServesHistories commands.Snapshots start before after answer = ListsTables before after answer
+ServesHistories (commands.Compact full) start before after answer = CompactsTables start full before after answer
 ServesHistories (commands.Write user identifier) start before after answer =
     WritesTables start (writer_of user identifier) before after answer

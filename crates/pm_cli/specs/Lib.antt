@@ -1,4 +1,5 @@
 pub mod Commands
 pub mod InTurn
 pub mod Promise
+pub mod Snapshots
 pub mod Start

@@ -1,77 +1,70 @@
 -- The promise: what each command does, in the words of histories, and what is so of all of them.
-use Rattle.std.specs.Prelude.{◌≡◌, ◌≢◌, ◌↔◌, ◌⊎◌, ℕ, suc, ◌≤◌, ℤ, int_lt, List, [], ◌∷◌, ◌++◌, codes, length, map}
-use Rattle.std.specs.Prelude.{Option, None, Some, Ok, false, Contains, decimal, slice_get}
-use Rattle.std.specs.List.{AllByRecursion}
-use Rattle.std.specs.List.Sorted.{IsStrictlyIncreasing}
+use Rattle.std.specs.Prelude.{◌≡◌, ◌≢◌, ◌⊎◌, ℕ, suc, ◌≤◌, List, [], ◌∷◌, ◌++◌, codes, length}
+use Rattle.std.specs.Prelude.{Bool, Option, None, Some, Ok, decimal, slice_get}
 use Rattle.pm_base.specs.Known.{and_then}
 use Rattle.pm_base.specs.Newline.{line}
+use Rattle.pm_values.specs.declared.group.Group.{Group}
 use Rattle.pm_values.specs.declared.refusal.Refusal.{Refusal}
 use Rattle.pm_values.specs.declared.refusal.Refusal.TheVariants as refusals
 use Rattle.pm_io.specs.Sink.{TookPrefix}
 use Rattle.pm_store.specs.Files.{Files}
 use Rattle.pm_store.specs.Images.{Extends}
-use Rattle.pm_store.specs.Store.{StoreView, FromFirst}
+use Rattle.pm_store.specs.Store.{StoreView, FromFirst, at_first_own}
 use Rattle.pm_input.specs.Lines.{row_lines}
 use Rattle.pm_schema.specs.declared.schema.TableSchema.{TableSchema}
-use Rattle.pm_model_history.specs.History.{Entry, append, History, no_table, table, rows_up_to}
+use Rattle.pm_model_history.specs.History.{Entry, compaction, History, no_table, table, rows_up_to}
 use Rattle.pm_model_history.specs.Merge.{HistoryRow}
 use Rattle.pm_model_history.specs.Merged.{scan_text}
 use Rattle.pm_model_folder.specs.Changes.{Actor}
-use Rattle.pm_model_folder.specs.Entries.{entry_at}
 use Rattle.pm_model_folder.specs.Folder.{Folder}
 use Rattle.pm_create.specs.Making.{LeavesFiles}
 use Rattle.pm_write.specs.Taken.{all_taken}
 use Rattle.pm_scan.specs.AllCalls.{id_of}
+use Rattle.pm_snapshots.specs.AllCalls.{AreLinesOf}
 use Rattle.pm_snapshots.specs.Lines.{snapshots_text}
 use Rattle.pm_snapshots.specs.declared.line.SnapshotLine.{SnapshotLine}
 use Rattle.pm_words.specs.declared.command.Command.{Command}
 use Rattle.pm_words.specs.declared.command.Command.TheVariants as commands
 use Rattle.pm_command.specs.Outside.{actor, Outside}
 use Rattle.pm_command.specs.declared.start.Start.{Start}
+use Rattle.pm_command_compact.specs.Compact.{HasChoice}
 use Rattle.pm_command_create.specs.Create.{IsDraftOf}
 use Rattle.pm_command_write.specs.Write.{entry_by, identifier_of, writer_of}
+use Rattle.pm_cli.specs.Snapshots.{AreLines, HasReached, IsReachedAt}
 use Rattle.pm_cli.specs.Start.{HasInput, HaveOtherNames, IsNew, MayStart, changed_path, snapshot_made}
 
--- a line of a snapshot bears the user and the identifier of its entry, where that is one of rows
-abbrev pub LineBears : Option Entry → SnapshotLine → Type 0
-LineBears (Some (append user identifier rows)) l = (l.user ≡ user) × (l.ident ≡ identifier)
-LineBears (Some other) l = Unit {0}
-LineBears None l = ⊥
+-- what is printed of a commit that comes after these entries
+abbrev pub committed_text : List Entry → List ℕ
+committed_text es = line (codes "snapshot " ++ decimal (suc (length es)))
 
--- lines of snapshots, rising: of all from some id on, the newest among them, each of its entry
-pub record AreLines (entries : List Entry) (lines : List SnapshotLine) : Type 0 where
-  pub least : ℕ
-  pub some : least ≤ length entries
-  pub rising : IsStrictlyIncreasing (map (λ l. l.id) lines)
-  pub exact : (id : ℕ) → Contains (map (λ l. l.id) lines) id ↔ ((1 ≤ id) × (least ≤ id) × (id ≤ length entries))
-  pub each : AllByRecursion (λ (l : SnapshotLine). LineBears (entry_at entries l.id) l) lines
-
--- an entry of rows is the user's, and its identifier isn't smaller
-abbrev pub HasReached : List ℕ → ℤ → Entry → Type 0
-HasReached user identifier (append name number rows) = (name ≡ user) × (int_lt number identifier ≡ false)
-HasReached user identifier other = Unit {0}
-
--- What a command does, by its start and the bytes of its input: of a history it makes a later one, and prints the text.
-pub data Does (start : Start) (bytes : List ℕ) : Command → History → History → List ℕ → Type 0 where
+-- What a command does, by its start, the bytes of its input and the store that it finds: of a history it makes a later
+-- one, and prints the text.
+pub data Does (start : Start) (bytes : List ℕ) (found : StoreView) : Command → History → History → List ℕ → Type 0 where
   creates : (s : TableSchema) → IsDraftOf start bytes s
-      → Does start bytes commands.Create no_table (table s []) (line (codes "created"))
+      → Does start bytes found commands.Create no_table (table s []) (line (codes "created"))
   scans : (at : Option ℕ) (s : TableSchema) (es : List Entry) → id_of at (length es) ≤ length es
-      → Does start bytes (commands.Scan at) (table s es) (table s es)
+      → Does start bytes found (commands.Scan at) (table s es) (table s es)
       (scan_text s (rows_up_to es (id_of at (length es))))
   lists : (s : TableSchema) (es : List Entry) (lines : List SnapshotLine) → AreLines es lines
-      → Does start bytes commands.Snapshots (table s es) (table s es) (snapshots_text lines)
+      → LeavesFiles (λ f. AreLinesOf f lines) found
+      → Does start bytes found commands.Snapshots (table s es) (table s es) (snapshots_text lines)
+  rests : (full : Bool) (s : TableSchema) (es : List Entry) → LeavesFiles (HasChoice start full (table s es) []) found
+      → Does start bytes found (commands.Compact full) (table s es) (table s es) (line (codes "nothing to compact"))
+  compacts : (full : Bool) (s : TableSchema) (es : List Entry) (groups : List (Group × Bool)) → groups ≢ []
+      → LeavesFiles (HasChoice start full (table s es) groups) found
+      → Does start bytes found (commands.Compact full) (table s es)
+      (table s (es ++ compaction (length es) groups ∷ [])) (committed_text es)
   takes_none : (user : Option (List ℕ)) (number : Option ℕ) (s : TableSchema) (es : List Entry)
       → all_taken s (row_lines bytes) ≡ Ok []
-      → Does start bytes (commands.Write user number) (table s es) (table s es) (line (codes "nothing to commit"))
+      → Does start bytes found (commands.Write user number) (table s es) (table s es) (line (codes "nothing to commit"))
   has_already : (user : List ℕ) (number : Option ℕ) (s : TableSchema) (es : List Entry) (rows : List HistoryRow)
       (i : ℕ) (e : Entry) → all_taken s (row_lines bytes) ≡ Ok rows → rows ≢ [] → slice_get es i ≡ Some e
-      → HasReached user (identifier_of number) e
-      → Does start bytes (commands.Write (Some user) number) (table s es) (table s es) (line (codes "already"))
+      → HasReached user (identifier_of number) e → LeavesFiles (IsReachedAt (suc i) user (identifier_of number)) found
+      → Does start bytes found (commands.Write (Some user) number) (table s es) (table s es) (line (codes "already"))
   commits : (user : Option (List ℕ)) (number : Option ℕ) (s : TableSchema) (es : List Entry) (rows : List HistoryRow)
       → all_taken s (row_lines bytes) ≡ Ok rows → rows ≢ []
-      → Does start bytes (commands.Write user number) (table s es)
-      (table s (es ++ entry_by start (writer_of user number) rows ∷ []))
-      (line (codes "snapshot " ++ decimal (suc (length es))))
+      → Does start bytes found (commands.Write user number) (table s es)
+      (table s (es ++ entry_by start (writer_of user number) rows ∷ [])) (committed_text es)
 
 -- a command that was executed: what it was given, what was outside before and after, and why it was refused, if it was
 pub record Execution : Type 0 where
@@ -82,17 +75,21 @@ pub record Execution : Type 0 where
   pub after : Outside
   pub refusal : Option Refusal
 
+-- the store as it was at the first call
+abbrev pub found_by : Execution → StoreView
+found_by e = at_first_own e.before.store e.after.store
+
 -- what it may make of a history: what its command does, or nothing
 abbrev pub MayMake : Execution → History → History → Type 0
-MayMake e h later = (later ≡ h) ⊎ ((text : List ℕ) × Does e.start e.input e.command h later text)
+MayMake e h later = (later ≡ h) ⊎ ((text : List ℕ) × Does e.start e.input (found_by e) e.command h later text)
 
 -- What it made, by its answer. After success or a fault of the sink it did it, and printed its text or a prefix of it;
 -- else it did nothing, or in the call that failed all of it, and printed nothing.
 abbrev pub HasMade : Execution → History → Option Refusal → History → Type 0
-HasMade e h None later = (text : List ℕ) × Does e.start e.input e.command h later text
+HasMade e h None later = (text : List ℕ) × Does e.start e.input (found_by e) e.command h later text
     × (e.after.out.taken ≡ and_then e.before.out.taken text)
 HasMade e h (Some (refusals.SinkFault snapshot)) later = (text : List ℕ)
-    × Does e.start e.input e.command h later text × TookPrefix e.before.out.taken e.after.out.taken text
+    × Does e.start e.input (found_by e) e.command h later text × TookPrefix e.before.out.taken e.after.out.taken text
     × (snapshot ≡ snapshot_made h later)
 HasMade e h (Some (refusals.StoreFault path)) later =
     MayMake e h later × ((later ≡ h) ⊎ (path ≡ changed_path e.command h)) × (e.after.out ≡ e.before.out)

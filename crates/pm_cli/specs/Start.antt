@@ -8,7 +8,7 @@ use Rattle.pm_model_folder.specs.Paths.{schema_path}
 use Rattle.pm_create.specs.Creator.{own_origin}
 use Rattle.pm_create.specs.Making as making
 use Rattle.pm_commit.specs.AllCalls as commit
-use Rattle.pm_command_write.specs.Write.{next_path}
+use Rattle.pm_command.specs.Outside.{next_path}
 use Rattle.pm_words.specs.declared.command.Command.{Command}
 use Rattle.pm_words.specs.declared.command.Command.TheVariants as commands
 
@@ -17,6 +17,7 @@ abbrev pub MayStart : Command → Actor → History → Files → Type 0
 MayStart commands.Create me h f = making.MayStart me h f
 MayStart (commands.Scan at) me h f = Folder f h
 MayStart commands.Snapshots me h f = Folder f h
+MayStart (commands.Compact full) me h f = commit.MayStart me h f
 MayStart (commands.Write user identifier) me h f = commit.MayStart me h f
 
 -- These are the bytes of the input, where the command reads it.
@@ -24,11 +25,13 @@ abbrev pub HasInput : Command → List ℕ → Option (List ℕ) → Type 0
 HasInput commands.Create bytes left = left ≡ Some bytes
 HasInput (commands.Scan at) bytes left = Unit {0}
 HasInput commands.Snapshots bytes left = Unit {0}
+HasInput (commands.Compact full) bytes left = Unit {0}
 HasInput (commands.Write user identifier) bytes left = left ≡ Some bytes
 
 -- the path of the call by which it makes what it makes of a history, where it makes another one
 abbrev pub changed_path : Command → History → List ℕ
 changed_path commands.Create h = schema_path 0
+changed_path (commands.Compact full) h = next_path h
 changed_path (commands.Write user identifier) h = next_path h
 changed_path other h = []
 

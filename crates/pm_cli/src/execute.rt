@@ -8,6 +8,7 @@ ghost use Rattle.pm_words.specs.declared.command.Command.{Command};
 ghost use Rattle.pm_cli.specs.Commands.{Acts, Answers, ServesHistories};
 
 use pm_command::Start;
+use pm_command_compact::run_compact;
 use pm_command_create::run_create;
 use pm_command_scan::run_scan;
 use pm_command_snapshots::run_snapshots;
@@ -78,6 +79,7 @@ fn execute_command<S: Source, W: Sink, F: FileStore>(
         Command::Create => run_create(alloc, input, out, store, start),
         Command::Scan { snapshot } => run_scan(alloc, snapshot, out, store),
         Command::Snapshots => run_snapshots(alloc, out, store),
+        Command::Compact { full } => run_compact(alloc, full, out, store, start),
         Command::Write { user, identifier } => {
             run_write(alloc, Writer { user, identifier }, input, out, store, start)
         }

@@ -1,6 +1,6 @@
 //! The promise follows from what commands are proved to do; and histories have a beginning, from which commands go on.
 
-ghost use Rattle.std.specs.Prelude.{◌≡◌, ◌≤◌, ℕ, List, [], ◌∷◌, length, Option, None, Some, Ok};
+ghost use Rattle.std.specs.Prelude.{◌≡◌, ◌≤◌, ℕ, List, [], ◌∷◌, length, Bool, Option, None, Some, Ok};
 ghost use Rattle.std.specs.FinMap as map;
 ghost use Rattle.std.specs.List.{AllByRecursion};
 ghost use Rattle.pm_base.specs.Known.{and_then};
@@ -10,7 +10,7 @@ ghost use Rattle.pm_store.specs.Store.{StoreView, IsAlone, at_first_own};
 ghost use Rattle.pm_store.specs.declared.call.Op.{Op};
 ghost use Rattle.pm_input.specs.Lines.{row_lines};
 ghost use Rattle.pm_schema.specs.declared.schema.TableSchema.{TableSchema};
-ghost use Rattle.pm_model_history.specs.History.{History, no_table, table};
+ghost use Rattle.pm_model_history.specs.History.{Entry, History, no_table, rows_up_to, table};
 ghost use Rattle.pm_model_history.specs.Merge.{HistoryRow};
 ghost use Rattle.pm_model_history.specs.Merged.{scan_text};
 ghost use Rattle.pm_model_folder.specs.Changes.{Actor};
@@ -22,12 +22,13 @@ ghost use Rattle.pm_words.specs.declared.command.Command.{Command};
 ghost use Rattle.pm_words.specs.declared.command.Command.TheVariants as commands;
 ghost use Rattle.pm_command.specs.Outside.{HaveSame, actor};
 ghost use Rattle.pm_command.specs.declared.start.Start.{Start};
+ghost use Rattle.pm_command_compact.specs.Compact as compact;
 ghost use Rattle.pm_command_create.specs.Create.{IsDraftOf, StandsForEither};
 ghost use Rattle.pm_command_write.specs.Write.{IsImage, Lines, MayStartAfter};
 ghost use Rattle.pm_command_write.specs.declared.writer.Writer.{Writer};
 ghost use Rattle.pm_cli.specs.InTurn.{AreInTurn, HandsOn, HaveOwnNames, IsExecuted, MakeInTurn, Turn, ended};
 ghost use Rattle.pm_cli.specs.InTurn.{seen_by_another, to_its_end};
-ghost use Rattle.pm_cli.specs.Promise.{Execution, Keeps, KeepsIt, MayMake};
+ghost use Rattle.pm_cli.specs.Promise.{Does, Execution, Keeps, KeepsIt, MayMake};
 ghost use Rattle.pm_cli.specs.Start.{HaveOtherNames, IsNew, MayStart};
 
 use pm_model_contents::{one_contents_law, same_law};
@@ -36,11 +37,12 @@ use pm_schema::draft_law;
 // ---- what a crash leaves
 
 /// A store that has what a crash within `create` left stands for the history, or for the draft's table where there was
-/// none; one that has what a crash within `write` left, for the history, or for it with the rows of the input, as once
-/// the next snapshot is there; and one that has what a crash within `scan` or `snapshots` left, for the history, and no
-/// path has another content. Another actor that might have started before `write` may start there, and wherever no path
-/// has another content. So what `run` promises of a history holds again of the next `write`, `scan` or `snapshots`, and
-/// after a crash within one of these.
+/// none; one that has what a crash within `write` or `compact` left, for the history, or for it with the rows of the
+/// input, or with the compaction of its newest snapshot's choice, as once the next snapshot is there; and one that has
+/// what a crash within `scan` or `snapshots` left, for the history, and no path has another content. Another actor that
+/// might have started before `write` or `compact` may start there, and wherever no path has another content. So what
+/// `run` promises of a history holds again of the next `write`, `compact`, `scan` or `snapshots`, and after a crash
+/// within one of these.
 pub fn next_command_law()
     ensures create { (start : Start) (bytes : List ℕ) (h : History) (old new : List Op) (i : ℕ)
         (image : Files) → Extends (StandsForEither start bytes h) (Some old) (Some new) → length old ≤ i
@@ -54,6 +56,15 @@ pub fn next_command_law()
         (i : ℕ) (image : Files) → Extends (MayStartAfter other start w lines h) (Some old) (Some new) → length old ≤ i
         → CrashImage new i image → (ops : List Op) (store : StoreView) → store.ops ≡ Some ops → files_after ops ≡ image
         → LeavesFiles (MayStartAfter other start w lines h) store }
+    ensures compact { (start : Start) (full : Bool) (h : History) (first : StoreView) (old new : List Op) (i : ℕ)
+        (image : Files) → Extends (compact.IsImage start full h first) (Some old) (Some new) → length old ≤ i
+        → CrashImage new i image → (ops : List Op) (store : StoreView) → store.ops ≡ Some ops → files_after ops ≡ image
+        → LeavesFiles (compact.IsImage start full h first) store }
+    ensures next_to_compact { (other : Actor) (start : Start) (full : Bool) (h : History) (first : StoreView)
+        (old new : List Op) (i : ℕ) (image : Files)
+        → Extends (compact.MayStartAfter other start full h first) (Some old) (Some new) → length old ≤ i
+        → CrashImage new i image → (ops : List Op) (store : StoreView) → store.ops ≡ Some ops → files_after ops ≡ image
+        → LeavesFiles (compact.MayStartAfter other start full h first) store }
     ensures same { (me : Actor) (h : History) (f g : Files) → commit.MayStart me h f → HaveSame f g → Folder g h
         → commit.MayStart me h g }
     ensures rests { (h : History) (f : Files) (old new : List Op) (i : ℕ) (image : Files)
@@ -93,6 +104,12 @@ pub fn keeps_snapshots_law()
     next_command_law();
 }
 
+/// The promise of `compact`.
+pub fn keeps_compact_law()
+    ensures { (full : Bool) (e : Execution) → IsExecuted (record e { command = commands.Compact full })
+        → Keeps (record e { command = commands.Compact full }) }
+{}
+
 /// The promise of `write`.
 pub fn keeps_write_law()
     ensures { (user : Option (List ℕ)) (number : Option ℕ) (e : Execution)
@@ -107,6 +124,7 @@ pub fn keeps_law()
     keeps_create_law();
     keeps_scan_law();
     keeps_snapshots_law();
+    keeps_compact_law();
     keeps_write_law();
 }
 
@@ -169,6 +187,14 @@ pub fn in_turn_law()
     base_law();
     keeps_law();
 }
+
+/// A scan prints the same before and after a compaction.
+pub fn same_scan_law()
+    ensures { (start : Start) (bytes : List ℕ) (found : StoreView) (full : Bool) (s : TableSchema) (es : List Entry)
+        (later : History) (text : List ℕ) → Does start bytes found (commands.Compact full) (table s es) later text
+        → (more : List Entry) × (later ≡ table s more)
+        × (scan_text s (rows_up_to more (length more)) ≡ scan_text s (rows_up_to es (length es))) }
+{}
 
 /// From an empty store: after a `create`, a `write` and a `scan` with status 0 the scan printed exactly the merged
 /// table of the rows that the draft's table takes of the input of `write`.

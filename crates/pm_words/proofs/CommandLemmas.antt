@@ -1,11 +1,11 @@
 -- Words give one command at most.
-use Rattle.std.proofs.Common.{◌≡◌, ◌<◌, ◌^◌, ℕ, false, true≢false, List, [], ◌∷◌, codes, Option, None, Some, IfNone, refl, sym, ap, ap₂, subst, ◌∙◌, arith}
+use Rattle.std.proofs.Common.{◌≡◌, ◌<◌, ◌^◌, ℕ, Bool, true, false, true≢false, List, [], ◌∷◌, codes, Option, None, Some, IfNone, refl, sym, ap, ap₂, subst, ◌∙◌, arith}
 use Rattle.std.specs.Fmt.{decimal}
 use Rattle.std.specs.Str.{bytes_eq}
 use Rattle.std.proofs.lemmas.Fmt.{decimal_injective}
 use Rattle.std.proofs.lemmas.Slice.Eq.{bytes_eq-Decides}
 use Rattle.pm_words.specs.Reading.{AreOfCommand, Finds}
-use Rattle.pm_words.specs.Words.{AreOf, AreOptions, Give, GiveEach, GiveName, GiveNoCommand, GiveNumber, names_of, word_of}
+use Rattle.pm_words.specs.Words.{AreOf, AreOptions, Give, GiveEach, GiveFlag, GiveName, GiveNoCommand, GiveNumber, names_of, word_of}
 use Rattle.pm_words.specs.declared.command.Command.{Command}
 use Rattle.pm_words.specs.declared.command.Command.TheVariants as commands
 use Rattle.pm_words.specs.declared.options.CommandOption.{CommandOption}
@@ -28,6 +28,12 @@ pub only_snapshots : (options : List CommandOption) (command : Command) → AreO
 only_snapshots options commands.Snapshots are = no_names options are.names
 only_snapshots options other are = absurd (apart (codes "snapshots") (word_of other) refl are.first)
 
+one_flag : (options : List CommandOption) (option : List ℕ) (a b : Bool) → GiveFlag options option a → GiveFlag options option b → a ≡ b
+one_flag options option true true one other = refl
+one_flag options option false false one other = refl
+one_flag options option true false one other = absurd cc
+one_flag options option false true one other = absurd cc
+
 one_name : (options : List CommandOption) (option : List ℕ) (a b : Option (List ℕ)) → GiveName options option a → GiveName options option b → a ≡ b
 one_name options option None None one other = refl
 one_name options option (Some a) (Some b) one other = cc
@@ -47,6 +53,7 @@ one_number options option (Some a) None one other = absurd cc
 -- a word and options are those of one command
 one_of : (word : List ℕ) (options : List CommandOption) (a b : Command) → AreOfCommand word options a → AreOfCommand word options b → a ≡ b
 one_of word options commands.Create commands.Create one other = refl
+one_of word options (commands.Compact a) (commands.Compact b) one other = ap commands.Compact (one_flag options (codes "full") a b one.values other.values)
 one_of word options (commands.Scan a) (commands.Scan b) one other = ap commands.Scan (one_number options (codes "snapshot") a b one.values other.values)
 one_of word options commands.Snapshots commands.Snapshots one other = refl
 one_of word options (commands.Write a m) (commands.Write b n) one other =

@@ -70,6 +70,11 @@ abbrev pub GiveNumber : List CommandOption → List ℕ → Option ℕ → Type 
 GiveNumber options option number = (given option options ≡ option_map (λ n. Some (decimal n)) number)
     × IfSome number (λ n. n ≤ greatest_number)
 
+-- the flag is given, an option without a value, or it isn't
+abbrev pub GiveFlag : List CommandOption → List ℕ → Bool → Type 0
+GiveFlag options option true = given option options ≡ Some None
+GiveFlag options option false = given option options ≡ None
+
 -- one of the names
 abbrev pub is_among : List (List ℕ) → List ℕ → Bool
 is_among names name = list_any (λ other. bytes_eq other name) names
@@ -89,6 +94,7 @@ pub record AreOf (names : List (List ℕ)) (options : List CommandOption) : Type
 -- the first word of a command
 abbrev pub word_of : Command → List ℕ
 word_of commands.Create = codes "create"
+word_of (commands.Compact full) = codes "compact"
 word_of (commands.Scan snapshot) = codes "scan"
 word_of commands.Snapshots = codes "snapshots"
 word_of (commands.Write user identifier) = codes "write"
@@ -96,6 +102,7 @@ word_of (commands.Write user identifier) = codes "write"
 -- the names of its options
 abbrev pub names_of : Command → List (List ℕ)
 names_of commands.Create = []
+names_of (commands.Compact full) = codes "full" ∷ []
 names_of (commands.Scan snapshot) = codes "snapshot" ∷ []
 names_of commands.Snapshots = []
 names_of (commands.Write user identifier) = codes "user" ∷ codes "ident" ∷ []
@@ -103,6 +110,7 @@ names_of (commands.Write user identifier) = codes "user" ∷ codes "ident" ∷ [
 -- what each of them gives
 abbrev pub GiveEach : List CommandOption → Command → Type 0
 GiveEach options commands.Create = Unit {0}
+GiveEach options (commands.Compact full) = GiveFlag options (codes "full") full
 GiveEach options (commands.Scan snapshot) = GiveNumber options (codes "snapshot") snapshot
 GiveEach options commands.Snapshots = Unit {0}
 GiveEach options (commands.Write user identifier) = GiveName options (codes "user") user

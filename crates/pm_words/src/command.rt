@@ -6,7 +6,7 @@ ghost use Rattle.pm_words.specs.Reading.{AreOfCommand, Finds};
 ghost use Rattle.pm_words.specs.Words.{Give, GiveNoCommand, first_word};
 
 use crate::options::{CommandOption, are_of, options_in};
-use crate::values::{name_given, number_given};
+use crate::values::{flag_given, name_given, number_given};
 use pm_values::{Refusal, Txt};
 use std::alloc::{AllocError, Global};
 
@@ -27,6 +27,10 @@ pub enum Command {
     },
     /// To list its snapshots.
     Snapshots,
+    /// To compact it, where the word says so in full.
+    Compact {
+        full: bool,
+    },
 }
 
 /// The command that the words give, if they give one.
@@ -52,12 +56,24 @@ fn command_of(
     ensures { IfOk result (Finds (AreOfCommand word.now options.now)) }
 {
     match word {
+        "compact" => Ok(compact_of(options)),
         "create" => Ok(create_of(options)),
         "scan" => Ok(scan_of(options)),
         "snapshots" => Ok(snapshots_of(options)),
         "write" => write_of(alloc, options),
         _ => Ok(None),
     }
+}
+
+/// The command `compact` with these options.
+fn compact_of(options: &[CommandOption]) -> Option<Command>
+    ensures { Finds (AreOfCommand (codes "compact") options.now) result }
+{
+    if !are_of(options, ["full"].as_slice()) {
+        return None;
+    }
+    let full = flag_given(options, "full")?;
+    Some(Command::Compact { full })
 }
 
 /// The command `create` with these options.

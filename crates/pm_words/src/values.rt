@@ -4,7 +4,7 @@ ghost use Rattle.std.specs.Prelude.{◌≡◌, ◌≤◌, ◌↔◌, ℕ, IfOk, 
 ghost use Rattle.std.specs.List.{list_all};
 ghost use Rattle.std.specs.Fmt.{decimal};
 ghost use Rattle.pm_words.specs.Reading.{Finds, IsNumberOf};
-ghost use Rattle.pm_words.specs.Words.{GiveName, GiveNumber, IsName, is_name_byte};
+ghost use Rattle.pm_words.specs.Words.{GiveFlag, GiveName, GiveNumber, IsName, is_name_byte};
 
 use crate::options::{CommandOption, given};
 use itoa::Buffer;
@@ -13,6 +13,19 @@ use std::alloc::{AllocError, Global};
 
 /// The greatest number that an option takes.
 const GREATEST_NUMBER: u64 = 9223372036854775807;
+
+/// Whether the options give the flag, an option without a value; nothing where it has one.
+pub(crate) fn flag_given(options: &[CommandOption], option: &str) -> Option<bool>
+    ensures { Finds (GiveFlag options.now option.now) result }
+{
+    match given(options, option) {
+        None => Some(false),
+        Some(found) => match &found.value {
+            None => Some(true),
+            Some(_) => None,
+        },
+    }
+}
 
 /// The name that the options give here, if they give one or the option is absent.
 pub(crate) fn name_given(

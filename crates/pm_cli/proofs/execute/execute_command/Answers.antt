@@ -1,6 +1,7 @@
 use Rattle.std.proofs.Common.{refl}
 use Rattle.std.specs.Result.{result_err}
 use Rattle.pm_command.specs.Outside.{outside}
+use Rattle.pm_command_compact.proofs.CompactLaws.{compacted_answers, compacted_serves}
 use Rattle.pm_command_scan.proofs.ScanLaws.{scanned_serves}
 use Rattle.pm_command_snapshots.proofs.SnapshotLaws.{listed_answers, listed_serves}
 use Rattle.pm_cli.proofs.execute.execute_command.Goals as goal
@@ -43,6 +44,32 @@ returns-in-Snapshots-clause-history g c =
     (listed_serves (outside (g.S.Source.seen c.args.input.now) (g.W.Sink.seen c.args.out.now) (g.F.FileStore.seen c.args.store.now))
     (outside (g.S.Source.seen c.args.input.now) (g.W.Sink.seen c.run_snapshots.new.out) (g.F.FileStore.seen c.run_snapshots.new.store))
     (result_err c.run_snapshots.result) c.run_snapshots.ensures.listed)
+
+pub returns-in-Compact-clause-command : goal.returns-in-Compact-clause-command
+returns-in-Compact-clause-command g c =
+    rw c.in-Compact.is (
+      refl,
+      compacted_answers c.args.start.now c.in-Compact.full
+          (outside (g.S.Source.seen c.args.input.now) (g.W.Sink.seen c.args.out.now) (g.F.FileStore.seen c.args.store.now))
+          (outside (g.S.Source.seen c.args.input.now) (g.W.Sink.seen c.run_compact.new.out) (g.F.FileStore.seen c.run_compact.new.store))
+          (result_err c.run_compact.result) c.run_compact.ensures.compacted,
+    )
+
+pub returns-in-Compact-clause-acts : goal.returns-in-Compact-clause-acts
+returns-in-Compact-clause-acts g c =
+    rw c.in-Compact.is
+    (compacted_answers c.args.start.now c.in-Compact.full
+    (outside (g.S.Source.seen c.args.input.now) (g.W.Sink.seen c.args.out.now) (g.F.FileStore.seen c.args.store.now))
+    (outside (g.S.Source.seen c.args.input.now) (g.W.Sink.seen c.run_compact.new.out) (g.F.FileStore.seen c.run_compact.new.store))
+    (result_err c.run_compact.result) c.run_compact.ensures.compacted)
+
+pub returns-in-Compact-clause-history : goal.returns-in-Compact-clause-history
+returns-in-Compact-clause-history g c =
+    rw c.in-Compact.is
+    (compacted_serves c.args.start.now c.in-Compact.full
+    (outside (g.S.Source.seen c.args.input.now) (g.W.Sink.seen c.args.out.now) (g.F.FileStore.seen c.args.store.now))
+    (outside (g.S.Source.seen c.args.input.now) (g.W.Sink.seen c.run_compact.new.out) (g.F.FileStore.seen c.run_compact.new.store))
+    (result_err c.run_compact.result) c.run_compact.ensures.compacted)
 
 pub returns-in-Write-clause-command : goal.returns-in-Write-clause-command
 returns-in-Write-clause-command g c = rw c.in-Write.is c.run_write.ensures.command

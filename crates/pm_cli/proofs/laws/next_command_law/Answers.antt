@@ -1,4 +1,5 @@
 use Rattle.pm_model_folder.specs.Folder.{Folder}
+use Rattle.pm_command_compact.specs.Compact as compact
 use Rattle.pm_command_create.specs.Create.{StandsForEither}
 use Rattle.pm_command.specs.Outside.{HaveSame}
 use Rattle.pm_command_write.specs.Write.{IsImage, MayStartAfter}
@@ -11,6 +12,12 @@ returns-clause-create c start bytes h = next_stands (StandsForEither start bytes
 
 pub returns-clause-write : goal.returns-clause-write
 returns-clause-write c start w lines h = next_stands (IsImage start w lines h)
+
+pub returns-clause-compact : goal.returns-clause-compact
+returns-clause-compact c start full h first = next_stands (compact.IsImage start full h first)
+
+pub returns-clause-next_to_compact : goal.returns-clause-next_to_compact
+returns-clause-next_to_compact c other start full h first = next_stands (compact.MayStartAfter other start full h first)
 
 pub returns-clause-rests : goal.returns-clause-rests
 returns-clause-rests c h f = next_stands (λ g. Folder g h × HaveSame f g)
