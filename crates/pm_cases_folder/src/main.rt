@@ -9,11 +9,13 @@
 //! | `created` | a name, a draft | `create` through one store of that folder and through another, then `snapshots` |
 //! | `scanned` | a name; paths, each with a file's bytes | `scan` of that folder, in which these files were created |
 //! | `writers` | a name, the table's commits, two row lines | two writers of that folder in turn, see `writers.rt` |
+//! | `compactors` | a name, the table's commits, a row line | two compactors and a writer in turn, see `compactors.rt` |
 //!
 //! Arguments are spelt as those of `pm_cases_codecs`.
 #![tactic(auto)]
 
 mod command;
+mod compactors;
 mod lines;
 mod real_folder;
 mod writers;
@@ -48,7 +50,9 @@ fn answer_line(rt: &HostRuntime, case: &mut Case, tried: &str, arguments: &str) 
     let (first, rest) = arguments.split_once('\t').unwrap_or((arguments, ""));
     match tried {
         "lines" => lines::lines_answer(case, arguments),
-        "created" | "scanned" | "writers" => real_folder::answer(rt, case, tried, first, rest),
+        "created" | "scanned" | "writers" | "compactors" => real_folder::answer(
+            rt, case, tried, first, rest,
+        ),
         _ => case.reject(),
     }
 }

@@ -1,7 +1,7 @@
 //! Commands on a real folder, through two stores of it.
 
 use crate::command::run_command;
-use crate::writers;
+use crate::{compactors, writers};
 use pm_cases::Case;
 use pm_cases_calls::TwoStores;
 use pm_store::{FileStore, Made};
@@ -23,6 +23,7 @@ fn answer_of<F: FileStore>(case: &mut Case, tried: &str, store: &mut F, other: &
     match tried {
         "created" => say_created(case, store, other, rest),
         "scanned" => say_scanned(case, store, other, rest),
+        "compactors" => compactors::answer(case, store, other, rest),
         _ => writers::answer(case, store, other, rest),
     }
 }
