@@ -216,15 +216,16 @@ impl World {
     /// What a look finds of a thing.
     fn found(&self, thing: usize) -> Result<Found, HostError> {
         let node = self.node(thing)?;
-        let kind = match &node.thing {
-            Thing::File(_) => Kind::File,
-            Thing::Folder(_) => Kind::Folder,
-            Thing::Link(_) => Kind::Other,
+        let (kind, size) = match &node.thing {
+            Thing::File(bytes) => (Kind::File, bytes.now.len()),
+            Thing::Folder(_) => (Kind::Folder, 0),
+            Thing::Link(_) => (Kind::Other, 0),
         };
         Ok(Found {
             kind,
             device: 1,
             inode: u64::try_from(thing).unwrap_or(0),
+            size: u64::try_from(size).unwrap_or(u64::MAX),
             changed: Duration::from_micros(node.changed),
             touched: Duration::from_micros(node.touched),
         })

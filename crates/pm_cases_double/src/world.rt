@@ -129,6 +129,11 @@ impl World {
         self.clock = self.clock.saturating_add(2_000_000);
     }
 
+    /// Has the next look at the clock find a time, in microseconds since 1970. It may have gone back.
+    pub fn set_clock(&mut self, time: u64) {
+        self.clock = time.saturating_sub(GLANCE);
+    }
+
     /// Whether the rival acts before the next call. It does so once.
     pub fn meets(&mut self) -> bool {
         let is_met = !self.is_aside && self.calls.saturating_add(1) == self.plan.meets_at;

@@ -17,15 +17,20 @@ pub fn open_store<H: Host + Drop>(alloc: Global, host: H) -> Result<FolderStore<
     }
 }
 
-/// Has a process act: a call of its store, `wait`, which has two seconds pass, or what others do beside it. Answers
-/// what it was answered.
+/// Has a process act: a call of its store, `wait`, which has two seconds pass, `clock TIME`, which has the next look at
+/// the clock find so many microseconds since 1970, or what others do beside it. Answers what it was answered.
 pub fn said_of<H: Host + Drop>(
     world: &RefCell<World>,
     store: &mut FolderStore<H>,
     act: &str,
 ) -> Result<String, HostError> {
     let alloc = alloc_of(world)?;
-    match split_at_blank(act).0 {
+    let (word, rest) = split_at_blank(act);
+    match word {
+        "clock" => {
+            set_clock(world, rest.parse::<u64>().unwrap_or(0))?;
+            Ok(String::from_str(alloc, "set")?)
+        }
         "wait" => {
             wait(world)?;
             Ok(String::from_str(alloc, "later")?)
@@ -46,9 +51,18 @@ fn wait(world: &RefCell<World>) -> Result<(), HostError> {
     Ok(())
 }
 
+/// Has the next look at the clock find a time.
+fn set_clock(world: &RefCell<World>, time: u64) -> Result<(), HostError> {
+    held(world)?.set_clock(time);
+    Ok(())
+}
+
 /// Whether an act is a call of the process's own store.
 pub fn is_own_call(act: &str) -> bool {
-    !matches!(split_at_blank(act).0, "wait" | "other" | "foreign")
+    !matches!(
+        split_at_blank(act).0,
+        "wait" | "clock" | "other" | "foreign"
+    )
 }
 
 /// What others do beside a process: `foreign WORD`, which puts what a word of a state says past any store, or

@@ -18,14 +18,16 @@ pub enum Kind {
     Other,
 }
 
-/// What a look found. Two looks that found equal device and inode numbers found the same thing. `changed` is the time
-/// since 1970 at which its content changed last, of a folder its names, unless it was set since. `touched` is the time
-/// at which anything about it changed last, that time too; it can't be set.
+/// What a look found. Two looks that found equal device and inode numbers found the same thing. `size` is how many
+/// bytes a file has, and says nothing of what is none. `changed` is the time since 1970 at which its content changed
+/// last, of a folder its names, unless it was set since. `touched` is the time at which anything about it changed last,
+/// that time too; it can't be set.
 #[derive(Clone, Copy)]
 pub struct Found {
     pub kind: Kind,
     pub device: u64,
     pub inode: u64,
+    pub size: u64,
     pub changed: Duration,
     pub touched: Duration,
 }

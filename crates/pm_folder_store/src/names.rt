@@ -51,3 +51,8 @@ fn readable(name: &[u8]) -> &str
         Err(_) => UNREADABLE,
     }
 }
+
+/// Whether a name stands for one that isn't UTF-8. A file may have that name itself, too.
+pub(crate) fn is_unreadable(name: &str) -> bool {
+    name == UNREADABLE
+}

@@ -4,17 +4,24 @@
 //! about it changed, which nobody can set.
 //!
 //! Whoever changes such a folder gives it a time of its own after the change, then has it on the disk, and then seals
-//! it, all of it under the table's lock. Any later change gives it another time, also one that comes in the same tick
-//! of the file system's clock, and so ends the seal; whatever came before is on the disk. So a writer that is killed
-//! between leaves none that counts. A folder that wasn't sealed is looked at whole once.
+//! it, all of it under the table's lock. A folder that was sealed before is sealed anew without a look, so a name that
+//! comes past the store between the look before the change and the dating is under the new seal. Any change after the
+//! dating ends it, also one that comes in the same tick of the file system's clock: the two times of what is dated
+//! differ, and any other change of names gives a folder one time as both. What came before is on the disk, but for what
+//! is owed. A writer that is killed between leaves no seal that counts, as long as no two datings give the same times.
+//!
+//! A folder that wasn't sealed is looked at whole once.
 
 use crate::host::{Found, Host, HostError, Kind};
-use crate::listing::{Content, shown_names};
 use crate::look::{is_absent, is_same, kind_at};
-use crate::paths::place_in;
+use crate::names::is_unreadable;
+use crate::paths::{is_name, place_in, put_place};
 use pm_store::StoreFail;
 use std::alloc::{AllocError, Global};
 use std::time::Duration;
+
+/// How many numbers the name of a seal ends in.
+const NUMBERS: usize = 6;
 
 /// A folder that is to be changed, or was: where it stands, how the names of its seals begin, what a look found of it
 /// before, and where its seal stood, if it was sealed.
@@ -66,8 +73,9 @@ pub(crate) fn before_change<H: Host>(
     }))
 }
 
-/// Gives a folder that was changed a time that no other change has, and answers what a look finds then; nothing where
-/// that can't be done, or something else was put in its place.
+/// Gives a folder that was changed a time of its own, and answers what a look finds then; nothing where that can't be
+/// done, where something else was put in its place, or where the folder's two times are one, as after any other change
+/// of its names.
 pub(crate) fn dated<H: Host>(host: &mut H, before: &Before) -> Option<Found> {
     let Ok(now) = host.since_1970() else {
         return None;
@@ -92,7 +100,7 @@ fn dated_at<H: Host>(
     }
     host.set_changed(file, time)?;
     let found = host.look_at(file)?;
-    if found.changed != time {
+    if found.changed != time || found.touched == time {
         return Ok(None);
     }
     Ok(Some(found))
@@ -125,14 +133,33 @@ pub(crate) fn seal<H: Host>(
             }
         }
         None => {
-            let names = host.names(alloc, place.as_str())?;
-            let _shown = shown_names(alloc, host, place.as_str(), names, Content::Files)?;
+            if !has_files_alone(alloc, host, place.as_str())? {
+                return Ok(());
+            }
         }
     }
     take_seals(alloc, host, root, front.as_str())?;
     let file = host.make(new.as_str())?;
     host.close(file);
     Ok(())
+}
+
+/// Whether a file stands under each name that a listing of a folder may show. Where a name isn't UTF-8 none may.
+fn has_files_alone<H: Host>(alloc: Global, host: &mut H, folder: &str) -> Result<bool, StoreFail> {
+    let mut place = String::new(alloc);
+    for name in host.names(alloc, folder)? {
+        if !is_name(name.as_str()) {
+            continue;
+        }
+        if is_unreadable(name.as_str()) {
+            return Ok(false);
+        }
+        put_place(&mut place, folder, name.as_str())?;
+        if !matches!(kind_at(host, place.as_str())?, Some(Kind::File)) {
+            return Ok(false);
+        }
+    }
+    Ok(true)
 }
 
 /// Takes each seal of a folder away, and nothing else. None of them counts any more.
@@ -145,23 +172,42 @@ fn take_seals<H: Host>(
     for name in host.names(alloc, root)? {
         if is_seal(name.as_str(), front) {
             let place = place_in(alloc, root, name.as_str())?;
-            if let Some(Kind::File) = kind_at(host, place.as_str())? {
-                host.remove_file(place.as_str())?;
-            }
+            take_empty(host, place.as_str())?;
         }
     }
     Ok(())
 }
 
-/// Whether a name is that of one of a folder's seals, which begin so: numbers and dashes follow.
-fn is_seal(name: &str, front: &str) -> bool {
-    match name.strip_prefix(front) {
-        Some(rest) => rest
-            .as_bytes()
-            .iter()
-            .all(|byte| byte.is_ascii_digit() || *byte == b'-'),
-        None => false,
+/// Takes a file away that is empty, as a seal is, and nothing else.
+fn take_empty<H: Host>(host: &mut H, place: &str) -> Result<(), StoreFail> {
+    match host.look(place) {
+        Ok(found) if matches!(found.kind, Kind::File) && found.size == 0 => {
+            Ok(host.remove_file(place)?)
+        }
+        Ok(_) => Ok(()),
+        Err(e) if is_absent(e) => Ok(()),
+        Err(e) => Err(StoreFail::from(e)),
     }
+}
+
+/// Whether a name is that of one of a folder's seals, which begin so: six numbers follow, with dashes between them.
+fn is_seal(name: &str, front: &str) -> bool {
+    let Some(rest) = name.strip_prefix(front) else {
+        return false;
+    };
+    let mut count = 0usize;
+    for part in rest.split('-') {
+        if !is_number(part) {
+            return false;
+        }
+        count = count.saturating_add(1);
+    }
+    count == NUMBERS
+}
+
+/// Whether a text is a number.
+fn is_number(text: &str) -> bool {
+    !text.is_empty() && text.as_bytes().iter().all(|byte| byte.is_ascii_digit())
 }
 
 /// Where the seal of a folder stands that is as this look found it.

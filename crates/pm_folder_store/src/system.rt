@@ -174,6 +174,7 @@ fn found(looked: &Metadata) -> Found {
         kind,
         device: looked.dev(),
         inode: looked.ino(),
+        size: looked.len(),
         changed: since_1970(looked.mtime(), looked.mtime_nsec()),
         touched: since_1970(looked.ctime(), looked.ctime_nsec()),
     }
