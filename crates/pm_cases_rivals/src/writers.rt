@@ -28,21 +28,21 @@ const DRAFT: &str =
     r#"{"fields":[{"name":"id","type":"BIGINT NOT NULL"},{"name":"v","type":"STRING"}],"primaryKeys":["id"]}"#;
 
 /// The session of all who take turns; their actors are numbered from 0.
-pub const SESSION: u8 = 6;
+pub(crate) const SESSION: u8 = 6;
 
 /// More turns than commits take.
-pub const TURNS: u32 = 100;
+pub(crate) const TURNS: u32 = 100;
 
 /// A committer that has a call of the store left.
 #[derive(Drop)]
-pub struct Open {
+pub(crate) struct Open {
     committer: Committer,
     ghost left: { 0 < calls_left committer },
 }
 
 /// A writer: it goes on, or it committed the snapshot with this id, or is refused.
 #[derive(Drop)]
-pub enum Writer {
+pub(crate) enum Writer {
     Open(Open),
     Committed(u64),
     Already,
@@ -62,7 +62,7 @@ pub fn answer<F: FileStore>(case: &mut Case, store: &mut F, other: &mut F, argum
 }
 
 /// Makes the table, and commits a row of key 1 so many times.
-pub fn make_table<F: FileStore>(case: &mut Case, store: &mut F, commits: u32) {
+pub(crate) fn make_table<F: FileStore>(case: &mut Case, store: &mut F, commits: u32) {
     let mut unsaid = Case::new(case.alloc());
     run_command(&mut unsaid, store, 1, "create", DRAFT.as_bytes());
     let mut session = 1_u8;
@@ -76,7 +76,7 @@ pub fn make_table<F: FileStore>(case: &mut Case, store: &mut F, commits: u32) {
 }
 
 /// Says the rows that a store's table shows, its snapshots, and the names of its data files.
-pub fn say_table<F: FileStore>(case: &mut Case, store: &mut F) {
+pub(crate) fn say_table<F: FileStore>(case: &mut Case, store: &mut F) {
     run_command(case, store, 1, "scan", &[]);
     case.say(" | ");
     run_command(case, store, 1, "snapshots", &[]);
@@ -116,7 +116,7 @@ fn take_turns<F: FileStore>(
 }
 
 /// A writer of a row, which has made no call but those that read the schema; or why there is none.
-pub fn begin<F: FileStore>(alloc: Global, store: &mut F, actor: u32, row: &str) -> Writer {
+pub(crate) fn begin<F: FileStore>(alloc: Global, store: &mut F, actor: u32, row: &str) -> Writer {
     match committer_of(alloc, store, actor, row) {
         Ok(committer) => Writer::Open(Open { committer }),
         Err(refusal) => Writer::Refused(refusal),
@@ -178,7 +178,7 @@ fn built_of(alloc: Global, schema: TableSchema) -> Result<TableSchema, Refusal>
 }
 
 /// Refuses a schema of a table that isn't built.
-pub fn judge(alloc: Global, schema: &TableSchema) -> Result<(), Refusal>
+pub(crate) fn judge(alloc: Global, schema: &TableSchema) -> Result<(), Refusal>
     ensures { OnOk result (draft.IsBuilt schema.now) }
 {
     built_law();
@@ -223,7 +223,7 @@ fn lines_of(alloc: Global, text: &str) -> Result<InputLines, Refusal> {
 }
 
 /// A writer after its next call, where one is left.
-pub fn take_turn<F: FileStore>(alloc: Global, writer: Writer, store: &mut F) -> Writer {
+pub(crate) fn take_turn<F: FileStore>(alloc: Global, writer: Writer, store: &mut F) -> Writer {
     match writer {
         Writer::Open(Open { committer }) => make_call(alloc, committer, store),
         done => done,
@@ -253,7 +253,7 @@ fn make_call<F: FileStore>(alloc: Global, committer: Committer, store: &mut F) -
 }
 
 /// Says the answer of a writer.
-pub fn say_writer(case: &mut Case, writer: Writer) {
+pub(crate) fn say_writer(case: &mut Case, writer: Writer) {
     match writer {
         Writer::Open(open) => {
             drop(open);
