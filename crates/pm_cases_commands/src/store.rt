@@ -1,6 +1,7 @@
 //! The store of a case.
 
 ghost use Rattle.std.specs.Prelude.{◌≡◌, OnOk, IfErr};
+ghost use Rattle.pm_store.specs.Lent.{lent_call};
 ghost use Rattle.pm_store.specs.Store.{IsLater};
 ghost use Rattle.pm_cases_commands.specs.Store.{case_seen, Refuses};
 
@@ -8,8 +9,8 @@ use crate::act::{act_before, apply_deed, put_file};
 use pm_base::{Blob, Txt};
 use pm_cases_lines::{Act, Deed};
 use pm_store::{
-    Call, Effect, FileStore, Made, MemStore, Planned, Published, Removed, StoreFail, Swapped,
-    perform,
+    Call, Effect, FileStore, LentCall, Made, MemStore, Planned, Published, Removed, StoreFail,
+    Swapped, perform,
 };
 use std::alloc::{AllocError, Global};
 
@@ -114,9 +115,9 @@ impl CaseStore {
     }
 
     /// Counts a call of a command, lets others act, and fails where that is planned, after the planned effect.
-    fn begin(&mut self, alloc: Global, call: Call) -> Result<(), StoreFail>
+    fn begin(&mut self, alloc: Global, call: LentCall) -> Result<(), StoreFail>
         ensures ok { OnOk result (self.new.faults ≡ self.old.faults) }
-        ensures err { IfErr result (Refuses call (case_seen self.old.faults) (case_seen self.new.faults)) }
+        ensures err { IfErr result (Refuses (lent_call call.entry) (case_seen self.old.faults) (case_seen self.new.faults)) }
         ensures later { IsLater (case_seen self.old.faults) (case_seen self.new.faults) }
     {
         self.calls = self.calls.saturating_add(1);
@@ -138,12 +139,12 @@ impl CaseStore {
 fn carry_out(
     alloc: Global,
     files: &mut MemStore,
-    call: &Call,
+    call: &LentCall,
     effect: &Effect,
 ) -> Result<(), AllocError> {
     let done = match (effect, call) {
         (Effect::Whole, _) => perform(alloc, files, call).map(|_| ()),
-        (Effect::Part(Some(bytes)), Call::Create { path, .. }) => files
+        (Effect::Part(Some(bytes)), LentCall::Create { path, .. }) => files
             .create(alloc, path.as_str(), bytes.as_bytes())
             .map(|_| ()),
         _ => Ok(()),
@@ -155,19 +156,35 @@ impl FileStore for CaseStore {
     ghost seen = { λ s. case_seen s.faults };
 
     fn list(&mut self, alloc: Global, folder: &str) -> Result<Vec<Txt>, StoreFail> {
-        self.begin(alloc, Call::list(alloc, folder)?)?;
+        self.begin(
+            alloc,
+            LentCall::List {
+                folder: Txt::from_str(alloc, folder)?,
+            },
+        )?;
         self.files
             .list(alloc, folder)
             .map_err(|_| StoreFail::Memory)
     }
 
     fn read(&mut self, alloc: Global, path: &str) -> Result<Option<Blob>, StoreFail> {
-        self.begin(alloc, Call::read(alloc, path)?)?;
+        self.begin(
+            alloc,
+            LentCall::Read {
+                path: Txt::from_str(alloc, path)?,
+            },
+        )?;
         self.files.read(alloc, path).map_err(|_| StoreFail::Memory)
     }
 
     fn create(&mut self, alloc: Global, path: &str, bytes: &[u8]) -> Result<Made, StoreFail> {
-        self.begin(alloc, Call::create(alloc, path, bytes)?)?;
+        self.begin(
+            alloc,
+            LentCall::Create {
+                path: Txt::from_str(alloc, path)?,
+                bytes,
+            },
+        )?;
         self.files
             .create(alloc, path, bytes)
             .map_err(|_| StoreFail::Memory)
@@ -180,7 +197,14 @@ impl FileStore for CaseStore {
         path: &str,
         bytes: &[u8],
     ) -> Result<Published, StoreFail> {
-        self.begin(alloc, Call::publish(alloc, after, path, bytes)?)?;
+        self.begin(
+            alloc,
+            LentCall::Publish {
+                after: Txt::from_str(alloc, after)?,
+                path: Txt::from_str(alloc, path)?,
+                bytes,
+            },
+        )?;
         self.files
             .publish(alloc, after, path, bytes)
             .map_err(|_| StoreFail::Memory)
@@ -193,14 +217,26 @@ impl FileStore for CaseStore {
         expected: Option<&[u8]>,
         bytes: &[u8],
     ) -> Result<Swapped, StoreFail> {
-        self.begin(alloc, Call::swap(alloc, path, expected, bytes)?)?;
+        self.begin(
+            alloc,
+            LentCall::Swap {
+                path: Txt::from_str(alloc, path)?,
+                expected,
+                bytes,
+            },
+        )?;
         self.files
             .swap(alloc, path, expected, bytes)
             .map_err(|_| StoreFail::Memory)
     }
 
     fn remove(&mut self, alloc: Global, path: &str) -> Result<Removed, StoreFail> {
-        self.begin(alloc, Call::remove(alloc, path)?)?;
+        self.begin(
+            alloc,
+            LentCall::Remove {
+                path: Txt::from_str(alloc, path)?,
+            },
+        )?;
         self.files
             .remove(alloc, path)
             .map_err(|_| StoreFail::Memory)

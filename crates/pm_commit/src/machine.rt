@@ -9,9 +9,10 @@ use crate::after::{after_names, after_search, after_view};
 use crate::laws::committer_law;
 use crate::phase::Phase;
 use crate::put::after_put;
+use pm_base::Txt;
 use pm_machine::Machine;
 use pm_paths::snapshot_path;
-use pm_store::{Answer, Call};
+use pm_store::{Answer, LentCall};
 use pm_values::Refusal;
 use std::alloc::{AllocError, Global};
 
@@ -28,11 +29,13 @@ impl pm_machine::Phase for Phase {
 
     ghost end = { phases.Over };
 
-    fn call(&self, alloc: Global) -> Result<Option<Call>, AllocError> {
+    fn call(&self, alloc: Global) -> Result<Option<LentCall<'_>>, AllocError> {
         match self {
-            Phase::Names { .. } => Ok(Some(Call::list(alloc, "manifest")?)),
+            Phase::Names { .. } => Ok(Some(LentCall::List {
+                folder: Txt::from_str(alloc, "manifest")?,
+            })),
             Phase::View { reader, .. } => reader.call(alloc),
-            Phase::Search { searching, .. } => Ok(Some(Call::Read {
+            Phase::Search { searching, .. } => Ok(Some(LentCall::Read {
                 path: snapshot_path(alloc, searching.id)?,
             })),
             Phase::Put { putter, .. } => putter.call(alloc),

@@ -7,8 +7,9 @@ use crate::after::{after_commit, after_files, after_names, after_view};
 use crate::create::after_create;
 use crate::laws::compactor_law;
 use crate::phase::Phase;
+use pm_base::Txt;
 use pm_machine::Machine;
-use pm_store::{Answer, Call};
+use pm_store::{Answer, LentCall};
 use pm_values::Refusal;
 use std::alloc::{AllocError, Global};
 
@@ -23,14 +24,17 @@ impl pm_machine::Phase for Phase {
 
     ghost end = { phases.Over };
 
-    fn call(&self, alloc: Global) -> Result<Option<Call>, AllocError> {
+    fn call(&self, alloc: Global) -> Result<Option<LentCall<'_>>, AllocError> {
         match self {
             Phase::View { reader, .. } => reader.call(alloc),
-            Phase::Names { .. } => Ok(Some(Call::list(alloc, "manifest")?)),
+            Phase::Names { .. } => Ok(Some(LentCall::List {
+                folder: Txt::from_str(alloc, "manifest")?,
+            })),
             Phase::Files { files, .. } => files.call(alloc),
             Phase::Create { next, .. } => {
-                let path = next.path.as_str();
-                Ok(Some(Call::create(alloc, path, next.bytes.as_bytes())?))
+                let path = next.path.copy(alloc)?;
+                let bytes = next.bytes.as_bytes();
+                Ok(Some(LentCall::Create { path, bytes }))
             }
             Phase::Commit { committer } => committer.call(alloc),
             Phase::Nothing | Phase::Over => Ok(None),

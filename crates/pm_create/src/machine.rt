@@ -6,7 +6,7 @@ use crate::creator::CreateStep;
 use crate::phase::Phase;
 use pm_machine::PhaseMeaning;
 use pm_paths::schema_path;
-use pm_store::{Answer, Call, Made, Swapped};
+use pm_store::{Answer, LentCall, Made, Swapped};
 use pm_values::Refusal;
 use std::alloc::{AllocError, Global};
 
@@ -23,13 +23,17 @@ impl pm_machine::Phase for Phase {
 
     ghost end = { phases.Over };
 
-    fn call(&self, alloc: Global) -> Result<Option<Call>, AllocError> {
+    fn call(&self, alloc: Global) -> Result<Option<LentCall<'_>>, AllocError> {
         match self {
-            Phase::Origin { path, .. } => Ok(Some(Call::create(alloc, path.as_str(), b"")?)),
-            Phase::Schema { bytes } => {
-                let path = schema_path(alloc, 0)?;
-                Ok(Some(Call::swap(alloc, path.as_str(), None, bytes.as_bytes())?))
+            Phase::Origin { path, .. } => {
+                let path = path.copy(alloc)?;
+                Ok(Some(LentCall::Create { path, bytes: b"" }))
             }
+            Phase::Schema { bytes } => Ok(Some(LentCall::Swap {
+                path: schema_path(alloc, 0)?,
+                expected: None,
+                bytes: bytes.as_bytes(),
+            })),
             Phase::Created | Phase::Over => Ok(None),
         }
     }

@@ -11,7 +11,7 @@ use crate::after::{after_again, after_file};
 use crate::phase::Phase;
 use pm_machine::ReaderPhase;
 use pm_paths::snapshot_path;
-use pm_store::{Answer, Call};
+use pm_store::{Answer, LentCall};
 use pm_values::Refusal;
 use std::alloc::{AllocError, Global};
 
@@ -26,12 +26,12 @@ impl pm_machine::Phase for Phase {
 
     ghost end = { phases.Over };
 
-    fn call(&self, alloc: Global) -> Result<Option<Call>, AllocError> {
+    fn call(&self, alloc: Global) -> Result<Option<LentCall<'_>>, AllocError> {
         match self {
-            Phase::Files { reading } => Ok(Some(Call::Read {
+            Phase::Files { reading } => Ok(Some(LentCall::Read {
                 path: reading.next.path.copy(alloc)?,
             })),
-            Phase::Again { id, .. } => Ok(Some(Call::Read {
+            Phase::Again { id, .. } => Ok(Some(LentCall::Read {
                 path: snapshot_path(alloc, *id)?,
             })),
             Phase::Ready { .. } | Phase::Over => Ok(None),

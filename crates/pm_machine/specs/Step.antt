@@ -8,7 +8,7 @@ use Rattle.pm_store.specs.declared.call.Call.{Call}
 use Rattle.pm_store.specs.declared.call.Call.TheVariants as calls
 use Rattle.pm_store.specs.declared.store.StoreFail.{StoreFail}
 use Rattle.pm_store.specs.declared.store.StoreFail.TheVariants as fails
-use Rattle.pm_store.specs.Answers.{Answers, MayAnswer, StepsInPart}
+use Rattle.pm_store.specs.Answers.{Answers, MayAnswer, StepsInPart, Tells}
 use Rattle.pm_store.specs.Files.{files_after}
 use Rattle.pm_store.specs.Store.{whole, Meanwhile, Steps, StoreView}
 
@@ -34,6 +34,15 @@ Answered call answer before after =
 -- the call came as one operation, of which the store may have carried out a part, since it failed
 abbrev pub Faulted : Call → StoreView → StoreView → Type 0
 Faulted call before after = StepsInPart call before after × Rose before.faults after.faults
+
+-- Private: what came of a machine's next call, if it has one
+abbrev pub Called : Option Call → StoreView → StoreView → Result (Option Answer) Refusal → Type 0
+Called next before after (Ok None) = (next ≡ None) × (after ≡ before)
+Called next before after (Ok (Some answer)) =
+    (call : Call) × (next ≡ Some call) × Answered call answer before after
+Called next before after (Err refusal) =
+    (call : Call) × (next ≡ Some call) × ((fail : StoreFail) × (refusal ≡ refusal_of fail call)
+    × Tells call (λ (answer : Answer). answer) before after (Err fail))
 
 -- what a step did with a machine and a store, and what it answered
 pub data Stepped {M : Type 0} (call_of : M → Option Call) (goes : M → Answer → M → Type 0)

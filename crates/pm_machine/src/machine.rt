@@ -1,12 +1,13 @@
 //! The trait of a machine, which knows no store.
 
-ghost use Rattle.std.specs.Prelude.{◌≡◌, Option, None, Ok, IfOk, OnOk, IfErr, OnErr, IsSomeAnd};
+ghost use Rattle.std.specs.Prelude.{◌≡◌, Option, None, Ok, IfOk, OnOk, IfErr, OnErr, IsSomeAnd, option_map};
 ghost use Rattle.pm_store.specs.Answers.{MayAnswer};
+ghost use Rattle.pm_store.specs.Lent.{lent_call};
 ghost use Rattle.pm_store.specs.declared.answer.Answer.{Answer};
 ghost use Rattle.pm_store.specs.declared.call.Call.{Call};
 ghost use Rattle.pm_values.specs.declared.refusal.Refusal.{Refusal};
 
-use pm_store::{Answer, Call};
+use pm_store::{Answer, LentCall};
 use pm_values::Refusal;
 use std::alloc::{AllocError, Global};
 
@@ -25,9 +26,9 @@ pub trait Machine {
     /// What is left of it where memory ran out or the store failed.
     ghost stops: { Self → Self → Type 0 };
 
-    /// Its next call, with copies of the arguments. At its end there is none, and to say so takes no memory.
-    fn call(&self, alloc: Global) -> Result<Option<Call>, AllocError>
-        ensures call { IfOk result (λ call. call ≡ call_of self.now) }
+    /// Its next call, to which it lends the bytes. At its end there is none, and to say so takes no memory.
+    fn call(&self, alloc: Global) -> Result<Option<LentCall<'_>>, AllocError>
+        ensures call { IfOk result (λ call. option_map lent_call call ≡ call_of self.now) }
         ensures end { call_of self.now ≡ None → result ≡ Ok None };
 
     /// Takes what its call was answered.

@@ -1,12 +1,13 @@
 //! The phases that a machine is made of.
 
-ghost use Rattle.std.specs.Prelude.{◌≡◌, Option, None, Ok, IfOk, IfErr, IsSomeAnd};
+ghost use Rattle.std.specs.Prelude.{◌≡◌, Option, None, Ok, IfOk, IfErr, IsSomeAnd, option_map};
 ghost use Rattle.pm_store.specs.Answers.{MayAnswer};
+ghost use Rattle.pm_store.specs.Lent.{lent_call};
 ghost use Rattle.pm_store.specs.declared.answer.Answer.{Answer};
 ghost use Rattle.pm_store.specs.declared.call.Call.{Call};
 ghost use Rattle.pm_values.specs.declared.refusal.Refusal.{Refusal};
 
-use pm_store::{Answer, Call};
+use pm_store::{Answer, LentCall};
 use pm_values::Refusal;
 use std::alloc::{AllocError, Global};
 
@@ -28,10 +29,10 @@ pub trait Phase: Drop {
     /// The end after a refusal.
     ghost end: { Self };
 
-    /// Its next call, with copies of the arguments. At its end there is none, and to say so takes no memory.
-    fn call(&self, alloc: Global) -> Result<Option<Call>, AllocError>
+    /// Its next call, to which it lends the bytes. At its end there is none, and to say so takes no memory.
+    fn call(&self, alloc: Global) -> Result<Option<LentCall<'_>>, AllocError>
         requires { holds self.now }
-        ensures call { IfOk result (λ call. call ≡ call_of self.now) }
+        ensures call { IfOk result (λ call. option_map lent_call call ≡ call_of self.now) }
         ensures end { call_of self.now ≡ None → result ≡ Ok None };
 
     /// The phase after what its call was answered, or the refusal that this shows.

@@ -11,7 +11,7 @@ use crate::machine::Machine;
 use crate::phase::Phase;
 use crate::phase_meaning::PhaseMeaning;
 use crate::stepping::step;
-use pm_store::{Answer, Call, FileStore};
+use pm_store::{Answer, FileStore, LentCall};
 use pm_values::Refusal;
 use std::alloc::{AllocError, Global};
 use std::marker::Model;
@@ -98,7 +98,7 @@ impl<P: Phase> Machine for Running<P> {
 
     ghost stops = { Stops P.end };
 
-    fn call(&self, alloc: Global) -> Result<Option<Call>, AllocError> {
+    fn call(&self, alloc: Global) -> Result<Option<LentCall<'_>>, AllocError> {
         self.phase.call(alloc)
     }
 

@@ -1,12 +1,13 @@
 //! One step of any machine on any store.
 
 ghost use Rattle.std.specs.Prelude.{◌≡◌, None, OnErr};
-ghost use Rattle.pm_machine.specs.Step.{Stepped, path_of, refusal_of};
+ghost use Rattle.pm_machine.specs.Step.{Called, Stepped, path_of, refusal_of};
+ghost use Rattle.pm_store.specs.Lent.{lent_call};
 ghost use Rattle.pm_store.specs.Store.{IsLater};
 
 use crate::Machine;
 use pm_base::Txt;
-use pm_store::{Call, FileStore, StoreFail, perform};
+use pm_store::{Answer, FileStore, LentCall, StoreFail, perform};
 use pm_values::Refusal;
 use std::alloc::Global;
 
@@ -22,26 +23,38 @@ pub fn step<M: Machine, F: FileStore>(
     ensures over { OnErr result (M.call_of machine.new ≡ None) }
     ensures later { IsLater (F.seen store.old) (F.seen store.new) }
 {
-    let call = match machine.call(alloc) {
-        Ok(Some(call)) => call,
-        Ok(None) => return Ok(()),
-        Err(_) => {
+    match make_call(alloc, machine, store) {
+        Ok(Some(answer)) => machine.take(alloc, answer),
+        Ok(None) => Ok(()),
+        Err(refusal) => {
             machine.stop();
-            return Err(Refusal::Memory);
-        }
-    };
-    match perform(alloc, store, &call) {
-        Ok(answer) => machine.take(alloc, answer),
-        Err(fail) => {
-            machine.stop();
-            Err(refusal_of(fail, call))
+            Err(refusal)
         }
     }
 }
 
+/// Makes the machine's next call, if it has one, and lets go of what it lends.
+fn make_call<M: Machine, F: FileStore>(
+    alloc: Global,
+    machine: &M,
+    store: &mut F,
+) -> Result<Option<Answer>, Refusal>
+    ensures called { Called (M.call_of machine.now) (F.seen store.old) (F.seen store.new) result }
+    ensures later { IsLater (F.seen store.old) (F.seen store.new) }
+{
+    match machine.call(alloc) {
+        Ok(Some(call)) => match perform(alloc, store, &call) {
+            Ok(answer) => Ok(Some(answer)),
+            Err(fail) => Err(refusal_of(fail, call)),
+        },
+        Ok(None) => Ok(None),
+        Err(_) => Err(Refusal::Memory),
+    }
+}
+
 /// Why a command is refused whose call the store didn't answer.
-fn refusal_of(fail: StoreFail, call: Call) -> Refusal
-    ensures { result ≡ refusal_of fail call }
+fn refusal_of(fail: StoreFail, call: LentCall) -> Refusal
+    ensures { result ≡ refusal_of fail (lent_call call.entry) }
 {
     match fail {
         StoreFail::Memory => Refusal::Memory,
@@ -52,15 +65,15 @@ fn refusal_of(fail: StoreFail, call: Call) -> Refusal
 }
 
 /// The path that is named where the call fails.
-fn path_of(call: Call) -> Txt
-    ensures { result ≡ path_of call }
+fn path_of(call: LentCall) -> Txt
+    ensures { result ≡ path_of (lent_call call.entry) }
 {
     match call {
-        Call::List { folder } => folder,
-        Call::Read { path } => path,
-        Call::Create { path, .. } => path,
-        Call::Publish { path, .. } => path,
-        Call::Swap { path, .. } => path,
-        Call::Remove { path } => path,
+        LentCall::List { folder } => folder,
+        LentCall::Read { path } => path,
+        LentCall::Create { path, .. } => path,
+        LentCall::Publish { path, .. } => path,
+        LentCall::Swap { path, .. } => path,
+        LentCall::Remove { path } => path,
     }
 }

@@ -8,7 +8,7 @@ ghost use Rattle.pm_put.specs.declared.phase.Phase.TheVariants as phases;
 use crate::phase::Phase;
 use crate::putter::PutStep;
 use crate::putting::{CommitFile, Making, Publishing};
-use pm_store::{Answer, Call, Made, Published};
+use pm_store::{Answer, LentCall, Made, Published};
 use pm_values::Refusal;
 use std::alloc::{AllocError, Global};
 use std::collections::VecDeque;
@@ -26,16 +26,18 @@ impl pm_machine::Phase for Phase {
 
     ghost end = { phases.Over };
 
-    fn call(&self, alloc: Global) -> Result<Option<Call>, AllocError> {
+    fn call(&self, alloc: Global) -> Result<Option<LentCall<'_>>, AllocError> {
         match self {
             Phase::Create { making } => {
-                let file = &making.next;
-                Ok(Some(Call::create(alloc, file.path.as_str(), file.bytes.as_bytes())?))
+                let path = making.next.path.copy(alloc)?;
+                let bytes = making.next.bytes.as_bytes();
+                Ok(Some(LentCall::Create { path, bytes }))
             }
             Phase::Publish { publishing } => {
-                let after = publishing.after.as_str();
-                let path = publishing.path.as_str();
-                Ok(Some(Call::publish(alloc, after, path, publishing.bytes.as_bytes())?))
+                let after = publishing.after.copy(alloc)?;
+                let path = publishing.path.copy(alloc)?;
+                let bytes = publishing.bytes.as_bytes();
+                Ok(Some(LentCall::Publish { after, path, bytes }))
             }
             Phase::Published | Phase::Lost | Phase::Over => Ok(None),
         }

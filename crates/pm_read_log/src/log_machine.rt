@@ -11,7 +11,7 @@ use crate::log_after::{after_again, after_list, after_manifest, after_snapshot};
 use crate::log_phase::LogPhase;
 use pm_machine::{Phase, ReaderPhase};
 use pm_paths::{manifest_path, snapshot_path};
-use pm_store::{Answer, Call};
+use pm_store::{Answer, LentCall};
 use pm_values::Refusal;
 use std::alloc::{AllocError, Global};
 
@@ -26,15 +26,16 @@ impl Phase for LogPhase {
 
     ghost end = { phases.Over };
 
-    fn call(&self, alloc: Global) -> Result<Option<Call>, AllocError> {
+    fn call(&self, alloc: Global) -> Result<Option<LentCall<'_>>, AllocError> {
         match self {
-            LogPhase::Snapshot { asked } | LogPhase::Again { asked, .. } => Ok(Some(Call::Read {
-                path: snapshot_path(alloc, asked.id())?,
-            })),
-            LogPhase::List { list, .. } => Ok(Some(Call::Read {
+            LogPhase::Snapshot { asked } | LogPhase::Again { asked, .. } => {
+                let path = snapshot_path(alloc, asked.id())?;
+                Ok(Some(LentCall::Read { path }))
+            }
+            LogPhase::List { list, .. } => Ok(Some(LentCall::Read {
                 path: manifest_path(alloc, list)?,
             })),
-            LogPhase::Manifests { reading } => Ok(Some(Call::Read {
+            LogPhase::Manifests { reading } => Ok(Some(LentCall::Read {
                 path: manifest_path(alloc, &reading.next.name)?,
             })),
             LogPhase::Ready { .. } | LogPhase::Over => Ok(None),

@@ -18,7 +18,7 @@ use pm_machine::ReaderPhase;
 use pm_paths::schema_path;
 use pm_schema::{TableSchema, declared_law, schema_law};
 use pm_schema_file::read_schema;
-use pm_store::{Answer, Call};
+use pm_store::{Answer, LentCall};
 use pm_values::Refusal;
 use std::alloc::{AllocError, Global};
 
@@ -33,13 +33,17 @@ impl pm_machine::Phase for Phase {
 
     ghost end = { phases.Over };
 
-    fn call(&self, alloc: Global) -> Result<Option<Call>, AllocError> {
+    fn call(&self, alloc: Global) -> Result<Option<LentCall<'_>>, AllocError> {
         match self {
-            Phase::Schemas => Ok(Some(Call::list(alloc, "schema")?)),
-            Phase::Schema { id } => Ok(Some(Call::Read {
+            Phase::Schemas => Ok(Some(LentCall::List {
+                folder: Txt::from_str(alloc, "schema")?,
+            })),
+            Phase::Schema { id } => Ok(Some(LentCall::Read {
                 path: schema_path(alloc, *id)?,
             })),
-            Phase::Snapshots { .. } => Ok(Some(Call::list(alloc, "snapshot")?)),
+            Phase::Snapshots { .. } => Ok(Some(LentCall::List {
+                folder: Txt::from_str(alloc, "snapshot")?,
+            })),
             Phase::Ready { .. } | Phase::Over => Ok(None),
         }
     }

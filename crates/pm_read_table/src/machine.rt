@@ -11,9 +11,10 @@ use crate::after::{
     after_again, after_base, after_delta, after_list, after_manifest, after_origin, after_snapshot,
 };
 use crate::phase::Phase;
+use pm_base::Txt;
 use pm_machine::ReaderPhase;
 use pm_paths::{manifest_path, origin_path, snapshot_path};
-use pm_store::{Answer, Call};
+use pm_store::{Answer, LentCall};
 use pm_values::Refusal;
 use std::alloc::{AllocError, Global};
 
@@ -28,22 +29,24 @@ impl pm_machine::Phase for Phase {
 
     ghost end = { phases.Over };
 
-    fn call(&self, alloc: Global) -> Result<Option<Call>, AllocError> {
+    fn call(&self, alloc: Global) -> Result<Option<LentCall<'_>>, AllocError> {
         match self {
-            Phase::List { .. } => Ok(Some(Call::list(alloc, "snapshot")?)),
-            Phase::Origin { sought } => Ok(Some(Call::Read {
+            Phase::List { .. } => Ok(Some(LentCall::List {
+                folder: Txt::from_str(alloc, "snapshot")?,
+            })),
+            Phase::Origin { sought } => Ok(Some(LentCall::Read {
                 path: origin_path(alloc, sought.schema())?,
             })),
-            Phase::Snapshot { id, .. } | Phase::Again { id, .. } => Ok(Some(Call::Read {
+            Phase::Snapshot { id, .. } | Phase::Again { id, .. } => Ok(Some(LentCall::Read {
                 path: snapshot_path(alloc, *id)?,
             })),
-            Phase::Base { snapshot, .. } => Ok(Some(Call::Read {
+            Phase::Base { snapshot, .. } => Ok(Some(LentCall::Read {
                 path: manifest_path(alloc, &snapshot.base_list)?,
             })),
-            Phase::Delta { snapshot, .. } => Ok(Some(Call::Read {
+            Phase::Delta { snapshot, .. } => Ok(Some(LentCall::Read {
                 path: manifest_path(alloc, &snapshot.delta_list)?,
             })),
-            Phase::Manifests { reading } => Ok(Some(Call::Read {
+            Phase::Manifests { reading } => Ok(Some(LentCall::Read {
                 path: manifest_path(alloc, &reading.next.name)?,
             })),
             Phase::Ready { .. } | Phase::Over => Ok(None),

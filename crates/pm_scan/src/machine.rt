@@ -11,7 +11,7 @@ use crate::after::after_files;
 use crate::phase::Phase;
 use pm_machine::{Machine, ReaderPhase};
 use pm_read_table::after_view;
-use pm_store::{Answer, Call};
+use pm_store::{Answer, LentCall};
 use pm_values::Refusal;
 use std::alloc::{AllocError, Global};
 
@@ -26,7 +26,7 @@ impl pm_machine::Phase for Phase {
 
     ghost end = { phases.Over };
 
-    fn call(&self, alloc: Global) -> Result<Option<Call>, AllocError> {
+    fn call(&self, alloc: Global) -> Result<Option<LentCall<'_>>, AllocError> {
         match self {
             Phase::View { reader } => reader.call(alloc),
             Phase::Files { files, .. } => files.call(alloc),

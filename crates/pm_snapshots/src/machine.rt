@@ -22,7 +22,7 @@ use pm_paths::{ids_of, snapshot_path};
 use pm_read_schema::{Phase as SchemaPhase, SchemaReader};
 use pm_schema::TableSchema;
 use pm_snapshot::{SnapFault, read_snapshot};
-use pm_store::{Answer, Call};
+use pm_store::{Answer, LentCall};
 use pm_values::Refusal;
 use std::alloc::{AllocError, Global};
 
@@ -37,12 +37,14 @@ impl pm_machine::Phase for Phase {
 
     ghost end = { phases.Over };
 
-    fn call(&self, alloc: Global) -> Result<Option<Call>, AllocError> {
+    fn call(&self, alloc: Global) -> Result<Option<LentCall<'_>>, AllocError> {
         match self {
             Phase::Schema { reader } => reader.call(alloc),
-            Phase::List { .. } => Ok(Some(Call::list(alloc, "snapshot")?)),
+            Phase::List { .. } => Ok(Some(LentCall::List {
+                folder: Txt::from_str(alloc, "snapshot")?,
+            })),
             Phase::Read { reading } => match reading.next() {
-                Some(id) => Ok(Some(Call::Read {
+                Some(id) => Ok(Some(LentCall::Read {
                     path: snapshot_path(alloc, id)?,
                 })),
                 None => Ok(None),

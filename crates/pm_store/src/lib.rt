@@ -11,6 +11,7 @@ mod dispatch;
 mod failing;
 mod files;
 mod laws;
+mod lent;
 mod memory;
 mod names;
 mod store;
@@ -23,6 +24,7 @@ pub use laws::{
     answers_tell_changes_law, first_own_law, images_are_effects_law, stops_are_effects_law,
     swaps_write_one_path_law,
 };
+pub use lent::LentCall;
 pub use memory::MemStore;
 pub use names::listed;
 pub use store::{FileStore, StoreFail, is_expected};
