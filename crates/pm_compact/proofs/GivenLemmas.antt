@@ -13,7 +13,7 @@ use Rattle.pm_merge.specs.Merging.{GivesAll, GivesLeast, HasLeft, HaveNoRow, fir
 use Rattle.pm_merge.specs.Source.{Rest}
 use Rattle.pm_run.specs.Writing.{AreFilesOf, IsFileWith, data_prefix, suffix}
 use Rattle.pm_run.specs.declared.run.RunFile.{RunFile}
-use Rattle.pm_run_writer.specs.Written.{HasAdded, HasEnded, HasFinished, HasInHand, HasNames}
+use Rattle.pm_run_writer.specs.Written.{HasEnded, HasFinished, HasInHand}
 use Rattle.pm_compact.specs.Rewriting.{AreAsked, AreWrittenFor, Asked, GivesFile, HasGiven, IsFull, row_at}
 use Rattle.pm_compact.specs.Rewritten.{kept_rows, most_in_file}
 use Rattle.pm_compact.specs.declared.rewriting.Rewriting.{Rewriting}
@@ -174,20 +174,6 @@ module _ {S : Type 0} (m : Meaning) (rest : S → Rest) (fits : S → TableSchem
     written = written;
   }
 
-  -- what a row more makes of it: it is in hand, or its file was ended
-  abbrev pub GivesStep : Option RunFile → List Stamped → Naming → Rewriting S → Type 0
-  GivesStep None own next after = HasGiven m rest fits asked given own next after
-  GivesStep (Some f) own next after = HasGiven m rest fits asked (given ++ f ∷ []) [] next after
-
-  pub given_step : ((s : Stamped) (later : List Rest) → GivesLeast m h.left s later → GivesAll m asked.rests (h.run ++ s ∷ []) later)
-      → ((s : Stamped) (later : List Rest) → GivesLeast m h.left s later → HaveNoRow h.left → ⊥) → (x : Stamped) (later : List Rest) (after : Rewriting S) → IsLeftAfter x later after
-      → (file : Option RunFile) (next : Naming) → next ≡ past (length (option_to_list file)) now → HasAdded asked.schema most_in_file asked.level now (more_rows x) file after.writer
-      → GivesStep file (more_rows x) next after
-  given_step more some x later after is None next named added =
-      subst (λ (n : Naming). HasGiven m rest fits asked given (more_rows x) n after) (ap (λ (n : ℕ). record now { count = n }) (omega arith) ∙ sym named) (given_row more some x later after is added)
-  given_step more some x later after is (Some f) next named added =
-      subst (λ (n : Naming). HasGiven m rest fits asked (given ++ f ∷ []) [] n after) (sym named) (given_full more some x later after is f added.0 added.1)
-
   -- nothing is left, and no row in hand: the files are those that were asked for
   pub given_all : ReadsFiles → OwnKinds → StoredAgain → KeptRises → (HaveNoRow h.left → IsMerge m (runs_in asked.rests) h.run) → HaveNoRow h.left → first_refusal h.left ≡ None → rows ≡ []
       → AreAsked m asked given
@@ -231,9 +217,6 @@ fewer_in m drop rows x most old new less one =
     let both = length-append rows (kept_rows m drop (x ∷ [])) in
     let kept = kept_most m drop x in
     omega arith
-
-pub names_kept : (old new : Naming) → new ≡ record old { count = new.count } → new.count ≡ old.count + 0 → new ≡ old
-names_kept old new named counted = named ∙ ap (λ (n : ℕ). record old { count = n }) (counted ∙ omega arith)
 
 -- a file at the end has a row that was in hand
 pub finished_some : {S : Type 0} (asked : Asked) (now : Naming) (rows : List Stamped) (file : Option RunFile) (after : Rewriting S)

@@ -1,7 +1,7 @@
 //! A group's runs made into one.
 
 ghost use Rattle.std.specs.Prelude.{◌≡◌, ◌≢◌, ◌+◌, ◌<◌, ◌≤◌, ◌^◌, ◌∷◌, [], ◌++◌, ℕ, All, IfErr, IfOk, None, OnOk, Some};
-ghost use Rattle.std.specs.Prelude.{List, length, map, option_to_list};
+ghost use Rattle.std.specs.Prelude.{List, false, length, map, option_to_list, true};
 ghost use Rattle.std.specs.List.{AllByRecursion};
 ghost use Rattle.pm_schema.specs.declared.schema.TableSchema.{TableSchema as SchemaView};
 ghost use Rattle.pm_values.specs.Names.{Naming};
@@ -14,7 +14,7 @@ ghost use Rattle.pm_merge.specs.Merging.{runs_in};
 ghost use Rattle.pm_run.specs.Form.{form_of};
 ghost use Rattle.pm_run.specs.declared.run.RunFile.{RunFile as FileView};
 ghost use Rattle.pm_run_bytes.specs.Lying.{HasContentOf};
-ghost use Rattle.pm_run_writer.specs.Written.{HasAdded, HasInHand, IsWriting};
+ghost use Rattle.pm_run_writer.specs.Written.{CanEnd, HasFullFile, HasInHand, IsWriting};
 ghost use Rattle.pm_compact.specs.Rewriting.{Asked, CanGive, GivesFile, HasGiven, asked_of, most_left};
 ghost use Rattle.pm_compact.specs.Rewritten.{AreRewritten, DropsByKind, RefusesAfter, kept_rows};
 
@@ -65,7 +65,7 @@ impl<'b, S: RowSource<WrittenPlace<'b>>> Rewriting<'b, S> {
     }
 
     /// The next file of the run, or none where all were given. A source's refusal comes as it is, where its next row
-    /// would have to be known. Out of memory is also answered where a row can't be written, as `RunWriter::add` says.
+    /// would have to be known. Out of memory is also answered where a row can't be written, as `RunWriter::put` says.
     /// After a refusal nothing is said of what it gives.
     pub fn next_file<E: MergeEngine>(
         &mut self,
@@ -102,9 +102,9 @@ impl<'b, S: RowSource<WrittenPlace<'b>>> Rewriting<'b, S> {
                 return Ok(self.writer.finish(alloc, names)?);
             }
             let (writer, leaves_out) = (&mut self.writer, self.drop);
-            match write_placed(alloc, engine, leaves_out, &mut place, writer, names)? {
-                Some(file) => return Ok(Some(file)),
-                None => {}
+            let full = write_placed(alloc, engine, leaves_out, &mut place, writer)?;
+            if full {
+                return Ok(Some(self.writer.end(alloc, names)?));
             }
         }
     }
@@ -141,33 +141,32 @@ pub fn rewrite<'b, E: MergeEngine, S: RowSource<WrittenPlace<'b>>>(
     Ok(files)
 }
 
-/// Writes the row of a place, which leaves it, unless it is left out. The file is handed out that it fills.
+/// Writes the row of a place, which leaves it, unless it is left out, and answers whether the file in hand is full.
 fn write_placed<'b, E: MergeEngine>(
     alloc: Global,
     engine: &E,
     drop: bool,
     place: &mut Box<WrittenPlace<'b>>,
     writer: &mut RunWriter<'b>,
-    names: &mut Names,
-) -> Result<Option<RunFile>, AllocError>
+) -> Result<bool, AllocError>
     requires by_kind { DropsByKind (E.meaning engine.now) }
     requires ready { IsWriting writer.old }
-    requires count { names.old.count < 18446744073709551615 }
-    ensures added { IfOk result (λ file. (s : SchemaView) (limit level : ℕ) (rows : List Stamped) (x : Stamped)
-        → place.old.value.slot ≡ Some x → HasContentOf (form_of s) (Some x) place.old.value.content
-        → HasInHand s limit level names.old.session rows writer.old
-        → HasAdded s limit level names.old (rows ++ kept_rows (E.meaning engine.now) drop (x ∷ [])) file writer.new) }
-    ensures ready { OnOk result (IsWriting writer.new) }
+    ensures more { OnOk result ((s : SchemaView) (limit level : ℕ) (marker : List ℕ) (rows : List Stamped)
+        (x : Stamped) → place.old.value.slot ≡ Some x
+        → HasContentOf (form_of s) (Some x) place.old.value.content
+        → HasInHand s limit level marker rows writer.old
+        → HasInHand s limit level marker (rows ++ kept_rows (E.meaning engine.now) drop (x ∷ [])) writer.new) }
+    ensures full { IfOk result (λ full. full ≡ true → HasFullFile writer.new) }
+    ensures room { IfOk result (λ full. full ≡ false → IsWriting writer.new) }
+    ensures ready { OnOk result (CanEnd writer.new) }
     ensures none { OnOk result (place.new.value.slot ≡ None) }
-    ensures names { names.new ≡ record names.old { count = names.new.count } }
-    ensures counted { names.old.count ≤ names.new.count }
-    ensures taken { IfOk result (λ file. names.new.count ≡ names.old.count + length (option_to_list file)) }
 {
     if drop && is_droppable(alloc, engine, &place.slot) {
         place.slot.clear();
-        return Ok(None);
+        return Ok(false);
     }
-    writer.add(alloc, place, names)
+    let full = writer.put(alloc, place)?;
+    Ok(full)
 }
 
 /// Whether the row of a place is droppable.

@@ -65,6 +65,11 @@ impl PackedRows {
         self.places.len()
     }
 
+    /// How many bytes the values take of all rows that were ever put here: what a file of them may need.
+    pub fn bytes_len(&self) -> usize {
+        self.bytes.len()
+    }
+
     /// Adds a row. Without memory for it the rows stay as they are.
     pub fn push(&mut self, row: &Stamped) -> Result<(), AllocError>
         ensures added { OnOk result (self.new ≡ self.old ++ row.now ∷ []) }

@@ -33,7 +33,7 @@ pub record CanWrite (w : FileWriter) : Type 0 where
 abbrev pub IsLastOf : List Stamped → Option Stamped → Type 0
 IsLastOf rows last = option_map (λ (x : Stamped). x.key) last ≡ last_key None rows
 
--- Private: a writer can end its file: it was begun, and no call of it was refused
+-- a writer can end its file: it was begun, and no call of it was refused
 pub record CanEnd (w : RunWriter) : Type 0 where
   pub writer : CanWrite w.writer
   pub within : w.file.count ≤ 1024
@@ -64,10 +64,10 @@ pub record HasEnded (s : TableSchema) (limit level : ℕ) (names : Naming) (rows
   pub file : IsFileWith s level names.session (name_of data_prefix suffix names) rows f
   pub none : HasInHand s limit level names.session [] w
 
--- with one more these rows are in hand, or as many as a file may have, and the file of these was ended
-abbrev pub HasAdded : TableSchema → ℕ → ℕ → Naming → List Stamped → Option RunFile → RunWriter → Type 0
-HasAdded s limit level names rows None w = HasInHand s limit level names.session rows w
-HasAdded s limit level names rows (Some f) w = (length rows ≡ limit) × HasEnded s limit level names rows f w
+-- the file in hand has as many rows as a file may have
+abbrev pub HasFullFile : RunWriter → Type 0
+HasFullFile w = (s : TableSchema) (limit level : ℕ) (marker : List ℕ) (rows : List Stamped)
+    → HasInHand s limit level marker rows w → length rows ≡ limit
 
 -- of these rows in hand there was none, or the file of these was ended
 abbrev pub HasFinished : TableSchema → ℕ → ℕ → Naming → List Stamped → Option RunFile → RunWriter → Type 0

@@ -94,6 +94,15 @@ impl BegunFile {
         })
     }
 
+    /// Makes room for so many bytes of the file at once. Without memory for them it grows as it is written.
+    pub(crate) fn reserve(&mut self, bytes: usize)
+        ensures begun { (f : Form) (marker : List ℕ) (rows : List StampedView) → HasBegun f marker rows self.old
+            → HasBegun f marker rows self.new }
+        ensures count { self.new.count ≡ self.old.count }
+    {
+        let _ = self.out.try_reserve_exact(bytes);
+    }
+
     /// Adds a row.
     pub(crate) fn add(&mut self, form: &TableForm, row: PlacedRow) -> Result<(), AllocError>
         requires within { self.old.count ≤ 1024 }

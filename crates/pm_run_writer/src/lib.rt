@@ -8,8 +8,8 @@
 //!
 //! A row's bytes go from its values into those of its block, and a block is ended at 1024 rows: beside the rows stand
 //! the files so far and one block, and no datum of a row is made. A `RunWriter` takes one row at a time from its place,
-//! wherever it lies, and hands a file out where it is full, so that neither a list of all rows nor one of the files is
-//! kept (`specs/Written.antt`). That files which were written one by one are read as one run is `files_law`.
+//! wherever it lies, tells where the file is full, and hands it out, so that neither a list of all rows nor one of the
+//! files is kept (`specs/Written.antt`). That files which were written one by one are read as one run is `files_law`.
 #![tactic(auto)]
 
 mod begun_file;

@@ -1,6 +1,6 @@
 //! The files of a run that is written row by row.
 
-ghost use Rattle.std.specs.Prelude.{◌≡◌, ◌+◌, ◌<◌, ◌≤◌, ◌∷◌, [], ◌++◌, ℕ, List, IfOk, None, OnOk, Some};
+ghost use Rattle.std.specs.Prelude.{◌≡◌, ◌+◌, ◌<◌, ◌≤◌, ◌∷◌, [], ◌++◌, ℕ, List, IfOk, None, OnOk, Some, false, true};
 ghost use Rattle.std.specs.Prelude.{length, option_map, option_to_list};
 ghost use Rattle.pm_row_slots.specs.Slot.{placed_row};
 ghost use Rattle.pm_schema.specs.declared.schema.TableSchema.{TableSchema};
@@ -11,8 +11,8 @@ ghost use Rattle.pm_run.specs.Writing.{IsFileWith};
 ghost use Rattle.pm_run_bytes.specs.Lying.{HasContentOf};
 ghost use Rattle.pm_run_writer.specs.Begun.{HasBegun};
 ghost use Rattle.pm_run_writer.specs.Summary.{IsSummary};
-ghost use Rattle.pm_run_writer.specs.Written.{CanEnd, CanWrite, HasAdded, HasEnded, HasFinished, HasInHand, IsLastOf};
-ghost use Rattle.pm_run_writer.specs.Written.{IsWriterOf, IsWriting};
+ghost use Rattle.pm_run_writer.specs.Written.{CanEnd, CanWrite, HasEnded, HasFinished, HasFullFile, HasInHand};
+ghost use Rattle.pm_run_writer.specs.Written.{IsLastOf, IsWriterOf, IsWriting};
 
 use crate::begun_file::BegunFile;
 use crate::placed::key_of;
@@ -78,35 +78,46 @@ impl<'b> RunWriter<'b> {
         })
     }
 
-    /// Writes the row of a place, which leaves it, and hands the file out that it fills. Bytes that stand with it are
-    /// copied: they have to be those that are written of it, which isn't tested. Out of memory is also answered where
-    /// no row stands there, and, where its bytes aren't known, where it has another number of values than the schema
-    /// has columns, where a value isn't of its column's type, and where the sequence number is above 2^62 - 1; then
-    /// nothing is said of what was written.
-    pub fn add(
+    /// Makes room for so many bytes of the file in hand at once. Without memory for them it grows as it is written.
+    pub fn reserve(&mut self, bytes: usize)
+        ensures kept { (s : TableSchema) (limit level : ℕ) (marker : List ℕ) (rows : List StampedView)
+            → HasInHand s limit level marker rows self.old → HasInHand s limit level marker rows self.new }
+        ensures ready { IsWriting self.old → IsWriting self.new }
+    {
+        self.file.reserve(bytes);
+    }
+
+    /// Writes the row of a place, which leaves it, to the file in hand, and answers whether the file is full: then it
+    /// has to be ended before the next row. Bytes that stand with the row are copied: they have to be those that are
+    /// written of it, which isn't tested. Out of memory is also answered where no row stands there, and, where its
+    /// bytes aren't known, where it has another number of values than the schema has columns, where a value isn't of
+    /// its column's type, and where the sequence number is above 2^62 - 1; then nothing is said of what was written.
+    pub fn put(
         &mut self,
         alloc: Global,
         place: &mut Box<WrittenPlace<'b>>,
-        names: &mut Names,
-    ) -> Result<Option<RunFile>, AllocError>
+    ) -> Result<bool, AllocError>
         requires ready { IsWriting self.old }
-        requires count { names.old.count < 18446744073709551615 }
-        ensures added { IfOk result (λ file. (s : TableSchema) (limit level : ℕ) (rows : List StampedView)
+        ensures more { OnOk result ((s : TableSchema) (limit level : ℕ) (marker : List ℕ) (rows : List StampedView)
             (x : StampedView) → place.old.value.slot ≡ Some x
             → HasContentOf (form_of s) (Some x) place.old.value.content
-            → HasInHand s limit level names.old.session rows self.old
-            → HasAdded s limit level names.old (rows ++ x ∷ []) file self.new) }
-        ensures ready { OnOk result (IsWriting self.new) }
+            → HasInHand s limit level marker rows self.old
+            → HasInHand s limit level marker (rows ++ x ∷ []) self.new) }
+        ensures full { IfOk result (λ full. full ≡ true → HasFullFile self.new) }
+        ensures room { IfOk result (λ full. full ≡ false → IsWriting self.new) }
+        ensures ready { OnOk result (CanEnd self.new) }
         ensures empty { OnOk result (place.new.value.slot ≡ None) }
-        ensures names { names.new ≡ record names.old { count = names.new.count } }
-        ensures counted { names.old.count ≤ names.new.count }
-        ensures taken { IfOk result (λ file. names.new.count ≡ names.old.count + length (option_to_list file)) }
     {
-        self.put(alloc, place)?;
-        if self.summary.count < self.limit {
-            return Ok(None);
-        }
-        Ok(Some(self.end_file(alloc, names)?))
+        write_row(
+            alloc,
+            &self.writer.form,
+            place,
+            &mut self.file,
+            &mut self.summary,
+        )?;
+        mem::swap(&mut self.last, place);
+        place.slot.clear();
+        Ok(self.summary.count >= self.limit)
     }
 
     /// The file of the rows in hand, if there are any: those that were written since a file was handed out.
@@ -129,34 +140,12 @@ impl<'b> RunWriter<'b> {
         if rows == 0 {
             return Ok(None);
         }
-        Ok(Some(self.end_file(alloc, names)?))
+        Ok(Some(self.end(alloc, names)?))
     }
 
-    /// Writes the row of a place, which leaves it, to the file in hand.
-    fn put(&mut self, alloc: Global, place: &mut Box<WrittenPlace<'b>>) -> Result<(), AllocError>
-        requires ready { IsWriting self.old }
-        ensures more { OnOk result ((s : TableSchema) (limit level : ℕ) (marker : List ℕ) (rows : List StampedView)
-            (x : StampedView) → place.old.value.slot ≡ Some x
-            → HasContentOf (form_of s) (Some x) place.old.value.content
-            → HasInHand s limit level marker rows self.old
-            → HasInHand s limit level marker (rows ++ x ∷ []) self.new) }
-        ensures ready { OnOk result (CanEnd self.new) }
-        ensures empty { OnOk result (place.new.value.slot ≡ None) }
-    {
-        write_row(
-            alloc,
-            &self.writer.form,
-            place,
-            &mut self.file,
-            &mut self.summary,
-        )?;
-        mem::swap(&mut self.last, place);
-        place.slot.clear();
-        Ok(())
-    }
-
-    /// Ends the file in hand, and begins the next one.
-    fn end_file(&mut self, alloc: Global, names: &mut Names) -> Result<RunFile, AllocError>
+    /// The file in hand, which is ended. The next one has no row yet. Out of memory is also answered where no row is in
+    /// hand.
+    pub fn end(&mut self, alloc: Global, names: &mut Names) -> Result<RunFile, AllocError>
         requires ready { CanEnd self.old }
         requires count { names.old.count < 18446744073709551615 }
         ensures ended { IfOk result (λ f. (s : TableSchema) (limit level : ℕ) (rows : List StampedView)

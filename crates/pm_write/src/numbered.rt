@@ -16,6 +16,9 @@ use pm_schema::TableSchema;
 use pm_values::Names;
 use std::alloc::{AllocError, Global};
 
+/// How many bytes a row takes in its file at most, where its key is short, beside those of its packed values.
+const MORE_BYTES: usize = 12;
+
 /// The one data file of rows by rising key at level 0, each with its number counted from the first.
 pub(crate) fn write_numbered(
     alloc: Global,
@@ -34,6 +37,7 @@ pub(crate) fn write_numbered(
 {
     files_law();
     let mut writer = RunWriter::begin(alloc, schema, usize::MAX, 0, names)?;
+    writer.reserve(most_bytes(rows));
     let empty = WrittenPlace {
         slot: RowSlot::new(alloc),
         content: None,
@@ -41,15 +45,22 @@ pub(crate) fn write_numbered(
     let mut place = Box::new(alloc, empty)?;
     for index in 0..rows.len() {
         lend_counted(alloc, rows, index, first, &mut place)?;
-        match writer.add(alloc, &mut place, names)? {
-            Some(_) => return Err(AllocError),
-            None => {}
+        let full = writer.put(alloc, &mut place)?;
+        if full {
+            return Err(AllocError);
         }
     }
     match writer.finish(alloc, names)? {
         Some(file) => Ok(file),
         None => Err(AllocError),
     }
+}
+
+/// How many bytes the file of the rows takes at most, where their keys are short: beside its values each row has its
+/// number, its kind and its key once more.
+fn most_bytes(rows: &PackedRows) -> usize {
+    let more = rows.len().saturating_mul(MORE_BYTES);
+    rows.bytes_len().saturating_add(more)
 }
 
 /// Lends the row at an index to a place, its number counted from the first.

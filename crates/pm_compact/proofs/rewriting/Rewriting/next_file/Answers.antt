@@ -5,7 +5,7 @@ use Rattle.pm_run_bytes.specs.declared.place.WrittenPlace.{WrittenPlace}
 use Rattle.pm_run_bytes.proofs.PlaceLemmas.{none_has_content}
 use Rattle.pm_compact.specs.Rewriting.{row_at}
 use Rattle.pm_compact.specs.Rewritten.{kept_rows, most_in_file}
-use Rattle.pm_compact.proofs.GivenLemmas.{fewer_in, finished_some, given_end, given_step, names_kept, past_is}
+use Rattle.pm_compact.proofs.GivenLemmas.{fewer_in, finished_some, given_end, given_full, given_row, past_is}
 use Rattle.pm_compact.proofs.RewriteLemmas.{none_stands, some_stands}
 use Rattle.pm_compact.proofs.rewriting.Rewriting.next_file.Goals as goal
 
@@ -50,31 +50,38 @@ returns-then-is_none-clause-fewer g c = λ asked given first.
     omega (arith, less, some, c.in_ok-fill.ensures.fewer)
 
 -- a file is full
-pub returns-in-Some-clause-gives : goal.returns-in-Some-clause-gives
-returns-in-Some-clause-gives g c = λ asked given first.
+pub returns-then-full-clause-gives : goal.returns-then-full-clause-gives
+returns-then-full-clause-gives g c = λ asked given first.
     let m = g.E.MergeEngine.meaning c.args.engine.now in
     let rest = g.S.RowSource.rest in
     let fits = g.S.RowSource.fits in
+    let names = c.loop-place.names in
     let (rows, h, less) = c.loop-place.invariant.so_far asked given first in
     let some : is_none c.fill.new.slot.value.slot ≡ false = ap (λ (p : WrittenPlace). is_none p.slot) (sym c.deref.ensures) ∙ sym c.is_none.ensures ∙ c.if-is_none.false in
     let (x, stands) = some_stands c.fill.new.slot.value.slot some in
     let fit = c.in_ok-fill.ensures.fits asked.schema (none_has_content (form_of asked.schema) c.loop-place.place.value.slot c.loop-place.place.value.content c.loop-place.invariant.none) h.written in
+    let hand = rw h.drops at (c.in_ok-full.ensures.more asked.schema most_in_file asked.level names.session rows x stands (rw stands at fit.0) h.hand) in
     let (later, gives, new) = c.in_ok-fill.ensures.gives h.left h.has in
-    let added = c.in_ok-file.ensures.added asked.schema most_in_file asked.level rows x stands (rw stands at fit.0) h.hand in
-    let step = given_step m rest fits asked given rows c.loop-place.names c.loop-place.self h (λ s. λ next. λ least. c.given_law.ensures.more m asked.rests h.left next h.run s h.gave least)
-    (λ s. λ next. λ least. c.given_law.ensures.some m h.left next s least) x later _ (rw stands at gives, new, refl, fit.1) c.in_ok-file.field-0 c.write_placed.new.names
-    (past_is c.loop-place.names c.write_placed.new.names (length (option_to_list c.in_ok-file.field-0)) c.in_ok-file.ensures.names c.in_ok-file.ensures.taken) (rw h.drops at added) in
-    rw c.in-Some.is at step
+    let many = c.in_ok-full.ensures.full c.if-full.true asked.schema most_in_file asked.level names.session (rows ++ kept_rows m asked.drop (x ∷ [])) hand in
+    let ended = c.in_ok-end.ensures.ended asked.schema most_in_file asked.level (rows ++ kept_rows m asked.drop (x ∷ [])) hand in
+    rw c.in_ok-end.ensures.taken
+    (given_full m rest fits asked given rows names c.loop-place.self h (λ s. λ next. λ least. c.given_law.ensures.more m asked.rests h.left next h.run s h.gave least)
+    (λ s. λ next. λ least. c.given_law.ensures.some m h.left next s least) x later _ (rw stands at gives, new, refl, fit.1) c.in_ok-end.field-0 many ended)
 
-pub returns-in-Some-clause-fewer : goal.returns-in-Some-clause-fewer
-returns-in-Some-clause-fewer g c = λ asked given first.
+pub returns-then-full-clause-fewer : goal.returns-then-full-clause-fewer
+returns-then-full-clause-fewer g c = λ asked given first.
+    let m = g.E.MergeEngine.meaning c.args.engine.now in
+    let rest = g.S.RowSource.rest in
+    let fits = g.S.RowSource.fits in
+    let names = c.loop-place.names in
     let (rows, h, less) = c.loop-place.invariant.so_far asked given first in
     let some : is_none c.fill.new.slot.value.slot ≡ false = ap (λ (p : WrittenPlace). is_none p.slot) (sym c.deref.ensures) ∙ sym c.is_none.ensures ∙ c.if-is_none.false in
     let (x, stands) = some_stands c.fill.new.slot.value.slot some in
     let fit = c.in_ok-fill.ensures.fits asked.schema (none_has_content (form_of asked.schema) c.loop-place.place.value.slot c.loop-place.place.value.content c.loop-place.invariant.none) h.written in
-    let added = rw c.in-Some.is at (c.in_ok-file.ensures.added asked.schema most_in_file asked.level rows x stands (rw stands at fit.0) h.hand) in
-    let less = fewer_in (g.E.MergeEngine.meaning c.args.engine.now) c.loop-place.self.drop rows x _ _ _ less (rw stands at c.in_ok-fill.ensures.fewer) in
-    omega (arith, less, added.0)
+    let hand = rw h.drops at (c.in_ok-full.ensures.more asked.schema most_in_file asked.level names.session rows x stands (rw stands at fit.0) h.hand) in
+    let many = c.in_ok-full.ensures.full c.if-full.true asked.schema most_in_file asked.level names.session (rows ++ kept_rows m asked.drop (x ∷ [])) hand in
+    let less = fewer_in m asked.drop rows x _ _ _ less (rw stands at c.in_ok-fill.ensures.fewer) in
+    omega (arith, less, many)
 
 -- one row more
 pub loop-place-preserved : goal.loop-place-preserved
@@ -83,20 +90,19 @@ loop-place-preserved g c = record {
       let m = g.E.MergeEngine.meaning c.args.engine.now in
       let rest = g.S.RowSource.rest in
       let fits = g.S.RowSource.fits in
+      let names = c.loop-place.names in
       let (rows, h, less) = c.loop-place.invariant.so_far asked given first in
       let some : is_none c.fill.new.slot.value.slot ≡ false = ap (λ (p : WrittenPlace). is_none p.slot) (sym c.deref.ensures) ∙ sym c.is_none.ensures ∙ c.if-is_none.false in
       let (x, stands) = some_stands c.fill.new.slot.value.slot some in
       let fit = c.in_ok-fill.ensures.fits asked.schema (none_has_content (form_of asked.schema) c.loop-place.place.value.slot c.loop-place.place.value.content c.loop-place.invariant.none) h.written in
-      let (later, gives, new) = c.in_ok-fill.ensures.gives h.left h.has in
-      let added = c.in_ok-file.ensures.added asked.schema most_in_file asked.level rows x stands (rw stands at fit.0) h.hand in
-      let step = given_step m rest fits asked given rows c.loop-place.names c.loop-place.self h (λ s. λ next. λ least. c.given_law.ensures.more m asked.rests h.left next h.run s h.gave least)
-      (λ s. λ next. λ least. c.given_law.ensures.some m h.left next s least) x later _ (rw stands at gives, new, refl, fit.1) c.in_ok-file.field-0 c.write_placed.new.names
-      (past_is c.loop-place.names c.write_placed.new.names (length (option_to_list c.in_ok-file.field-0)) c.in_ok-file.ensures.names c.in_ok-file.ensures.taken) (rw h.drops at added) in (
+      let hand = rw h.drops at (c.in_ok-full.ensures.more asked.schema most_in_file asked.level names.session rows x stands (rw stands at fit.0) h.hand) in
+      let (later, gives, new) = c.in_ok-fill.ensures.gives h.left h.has in (
         rows ++ kept_rows m asked.drop (x ∷ []),
-        rw c.in-None.is at step,
+        given_row m rest fits asked given rows names c.loop-place.self h (λ s. λ next. λ least. c.given_law.ensures.more m asked.rests h.left next h.run s h.gave least)
+            (λ s. λ next. λ least. c.given_law.ensures.some m h.left next s least) x later _ (rw stands at gives, new, refl, fit.1) hand,
         fewer_in m asked.drop rows x _ _ _ less (rw stands at c.in_ok-fill.ensures.fewer),
       );
-  none = c.in_ok-file.ensures.none;
-  ready = c.in_ok-file.ensures.ready;
-  names = names_kept c.loop-place.names c.write_placed.new.names c.in_ok-file.ensures.names (rw c.in-None.is at c.in_ok-file.ensures.taken) ∙ c.loop-place.invariant.names;
+  none = c.in_ok-full.ensures.none;
+  ready = c.in_ok-full.ensures.room c.if-full.false;
+  names = c.loop-place.invariant.names;
 }

@@ -13,4 +13,4 @@ returns-then-rows-eq0-clause-finished c = λ s limit level rows hand.
 pub returns-clause-finished : goal.returns-clause-finished
 returns-clause-finished c = λ s limit level rows hand.
     let count = hand.summary.count in
-    (omega (arith, c.if-rows-eq0.false), c.in_ok-end_file.ensures.ended s limit level rows hand)
+    (omega (arith, c.if-rows-eq0.false), c.in_ok-end.ensures.ended s limit level rows hand)

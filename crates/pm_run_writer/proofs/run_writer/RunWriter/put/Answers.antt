@@ -1,4 +1,5 @@
 use Rattle.std.proofs.Common.{Some, refl, sym, ap, subst, ◌∙◌, arith}
+use Rattle.std.proofs.lemmas.Bool.Decides.{nat_tests}
 use Rattle.pm_run.specs.Form.{Form}
 use Rattle.pm_run_bytes.specs.Lying.{HasContentOf}
 use Rattle.pm_run_bytes.specs.declared.place.WrittenPlace.{WrittenPlace}
@@ -16,3 +17,10 @@ returns-clause-more c = λ s limit level marker rows x stands has hand.
     (λ some begun. c.in_ok-write_row.ensures.begun marker some x slot (rw c.deref.ensures known) begun)
     (λ some summary. c.in_ok-write_row.ensures.summary some x slot summary)
     (ap (λ b. b.value.slot) c.swap.ensures.x_after ∙ stands)
+
+pub returns-clause-full : goal.returns-clause-full
+returns-clause-full c = λ is s limit level marker rows hand.
+    let count = hand.summary.count in
+    let limited = hand.limited in
+    let within = hand.within in
+    grind (arith, nat_tests)

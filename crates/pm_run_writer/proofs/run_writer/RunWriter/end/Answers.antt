@@ -1,6 +1,6 @@
 use Rattle.std.proofs.Common.{refl}
 use Rattle.pm_run_writer.proofs.WrittenLemmas.{ended}
-use Rattle.pm_run_writer.proofs.run_writer.RunWriter.end_file.Goals as goal
+use Rattle.pm_run_writer.proofs.run_writer.RunWriter.end.Goals as goal
 
 pub returns-clause-ended : goal.returns-clause-ended
 returns-clause-ended c = λ s limit level rows hand.
