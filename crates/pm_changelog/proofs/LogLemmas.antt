@@ -1,5 +1,5 @@
 -- The log of a group: how it is made, kept and written.
-use Rattle.std.proofs.Common.{◌≡◌, ◌≤◌, List, [], ◌∷◌, length, map, true, Some, None, refl, sym, ap, subst, ◌∙◌, arith}
+use Rattle.std.proofs.Common.{◌≡◌, ℕ, ◌≤◌, List, [], ◌∷◌, length, map, true, Option, Some, None, IsTrue, refl, sym, ap, subst, ◌∙◌, arith}
 use Rattle.std.specs.List.{AllByRecursion}
 use Rattle.std.specs.List.Sorted.{IsPermutation, IsStableByKey}
 use Rattle.std.proofs.lemmas.List.Elements.{All-from_recursion, recursion_from_All}
@@ -15,12 +15,13 @@ use Rattle.pm_model_following.specs.Following.{by_key}
 use Rattle.pm_engine.specs.Covers.{row_of}
 use Rattle.pm_run.specs.Order.{are_in_order}
 use Rattle.pm_run.specs.Rows.{HasRows}
-use Rattle.pm_run.specs.Writing.{CountFrom, HasOwnKey, IsFileWith, changes_prefix, suffix}
+use Rattle.pm_run.specs.Writing.{HasOwnKey, IsFileWith, changes_prefix, suffix}
 use Rattle.pm_run.specs.declared.run.RunFile.{RunFile}
+use Rattle.pm_run_writer.specs.Written.{HasFinishedChanges, HasNames}
 use Rattle.pm_model_changelog.specs.Log.{AreByKey}
-use Rattle.pm_changelog.specs.GroupLog.{AreOfLog, IsGroupLog, without_numbers, stamped_from}
+use Rattle.pm_changelog.specs.GroupLog.{IsGroupLog, without_numbers, stamped_from}
 use Rattle.pm_changelog.specs.Written.{HoldsLog, IsFileOfLog, IsWrittenLog}
-use Rattle.pm_changelog.proofs.NumberLemmas.{changes-stamped, counts-stamped, order-stamped, own-stamped, rows-stamped, stamped-again}
+use Rattle.pm_changelog.proofs.NumberLemmas.{counts-stamped, order-stamped, own-stamped, rows-stamped}
 use Rattle.pm_changelog.proofs.OrderLemmas.{AreSorted, order-sorted, rise-sorted, same-sorted}
 
 -- ---- the rows that were taken
@@ -30,45 +31,37 @@ abbrev pub OnlyByKey : Type 0
 OnlyByKey = (s : TableSchema) (rows given : List HistoryRow) → AreByKey s rows
     → ((key : Values) → rows_of (primary_of s) key rows ≡ rows_of (primary_of s) key given) → rows ≡ by_key s given
 
-module _ (rows copies sorted counted : List Stamped) (copied : copies ≡ rows) (rises : AreSorted sorted) (number : counted ≡ stamped_from 0 (without_numbers sorted)) where
-  seen : without_numbers counted ≡ without_numbers sorted
-  seen = ap without_numbers number ∙ changes-stamped 0 (without_numbers sorted)
-
-  pub log-kept : AreOfLog counted
-  log-kept = record {
-    numbers = subst (CountFrom 0) (sym number) (counts-stamped 0 (without_numbers sorted));
-    order = subst (λ (rs : List Stamped). are_in_order true None rs ≡ true) (sym number) (order-stamped true None 0 sorted ∙ order-sorted sorted rises);
-  }
-
-  pub log-made : OnlyByKey → IsStableByKey (λ (x : Stamped). x.key) key_cmp copies sorted → IsPermutation copies sorted → (s : TableSchema)
-      → AllByRecursion (HasOwnKey s) rows → IsGroupLog s (by_key s (map row_of rows)) (without_numbers counted)
-  log-made only stable same s own =
-      let own_copies : AllByRecursion (HasOwnKey s) copies = subst (AllByRecursion (HasOwnKey s)) (sym copied) own in
-      let own_sorted : AllByRecursion (HasOwnKey s) sorted =
-      recursion_from_All (HasOwnKey s) sorted (All-permutation (HasOwnKey s) copies sorted same (All-from_recursion (HasOwnKey s) copies own_copies)) in
-      subst (IsGroupLog s (by_key s (map row_of rows))) (sym seen) (record {
-        told = rows-stamped 0 sorted
-            ∙ only s (map row_of sorted) (map row_of copies) (rise-sorted s sorted rises own_sorted) (λ key. same-sorted s copies sorted key stable own_copies own_sorted)
-            ∙ ap (λ (rs : List Stamped). by_key s (map row_of rs)) copied;
-        own = own-stamped s 0 sorted own_sorted;
-      })
+pub log-made : (rows copies sorted : List Stamped) → copies ≡ rows → AreSorted sorted → OnlyByKey → IsStableByKey (λ (x : Stamped). x.key) key_cmp copies sorted → IsPermutation copies sorted
+    → (s : TableSchema) → AllByRecursion (HasOwnKey s) rows → IsGroupLog s (by_key s (map row_of rows)) (without_numbers sorted)
+log-made rows copies sorted copied rises only stable same s own =
+    let own_copies : AllByRecursion (HasOwnKey s) copies = subst (AllByRecursion (HasOwnKey s)) (sym copied) own in
+    let own_sorted : AllByRecursion (HasOwnKey s) sorted =
+    recursion_from_All (HasOwnKey s) sorted (All-permutation (HasOwnKey s) copies sorted same (All-from_recursion (HasOwnKey s) copies own_copies)) in
+    record {
+      told = rows-stamped 0 sorted
+          ∙ only s (map row_of sorted) (map row_of copies) (rise-sorted s sorted rises own_sorted) (λ key. same-sorted s copies sorted key stable own_copies own_sorted)
+          ∙ ap (λ (rs : List Stamped). by_key s (map row_of rs)) copied;
+      own = own-stamped s 0 sorted own_sorted;
+    }
 
 -- ---- the file
 
-pub written-none : (s : TableSchema) (names : Naming) (rows : List Stamped) → rows ≡ [] → IsWrittenLog s names (without_numbers rows) None
-written-none s names [] none = refl
-written-none s names (x ∷ rows) none = cc
+-- `changes_law`
+abbrev pub ReadsChanges : Type 0
+ReadsChanges = (s : TableSchema) (level : ℕ) (marker name : List ℕ) (rows : List Stamped) (f : RunFile) → HasNames s → 1 ≤ length rows → IsFileWith s level marker name rows f
+    → AllByRecursion (HasOwnKey s) rows → IsTrue (are_in_order true None rows) → HasRows s true f.bytes rows
 
-pub written-some : (s : TableSchema) (names : Naming) (rows : List Stamped) (f : RunFile) → 1 ≤ length rows → CountFrom 0 rows
-    → IsFileWith s 0 names.session (name_of changes_prefix suffix names) rows f → (AllByRecursion (HasOwnKey s) rows → HasRows s true f.bytes rows)
-    → IsWrittenLog s names (without_numbers rows) (Some f)
-written-some s names [] f some counts made again = absurd (omega arith)
-written-some s names (x ∷ rows) f some counts made again =
-    let same : x ∷ rows ≡ stamped_from 0 (without_numbers (x ∷ rows)) = sym (stamped-again 0 (x ∷ rows) counts) in
-    record {
-      made = subst (λ (rs : List Stamped). IsFileWith s 0 names.session (name_of changes_prefix suffix names) rs f) same made;
-      again = subst (λ (rs : List Stamped). AllByRecursion (HasOwnKey s) rs → HasRows s true f.bytes rs) same again;
-    }
+-- what was written of all rows, each with the number of its index
+pub written-log : ReadsChanges → (s : TableSchema) (names : Naming) (rows : List Stamped) (file : Option RunFile) → HasNames s → are_in_order true None rows ≡ true
+    → HasFinishedChanges s 0 names (stamped_from 0 (without_numbers rows)) file → IsWrittenLog s names (without_numbers rows) file
+written-log law s names [] None differ order finished = refl
+written-log law s names [] (Some f) differ order finished = let some = finished.0 in absurd (omega arith)
+written-log law s names (x ∷ rows) None differ order finished = cc
+written-log law s names (x ∷ rows) (Some f) differ order finished = record {
+  made = finished.1;
+  again = λ own. law s 0 names.session (name_of changes_prefix suffix names) (stamped_from 0 (without_numbers (x ∷ rows))) f differ finished.0 finished.1 own
+      (order-stamped true None 0 (x ∷ rows) ∙ order);
+}
 
 -- ---- what a log tells
 

@@ -11,7 +11,7 @@ use Rattle.pm_model_following.specs.Following.{change}
 use Rattle.pm_model_following.specs.Groups.{rows_in}
 use Rattle.pm_engine.specs.Covers.{row_of}
 use Rattle.pm_run.specs.Order.{are_in_order}
-use Rattle.pm_run.specs.Writing.{CountFrom, HasOwnKey}
+use Rattle.pm_run.specs.Writing.{HasOwnKey}
 
 -- ---- what a log tells
 
@@ -33,7 +33,7 @@ IsLogAt s g entries e log = IsGroupLog s (rows_in s g (change s (entries ++ e �
 
 -- ---- how it is kept
 
--- Private: a row of a changelog file without its number
+-- Private: a row without its number
 abbrev pub without_number : Stamped → Change
 without_number x = record { key = x.key; kind = x.kind; row = x.row }
 
@@ -41,6 +41,9 @@ abbrev pub without_numbers : List Stamped → List Change
 without_numbers rows = map without_number rows
 
 -- Private: rows that a changelog file can have in this order
-pub record AreOfLog (rows : List Stamped) : Type 0 where
-  pub numbers : CountFrom 0 rows
-  pub order : IsTrue (are_in_order true None rows)
+abbrev pub AreOfLog : List Stamped → Type 0
+AreOfLog rows = IsTrue (are_in_order true None rows)
+
+-- Private: a row with another number
+abbrev pub with_number : ℕ → Stamped → Stamped
+with_number n x = record x { seq = n }

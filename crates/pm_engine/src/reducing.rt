@@ -37,8 +37,8 @@ pub fn reduce<E: MergeEngine>(
     gathered(alloc, engine, rows)
 }
 
-/// The run of sorted rows. It is made where they lie: its rows are the first ones, no more than were taken. The last one
-/// is in hand until another key comes, so that what is joined to it isn't packed each time.
+/// The run of sorted rows. It is made where they lie: its rows are the first ones, no more than were taken. The last
+/// one is in hand until another key comes, so that what is joined to it isn't packed each time.
 fn gathered<E: MergeEngine>(
     alloc: Global,
     engine: &E,

@@ -73,8 +73,8 @@ impl InputLines {
         self.marks.len()
     }
 
-    /// The first half of them and the later one, each in memory of its own: so what the first takes can be let go before
-    /// the later ones are taken.
+    /// The first half of them and the later one, each in memory of its own: so what the first takes can be let go
+    /// before the later ones are taken.
     pub fn halves(self) -> Result<(InputLines, InputLines), AllocError>
         ensures { IfOk result (λ halves. self ≡ halves.0 ++ halves.1) }
     {

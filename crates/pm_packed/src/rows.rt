@@ -70,6 +70,19 @@ impl PackedRows {
         self.bytes.len()
     }
 
+    /// The same rows, in memory of their own.
+    pub fn copy(&self, alloc: Global) -> Result<PackedRows, AllocError>
+        ensures { IfOk result (λ copy. copy ≡ self.now) }
+    {
+        let bytes = Vec::from_slice(alloc, &self.bytes)?;
+        let places = Vec::from_slice(alloc, &self.places)?;
+        Ok(PackedRows {
+            bytes,
+            places,
+            buffer: Vec::new(alloc),
+        })
+    }
+
     /// Adds a row. Without memory for it the rows stay as they are.
     pub fn push(&mut self, row: &Stamped) -> Result<(), AllocError>
         ensures added { OnOk result (self.new ≡ self.old ++ row.now ∷ []) }

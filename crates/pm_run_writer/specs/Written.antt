@@ -8,7 +8,7 @@ use Rattle.pm_values.specs.declared.record.Stamped.{Stamped}
 use Rattle.pm_run.specs.Form.{form_of, written_fields}
 use Rattle.pm_run.specs.Kinds.{run_type}
 use Rattle.pm_run.specs.Order.{last_key}
-use Rattle.pm_run.specs.Writing.{IsFileWith, data_prefix, suffix}
+use Rattle.pm_run.specs.Writing.{IsFileWith, changes_prefix, data_prefix, suffix}
 use Rattle.pm_run.specs.declared.run.RunFile.{RunFile}
 use Rattle.pm_run_writer.specs.Begun.{HasBegun}
 use Rattle.pm_run_writer.specs.Summary.{IsSummary}
@@ -73,3 +73,9 @@ HasFullFile w = (s : TableSchema) (limit level : ℕ) (marker : List ℕ) (rows 
 abbrev pub HasFinished : TableSchema → ℕ → ℕ → Naming → List Stamped → Option RunFile → RunWriter → Type 0
 HasFinished s limit level names rows None w = (rows ≡ []) × HasInHand s limit level names.session [] w
 HasFinished s limit level names rows (Some f) w = (1 ≤ length rows) × HasEnded s limit level names rows f w
+
+-- of these rows in hand there was none, or the changelog file of these was ended, with the next name
+abbrev pub HasFinishedChanges : TableSchema → ℕ → Naming → List Stamped → Option RunFile → Type 0
+HasFinishedChanges s level names rows None = rows ≡ []
+HasFinishedChanges s level names rows (Some f) =
+    (1 ≤ length rows) × IsFileWith s level names.session (name_of changes_prefix suffix names) rows f

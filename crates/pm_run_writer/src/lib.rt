@@ -9,7 +9,9 @@
 //! A row's bytes go from its values into those of its block, and a block is ended at 1024 rows: beside the rows stand
 //! the files so far and one block, and no datum of a row is made. A `RunWriter` takes one row at a time from its place,
 //! wherever it lies, tells where the file is full, and hands it out, so that neither a list of all rows nor one of the
-//! files is kept (`specs/Written.antt`). That files which were written one by one are read as one run is `files_law`.
+//! files is kept (`specs/Written.antt`). What it has in hand may also be ended as the file of a changelog. That files
+//! which were written one by one are read as one run is `files_law`, and that a changelog's is read as its rows
+//! `changes_law`.
 #![tactic(auto)]
 
 mod begun_file;
@@ -20,6 +22,6 @@ mod run_writer;
 mod summary;
 mod writer;
 
-pub use laws::files_law;
+pub use laws::{changes_law, files_law};
 pub use run_writer::RunWriter;
 pub use writer::{write_changes, write_data, write_run};

@@ -11,8 +11,8 @@ ghost use Rattle.pm_run.specs.Writing.{IsFileWith};
 ghost use Rattle.pm_run_bytes.specs.Lying.{HasContentOf};
 ghost use Rattle.pm_run_writer.specs.Begun.{HasBegun};
 ghost use Rattle.pm_run_writer.specs.Summary.{IsSummary};
-ghost use Rattle.pm_run_writer.specs.Written.{CanEnd, CanWrite, HasEnded, HasFinished, HasFullFile, HasInHand};
-ghost use Rattle.pm_run_writer.specs.Written.{IsLastOf, IsWriterOf, IsWriting};
+ghost use Rattle.pm_run_writer.specs.Written.{CanEnd, CanWrite, HasEnded, HasFinished, HasFinishedChanges};
+ghost use Rattle.pm_run_writer.specs.Written.{HasFullFile, HasInHand, IsLastOf, IsWriterOf, IsWriting};
 
 use crate::begun_file::BegunFile;
 use crate::placed::key_of;
@@ -141,6 +141,37 @@ impl<'b> RunWriter<'b> {
             return Ok(None);
         }
         Ok(Some(self.end(alloc, names)?))
+    }
+
+    /// The changelog file of the rows in hand, if there are any: those that were written since a file was handed out.
+    pub fn finish_changes(
+        self,
+        alloc: Global,
+        names: &mut Names,
+    ) -> Result<Option<RunFile>, AllocError>
+        requires ready { IsWriting self }
+        requires count { names.old.count < 18446744073709551615 }
+        ensures finished { IfOk result (λ file. (s : TableSchema) (limit level : ℕ) (rows : List StampedView)
+            → HasInHand s limit level names.old.session rows self.entry
+            → HasFinishedChanges s level names.old rows file) }
+        ensures names { names.new ≡ record names.old { count = names.new.count } }
+        ensures counted { (names.old.count ≤ names.new.count) × (names.new.count ≤ names.old.count + 1) }
+        ensures taken { IfOk result (λ file. names.new.count ≡ names.old.count + length (option_to_list file)) }
+    {
+        let RunWriter {
+            writer,
+            limit: _,
+            level,
+            file,
+            summary,
+            last,
+        } = self;
+        if summary.count == 0 {
+            return Ok(None);
+        }
+        let name = names.take(alloc, "changelog-", ".avro")?;
+        let changes = file_of(alloc, &writer, file, summary, &last.slot, level, name)?;
+        Ok(Some(changes))
     }
 
     /// The file in hand, which is ended. The next one has no row yet. Out of memory is also answered where no row is in
