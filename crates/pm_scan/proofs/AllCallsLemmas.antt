@@ -36,7 +36,7 @@ use Rattle.pm_read_table.specs.Trace.{HasView, of_origin, of_snapshot}
 use Rattle.pm_read_table.specs.declared.phase.Phase.TheVariants as readers
 use Rattle.pm_read_table.specs.declared.view.View.{View}
 use Rattle.pm_read_table.proofs.Facts as reader_facts
-use Rattle.pm_scan.specs.AllCalls.{DidScan, Ends, Has, IsCaused, IsThere, PrintsScan, ScansTables, asked_at, id_of, path_of, wanted_of}
+use Rattle.pm_scan.specs.AllCalls.{DidScan, Ends, Has, IsCaused, IsThere, PrintsScan, ScansOf, ScansTables, asked_at, id_of, path_of, wanted_of}
 use Rattle.pm_group_files.specs.Collected.{Collected, HaveTaken, nothing_of, with_groups}
 use Rattle.pm_group_files.specs.Jobs.{all_jobs}
 use Rattle.pm_group_files.specs.Meaning.{HasRuns}
@@ -311,6 +311,35 @@ scanned_history laws s at (Err refusal) before after declared (own, (earlier, la
       text = tt;
       cause = subst (λ (h : History). IsCaused f s h at first after refusal) (sym t.is)
           (caused laws f s t.entries t.folder declared at first after refusal later shows told.1 (rose_after earlier later own first after is rest));
+    }
+
+-- the calls after the schema by themselves, of a history of its table
+pub own_history : AllLaws → (s : TableSchema) (at : Option ℕ) (result : Result (List ℕ) Refusal) (before after : StoreView) → IsDeclared s
+    → HasTrace (Ends (asked_at s at) result) before after → ScansOf s at before after result
+own_history laws s at (Ok text) before after declared (own, (id, scan), trace) = λ alone f h had folder table_is.
+    let first = at_first_own before after in
+    let stay = stayed f own first after (scan_still (asked_at s at) id text own scan) (Traces-first own before after trace) alone had in
+    let t = tabled f s h folder table_is in
+    let got = text_at laws f s t.entries t.folder declared at id text own scan stay.1 in
+    record {
+      files = stay.0;
+      schema = table_is;
+      there = subst (λ (h : History). IsThere f s h (id_of at (count_of h))) (sym t.is) got.0;
+      text = subst (λ (h : History). PrintsScan h at text) (sym t.is) got.1;
+      cause = tt;
+    }
+own_history laws s at (Err refusal) before after declared (own, shows, trace) = λ alone f h had folder table_is.
+    let first = at_first_own before after in
+    let rest = Traces-first own before after trace in
+    let stay = stayed f own first after (shows_still (asked_at s at) refusal own shows) rest alone had in
+    let t = tabled f s h folder table_is in
+    record {
+      files = stay.0;
+      schema = table_is;
+      there = tt;
+      text = tt;
+      cause = subst (λ (h : History). IsCaused f s h at first after refusal) (sym t.is)
+          (caused laws f s t.entries t.folder declared at first after refusal own shows stay.1 (rose_after [] own own first after refl rest));
     }
 
 -- ---- steps in a row

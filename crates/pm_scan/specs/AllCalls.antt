@@ -106,3 +106,9 @@ abbrev pub ScansTables : TableSchema → Option ℕ → StoreView → StoreView 
 ScansTables s at before after result =
     FromFirst (λ first after. (f : Files) (h : History) → HasFiles f first → Folder f h
     → ScansTable f h s at first after result) before after
+
+-- what the calls after the schema promise of histories of its table, from the first of them on
+abbrev pub ScansOf : TableSchema → Option ℕ → StoreView → StoreView → Result (List ℕ) Refusal → Type 0
+ScansOf s at before after result =
+    FromFirst (λ first after. (f : Files) (h : History) → HasFiles f first → Folder f h → IsTableOf s h
+    → ScansTable f h s at first after result) before after

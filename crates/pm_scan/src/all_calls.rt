@@ -21,7 +21,8 @@ use pm_values::Refusal;
 use std::alloc::Global;
 
 /// Scans the table whose schema was just read, at its latest snapshot or the one with that id: all further calls, one
-/// after another. It gives the text. What it promises is said from whatever moment on that reading began.
+/// after another. It gives the text. What it promises is said of these calls, and from whatever moment on that reading
+/// began.
 pub fn scan_table<F: FileStore>(
     alloc: Global,
     schema: TableSchema,
@@ -30,6 +31,7 @@ pub fn scan_table<F: FileStore>(
 ) -> Result<Vec<u8>, Refusal>
     requires declared { IsDeclared schema }
     requires engine { HasEngine schema }
+    ensures own { HasTrace (Ends (asked_at schema at) (text_in result)) (F.seen store.old) (F.seen store.new) }
     ensures trace { (first : StoreView) → HasTrace (Has schema) first (F.seen store.old)
         → HasTrace (DidScan schema at (text_in result)) first (F.seen store.new) }
     ensures history { (first : StoreView) → HasTrace (Has schema) first (F.seen store.old)

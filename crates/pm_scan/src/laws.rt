@@ -20,7 +20,7 @@ ghost use Rattle.pm_schema.specs.Again.{IsDeclared};
 ghost use Rattle.pm_store.specs.Store.{StoreView};
 ghost use Rattle.pm_values.specs.declared.refusal.Refusal.{Refusal};
 ghost use Rattle.pm_values.specs.declared.refusal.Refusal.TheVariants as refusals;
-ghost use Rattle.pm_scan.specs.AllCalls.{DidScan, PrintAlike, ScansTables};
+ghost use Rattle.pm_scan.specs.AllCalls.{asked_at, DidScan, Ends, PrintAlike, ScansOf, ScansTables};
 ghost use Rattle.pm_group_files.specs.Collected.{Collected, HaveTaken, nothing_of};
 ghost use Rattle.pm_group_files.specs.Jobs.{all_jobs};
 ghost use Rattle.pm_group_files.specs.Meaning.{IsChosen, IsTableView};
@@ -101,10 +101,13 @@ pub(crate) fn files_law()
     scan_law();
 }
 
-/// What all calls of a scan show of a history that stands at the first of them, where nobody else acts from then on.
-pub(crate) fn all_calls_law()
-    ensures { (s : TableSchema) (at : Option ℕ) (result : Result (List ℕ) Refusal) (before after : StoreView)
+/// What all calls of a scan show of a history that stands at the first of them, where nobody else acts from then on; and
+/// what those after the schema show of a history of its table, whatever was read before.
+pub fn all_calls_law()
+    ensures scan { (s : TableSchema) (at : Option ℕ) (result : Result (List ℕ) Refusal) (before after : StoreView)
         → IsDeclared s → HasTrace (DidScan s at result) before after → ScansTables s at before after result }
+    ensures own { (s : TableSchema) (at : Option ℕ) (result : Result (List ℕ) Refusal) (before after : StoreView)
+        → IsDeclared s → HasTrace (Ends (asked_at s at) result) before after → ScansOf s at before after result }
 {
     joined_law();
     one_reading_law::<ManifestMeta>();

@@ -20,6 +20,6 @@ mod phase;
 mod scanner;
 
 pub use all_calls::scan_table;
-pub use laws::{causes_law, images_law, known_law, one_answer_law};
+pub use laws::{all_calls_law, causes_law, images_law, known_law, one_answer_law};
 pub use phase::Phase;
 pub use scanner::{Scanner, into_text, is_scan_ready, newest_scan, scan_at};

@@ -9,6 +9,14 @@ use Rattle.pm_scan.proofs.all_calls.scan_table.Goals as goal
 pub make_calls-requires : goal.make_calls-requires
 make_calls-requires g c = first_left (asked_at c.args.schema c.args.at) c.scanner_of.result c.scanner_of.ensures
 
+pub returns-clause-own : goal.returns-clause-own
+returns-clause-own g c =
+    let seen = g.F.FileStore.seen in
+    let a = asked_at c.args.schema c.args.at in
+    let begun_here = subst (λ (m : Phase). HasTrace (Did a m) (seen c.args.store.now) (seen c.args.store.now)) (sym c.scanner_of.ensures)
+    (begun a (seen c.args.store.now) (begins c.args.at)) in
+    c.make_calls.ensures.trace a (seen c.args.store.now) begun_here
+
 pub returns-clause-trace : goal.returns-clause-trace
 returns-clause-trace g c = λ first has.
     let seen = g.F.FileStore.seen in
@@ -24,4 +32,4 @@ returns-clause-history g c = λ first has.
     let own = subst (λ (m : Phase). HasTrace (Did a m) (seen c.args.store.now) (seen c.args.store.now)) (sym c.scanner_of.ensures) (begun a (seen c.args.store.now) (begins c.args.at)) in
     let trace = went_on c.args.schema c.args.at (text_in c.make_calls.result) first (seen c.args.store.now) (seen c.make_calls.new.store) has
     (c.make_calls.ensures.trace a (seen c.args.store.now) own) in
-    c.all_calls_law.ensures c.args.schema c.args.at (text_in c.make_calls.result) first (seen c.make_calls.new.store) c.requires.declared trace
+    c.all_calls_law.ensures.scan c.args.schema c.args.at (text_in c.make_calls.result) first (seen c.make_calls.new.store) c.requires.declared trace
