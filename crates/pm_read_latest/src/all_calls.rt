@@ -1,0 +1,30 @@
+//! The call of a reader of the latest snapshot's id.
+
+ghost use Rattle.std.specs.Prelude.{◌≡◌};
+ghost use Rattle.pm_machine.specs.Trace.{HasTrace};
+ghost use Rattle.pm_store.specs.Store.{IsLater};
+ghost use Rattle.pm_read_latest.specs.AllCalls.{DidLatest, FindsLatests};
+
+use crate::laws::all_calls_law;
+use crate::reader::{into_latest, latest_reader};
+use pm_machine::take_step;
+use pm_store::FileStore;
+use pm_values::Refusal;
+use std::alloc::Global;
+
+/// The id of the latest snapshot of a table, 0 where no later one than the origin is there: one call of the store.
+pub fn read_latest<F: FileStore>(alloc: Global, store: &mut F) -> Result<u64, Refusal>
+    ensures trace { HasTrace (DidLatest result) (F.seen store.old) (F.seen store.new) }
+    ensures history { FindsLatests (F.seen store.old) (F.seen store.new) result }
+    ensures later { IsLater (F.seen store.old) (F.seen store.new) }
+{
+    all_calls_law();
+    let mut reader = latest_reader();
+    match take_step(alloc, &mut reader, store) {
+        Ok(_) => Ok(into_latest(reader)),
+        Err(refusal) => {
+            drop(reader);
+            Err(refusal)
+        }
+    }
+}
