@@ -65,6 +65,13 @@ pub files_all : (s : TableSchema) (old names : Naming) (runs : List (Group × Ru
 files_all s old names runs i files past before =
     subst (AreFilesOfRuns s old runs) (append-nil files) (before [] (subst (λ (rs : List (Group × Run)). AreFilesOfRuns s names rs []) (sym (drop_all i runs past)) tt))
 
+-- one file for each run
+pub files_many : (s : TableSchema) (names : Naming) (runs : List (Group × Run)) (files : List NewFile) → AreFilesOfRuns s names runs files → length files ≡ length runs
+files_many s names [] [] are = refl
+files_many s names [] (x ∷ files) are = absurd are
+files_many s names (p ∷ runs) [] are = absurd are
+files_many s names (p ∷ runs) (x ∷ files) are = ap suc (files_many s (counted names) runs files are.1)
+
 pub length_after : (old new : List NewFile) (x : NewFile) (i : ℕ) → new ≡ old ++ x ∷ [] → length old ≡ i → length new ≡ i + 1
 length_after old new x i pushed many = let longer = ap length pushed ∙ length_push old x in omega arith
 

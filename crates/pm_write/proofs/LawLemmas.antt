@@ -22,7 +22,7 @@ use Rattle.pm_model_following.specs.Groups.{group_of, rows_in}
 use Rattle.pm_run.specs.Row.{most_sequence}
 use Rattle.pm_run.specs.Writing.{IsMetaOf, first_key}
 use Rattle.pm_write.specs.Batch.{AreRowsOf, AreStoredOf, GroupRows, Groups, HoldsRows, IsBatchOf, held_of, numbered}
-use Rattle.pm_write.specs.Files.{AreNewFiles, AreWritten, IsNewFile, IsWritten, exceeds, exceeds_at, next_of}
+use Rattle.pm_write.specs.Files.{AreFilesOfRuns, AreNewFiles, AreWritten, IsNewFile, IsWritten, exceeds, exceeds_at, next_of, next_run}
 use Rattle.pm_write.specs.declared.files.NewFile.{NewFile}
 use Rattle.pm_write.proofs.FileLemmas.{neither, not_above}
 use Rattle.pm_write.proofs.GroupLemmas.{tie-back}
@@ -126,6 +126,9 @@ some_held : (s : TableSchema) (rows : List HistoryRow) (x : GroupRows) → Holds
 some_held s [] x held none = let no : Some x ≡ None = held in cc
 some_held s (row ∷ rows) x held none = cc
 
+pub some_group : (s : TableSchema) (rows : List HistoryRow) (batch : Groups) (g : Group) (x : GroupRows) → IsBatchOf s rows batch → held_of g batch ≡ Some x → rows_in s g rows ≢ []
+some_group s rows batch g x is found = some_held s (rows_in s g rows) x (subst (HoldsRows s (rows_in s g rows)) found (is.held g))
+
 no_folders : (s : TableSchema) (g : Group) → s.partition ≡ [] → g.partition ≡ [] → FitsPartition s g
 no_folders s g no_names no_values =
     subst (λ (names : List (List ℕ)). AllZip (FitsPart s.columns) names g.partition) (sym no_names)
@@ -145,12 +148,12 @@ folders s rows batch no_names is = by_groups batch (all_held s rows batch is)
         (no_folders s e.0 no_names none, by_groups es held.1)
 
 pub all_written : (s : TableSchema) (rows : List HistoryRow) (batch : Groups) (next : BTreeMap Group ℕ) (names : Naming) (files : List NewFile) → IsBatchOf s rows batch → exceeds next batch ≡ false
-    → AreNewFiles s next names batch files → AreWritten s next batch files
+    → (new : AreNewFiles s next names batch files) → AreWritten s next batch new.data_files
 all_written s rows batch next names files is within new =
-    by_groups batch names files (each_held batch is.ordered) within new
+    by_groups batch names new.data_files (each_held batch is.ordered) within new.runs
   where
     by_groups : (es : Groups) (names : Naming) (xs : List NewFile) → AllByRecursion (λ (e : Group × GroupRows). held_of e.0 batch ≡ Some e.1) es → exceeds next es ≡ false
-        → AreNewFiles s next names es xs → AreWritten s next es xs
+        → AreFilesOfRuns s names (map (next_run next) es) xs → AreWritten s next es xs
     by_groups [] names [] held within new = tt
     by_groups [] names (x ∷ xs) held within new = absurd new
     by_groups (e ∷ es) names [] held within new = absurd new

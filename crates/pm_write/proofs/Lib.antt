@@ -3,6 +3,7 @@ mod FileOfRunLemmas
 mod GroupLemmas
 mod LawLemmas
 mod ListLemmas
+mod LogLemmas
 mod NumberLemmas
 mod RunLemmas
 mod TakenLemmas

@@ -7,6 +7,7 @@ use Rattle.std.specs.declared.cmp.Ordering.TheVariants.{Less}
 use Rattle.std.proofs.lemmas.List.{length-map}
 use Rattle.std.proofs.lemmas.List.Elements.{All-from_recursion}
 use Rattle.pm_values.specs.Order.{Values, key_cmp}
+use Rattle.pm_values.specs.declared.record.Change.{Change}
 use Rattle.pm_values.specs.declared.record.Stamped.{Stamped}
 use Rattle.pm_schema.specs.declared.schema.TableSchema.{TableSchema}
 use Rattle.pm_model_history.specs.Merge.{HistoryRow, rows_of}
@@ -16,8 +17,8 @@ use Rattle.pm_engine.specs.Meaning.{Meaning, SpeaksFor, stored_of}
 use Rattle.pm_engine.specs.OfSchema.{meaning_of}
 use Rattle.pm_engine.specs.Reducing.{AreStoredRows, HasGreatestNumbers, greatest_number}
 use Rattle.pm_engine.proofs.Rising.{apart, apart_back, tied, ties_itself}
-use Rattle.pm_run.specs.Writing.{CountFrom}
-use Rattle.pm_write.specs.Batch.{AreRowsOf, AreStoredOf, IsStoredRow, all_stamped}
+use Rattle.pm_run.specs.Writing.{CountFrom, HasOwnKey}
+use Rattle.pm_write.specs.Batch.{AreRowsOf, AreStoredOf, IsStoredRow, KeepsLog, all_stamped}
 use Rattle.pm_write.specs.Held.{IsNumberedBelow}
 use Rattle.pm_write.specs.Taken.{IsTakenRow, stamped}
 use Rattle.pm_write.proofs.ListLemmas.{both_of, from_map, none_mapped, weaker}
@@ -145,6 +146,10 @@ stamped_again s n (x ∷ xs) keyed counts =
 pub all_keyed : (s : TableSchema) (rows : Run) → AllByRecursion (IsTakenRow s) rows → All (IsKeyed (meaning_of s)) rows
 all_keyed s rows taken = All-from_recursion (IsKeyed (meaning_of s)) rows (weaker (IsTakenRow s) (IsKeyed (meaning_of s)) (λ x is. is.keyed) rows taken)
 
+-- so they can stand in a changelog file
+pub all_own : (s : TableSchema) (rows : Run) → AllByRecursion (IsTakenRow s) rows → AllByRecursion (HasOwnKey s) rows
+all_own s rows taken = weaker (IsTakenRow s) (HasOwnKey s) (λ x is. record { fits = is.keyed.fits; own = sym is.keyed.own }) rows taken
+
 -- ---- what reducing gives
 
 module _ (s : TableSchema) (run rows : Run) (rising : IsRising run) (numbers : HasGreatestNumbers run rows)
@@ -198,9 +203,10 @@ module _ (s : TableSchema) (run rows : Run) (rising : IsRising run) (numbers : H
       weaker (λ (x : Stamped). row_of x ≡ stored_of (meaning_of s) (map row_of (of_key x.key rows))) (λ (x : Stamped). row_of x ≡ stored_of (meaning_of s) (rows_of (primary_of s) x.key (map row_of rows)))
       (λ x own. own ∙ ap (stored_of (meaning_of s)) (sym (keyed_rows (meaning_of s) x.key rows keyed))) run stored
 
-  pub rows_reduced : AreStoredRows (meaning_of s) run rows → (count : ℕ) → count ≡ length rows → AreRowsOf s (map row_of rows) (record { count = count; run = run })
-  rows_reduced stored count is =
-      let whole : AreRowsOf s (map row_of rows) (record { count = length rows; run = run }) =
+  pub rows_reduced : AreStoredRows (meaning_of s) run rows → (count : ℕ) → count ≡ length rows → (log : List Change) → KeepsLog s.options.producer s (map row_of rows) log
+      → AreRowsOf s (map row_of rows) (record { count = count; run = run; log = log })
+  rows_reduced stored count is log keeps =
+      let whole : AreRowsOf s (map row_of rows) (record { count = length rows; run = run; log = log }) =
       record {
         count = sym (length-map rows row_of);
         rising = rising;
@@ -209,8 +215,9 @@ module _ (s : TableSchema) (run rows : Run) (rising : IsRising run) (numbers : H
         each = stored_rows;
         numbers = subst (HasGreatestNumbers run) (sym (stamped_again s 0 rows keyed counts)) numbers;
         last = last_number;
+        log = keeps;
       } in
-      subst (λ (n : ℕ). AreRowsOf s (map row_of rows) (record { count = n; run = run })) (sym is) whole
+      subst (λ (n : ℕ). AreRowsOf s (map row_of rows) (record { count = n; run = run; log = log })) (sym is) whole
 
   pub within_reduced : (count : ℕ) → count ≡ length rows → All (IsNumberedBelow count) run
   within_reduced count is =

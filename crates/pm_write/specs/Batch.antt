@@ -1,4 +1,4 @@
--- What the rows of a batch become: of each group one run, whose numbers count the group's rows from 0.
+-- What the rows of a batch become: of each group one run, whose numbers count the group's rows from 0, and its log.
 use Rattle.std.specs.Prelude.{◌≡◌, ℕ, ◌+◌, ◌<◌, List, [], ◌∷◌, length, map, Option, Some, None, IsTrue}
 use Rattle.std.specs.Prelude.{Result, Ok, Err}
 use Rattle.std.specs.BTreeMap.{is_at}
@@ -8,8 +8,11 @@ use Rattle.std.specs.Map.{keys_of, lookup}
 use Rattle.pm_base.specs.Outcome.{Fails}
 use Rattle.pm_values.specs.GroupOrder.{group_cmp}
 use Rattle.pm_values.specs.declared.group.Group.{Group}
+use Rattle.pm_values.specs.declared.record.Change.{Change}
 use Rattle.pm_values.specs.declared.record.Stamped.{Stamped}
 use Rattle.pm_values.specs.declared.refusal.Refusal.{Refusal}
+use Rattle.pm_options.specs.declared.kinds.Producer.{Producer}
+use Rattle.pm_options.specs.declared.kinds.Producer.TheVariants as producers
 use Rattle.pm_schema.specs.declared.schema.TableSchema.{TableSchema}
 use Rattle.pm_model_history.specs.Merge.{HistoryRow, rows_of}
 use Rattle.pm_model_history.specs.Merged.{primary_of}
@@ -18,14 +21,17 @@ use Rattle.pm_engine.specs.Covers.{CoversAll, IsKeyed, IsRising, Run, row_of}
 use Rattle.pm_engine.specs.Meaning.{stored_of}
 use Rattle.pm_engine.specs.OfSchema.{meaning_of}
 use Rattle.pm_engine.specs.Reducing.{HasGreatestNumbers, greatest_number}
+use Rattle.pm_model_following.specs.Following.{by_key}
 use Rattle.pm_model_following.specs.Groups.{rows_in}
+use Rattle.pm_changelog.specs.GroupLog.{IsGroupLog}
 use Rattle.pm_input.specs.Rows.{refusal_in}
 use Rattle.pm_write.specs.Taken.{stamped}
 
--- the rows of a group: how many the table took, and the stored row of each key
+-- the rows of a group: how many the table took, the stored row of each key, and the log of its changelog file
 pub record GroupRows : Type 0 where
   pub count : ℕ
   pub run : Run
+  pub log : List Change
 
 -- the groups of a batch, by rising group
 abbrev pub Groups : Type 0
@@ -48,6 +54,12 @@ abbrev pub AreStoredOf : TableSchema → List HistoryRow → Run → Type 0
 AreStoredOf s rows run =
     AllByRecursion (λ (x : Stamped). row_of x ≡ stored_of (meaning_of s) (rows_of (primary_of s) x.key rows)) run
 
+-- The log that is kept of rows of a group: with the producer of inputs it tells all of them by key, with others it
+-- tells nothing.
+abbrev pub KeepsLog : Producer → TableSchema → List HistoryRow → List Change → Type 0
+KeepsLog producers.Input s rows log = IsGroupLog s (by_key s rows) log
+KeepsLog producer s rows log = log ≡ []
+
 -- What rows of a group become: the stored row of each key's rows, by rising key, which cover the rows. Each has the
 -- number of its key's last row, so that the greatest is that of the last row of all.
 pub record AreRowsOf (s : TableSchema) (rows : List HistoryRow) (x : GroupRows) : Type 0 where
@@ -58,6 +70,7 @@ pub record AreRowsOf (s : TableSchema) (rows : List HistoryRow) (x : GroupRows) 
   pub each : AllByRecursion (IsStoredRow s x.count) x.run
   pub numbers : HasGreatestNumbers x.run (all_stamped (primary_of s) 0 rows)
   pub last : greatest_number x.run + 1 ≡ x.count
+  pub log : KeepsLog s.options.producer s rows x.log
 
 -- what a batch has of a group with these rows: nothing where there is none
 abbrev pub HoldsRows : TableSchema → List HistoryRow → Option GroupRows → Type 0
@@ -68,6 +81,20 @@ HoldsRows s (row ∷ rows) (Some x) = AreRowsOf s (row ∷ rows) x
 -- what a batch has of a group
 abbrev pub held_of : Group → Groups → Option GroupRows
 held_of g batch = lookup (is_at (group_cmp g)) batch
+
+-- a group of a batch with its log
+abbrev pub group_log : Group × GroupRows → Group × List Change
+group_log e = (e.0, e.1.log)
+
+-- Private: a group with its log before others, where it tells something
+abbrev pub with_log : Group → List Change → List (Group × List Change) → List (Group × List Change)
+with_log g [] logs = logs
+with_log g (c ∷ log) logs = (g, c ∷ log) ∷ logs
+
+-- the groups of a batch whose log tells something, each with it
+abbrev pub logs_in : Groups → List (Group × List Change)
+logs_in [] = []
+logs_in (e ∷ batch) = with_log e.0 e.1.log (logs_in batch)
 
 -- a batch of rows: its groups rise, and it has of each group what the group's rows become
 pub record IsBatchOf (s : TableSchema) (rows : List HistoryRow) (batch : Groups) : Type 0 where

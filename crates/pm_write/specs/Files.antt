@@ -1,19 +1,25 @@
 -- The files that the groups of a batch become.
-use Rattle.std.specs.Prelude.{◌≡◌, ℕ, ◌+◌, ◌≤◌, nat_lt, List, [], ◌∷◌, map, codes, Bool, true, false, unwrap_or}
+use Rattle.std.specs.Prelude.{◌≡◌, ℕ, ◌+◌, ◌≤◌, nat_lt, List, [], ◌∷◌, ◌++◌, length, map, codes, Bool, true, false}
+use Rattle.std.specs.Prelude.{unwrap_or}
 use Rattle.std.specs.BTreeMap.{BTreeMap, get_by}
 use Rattle.std.specs.List.{AllByRecursion, AllZip, list_any}
 use Rattle.pm_values.specs.GroupOrder.{group_cmp}
 use Rattle.pm_values.specs.Names.{Naming, counted, name_of}
 use Rattle.pm_values.specs.declared.group.Group.{Group}
+use Rattle.pm_values.specs.declared.record.Change.{Change}
 use Rattle.pm_values.specs.declared.refusal.Refusal.{Refusal}
 use Rattle.pm_values.specs.declared.refusal.Refusal.TheVariants as refusals
 use Rattle.pm_schema.specs.declared.schema.TableSchema.{TableSchema}
+use Rattle.pm_model_history.specs.Merge.{HistoryRow}
+use Rattle.pm_model_following.specs.Following.{by_key}
+use Rattle.pm_model_following.specs.Groups.{rows_in}
 use Rattle.pm_engine.specs.Covers.{Run}
 use Rattle.pm_run.specs.declared.run.RunFile.{RunFile}
 use Rattle.pm_run.specs.Row.{IsOfFile, most_sequence}
 use Rattle.pm_run.specs.Rows.{HasRows}
 use Rattle.pm_run.specs.Writing.{IsFileWith, IsMetaOf, data_prefix, suffix}
-use Rattle.pm_write.specs.Batch.{GroupRows, Groups, numbered}
+use Rattle.pm_changelog.specs.Written.{HoldsLog, IsFileOfLog}
+use Rattle.pm_write.specs.Batch.{GroupRows, Groups, logs_in, numbered}
 use Rattle.pm_write.specs.declared.files.NewFile.{NewFile}
 
 -- the number from which a group's next rows are counted
@@ -42,9 +48,32 @@ AreFilesOfRuns s names runs files = ⊥
 abbrev pub next_run : BTreeMap Group ℕ → Group × GroupRows → Group × Run
 next_run next e = (e.0, numbered (next_of next e.0) e.1.run)
 
--- the files of a batch whose rows are counted from the groups' next numbers
-abbrev pub AreNewFiles : TableSchema → BTreeMap Group ℕ → Naming → Groups → List NewFile → Type 0
-AreNewFiles s next names batch files = AreFilesOfRuns s names (map (next_run next) batch) files
+-- a new changelog file of a group, which is that of its log
+pub record IsNewChanges (s : TableSchema) (names : Naming) (g : Group) (log : List Change) (x : NewFile) : Type 0 where
+  pub own : x.group ≡ g
+  pub changelog : x.changelog ≡ true
+  pub file : IsFileOfLog s names log (record { meta = x.meta; bytes = x.bytes })
+
+-- the changelog files of groups with their logs: one for each in their order, each with the next name
+abbrev pub AreFilesOfLogs : TableSchema → Naming → List (Group × List Change) → List NewFile → Type 0
+AreFilesOfLogs s names [] [] = Unit {0}
+AreFilesOfLogs s names (p ∷ logs) (x ∷ files) =
+    IsNewChanges s names p.0 p.1 x × AreFilesOfLogs s (counted names) logs files
+AreFilesOfLogs s names logs files = ⊥
+
+-- the names after so many
+abbrev pub after_names : ℕ → Naming → Naming
+after_names n names = record names { count = names.count + n }
+
+-- The files of a batch whose rows are counted from the groups' next numbers: a data file of each group, and behind them
+-- a changelog file of each group whose log tells something.
+pub record AreNewFiles (s : TableSchema) (next : BTreeMap Group ℕ) (names : Naming) (batch : Groups)
+    (files : List NewFile) : Type 0 where
+  pub data_files : List NewFile
+  pub changes : List NewFile
+  pub both : files ≡ data_files ++ changes
+  pub runs : AreFilesOfRuns s names (map (next_run next) batch) data_files
+  pub logs : AreFilesOfLogs s (after_names (length data_files) names) (logs_in batch) changes
 
 -- a group's rows, counted from its next number, need a number above the greatest
 abbrev pub exceeds_at : BTreeMap Group ℕ → Group × GroupRows → Bool
@@ -71,7 +100,18 @@ pub record IsWritten (s : TableSchema) (n : ℕ) (x : GroupRows) (file : NewFile
   pub least : n ≤ file.meta.min_seq
   pub greatest : file.meta.max_seq + 1 ≡ n + x.count
 
--- so are the files of all groups of a batch, whose rows are counted from the groups' next numbers
+-- so are the data files of all groups of a batch, whose rows are counted from the groups' next numbers
 abbrev pub AreWritten : TableSchema → BTreeMap Group ℕ → Groups → List NewFile → Type 0
 AreWritten s next batch files =
     AllZip (λ (e : Group × GroupRows) (x : NewFile). IsWritten s (next_of next e.0) e.1 x) batch files
+
+-- a changelog file of a group of rows, which a table that passes its input on took: it holds them by key
+pub record IsLogWritten (s : TableSchema) (rows : List HistoryRow) (g : Group) (x : NewFile) : Type 0 where
+  pub own : x.group ≡ g
+  pub changelog : x.changelog ≡ true
+  pub holds : HoldsLog s (by_key s (rows_in s g rows)) (record { meta = x.meta; bytes = x.bytes })
+
+-- such are the changelog files of all groups of a batch whose log tells something
+abbrev pub AreLogsWritten : TableSchema → List HistoryRow → Groups → List NewFile → Type 0
+AreLogsWritten s rows batch files =
+    AllZip (λ (p : Group × List Change) (x : NewFile). IsLogWritten s rows p.0 x) (logs_in batch) files

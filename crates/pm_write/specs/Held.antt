@@ -27,9 +27,9 @@ pub record IsHeld (h : HeldRows) : Type 0 where
   pub rising : IsRising h.run
   pub within : All (IsNumberedBelow h.count) h.run
 
--- a group with its rows
+-- a group with its rows and its log
 abbrev pub group_rows : HeldRows → Group × GroupRows
-group_rows h = (h.group, record { count = h.count; run = h.run })
+group_rows h = (h.group, record { count = h.count; run = h.run; log = h.log })
 
 -- the group of all rows of a table without partition columns that has one bucket
 abbrev pub only_group : Group

@@ -3,21 +3,22 @@
 ghost use Rattle.std.specs.Prelude.{◌≡◌, ◌↔◌, ◌+◌, ◌≤◌, ◌^◌, [], length, map, false, true, IfErr, IfOk, IsTrue, OnOk};
 ghost use Rattle.std.specs.List.{AllByRecursion};
 ghost use Rattle.pm_values.specs.declared.refusal.Refusal.TheVariants.{Memory};
-ghost use Rattle.pm_options.specs.declared.kinds.Producer.TheVariants as producers;
 ghost use Rattle.pm_engine.specs.Covers.{row_of};
 ghost use Rattle.pm_engines.specs.TableEngine.{schema_of};
-ghost use Rattle.pm_run.specs.Writing.{CountFrom};
-ghost use Rattle.pm_write.specs.Batch.{AreRowsOf, IsBatchOf, ReadsBatch};
+ghost use Rattle.pm_run.specs.Writing.{CountFrom, HasOwnKey};
+ghost use Rattle.pm_write.specs.Batch.{logs_in, AreRowsOf, IsBatchOf, KeepsLog, ReadsBatch};
 ghost use Rattle.pm_write.specs.Files.{exceeds, AreNewFiles, RefusesFiles};
 ghost use Rattle.pm_write.specs.Held.{group_rows, only_group, IsHeld};
 ghost use Rattle.pm_write.specs.Taken.{all_taken, IsTakenRow};
 
-use crate::files::{NewFile, exceeds, no_sequence, write_groups};
+use crate::files::{NewFile, exceeds, no_sequence, write_files};
 use crate::held::HeldRows;
 use crate::taken::taken_rows;
+use pm_changelog::{GroupLog, input_log};
 use pm_engine::{reduce, stored_law};
 use pm_engines::TableEngine;
 use pm_input::InputLines;
+use pm_options::Producer;
 use pm_packed::PackedRows;
 use pm_schema::TableSchema;
 use pm_values::{Group, Names, Refusal, Row};
@@ -73,7 +74,7 @@ impl Batch {
         self.groups.is_empty()
     }
 
-    /// How many groups have rows, and so how many files they become.
+    /// How many groups have rows, and so how many data files they become.
     pub fn group_count(&self) -> usize
         ensures { result ≡ length self.now }
     {
@@ -81,7 +82,8 @@ impl Batch {
     }
 
     /// The files of the groups, in their order, whose rows are counted from the groups' next numbers, 0 where a group
-    /// has none. Where this needs a number above the greatest, no file is made and no name is taken.
+    /// has none: the data files, and behind them the changelog files. Where this needs a number above the greatest, no
+    /// file is made and no name is taken.
     pub fn files(
         &mut self,
         alloc: Global,
@@ -89,8 +91,7 @@ impl Batch {
         next: &BTreeMap<Group, u64>,
         names: &mut Names,
     ) -> Result<Vec<NewFile>, Refusal>
-        requires producer { schema.now.options.producer ≡ producers.None }
-        requires count { names.old.count + length self.old ≤ 2 ^ 62 }
+        requires count { names.old.count + (length self.old + length (logs_in self.old)) ≤ 2 ^ 62 }
         ensures files { IfOk result (λ files.
             AreNewFiles schema.now next.now names.old self.old files.items) }
         ensures within { OnOk result (exceeds next.now self.old ≡ false) }
@@ -104,7 +105,7 @@ impl Batch {
         if exceeds(&self.groups, next) {
             return Err(no_sequence(alloc)?);
         }
-        write_groups(alloc, schema, &self.groups, next, names)
+        write_files(alloc, schema, &self.groups, next, names)
     }
 }
 
@@ -136,12 +137,25 @@ fn held_rows(alloc: Global, engine: &TableEngine, rows: PackedRows) -> Result<He
 {
     stored_law();
     let count = rows.len() as u64;
+    let log = log_of(alloc, engine.schema(), &rows)?;
     let run = reduce(alloc, engine, rows)?;
     Ok(HeldRows {
         group: only_group(alloc),
         count,
         run,
+        log,
     })
+}
+
+/// The log that is kept of the rows that a table of the schema took of a group.
+fn log_of(alloc: Global, schema: &TableSchema, rows: &PackedRows) -> Result<GroupLog, AllocError>
+    requires own { AllByRecursion (HasOwnKey schema.now) rows.now }
+    ensures { IfOk result (KeepsLog schema.now.options.producer schema.now (map row_of rows.now)) }
+{
+    match schema.options.producer {
+        Producer::Input => input_log(alloc, rows),
+        _ => Ok(GroupLog::none(alloc)),
+    }
 }
 
 /// The group of all rows of a table without partition columns that has one bucket.

@@ -1,15 +1,17 @@
 //! The files that the groups of a batch become.
 
-ghost use Rattle.std.specs.Prelude.{◌≡◌, ◌+◌, ◌<◌, ◌≤◌, ◌^◌, false, length, map, All, IfOk, IfErr, OnOk};
+ghost use Rattle.std.specs.Prelude.{◌≡◌, ◌≢◌, ◌+◌, ◌<◌, ◌≤◌, ◌^◌, [], false, length, map, All, IfOk, IfErr, OnOk};
 ghost use Rattle.pm_values.specs.Names.{counted, name_of};
 ghost use Rattle.pm_values.specs.declared.refusal.Refusal.TheVariants.{Memory};
 ghost use Rattle.pm_run.specs.Row.{most_sequence};
-ghost use Rattle.pm_write.specs.Batch.{numbered};
-ghost use Rattle.pm_write.specs.Files.{next_of, exceeds, no_sequence, AreNewFiles, IsNewFile};
+ghost use Rattle.pm_write.specs.Batch.{logs_in, numbered};
+ghost use Rattle.pm_write.specs.Files.{next_of, next_run, exceeds, no_sequence, AreFilesOfLogs, AreFilesOfRuns};
+ghost use Rattle.pm_write.specs.Files.{AreNewFiles, IsNewChanges, IsNewFile};
 ghost use Rattle.pm_write.specs.Held.{all_groups, group_rows, IsHeld};
 
 use crate::held::HeldRows;
 use crate::numbered::write_numbered;
+use pm_changelog::write_log;
 use pm_run::RunFile;
 use pm_schema::TableSchema;
 use pm_values::{Blob, FileMeta, Group, Names, Refusal, Txt};
@@ -59,8 +61,33 @@ pub(crate) fn no_sequence(alloc: Global) -> Result<Refusal, AllocError>
     })
 }
 
-/// The files of groups, in their order, whose rows are counted from the groups' next numbers.
-pub(crate) fn write_groups(
+/// The files of groups, in their order, whose rows are counted from the groups' next numbers: the data files, and
+/// behind them the changelog files.
+pub(crate) fn write_files(
+    alloc: Global,
+    schema: &TableSchema,
+    groups: &[HeldRows],
+    next: &BTreeMap<Group, u64>,
+    names: &mut Names,
+) -> Result<Vec<NewFile>, Refusal>
+    requires held { All IsHeld groups.now }
+    requires within { exceeds next.now (all_groups groups.now) ≡ false }
+    requires count { names.old.count + (length groups.now + length (logs_in (all_groups groups.now))) ≤ 2 ^ 62 }
+    ensures files { IfOk result (λ files.
+        AreNewFiles schema.now next.now names.old (all_groups groups.now) files.items) }
+    ensures names { names.new ≡ record names.old { count = names.new.count } }
+    ensures counted { names.old.count ≤ names.new.count }
+    ensures taken { IfOk result (λ files. names.new.count ≡ names.old.count + length files.items) }
+    ensures memory { IfErr result (λ e. e ≡ Memory) }
+{
+    let mut files = write_groups(alloc, schema, groups, next, names)?;
+    let mut changes = write_logs(alloc, schema, groups, names)?;
+    files.append(&mut changes)?;
+    Ok(files)
+}
+
+/// The data files of groups, in their order, whose rows are counted from the groups' next numbers.
+fn write_groups(
     alloc: Global,
     schema: &TableSchema,
     groups: &[HeldRows],
@@ -71,7 +98,7 @@ pub(crate) fn write_groups(
     requires within { exceeds next.now (all_groups groups.now) ≡ false }
     requires count { names.old.count + length groups.now ≤ 2 ^ 62 }
     ensures files { IfOk result (λ files.
-        AreNewFiles schema.now next.now names.old (all_groups groups.now) files.items) }
+        AreFilesOfRuns schema.now names.old (map (next_run next.now) (all_groups groups.now)) files.items) }
     ensures names { names.new ≡ record names.old { count = names.new.count } }
     ensures counted { names.old.count ≤ names.new.count }
     ensures taken { IfOk result (λ files. names.new.count ≡ names.old.count + length files.items) }
@@ -85,7 +112,7 @@ pub(crate) fn write_groups(
     Ok(files)
 }
 
-/// The file of a group, whose rows are counted from this number.
+/// The data file of a group, whose rows are counted from this number.
 fn write_group(
     alloc: Global,
     schema: &TableSchema,
@@ -111,4 +138,53 @@ fn write_group(
         changelog: false,
         bytes,
     })
+}
+
+/// The changelog files of groups, in their order: one of each whose log tells something.
+fn write_logs(
+    alloc: Global,
+    schema: &TableSchema,
+    groups: &[HeldRows],
+    names: &mut Names,
+) -> Result<Vec<NewFile>, AllocError>
+    requires count { names.old.count + length (logs_in (all_groups groups.now)) ≤ 2 ^ 62 }
+    ensures files { IfOk result (λ files.
+        AreFilesOfLogs schema.now names.old (logs_in (all_groups groups.now)) files.items) }
+    ensures names { names.new ≡ record names.old { count = names.new.count } }
+    ensures counted { names.old.count ≤ names.new.count }
+    ensures taken { IfOk result (λ files. names.new.count ≡ names.old.count + length files.items) }
+{
+    let mut files = Vec::new(alloc);
+    for held in groups {
+        if !held.log.is_empty() {
+            files.push(write_changes(alloc, schema, held, names)?)?;
+        }
+    }
+    Ok(files)
+}
+
+/// The changelog file of a group whose log tells something.
+fn write_changes(
+    alloc: Global,
+    schema: &TableSchema,
+    held: &HeldRows,
+    names: &mut Names,
+) -> Result<NewFile, AllocError>
+    requires tells { held.now.log ≢ [] }
+    requires count { names.old.count < 2 ^ 62 }
+    ensures file { IfOk result (IsNewChanges schema.now names.old held.now.group held.now.log) }
+    ensures names { names.new ≡ record names.old { count = names.new.count } }
+    ensures counted { names.old.count ≤ names.new.count }
+    ensures taken { OnOk result (names.new ≡ counted names.old) }
+{
+    let group = held.group.copy(alloc)?;
+    match write_log(alloc, schema, &held.log, names)? {
+        Some(RunFile { meta, bytes }) => Ok(NewFile {
+            group,
+            meta,
+            changelog: true,
+            bytes,
+        }),
+        None => Err(AllocError),
+    }
 }

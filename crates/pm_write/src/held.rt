@@ -1,5 +1,6 @@
 //! The rows of a group, kept from one try to the next.
 
+use pm_changelog::GroupLog;
 use pm_packed::PackedRows;
 use pm_values::Group;
 
@@ -10,10 +11,17 @@ pub(crate) struct HeldRows {
     pub(crate) count: u64,
     /// The stored row of each key, by rising key. Their numbers count the group's rows from 0.
     pub(crate) run: PackedRows,
+    /// What its changelog file is to tell.
+    pub(crate) log: GroupLog,
 }
 
 impl Drop for HeldRows {
     fn drop(self) {
-        let HeldRows { group, count, run } = self;
+        let HeldRows {
+            group,
+            count,
+            run,
+            log,
+        } = self;
     }
 }

@@ -21,8 +21,8 @@ use pm_schema::TableSchema;
 use pm_values::{Kind, Refusal, Row, Stamped, Txt};
 use std::alloc::{AllocError, Global};
 
-/// The rows that the table takes of the lines, with their keys, their numbers counted from 0. The first half of the lines
-/// is let go before the rows of the later one are taken.
+/// The rows that the table takes of the lines, with their keys, their numbers counted from 0. The first half of the
+/// lines is let go before the rows of the later one are taken.
 pub(crate) fn taken_rows(
     alloc: Global,
     schema: &TableSchema,
