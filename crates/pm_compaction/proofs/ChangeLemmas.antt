@@ -13,7 +13,7 @@ use Rattle.std.specs.List.{flat_map}
 use Rattle.pm_model_following.specs.Groups.{rows_in}
 use Rattle.pm_model_folder.specs.Stored.{HoldsChange}
 use Rattle.pm_manifest.specs.declared.entry.Entry as files
-use Rattle.pm_compaction.specs.Plan.{TellsNothing}
+use Rattle.pm_made.specs.Intent.{TellsNothing}
 
 -- rows of one entry aren't those of a later one
 none-of : (number n : ℕ) (rows : List HistoryRow) → number ≢ n → filter (λ (r : NumberedRow). r.0 == n) (map (λ (r : HistoryRow). (number, r)) rows) ≡ []

@@ -26,7 +26,7 @@ use Rattle.pm_compact.specs.Made.{made_run, metas_of}
 use Rattle.pm_compact.specs.Rewritten.{HaveOwnRows, most_in_file}
 use Rattle.pm_runs.specs.Succession.{KnownRun, without_files}
 use Rattle.pm_paths.proofs.ListLemmas.{cases, here, more, nowhere}
-use Rattle.pm_made.specs.Files.{after_names}
+use Rattle.pm_write.specs.Files.{after_names}
 use Rattle.pm_made.proofs.ListLemmas.{Pairs, each-of, in-map}
 use Rattle.pm_compaction.specs.Plan.{NamesSoMany, group_file}
 

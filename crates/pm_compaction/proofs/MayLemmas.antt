@@ -35,7 +35,8 @@ use Rattle.pm_compact.specs.Rewritten.{most_in_file}
 use Rattle.pm_choice.specs.Choice.{live_entry}
 use Rattle.pm_made.specs.Commit.{Attempt, MayChange}
 use Rattle.pm_made.specs.Delta.{Delta, adding, deleted, entries_of}
-use Rattle.pm_made.specs.Files.{IsMadeOf, after_names, delta_of_plan}
+use Rattle.pm_write.specs.Files.{after_names}
+use Rattle.pm_made.specs.Files.{IsMadeOf, delta_of_plan}
 use Rattle.pm_made.specs.declared.intent.Intent.{Intent}
 use Rattle.pm_made.specs.declared.intent.Intent.TheVariants as intents
 use Rattle.pm_made.specs.declared.intent.Plan.{Plan}

@@ -1,9 +1,8 @@
 -- What a planned compaction knows: what it took of each group at its base, and which files came of it.
-use Rattle.std.specs.Prelude.{◌≡◌, ◌≢◌, ◌↔◌, ◌⊎◌, ℕ, ◌+◌, ◌<◌, ◌≤◌, ◌^◌, Bool, true, List, [], map, length, Some}
+use Rattle.std.specs.Prelude.{◌≡◌, ◌≢◌, ◌↔◌, ℕ, ◌+◌, ◌<◌, ◌≤◌, ◌^◌, Bool, true, List, [], map, length, Some}
 use Rattle.std.specs.List.{AllByRecursion, flat_map}
 use Rattle.pm_values.specs.Names.{Naming}
 use Rattle.pm_values.specs.declared.group.Group.{Group}
-use Rattle.pm_options.specs.declared.kinds.Producer.TheVariants as producers
 use Rattle.pm_schema.specs.declared.schema.TableSchema.{TableSchema}
 use Rattle.pm_model_history.specs.History.{IsTableOf}
 use Rattle.pm_engine.specs.OfSchema.{meaning_of}
@@ -24,6 +23,7 @@ use Rattle.pm_model_folder.specs.Runs.{view_of}
 use Rattle.pm_put.specs.declared.putting.CommitFile.{CommitFile}
 use Rattle.pm_compact.specs.Rewritten.{AreRewritten}
 use Rattle.pm_choice.specs.Choice.{live_entry, run_entries}
+use Rattle.pm_made.specs.Intent.{TellsNothing}
 use Rattle.pm_made.specs.declared.intent.Plan.{Plan}
 
 -- ---- a group
@@ -77,10 +77,6 @@ pub record IsRewrittenAt (me : Actor) (s : TableSchema) (base : ℕ) (p : Past) 
   pub names : NamesSoMany me base (length x.files) x.names
 
 -- ---- all of them
-
--- a compaction tells nothing of the table: it has no producer of changelog files, or that of inputs
-abbrev pub TellsNothing : TableSchema → Type 0
-TellsNothing s = (s.options.producer ≡ producers.None) ⊎ (s.options.producer ≡ producers.Input)
 
 -- The plan of a compaction that an actor began at a base. The base is a known snapshot, from which on the groups' runs
 -- are known. Of each group, these rising and some, the newest runs there were rewritten: their files go, those that

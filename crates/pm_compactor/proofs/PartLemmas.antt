@@ -27,7 +27,7 @@ use Rattle.pm_group_files.proofs.Facts as files_facts
 use Rattle.pm_made.specs.declared.newest.Newest.{Newest}
 use Rattle.pm_choice.specs.Question.{rule_of}
 use Rattle.pm_choice.specs.declared.choice.ChosenGroup.{ChosenGroup}
-use Rattle.pm_compaction.specs.Plan.{TellsNothing}
+use Rattle.pm_made.specs.Intent.{TellsNothing}
 use Rattle.pm_plan.specs.Planned.{CanMake, FitChosen, HasRoom, IsPlanOf}
 use Rattle.pm_plan.specs.declared.planned.Asking.{Asking}
 use Rattle.pm_plan.specs.declared.planned.Planned.{Planned}
@@ -90,7 +90,7 @@ module _ (asking : Asking) (s : TableSchema) (count : asking.names.count ≤ 2 ^
       let room : HasRoom p = record { named = omega (arith, count, counted, no_files); few = omega (arith, no_files) } in
       let made : CanMake p = record {
         engine = subst HasEngine (sym same) engine;
-        quiet = subst TellsNothing (sym same) (inl built.no_producer);
+        quiet = subst TellsNothing (sym same) built.producer;
         fit = subst (λ (t : TableSchema). FitChosen t p.left.items) (sym same) (subst (FitChosen s) (sym is.left) fit);
         room = room;
       } in

@@ -11,7 +11,8 @@ use Rattle.pm_made.specs.declared.newest.Newest.{Newest}
 use Rattle.pm_choice.specs.Choice.{live_entry}
 use Rattle.pm_choice.specs.declared.choice.ChosenGroup.{ChosenGroup}
 use Rattle.pm_commit.specs.Committer.{AreNumbered}
-use Rattle.pm_compaction.specs.Plan.{TellsNothing, group_file}
+use Rattle.pm_made.specs.Intent.{TellsNothing}
+use Rattle.pm_compaction.specs.Plan.{group_file}
 use Rattle.pm_plan.specs.Planned.{AllRewritten, CanMake, FitChosen, HasRewritten, HasRoom, RewritesFirst, RewritesOf}
 use Rattle.pm_plan.specs.declared.planned.Planned.{Planned}
 use Rattle.pm_compactor.specs.Compactor.{CanCommit}

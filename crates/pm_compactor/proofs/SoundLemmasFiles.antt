@@ -32,7 +32,8 @@ use Rattle.pm_group_files.specs.declared.phase.Phase as files_phase
 use Rattle.pm_group_files.specs.declared.phase.Phase.TheVariants as readers
 use Rattle.pm_choice.specs.Choice.{named_groups, taken_runs}
 use Rattle.pm_choice.specs.declared.choice.ChosenGroup.{ChosenGroup}
-use Rattle.pm_compaction.specs.Plan.{RewrittenGroup, TellsNothing, group_file, named_group}
+use Rattle.pm_made.specs.Intent.{TellsNothing}
+use Rattle.pm_compaction.specs.Plan.{RewrittenGroup, group_file, named_group}
 use Rattle.pm_plan.specs.Known.{AreTakenAt, IsTakenAt, KnowsPlanned}
 use Rattle.pm_plan.specs.Planned.{AllRewritten, CanMake, FitChosen, HasRewritten, RewritesFirst, RewritesOf}
 use Rattle.pm_plan.specs.declared.planned.Planned.{Planned}

@@ -205,7 +205,7 @@ module _ (laws : ViewLaws) (f : Files) (p : Past) (v : View) (stands : Stands f 
           based = refl;
           room = omega (arith, room);
         };
-        quiet = inl built.no_producer;
+        quiet = built.producer;
         some = some;
         rise = laws.rising (asked_of_view asking v) (rule_of v.schema) v.groups.entries is.order;
         each = laws.each (asked_of_view asking v) (rule_of v.schema) v.groups.entries

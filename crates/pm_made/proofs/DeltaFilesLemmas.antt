@@ -1,5 +1,5 @@
 -- What a commit changes, by what it is for: which entries go and come, and who named their files.
-use Rattle.std.proofs.Common.{◌≡◌, ℕ, ◌+◌, ◌*◌, true, not, List, [], ◌++◌, length, map, filter, Contains, refl, sym, ap, subst, arith}
+use Rattle.std.proofs.Common.{◌≡◌, ℕ, ◌+◌, ◌*◌, true, not, List, [], ◌++◌, length, map, filter, Contains, refl, sym, ap, subst, ◌∙◌, arith}
 use Rattle.std.specs.List.{AllByRecursion}
 use Rattle.pm_values.specs.Names.{Naming}
 use Rattle.pm_schema.specs.declared.schema.TableSchema.{TableSchema}
@@ -7,22 +7,24 @@ use Rattle.pm_manifest.specs.declared.entry.Entry.{Entry}
 use Rattle.pm_model_contents.specs.Runs.{data_path}
 use Rattle.pm_model_folder.specs.Changes.{Actor, IsOwnFile}
 use Rattle.pm_put.specs.declared.putting.CommitFile.{CommitFile}
-use Rattle.pm_write.specs.Batch.{Groups}
+use Rattle.pm_write.specs.Batch.{Groups, logs_in}
+use Rattle.pm_write.specs.Files.{after_names}
 use Rattle.pm_write.specs.declared.files.NewFile.{NewFile}
 use Rattle.pm_made.specs.Delta.{Delta, added_entry, adding}
-use Rattle.pm_made.specs.Files.{AreNumbered, HasDelta, after_names, appends, compacts, fences}
+use Rattle.pm_made.specs.Files.{AreNumbered, HasDelta, appends, compacts, fences}
 use Rattle.pm_made.specs.Intent.{given_files, most_files, removed_of}
 use Rattle.pm_made.specs.declared.intent.Intent.{Intent}
 use Rattle.pm_made.specs.declared.intent.Intent.TheVariants as intents
 use Rattle.pm_made.specs.declared.newest.Newest.{Newest}
 use Rattle.pm_made.proofs.ListLemmas.{each-of, filter-in, in-left, in-map, in-right, none-in}
+use Rattle.pm_made.proofs.LogLemmas.{changelog-files, changelog-least, manifests_of, no-items, no-logs}
 use Rattle.pm_made.proofs.MadeLemmas.{IsMade, MayGive, later-maker, made-data, made-given}
 use Rattle.pm_made.proofs.NewFileLemmas.{named-file}
-use Rattle.pm_made.proofs.NumberLemmas.{all-data, files-many}
+use Rattle.pm_made.proofs.NumberLemmas.{changes-are, files-many, logs-many}
 
 -- how many manifests of changelog files a try makes at most
 abbrev pub more_of : Intent → ℕ
-more_of (intents.Append batch) = 0
+more_of (intents.Append batch) = manifests_of (length (logs_in batch))
 more_of other = 1
 
 module _ (s : TableSchema) (newest : Newest) (names : Naming) where
@@ -41,10 +43,13 @@ module _ (s : TableSchema) (newest : Newest) (names : Naming) where
   delta-adds _ _ _ _ (compacts plan) e h = let found = in-map adding plan.added.items e h in ap (λ (z : Entry). z.add) (sym found.2)
   delta-adds _ _ _ _ (fences number) e h = absurd (none-in e h)
 
-  -- an append has no changelog files
+  -- where it makes none there are no changelog files
   pub none-told : (intent : Intent) (d : Delta) (made : List CommitFile) (left : Naming) → HasDelta s newest names intent d made left
       → more_of intent ≡ 0 → d.changes ≡ []
-  none-told _ _ _ _ (appends batch xs numbered) none = ap (map (added_entry s)) (all-data s numbered.next names batch xs numbered.are_new).1
+  none-told _ _ _ _ (appends batch xs numbered) none =
+      let new = numbered.are_new in
+      let many = logs-many s (after_names (length new.data_files) names) (logs_in batch) new.changes new.logs in
+      ap (map (added_entry s)) (changes-are s numbered.next names batch xs new ∙ no-items new.changes (many ∙ no-logs (length (logs_in batch)) none))
   none-told _ _ _ _ (compacts plan) none = absurd (omega (arith, none))
   none-told _ _ _ _ (fences number) none = refl
 
@@ -67,9 +72,10 @@ module _ (s : TableSchema) (newest : Newest) (names : Naming) where
         → (x : NewFile) → Contains xs x → IsMade me base (data_path s x.group x.meta.name)
     named-new batch xs numbered may x h =
         let has = named-file s numbered.next names batch xs x numbered.are_new h in
-        made-data me base (after_names has.index names) s x.group x.meta.name
+        made-data me base has.kind (after_names has.index names) s x.group x.meta.name
         (later-maker me base has.index names may.maker
-        (let room = may.room in let w = has.within in let many = files-many s numbered.next names batch xs numbered.are_new in omega (arith, room, many, w)))
+        (let room = may.room in let w = has.within in let many = files-many s numbered.next names batch xs numbered.are_new in
+        let logs = changelog-least (length (logs_in batch)) in omega (arith, room, many, w, logs)))
         has.name
 
     -- the file of an entry was given, and is the actor's
@@ -103,8 +109,10 @@ module _ (s : TableSchema) (newest : Newest) (names : Naming) where
         → MayGive me base (most_files intent) names → MayGive me base (4 + 2 * more_of intent) left
     delta-left _ _ _ _ (appends batch xs numbered) may = record {
       maker = later-maker me base (length xs) names may.maker
-          (let room = may.room in let many = files-many s numbered.next names batch xs numbered.are_new in omega (arith, room, many));
-      room = (let room = may.room in let many = files-many s numbered.next names batch xs numbered.are_new in omega (arith, room, many));
+          (let room = may.room in let many = files-many s numbered.next names batch xs numbered.are_new in
+          let logs = changelog-least (length (logs_in batch)) in omega (arith, room, many, logs));
+      room = (let room = may.room in let many = files-many s numbered.next names batch xs numbered.are_new in
+          let logs = changelog-files (length (logs_in batch)) in omega (arith, room, many, logs));
     }
     delta-left _ _ _ _ (compacts plan) may = may
     delta-left _ _ _ _ (fences number) may = may

@@ -6,9 +6,10 @@ use Rattle.pm_schema.specs.declared.schema.TableSchema.{TableSchema}
 use Rattle.pm_manifest.specs.declared.entry.Entry.{Entry}
 use Rattle.pm_put.specs.declared.putting.CommitFile.{CommitFile}
 use Rattle.pm_write.specs.Batch.{Groups}
+use Rattle.pm_write.specs.Files.{after_names}
 use Rattle.pm_write.specs.declared.files.NewFile.{NewFile}
 use Rattle.pm_made.specs.Delta.{Delta, IsDeltaOf, added_entry, adding, deleted}
-use Rattle.pm_made.specs.Files.{AreNumbered, HasDelta, after_names, appends, changes_of, compacts, data_file, data_of, delta_of_files, delta_of_plan}
+use Rattle.pm_made.specs.Files.{AreNumbered, HasDelta, appends, changes_of, compacts, data_file, data_of, delta_of_files, delta_of_plan}
 use Rattle.pm_made.specs.Intent.{removed_of}
 use Rattle.pm_made.specs.declared.intent.Intent.{Intent}
 use Rattle.pm_made.specs.declared.intent.Intent.TheVariants as intents

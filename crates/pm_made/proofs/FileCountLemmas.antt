@@ -1,11 +1,13 @@
 -- How many files a try creates at most.
-use Rattle.std.proofs.Common.{◌≡◌, ℕ, ◌+◌, ◌≤◌, List, [], ◌∷◌, ◌++◌, length, length-append, Option, refl, ap, ◌∙◌, arith}
+use Rattle.std.proofs.Common.{◌≡◌, ℕ, zero, suc, ◌+◌, ◌*◌, ◌≤◌, List, [], ◌∷◌, ◌++◌, length, length-append, Option, refl, ap, ◌∙◌, arith}
 use Rattle.std.proofs.lemmas.List.{length-map}
 use Rattle.pm_values.specs.Names.{Naming, counted}
 use Rattle.pm_schema.specs.declared.schema.TableSchema.{TableSchema}
 use Rattle.pm_manifest.specs.declared.entry.Entry.{Entry}
 use Rattle.pm_manifest.specs.declared.entry.ManifestMeta.{ManifestMeta}
 use Rattle.pm_put.specs.declared.putting.CommitFile.{CommitFile}
+use Rattle.pm_write.specs.Batch.{logs_in}
+use Rattle.pm_write.specs.Files.{after_names}
 use Rattle.pm_made.specs.Delta.{Delta, IsDeltaOf}
 use Rattle.pm_made.specs.Files.{AreManifests, HasBase, HasChangesList, HasDelta, HasManifest, appends, compacts, data_file, fences, kept, merged, no_list, no_manifest, one_list, one_manifest}
 use Rattle.pm_made.specs.Intent.{most_files, removed_of}
@@ -14,6 +16,7 @@ use Rattle.pm_made.specs.declared.newest.Newest.{Newest}
 use Rattle.pm_made.specs.declared.snapshot.ListNames.{ListNames}
 use Rattle.pm_made.proofs.DeltaFilesLemmas.{none-told}
 use Rattle.pm_made.proofs.ListedLemmas.{no-metas}
+use Rattle.pm_made.proofs.LogLemmas.{changelog-files, manifests_of}
 use Rattle.pm_made.proofs.NumberLemmas.{files-many}
 
 module _ (s : TableSchema) where
@@ -87,15 +90,23 @@ module _ (s : TableSchema) (newest : Newest) (names : Naming) (es changelog : Li
       let all = long in let base = base-few in let delta = delta-few in
       omega (arith, all, base, delta, changes, list)
 
+  -- so are they by how many manifests of changelog files there are
+  pub lists-within : (more : ℕ) → (more ≡ 0 → changelog ≡ []) → length made ≤ 4 + 2 * more
+  lists-within zero none = let four = four-lists (none refl) in omega (arith, four)
+  lists-within (suc more) none = let six = six-lists in omega (arith, six)
+
 -- with its files of rows
 pub few-files : (s : TableSchema) (newest : Newest) (names : Naming) (intent : Intent) (d : Delta) (row_files : List CommitFile) (left : Naming)
     → HasDelta s newest names intent d row_files left → (es changelog : List Entry) (lists : ListNames) (made : List CommitFile)
     → AreManifests s newest left es changelog lists made → changelog ≡ d.changes → length row_files + length made ≤ most_files intent
 few-files s newest names _ _ _ _ (appends batch xs numbered) es changelog lists made are told =
-    let four = four-lists s newest _ es changelog lists made are (told ∙ none-told s newest names _ _ _ _ (appends batch xs numbered) refl) in
+    let n = length (logs_in batch) in
+    let within = lists-within s newest (after_names (length xs) names) es changelog lists made are (manifests_of n)
+    (λ none. told ∙ none-told s newest names _ _ _ _ (appends batch xs numbered) none) in
     let many = files-many s numbered.next names batch xs numbered.are_new in
     let rows = length-map xs (data_file s) in
-    omega (arith, four, many, rows)
+    let logs = changelog-files n in
+    omega (arith, within, many, rows, logs)
 few-files s newest names _ _ _ _ (compacts plan) es changelog lists made are told =
     let six = six-lists s newest names es changelog lists made are in omega (arith, six)
 few-files s newest names _ _ _ _ (fences number) es changelog lists made are told =

@@ -1,5 +1,5 @@
 -- What the snapshot of a commit bears of its entry, by what the commit is for.
-use Rattle.std.proofs.Common.{◌≡◌, ℕ, ℤ, pos, negsuc, suc, ◌+◌, ◌≤◌, ◌<ℤ◌, ◌≤ℤ◌, int_le, int_lt, Bool, true, cond, List, [], ◌∷◌, ◌++◌, length, length-append, Option, None, Some, refl, sym, ap, subst, ◌∙◌, arith}
+use Rattle.std.proofs.Common.{◌≡◌, ℕ, ℤ, pos, negsuc, suc, ◌+◌, ◌*◌, ◌≤◌, ◌<ℤ◌, ◌≤ℤ◌, int_le, int_lt, Bool, true, cond, List, [], ◌∷◌, ◌++◌, length, length-append, Option, None, Some, refl, sym, ap, subst, ◌∙◌, arith}
 use Rattle.std.specs.List.{fold}
 use Rattle.std.specs.Prelude.{unwrap_or}
 use Rattle.std.proofs.lemmas.Int.{ints}
@@ -7,6 +7,7 @@ use Rattle.std.proofs.lemmas.List.{take_all}
 use Rattle.pm_model_history.specs.History.{Entry}
 use Rattle.pm_snapshot.specs.declared.snapshot.Snapshot.{Snapshot}
 use Rattle.pm_model_folder.specs.Entries.{BearsEntry, appends_in, fence_at, raised}
+use Rattle.pm_write.specs.Batch.{Groups, logs_in}
 use Rattle.pm_made.specs.Commit.{IsFullWithin, MayRaise}
 use Rattle.pm_made.specs.Intent.{IsEntryFor, batch_of, most_files}
 use Rattle.pm_made.specs.Refusals.{fence_of}
@@ -14,6 +15,7 @@ use Rattle.pm_made.specs.Snapshot.{appends_after, appends_of, fence_after, full_
 use Rattle.pm_made.specs.declared.intent.Intent.{Intent}
 use Rattle.pm_made.specs.declared.intent.Intent.TheVariants as intents
 use Rattle.pm_made.specs.declared.newest.Author.{Author}
+use Rattle.pm_made.proofs.LogLemmas.{changelog-least, changelog-most, logs-few}
 use Rattle.pm_made.proofs.OldLemmas.{Bounds}
 
 -- ---- one more entry
@@ -34,11 +36,18 @@ module _ (entries : List Entry) (e : Entry) where
 
 -- ---- by what it is for
 
--- it makes no fewer files than its batch has groups
-pub batch_within : (intent : Intent) → length (batch_of intent) ≤ most_files intent
-batch_within (intents.Append batch) = omega arith
+-- it makes no fewer files than its batch has groups and logs
+pub batch_within : (intent : Intent) → length (batch_of intent) + length (logs_in (batch_of intent)) ≤ most_files intent
+batch_within (intents.Append batch) = let logs = changelog-least (length (logs_in batch)) in omega (arith, logs)
 batch_within (intents.Compact plan) = omega arith
 batch_within (intents.Fence number) = omega arith
+
+-- and an append few more than it has groups
+pub few-appended : (batch : Groups) → most_files (intents.Append batch) ≤ 2 * length batch + 6
+few-appended batch =
+    let logs = changelog-most (length (logs_in batch)) in
+    let few = logs-few batch in
+    omega (arith, logs, few)
 
 below-le : (a b : ℤ) → int_lt a b ≡ true → int_le a b ≡ true
 below-le a b is = grind (arith, ints)

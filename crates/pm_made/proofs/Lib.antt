@@ -11,6 +11,7 @@ pub mod IntentLemmas
 pub mod ListLemmas
 pub mod ListedLemmas
 pub mod LiveLemmas
+pub mod LogLemmas
 pub mod MadeLemmas
 mod MakerLemmas
 mod ManifestLemmas

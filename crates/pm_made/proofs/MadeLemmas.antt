@@ -4,13 +4,12 @@ use Rattle.pm_values.specs.Names.{Naming, counted, name_of}
 use Rattle.pm_values.specs.declared.group.Group.{Group}
 use Rattle.pm_schema.specs.Folder.{folder_text}
 use Rattle.pm_schema.specs.declared.schema.TableSchema.{TableSchema}
-use Rattle.pm_snapshot.specs.Names.{BasedFile, MayName, manifest, manifest_list, prefix_of, rows_file, suffix_of}
+use Rattle.pm_snapshot.specs.Names.{BasedFile, MayName, manifest, manifest_list, prefix_of, suffix_of}
 use Rattle.pm_model_contents.specs.Lists.{manifest_path}
 use Rattle.pm_model_contents.specs.Runs.{data_path}
-use Rattle.pm_run.specs.Writing.{data_prefix, suffix}
 use Rattle.pm_model_folder.specs.Changes.{Actor, IsNamedBy, IsOwnFile}
 use Rattle.pm_model_folder.specs.Commits.{IsFresh, Maker}
-use Rattle.pm_made.specs.Files.{after_names}
+use Rattle.pm_write.specs.Files.{after_names}
 
 -- the maker of names is the actor, with this base, and may name
 pub record IsMaker (me : Actor) (base : ℕ) (names : Naming) : Type 0 where
@@ -63,13 +62,13 @@ give-none me base k names may = record { maker = may.maker; room = (let room = m
 pub made-given : (me : Actor) (base : ℕ) (path : List ℕ) → IsOwnFile me base path → IsMade me base path
 made-given me base path own = record { by = own.by; based = own.based }
 
--- a data file, and a file in the folder of manifests
-pub made-data : (me : Actor) (base : ℕ) (names : Naming) (s : TableSchema) (g : Group) (name : List ℕ) → IsMaker me base names
-    → name ≡ name_of data_prefix suffix names → IsMade me base (data_path s g name)
-made-data me base names s g name is named = record {
+-- a file of rows, and a file in the folder of manifests
+pub made-data : (me : Actor) (base : ℕ) (kind : BasedFile) (names : Naming) (s : TableSchema) (g : Group) (name : List ℕ) → IsMaker me base names
+    → name ≡ name_of (prefix_of kind) (suffix_of kind) names → IsMade me base (data_path s g name)
+made-data me base kind names s g name is named = record {
   by = record {
     folder = folder_text s g;
-    file = rows_file;
+    file = kind;
     names = names;
     may = is.may;
     session = is.session;

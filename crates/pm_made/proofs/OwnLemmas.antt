@@ -1,24 +1,27 @@
 -- The files of a commit bear the name of the actor that made it and its base, and stand in folders of the table.
-use Rattle.std.proofs.Common.{◌≡◌, ℕ, List, [], ◌∷◌, ◌++◌, Option, codes, map, Contains, sym, ap, subst, ◌∙◌, arith}
+use Rattle.std.proofs.Common.{◌≡◌, ℕ, List, [], ◌∷◌, ◌++◌, length, Option, codes, map, Contains, sym, ap, subst, ◌∙◌, arith}
 use Rattle.std.specs.List.{AllByRecursion}
 use Rattle.pm_base.proofs.Laws.{AllByRecursion-append}
 use Rattle.pm_values.specs.Names.{Naming, counted, name_of}
 use Rattle.pm_schema.specs.Folder.{folder_text}
 use Rattle.pm_schema.specs.declared.schema.TableSchema.{TableSchema}
-use Rattle.pm_snapshot.specs.Names.{BasedFile, manifest, manifest_list, prefix_of, rows_file, suffix_of}
+use Rattle.pm_snapshot.specs.Names.{BasedFile, manifest, manifest_list, prefix_of, suffix_of}
 use Rattle.pm_model_contents.specs.Lists.{manifest_path}
 use Rattle.pm_model_folder.specs.Changes.{Actor, HavePlainNames, IsOwnFile, bucket, manifests}
 use Rattle.pm_manifest.specs.declared.entry.Entry.{Entry}
 use Rattle.pm_manifest.specs.declared.entry.ManifestMeta.{ManifestMeta}
 use Rattle.pm_put.specs.declared.putting.CommitFile.{CommitFile}
+use Rattle.pm_write.specs.Batch.{logs_in}
+use Rattle.pm_write.specs.Files.{after_names}
 use Rattle.pm_write.specs.declared.files.NewFile.{NewFile}
 use Rattle.pm_made.specs.Commit.{Attempt, MakesNames}
 use Rattle.pm_made.specs.Delta.{Delta, entries_of}
-use Rattle.pm_made.specs.Files.{AreLists, AreManifests, HasBase, HasChangesList, HasDelta, HasManifest, IsMadeOf, after_names, appends, compacts, data_file, fences, kept, merged, no_list, no_manifest, one_list, one_manifest}
+use Rattle.pm_made.specs.Files.{AreLists, AreManifests, HasBase, HasChangesList, HasDelta, HasManifest, IsMadeOf, appends, compacts, data_file, fences, kept, merged, no_list, no_manifest, one_list, one_manifest}
 use Rattle.pm_made.specs.Intent.{most_files}
 use Rattle.pm_made.specs.declared.intent.Intent.{Intent}
 use Rattle.pm_made.specs.declared.newest.Newest.{Newest}
 use Rattle.pm_made.proofs.ListLemmas.{in-head, in-tail}
+use Rattle.pm_made.proofs.LogLemmas.{changelog-least}
 use Rattle.pm_made.proofs.MadeLemmas.{IsMaker, MayGive, later-maker}
 use Rattle.pm_made.proofs.MakerLemmas.{base_list-names, changes-names, changes_list-names, delta-names, delta_list-names, first-names, manifest-names}
 use Rattle.pm_made.proofs.NewFileLemmas.{named-file}
@@ -30,12 +33,12 @@ module _ (me : Actor) (base : ℕ) where
 
   -- ---- files of rows
 
-  own-data : (s : TableSchema) (x : NewFile) (names : Naming) → HavePlainNames s → IsMaker me base names
-      → x.meta.name ≡ name_of (prefix_of rows_file) (suffix_of rows_file) names → Own (data_file s x)
-  own-data s x names plain is named = record {
+  own-data : (s : TableSchema) (x : NewFile) (kind : BasedFile) (names : Naming) → HavePlainNames s → IsMaker me base names
+      → x.meta.name ≡ name_of (prefix_of kind) (suffix_of kind) names → Own (data_file s x)
+  own-data s x kind names plain is named = record {
     by = record {
       folder = folder_text s x.group;
-      file = rows_file;
+      file = kind;
       names = names;
       may = is.may;
       session = is.session;
@@ -54,9 +57,10 @@ module _ (me : Actor) (base : ℕ) where
       → HasDelta s newest names intent d made left → HavePlainNames s → MayGive me base (most_files intent) names → AllByRecursion Own made
   own-rows s newest names _ _ _ _ (appends batch xs numbered) plain may = all-data s xs (λ x h.
       let is = named-file s numbered.next names batch xs x numbered.are_new h in
-      own-data s x (after_names is.index names) plain
+      own-data s x is.kind (after_names is.index names) plain
       (later-maker me base is.index names may.maker
-      (let room = may.room in let w = is.within in let many = files-many s numbered.next names batch xs numbered.are_new in omega (arith, room, many, w)))
+      (let room = may.room in let w = is.within in let many = files-many s numbered.next names batch xs numbered.are_new in let logs = changelog-least (length (logs_in batch)) in
+      omega (arith, room, many, w, logs)))
       is.name)
   own-rows s newest names _ _ _ _ (compacts plan) plain may = tt
   own-rows s newest names _ _ _ _ (fences number) plain may = tt

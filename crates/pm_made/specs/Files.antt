@@ -18,7 +18,7 @@ use Rattle.pm_model_contents.specs.Lists.{manifest_path}
 use Rattle.pm_model_contents.specs.Runs.{data_path}
 use Rattle.pm_put.specs.declared.putting.CommitFile.{CommitFile}
 use Rattle.pm_write.specs.Batch.{Groups}
-use Rattle.pm_write.specs.Files.{AreNewFiles, next_of}
+use Rattle.pm_write.specs.Files.{AreNewFiles, after_names, next_of}
 use Rattle.pm_write.specs.declared.files.NewFile.{NewFile}
 use Rattle.pm_made.specs.Delta.{Delta, added_entry, adding, entries_of, no_delta}
 use Rattle.pm_made.specs.Refusals.{next_number}
@@ -43,10 +43,6 @@ data_of xs = filter (λ (x : NewFile). not x.changelog) xs
 
 abbrev pub changes_of : List NewFile → List NewFile
 changes_of xs = filter (λ (x : NewFile). x.changelog) xs
-
--- the names after so many
-abbrev pub after_names : ℕ → Naming → Naming
-after_names n names = record names { count = names.count + n }
 
 -- the new files of a batch, each group's rows counted from the number after those of its live files
 pub record AreNumbered (s : TableSchema) (live : List Entry) (names : Naming) (batch : Groups)

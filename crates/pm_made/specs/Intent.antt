@@ -1,5 +1,5 @@
 -- What a commit is for, and which entry it adds.
-use Rattle.std.specs.Prelude.{◌≡◌, ℕ, ◌+◌, ℤ, List, [], ◌++◌, length}
+use Rattle.std.specs.Prelude.{◌≡◌, ◌⊎◌, ℕ, zero, suc, ◌+◌, ℤ, List, [], ◌++◌, length}
 use Rattle.std.specs.List.{AllByRecursion}
 use Rattle.pm_values.specs.declared.group.Group.{Group}
 use Rattle.pm_options.specs.declared.kinds.Producer.TheVariants as producers
@@ -8,7 +8,7 @@ use Rattle.pm_schema.specs.Folder.{FitsPartition}
 use Rattle.pm_schema.specs.declared.schema.TableSchema.{TableSchema}
 use Rattle.pm_manifest.specs.declared.entry.Entry as files
 use Rattle.pm_model_folder.specs.Folder.{IsRowOf}
-use Rattle.pm_write.specs.Batch.{GroupRows, Groups, IsBatchOf}
+use Rattle.pm_write.specs.Batch.{GroupRows, Groups, IsBatchOf, logs_in}
 use Rattle.pm_made.specs.declared.intent.Intent.{Intent}
 use Rattle.pm_made.specs.declared.intent.Intent.TheVariants as intents
 use Rattle.pm_made.specs.declared.newest.Author.{Author}
@@ -30,19 +30,24 @@ abbrev pub given_files : Intent → List files.Entry
 given_files (intents.Compact plan) = plan.added.items ++ plan.changes.items
 given_files other = []
 
--- where rows are appended the table has no producer of changelog files: none are made yet
-abbrev pub ProducesNone : TableSchema → Intent → Type 0
-ProducesNone s (intents.Append batch) = s.options.producer ≡ producers.None
-ProducesNone s other = Unit {0}
+-- a compaction tells nothing of the table: it has no producer of changelog files, or that of inputs
+abbrev pub TellsNothing : TableSchema → Type 0
+TellsNothing s = (s.options.producer ≡ producers.None) ⊎ (s.options.producer ≡ producers.Input)
 
 -- the groups of its batch fit the table
 abbrev pub FitsGroups : TableSchema → Intent → Type 0
 FitsGroups s intent = AllByRecursion (λ (e : Group × GroupRows). FitsPartition s e.0) (batch_of intent)
 
--- How many files a try creates at most. An append makes a data file of each group of its batch, the merged manifest,
--- that of its delta, and two lists; another has a manifest and a list of changelog files, too.
+-- how many files so many changelog files take: where there are some, their manifest and the list of it, too
+abbrev pub changelog_files : ℕ → ℕ
+changelog_files zero = 0
+changelog_files (suc n) = suc n + 2
+
+-- How many files a try creates at most. An append makes a data file of each group of its batch and a changelog file of
+-- each that has a log, the merged manifest, that of its delta, and two lists; another has a manifest and a list of
+-- changelog files, too.
 abbrev pub most_files : Intent → ℕ
-most_files (intents.Append batch) = length batch + 4
+most_files (intents.Append batch) = length batch + 4 + changelog_files (length (logs_in batch))
 most_files other = 6
 
 -- commits are made of appends and compactions; of fences they aren't made yet

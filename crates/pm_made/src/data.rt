@@ -7,11 +7,12 @@ ghost use Rattle.pm_values.specs.declared.refusal.Refusal.TheVariants.{Memory};
 ghost use Rattle.pm_schema.specs.Folder.{FitsPartition};
 ghost use Rattle.pm_manifest.specs.declared.entry.Entry.{Entry as EntryView};
 ghost use Rattle.pm_run.specs.Row.{most_sequence};
+ghost use Rattle.pm_write.specs.Batch.{logs_in};
 ghost use Rattle.pm_write.specs.Files.{no_sequence};
 ghost use Rattle.pm_write.specs.declared.files.NewFile.{NewFile as FileView};
 ghost use Rattle.pm_made.specs.Delta.{Delta, added_entry, adding, deleted, IsDeltaOf};
 ghost use Rattle.pm_made.specs.Files.{changes_of, data_file, data_of, HasDelta};
-ghost use Rattle.pm_made.specs.Intent.{batch_of, removed_of, FitsGroups, IsMadeFor, ProducesNone};
+ghost use Rattle.pm_made.specs.Intent.{batch_of, removed_of, FitsGroups, IsMadeFor};
 ghost use Rattle.pm_made.specs.Refusals.{above_numbers};
 
 use crate::intent::{Intent, Plan};
@@ -42,11 +43,11 @@ pub(crate) fn new_delta(
     intent: &mut Intent,
     names: &mut Names,
 ) -> Result<NewDelta, Refusal>
-    requires producer { ProducesNone schema.now intent.old }
     requires folders { FitsGroups schema.now intent.old }
     requires numbers { AllByRecursion (λ (e : EntryView). e.file.max_seq ≤ most_sequence) newest.now.live.items }
     requires made_for { IsMadeFor intent.old }
-    requires count { names.old.count + length (batch_of intent.old) ≤ 2 ^ 62 }
+    requires count { names.old.count + (length (batch_of intent.old) + length (logs_in (batch_of intent.old)))
+        ≤ 2 ^ 62 }
     ensures delta { IfOk result (λ x. (d : Delta)
         × HasDelta schema.now newest.now names.old intent.old d x.files.items names.new
         × IsDeltaOf (removed_of intent.old) x.entries.items x.changes.items d) }
@@ -56,7 +57,8 @@ pub(crate) fn new_delta(
     ensures kept { intent.new ≡ intent.old }
     ensures names { names.new ≡ record names.old { count = names.new.count } }
     ensures rises { names.old.count ≤ names.new.count }
-    ensures room { OnOk result (names.new.count ≤ names.old.count + length (batch_of intent.old)) }
+    ensures room { OnOk result (names.new.count
+        ≤ names.old.count + (length (batch_of intent.old) + length (logs_in (batch_of intent.old)))) }
     ensures counted { IfOk result (λ x. names.new.count ≡ names.old.count + length x.files.items) }
 {
     match intent {

@@ -6,7 +6,7 @@ ghost use Rattle.pm_values.specs.declared.refusal.Refusal.TheVariants.{Memory};
 ghost use Rattle.pm_manifest.specs.declared.entry.Entry.{Entry as EntryView};
 ghost use Rattle.pm_run.specs.Row.{most_sequence};
 ghost use Rattle.pm_made.specs.Files.{IsMadeOf};
-ghost use Rattle.pm_made.specs.Intent.{most_files, FitsGroups, IsMadeFor, ProducesNone};
+ghost use Rattle.pm_made.specs.Intent.{most_files, FitsGroups, IsMadeFor};
 ghost use Rattle.pm_made.specs.Refusals.{refusal_of};
 
 use crate::data::{NewDelta, new_delta};
@@ -22,9 +22,10 @@ use std::alloc::Global;
 
 /// What a commit puts into the folder after the newest snapshot: files of rows, a merged manifest if there is one, the
 /// manifests of the delta and of its changelog files, the lists of them, the base list, and the snapshot. An append
-/// takes time linear in the rows of its batch; a compaction copies its entries, and looks up each live file among those
-/// that it takes away, and each of these among the live ones. Either takes time linear in the live files but for a look
-/// into the groups at each. Each file that it makes takes the next name. The intent stays for another try.
+/// takes time linear in the rows of its batch and of its logs; a compaction copies its entries, and looks up each live
+/// file among those that it takes away, and each of these among the live ones. Either takes time linear in the live
+/// files but for a look into the groups at each. Each file that it makes takes the next name. The intent stays for
+/// another try.
 #[tactic(auto, using(crate::proofs::IntentLemmas::batch_within))]
 pub fn make(
     alloc: Global,
@@ -34,7 +35,6 @@ pub fn make(
     intent: &mut Intent,
     names: &mut Names,
 ) -> Result<Made, Refusal>
-    requires producer { ProducesNone schema.now intent.old }
     requires folders { FitsGroups schema.now intent.old }
     requires numbers { AllByRecursion (λ (e : EntryView). e.file.max_seq ≤ most_sequence) newest.now.live.items }
     requires made_for { IsMadeFor intent.old }

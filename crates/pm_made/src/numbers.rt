@@ -6,14 +6,13 @@ ghost use Rattle.std.specs.Ordering.{eq_by_cmp};
 ghost use Rattle.pm_values.specs.GroupOrder.{group_cmp};
 ghost use Rattle.pm_values.specs.declared.group.Group.{Group as GroupView};
 ghost use Rattle.pm_values.specs.declared.refusal.Refusal.TheVariants.{Memory};
-ghost use Rattle.pm_options.specs.declared.kinds.Producer.TheVariants as producers;
 ghost use Rattle.pm_schema.specs.Folder.{FitsPartition};
 ghost use Rattle.pm_manifest.specs.declared.entry.Entry.{Entry as EntryView};
 ghost use Rattle.pm_run.specs.Row.{most_sequence};
-ghost use Rattle.pm_write.specs.Batch.{GroupRows};
-ghost use Rattle.pm_write.specs.Files.{next_of, no_sequence};
+ghost use Rattle.pm_write.specs.Batch.{logs_in, GroupRows};
+ghost use Rattle.pm_write.specs.Files.{after_names, next_of, no_sequence};
 ghost use Rattle.pm_write.specs.declared.files.NewFile.{NewFile as FileView};
-ghost use Rattle.pm_made.specs.Files.{AreNumbered, after_names};
+ghost use Rattle.pm_made.specs.Files.{AreNumbered};
 ghost use Rattle.pm_made.specs.Refusals.{above_numbers, next_number};
 
 use pm_manifest::Entry;
@@ -68,14 +67,13 @@ pub(crate) fn number_files(
     batch: &mut Batch,
     names: &mut Names,
 ) -> Result<Vec<NewFile>, Refusal>
-    requires producer { schema.now.options.producer ≡ producers.None }
     requires folders { AllByRecursion (λ (e : GroupView × GroupRows). FitsPartition schema.now e.0) batch.old }
     requires numbers { AllByRecursion (λ (e : EntryView). e.file.max_seq ≤ most_sequence) live.now }
-    requires count { names.old.count + length batch.old ≤ 2 ^ 62 }
+    requires count { names.old.count + (length batch.old + length (logs_in batch.old)) ≤ 2 ^ 62 }
     ensures files { IfOk result (λ files. AreNumbered schema.now live.now names.old batch.old files.items) }
     ensures folders { IfOk result (λ files.
         AllByRecursion (λ (x : FileView). FitsPartition schema.now x.group) files.items) }
-    ensures many { IfOk result (λ files. length files.items ≡ length batch.old) }
+    ensures many { IfOk result (λ files. length files.items ≡ length batch.old + length (logs_in batch.old)) }
     ensures names { IfOk result (λ files. names.new ≡ after_names (length files.items) names.old) }
     ensures same { names.new ≡ record names.old { count = names.new.count } }
     ensures rises { names.old.count ≤ names.new.count }

@@ -19,7 +19,8 @@ use Rattle.pm_choice.specs.Choice.{group_of, named_groups, removed_entries, take
 use Rattle.pm_choice.specs.Question.{rule_of}
 use Rattle.pm_choice.specs.declared.choice.ChosenGroup.{ChosenGroup}
 use Rattle.pm_made.specs.declared.newest.Newest.{Newest}
-use Rattle.pm_compaction.specs.Plan.{IsRewrittenAt, NamesSoMany, RewrittenGroup, TellsNothing, comes_of, goes_of}
+use Rattle.pm_made.specs.Intent.{TellsNothing}
+use Rattle.pm_compaction.specs.Plan.{IsRewrittenAt, NamesSoMany, RewrittenGroup, comes_of, goes_of}
 use Rattle.pm_compaction.specs.Plan.{made_files, named_group}
 use Rattle.pm_plan.specs.declared.planned.Asking.{Asking}
 use Rattle.pm_plan.specs.declared.planned.Planned.{Planned}

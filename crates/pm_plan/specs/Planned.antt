@@ -17,7 +17,8 @@ use Rattle.pm_made.specs.declared.newest.Newest.{Newest}
 use Rattle.pm_choice.specs.Choice.{live_entry, named_groups, removed_entries}
 use Rattle.pm_choice.specs.Question.{full_appends, question}
 use Rattle.pm_choice.specs.declared.choice.ChosenGroup.{ChosenGroup}
-use Rattle.pm_compaction.specs.Plan.{TellsNothing, group_file}
+use Rattle.pm_made.specs.Intent.{TellsNothing}
+use Rattle.pm_compaction.specs.Plan.{group_file}
 use Rattle.pm_plan.specs.declared.planned.Asking.{Asking}
 use Rattle.pm_plan.specs.declared.planned.Planned.{Planned}
 use Rattle.pm_plan.specs.declared.planned.PlannedCommit.{PlannedCommit}

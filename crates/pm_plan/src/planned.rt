@@ -11,7 +11,7 @@ ghost use Rattle.pm_scan_rows.specs.Shown.{groups_of};
 ghost use Rattle.pm_schema.specs.Folder.{FitsPartition};
 ghost use Rattle.pm_compact.specs.Rewritten.{AreRewritten};
 ghost use Rattle.pm_values.specs.declared.refusal.Refusal.TheVariants.{Memory};
-ghost use Rattle.pm_compaction.specs.Plan.{TellsNothing};
+ghost use Rattle.pm_made.specs.Intent.{TellsNothing};
 ghost use Rattle.pm_plan.specs.Planned.{AllRewritten, FitChosen, AddsFiles, HasRoom, IsCommitOf, IsPlanOf, CanMake};
 ghost use Rattle.pm_plan.specs.Planned.{RewritesFirst, named_by};
 
