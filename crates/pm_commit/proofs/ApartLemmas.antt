@@ -1,20 +1,23 @@
 -- The files of a try have names with successive counts, so their paths differ.
 use Rattle.std.proofs.Common.{◌≡◌, ◌≢◌, ℕ, suc, ◌+◌, ◌^◌, ◌<◌, ◌≤◌, List, [], ◌∷◌, ◌++◌, codes, length, length-append, map, Option, Some, refl, sym, ap, ◌∙◌, subst, arith}
 use Rattle.std.specs.FinMap as paths
+use Rattle.std.specs.BTreeMap.{BTreeMap}
 use Rattle.std.specs.List.{AllByRecursion}
-use Rattle.std.proofs.lemmas.List.{length-map}
+use Rattle.std.proofs.lemmas.List.{length-map, map-append}
 use Rattle.pm_store.specs.Files.{Files, Puts}
 use Rattle.pm_values.specs.Names.{Naming, counted, name_of}
 use Rattle.pm_values.specs.declared.group.Group.{Group}
+use Rattle.pm_values.specs.declared.record.Change.{Change}
 use Rattle.pm_model_history.specs.History as history
 use Rattle.pm_schema.specs.Folder.{folder_text}
 use Rattle.pm_schema.specs.declared.schema.TableSchema.{TableSchema}
 use Rattle.pm_engine.specs.Covers.{Run}
-use Rattle.pm_snapshot.specs.Names.{BasedFile, MayName, manifest, manifest_list, prefix_of, rows_file, suffix_of}
+use Rattle.pm_snapshot.specs.Names.{BasedFile, MayName, changelog_file, manifest, manifest_list, prefix_of, rows_file, suffix_of}
 use Rattle.pm_manifest.specs.declared.entry.Entry.{Entry}
 use Rattle.pm_manifest.specs.declared.entry.ManifestMeta.{ManifestMeta}
 use Rattle.pm_model_folder.specs.Ledger.{Past}
-use Rattle.pm_write.specs.Files.{AreFilesOfRuns, next_run}
+use Rattle.pm_write.specs.Batch.{Groups, logs_in}
+use Rattle.pm_write.specs.Files.{AreFilesOfLogs, AreFilesOfRuns, AreNewFiles, next_run}
 use Rattle.pm_write.specs.declared.files.NewFile.{NewFile}
 use Rattle.pm_made.specs.Commit.{Attempt}
 use Rattle.pm_made.specs.Delta.{Delta, entries_of}
@@ -66,7 +69,7 @@ module _ (t : Naming) where
   counted-later n (file ∷ first) later (is, rest) =
       subst (λ (k : ℕ). AreCounted k later) (let same : n + 1 + length first ≡ n + suc (length first) = omega arith in same) (counted-later (n + 1) first later rest)
 
-  pub data-counted : (s : TableSchema) (n : ℕ) (runs : List (Group × Run)) (files : List NewFile) → AreFilesOfRuns s (at n) runs files
+  data-counted : (s : TableSchema) (n : ℕ) (runs : List (Group × Run)) (files : List NewFile) → AreFilesOfRuns s (at n) runs files
       → AreCounted n (map (data_file s) files)
   data-counted s n [] [] are = tt
   data-counted s n [] (x ∷ files) are = absurd are
@@ -79,6 +82,33 @@ module _ (t : Naming) where
     },
     data-counted s (n + 1) runs files rest,
   )
+
+  logs-counted : (s : TableSchema) (n : ℕ) (logs : List (Group × List Change)) (files : List NewFile) → AreFilesOfLogs s (at n) logs files
+      → AreCounted n (map (data_file s) files)
+  logs-counted s n [] [] are = tt
+  logs-counted s n [] (x ∷ files) are = absurd are
+  logs-counted s n (log ∷ logs) [] are = absurd are
+  logs-counted s n (log ∷ logs) (x ∷ files) (first, rest) = (
+    record {
+      folder = folder_text s x.group;
+      file = changelog_file;
+      is = ap (λ (text : List ℕ). folder_text s x.group ++ 47 ∷ text) first.file.made.meta.named;
+    },
+    logs-counted s (n + 1) logs files rest,
+  )
+
+  pub files-counted : (s : TableSchema) (next : BTreeMap Group ℕ) (batch : Groups) (xs : List NewFile) → AreNewFiles s next t batch xs
+      → AreCounted t.count (map (data_file s) xs)
+  files-counted s next batch xs new =
+      let split : map (data_file s) xs ≡ map (data_file s) new.data_files ++ map (data_file s) new.changes =
+      ap (map (data_file s)) new.both ∙ map-append (data_file s) new.data_files new.changes in
+      let mapped = length-map new.data_files (data_file s) in
+      subst (AreCounted t.count) (sym split)
+      (counted-join t.count (map (data_file s) new.data_files) (map (data_file s) new.changes)
+      (data-counted s t.count (map (next_run next) batch) new.data_files new.runs)
+      (subst (λ (n : ℕ). AreCounted n (map (data_file s) new.changes))
+      (let same : t.count + length new.data_files ≡ t.count + length (map (data_file s) new.data_files) = omega (arith, mapped) in same)
+      (logs-counted s (t.count + length new.data_files) (logs_in batch) new.changes new.logs)))
 
   -- a manifest or a list, by its name
   pub manifest-counted : (n : ℕ) (file : BasedFile) (path name : List ℕ) (names : Naming) → path ≡ codes "manifest" ++ 47 ∷ name
@@ -93,7 +123,7 @@ module _ (t : Naming) where
   rows-counted : (s : TableSchema) (newest : Newest) (intent : Intent) (d : Delta) (files : List CommitFile) (left : Naming)
       → HasDelta s newest t intent d files left → AreCounted t.count files × (left ≡ at (t.count + length files))
   rows-counted s newest _ _ _ _ (appends batch xs numbered) = (
-    data-counted s t.count (map (next_run numbered.next) batch) xs numbered.are_new,
+    files-counted s numbered.next batch xs numbered.are_new,
     ap at (let mapped = length-map xs (data_file s) in let same : t.count + length xs ≡ t.count + length (map (data_file s) xs) = omega (arith, mapped) in same),
   )
   rows-counted s newest _ _ _ _ (compacts plan) = (tt, ap at (let same : t.count ≡ t.count + 0 = omega arith in same))

@@ -20,6 +20,7 @@ use Rattle.pm_model_history.specs.ColumnValue.{index_of}
 use Rattle.pm_model_history.specs.Merge.{HistoryRow, key_of}
 use Rattle.pm_model_following.specs.Groups.{bucket_key_of, group_of, kind_at, rows_in}
 use Rattle.pm_write.specs.Batch.{GroupRows, Groups, HoldsRows, IsBatchOf, held_of}
+use Rattle.pm_made.proofs.IntentLemmas.{few-appended}
 use Rattle.pm_append.specs.Commit.{IsBuilt}
 use Rattle.pm_made.specs.declared.newest.Author.{Author}
 use Rattle.pm_commit.specs.Own.{IsOwn, new_own}
@@ -92,7 +93,8 @@ new-is-own law s rows batch author check names built is some first count = recor
   made_for = tt;
   fits = law.folders s rows batch built.no_partition is;
   one_group = count-one batch some is.ordered (each-only s rows batch built is batch (law.held s rows batch is));
-  few = (let one = count-one batch some is.ordered (each-only s rows batch built is batch (law.held s rows batch is)) in omega (arith, one));
+  few = (let one = count-one batch some is.ordered (each-only s rows batch built is batch (law.held s rows batch is)) in
+      let few = few-appended batch in omega (arith, one, few));
   same_base = sym first;
   within = omega arith;
   named = omega (arith, count);

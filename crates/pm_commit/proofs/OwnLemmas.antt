@@ -10,7 +10,7 @@ use Rattle.pm_model_folder.specs.Ledger.{Past}
 use Rattle.pm_put.specs.declared.putting.CommitFile.{CommitFile}
 use Rattle.pm_write.specs.Batch.{Groups}
 use Rattle.pm_write.specs.Files.{no_sequence}
-use Rattle.pm_made.specs.Intent.{Means, ProducesNone}
+use Rattle.pm_made.specs.Intent.{Means}
 use Rattle.pm_made.specs.Refusals.{above_files, above_id, above_numbers, is_fenced, no_files, no_id, passed, refusal_of}
 use Rattle.pm_made.specs.declared.intent.Intent.{Intent}
 use Rattle.pm_made.specs.declared.intent.Intent.TheVariants as intents
@@ -34,11 +34,6 @@ pub based-means : (s : TableSchema) (author : Author) (base : ℕ) (intent : Int
 based-means s author base (intents.Append batch) e is means = means
 based-means s author base (intents.Compact plan) e is means = absurd is
 based-means s author base (intents.Fence number) e is means = absurd is
-
-pub none_produced : (s : TableSchema) (intent : Intent) → IsBuilt s → ProducesNone s intent
-none_produced s (intents.Append batch) built = built.no_producer
-none_produced s (intents.Compact plan) built = tt
-none_produced s (intents.Fence number) built = tt
 
 -- and takes no file away, so none was taken
 not-it : (t : Bool) (one it : Refusal) (later : Option Refusal) → (one ≡ it → ⊥) → (later ≡ Some it → ⊥) → (if t then Some one else later) ≡ Some it → ⊥

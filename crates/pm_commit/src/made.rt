@@ -15,7 +15,6 @@ use std::alloc::Global;
 
 impl Own {
     /// What its commit after the newest snapshot puts into the folder.
-    #[tactic(auto, using(crate::proofs::OwnLemmas::none_produced))]
     pub(crate) fn make(&mut self, alloc: Global, found: &Found) -> Result<Made, Refusal>
         requires { MayMake self.old found.now }
         ensures made { IfOk result (IsMadeOf found.now.schema found.now.newest self.old.author self.old.intent
