@@ -1,11 +1,12 @@
 -- A try of `pm_made` to append a batch, which is ready and published, appends its rows.
-use Rattle.std.proofs.Common.{◌≡◌, ◌↔◌, ◌⊎◌, inl, inr, ℕ, pos, int_lt, suc, ◌+◌, ◌<◌, ◌≤◌, ◌^◌, Bool, true, false, cond, List, [], ◌∷◌, ◌++◌, length, map, Option, None, Some, IsSome, Contains, refl, sym, ap, subst, ◌∙◌, append-nil, arith}
+use Rattle.std.proofs.Common.{◌≡◌, ◌≢◌, ◌↔◌, ◌⊎◌, inl, inr, ℕ, pos, int_lt, suc, ◌+◌, ◌<◌, ◌≤◌, ◌^◌, Bool, true, false, cond, List, [], ◌∷◌, ◌++◌, length, map, Option, None, Some, IsSome, Contains, refl, sym, ap, subst, ◌∙◌, append-nil, arith}
 use Rattle.std.specs.BTreeMap.{BTreeMap}
 use Rattle.std.specs.FinMap as finite
-use Rattle.std.specs.List.{AllByRecursion}
+use Rattle.std.specs.List.{AllByRecursion, AllZip}
 use Rattle.pm_store.specs.Files.{Files, Puts}
 use Rattle.pm_values.specs.Names.{Naming, counted}
 use Rattle.pm_values.specs.declared.group.Group.{Group}
+use Rattle.pm_values.specs.declared.record.Change.{Change}
 use Rattle.pm_values.specs.declared.record.Stamped.{Stamped}
 use Rattle.pm_values.specs.declared.refusal.Refusal.{Refusal}
 use Rattle.pm_model_history.specs.History.{Entry}
@@ -13,7 +14,8 @@ use Rattle.pm_model_history.specs.Merge.{HistoryRow}
 use Rattle.pm_engine.specs.Covers.{CoversAll}
 use Rattle.pm_engine.specs.OfSchema.{meaning_of}
 use Rattle.pm_model_following.specs.Groups.{rows_in}
-use Rattle.pm_schema.specs.Again.{IsDeclared}
+use Rattle.pm_options.specs.declared.kinds.Producer.{Producer}
+use Rattle.pm_options.specs.declared.kinds.Producer.TheVariants as producers
 use Rattle.pm_schema.specs.declared.schema.TableSchema.{TableSchema}
 use Rattle.pm_snapshot.specs.declared.snapshot.Snapshot.{Snapshot}
 use Rattle.pm_manifest.specs.Entries.{IsEntry, IsWithin}
@@ -34,12 +36,13 @@ use Rattle.pm_put.specs.Meaning.{IsPut}
 use Rattle.pm_put.specs.declared.putting.CommitFile.{CommitFile}
 use Rattle.pm_run.specs.Rows.{HasRows}
 use Rattle.pm_run.specs.Writing.{AreRising}
-use Rattle.pm_write.specs.Batch.{GroupRows, Groups, IsBatchOf, held_of, numbered}
-use Rattle.pm_write.specs.Files.{AreNewFiles, AreWritten, exceeds, no_sequence}
+use Rattle.pm_write.specs.Batch.{GroupRows, Groups, IsBatchOf, group_log, held_of, logs_in, numbered}
+use Rattle.pm_write.specs.Files.{AreFilesOfLogs, AreLogsWritten, AreNewFiles, AreWritten, IsLogWritten, after_names, exceeds, no_sequence}
 use Rattle.pm_write.specs.declared.files.NewFile.{NewFile}
 use Rattle.pm_made.specs.Commit as tried
 use Rattle.pm_made.specs.Delta.{Delta, added_entry, entries_of, left_of}
-use Rattle.pm_made.specs.Files.{AreNumbered, HasBase, HasChangesList, HasDelta, HasManifest, after_names, appends, changes_of, data_file, kept, merged, merges, no_list, no_manifest, one_list, one_manifest}
+use Rattle.pm_made.specs.Files.{AreNumbered, HasBase, HasChangesList, HasDelta, HasManifest, appends, changes_of, data_file, kept, merged, merges, no_list, no_manifest, one_list, one_manifest}
+use Rattle.pm_made.specs.Intent.{changelog_files}
 use Rattle.pm_made.specs.Refusals.{above_files, above_numbers, is_fenced, no_files, passed, refusal_of}
 use Rattle.pm_made.specs.Snapshot.{new_snapshot}
 use Rattle.pm_made.specs.declared.intent.Intent.TheVariants as intents
@@ -50,14 +53,17 @@ use Rattle.pm_made.proofs.CountLemmas.{left-none}
 use Rattle.pm_made.proofs.ListLemmas.{each-of, in-either, in-head, in-left, in-or, in-right, in-tail, none-in, pairs-to}
 use Rattle.pm_made.proofs.ListedLemmas.{no-metas}
 use Rattle.pm_made.proofs.LiveLemmas.{AreAdds, AreNew}
+use Rattle.pm_made.proofs.LogLemmas.{changelog-least}
 use Rattle.pm_made.proofs.MadeLemmas.{IsMade, IsMaker, later-maker, made-data}
 use Rattle.pm_made.proofs.NewFileLemmas.{named-file}
-use Rattle.pm_made.proofs.NumberLemmas.{all-data, files-many, same-exceeds}
+use Rattle.pm_made.proofs.NumberLemmas.{changes-are, data-are, files-many, same-exceeds, tell-at-zero}
 use Rattle.pm_made.proofs.OldLemmas.{Old, SnapshotFacts, old-of, puts-holds}
-use Rattle.pm_append.specs.Commit.{AreBase, AreBaseIf, AreMerged, Grows, HasAppended, IsReady, Try, attempt_of, entry_of}
+use Rattle.pm_append.specs.Commit.{AreBase, AreBaseIf, AreMerged, Grows, HasAppended, IsReady, Try, attempt_of, entry_of, told_count}
 use Rattle.pm_append.specs.Snapshot.{append_snapshot}
+use Rattle.pm_append.proofs.ChangeLemmas.{AreLogs, ChangeFacts, holds-input, no-rows, none-logged, told-once, written-logs}
 use Rattle.pm_append.proofs.CountLemmas.{adds-rows}
-use Rattle.pm_append.proofs.FileLemmas.{apart-files, are-adds, entry-file, next-above}
+use Rattle.pm_append.proofs.EntryLemmas.{changes-can-be, entries-can-be}
+use Rattle.pm_append.proofs.FileLemmas.{AreLogFiles, apart-files, are-adds, data-of-groups, entry-file, next-above}
 use Rattle.pm_append.proofs.GroupLemmas.{NewestFacts}
 use Rattle.pm_append.proofs.GrownLemmas.{GroupFacts, NewRuns, go-on, stands}
 use Rattle.pm_append.proofs.RowCountLemmas.{adds-at-zero, files-few}
@@ -78,13 +84,6 @@ CommitLaw = (me : Actor) (f after : Files) (s : TableSchema) (entries : List Ent
     → ((g : Group) → HasGroup after s (entries ++ e ∷ []) (suc (length entries)) (live_in made.contents) g)
     → HoldsChange after s (entries ++ e ∷ []) (suc (length entries)) made.contents.changes → IsCommit f after s entries e
 
--- entries that add the new files of a batch are such as a manifest can have, where they are written
-abbrev pub NewEntries : Type 0
-NewEntries = (s : TableSchema) (rows : List HistoryRow) (batch : Groups) (next : BTreeMap Group ℕ) (names : Naming) (new_files : List NewFile) → IsDeclared s
-    → s.partition ≡ [] → s.options.bucket ≡ 1 → IsBatchOf s rows batch → AreNewFiles s next names batch new_files
-    → AllByRecursion (λ (e : Group × GroupRows). held_of e.0 batch ≡ Some e.1) batch
-    → AllByRecursion (IsWithin (shape_of s)) (map (added_entry s) new_files) → AllByRecursion (IsEntry (shape_of s)) (map (added_entry s) new_files)
-
 pub record Facts : Type 0 where
   pub snapshots : SnapshotFacts
   pub newest : NewestFacts
@@ -96,9 +95,16 @@ pub record Facts : Type 0 where
       → AllByRecursion (λ (e : Group × GroupRows). held_of e.0 batch ≡ Some e.1) batch
   pub covers : (s : TableSchema) (rows : List HistoryRow) (batch : Groups) (g : Group) (x : GroupRows) (n : ℕ) → IsBatchOf s rows batch
       → held_of g batch ≡ Some x → CoversAll (meaning_of s) (numbered n x.run ∷ []) (rows_in s g rows)
-  pub new_entries : NewEntries
   pub written : (s : TableSchema) (rows : List HistoryRow) (batch : Groups) (next : BTreeMap Group ℕ) (names : Naming) (new_files : List NewFile)
-      → IsBatchOf s rows batch → exceeds next batch ≡ false → AreNewFiles s next names batch new_files → AreWritten s next batch new_files
+      → IsBatchOf s rows batch → exceeds next batch ≡ false → (new : AreNewFiles s next names batch new_files) → AreWritten s next batch new.data_files
+  pub logs_written : (s : TableSchema) (rows : List HistoryRow) (batch : Groups) (next : BTreeMap Group ℕ) (names : Naming) (new_files : List NewFile)
+      → IsBatchOf s rows batch → (new : AreNewFiles s next names batch new_files) → AreLogsWritten s rows batch new.changes
+  pub logs : (s : TableSchema) (rows : List HistoryRow) (batch : Groups) → s.options.producer ≡ producers.Input → IsBatchOf s rows batch
+      → logs_in batch ≡ map group_log batch
+  pub quiet : (s : TableSchema) (rows : List HistoryRow) (batch : Groups) → s.options.producer ≢ producers.Input → IsBatchOf s rows batch
+      → logs_in batch ≡ []
+  pub empty : (s : TableSchema) (rows : List HistoryRow) (batch : Groups) → IsBatchOf s rows batch → (batch ≡ []) ↔ (rows ≡ [])
+  pub change : ChangeFacts
 
 -- ---- what was made of a batch
 
@@ -106,24 +112,21 @@ pub record Facts : Type 0 where
 abbrev by_files : TableSchema → List NewFile → List NewFile → Delta
 by_files s xs told = record { removed = []; added = map (added_entry s) xs; changes = map (added_entry s) told }
 
--- the delta that adds these files and no more
-abbrev delta_by : TableSchema → List NewFile → Delta
-delta_by s xs = record { removed = []; added = map (added_entry s) xs; changes = [] }
-
 record FromBatch (s : TableSchema) (newest : Newest) (names : Naming) (batch : Groups) (d : Delta) (row_files : List CommitFile) : Type 0 where
   pub new_files : List NewFile
   pub numbered : AreNumbered s newest.live.items names batch new_files
-  pub delta : d ≡ delta_by s new_files
+  pub delta : d ≡ by_files s numbered.are_new.data_files numbered.are_new.changes
   pub put : row_files ≡ map (data_file s) new_files
 
 from-batch : (s : TableSchema) (newest : Newest) (names : Naming) (batch : Groups) (d : Delta) (row_files : List CommitFile) (left : Naming)
     → HasDelta s newest names (intents.Append batch) d row_files left → FromBatch s newest names batch d row_files
 from-batch s newest names _ _ _ _ (appends batch xs numbered) =
-    let plain = all-data s numbered.next names batch xs numbered.are_new in
+    let new = numbered.are_new in
     record {
       new_files = xs;
       numbered = numbered;
-      delta = ap (λ (ys : List NewFile). by_files s ys (changes_of xs)) plain.0 ∙ ap (by_files s xs) plain.1;
+      delta = ap (λ (ys : List NewFile). by_files s ys (changes_of xs)) (data-are s numbered.next names batch xs new)
+          ∙ ap (by_files s new.data_files) (changes-are s numbered.next names batch xs new);
       put = refl;
     }
 
@@ -153,16 +156,16 @@ no-changes-list : (s : TableSchema) (names : Naming) (metas : List ManifestMeta)
 no-changes-list s names metas _ _ _ (no_list none) nothing = refl
 no-changes-list s names metas _ _ _ (one_list name file some is) nothing = absurd (some nothing)
 
--- so its snapshot is the one that appends rows with these files
-same-snapshot : (s : TableSchema) (newest : Newest) (author : Author) (batch : Groups) (xs : List NewFile) (lists : ListNames)
-    → ((e : files.Entry) → Contains (map (added_entry s) xs) e → e.add ≡ true) → lists.changes ≡ None
-    → new_snapshot s newest author (intents.Append batch) (delta_by s xs) lists ≡ append_snapshot s newest author (map (added_entry s) xs) lists
-same-snapshot s newest author batch xs lists add none =
+-- its snapshot is the one that appends rows with these files
+same-snapshot : (s : TableSchema) (newest : Newest) (author : Author) (batch : Groups) (xs told : List NewFile) (lists : ListNames)
+    → ((e : files.Entry) → Contains (map (added_entry s) xs) e → e.add ≡ true)
+    → new_snapshot s newest author (intents.Append batch) (by_files s xs told) lists
+    ≡ append_snapshot s newest author (map (added_entry s) xs) (map (added_entry s) told) lists
+same-snapshot s newest author batch xs told lists add =
     let all : left_of [] newest.live.items ≡ newest.live.items = left-none newest.live.items in
     let rows : rows_added (map (added_entry s) xs) ≡ pos (rows_in_files (map (added_entry s) xs)) = adds-rows (map (added_entry s) xs) add in
-    let y : Snapshot = append_snapshot s newest author (map (added_entry s) xs) lists in
+    let y : Snapshot = append_snapshot s newest author (map (added_entry s) xs) (map (added_entry s) told) lists in
     λ i. record y {
-      changelog_list = none i;
       total = pos (rows_in_files (all i ++ map (added_entry s) xs));
       delta = rows i;
     }
@@ -171,6 +174,13 @@ same-snapshot s newest author batch xs lists add none =
 one-of : (f : Files) (s : TableSchema) (m : ManifestMeta) (es : List files.Entry) → HaveEntries f s (m ∷ []) es → IsManifest f s m.name es
 one-of f s m es (own, later, split, is, none) =
     subst (IsManifest f s m.name) (sym (split ∙ ap (λ (more : List files.Entry). own ++ more) none ∙ append-nil own)) is
+
+no-files-of : (s : TableSchema) (names : Naming) (xs : List NewFile) → AreFilesOfLogs s names [] xs → xs ≡ []
+no-files-of s names [] are = refl
+no-files-of s names (x ∷ xs) are = absurd are
+
+none-input : producers.None ≡ producers.Input → ⊥
+none-input is = cc
 
 -- ---- the published try
 
@@ -186,11 +196,21 @@ module _ (facts : Facts) (made_law : MadeLaw) (commit_law : CommitLaw) (me : Act
   abbrev own : FromBatch s t.newest t.names t.batch ready.made.delta ready.made.row_files
   own = from-batch s t.newest t.names t.batch ready.made.delta ready.made.row_files ready.made.left ready.made.has_delta
 
+  abbrev new_files : AreNewFiles s own.numbered.next t.names t.batch own.new_files
+  new_files = own.numbered.are_new
+
+  -- its data files, and its changelog files
   abbrev xs : List NewFile
-  xs = own.new_files
+  xs = new_files.data_files
+
+  abbrev zs : List NewFile
+  zs = new_files.changes
 
   abbrev added : List files.Entry
   added = map (added_entry s) xs
+
+  abbrev changes : List files.Entry
+  changes = map (added_entry s) zs
 
   abbrev old : Old facts.snapshots f s entries ready.folder t.newest ready.newest.id t.newest.snapshot
   old = old-of facts.snapshots f s entries ready.folder t.newest ready.newest.id t.newest.snapshot ready.newest.found
@@ -203,22 +223,47 @@ module _ (facts : Facts) (made_law : MadeLaw) (commit_law : CommitLaw) (me : Act
 
   -- ---- it is ready
 
+  abbrev held : AllByRecursion (λ (e : Group × GroupRows). held_of e.0 t.batch ≡ Some e.1) t.batch
+  held = facts.held s t.rows t.batch ready.batch
+
   adds : AreAdds added
-  adds = are-adds s xs (apart-files s own.numbered.next t.names t.batch xs own.numbered.are_new ready.batch.ordered)
+  adds = are-adds s xs (apart-files t.batch xs (data-of-groups s own.numbered.next t.names t.batch xs new_files.runs) ready.batch.ordered)
 
   can-come : AllByRecursion (IsEntry (shape_of s)) added
-  can-come = facts.new_entries s t.rows t.batch own.numbered.next t.names xs ready.built.declared ready.built.no_partition ready.built.one_bucket
-      ready.batch own.numbered.are_new (facts.held s t.rows t.batch ready.batch)
+  can-come = entries-can-be s t.rows t.batch own.numbered.next t.names xs ready.built.declared ready.built.no_partition ready.built.one_bucket
+      ready.batch new_files.runs held
       (subst (λ (d : Delta). AllByRecursion (IsWithin (shape_of s)) (entries_of d)) own.delta
       (let lists = ready.made.are_manifests.are_lists in
       within-of s ready.made.are_manifests.left (entries_of ready.made.delta) lists.delta lists.delta_files lists.after_delta lists.has_delta))
+
+  within-told : AllByRecursion (IsWithin (shape_of s)) changes
+  within-told = subst (λ (d : Delta). AllByRecursion (IsWithin (shape_of s)) d.changes) own.delta
+      (let lists = ready.made.are_manifests.are_lists in
+      within-of s lists.after_delta ready.made.delta.changes lists.changes lists.changes_files lists.after_changes lists.has_changes)
+
+  -- its changelog files are of its groups, where the table passes its input on, else there are none
+  logged : s.options.producer ≡ producers.Input → AreLogFiles s (after_names (length xs) t.names) t.batch zs
+  logged input = subst (λ (logs : List (Group × List Change)). AreFilesOfLogs s (after_names (length xs) t.names) logs zs)
+      (facts.logs s t.rows t.batch input ready.batch) new_files.logs
+
+  none-told : s.options.producer ≡ producers.None → zs ≡ []
+  none-told none = no-files-of s (after_names (length xs) t.names) zs
+      (subst (λ (logs : List (Group × List Change)). AreFilesOfLogs s (after_names (length xs) t.names) logs zs)
+      (facts.quiet s t.rows t.batch (λ input. none-input (sym none ∙ input)) ready.batch) new_files.logs)
+
+  can-tell : AllByRecursion (IsEntry (shape_of s)) changes
+  can-tell = elim ready.built.producer as (λ _. AllByRecursion (IsEntry (shape_of s)) changes) [
+    | inl none ↦ subst (λ (ys : List NewFile). AllByRecursion (IsEntry (shape_of s)) (map (added_entry s) ys)) (sym (none-told none)) tt
+    | inr input ↦ changes-can-be s t.rows t.batch (after_names (length xs) t.names) zs ready.built.declared ready.built.no_partition ready.built.one_bucket
+        input ready.batch (logged input) held within-told
+  ]
 
   may-change : tried.MayChange s ready.made.delta
   may-change = subst (tried.MayChange s) (sym own.delta) (record {
     can_go = tt;
     can_come = can-come;
-    can_tell = tt;
-    told = tt;
+    can_tell = can-tell;
+    told = tell-at-zero s (after_names (length xs) t.names) (logs_in t.batch) zs new_files.logs;
     removed = pairs-to (λ (a b : files.Entry). id_of a ≡ id_of b → ⊥) [] tt;
     added = pairs-to (λ (a b : files.Entry). id_of a ≡ id_of b → ⊥) added adds.apart;
   })
@@ -249,21 +294,25 @@ module _ (facts : Facts) (made_law : MadeLaw) (commit_law : CommitLaw) (me : Act
 
   -- ---- who made the files
 
-  many : length xs ≡ length t.batch
-  many = files-many s own.numbered.next t.names t.batch xs own.numbered.are_new
+  many : length own.new_files ≡ length t.batch + length (logs_in t.batch)
+  many = files-many s own.numbered.next t.names t.batch own.new_files new_files
 
-  room : t.names.count + (length t.batch + 4) < 2 ^ 64
+  room : t.names.count + (length t.batch + 4 + changelog_files (length (logs_in t.batch))) < 2 ^ 64
   room = ready.maker.room
+
+  in-new : (x : NewFile) → Contains (xs ++ zs) x → Contains own.new_files x
+  in-new x h = subst (λ (ys : List NewFile). Contains ys x) (sym new_files.both) h
 
   maker : IsMaker me t.author.base t.names
   maker = record { may = ready.maker.may; session = ready.maker.session; actor = ready.maker.actor; based = ready.maker.based }
 
   data-made : (x : NewFile) → Contains xs x → IsMade me t.author.base (data_path s x.group x.meta.name)
   data-made x h =
-      let is = named-file s own.numbered.next t.names t.batch xs x own.numbered.are_new h in
+      let is = named-file s own.numbered.next t.names t.batch own.new_files x new_files (in-new x (in-left xs zs x h)) in
       let w = is.within in
-      made-data me t.author.base (after_names is.index t.names) s x.group x.meta.name
-      (later-maker me t.author.base is.index t.names maker (omega (arith, room, many, w))) is.name
+      let logs = changelog-least (length (logs_in t.batch)) in
+      made-data me t.author.base is.kind (after_names is.index t.names) s x.group x.meta.name
+      (later-maker me t.author.base is.index t.names maker (omega (arith, room, many, w, logs))) is.name
 
   -- ---- files in place
 
@@ -274,12 +323,12 @@ module _ (facts : Facts) (made_law : MadeLaw) (commit_law : CommitLaw) (me : Act
     | inr more ↦ in-tail (data_file s y) (map (data_file s) ys) (data_file s x) (in-data ys x more)
   ]
 
-  data-place : (x : NewFile) → Contains xs x → finite.get after (data_path s x.group x.meta.name) ≡ Some x.bytes
-  data-place x h =
+  file-place : (x : NewFile) → Contains own.new_files x → finite.get after (data_path s x.group x.meta.name) ≡ Some x.bytes
+  file-place x h =
       let put : Contains t.made.files.items (data_file s x) =
       subst (λ (made : List CommitFile). Contains made (data_file s x)) (sym ready.made.files)
       (in-left ready.made.row_files ready.made.list_files (data_file s x)
-      (subst (λ (made : List CommitFile). Contains made (data_file s x)) (sym own.put) (in-data xs x h))) in
+      (subst (λ (made : List CommitFile). Contains made (data_file s x)) (sym own.put) (in-data own.new_files x h))) in
       let there : finite.get f (data_path s x.group x.meta.name) ≡ Some x.bytes = each-of (IsPut f) t.made.files.items (data_file s x) ready.there put in
       holds (data_path s x.group x.meta.name) (subst (λ (o : Option (List ℕ)). IsSome o) (sym there) refl) ∙ there
 
@@ -325,21 +374,21 @@ module _ (facts : Facts) (made_law : MadeLaw) (commit_law : CommitLaw) (me : Act
   group_facts = record { newest = facts.newest; rows_added = facts.rows_added; rising = facts.rising; covers = facts.covers }
 
   written : AreWritten s own.numbered.next t.batch xs
-  written = facts.written s t.rows t.batch own.numbered.next t.names xs ready.batch
+  written = facts.written s t.rows t.batch own.numbered.next t.names own.new_files ready.batch
       (same-exceeds live_items own.numbered.next t.batch own.numbered.counts ∙ few-numbers t.newest t.author t.batch ready.allowed)
-      own.numbered.are_new
+      new_files
 
   new_runs : NewRuns me t.author.base after s t.rows t.batch xs live0 (live_in seen.contents)
   new_runs = record {
     next = own.numbered.next;
     names = t.names;
     is_batch = ready.batch;
-    are_new = own.numbered.are_new;
+    are_new = new_files.runs;
     written = written;
     above = λ g x live of_g. subst (λ (n : ℕ). x.file.max_seq + 1 ≤ n) (sym (own.numbered.counts g)) (next-above live_items g x ((old.live.exact x).1 live) of_g);
     new = new;
     now_live = now-live;
-    place = data-place;
+    place = λ x h. file-place x (in-new x (in-left xs zs x h));
     made_by = data-made;
   }
 
@@ -347,12 +396,29 @@ module _ (facts : Facts) (made_law : MadeLaw) (commit_law : CommitLaw) (me : Act
   has-group g = stands group_facts me t.author.base after s t.rows t.batch xs live0 (live_in seen.contents) new_runs f entries t.author.user t.author.identifier
       holds ready.built.declared ready.folder.history.bases g (old.groups g)
 
-  no-changes : seen.contents.changes ≡ []
-  no-changes = seen.changes ∙ ap (λ (d : Delta). d.changes) own.delta
+  same-changes : seen.contents.changes ≡ changes
+  same-changes = seen.changes ∙ ap (λ (d : Delta). d.changes) own.delta
+
+  -- the changelog files of the groups, where the table passes its input on
+  logs : s.options.producer ≡ producers.Input → AreLogs after s t.rows t.batch zs
+  logs input = record {
+    names = after_names (length xs) t.names;
+    is_batch = ready.batch;
+    new = logged input;
+    written = written-logs s t.rows t.batch zs
+        (subst (λ (logs : List (Group × List Change)). AllZip (λ (p : Group × List Change) (x : NewFile). IsLogWritten s t.rows p.0 x) logs zs)
+        (facts.logs s t.rows t.batch input ready.batch)
+        (facts.logs_written s t.rows t.batch own.numbered.next t.names own.new_files ready.batch new_files));
+    place = λ x h. file-place x (in-new x (in-right xs zs x h));
+  }
 
   holds-change : HoldsChange after s (entries ++ entry_of t ∷ []) (suc k) seen.contents.changes
-  holds-change = subst (HoldsChange after s (entries ++ entry_of t ∷ []) (suc k)) (sym no-changes)
-      (record { each = tt; change = λ some. absurd (some ready.built.no_producer) })
+  holds-change = subst (HoldsChange after s (entries ++ entry_of t ∷ []) (suc k)) (sym same-changes)
+      (elim ready.built.producer as (λ _. HoldsChange after s (entries ++ entry_of t ∷ []) (suc k) changes) [
+        | inl none ↦ subst (λ (ys : List NewFile). HoldsChange after s (entries ++ entry_of t ∷ []) (suc k) (map (added_entry s) ys)) (sym (none-told none))
+            (record { each = tt; change = λ some. absurd (some none) })
+        | inr input ↦ holds-input facts.change after s t.rows t.batch zs (logs input) entries t.author.user t.author.identifier ready.built.declared input
+      ])
 
   commits : IsCommit f after s entries (entry_of t)
   unfolding is-ready
@@ -375,30 +441,55 @@ module _ (facts : Facts) (made_law : MadeLaw) (commit_law : CommitLaw) (me : Act
   are-base _ _ _ (merged metas made_files left enough has) have =
       subst (λ (b : Bool). AreBaseIf b after s t.newest metas) (sym enough) (are-merged metas made_files left has (have enough))
 
-  no-list : ready.made.lists.changes ≡ None
-  no-list =
+  no-list : zs ≡ [] → ready.made.lists.changes ≡ None
+  no-list none =
       let lists = ready.made.are_manifests.are_lists in
       no-changes-list s (counted lists.after_changes) lists.changes ready.made.lists.changes lists.changes_list lists.after_list lists.has_changes_list
       (no-metas s lists.after_delta ready.made.delta.changes lists.changes lists.changes_files lists.after_changes lists.has_changes
-      (ap (λ (d : Delta). d.changes) own.delta))
+      (ap (λ (d : Delta). d.changes) own.delta ∙ ap (map (added_entry s)) none))
+
+  -- ---- what is told
+
+  abbrev told_rows : ℕ
+  told_rows = told_count s.options.producer (length t.rows)
+
+  tells : rows_in_files changes ≡ told_rows
+  tells = elim ready.built.producer as (λ _. rows_in_files changes ≡ told_rows) [
+    | inl none ↦ ap (λ (ys : List NewFile). rows_in_files (map (added_entry s) ys)) (none-told none)
+        ∙ sym (ap (λ (p : Producer). told_count p (length t.rows)) none)
+    | inr input ↦ told-once facts.change s t.rows t.batch ready.built.no_partition ready.built.one_bucket ready.batch zs held (logs input).written
+        (facts.empty s t.rows t.batch ready.batch).0
+        ∙ sym (ap (λ (p : Producer). told_count p (length t.rows)) input)
+  ]
+
+  quiet : told_rows ≡ 0 → ready.made.lists.changes ≡ None
+  quiet nothing = no-list (elim ready.built.producer as (λ _. zs ≡ []) [
+    | inl none ↦ none-told none
+    | inr input ↦ none-logged s (after_names (length xs) t.names) t.batch zs (logged input)
+        ((facts.empty s t.rows t.batch ready.batch).1
+        (no-rows t.rows (sym (ap (λ (p : Producer). told_count p (length t.rows)) input) ∙ nothing)))
+  ])
 
   has-appended : HasAppended after s t.newest t.author (length t.rows)
   has-appended = record {
     added = added;
     lists = ready.made.lists;
     contents = seen.contents;
-    commit = subst (λ (id : ℕ). HasCommit after s id (append_snapshot s t.newest t.author added ready.made.lists) seen.contents)
+    commit = subst (λ (id : ℕ). HasCommit after s id (append_snapshot s t.newest t.author added seen.contents.changes ready.made.lists) seen.contents)
         (let id = ready.newest.id in let same : suc k ≡ t.newest.id + 1 = omega (arith, id) in same)
-        (subst (λ (x : Snapshot). HasCommit after s (suc k) x seen.contents) (same-snapshot s t.newest t.author t.batch xs ready.made.lists adds.add no-list)
+        (subst (λ (x : Snapshot). HasCommit after s (suc k) x seen.contents)
+        (same-snapshot s t.newest t.author t.batch xs zs ready.made.lists adds.add
+        ∙ ap (λ (es : List files.Entry). append_snapshot s t.newest t.author added es ready.made.lists) (sym same-changes))
         (subst (λ (d : Delta). HasCommit after s (suc k) (new_snapshot s t.newest t.author (intents.Append t.batch) d ready.made.lists) seen.contents)
         own.delta seen.commit));
     base = subst (AreBase after s t.newest) (sym seen.base)
         (are-base ready.made.are_manifests.base ready.made.are_manifests.base_files ready.made.are_manifests.left ready.made.are_manifests.has_base
         (λ enough. subst (λ (metas : List ManifestMeta). HaveEntries after s metas live_items) seen.base (seen.merged enough)));
     delta = subst (λ (d : Delta). HaveEntries after s seen.contents.delta (entries_of d)) own.delta seen.entries;
-    adds = adds-at-zero s own.numbered.next t.names t.batch xs own.numbered.are_new;
-    few = files-few s t.rows t.batch ready.built.no_partition ready.built.one_bucket ready.batch own.numbered.next t.names xs
-        (facts.held s t.rows t.batch ready.batch) own.numbered.are_new;
+    adds = adds-at-zero s own.numbered.next t.names t.batch xs new_files.runs;
+    few = files-few s t.rows t.batch ready.built.no_partition ready.built.one_bucket ready.batch own.numbered.next t.names xs held new_files.runs;
+    tells = ap (λ (es : List files.Entry). rows_in_files es) same-changes ∙ tells;
+    quiet = quiet;
   }
 
   pub published : IsCommit f after s entries (entry_of t) × NamesOwn me f after s (length entries)

@@ -22,6 +22,7 @@ use Rattle.pm_values.specs.declared.column.ColType.{ColType}
 use Rattle.pm_values.specs.declared.column.ColType.TheVariants as types
 use Rattle.pm_values.specs.declared.column.Column.{Column}
 use Rattle.pm_values.specs.declared.group.Group.{Group}
+use Rattle.pm_values.specs.declared.record.Change.{Change}
 use Rattle.pm_values.specs.declared.record.Stamped.{Stamped}
 use Rattle.pm_values.specs.declared.value.Value.{Value}
 use Rattle.pm_values.specs.declared.value.Value.TheVariants as values
@@ -36,16 +37,21 @@ use Rattle.pm_model_history.specs.Merge as merge
 use Rattle.pm_model_history.specs.Merge.{HistoryRow, value_at}
 use Rattle.pm_model_history.specs.Merged.{primary_of}
 use Rattle.pm_engine.specs.Covers.{Run}
+use Rattle.pm_model_following.specs.Following.{by_key}
 use Rattle.pm_model_following.specs.Groups.{bucket_key_of, group_of, kind_at, rows_in}
+use Rattle.pm_changelog.specs.GroupLog.{IsGroupLog, stamped_from}
 use Rattle.pm_manifest.specs.Entries.{IsEntry, IsFile, IsFileWithin, IsKey, IsWithin}
 use Rattle.pm_manifest.specs.Rows.{IsFull}
 use Rattle.pm_manifest.specs.Shape.{apart_from, key_of, rest_of, shape_of, type_of}
 use Rattle.pm_run.specs.Order.{keys_of}
-use Rattle.pm_run.specs.Writing.{data_prefix, first_key, suffix}
-use Rattle.pm_write.specs.Batch.{AreRowsOf, GroupRows, Groups, HoldsRows, IsBatchOf, IsStoredRow, held_of, numbered}
-use Rattle.pm_write.specs.Files.{AreNewFiles, IsNewFile, next_of}
+use Rattle.pm_run.specs.Writing.{HasOwnKey, IsMetaOf, changes_prefix, data_prefix, first_key, suffix}
+use Rattle.pm_options.specs.declared.kinds.Producer.{Producer}
+use Rattle.pm_options.specs.declared.kinds.Producer.TheVariants as producers
+use Rattle.pm_write.specs.Batch.{AreRowsOf, GroupRows, Groups, HoldsRows, IsBatchOf, IsStoredRow, KeepsLog, held_of, numbered}
+use Rattle.pm_write.specs.Files.{IsNewChanges, IsNewFile, next_of}
 use Rattle.pm_write.specs.declared.files.NewFile.{NewFile}
 use Rattle.pm_made.specs.Delta.{added_entry}
+use Rattle.pm_append.proofs.FileLemmas.{AreDataFiles, AreLogFiles}
 
 -- ---- the value of a row in a column that is NOT NULL
 
@@ -222,6 +228,11 @@ keys-own s n count [] each = tt
 keys-own s n count (x ∷ run) each =
     (record { row = x.row; fits = each.0.keyed.fits; own = each.0.keyed.own }, keys-own s n count run each.1)
 
+-- so have those of a log
+own-keys : (s : TableSchema) (rows : List Stamped) → AllByRecursion (HasOwnKey s) rows → AllByRecursion (IsOwnKey s) (keys_of rows)
+own-keys s [] each = tt
+own-keys s (x ∷ rows) each = (record { row = x.row; fits = each.0.fits; own = sym each.0.own }, own-keys s rows each.1)
+
 some-is : (a b : Values) → Some a ≡ Some b → a ≡ b
 some-is a b e = cc
 
@@ -272,7 +283,7 @@ pub record IsOnly (g : Group) : Type 0 where
   pub partition : g.partition ≡ []
   pub bucket : g.bucket ≡ 0
 
-group-only : (s : TableSchema) (row : Values) → s.partition ≡ [] → s.options.bucket ≡ 1 → IsOnly (group_of s row)
+pub group-only : (s : TableSchema) (row : Values) → s.partition ≡ [] → s.options.bucket ≡ 1 → IsOnly (group_of s row)
 group-only s row none one =
     let hash = hash_of (body (map (kind_at s) (bucket_key_of s)) (merge.key_of (bucket_key_of s) row)) in record {
       partition = ap (λ (names : List (List ℕ)). merge.key_of (map (index_of s) names) row) none;
@@ -306,17 +317,19 @@ none-full columns names parts no_names no_parts short = record {
   full = ap (list_any is_null) no_parts;
 }
 
+-- the log that is kept of a group's rows tells them by key, where the table passes its input on
+pub log-kept : (s : TableSchema) (rows : List HistoryRow) (x : GroupRows) → s.options.producer ≡ producers.Input → HoldsRows s rows (Some x)
+    → IsGroupLog s (by_key s rows) x.log
+log-kept s rows x input held = subst (λ (p : Producer). KeepsLog p s rows x.log) input (rows-held s rows x held).1.log
+
 module _ (s : TableSchema) (declared : IsDeclared s) (none : s.partition ≡ []) (one : s.options.bucket ≡ 1) where
-  file-can-be : (names : Naming) (n : ℕ) (g : Group) (x : GroupRows) (file : NewFile)
-      → AllByRecursion (IsStoredRow s x.count) x.run → IsNewFile s names g (numbered n x.run) file
-      → IsFileWithin (shape_of s) file.meta → IsFile (shape_of s) file.group.partition file.meta
-  file-can-be names n g x file each new within =
-      let meta = new.file.made.meta in
-      let own = keys-own s n x.count x.run each in
-      let least = first-holds (IsOwnKey s) (numbered n x.run) file.meta.min_key own meta.least in
-      let greatest = last-holds (IsOwnKey s) None (keys_of (numbered n x.run)) file.meta.max_key
-      (λ key is. absurd (none-some key is)) own meta.greatest in record {
-        named = name-ends data_prefix suffix names file.meta.name meta.named;
+  file-can-be : (prefix : List ℕ) (names : Naming) (rows : List Stamped) (file : NewFile) → AllByRecursion (IsOwnKey s) (keys_of rows)
+      → IsMetaOf s 0 (name_of prefix suffix names) rows file.bytes file.meta → IsFileWithin (shape_of s) file.meta
+      → IsFile (shape_of s) file.group.partition file.meta
+  file-can-be prefix names rows file own meta within =
+      let least = first-holds (IsOwnKey s) rows file.meta.min_key own meta.least in
+      let greatest = last-holds (IsOwnKey s) None (keys_of rows) file.meta.max_key (λ key is. absurd (none-some key is)) own meta.greatest in record {
+        named = name-ends prefix suffix names file.meta.name meta.named;
         schema = within.schema;
         size = within.size;
         rows = within.rows;
@@ -327,38 +340,74 @@ module _ (s : TableSchema) (declared : IsDeclared s) (none : s.partition ≡ [])
         level = within.level;
       }
 
-  entry-can-be : (rows : List HistoryRow) (names : Naming) (n : ℕ) (g : Group) (x : GroupRows) (file : NewFile)
-      → HoldsRows s (rows_in s g rows) (Some x) → IsNewFile s names g (numbered n x.run) file
-      → IsWithin (shape_of s) (added_entry s file) → IsEntry (shape_of s) (added_entry s file)
-  entry-can-be rows names n g x file held new within =
-      let only : IsOnly file.group = subst IsOnly (sym new.own) (held-only s rows g x none one held) in
+  entry-can-be : (prefix : List ℕ) (names : Naming) (rows : List Stamped) (file : NewFile) → IsOnly file.group → AllByRecursion (IsOwnKey s) (keys_of rows)
+      → IsMetaOf s 0 (name_of prefix suffix names) rows file.bytes file.meta → IsWithin (shape_of s) (added_entry s file)
+      → IsEntry (shape_of s) (added_entry s file)
+  entry-can-be prefix names rows file only own meta within =
       let first = only.bucket in record {
         partition = none-full s.columns s.partition file.group.partition none only.partition within.partition;
         total = refl;
         bucket = omega arith;
-        file = file-can-be names n g x file (rows-held s (rows_in s g rows) x held).1.each new within.file;
+        file = file-can-be prefix names rows file own meta within.file;
       }
 
--- the entries that add the files of a batch, where their numbers and keys are such that they are written
+  data-can-be : (rows : List HistoryRow) (names : Naming) (n : ℕ) (g : Group) (x : GroupRows) (file : NewFile)
+      → HoldsRows s (rows_in s g rows) (Some x) → IsNewFile s names g (numbered n x.run) file
+      → IsWithin (shape_of s) (added_entry s file) → IsEntry (shape_of s) (added_entry s file)
+  data-can-be rows names n g x file held new within =
+      entry-can-be data_prefix names (numbered n x.run) file (subst IsOnly (sym new.own) (held-only s rows g x none one held))
+      (keys-own s n x.count x.run (rows-held s (rows_in s g rows) x held).1.each) new.file.made.meta within
+
+  log-can-be : (rows : List HistoryRow) (names : Naming) (g : Group) (x : GroupRows) (file : NewFile) → s.options.producer ≡ producers.Input
+      → HoldsRows s (rows_in s g rows) (Some x) → IsNewChanges s names g x.log file
+      → IsWithin (shape_of s) (added_entry s file) → IsEntry (shape_of s) (added_entry s file)
+  log-can-be rows names g x file input held new within =
+      entry-can-be changes_prefix names (stamped_from 0 x.log) file (subst IsOnly (sym new.own) (held-only s rows g x none one held))
+      (own-keys s (stamped_from 0 x.log) (log-kept s (rows_in s g rows) x input held).own) new.file.made.meta within
+
+-- the groups that a batch holds
+abbrev AreHeld : Groups → Groups → Type 0
+AreHeld batch es = AllByRecursion (λ (e : Group × GroupRows). held_of e.0 batch ≡ Some e.1) es
+
+pub own-held : (s : TableSchema) (rows : List HistoryRow) (batch : Groups) (e : Group × GroupRows) → IsBatchOf s rows batch → held_of e.0 batch ≡ Some e.1
+    → HoldsRows s (rows_in s e.0 rows) (Some e.1)
+own-held s rows batch e is held = subst (HoldsRows s (rows_in s e.0 rows)) held (is.held e.0)
+
+-- the entries that add the data files of a batch, where their numbers and keys are such that they are written
 pub entries-can-be : (s : TableSchema) (rows : List HistoryRow) (batch : Groups) (next : BTreeMap Group ℕ)
     (names : Naming) (new_files : List NewFile) → IsDeclared s → s.partition ≡ [] → s.options.bucket ≡ 1
-    → IsBatchOf s rows batch → AreNewFiles s next names batch new_files
+    → IsBatchOf s rows batch → AreDataFiles s next names batch new_files
     → AllByRecursion (λ (e : Group × GroupRows). held_of e.0 batch ≡ Some e.1) batch
     → AllByRecursion (IsWithin (shape_of s)) (map (added_entry s) new_files)
     → AllByRecursion (IsEntry (shape_of s)) (map (added_entry s) new_files)
 entries-can-be s rows batch next names new_files declared none one is new held within =
     by_groups batch names new_files held new within
   where
-    by_groups : (es : Groups) (names : Naming) (xs : List NewFile)
-        → AllByRecursion (λ (e : Group × GroupRows). held_of e.0 batch ≡ Some e.1) es → AreNewFiles s next names es xs
-        → AllByRecursion (IsWithin (shape_of s)) (map (added_entry s) xs)
-        → AllByRecursion (IsEntry (shape_of s)) (map (added_entry s) xs)
+    by_groups : (es : Groups) (names : Naming) (xs : List NewFile) → AreHeld batch es → AreDataFiles s next names es xs
+        → AllByRecursion (IsWithin (shape_of s)) (map (added_entry s) xs) → AllByRecursion (IsEntry (shape_of s)) (map (added_entry s) xs)
     by_groups [] names [] held new within = tt
     by_groups [] names (x ∷ xs) held new within = absurd new
     by_groups (e ∷ es) names [] held new within = absurd new
-    by_groups (e ∷ es) names (x ∷ xs) held new within =
-        let own : HoldsRows s (rows_in s e.0 rows) (Some e.1) =
-        subst (HoldsRows s (rows_in s e.0 rows)) held.0 (is.held e.0) in (
-          entry-can-be s declared none one rows names (next_of next e.0) e.0 e.1 x own new.0 within.0,
-          by_groups es (counted names) xs held.1 new.1 within.1,
-        )
+    by_groups (e ∷ es) names (x ∷ xs) held new within = (
+      data-can-be s declared none one rows names (next_of next e.0) e.0 e.1 x (own-held s rows batch e is held.0) new.0 within.0,
+      by_groups es (counted names) xs held.1 new.1 within.1,
+    )
+
+-- and those that add its changelog files
+pub changes-can-be : (s : TableSchema) (rows : List HistoryRow) (batch : Groups) (names : Naming) (new_files : List NewFile) → IsDeclared s
+    → s.partition ≡ [] → s.options.bucket ≡ 1 → s.options.producer ≡ producers.Input → IsBatchOf s rows batch → AreLogFiles s names batch new_files
+    → AllByRecursion (λ (e : Group × GroupRows). held_of e.0 batch ≡ Some e.1) batch
+    → AllByRecursion (IsWithin (shape_of s)) (map (added_entry s) new_files)
+    → AllByRecursion (IsEntry (shape_of s)) (map (added_entry s) new_files)
+changes-can-be s rows batch names new_files declared none one input is new held within =
+    by_groups batch names new_files held new within
+  where
+    by_groups : (es : Groups) (names : Naming) (xs : List NewFile) → AreHeld batch es → AreLogFiles s names es xs
+        → AllByRecursion (IsWithin (shape_of s)) (map (added_entry s) xs) → AllByRecursion (IsEntry (shape_of s)) (map (added_entry s) xs)
+    by_groups [] names [] held new within = tt
+    by_groups [] names (x ∷ xs) held new within = absurd new
+    by_groups (e ∷ es) names [] held new within = absurd new
+    by_groups (e ∷ es) names (x ∷ xs) held new within = (
+      log-can-be s declared none one rows names e.0 e.1 x input (own-held s rows batch e is held.0) new.0 within.0,
+      by_groups es (counted names) xs held.1 new.1 within.1,
+    )

@@ -2,7 +2,7 @@
 use Rattle.std.proofs.Common.{◌≡◌, ◌≢◌, ℕ, ◌+◌, ◌≤◌, max, Bool, true, false, true≢false, cond, List, [], ◌∷◌, map, Option, None, Some, inl, inr, Contains, refl, sym, ap, subst, ◌∙◌, is_eq, arith}
 use Rattle.std.specs.BTreeMap.{BTreeMap, is_at}
 use Rattle.std.specs.Cmp.{Equal-is, tied_itself}
-use Rattle.std.specs.List.{AllByRecursion}
+use Rattle.std.specs.List.{AllByRecursion, AllZip}
 use Rattle.std.specs.List.Sorted.{IsStrictlySortedBy}
 use Rattle.std.specs.Map.{keys_of}
 use Rattle.std.specs.Ordering.{eq_by_cmp}
@@ -17,8 +17,8 @@ use Rattle.pm_model_following.specs.Groups.{rows_in}
 use Rattle.pm_manifest.specs.Live.{id_of}
 use Rattle.pm_manifest.specs.declared.entry.Entry.{Entry}
 use Rattle.pm_manifest.specs.declared.file_id.FileId.{FileId}
-use Rattle.pm_write.specs.Batch.{GroupRows, Groups, HoldsRows, IsBatchOf, held_of}
-use Rattle.pm_write.specs.Files.{AreNewFiles, AreWritten, IsWritten, next_of}
+use Rattle.pm_write.specs.Batch.{GroupRows, Groups, HoldsRows, IsBatchOf, group_log, held_of}
+use Rattle.pm_write.specs.Files.{AreFilesOfLogs, AreFilesOfRuns, next_run}
 use Rattle.pm_write.specs.declared.files.NewFile.{NewFile}
 use Rattle.pm_made.specs.Delta.{added_entry}
 use Rattle.pm_made.specs.Refusals.{next_number}
@@ -28,7 +28,7 @@ use Rattle.pm_made.proofs.NumberLemmas.{group-is}
 
 -- ---- groups
 
-group-ties : (a b : Group) → a ≡ b → is_at (group_cmp a) b ≡ true
+pub group-ties : (a b : Group) → a ≡ b → is_at (group_cmp a) b ≡ true
 group-ties a b e = subst (λ x. is_at (group_cmp a) x ≡ true) e (ap is_eq (tied_itself group_total a))
 
 pub less-apart : (a b : Group) → group_cmp a b ≡ Less → a ≢ b
@@ -39,55 +39,84 @@ less-apart a b less same =
 
 -- ---- the files of a batch
 
-module _ (s : TableSchema) (next : BTreeMap Group ℕ) where
-  -- those of later groups are of greater ones
-  later-groups : (g : Group) (names : Naming) (es : Groups) (xs : List NewFile) (y : NewFile) → AreNewFiles s next names es xs
-      → AllByRecursion (λ (k : Group). group_cmp g k ≡ Less) (keys_of es) → Contains xs y → group_cmp g y.group ≡ Less
-  later-groups g names [] [] y new above h = absurd (none-in y h)
-  later-groups g names [] (x ∷ xs) y new above h = absurd new
-  later-groups g names (e ∷ es) [] y new above h = absurd new
-  later-groups g names (e ∷ es) (x ∷ xs) y new above h = elim (in-or x xs y h) as (λ _. group_cmp g y.group ≡ Less) [
-    | inl is ↦ subst (λ (z : NewFile). group_cmp g z.group ≡ Less) is (subst (λ (k : Group). group_cmp g k ≡ Less) (sym new.0.own) above.0)
-    | inr more ↦ later-groups g (counted names) es xs y new.1 above.1 more
-  ]
+-- files of the groups of a batch: one for each in their order
+abbrev pub AreOfGroups : Groups → List NewFile → Type 0
+AreOfGroups batch xs = AllZip (λ (e : Group × GroupRows) (x : NewFile). x.group ≡ e.0) batch xs
 
-  -- so they are of different groups
-  pub apart-files : (names : Naming) (batch : Groups) (xs : List NewFile) → AreNewFiles s next names batch xs → IsStrictlySortedBy group_cmp (keys_of batch)
-      → Pairs (λ (a b : NewFile). a.group ≢ b.group) xs
-  unfolding IsStrictlySortedBy
-  apart-files names [] [] new ordered = tt
-  apart-files names [] (x ∷ xs) new ordered = absurd new
-  apart-files names (e ∷ es) [] new ordered = tt
-  apart-files names (e ∷ es) (x ∷ xs) new ordered = (
-    λ y h. less-apart x.group y.group (subst (λ (k : Group). group_cmp k y.group ≡ Less) (sym new.0.own) (later-groups e.0 (counted names) es xs y new.1 ordered.0 h)),
-    apart-files (counted names) es xs new.1 ordered.1,
-  )
+-- its data files
+abbrev pub AreDataFiles : TableSchema → BTreeMap Group ℕ → Naming → Groups → List NewFile → Type 0
+AreDataFiles s next names batch xs = AreFilesOfRuns s names (map (next_run next) batch) xs
 
+-- its changelog files, where each group has a log
+abbrev pub AreLogFiles : TableSchema → Naming → Groups → List NewFile → Type 0
+AreLogFiles s names batch xs = AreFilesOfLogs s names (map group_log batch) xs
+
+pub data-of-groups : (s : TableSchema) (next : BTreeMap Group ℕ) (names : Naming) (batch : Groups) (xs : List NewFile) → AreDataFiles s next names batch xs
+    → AreOfGroups batch xs
+data-of-groups s next names [] [] new = tt
+data-of-groups s next names [] (x ∷ xs) new = absurd new
+data-of-groups s next names (e ∷ es) [] new = absurd new
+data-of-groups s next names (e ∷ es) (x ∷ xs) new = (new.0.own, data-of-groups s next (counted names) es xs new.1)
+
+pub logs-of-groups : (s : TableSchema) (names : Naming) (batch : Groups) (xs : List NewFile) → AreLogFiles s names batch xs → AreOfGroups batch xs
+logs-of-groups s names [] [] new = tt
+logs-of-groups s names [] (x ∷ xs) new = absurd new
+logs-of-groups s names (e ∷ es) [] new = absurd new
+logs-of-groups s names (e ∷ es) (x ∷ xs) new = (new.0.own, logs-of-groups s (counted names) es xs new.1)
+
+-- those of later groups are of greater ones
+pub later-groups : (g : Group) (es : Groups) (xs : List NewFile) (y : NewFile) → AreOfGroups es xs
+    → AllByRecursion (λ (k : Group). group_cmp g k ≡ Less) (keys_of es) → Contains xs y → group_cmp g y.group ≡ Less
+later-groups g [] [] y own above h = absurd (none-in y h)
+later-groups g [] (x ∷ xs) y own above h = absurd own
+later-groups g (e ∷ es) [] y own above h = absurd own
+later-groups g (e ∷ es) (x ∷ xs) y own above h = elim (in-or x xs y h) as (λ _. group_cmp g y.group ≡ Less) [
+  | inl is ↦ subst (λ (z : NewFile). group_cmp g z.group ≡ Less) is (subst (λ (k : Group). group_cmp g k ≡ Less) (sym own.0) above.0)
+  | inr more ↦ later-groups g es xs y own.1 above.1 more
+]
+
+-- so they are of different groups
+pub apart-files : (batch : Groups) (xs : List NewFile) → AreOfGroups batch xs → IsStrictlySortedBy group_cmp (keys_of batch)
+    → Pairs (λ (a b : NewFile). a.group ≢ b.group) xs
+unfolding IsStrictlySortedBy
+apart-files [] [] own ordered = tt
+apart-files [] (x ∷ xs) own ordered = absurd own
+apart-files (e ∷ es) [] own ordered = tt
+apart-files (e ∷ es) (x ∷ xs) own ordered = (
+  λ y h. less-apart x.group y.group (subst (λ (k : Group). group_cmp k y.group ≡ Less) (sym own.0) (later-groups e.0 es xs y own.1 ordered.0 h)),
+  apart-files es xs own.1 ordered.1,
+)
+
+-- a group's file among them
+module _ (P : Group → GroupRows → NewFile → Type 0) where
   -- what a batch's files have of a group: one file, where the batch has the group, else none
   abbrev pub OwnFile : Group → Option GroupRows → List NewFile → Type 0
   OwnFile g None xs = (x : NewFile) → Contains xs x → x.group ≢ g
-  OwnFile g (Some r) xs = (x : NewFile) × Contains xs x × (x.group ≡ g) × IsWritten s (next_of next g) r x
+  OwnFile g (Some r) xs = (x : NewFile) × Contains xs x × (x.group ≡ g) × P g r x
       × ((y : NewFile) → Contains xs y → y.group ≡ g → y ≡ x)
 
-  pub own-file : (g : Group) (names : Naming) (batch : Groups) (xs : List NewFile) → AreNewFiles s next names batch xs → AreWritten s next batch xs
+  abbrev pub EachFile : Groups → List NewFile → Type 0
+  EachFile batch xs = AllZip (λ (e : Group × GroupRows) (x : NewFile). P e.0 e.1 x) batch xs
+
+  pub own-file : (g : Group) (batch : Groups) (xs : List NewFile) → AreOfGroups batch xs → EachFile batch xs
       → IsStrictlySortedBy group_cmp (keys_of batch) → OwnFile g (held_of g batch) xs
   unfolding IsStrictlySortedBy
-  own-file g names [] [] new written ordered = λ x h. absurd (none-in x h)
-  own-file g names [] (x ∷ xs) new written ordered = absurd new
-  own-file g names (e ∷ es) [] new written ordered = absurd new
-  own-file g names (e ∷ es) (x ∷ xs) new written ordered =
-      at (own-file g (counted names) es xs new.1 written.1 ordered.1) (is_at (group_cmp g) e.0) refl
+  own-file g [] [] own each ordered = λ x h. absurd (none-in x h)
+  own-file g [] (x ∷ xs) own each ordered = absurd own
+  own-file g (e ∷ es) [] own each ordered = absurd own
+  own-file g (e ∷ es) (x ∷ xs) own each ordered =
+      at (own-file g es xs own.1 each.1 ordered.1) (is_at (group_cmp g) e.0) refl
     where
       later : Group → Type 0
       later k = (y : NewFile) → Contains xs y → group_cmp k y.group ≡ Less
 
       above : later e.0
-      above y h = later-groups e.0 (counted names) es xs y new.1 ordered.0 h
+      above y h = later-groups e.0 es xs y own.1 ordered.0 h
 
       more-file : (o : Option GroupRows) → x.group ≢ g → OwnFile g o xs → OwnFile g o (x ∷ xs)
-      more-file None other own = λ y h same. elim (in-or x xs y h) as (λ _. ⊥) [
+      more-file None other rest = λ y h same. elim (in-or x xs y h) as (λ _. ⊥) [
         | inl is ↦ other (ap (λ (z : NewFile). z.group) is ∙ same)
-        | inr rest ↦ own y rest same
+        | inr more ↦ rest y more same
       ]
       more-file (Some r) other (y, there, same, is, one) = (
         y,
@@ -105,14 +134,14 @@ module _ (s : TableSchema) (next : BTreeMap Group ℕ) where
           let same : g ≡ e.0 = group-is g e.0 is in (
             x,
             in-head x xs,
-            new.0.own ∙ sym same,
-            subst (λ (k : Group). IsWritten s (next_of next k) e.1 x) (sym same) written.0,
+            own.0 ∙ sym same,
+            subst (λ (k : Group). P k e.1 x) (sym same) each.0,
             λ z h of_g. elim (in-or x xs z h) as (λ _. z ≡ x) [
               | inl first ↦ sym first
               | inr rest ↦ absurd (less-apart e.0 z.group (above z rest) (sym same ∙ sym of_g))
             ],
           )
-      at rest false is = more-file (held_of g es) (λ of_g. true≢false (sym (group-ties g e.0 (sym of_g ∙ new.0.own)) ∙ is)) rest
+      at rest false is = more-file (held_of g es) (λ of_g. true≢false (sym (group-ties g e.0 (sym of_g ∙ own.0)) ∙ is)) rest
 
 -- ---- the entries that add them
 

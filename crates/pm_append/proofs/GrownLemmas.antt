@@ -24,7 +24,7 @@ use Rattle.pm_model_contents.specs.Runs.{AreRunsOf, IsLive, data_path}
 use Rattle.pm_run.specs.Rows.{HasRows}
 use Rattle.pm_run.specs.Writing.{AreRising}
 use Rattle.pm_write.specs.Batch.{GroupRows, Groups, IsBatchOf, held_of, numbered}
-use Rattle.pm_write.specs.Files.{AreNewFiles, AreWritten, IsWritten, next_of}
+use Rattle.pm_write.specs.Files.{AreWritten, IsWritten, next_of}
 use Rattle.pm_write.specs.declared.files.NewFile.{NewFile}
 use Rattle.pm_model_folder.specs.Changes.{Actor, IsNamedBy}
 use Rattle.pm_model_folder.specs.Commits.{HasCommit, live_in}
@@ -34,7 +34,7 @@ use Rattle.pm_runs.specs.Stand.{top_of}
 use Rattle.pm_model_folder.proofs.HoldLemmas.{Holds, group-held}
 use Rattle.pm_append.specs.Commit.{Grows, grows, stays}
 use Rattle.pm_made.specs.Delta.{added_entry}
-use Rattle.pm_append.proofs.FileLemmas.{OwnFile, entry-file, file-entry, none-rows, own-file, some-count}
+use Rattle.pm_append.proofs.FileLemmas.{AreDataFiles, OwnFile, data-of-groups, entry-file, file-entry, none-rows, own-file, some-count}
 use Rattle.pm_append.proofs.GroupLemmas.{IsNewest, NewestFacts, more-numbered, more-runs, new-run, same-runs}
 use Rattle.pm_made.proofs.ListLemmas.{in-or, none-in}
 use Rattle.pm_made.proofs.LiveLemmas.{AreNew}
@@ -56,7 +56,7 @@ pub record NewRuns (me : Actor) (base : ℕ) (after : Files) (s : TableSchema) (
     pub next : BTreeMap Group ℕ
     pub names : Naming
     pub is_batch : IsBatchOf s rows batch
-    pub are_new : AreNewFiles s next names batch new_files
+    pub are_new : AreDataFiles s next names batch new_files
     pub written : AreWritten s next batch new_files
     pub above : (g : Group) (e : files.Entry) → IsLive live0 e → e.group ≡ g → e.file.max_seq + 1 ≤ next_of next g
     pub new : AreNew live0 (map (added_entry s) new_files)
@@ -140,10 +140,14 @@ module _ (facts : GroupFacts) (me : Actor) (base : ℕ) (after : Files) (s : Tab
       made_by = subst (λ (h : Group). IsMade me base (data_path s h x.meta.name)) of_g (all.made_by x there);
     }
 
+  abbrev IsOwn : Group → GroupRows → NewFile → Type 0
+  IsOwn k r x = IsWritten s (next_of all.next k) r x
+
   group-change : (g : Group) → Added g ⊎ Unchanged g
-  group-change g = at (held_of g batch) refl (own-file s all.next g all.names batch new_files all.are_new all.written all.is_batch.ordered)
+  group-change g = at (held_of g batch) refl
+      (own-file IsOwn g batch new_files (data-of-groups s all.next all.names batch new_files all.are_new) all.written all.is_batch.ordered)
     where
-      at : (o : Option GroupRows) → held_of g batch ≡ o → OwnFile s all.next g o new_files → Added g ⊎ Unchanged g
+      at : (o : Option GroupRows) → held_of g batch ≡ o → OwnFile IsOwn g o new_files → Added g ⊎ Unchanged g
       at None none other = inr (unchanged-by g none other)
       at (Some r) found (x, there, of_g, is, one) = inl (added-by g r found x there of_g is one)
 

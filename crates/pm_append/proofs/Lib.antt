@@ -1,3 +1,5 @@
+mod ByKeyLemmas
+mod ChangeLemmas
 mod CommitLemmas
 mod CountLemmas
 mod EntryLemmas

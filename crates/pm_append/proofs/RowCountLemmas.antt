@@ -23,12 +23,12 @@ use Rattle.pm_engine.specs.OfSchema.{meaning_of}
 use Rattle.pm_model_following.specs.Groups.{group_of, rows_in}
 use Rattle.pm_model_folder.specs.Entries.{rows_in_files}
 use Rattle.pm_write.specs.Batch.{GroupRows, Groups, HoldsRows, IsBatchOf, held_of, numbered}
-use Rattle.pm_write.specs.Files.{AreNewFiles, IsNewFile, next_of}
+use Rattle.pm_write.specs.Files.{IsNewFile, next_of}
 use Rattle.pm_write.specs.declared.files.NewFile.{NewFile}
 use Rattle.pm_append.specs.Commit.{AddsAtZero}
 use Rattle.pm_made.specs.Delta.{added_entry}
 use Rattle.pm_append.proofs.EntryLemmas.{IsOnly, held-only, rows-held}
-use Rattle.pm_append.proofs.FileLemmas.{less-apart}
+use Rattle.pm_append.proofs.FileLemmas.{AreDataFiles, less-apart}
 
 -- ---- a run has at most as many rows as it covers
 
@@ -116,7 +116,7 @@ module _ (s : TableSchema) (rows : List HistoryRow) (batch : Groups) (none : s.p
       λ i. record { partition = partition i; bucket = bucket i }
 
   by-groups : (es : Groups) (names : Naming) (xs : List NewFile) → IsStrictlySortedBy group_cmp (keys_of es)
-      → AllByRecursion (λ (e : Group × GroupRows). held_of e.0 batch ≡ Some e.1) es → AreNewFiles s next names es xs
+      → AllByRecursion (λ (e : Group × GroupRows). held_of e.0 batch ≡ Some e.1) es → AreDataFiles s next names es xs
       → rows_in_files (map (added_entry s) xs) ≤ length rows
   unfolding IsStrictlySortedBy
   by-groups [] names [] ordered held new = omega arith
@@ -128,12 +128,12 @@ module _ (s : TableSchema) (rows : List HistoryRow) (batch : Groups) (none : s.p
       absurd (less-apart e.0 d.0 ordered.0.0 (apart-none e d held.0 held.1.0))
 
   pub files-few : (names : Naming) (xs : List NewFile) → AllByRecursion (λ (e : Group × GroupRows). held_of e.0 batch ≡ Some e.1) batch
-      → AreNewFiles s next names batch xs → rows_in_files (map (added_entry s) xs) ≤ length rows
+      → AreDataFiles s next names batch xs → rows_in_files (map (added_entry s) xs) ≤ length rows
   files-few names xs held new = by-groups batch names xs is.ordered held new
 
 -- ---- level 0
 
-pub adds-at-zero : (s : TableSchema) (next : BTreeMap Group ℕ) (names : Naming) (batch : Groups) (xs : List NewFile) → AreNewFiles s next names batch xs
+pub adds-at-zero : (s : TableSchema) (next : BTreeMap Group ℕ) (names : Naming) (batch : Groups) (xs : List NewFile) → AreDataFiles s next names batch xs
     → AllByRecursion AddsAtZero (map (added_entry s) xs)
 adds-at-zero s next names [] [] new = tt
 adds-at-zero s next names [] (x ∷ xs) new = absurd new

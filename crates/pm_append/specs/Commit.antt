@@ -10,6 +10,7 @@ use Rattle.pm_model_history.specs.History.{Entry, append}
 use Rattle.pm_model_history.specs.Merge.{HistoryRow}
 use Rattle.pm_engine.specs.Covers.{CoversAll}
 use Rattle.pm_engine.specs.OfSchema.{meaning_of}
+use Rattle.pm_options.specs.declared.kinds.Producer.{Producer}
 use Rattle.pm_options.specs.declared.kinds.Producer.TheVariants as producers
 use Rattle.pm_schema.specs.Again.{IsDeclared}
 use Rattle.pm_schema.specs.declared.schema.TableSchema.{TableSchema}
@@ -31,6 +32,7 @@ use Rattle.pm_runs.specs.Succession.{KnownRun, without_files}
 use Rattle.pm_write.specs.Batch.{Groups, IsBatchOf}
 use Rattle.pm_made.specs.Commit.{Attempt, IsNewestOf, MakesNames}
 use Rattle.pm_made.specs.Files.{IsMadeOf, merges}
+use Rattle.pm_made.specs.Intent.{TellsNothing}
 use Rattle.pm_made.specs.Refusals.{refusal_of}
 use Rattle.pm_made.specs.declared.intent.Intent.TheVariants as intents
 use Rattle.pm_made.specs.declared.newest.Author.{Author}
@@ -39,12 +41,13 @@ use Rattle.pm_made.specs.declared.newest.Newest.{Newest}
 use Rattle.pm_made.specs.declared.snapshot.ListNames.{ListNames}
 use Rattle.pm_append.specs.Snapshot.{append_snapshot}
 
--- the table is one that is built: it has one bucket, no partition columns and no changelog producer
+-- the table is one that is built: it has one bucket and no partition columns, and where it has a changelog producer it
+-- is that of inputs, with which a compaction tells nothing
 pub record IsBuilt (s : TableSchema) : Type 0 where
   pub declared : IsDeclared s
   pub no_partition : s.partition ≡ []
   pub one_bucket : s.options.bucket ≡ 1
-  pub no_producer : s.options.producer ≡ producers.None
+  pub producer : TellsNothing s
 
 -- one try to append: the rows and their batch, who commits them, the newest snapshot as it was found, the maker of
 -- names before it named the files, and what was made
@@ -106,18 +109,26 @@ pub record AddsAtZero (e : files.Entry) : Type 0 where
   pub add : e.add ≡ true
   pub level : e.file.level ≡ 0
 
+-- how many rows are told of so many that are appended: with the producer of inputs each of them, with others none
+abbrev pub told_count : Producer → ℕ → ℕ
+told_count producers.Input count = count
+told_count producer count = 0
+
 -- The snapshot after the newest is there, and to its last field the one that appends so many rows: its base list has
 -- the manifests of the newest one, or what they are merged into; its delta adds files at level 0 and nothing else, and
--- these have at most so many rows.
+-- these have at most so many rows. Its changelog files tell each row once, where the table passes its input on; where
+-- they tell none it has no changelog list.
 pub record HasAppended (f : Files) (s : TableSchema) (newest : Newest) (author : Author) (count : ℕ) : Type 0 where
   pub added : List files.Entry
   pub lists : ListNames
   pub contents : Contents
-  pub commit : HasCommit f s (newest.id + 1) (append_snapshot s newest author added lists) contents
+  pub commit : HasCommit f s (newest.id + 1) (append_snapshot s newest author added contents.changes lists) contents
   pub base : AreBase f s newest contents.base
   pub delta : HaveEntries f s contents.delta added
   pub adds : AllByRecursion AddsAtZero added
   pub few : rows_in_files added ≤ count
+  pub tells : rows_in_files contents.changes ≡ told_count s.options.producer count
+  pub quiet : told_count s.options.producer count ≡ 0 → lists.changes ≡ None
 
 -- ---- what becomes of a group's runs
 

@@ -1,5 +1,5 @@
 -- The snapshot of a commit that appends rows.
-use Rattle.std.specs.Prelude.{◌+◌, pos, List, ◌++◌, Some, None}
+use Rattle.std.specs.Prelude.{◌+◌, pos, List, ◌++◌, Some}
 use Rattle.pm_schema.specs.declared.schema.TableSchema.{TableSchema}
 use Rattle.pm_snapshot.specs.declared.commit_kind.CommitKind.TheVariants as kinds
 use Rattle.pm_snapshot.specs.declared.snapshot.Snapshot.{Snapshot}
@@ -11,21 +11,21 @@ use Rattle.pm_made.specs.declared.newest.Author.{Author}
 use Rattle.pm_made.specs.declared.newest.Newest.{Newest}
 use Rattle.pm_made.specs.declared.snapshot.ListNames.{ListNames}
 
--- The snapshot after the newest that appends rows with these new files: no file goes, and it has no changelog.
-abbrev pub append_snapshot : TableSchema → Newest → Author → List Entry → ListNames → Snapshot
-append_snapshot s newest author added names = record {
+-- The snapshot after the newest that appends rows with these new files and these changelog files: no file goes.
+abbrev pub append_snapshot : TableSchema → Newest → Author → List Entry → List Entry → ListNames → Snapshot
+append_snapshot s newest author added changes names = record {
   id = newest.id + 1;
   schema_id = s.id;
   base_list = names.base;
   delta_list = names.delta;
-  changelog_list = None;
+  changelog_list = names.changes;
   user = author.user;
   ident = author.identifier;
   kind = kinds.Append;
   time = author.time;
   total = pos (rows_in_files (newest.live.items ++ added));
   delta = pos (rows_in_files added);
-  changelog = Some (pos 0);
+  changelog = Some (pos (rows_in_files changes));
   watermark = watermark_of newest.snapshot;
   base = author.base;
   fence = fence_of newest.snapshot;

@@ -16,6 +16,7 @@ use pm_engine::added_law;
 use pm_levels::newest_law;
 use pm_made::{commit_law, made_law};
 use pm_manifest::live_law;
+use pm_model_changelog::{by_key_law, input_law};
 use pm_model_contents::{kept_law, one_contents_law};
 use pm_run::order_law;
 use pm_snapshot::snapshot_law;
@@ -23,8 +24,9 @@ use pm_write::{batch_law, written_law};
 
 /// A try that is ready, whose snapshot appears after the newest, appends its rows to the history; what the snapshot
 /// names and the one before it doesn't was named by the actor; the snapshot and its lists are those that were made; its
-/// delta adds files at level 0 alone, beside a base list of the newest snapshot's manifests; and each group's runs go
-/// on with one more where it has rows of the group.
+/// delta adds files at level 0 alone, beside a base list of the newest snapshot's manifests, and its changelog files
+/// tell each row once where the table passes its input on; and each group's runs go on with one more where it has rows
+/// of the group.
 pub fn append_law()
     ensures { (me : Actor) (f after : Files) (s : TableSchema) (entries : List Entry) (t : Try) →
         (ready : IsReady me f s entries t) → map.get f (snapshot_path (suc (length entries))) ≡ None →
@@ -45,5 +47,7 @@ pub fn append_law()
     order_law();
     snapshot_law();
     batch_law();
+    by_key_law();
+    input_law();
     written_law();
 }

@@ -65,10 +65,10 @@ base-held f g s newest true (meta ∷ other ∷ metas) held is = absurd is
 appended-held : SameContents → (f g : Files) (s : TableSchema) (newest : Newest) (author : Author) (count : ℕ)
     → (has : HasAppended f s newest author count)
     → ((path : List ℕ) → (path ≡ snapshot_path (newest.id + 1)) → map.get g path ≡ map.get f path)
-    → ((path : List ℕ) → IsNamed s (append_snapshot s newest author has.added has.lists) has.contents path → map.get g path ≡ map.get f path)
+    → ((path : List ℕ) → IsNamed s (append_snapshot s newest author has.added has.contents.changes has.lists) has.contents path → map.get g path ≡ map.get f path)
     → HasAppended g s newest author count
 appended-held same f g s newest author count has own held =
-    let x : Snapshot = append_snapshot s newest author has.added has.lists in
+    let x : Snapshot = append_snapshot s newest author has.added has.contents.changes has.lists in
     let c : Contents = has.contents in
     let at : (meta : ManifestMeta) → Contains (c.base ++ c.delta) meta → map.get g (manifest_path meta.name) ≡ map.get f (manifest_path meta.name) =
     λ meta h. held (manifest_path meta.name) (named.manifest meta (inl h)) in
@@ -84,6 +84,8 @@ appended-held same f g s newest author count has own held =
       delta = entries-held f g s c.delta has.added (λ meta h. at meta (Contains-append_right c.base c.delta meta h)) has.delta;
       adds = has.adds;
       few = has.few;
+      tells = has.tells;
+      quiet = has.quiet;
     }
 
 -- of a compaction
@@ -124,7 +126,7 @@ added-held same f g s newest author (append user identifier rows) (same_user, sa
   same_user,
   same_identifier,
   appended-held same f g s newest author (length rows) has own
-      (λ path names. held (append_snapshot s newest author has.added has.lists) has.contents path has.commit names),
+      (λ path names. held (append_snapshot s newest author has.added has.contents.changes has.lists) has.contents path has.commit names),
 )
 added-held same f g s newest author (compaction base groups) (plan, same_base, same_groups, has) own held = (
   plan,

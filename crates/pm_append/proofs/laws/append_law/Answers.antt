@@ -1,5 +1,4 @@
 use Rattle.pm_append.proofs.CommitLemmas.{published}
-use Rattle.pm_append.proofs.EntryLemmas.{entries-can-be}
 use Rattle.pm_append.proofs.laws.append_law.Goals as goal
 
 pub returns : goal.returns
@@ -21,6 +20,10 @@ returns c = published (record {
   rising = c.order_law.ensures.rising;
   held = c.batch_law.ensures.held;
   covers = c.batch_law.ensures.covers;
-  new_entries = entries-can-be;
   written = c.written_law.ensures.all;
+  logs_written = c.written_law.ensures.logs;
+  logs = c.batch_law.ensures.logs;
+  quiet = c.batch_law.ensures.quiet;
+  empty = c.batch_law.ensures.empty;
+  change = record { same = c.by_key_law.ensures.same; input = c.input_law.ensures };
 }) c.made_law.ensures c.commit_law.ensures
