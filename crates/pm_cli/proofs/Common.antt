@@ -164,6 +164,7 @@ one_made s es e id is =
 -- no table is refused by a fault of the sink
 not_producer : (p : Producer) (e : Refusal) → unbuilt_producer p ≡ Some e → IsUnsupported e
 not_producer producers.None e is = cc
+not_producer producers.Input e is = cc
 not_producer p e is = subst IsUnsupported (some_of _ e is) tt
 
 not_bucket : (n : ℕ) (e : Refusal) → unbuilt_bucket n ≡ Some e → IsUnsupported e

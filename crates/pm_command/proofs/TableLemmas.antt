@@ -107,6 +107,7 @@ or_text (Some e) p first next = first
 
 producer_text : (producer : Producer) → IfSome (unbuilt_producer producer) IsText
 producer_text producers.None = tt
+producer_text producers.Input = tt
 producer_text other = tt
 
 bucket_text : (n : ℕ) → IfSome (unbuilt_bucket n) IsText

@@ -1,13 +1,13 @@
 -- The calls of `scan` show one answer: those that read the schema end at one place, and from there on those of a scan do.
 use Rattle.std.proofs.Common.{◌≡◌, ◌⊎◌, inl, inr, ℕ, List, [], ◌∷◌, ◌++◌, Option, None, Some, Result, Ok, Err, refl, sym, ap, subst, ◌∙◌, append-nil}
-use Rattle.std.specs.Option.{option_or}
 use Rattle.pm_values.specs.declared.refusal.Refusal.{Refusal}
 use Rattle.pm_values.specs.declared.refusal.Refusal.TheVariants as refusals
 use Rattle.pm_store.specs.declared.call.Call.{Call}
 use Rattle.pm_machine.specs.Step.{path_of}
 use Rattle.pm_machine.specs.Trace.{Event, faulted}
 use Rattle.pm_schema.specs.declared.schema.TableSchema.{TableSchema}
-use Rattle.pm_draft.specs.Built.{IsBuilt, unbuilt, unbuilt_bucket, unbuilt_partition, unbuilt_producer}
+use Rattle.pm_draft.specs.Built.{IsBuilt, unbuilt}
+use Rattle.pm_draft.proofs.BuiltLemmas.{built-none}
 use Rattle.pm_read_schema.proofs.LeadLemmas.{Fails, Leads, failed_not, one_end, one_failed, one_lead}
 use Rattle.pm_read_schema.proofs.OneLemmas as schema
 use Rattle.pm_scan.specs.AllCalls as scanner
@@ -26,10 +26,6 @@ OneScan = (s : TableSchema) (at : Option ℕ) (own : List Event) (one other : Re
 abbrev pub FailedScan : Type 0
 FailedScan = (s : TableSchema) (at : Option ℕ) (earlier : List Event) (call : Call) (made : Result (List ℕ) Refusal)
     → scanner.DidScan s at made (earlier ++ faulted call ∷ []) → (made ≡ Err refusals.Memory) ⊎ (made ≡ Err (refusals.StoreFault (path_of call)))
-
--- a table that is built isn't refused
-built_none : (s : TableSchema) → IsBuilt s → unbuilt s ≡ None
-built_none s built = λ i. option_or (unbuilt_producer (built.producer i)) (option_or (unbuilt_bucket (built.bucket i)) (unbuilt_partition (built.partition i)))
 
 module _ (at : Option ℕ) where
   -- the reading of the schema ends with this refusal, or with a schema that isn't built
@@ -52,7 +48,7 @@ module _ (at : Option ℕ) where
   one_refused e d m is was = absurd is
 
   built_not : (s : TableSchema) (e : Refusal) → IsBuilt s → IsRefusedAt e (schema.ready s) → ⊥
-  built_not s e built is = let clash : ◌≡◌ {A = Option Refusal} None (Some e) = sym (built_none s built) ∙ is in cc
+  built_not s e built is = let clash : ◌≡◌ {A = Option Refusal} None (Some e) = sym (built-none s built) ∙ is in cc
 
   data IsShown (made : Result (List ℕ) Refusal) (own : List Event) : Type 0 where
     of_memory : made ≡ Err refusals.Memory → IsShown made own

@@ -5,7 +5,6 @@ use Rattle.std.specs.BTreeMap.{is_at}
 use Rattle.std.specs.Cmp.{tied_itself}
 use Rattle.std.specs.List.Sorted.{IsStrictlySortedBy}
 use Rattle.std.specs.Map.{keys_of, lookup}
-use Rattle.std.specs.Option.{option_or}
 use Rattle.std.specs.Ordering.{is_eq, ordering_reverse}
 use Rattle.std.specs.declared.cmp.Ordering.TheVariants as orders
 use Rattle.std.proofs.lemmas.Map.{lookup-none}
@@ -21,7 +20,8 @@ use Rattle.pm_machine.specs.Step.{path_of}
 use Rattle.pm_machine.specs.Trace.{Event, faulted}
 use Rattle.pm_model_history.specs.Merge.{HistoryRow}
 use Rattle.pm_schema.specs.declared.schema.TableSchema.{TableSchema}
-use Rattle.pm_draft.specs.Built.{IsBuilt, unbuilt, unbuilt_bucket, unbuilt_partition, unbuilt_producer}
+use Rattle.pm_draft.specs.Built.{IsBuilt, unbuilt}
+use Rattle.pm_draft.proofs.BuiltLemmas.{built-none}
 use Rattle.pm_read_schema.proofs.LeadLemmas.{Fails, Leads, failed_not, one_end, one_failed, one_lead}
 use Rattle.pm_read_schema.proofs.OneLemmas as schema
 use Rattle.pm_model_following.specs.Groups.{rows_in}
@@ -120,10 +120,6 @@ abbrev pub FailedCommit : Type 0
 FailedCommit = (s : TableSchema) (first : OwnView) (earlier : List Event) (call : Call) (made : Result Appended Refusal)
     → DidAppend s first made (earlier ++ faulted call ∷ []) → (made ≡ Err refusals.Memory) ⊎ (made ≡ Err (refusals.StoreFault (path_of call)))
 
--- a table that is built isn't refused
-built_none : (s : TableSchema) → IsBuilt s → unbuilt s ≡ None
-built_none s built = λ i. option_or (unbuilt_producer (built.producer i)) (option_or (unbuilt_bucket (built.bucket i)) (unbuilt_partition (built.partition i)))
-
 -- ---- what the calls show
 
 -- what a commit became is what became of its lines
@@ -172,7 +168,7 @@ module _ (start : Start) (w : Writer) (lines : Lines) where
       of_commit result refl (record { table = s; rows = rows; batch = batch; built = built; taken = taken; some = some; is_batch = is; did = did })
 
   built_answer : (s : TableSchema) (taken : Result (List HistoryRow) Refusal) → IsBuilt s → all_taken s lines ≡ taken → answer_at (schema.ready s) ≡ answer_of None taken
-  built_answer s taken built is = ap (λ (o : Option Refusal). answer_of o (all_taken s lines)) (built_none s built) ∙ ap (answer_of None) is
+  built_answer s taken built is = ap (λ (o : Option Refusal). answer_of o (all_taken s lines)) (built-none s built) ∙ ap (answer_of None) is
 
   is_shown : (made : Result Written Refusal) (own : List Event) → DidWrite start w lines made own → IsShown made own
   is_shown (Ok written.Nothing) own (s, taken, has) = of_schema (schema.ready s) (schema.ready_lead s own has.has) tt (built_answer s (Ok []) has.built taken)

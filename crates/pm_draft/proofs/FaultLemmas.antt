@@ -26,6 +26,7 @@ later_is (Some number) = (inr refl, refl)
 
 producer_is : (producer : Producer) → IfSome (unbuilt_producer producer) P
 producer_is producers.None = tt
+producer_is producers.Input = tt
 producer_is other = tt
 
 partition_is : (names : List (List ℕ)) → IfSome (unbuilt_partition names) P

@@ -1,3 +1,4 @@
+pub mod BuiltLemmas
 mod FaultLemmas
 mod InputLemmas
 mod LineLemmas

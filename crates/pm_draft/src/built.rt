@@ -23,7 +23,7 @@ fn judge_producer(alloc: Global, producer: Producer) -> Result<(), Refusal>
     ensures { Answers (λ u. u) result (judged (unbuilt_producer producer)) }
 {
     match producer {
-        Producer::None => Ok(()),
+        Producer::None | Producer::Input => Ok(()),
         other => unsupported(alloc, "changelog-producer", print_producer(other)),
     }
 }
