@@ -1,0 +1,11 @@
+pub mod Facts
+pub mod OneLemmas
+mod AfterLemmas
+mod AllCallsLemmas
+mod AtLemmas
+mod CauseLemmas
+mod ChangeLemmas
+mod FaultLemmas
+mod KeptLemmas
+mod LineLemmas
+mod StoodLemmas

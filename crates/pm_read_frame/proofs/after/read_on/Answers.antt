@@ -1,0 +1,10 @@
+use Rattle.std.proofs.Common.{◌≡◌, List, [], refl, rules, subst, sym}
+use Rattle.pm_read_frame.specs.Reader.{ReadsOn}
+use Rattle.pm_read_frame.specs.declared.file.ChangesFile.{ChangesFile}
+use Rattle.pm_read_frame.specs.declared.phase.Phase.TheVariants as phases
+use Rattle.pm_read_frame.proofs.after.read_on.Goals as goal
+
+pub returns-in-None-clause-goes : goal.returns-in-None-clause-goes
+returns-in-None-clause-goes c =
+    let none : c.args.left.items ≡ [] = search rules in
+    subst (λ (left : List ChangesFile). ReadsOn c.args.schema c.args.id c.args.text.items left (phases.Ready c.args.id c.args.text)) (sym none) (c.args.text, refl, refl)

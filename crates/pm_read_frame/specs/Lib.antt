@@ -1,0 +1,6 @@
+pub mod AllCalls
+pub mod Meaning
+pub mod Reader
+pub mod Reading
+pub mod Taken
+pub mod Trace

@@ -1,0 +1,29 @@
+//! The frame of a snapshot, read by a machine that makes one call of the store a step.
+//!
+//! A `FrameReader` reads the changelog of a snapshot by the reader of `pm_read_log`, and then the changelog's files, in
+//! the order of its entries. Each is judged whole at its read, and the lines of its rows are put to the text from where
+//! they lie in its bytes: it holds the frame's text and one file. No data file is read. It changes nothing.
+//!
+//! `specs/Reader.antt` has the phases, the calls and what each answer leads to, and `specs/Taken.antt` what a file adds
+//! to the text; `specs/Meaning.antt` what a reader knows in each phase: in the end its text is the snapshot's frame,
+//! whatever others did meanwhile, where the table has a producer and one group; `specs/Trace.antt` which calls it made,
+//! and which show a refusal. `read_frame` makes all of them; `specs/AllCalls.antt` has what they do where nobody else
+//! acts.
+#![tactic(auto)]
+
+mod after;
+mod all_calls;
+mod file;
+mod laws;
+mod lines;
+mod machine;
+mod phase;
+mod reader;
+mod reading;
+
+pub use all_calls::read_frame;
+pub use file::ChangesFile;
+pub use laws::{all_calls_law, causes_law, images_law, known_law, one_answer_law};
+pub use phase::Phase;
+pub use reader::{FrameReader, frame_at, into_text, is_frame_ready};
+pub use reading::Reading;
