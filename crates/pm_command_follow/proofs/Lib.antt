@@ -1,0 +1,5 @@
+mod HistoryLemmas
+pub mod JoinLemmas
+mod PieceLemmas
+mod ReplayLemmas
+mod TextLemmas

@@ -1,0 +1,23 @@
+use Rattle.std.proofs.lemmas.Result.{err_from_is_err_and}
+use Rattle.pm_command_follow.proofs.PieceLemmas.{listing_shown, start_shown, started}
+use Rattle.pm_command_follow.proofs.follow.follow_table.Goals as goal
+
+pub returns-in_err-latest-clause-followed : goal.returns-in_err-latest-clause-followed
+returns-in_err-latest-clause-followed g c = λ first has.
+    let p = err_from_is_err_and c.from_residual.result c.from_residual.ensures.1 in
+    rw (p.1, p.2)
+    (listing_shown c.args.schema.now c.args.from c.args.full c.in_err-latest.field-0.0 (g.W.Sink.seen c.args.out.now) first (g.F.FileStore.seen c.args.store.now)
+    (g.F.FileStore.seen c.read_latest.new.store) has c.in_err-latest.ensures.trace)
+
+pub returns-in_err-start-clause-followed : goal.returns-in_err-start-clause-followed
+returns-in_err-start-clause-followed g c = λ first has.
+    let p = err_from_is_err_and c.from_residual-in_err-start.result c.from_residual-in_err-start.ensures.1 in
+    rw (p.1, p.2)
+    (start_shown c.args.schema.now c.args.from c.args.full c.in_ok-latest.latest c.in_err-start.field-0.0 (g.W.Sink.seen c.args.out.now) first
+    (g.F.FileStore.seen c.args.store.now) (g.F.FileStore.seen c.read_latest.new.store) has c.in_ok-latest.ensures.trace c.in_err-start.ensures.above)
+
+pub returns-clause-followed : goal.returns-clause-followed
+returns-clause-followed g c = λ first has.
+    c.follow_from.ensures.followed c.args.from first
+    (started c.args.schema.now c.args.from c.in_ok-latest.latest c.in_ok-start.start first (g.F.FileStore.seen c.args.store.now) (g.F.FileStore.seen c.read_latest.new.store) has
+    c.in_ok-latest.ensures.trace c.in_ok-start.ensures.start)

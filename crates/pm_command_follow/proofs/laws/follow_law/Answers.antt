@@ -1,0 +1,13 @@
+use Rattle.pm_command_follow.proofs.HistoryLemmas.{follows}
+use Rattle.pm_command_follow.proofs.laws.follow_law.Goals as goal
+
+pub returns : goal.returns
+returns c = follows (record {
+  latest = c.all_calls_law.ensures;
+  scans = c.all_calls_law-2.ensures.own;
+  frames = c.all_calls_law-3.ensures;
+  finished = c.finished_law.ensures;
+  built = c.built_law.ensures;
+  read = c.schema_law.ensures.exact;
+  declared = c.declared_law.ensures.file;
+})

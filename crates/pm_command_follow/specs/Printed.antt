@@ -1,0 +1,55 @@
+-- What `follow` prints of a table.
+use Rattle.std.specs.Prelude.{◌≡◌, ℕ, suc, ◌+◌, ◌-◌, List, [], ◌∷◌, ◌++◌, codes, length, Bool, true, false}
+use Rattle.std.specs.Prelude.{Option, None, Some}
+use Rattle.std.specs.Fmt.{decimal}
+use Rattle.std.specs.List.{flat_map, range_with_len}
+use Rattle.pm_base.specs.Newline.{line}
+use Rattle.pm_rows.specs.RowText.{row_text}
+use Rattle.pm_model_following.specs.Following.{followed, frame, frame_head, replay, table_text}
+use Rattle.pm_model_history.specs.History.{Entry}
+use Rattle.pm_model_history.specs.Merge.{HistoryRow}
+use Rattle.pm_schema.specs.declared.schema.TableSchema.{TableSchema}
+
+-- the snapshot of the first frame: the one that is asked for, or the one after the latest
+abbrev pub start_of : Option ℕ → ℕ → ℕ
+start_of None latest = suc latest
+start_of (Some id) latest = id
+
+-- how many frames there are from the start to the latest snapshot
+abbrev pub count_from : ℕ → ℕ → ℕ
+count_from start latest = suc latest - start
+
+-- the line that the starting table begins with, which names its snapshot
+abbrev pub table_head : ℕ → List ℕ
+table_head id = line (codes "{\"table\":" ++ decimal id ++ codes "}")
+
+-- so many frames from a snapshot on
+abbrev pub frames_text : TableSchema → List Entry → ℕ → ℕ → List ℕ
+frames_text s entries start count = flat_map (frame s entries) (range_with_len start count)
+
+-- the starting table, if it was printed, and so many frames
+abbrev pub text_so_far : TableSchema → List Entry → Bool → ℕ → ℕ → List ℕ
+text_so_far s entries false start count = frames_text s entries start count
+text_so_far s entries true start count = table_text s entries (start - 1) ++ frames_text s entries start count
+
+-- all that is printed: the starting table, if it is asked for, and the frames from the start to the newest snapshot
+abbrev pub follow_text : TableSchema → List Entry → Option ℕ → Bool → List ℕ
+follow_text s entries from full =
+    text_so_far s entries full (start_of from (length entries))
+    (count_from (start_of from (length entries)) (length entries))
+
+-- the frame of a snapshot with these rows
+abbrev pub frame_of : ℕ → List HistoryRow → List ℕ
+frame_of id rows = frame_head id ++ flat_map (λ (r : HistoryRow). line (row_text r.0 r.1)) rows
+
+-- the frames of snapshots that follow one another, from this one on, each with its rows
+abbrev pub frames_of : ℕ → List (List HistoryRow) → List ℕ
+frames_of id [] = []
+frames_of id (rows ∷ more) = frame_of id rows ++ frames_of (id + 1) more
+
+-- What was printed of frames is these, and their rows, replayed in order on the table that was followed before them,
+-- give the one that is followed at the last.
+pub record LeadOn (s : TableSchema) (entries : List Entry) (start last : ℕ) (text : List ℕ) : Type 0 where
+  pub changes : List (List HistoryRow)
+  pub frames : text ≡ frames_of start changes
+  pub replayed : replay s (followed s entries (start - 1)) (flat_map (λ rows. rows) changes) ≡ followed s entries last

@@ -1,0 +1,142 @@
+//! The pieces of what `follow` prints, each read and then printed.
+
+ghost use Rattle.std.specs.Prelude.{◌≡◌, ◌++◌, ◌≤◌, IfOk, Some};
+ghost use Rattle.std.specs.Result.{result_err};
+ghost use Rattle.pm_io.specs.Sink.{SinkLater};
+ghost use Rattle.pm_machine.specs.Trace.{HasTrace};
+ghost use Rattle.pm_scan.specs.AllCalls.{Ends, asked_at, text_in};
+ghost use Rattle.pm_schema.specs.Again.{IsDeclared};
+ghost use Rattle.pm_snapshot.specs.Names.{greatest};
+ghost use Rattle.pm_store.specs.Store.{IsLater};
+ghost use Rattle.pm_command_follow.specs.Follow.{DidTable};
+ghost use Rattle.pm_command_follow.specs.Pieces.{PrintsFrame, PrintsFrames, PrintsStart};
+ghost use Rattle.pm_command_follow.specs.Printed.{table_head};
+
+use itoa::Buffer;
+use pm_command::print;
+use pm_engines::declared_law;
+use pm_io::Sink;
+use pm_read_frame::read_frame;
+use pm_scan::scan_table;
+use pm_schema::TableSchema;
+use pm_store::FileStore;
+use pm_values::Refusal;
+use std::alloc::{AllocError, Global};
+
+/// Prints the starting table, as it is at one below the start.
+pub(crate) fn print_table<W: Sink, F: FileStore>(
+    alloc: Global,
+    schema: &TableSchema,
+    start: u64,
+    out: &mut W,
+    store: &mut F,
+) -> Result<(), Refusal>
+    requires declared { IsDeclared schema.now }
+    requires start { 1 ≤ start }
+    ensures prints { PrintsStart schema.now start (W.seen out.old) (W.seen out.new) (F.seen store.old)
+        (F.seen store.new) (result_err result) }
+    ensures out_later { SinkLater (W.seen out.old) (W.seen out.new) }
+    ensures store_later { IsLater (F.seen store.old) (F.seen store.new) }
+{
+    let text = read_table(alloc, schema, start, store)?;
+    print(out, &text, None)
+}
+
+/// The text of the starting table.
+fn read_table<F: FileStore>(
+    alloc: Global,
+    schema: &TableSchema,
+    start: u64,
+    store: &mut F,
+) -> Result<Vec<u8>, Refusal>
+    requires declared { IsDeclared schema.now }
+    requires start { 1 ≤ start }
+    ensures trace { HasTrace (DidTable schema.now start (text_in result)) (F.seen store.old) (F.seen store.new) }
+    ensures later { IsLater (F.seen store.old) (F.seen store.new) }
+{
+    let below = start - 1;
+    let rows = scan_at(alloc, schema, below, store)?;
+    match with_head(rows, below) {
+        Ok(text) => Ok(text),
+        Err(_) => Err(Refusal::Memory),
+    }
+}
+
+/// The scan of the table at this snapshot.
+fn scan_at<F: FileStore>(
+    alloc: Global,
+    schema: &TableSchema,
+    id: u64,
+    store: &mut F,
+) -> Result<Vec<u8>, Refusal>
+    requires declared { IsDeclared schema.now }
+    ensures trace { HasTrace (Ends (asked_at schema.now (Some id)) (text_in result)) (F.seen store.old)
+        (F.seen store.new) }
+    ensures later { IsLater (F.seen store.old) (F.seen store.new) }
+{
+    declared_law();
+    match schema.copy(alloc) {
+        Ok(schema) => scan_table(alloc, schema, Some(id), store),
+        Err(_) => Err(Refusal::Memory),
+    }
+}
+
+/// The rows, with the line before them that names the snapshot. They are moved in their place, and copied nowhere.
+fn with_head(rows: Vec<u8>, id: u64) -> Result<Vec<u8>, AllocError>
+    ensures { IfOk result (λ text. text.items ≡ table_head id ++ rows.items) }
+{
+    let mut text = rows;
+    let count = text.len();
+    let mut buffer = Buffer::new();
+    let number = buffer.format(id);
+    text.extend_from_slice(b"{\"table\":")?;
+    text.extend_from_slice(number.as_bytes())?;
+    text.extend_from_slice(b"}\n")?;
+    let head = text.len() - count;
+    text.as_mut_slice().rotate_right(head);
+    Ok(text)
+}
+
+/// Prints the frames from one snapshot to another, none where the first is above it.
+pub(crate) fn print_frames<W: Sink, F: FileStore>(
+    alloc: Global,
+    schema: &TableSchema,
+    start: u64,
+    latest: u64,
+    out: &mut W,
+    store: &mut F,
+) -> Result<(), Refusal>
+    requires declared { IsDeclared schema.now }
+    requires start { 1 ≤ start }
+    requires latest { latest ≤ greatest }
+    ensures prints { PrintsFrames schema.now start latest (W.seen out.old) (W.seen out.new) (F.seen store.old)
+        (F.seen store.new) (result_err result) }
+    ensures out_later { SinkLater (W.seen out.old) (W.seen out.new) }
+    ensures store_later { IsLater (F.seen store.old) (F.seen store.new) }
+{
+    let mut id = start;
+    while id <= latest {
+        print_frame(alloc, schema, id, out, store)?;
+        id += 1;
+    }
+    Ok(())
+}
+
+/// Prints the frame of a snapshot.
+fn print_frame<W: Sink, F: FileStore>(
+    alloc: Global,
+    schema: &TableSchema,
+    id: u64,
+    out: &mut W,
+    store: &mut F,
+) -> Result<(), Refusal>
+    requires declared { IsDeclared schema.now }
+    requires after_origin { 1 ≤ id }
+    ensures prints { PrintsFrame schema.now id (W.seen out.old) (W.seen out.new) (F.seen store.old) (F.seen store.new)
+        (result_err result) }
+    ensures out_later { SinkLater (W.seen out.old) (W.seen out.new) }
+    ensures store_later { IsLater (F.seen store.old) (F.seen store.new) }
+{
+    let text = read_frame(alloc, schema, id, store)?;
+    print(out, &text, None)
+}
