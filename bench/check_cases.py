@@ -1,9 +1,9 @@
 #!/usr/bin/env python3
 """Runs the cases of crates/pm_cases_commands with the second program (reference_*.py), which was written from the
 documents, and compares its answers with those that stand there. It promises that they are equal, in each case up to the
-first line that it doesn't follow: a read of the input that fails, and a text of several pieces that the sink doesn't
-take. It makes each call of a command, in the order that the documents tell, and has calls fail and others act between
-them as the case says. It ends with 1 where two answers differ. The gate never runs it. docs/DEVELOPING.md has what it
+first line that it doesn't follow, where a read of the input fails. It makes each call of a command, in the order that
+the documents tell, has calls fail and others act between them as the case says, and gives a text to the sink between
+the same two calls. It ends with 1 where two answers differ. The gate never runs it. docs/DEVELOPING.md has what it
 printed.
 
 usage: bench/check_cases.py [CASES ANSWERS]     the cases and the answers of other files than those of the crate
@@ -20,7 +20,7 @@ from reference_table import Refused
 from trials import TOP, Tally
 
 CASES = TOP / "crates/pm_cases_commands"
-ONE_PIECE = ("compact", "create", "write")  # the commands of which it knows that they print by one write
+WITH_INPUT = ("create", "write")
 
 
 class NotFollowed(Exception):
@@ -162,10 +162,22 @@ def checksum(data):
     return found
 
 
-def taken_of(text, options):
-    """What a sink takes of a text that comes by one write, and whether that is all of it."""
-    room = 0 if 1 in options.get("sink", []) else options.get("room", len(text.encode()))
-    return text.encode()[:room].decode(errors="replace"), room >= len(text.encode())
+class Sink:
+    """What a command prints goes here: so many bytes are taken, and the writes of these numbers fail."""
+
+    def __init__(self, options):
+        self.room, self.fails = options.get("room"), options.get("sink", [])
+        self.taken, self.writes = b"", 0
+
+    def show(self, text):
+        """Takes a text, of which what a write left is offered once more; it is refused where one takes nothing."""
+        left = text.encode()
+        while left:
+            self.writes += 1
+            room = len(left) if self.room is None else self.room - len(self.taken)
+            if self.writes in self.fails or not room:
+                raise Refused(f"E4 sink{' ' + text.strip() if text.startswith('snapshot ') else ''}")
+            self.taken, left = self.taken + left[:room], left[room:]
 
 
 class Case:
@@ -204,33 +216,29 @@ class Case:
         elif line[0] == "take":
             self.folder.files.pop(line[1], None)
         elif line[0] == "run":
-            self.answer(*line[1:])
+            self.answer(*line[1:5], Sink({}))
         else:
             return False
         return True
 
     def run(self, number, now, words, data, options):
         self.folder.begin()
-        is_one = words[:1] and words[0] in ONE_PIECE
-        if "source" in options and words[:1] != ["compact"]:
+        if "source" in options and words[:1] and words[0] in WITH_INPUT:
             raise NotFollowed
-        printed, status = self.answer(number, now, words, data, options)
+        sink = Sink(options)
+        said, status = self.answer(number, now, words, data, sink)
         self.folder.deeds = []
-        said = printed if status else ""
-        taken, is_whole = taken_of("" if status else printed, options)
-        if not is_one and (not is_whole or not status and printed and "sink" in options):
-            raise NotFollowed
-        if not is_whole:
-            said, status = f"E4 sink{' ' + printed.strip() if printed.startswith('snapshot ') else ''}\n", 4
+        taken = sink.taken.decode(errors="replace")
         if "sum" in options:
-            taken = f"{len(taken.encode())} {checksum(taken.encode())}\n"
-        return self.told([*f"{taken}{said}".split("\n")[:-1], f"-- {status}"])
+            taken = f"{len(sink.taken)} {checksum(sink.taken)}\n"
+        return self.told(f"{taken}{said}-- {status}".split("\n"))
 
-    def answer(self, number, now, words, data, _):
-        """What a command prints, and its status."""
+    def answer(self, number, now, words, data, sink):
+        """What a command says, and its status."""
         session = f"00000000-0000-0000-0000-{number:012x}"
         try:
-            return reference_commands.answer(self.folder, words, data, session, now), 0
+            reference_commands.execute(self.folder, words, data, session, now, sink.show)
+            return "", 0
         except Refused as refused:
             return f"{refused}\n", refused.status
 

@@ -1,7 +1,7 @@
 #!/usr/bin/env python3
 """Random drafts, words, rows and options, and what the program answers to them, beside what a second program does that
-was written from the documents (reference_*.py). Compactions come where the program knows that command. It promises, of
-each command on a table that nobody else writes:
+was written from the documents (reference_*.py). Compactions come where the program knows that command, and so do
+tables that are followed. It promises, of each command on a table that nobody else writes:
   - its status, what it prints and what it says are those of the second program;
   - the files that it makes are byte by byte those that the second program writes, and no other file changes;
   - the second program reads of the files what the commands' rows are worth.
@@ -58,7 +58,7 @@ SIZES = {
     "full-compaction.delta-commits": ["1", "2", "3"],
 }
 ODD_WORDS = ["create", "scan", "--snapshot", "--snapshot=1", "-1", "", "é", "a\nb", "write", "--user=", "--ident"]
-ODD_WORDS += ["01", "compact", "--full", "--full=", "--full=1"]
+ODD_WORDS += ["01", "compact", "--full", "--full=", "--full=1", "follow", "--from", "--from=0", "0"]
 
 
 def maybe(random, chance):
@@ -76,6 +76,8 @@ def draw_draft(random):
     primary = random.sample(names, 1 if maybe(random, 0.7) else 2)
     engine = random.choice(ENGINES)
     options = {} if engine == "deduplicate" else {"merge-engine": engine}
+    if engine == "deduplicate" and maybe(random, 0.5):
+        options["changelog-producer"] = "input"
     if engine in ("partial-update", "aggregation"):
         for field in fields:
             field["type"] = field["type"].removesuffix(" NOT NULL")
@@ -192,10 +194,13 @@ def draw_words(random):
     """Words of a command, mostly good ones."""
     if maybe(random, 0.1):
         return random.choices(ODD_WORDS, k=random.randrange(4))
-    word = random.choice(["write"] * 6 + ["scan"] * 4 + ["compact"] * 4 + ["snapshots"] * 2 + ["create"])
+    often = {"write": 6, "scan": 4, "compact": 4, "follow": 4, "snapshots": 2, "create": 1}
+    word = random.choices(list(often), often.values())[0]
     words = [word]
-    if word == "compact" and maybe(random, 0.4):
+    if word in ("compact", "follow") and maybe(random, 0.4):
         words.append("--full")
+    if word == "follow" and maybe(random, 0.8):
+        words += random.choice([["--from", str(random.randrange(1, 9))], [f"--from={random.randrange(4)}"]])
     if word == "scan" and maybe(random, 0.5):
         words += random.choice([["--snapshot", str(random.randrange(6))], [f"--snapshot={random.randrange(6)}"]])
     if word == "write" and maybe(random, 0.4):
@@ -248,7 +253,7 @@ class Trial:
         self.tally.add("commands")
         self.tally.add("refusals", int(ended.status != 0))
         where = f"table {self.folder.name}, {words}, {data[:200]!r}"
-        if fault_of(ended) or tuple(ended) != wanted:
+        if fault_of(ended, words) or tuple(ended) != wanted:
             self.tally.breaks(where, f"{ended} in the place of {wanted}")
         elif not files_are:
             self.tally.breaks(where, f"other files than the second program's: {sorted(files)}")
@@ -285,8 +290,9 @@ def main():
     found = read_arguments(__doc__, 1000)
     tally = Tally()
     with work_folder() as work:
-        if not knows(found.program, work, "compact"):
-            leave_out("compact")
+        for word in ("compact", "follow"):
+            if not knows(found.program, work, word):
+                leave_out(word)
         for number in range(found.count):
             Trial(tally, found.program, work / str(number), random_of(found.seed, number)).run()
             tally.add("tables")

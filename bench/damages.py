@@ -4,8 +4,8 @@ or other values, or replaced by another file, a link, a pipe or a folder; folder
 aren't the table's come into folders; FOLDER itself is spelt in several ways, and may be no folder. It promises, of each
 command on such a folder:
   - it ends within ten seconds, with 0 or a refusal's status, and a refusal is one line on standard error;
-  - `scan` and `snapshots` print, or say, what a second program does that was written from the documents
-    (reference_files.py), and change nothing;
+  - `scan`, `snapshots` and, where the program knows that, `follow` print, and say, what a second program does that was
+    written from the documents (reference_files.py), and change nothing;
   - a refused `create`, `write` or `compact` changes no file, but that files of its own may be left, which no snapshot
     names; `write` and `compact`, where the program knows that, print and say what the second program does, but where
     the store fails; a write that ends with 0 shows in the next `scan`, and a compaction leaves that as it was;
@@ -49,6 +49,10 @@ TABLES = {
         ['["+I",1,"a"]', '["+I",1,null]'],
     ),
 }
+FOLLOWED = (
+    {"changelog-producer": "input"},
+    ['["+I",1,"a"]\n["+I",2,"b"]', '["-U",1,"a"]\n["+U",1,"c"]\n["+I",3,null]', '["-D",2,"b"]', '["+I",2,"x"]'],
+)
 NAMES = [b"\xff\xfe", b".x", b"...", b"a\nb", b"\x01", b"x" * 255, b"snapshot-01", b"snapshot-0", b"schema--1", b"x y"]
 NAMES += [b"snapshot-9007199254740992", b"manifest-", "é€".encode(), b"-", b"5", b"EARLIEST", b"bucket-1", b"tmp=1"]
 TEXTS = ["", ".", "..", ".x", "../outside/file", "/etc/passwd", "a/b", "x" * 300, "a\nb", "\0", "é", "snapshot-1"]
@@ -256,6 +260,17 @@ def expected(read):
         return refused.status, b"", f"{refused}\n".encode(errors="replace")
 
 
+def expected_frames(folder, words):
+    """What the second program prints and says where it follows a folder."""
+    shown = []
+    try:
+        reference_commands.execute(folder, ["follow", *words], b"", "", 0, shown.append)
+        status, said = 0, ""
+    except Refused as refused:
+        status, said = refused.status, f"{refused}\n"
+    return status, "".join(shown).encode(errors="surrogatepass"), said.encode(errors="replace")
+
+
 def expected_change(folder, words, data):
     """What the second program prints, or says, where it changes a folder; it changes a copy in memory."""
     copied, session = reference_files.Memory(folder), "00000000-0000-0000-0000-000000000000"
@@ -265,8 +280,8 @@ def expected_change(folder, words, data):
 class Trial:
     """Commands on one damaged table."""
 
-    def __init__(self, tally, program, folder, spelling, outside, how, compacts):
-        self.tally, self.program, self.how, self.compacts = tally, program, how, compacts
+    def __init__(self, tally, program, folder, spelling, outside, how, known):
+        self.tally, self.program, self.how, self.known = tally, program, how, known
         self.folder, self.spelling, self.outside = folder, spelling, outside
         self.before_outside = tree(outside)
 
@@ -282,8 +297,8 @@ class Trial:
             self.tally.add("commands under strace")
         ended = run([*traced, self.program, self.spelling, *words], data)
         self.tally.add("refusals", int(ended.status != 0))
-        if fault_of(ended):
-            self.breaks(words, fault_of(ended))
+        if fault_of(ended, words):
+            self.breaks(words, fault_of(ended, words))
         if SECRET in ended.out + ended.err or tree(self.outside) != self.before_outside:
             self.breaks(words, "something outside of the folder was read, or changed")
         if traced:
@@ -305,7 +320,7 @@ class Trial:
         """A command that only reads, beside the second program."""
         before = tree(self.folder)
         ended = self.command(*words)
-        expects = expected(wanted)
+        expects = wanted()
         if tuple(ended) != expects:
             self.breaks(words, f"{ended} in the place of {expects}")
         if tree(self.folder) != before:
@@ -330,15 +345,18 @@ class Trial:
 
     def run(self):
         folder = reference_files.Folder(self.folder)
-        self.read("scan", wanted=lambda: reference_files.scan(folder))
-        for number in (0, 1, 2, 9):
-            self.read("scan", "--snapshot", str(number), wanted=lambda at=number: reference_files.scan(folder, at))
-        self.read("snapshots", wanted=lambda: reference_files.list_snapshots(folder))
+        for asked in (None, 0, 1, 2, 9):
+            words = [] if asked is None else ["--snapshot", str(asked)]
+            self.read("scan", *words, wanted=lambda at=asked: expected(lambda: reference_files.scan(folder, at)))
+        self.read("snapshots", wanted=lambda: expected(lambda: reference_files.list_snapshots(folder)))
+        for words in ([], ["--from", "1"], ["--from", "1", "--full"], ["--from", "4", "--full"], ["--from", "9"]):
+            if "follow" in self.known:
+                self.read("follow", *words, wanted=lambda asked=words: expected_frames(folder, asked))
         self.change("create", data=DRAFT)
         if self.change_beside(folder, ["write"], b'["+I",77,"new"]').status == 0:
             self.tally.add("writes")
             self.judge_scan(folder, b'["+I",77,')
-        if self.compacts:
+        if "compact" in self.known:
             before = expected(lambda: reference_files.scan(folder))
             if self.change_beside(folder, ["compact", "--full"], b"").out.startswith(b"snapshot "):
                 self.tally.add("compactions")
@@ -362,20 +380,21 @@ class Trial:
         return wanted
 
 
-def make_tables(program, work, compacts):
-    """The tables that are damaged; one of them was compacted, where the program knows how."""
-    for name, (options, batches) in TABLES.items():
+def make_tables(program, work, known):
+    """The tables that are damaged; one of them was compacted, and one tells its input, where the program knows how."""
+    tables = TABLES | ({"input": FOLLOWED} if "follow" in known else {})
+    for name, (options, batches) in tables.items():
         draft = json.loads(DRAFT) | {"options": options}
         run([program, work / name, "create"], json.dumps(draft).encode())
         for lines in batches:
             if run([program, work / name, "write"], lines.encode()).status:
                 raise SystemExit(f"no table {name} can be made")
-    if not compacts:
-        return list(TABLES)
+    if "compact" not in known:
+        return list(tables)
     folder = copy(work / "deduplicate", work / "compacted")
     run([program, folder, "compact", "--full"])
     run([program, folder, "write"], b'["+I",1,"once more"]\n["-D",3,null]')
-    return [*TABLES, "compacted"]
+    return [*tables, "compacted"]
 
 
 def make_outside(table, outside):
@@ -409,8 +428,8 @@ def main():
     tally = Tally()
     with work_folder() as work:
         try_no_folders(tally, found.program, work)
-        compacts = knows(found.program, work, "compact")
-        tables = make_tables(found.program, work, compacts)
+        known = [word for word in ("compact", "follow") if knows(found.program, work, word)]
+        tables = make_tables(found.program, work, known)
         (work / "link").symlink_to("damaged")
         for number in range(found.count):
             random = random_of(found.seed, number)
@@ -419,7 +438,7 @@ def main():
             folder = copy(table, work / "damaged")
             how = f"table {number} ({Damage(folder, work / 'outside', random).do()})"
             spelling = random.choice([folder, f"{folder}/", f"{folder}//.", work / "link", f"{work}/link/"])
-            Trial(tally, found.program, folder, spelling, work / "outside", how, compacts).run()
+            Trial(tally, found.program, folder, spelling, work / "outside", how, known).run()
             tally.add("damaged tables")
     tally.end()
 

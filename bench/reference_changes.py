@@ -24,7 +24,7 @@ from reference_files import (
     snapshot_ids,
     stored_run,
 )
-from reference_table import Refused, read_batch, read_draft
+from reference_table import Refused, by_key, read_batch, read_draft
 
 TRIES = 11
 MOST_LIVE = 10000
@@ -52,9 +52,9 @@ class Session:
         if used:
             raise Refused(f"E20 session used manifest/{min(used, key=str.encode)}")
 
-    def add_data(self, schema, run, level):
-        """Creates the data file of a run."""
-        name = self.name("data", ".avro")
+    def add_data(self, schema, run, level, word="data"):
+        """Creates the data file of a run, or the changelog file of a batch."""
+        name = self.name(word, ".avro")
         data = data_file(schema, run, self.marker)
         self.create(f"bucket-0/{name}", data)
         return file_of(schema, name, data, run, level)
@@ -137,6 +137,13 @@ class Append:
         """Creates the data files."""
         return [made.add_data(schema, stored_run(schema, self.rows, first_number(view)), 0)]
 
+    def told(self, made, schema):
+        """Creates the changelog files, which have all rows by rising key, each as it came."""
+        if schema.producer != "input":
+            return []
+        rows = [row for of_key in by_key(schema, self.rows) for row in of_key]
+        return [made.add_data(schema, [(at, kind, row) for at, (kind, row) in enumerate(rows)], 0, "changelog")]
+
 
 def first_number(view):
     return max((file["newest"] for file in view.live), default=-1) + 1
@@ -167,6 +174,10 @@ class Compaction:
         if self.created is None:
             self.created = [made.add_data(schema, run, self.level) for run in self.files]
         return self.created
+
+    def told(self, made, schema):
+        """A compaction of a table that tells its input has nothing to tell."""
+        return []
 
 
 def newest_view(folder, schema):
@@ -213,18 +224,21 @@ def judge_commit(base, view, change):
 
 def files_of(made, schema, change, view):
     """Creates the files of a try, and gives its snapshot."""
-    added = change.added(made, schema, view)
+    added, told = change.added(made, schema, view), change.told(made, schema)
     metas = view.metas
     if len(metas) >= int(schema.options.get("manifest.merge-min-count", "30")):
         metas = [made.add_manifest(schema, [entry(schema, True, file) for file in view.live])] if view.live else []
     entries = [entry(schema, False, file) for file in change.removed] + [entry(schema, True, file) for file in added]
-    delta = made.add_list([made.add_manifest(schema, entries)])
+    delta = [made.add_manifest(schema, entries)]
+    changes = [made.add_manifest(schema, [entry(schema, True, file) for file in told])] if told else []
+    delta = made.add_list(delta)
+    changelog = made.add_list(changes) if changes else None
     counts = [sum(file["rows"] for file in files) for files in (view.live, added, change.removed)]
     appends = int(view.properties["appends"]) + change.appends
     value = {
         "baseManifestList": made.add_list(metas),
-        "changelogManifestList": None,
-        "changelogRecordCount": 0,
+        "changelogManifestList": changelog,
+        "changelogRecordCount": sum(file["rows"] for file in told),
         "commitIdentifier": change.ident,
         "commitKind": change.kind,
         "commitUser": change.user or f"{made.session}-0",

@@ -7,12 +7,14 @@ import re
 
 import reference_changes
 import reference_files
-from reference_table import Refused, printable, read_batch, read_draft, scanned
+import reference_table
+from reference_table import Refused, by_key, printable, read_batch, read_draft, scanned
 
 GREATEST = 2**63 - 1
 OPTIONS = {
     "compact": ("--full",),
     "create": (),
+    "follow": ("--from", "--full"),
     "scan": ("--snapshot",),
     "snapshots": (),
     "write": ("--user", "--ident"),
@@ -21,8 +23,11 @@ FLAGS = ("--full",)  # the options that take no text
 
 
 def leave_out(command):
-    """Has the words of a command give none, for a program that hasn't it yet."""
+    """Has the words of a command give none, for a program that hasn't it yet. One that can't follow makes no table that
+    is followed."""
     OPTIONS.pop(command, None)
+    if command == "follow":
+        reference_table.BUILT_PRODUCERS.remove("input")
 
 
 def is_value(option, text):
@@ -31,7 +36,8 @@ def is_value(option, text):
         return text is None
     if option == "--user":
         return re.fullmatch("[A-Za-z0-9._-]{1,64}", text) is not None
-    return re.fullmatch("0|[1-9][0-9]*", text) is not None and int(text) <= GREATEST
+    least = 1 if option == "--from" else 0
+    return re.fullmatch("0|[1-9][0-9]*", text) is not None and least <= int(text) <= GREATEST
 
 
 def read_words(words):
@@ -71,6 +77,24 @@ def judge_limits(data):
 
 def answer(folder, words, data, session, time):
     """What a command prints of a folder, which it may change; it is refused else."""
+    shown = []
+    execute(folder, words, data, session, time, shown.append)
+    return "".join(shown)
+
+
+def execute(folder, words, data, session, time, show):
+    """Shows what a command prints of a folder, which it may change; it is refused else. Only `follow` shows more than
+    once, and makes other calls after it did."""
+    if words[:1] == ["follow"]:
+        _, options = read_words(words)
+        asked = options.get("--from")
+        reference_files.follow(folder, None if asked is None else int(asked), "--full" in options, show)
+    else:
+        show(answer_at_once(folder, words, data, session, time))
+
+
+def answer_at_once(folder, words, data, session, time):
+    """What a command prints that does so once, at its end."""
     command, options = read_words(words)
     if command in ("create", "write"):
         judge_limits(data)
@@ -115,6 +139,8 @@ class Table:
             self.rows.append([])
         elif command == "scan":
             printed = self.scan(options.get("--snapshot"))
+        elif command == "follow":
+            printed = self.follow(options.get("--from"), "--full" in options)
         return printed, {path: held for path, held in self.folder.files.items() if path not in before}
 
     def write(self, data, session, user, ident, printed):
@@ -133,3 +159,13 @@ class Table:
     def scan(self, asked):
         number = len(self.commits) if asked is None else int(asked)
         return scanned(self.schema, [row for rows in self.rows[:number] for row in rows])
+
+    def follow(self, asked, is_full):
+        """The frames from a number on; those that aren't there have no line, as in the files."""
+        start = len(self.commits) + 1 if asked is None else int(asked)
+        table = f'{{"table":{start - 1}}}\n{self.scan(start - 1)}' if is_full else ""
+        frames = ""
+        for number, rows in enumerate(self.rows[start - 1 :], start):
+            told = [row for of_key in by_key(self.schema, rows) for row in of_key]
+            frames += reference_files.framed(number, told)
+        return table + frames

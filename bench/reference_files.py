@@ -1,6 +1,6 @@
-"""The files of a table, by docs/FORMATS.md: read as `scan` and `snapshots` read them, and written as `create`, `write`
-and `compact` do. A program that knows no line of the crates; what a table's rows are worth is in reference_table.py,
-and the calls of the commands that change a table are in reference_changes.py.
+"""The files of a table, by docs/FORMATS.md: read as `scan`, `follow` and `snapshots` read them, and written as
+`create`, `write` and `compact` do. A program that knows no line of the crates; what a table's rows are worth is in
+reference_table.py, and the calls of the commands that change a table are in reference_changes.py.
 """
 
 import datetime
@@ -181,6 +181,13 @@ def schema_form(value, number):
 
 
 def read_schema(folder):
+    """The table's schema, of a table that can be made."""
+    schema = found_schema(folder)
+    schema.judge_built()
+    return schema
+
+
+def found_schema(folder):
     """The table's schema, with its id and its origin."""
     known = ids(folder.list("schema"), "schema-")
     if not known:
@@ -198,7 +205,6 @@ def read_schema(folder):
     schema.id, schema.origin = known[-1], value.get("origin")
     if schema.origin is None and not snapshot_ids(folder):
         raise unsupported("origin", "")
-    schema.judge_built()
     return schema
 
 
@@ -430,10 +436,11 @@ def column_value(fields, record, name, kind, nullable):
 
 
 class RunReader:
-    """Reads the rows of a run's files, one after another, each with its number and its kind: their keys rise."""
+    """Reads the rows of a run's files, one after another, each with its number and its kind: their keys rise. Those of
+    a changelog file don't fall, its numbers mean nothing, and it has each kind."""
 
-    def __init__(self, schema):
-        self.schema = schema
+    def __init__(self, schema, of_changes=False):
+        self.schema, self.of_changes = schema, of_changes
         self.last = None
 
     def read(self, path, data):
@@ -445,19 +452,19 @@ class RunReader:
         if record is None:
             raise Bad
         fields, schema = record_fields(kind), self.schema
-        value_of(fields, record, "_SEQUENCE_NUMBER", "long", (0, GREATEST_SEQUENCE))
+        value_of(fields, record, "_SEQUENCE_NUMBER", "long", None if self.of_changes else (0, GREATEST_SEQUENCE))
         of_row = KINDS[value_of(fields, record, "_VALUE_KIND", "int", (0, 3))]
         row = [column_value(fields, record, *column) for column in schema.columns]
         for name, of_column, nullable in schema.key_columns():
             if column_value(fields, record, f"_KEY_{name}", of_column, nullable) != row[schema.names.index(name)]:
                 raise Bad
-        if schema.engine != "deduplicate" and of_row not in ADDING:
+        if schema.engine != "deduplicate" and of_row not in ADDING and not self.of_changes:
             raise unsupported("_VALUE_KIND", of_row)
         key = schema.key(row)
-        if self.last is not None and key <= self.last:
+        if self.last is not None and (key < self.last or key == self.last and not self.of_changes):
             raise Bad
         self.last = key
-        kept = of_row if schema.engine in ("deduplicate", "first-row") else "+I"
+        kept = of_row if self.of_changes or schema.engine in ("deduplicate", "first-row") else "+I"
         return record["_SEQUENCE_NUMBER"], kept, row
 
 
@@ -466,8 +473,16 @@ class RunReader:
 
 def scan(folder, asked=None):
     """What `scan` prints of the table in a folder."""
-    schema = read_schema(folder)
-    newest = max(snapshot_ids(folder), default=0)
+    return table_at(folder, read_schema(folder), asked)
+
+
+def newest_of(folder):
+    return max(snapshot_ids(folder), default=0)
+
+
+def table_at(folder, schema, asked):
+    """The lines of a table at a snapshot."""
+    newest = newest_of(folder)
     number = newest if asked is None else asked
     if number > newest:
         raise Refused(f"E12 snapshot {number} latest {newest}")
@@ -475,6 +490,28 @@ def scan(folder, asked=None):
     for run in runs(view.live_files()):
         rows = [(kind, row) for _, kind, row in view.run_rows(run)] + rows
     return scanned(schema, rows)
+
+
+def follow(folder, asked, is_full, show):
+    """Shows what `follow` prints, the table and each frame at once: with the calls for the one before the next."""
+    schema = found_schema(folder)
+    if schema.producer == "none":
+        raise Refused("E19 no changelog none")
+    schema.judge_built()
+    newest = newest_of(folder)
+    start = newest + 1 if asked is None else asked
+    if start > newest + 1:
+        raise Refused(f"E12 snapshot {start} latest {newest}")
+    if is_full:
+        show(f'{{"table":{start - 1}}}\n' + table_at(folder, schema, start - 1))
+    for number in range(start, newest_of(folder) + 1):
+        rows = View(folder, schema, number).changes()
+        show(framed(number, rows))
+
+
+def framed(number, rows):
+    """The frame of a snapshot, whose changelog has these rows."""
+    return f'{{"snapshot":{number}}}\n' + "".join(print_json([kind, *row]) + "\n" for kind, row in rows)
 
 
 class View:
@@ -521,14 +558,30 @@ class View:
 
     def run_rows(self, run):
         """The rows of a run's files."""
-        reader, rows = RunReader(self.schema), []
-        for file in run:
+        return self.rows_of(run, RunReader(self.schema))
+
+    def rows_of(self, files, reader):
+        """The rows of files, by that reader."""
+        rows = []
+        for file in files:
             path = f"bucket-0/{file['name']}"
             data = self.read(path)
             if file["schema"] != self.schema.id:
                 raise damaged(f"schema/schema-{file['schema']}")
             rows += reader.read(path, data)
         return rows
+
+    def changes(self):
+        """The rows of the snapshot's changelog, each with its kind."""
+        name, files = self.found.get("changelogManifestList"), []
+        metas = [] if name is None else read_list(f"manifest/{name}", self.read(f"manifest/{name}"))
+        for path in [f"manifest/{meta['_FILE_NAME']}" for meta in metas]:
+            for adds, file in read_manifest(path, self.schema, self.read(path)):
+                if not adds or file["level"]:
+                    raise damaged(path)
+                files.append(file)
+        found = [self.rows_of([file], RunReader(self.schema, True)) for file in files]
+        return [(kind, row) for rows in found for _, kind, row in rows]
 
 
 def runs(live):

@@ -163,6 +163,9 @@ def judge_options(options):
             raise unsupported(key, text)
 
 
+BUILT_PRODUCERS = ["none", "input"]
+
+
 class Schema:
     """A table's columns, key and options."""
 
@@ -173,6 +176,7 @@ class Schema:
         self.partition = partition
         self.options = options
         self.engine = options.get("merge-engine", "deduplicate")
+        self.producer = options.get("changelog-producer", "none")
         self.ignores_delete = options.get("ignore-delete") == "true"
 
     def of_columns(self, kind):
@@ -209,8 +213,8 @@ class Schema:
                 raise Refused(f"E22 schema rule {number}")
 
     def judge_built(self):
-        if self.options.get("changelog-producer", "none") != "none":
-            raise unsupported("changelog-producer", self.options["changelog-producer"])
+        if self.producer not in BUILT_PRODUCERS:
+            raise unsupported("changelog-producer", self.producer)
         if self.options["bucket"] != "1":
             raise unsupported("bucket", self.options["bucket"])
         if self.partition:

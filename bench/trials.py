@@ -48,9 +48,9 @@ def knows(program, work, word):
     return run([program, work / "nothing", word]).status == 9
 
 
-def fault_of(ended):
+def fault_of(ended, words=()):
     """What is wrong with how a command ended, if anything: it prints, or is refused with one line. Where the output
-    failed a part of what it printed may be there."""
+    failed a part of what it printed may be there; and what `follow` prints before it is refused."""
     if ended.status is None:
         return f"it took more than {SECONDS} s"
     if ended.status == 0:
@@ -58,7 +58,8 @@ def fault_of(ended):
     line = b"E%d [^\\0-\\x1f\\x7f]*\n" % max(ended.status, 0)
     if not 1 <= ended.status <= 99 or not re.fullmatch(line, ended.err):
         return f"it ended with {ended.status} and said {ended.err[:300]!r}"
-    return f"it was refused and printed {ended.out[:300]!r}" if ended.out and ended.status != 4 else None
+    may_print = ended.status == 4 or tuple(words[:1]) == ("follow",)
+    return f"it was refused and printed {ended.out[:300]!r}" if ended.out and not may_print else None
 
 
 def tree(folder):
