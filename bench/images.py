@@ -3,9 +3,11 @@
 also after one that was killed and beside one that is held up in the middle. After each change it takes the images that
 the file system may have then: of the names that came or went in a folder since its last sync, which ones are there, in
 every combination as far as they are few and else a choice of them; and of each file that isn't synced nothing, half or
-all of its bytes. Compactions are among the commands where the program knows them. It promises, of each image:
+all of its bytes. Compactions, and writes to a table that is followed, are among the commands where the program knows
+them. It promises, of each image:
   - `scan` prints the rows of whole batches, no others, and those of each command that had answered; and where a `scan`
     had answered, what it had printed;
+  - `follow` prints a frame of each of these batches, where the table tells its input;
   - `snapshots` lists ids that rise by one from 1, and each that was printed;
   - one more write succeeds, after a `create` where there is no table yet, and leaves no file that is being written.
 It ends with 1 where a promise broke. The gate never runs it. It wants strace. docs/DEVELOPING.md has what it printed.
@@ -23,7 +25,7 @@ import shutil
 import subprocess
 import time
 
-from kills import MERGING, batch, quiet
+from kills import MERGING, TOLD, batch, quiet
 from trials import DRAFT, Ended, Tally, knows, random_of, read_arguments, run, work_folder
 
 CALLS = "openat open creat write pwrite64 fsync fdatasync rename renameat renameat2 unlink unlinkat mkdir mkdirat rmdir"
@@ -228,6 +230,20 @@ def compactions(syncs):
             yield Case(name, DRAFT, [(1, 2), (3,)], True, steps)
 
 
+def told(syncs):
+    """What is recorded where the program can follow a table: writes to one that tells its input."""
+    write = [Step(["write"], batch(8, 9))]
+    for is_quiet in (True, False):
+        how = "quiet" if is_quiet else "hot"
+        yield Case(f"the first write that is told, {how}", TOLD, [], is_quiet, write)
+        yield Case(f"a write that is told, {how}", TOLD, [(1, 2), (3,)], is_quiet, write)
+    for sync in range(1, syncs + 1):
+        held = [write[0]._replace(held=sync)]
+        yield Case(f"a write that is told, held up at sync {sync}, and one meanwhile", TOLD, [(1, 2)], True, held)
+        steps = [Step(["write"], batch(4, 5), killed=sync), *write]
+        yield Case(f"a write that is told, killed at sync {sync}, then another", TOLD, [(1, 2)], True, steps)
+
+
 def cases(syncs):
     """What is recorded. A killed writer is killed at each of its last syncs, when its names aren't on the disk."""
     write = [Step(["write"], batch(8, 9))]
@@ -363,6 +379,9 @@ class Trial:
             return self.breaks(names, f"scan answered {scanned}")
         if found != whole or not known <= found or scanned.out != batch(*sorted(found)):
             return self.breaks(names, f"scan printed the keys {sorted(found)}; these had to be there: {sorted(known)}")
+        followed = self.command(folder, "follow", "--from", "1") if self.case.draft == TOLD else Ended(9, b"", b"")
+        if followed.status not in (0, 9) or followed.status == 0 and set(keys_of(followed.out)) != found:
+            return self.breaks(names, f"follow answered {followed}, and scan printed the keys {sorted(found)}")
         listed = self.command(folder, "snapshots").out.count(b"\n")
         if listed < newest:
             return self.breaks(names, f"{listed} snapshots are there, and {newest} was printed")
@@ -416,7 +435,8 @@ def main():
     tally = Tally()
     with work_folder() as work:
         more = compactions(16) if knows(found.program, work, "compact") else []
-        for number, case in enumerate([*cases(16), *more]):
+        followed = told(16) if knows(found.program, work, "follow") else []
+        for number, case in enumerate([*cases(16), *more, *followed]):
             random = random_of(found.seed, number)
             Trial(found.program, work, tally, case, random, found.count).run()
             tally.add("cases")

@@ -25,6 +25,7 @@ CHANGES += ("mkdirat", "rmdir", "flock", "fchmod", "ftruncate", "utimensat")
 LOOKS = ("chdir", "open", "read", "getdents64", "statx", "stat", "lstat", "fstat", "newfstatat", "close")
 ERRORS = ("EIO", "ENOSPC")
 MERGING = DRAFT[:-1] + b',"options":{"manifest.merge-min-count":"2"}}'
+TOLD = DRAFT[:-1] + b',"options":{"changelog-producer":"input"}}'
 
 # A folder, a command on it, the keys and the number of snapshots that the table has before and after it, none where there
 # is no table, and those keys that are written to a copy of the folder first: a copy's folders aren't sealed.
@@ -85,6 +86,17 @@ class Trials:
             Case("scan of sealed folders", many, ["scan"], b"", sealed, sealed, [4]),
             Case("snapshots", many, ["snapshots"], b"", found, found),
             *self.compactions(many),
+            *self.told(rows, found, then),
+        ]
+
+    def told(self, rows, found, then):
+        """A table that tells its input, where the program can follow it."""
+        if not knows(self.program, self.work, "follow"):
+            return []
+        told, follow = self.table("told", [batch(1, 2), batch(3)], TOLD), ["follow", "--from", "1", "--full"]
+        return [
+            Case("a write that is told", told, ["write"], rows, found, then),
+            Case("follow", told, follow, b"", found, found),
         ]
 
     def compactions(self, many):
@@ -158,7 +170,7 @@ class Trials:
     def judge_refusal(self, case, injected, ended, found, where):
         """Judges how a command ended of which a call failed."""
         is_silent = injected.call == "write" and str(injected.number).endswith("+") and ended.err == b""
-        if ended.status not in (0, 3, 4, 5) or not is_silent and fault_of(ended):
+        if ended.status not in (0, 3, 4, 5) or not is_silent and fault_of(ended, case.words):
             self.tally.breaks(where, f"it ended with {ended}")
         self.tally.add("refusals", int(ended.status != 0))
         publishes = re.match(rb"E5 store (snapshot/snapshot-|schema/schema-0)", ended.err)
