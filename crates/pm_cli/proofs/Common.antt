@@ -20,7 +20,7 @@ use Rattle.pm_draft.specs.Built.{unbuilt, unbuilt_bucket, unbuilt_partition, unb
 use Rattle.pm_words.specs.declared.command.Command.{Command}
 use Rattle.pm_command.specs.Outside.{actor}
 use Rattle.pm_cli.specs.Promise.{Execution, HasMade, MayMake, StandsForOthers}
-use Rattle.pm_cli.specs.Start.{HaveOtherNames, IsNew, snapshot_made}
+use Rattle.pm_cli.specs.Start.{HaveOtherNames, IsNew, LeavesOut, snapshot_made}
 
 -- the execution with this command in its place
 abbrev pub with_command : Command → Execution → Execution
@@ -222,8 +222,9 @@ abbrev pub NotSink : Refusal → Type 0
 NotSink (refusals.SinkFault snapshot) = ⊥
 NotSink other = Unit {0}
 
--- where it was refused, but by the sink, and nothing was printed, it may have made nothing
-pub makes_nothing : (e : Execution) (h : History) (refusal : Refusal) → NotSink refusal → e.after.out ≡ e.before.out → HasMade e h (Some refusal) h
+-- where it was refused, but by the sink, and this was printed, it may have made nothing
+pub makes_nothing : (e : Execution) (h : History) (refusal : Refusal) → NotSink refusal → LeavesOut e.command h e.before.out e.after.out
+    → HasMade e h (Some refusal) h
 makes_nothing e h (refusals.SinkFault snapshot) not out = absurd not
 makes_nothing e h (refusals.StoreFault path) not out = (inl refl, inl refl, out)
 makes_nothing e h other not out = (refl, out)

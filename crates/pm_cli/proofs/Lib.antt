@@ -2,6 +2,7 @@ mod Common
 mod Compact
 mod Create
 mod First
+mod Follow
 mod InTurn
 mod NothingLaws
 mod Origin

@@ -1,5 +1,6 @@
 -- What a command promises that ran out of memory before it did anything.
 use Rattle.std.proofs.Common.{inl, ℕ, Bool, List, [], Option, None, Some, IfSome, Err, refl}
+use Rattle.pm_values.specs.declared.refusal.Refusal.{Refusal}
 use Rattle.pm_values.specs.declared.refusal.Refusal.TheVariants as refusals
 use Rattle.pm_io.specs.Sink.{SinkView}
 use Rattle.pm_io.specs.Source.{SourceView}
@@ -15,6 +16,7 @@ use Rattle.pm_command.specs.Outside.{outside}
 use Rattle.pm_command.specs.declared.start.Start.{Start}
 use Rattle.pm_cli.specs.Commands.{Acts, Answers, ServesHistories}
 use Rattle.pm_command_compact.specs.Compact as compact
+use Rattle.pm_command_follow.specs.Follow as follow
 use Rattle.pm_command_scan.specs.Scan as scan
 use Rattle.pm_command_snapshots.specs.Snapshots as snapshots
 use Rattle.pm_command_write.specs.Write.{writer_of}
@@ -47,6 +49,17 @@ compacted_none start full out store =
     compacts.refused_compacted start full refusals.Memory out store store (compacts.read_refused start full refusals.Memory store store (read_none store))
     (compacts.read_keeps start full refusals.Memory store store (reads_none store))
 
+followed_none : (from : Option ℕ) (full : Bool) (out : SinkView) (store : StoreView)
+    → follow.IsFollowed from full out out store store (Some refusals.Memory)
+followed_none from full out store =
+    let none = read_none store in
+    (none.0, follow.refused_first refusals.Memory (follow.of_schema (follow.of_reader none.1)) refl, none.2)
+
+-- what the law of `follow` says
+abbrev pub FollowLaw : Type 0
+FollowLaw = (from : Option ℕ) (full : Bool) (out out_after : SinkView) (store store_after : StoreView) (answer : Option Refusal)
+    → follow.IsFollowed from full out out_after store store_after answer → follow.FollowsAny from full out out_after store store_after answer
+
 any_bytes : (left : Option (List ℕ)) → IfSome left (λ bytes. Unit {0})
 any_bytes None = tt
 any_bytes (Some bytes) = tt
@@ -59,6 +72,7 @@ module _ (start : Start) (input : SourceView) (out : SinkView) (store : StoreVie
       (refl, scans.scanned_answers at (outside input out store) (outside input out store) (Some refusals.Memory) (scanned_none at out store))
   nothing_answers commands.Snapshots =
       (refl, lists.listed_answers (outside input out store) (outside input out store) (Some refusals.Memory) (listed_none out store))
+  nothing_answers (commands.Follow from full) = (refl, followed_none from full out store)
   nothing_answers (commands.Compact full) =
       (refl, compacts.compacted_answers start full (outside input out store) (outside input out store) (Some refusals.Memory) (compacted_none start full out store))
 
@@ -68,15 +82,18 @@ module _ (start : Start) (input : SourceView) (out : SinkView) (store : StoreVie
   nothing_acts (commands.Scan at) =
       scans.scanned_answers at (outside input out store) (outside input out store) (Some refusals.Memory) (scanned_none at out store)
   nothing_acts commands.Snapshots = lists.listed_answers (outside input out store) (outside input out store) (Some refusals.Memory) (listed_none out store)
+  nothing_acts (commands.Follow from full) = followed_none from full out store
   nothing_acts (commands.Compact full) =
       compacts.compacted_answers start full (outside input out store) (outside input out store) (Some refusals.Memory) (compacted_none start full out store)
 
-  pub nothing_serves : (command : Command) → ServesHistories command start (outside input out store) (outside input out store) (Some refusals.Memory)
-  nothing_serves commands.Create = nothing_made start input out store
-  nothing_serves (commands.Write user identifier) =
+  pub nothing_serves : FollowLaw → (command : Command) → ServesHistories command start (outside input out store) (outside input out store) (Some refusals.Memory)
+  nothing_serves law commands.Create = nothing_made start input out store
+  nothing_serves law (commands.Write user identifier) =
       refused_serves start (writer_of user identifier) input input out store refusals.Memory (any_bytes input.left)
-  nothing_serves (commands.Scan at) =
+  nothing_serves law (commands.Scan at) =
       scans.scanned_serves at (outside input out store) (outside input out store) (Some refusals.Memory) (scanned_none at out store)
-  nothing_serves commands.Snapshots = lists.listed_serves (outside input out store) (outside input out store) (Some refusals.Memory) (listed_none out store)
-  nothing_serves (commands.Compact full) =
+  nothing_serves law commands.Snapshots = lists.listed_serves (outside input out store) (outside input out store) (Some refusals.Memory) (listed_none out store)
+  nothing_serves law (commands.Follow from full) =
+      law from full out out store store (Some refusals.Memory) (followed_none from full out store)
+  nothing_serves law (commands.Compact full) =
       compacts.compacted_serves start full (outside input out store) (outside input out store) (Some refusals.Memory) (compacted_none start full out store)

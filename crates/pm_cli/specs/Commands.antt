@@ -5,6 +5,7 @@ use Rattle.pm_command_create.specs.Create.{AnswersCreate, ActsCreate, CreatesTab
 use Rattle.pm_command.specs.Outside.{Outside}
 use Rattle.pm_command.specs.declared.start.Start.{Start}
 use Rattle.pm_command_compact.specs.Compact.{Compacts, CompactsTables}
+use Rattle.pm_command_follow.specs.Follow.{Follows, FollowsTables}
 use Rattle.pm_command_scan.specs.Scan.{Scans, ScansTables}
 use Rattle.pm_command_snapshots.specs.Snapshots.{ListsSnapshots, ListsTables}
 use Rattle.pm_command_write.specs.Write.{AnswersWrite, ActsWrite, WritesTables, writer_of}
@@ -21,6 +22,8 @@ Answers commands.Snapshots start before after answer =
     (after.input ≡ before.input) × ListsSnapshots before after answer
 Answers (commands.Compact full) start before after answer =
     (after.input ≡ before.input) × Compacts start full before after answer
+Answers (commands.Follow from full) start before after answer =
+    (after.input ≡ before.input) × Follows from full before after answer
 Answers (commands.Write user identifier) start before after answer =
     (bytes : List ℕ) → before.input.left ≡ Some bytes
     → AnswersWrite start (writer_of user identifier) bytes before after answer
@@ -31,6 +34,7 @@ Acts commands.Create start before after answer = ActsCreate start before after a
 Acts (commands.Scan snapshot) start before after answer = Scans snapshot before after answer
 Acts commands.Snapshots start before after answer = ListsSnapshots before after answer
 Acts (commands.Compact full) start before after answer = Compacts start full before after answer
+Acts (commands.Follow from full) start before after answer = Follows from full before after answer
 Acts (commands.Write user identifier) start before after answer =
     ActsWrite start (writer_of user identifier) before after answer
 
@@ -40,5 +44,6 @@ ServesHistories commands.Create start before after answer = CreatesTables start 
 ServesHistories (commands.Scan snapshot) start before after answer = ScansTables snapshot before after answer
 ServesHistories commands.Snapshots start before after answer = ListsTables before after answer
 ServesHistories (commands.Compact full) start before after answer = CompactsTables start full before after answer
+ServesHistories (commands.Follow from full) start before after answer = FollowsTables from full before after answer
 ServesHistories (commands.Write user identifier) start before after answer =
     WritesTables start (writer_of user identifier) before after answer

@@ -1,6 +1,6 @@
 -- The promise: what each command does, in the words of histories, and what is so of all of them.
 use Rattle.std.specs.Prelude.{◌≡◌, ◌≢◌, ◌⊎◌, ℕ, suc, ◌≤◌, List, [], ◌∷◌, ◌++◌, codes, length}
-use Rattle.std.specs.Prelude.{Bool, Option, None, Some, Ok, decimal, slice_get}
+use Rattle.std.specs.Prelude.{Bool, Option, None, Some, Ok, slice_get}
 use Rattle.pm_base.specs.Known.{and_then}
 use Rattle.pm_base.specs.Newline.{line}
 use Rattle.pm_values.specs.declared.group.Group.{Group}
@@ -29,13 +29,12 @@ use Rattle.pm_command.specs.Outside.{actor, Outside}
 use Rattle.pm_command.specs.declared.start.Start.{Start}
 use Rattle.pm_command_compact.specs.Compact.{HasChoice}
 use Rattle.pm_command_create.specs.Create.{IsDraftOf}
+use Rattle.pm_command_follow.specs.Follow.{MayStartAt}
+use Rattle.pm_command_follow.specs.Printed.{follow_text}
 use Rattle.pm_command_write.specs.Write.{entry_by, identifier_of, writer_of}
 use Rattle.pm_cli.specs.Snapshots.{AreLines, HasReached, IsReachedAt}
-use Rattle.pm_cli.specs.Start.{HasInput, HaveOtherNames, IsNew, MayStart, changed_path, snapshot_made}
-
--- what is printed of a commit that comes after these entries
-abbrev pub committed_text : List Entry → List ℕ
-committed_text es = line (codes "snapshot " ++ decimal (suc (length es)))
+use Rattle.pm_cli.specs.Start.{HasInput, HaveOtherNames, IsNew, LeavesOut, MayStart, changed_path}
+use Rattle.pm_cli.specs.Start.{committed_text, snapshot_made}
 
 -- What a command does, by its start, the bytes of its input and the store that it finds: of a history it makes a later
 -- one, and prints the text.
@@ -48,6 +47,8 @@ pub data Does (start : Start) (bytes : List ℕ) (found : StoreView) : Command �
   lists : (s : TableSchema) (es : List Entry) (lines : List SnapshotLine) → AreLines es lines
       → LeavesFiles (λ f. AreLinesOf f lines) found
       → Does start bytes found commands.Snapshots (table s es) (table s es) (snapshots_text lines)
+  follows : (from : Option ℕ) (full : Bool) (s : TableSchema) (es : List Entry) → MayStartAt s es from
+      → Does start bytes found (commands.Follow from full) (table s es) (table s es) (follow_text s es from full)
   rests : (full : Bool) (s : TableSchema) (es : List Entry) → LeavesFiles (HasChoice start full (table s es) []) found
       → Does start bytes found (commands.Compact full) (table s es) (table s es) (line (codes "nothing to compact"))
   compacts : (full : Bool) (s : TableSchema) (es : List Entry) (groups : List (Group × Bool)) → groups ≢ []
@@ -84,7 +85,7 @@ abbrev pub MayMake : Execution → History → History → Type 0
 MayMake e h later = (later ≡ h) ⊎ ((text : List ℕ) × Does e.start e.input (found_by e) e.command h later text)
 
 -- What it made, by its answer. After success or a fault of the sink it did it, and printed its text or a prefix of it;
--- else it did nothing, or in the call that failed all of it, and printed nothing.
+-- else it did nothing, or in the call that failed all of it, and printed nothing, or the first pieces of its text.
 abbrev pub HasMade : Execution → History → Option Refusal → History → Type 0
 HasMade e h None later = (text : List ℕ) × Does e.start e.input (found_by e) e.command h later text
     × (e.after.out.taken ≡ and_then e.before.out.taken text)
@@ -92,8 +93,9 @@ HasMade e h (Some (refusals.SinkFault snapshot)) later = (text : List ℕ)
     × Does e.start e.input (found_by e) e.command h later text × TookPrefix e.before.out.taken e.after.out.taken text
     × (snapshot ≡ snapshot_made h later)
 HasMade e h (Some (refusals.StoreFault path)) later =
-    MayMake e h later × ((later ≡ h) ⊎ (path ≡ changed_path e.command h)) × (e.after.out ≡ e.before.out)
-HasMade e h (Some other) later = (later ≡ h) × (e.after.out ≡ e.before.out)
+    MayMake e h later × ((later ≡ h) ⊎ (path ≡ changed_path e.command h))
+    × LeavesOut e.command h e.before.out e.after.out
+HasMade e h (Some other) later = (later ≡ h) × LeavesOut e.command h e.before.out e.after.out
 
 -- Files stand for the history, and each other actor that was new to the one at first is new to it.
 pub record StandsForOthers (e : Execution) (h : History) (first : StoreView) (later : History) (f : Files)

@@ -1,7 +1,11 @@
--- Where a command may start, what it reads, and by which call it makes what it makes.
-use Rattle.std.specs.Prelude.{◌≡◌, ◌≢◌, ℕ, List, [], length, nat_lt, if◌then◌else◌, Option, Some, None}
+-- Where a command may start, what it reads, by which call it makes what it makes, and what it prints of that, or before
+-- a refusal.
+use Rattle.std.specs.Prelude.{◌≡◌, ◌≢◌, ℕ, suc, List, [], ◌++◌, codes, decimal, length, nat_lt, if◌then◌else◌}
+use Rattle.std.specs.Prelude.{Option, Some, None}
+use Rattle.pm_base.specs.Newline.{line}
+use Rattle.pm_io.specs.Sink.{SinkView}
 use Rattle.pm_store.specs.Files.{Files}
-use Rattle.pm_model_history.specs.History.{History, table}
+use Rattle.pm_model_history.specs.History.{Entry, History, table}
 use Rattle.pm_model_folder.specs.Changes.{Actor, IsNoOrigin, origin_name}
 use Rattle.pm_model_folder.specs.Folder.{Folder}
 use Rattle.pm_model_folder.specs.Paths.{schema_path}
@@ -9,6 +13,7 @@ use Rattle.pm_create.specs.Creator.{own_origin}
 use Rattle.pm_create.specs.Making as making
 use Rattle.pm_commit.specs.AllCalls as commit
 use Rattle.pm_command.specs.Outside.{next_path}
+use Rattle.pm_command_follow.specs.Follow.{PrintsSome}
 use Rattle.pm_words.specs.declared.command.Command.{Command}
 use Rattle.pm_words.specs.declared.command.Command.TheVariants as commands
 
@@ -18,6 +23,7 @@ MayStart commands.Create me h f = making.MayStart me h f
 MayStart (commands.Scan at) me h f = Folder f h
 MayStart commands.Snapshots me h f = Folder f h
 MayStart (commands.Compact full) me h f = commit.MayStart me h f
+MayStart (commands.Follow from full) me h f = Folder f h
 MayStart (commands.Write user identifier) me h f = commit.MayStart me h f
 
 -- These are the bytes of the input, where the command reads it.
@@ -26,6 +32,7 @@ HasInput commands.Create bytes left = left ≡ Some bytes
 HasInput (commands.Scan at) bytes left = Unit {0}
 HasInput commands.Snapshots bytes left = Unit {0}
 HasInput (commands.Compact full) bytes left = Unit {0}
+HasInput (commands.Follow from full) bytes left = Unit {0}
 HasInput (commands.Write user identifier) bytes left = left ≡ Some bytes
 
 -- the path of the call by which it makes what it makes of a history, where it makes another one
@@ -40,6 +47,15 @@ abbrev pub snapshot_made : History → History → Option ℕ
 snapshot_made (table s entries) (table t more) =
     if nat_lt (length entries) (length more) then Some (length more) else None
 snapshot_made h later = None
+
+-- what is printed of a commit that comes after these entries
+abbrev pub committed_text : List Entry → List ℕ
+committed_text es = line (codes "snapshot " ++ decimal (suc (length es)))
+
+-- what the sink took before a refusal: nothing, but the first pieces of what `follow` prints
+abbrev pub LeavesOut : Command → History → SinkView → SinkView → Type 0
+LeavesOut (commands.Follow from full) h before after = PrintsSome h from full before after
+LeavesOut other h before after = after ≡ before
 
 -- Files that stand for the history, to which the actor is new: neither the origin of the table nor a file that a
 -- snapshot names bears its name.

@@ -3,13 +3,14 @@
 ghost use Rattle.std.specs.Prelude.{◌≡◌, IfOk};
 ghost use Rattle.std.specs.Result.{result_err};
 ghost use Rattle.pm_command.specs.Outside.{outside, AllLater, IsUntouched};
-ghost use Rattle.pm_words.specs.Words.{Give, GiveNoCommand, IsNoCommand};
+ghost use Rattle.pm_words.specs.Words.{Give, GiveNoCommand, IsInRange, IsNoCommand};
 ghost use Rattle.pm_words.specs.declared.command.Command.{Command};
 ghost use Rattle.pm_cli.specs.Commands.{Acts, Answers, ServesHistories};
 
 use pm_command::Start;
 use pm_command_compact::run_compact;
 use pm_command_create::run_create;
+use pm_command_follow::{follow_law, run_follow};
 use pm_command_scan::run_scan;
 use pm_command_snapshots::run_snapshots;
 use pm_command_write::{Writer, run_write};
@@ -48,6 +49,7 @@ pub(crate) fn execute<S: Source, W: Sink, F: FileStore>(
         (outside (S.seen input.new) (W.seen out.new) (F.seen store.new)) }
 {
     one_command_law();
+    follow_law();
     match command_in(alloc, words)? {
         Some(command) => execute_command(alloc, command, input, out, store, start),
         None => Err(no_command(alloc, words)?),
@@ -63,6 +65,7 @@ fn execute_command<S: Source, W: Sink, F: FileStore>(
     store: &mut F,
     start: &Start,
 ) -> Result<(), Refusal>
+    requires { IsInRange command }
     ensures command { Answers command start.now
         (outside (S.seen input.old) (W.seen out.old) (F.seen store.old))
         (outside (S.seen input.new) (W.seen out.new) (F.seen store.new)) (result_err result) }
@@ -80,6 +83,7 @@ fn execute_command<S: Source, W: Sink, F: FileStore>(
         Command::Scan { snapshot } => run_scan(alloc, snapshot, out, store),
         Command::Snapshots => run_snapshots(alloc, out, store),
         Command::Compact { full } => run_compact(alloc, full, out, store, start),
+        Command::Follow { from, full } => run_follow(alloc, from, full, out, store),
         Command::Write { user, identifier } => {
             run_write(alloc, Writer { user, identifier }, input, out, store, start)
         }

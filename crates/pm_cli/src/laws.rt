@@ -1,6 +1,6 @@
 //! The promise follows from what commands are proved to do; and histories have a beginning, from which commands go on.
 
-ghost use Rattle.std.specs.Prelude.{◌≡◌, ◌≤◌, ℕ, List, [], ◌∷◌, length, Bool, Option, None, Some, Ok};
+ghost use Rattle.std.specs.Prelude.{◌≡◌, ◌≤◌, ℕ, List, [], ◌∷◌, length, Bool, false, Option, None, Some, Ok};
 ghost use Rattle.std.specs.FinMap as map;
 ghost use Rattle.std.specs.List.{AllByRecursion};
 ghost use Rattle.pm_base.specs.Known.{and_then};
@@ -9,10 +9,12 @@ ghost use Rattle.pm_store.specs.Images.{CrashImage, Extends};
 ghost use Rattle.pm_store.specs.Store.{StoreView, IsAlone, at_first_own};
 ghost use Rattle.pm_store.specs.declared.call.Op.{Op};
 ghost use Rattle.pm_input.specs.Lines.{row_lines};
+ghost use Rattle.pm_options.specs.declared.kinds.Producer.TheVariants.{Input};
 ghost use Rattle.pm_schema.specs.declared.schema.TableSchema.{TableSchema};
 ghost use Rattle.pm_model_history.specs.History.{Entry, History, no_table, rows_up_to, table};
 ghost use Rattle.pm_model_history.specs.Merge.{HistoryRow};
-ghost use Rattle.pm_model_history.specs.Merged.{scan_text};
+ghost use Rattle.pm_model_history.specs.Merged.{merged, scan_text};
+ghost use Rattle.pm_model_following.specs.Following.{followed};
 ghost use Rattle.pm_model_folder.specs.Changes.{Actor};
 ghost use Rattle.pm_model_folder.specs.Folder.{Folder};
 ghost use Rattle.pm_create.specs.Making.{LeavesFiles};
@@ -24,6 +26,7 @@ ghost use Rattle.pm_command.specs.Outside.{HaveSame, actor};
 ghost use Rattle.pm_command.specs.declared.start.Start.{Start};
 ghost use Rattle.pm_command_compact.specs.Compact as compact;
 ghost use Rattle.pm_command_create.specs.Create.{IsDraftOf, StandsForEither};
+ghost use Rattle.pm_command_follow.specs.Printed.{LeadOn};
 ghost use Rattle.pm_command_write.specs.Write.{IsImage, Lines, MayStartAfter};
 ghost use Rattle.pm_command_write.specs.declared.writer.Writer.{Writer};
 ghost use Rattle.pm_cli.specs.InTurn.{AreInTurn, HandsOn, HaveOwnNames, IsExecuted, MakeInTurn, Turn, ended};
@@ -31,6 +34,7 @@ ghost use Rattle.pm_cli.specs.InTurn.{seen_by_another, to_its_end};
 ghost use Rattle.pm_cli.specs.Promise.{Does, Execution, Keeps, KeepsIt, MayMake};
 ghost use Rattle.pm_cli.specs.Start.{HaveOtherNames, IsNew, MayStart};
 
+use pm_command_follow::replay_law;
 use pm_model_contents::{one_contents_law, same_law};
 use pm_schema::draft_law;
 
@@ -39,10 +43,10 @@ use pm_schema::draft_law;
 /// A store that has what a crash within `create` left stands for the history, or for the draft's table where there was
 /// none; one that has what a crash within `write` or `compact` left, for the history, or for it with the rows of the
 /// input, or with the compaction of its newest snapshot's choice, as once the next snapshot is there; and one that has
-/// what a crash within `scan` or `snapshots` left, for the history, and no path has another content. Another actor that
-/// might have started before `write` or `compact` may start there, and wherever no path has another content. So what
-/// `run` promises of a history holds again of the next `write`, `compact`, `scan` or `snapshots`, and after a crash
-/// within one of these.
+/// what a crash within `scan`, `snapshots` or `follow` left, for the history, and no path has another content. Another
+/// actor that might have started before `write` or `compact` may start there, and wherever no path has another content.
+/// So what `run` promises of a history holds again of the next `write`, `compact`, `scan`, `snapshots` or `follow`, and
+/// after a crash within one of these.
 pub fn next_command_law()
     ensures create { (start : Start) (bytes : List ℕ) (h : History) (old new : List Op) (i : ℕ)
         (image : Files) → Extends (StandsForEither start bytes h) (Some old) (Some new) → length old ≤ i
@@ -110,6 +114,15 @@ pub fn keeps_compact_law()
         → Keeps (record e { command = commands.Compact full }) }
 {}
 
+/// The promise of `follow`.
+pub fn keeps_follow_law()
+    ensures { (from : Option ℕ) (full : Bool) (e : Execution)
+        → IsExecuted (record e { command = commands.Follow from full })
+        → Keeps (record e { command = commands.Follow from full }) }
+{
+    next_command_law();
+}
+
 /// The promise of `write`.
 pub fn keeps_write_law()
     ensures { (user : Option (List ℕ)) (number : Option ℕ) (e : Execution)
@@ -125,6 +138,7 @@ pub fn keeps_law()
     keeps_scan_law();
     keeps_snapshots_law();
     keeps_compact_law();
+    keeps_follow_law();
     keeps_write_law();
 }
 
@@ -195,6 +209,20 @@ pub fn same_scan_law()
         → (more : List Entry) × (later ≡ table s more)
         × (scan_text s (rows_up_to more (length more)) ≡ scan_text s (rows_up_to es (length es))) }
 {}
+
+/// Whoever follows a table from a snapshot on has what it prints as the frames of changes: their rows, replayed in
+/// order on the table that was followed at the one below, give the table that is followed at the newest. With the
+/// producer of inputs that is the merged table, which a scan prints.
+pub fn frames_law()
+    ensures replayed { (start : Start) (bytes : List ℕ) (found : StoreView) (from : ℕ) (s : TableSchema)
+        (es : List Entry) (later : History) (text : List ℕ) (f : Files) → 1 ≤ from → Folder f (table s es)
+        → Does start bytes found (commands.Follow (Some from) false) (table s es) later text
+        → LeadOn s es from (length es) text }
+    ensures scanned { (s : TableSchema) (es : List Entry) → s.options.producer ≡ Input
+        → followed s es (length es) ≡ merged s (rows_up_to es (length es)) }
+{
+    replay_law();
+}
 
 /// From an empty store: after a `create`, a `write` and a `scan` with status 0 the scan printed exactly the merged
 /// table of the rows that the draft's table takes of the input of `write`.

@@ -1,5 +1,5 @@
 -- Words give one command at most.
-use Rattle.std.proofs.Common.{◌≡◌, ◌<◌, ◌^◌, ℕ, Bool, true, false, true≢false, List, [], ◌∷◌, codes, Option, None, Some, IfNone, refl, sym, ap, ap₂, subst, ◌∙◌, arith}
+use Rattle.std.proofs.Common.{◌≡◌, ◌<◌, ◌≤◌, ◌^◌, ℕ, Bool, true, false, true≢false, List, [], ◌∷◌, codes, Option, None, Some, IfSome, IfNone, refl, sym, ap, ap₂, subst, ◌∙◌, arith}
 use Rattle.std.specs.Fmt.{decimal}
 use Rattle.std.specs.Str.{bytes_eq}
 use Rattle.std.proofs.lemmas.Fmt.{decimal_injective}
@@ -50,10 +50,21 @@ one_number options option (Some a) (Some b) one other =
 one_number options option None (Some b) one other = absurd cc
 one_number options option (Some a) None one other = absurd cc
 
+-- no command begins at 0
+pub from_zero : (options : List CommandOption) (command : Command) (n : ℕ) → n ≡ 0 → AreOfCommand (codes "follow") options command
+    → GiveNumber options (codes "from") (Some n) → ⊥
+from_zero options (commands.Follow from full) n zero are gives =
+    let same : from ≡ Some n = one_number options (codes "from") from (Some n) are.values.0 gives in
+    let low : 1 ≤ n = subst (λ (from : Option ℕ). IfSome from (λ id. 1 ≤ id)) same are.values.2 in
+    omega (arith, low, zero)
+from_zero options other n zero are gives = absurd (apart (codes "follow") (word_of other) refl are.first)
+
 -- a word and options are those of one command
 one_of : (word : List ℕ) (options : List CommandOption) (a b : Command) → AreOfCommand word options a → AreOfCommand word options b → a ≡ b
 one_of word options commands.Create commands.Create one other = refl
 one_of word options (commands.Compact a) (commands.Compact b) one other = ap commands.Compact (one_flag options (codes "full") a b one.values other.values)
+one_of word options (commands.Follow m a) (commands.Follow n b) one other =
+    ap₂ commands.Follow (one_number options (codes "from") m n one.values.0 other.values.0) (one_flag options (codes "full") a b one.values.1 other.values.1)
 one_of word options (commands.Scan a) (commands.Scan b) one other = ap commands.Scan (one_number options (codes "snapshot") a b one.values other.values)
 one_of word options commands.Snapshots commands.Snapshots one other = refl
 one_of word options (commands.Write a m) (commands.Write b n) one other =

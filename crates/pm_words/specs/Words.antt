@@ -95,6 +95,7 @@ pub record AreOf (names : List (List ℕ)) (options : List CommandOption) : Type
 abbrev pub word_of : Command → List ℕ
 word_of commands.Create = codes "create"
 word_of (commands.Compact full) = codes "compact"
+word_of (commands.Follow from full) = codes "follow"
 word_of (commands.Scan snapshot) = codes "scan"
 word_of commands.Snapshots = codes "snapshots"
 word_of (commands.Write user identifier) = codes "write"
@@ -103,14 +104,22 @@ word_of (commands.Write user identifier) = codes "write"
 abbrev pub names_of : Command → List (List ℕ)
 names_of commands.Create = []
 names_of (commands.Compact full) = codes "full" ∷ []
+names_of (commands.Follow from full) = codes "from" ∷ codes "full" ∷ []
 names_of (commands.Scan snapshot) = codes "snapshot" ∷ []
 names_of commands.Snapshots = []
 names_of (commands.Write user identifier) = codes "user" ∷ codes "ident" ∷ []
+
+-- its numbers are those that it takes: a first snapshot from 1 on
+abbrev pub IsInRange : Command → Type 0
+IsInRange (commands.Follow from full) = IfSome from (λ id. 1 ≤ id)
+IsInRange other = Unit {0}
 
 -- what each of them gives
 abbrev pub GiveEach : List CommandOption → Command → Type 0
 GiveEach options commands.Create = Unit {0}
 GiveEach options (commands.Compact full) = GiveFlag options (codes "full") full
+GiveEach options (commands.Follow from full) = GiveNumber options (codes "from") from
+    × GiveFlag options (codes "full") full × IsInRange (commands.Follow from full)
 GiveEach options (commands.Scan snapshot) = GiveNumber options (codes "snapshot") snapshot
 GiveEach options commands.Snapshots = Unit {0}
 GiveEach options (commands.Write user identifier) = GiveName options (codes "user") user

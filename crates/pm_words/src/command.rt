@@ -31,6 +31,12 @@ pub enum Command {
     Compact {
         full: bool,
     },
+    /// To print how its snapshots change it, from this one on, which is at least 1, or from the one after the newest;
+    /// and where it is asked for in full, before that the table that is passed on at the one below.
+    Follow {
+        from: Option<u64>,
+        full: bool,
+    },
 }
 
 /// The command that the words give, if they give one.
@@ -58,6 +64,7 @@ fn command_of(
     match word {
         "compact" => Ok(compact_of(options)),
         "create" => Ok(create_of(options)),
+        "follow" => Ok(follow_of(options)),
         "scan" => Ok(scan_of(options)),
         "snapshots" => Ok(snapshots_of(options)),
         "write" => write_of(alloc, options),
@@ -85,6 +92,21 @@ fn create_of(options: &[CommandOption]) -> Option<Command>
     } else {
         None
     }
+}
+
+/// The command `follow` with these options.
+fn follow_of(options: &[CommandOption]) -> Option<Command>
+    ensures { Finds (AreOfCommand (codes "follow") options.now) result }
+{
+    if !are_of(options, ["from", "full"].as_slice()) {
+        return None;
+    }
+    let from = number_given(options, "from")?;
+    if let Some(0) = from {
+        return None;
+    }
+    let full = flag_given(options, "full")?;
+    Some(Command::Follow { from, full })
 }
 
 /// The command `scan` with these options.

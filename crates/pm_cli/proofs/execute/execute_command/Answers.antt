@@ -71,6 +71,15 @@ returns-in-Compact-clause-history g c =
     (outside (g.S.Source.seen c.args.input.now) (g.W.Sink.seen c.run_compact.new.out) (g.F.FileStore.seen c.run_compact.new.store))
     (result_err c.run_compact.result) c.run_compact.ensures.compacted)
 
+pub returns-in-Follow-clause-command : goal.returns-in-Follow-clause-command
+returns-in-Follow-clause-command g c = rw c.in-Follow.is (refl, c.run_follow.ensures.followed)
+
+pub returns-in-Follow-clause-acts : goal.returns-in-Follow-clause-acts
+returns-in-Follow-clause-acts g c = rw c.in-Follow.is c.run_follow.ensures.followed
+
+pub returns-in-Follow-clause-history : goal.returns-in-Follow-clause-history
+returns-in-Follow-clause-history g c = rw c.in-Follow.is c.run_follow.ensures.history
+
 pub returns-in-Write-clause-command : goal.returns-in-Write-clause-command
 returns-in-Write-clause-command g c = rw c.in-Write.is c.run_write.ensures.command
 

@@ -10,14 +10,16 @@ abbrev KeepsAs : Command → Type 0
 KeepsAs command = (e : Execution) → IsExecuted (with_command command e) → Keeps (with_command command e)
 
 each : KeepsAs commands.Create → ((at : Option ℕ) → KeepsAs (commands.Scan at)) → KeepsAs commands.Snapshots
-    → ((full : Bool) → KeepsAs (commands.Compact full)) → ((user : Option (List ℕ)) (number : Option ℕ) → KeepsAs (commands.Write user number)) → (command : Command) → KeepsAs command
-each create scan snapshots compact write commands.Create = create
-each create scan snapshots compact write (commands.Scan at) = scan at
-each create scan snapshots compact write commands.Snapshots = snapshots
-each create scan snapshots compact write (commands.Compact full) = compact full
-each create scan snapshots compact write (commands.Write user number) = write user number
+    → ((full : Bool) → KeepsAs (commands.Compact full)) → ((from : Option ℕ) (full : Bool) → KeepsAs (commands.Follow from full))
+    → ((user : Option (List ℕ)) (number : Option ℕ) → KeepsAs (commands.Write user number)) → (command : Command) → KeepsAs command
+each create scan snapshots compact follow write commands.Create = create
+each create scan snapshots compact follow write (commands.Scan at) = scan at
+each create scan snapshots compact follow write commands.Snapshots = snapshots
+each create scan snapshots compact follow write (commands.Compact full) = compact full
+each create scan snapshots compact follow write (commands.Follow from full) = follow from full
+each create scan snapshots compact follow write (commands.Write user number) = write user number
 
 pub returns : goal.returns
 returns c = λ e is.
-    each c.keeps_create_law.ensures c.keeps_scan_law.ensures c.keeps_snapshots_law.ensures c.keeps_compact_law.ensures
+    each c.keeps_create_law.ensures c.keeps_scan_law.ensures c.keeps_snapshots_law.ensures c.keeps_compact_law.ensures c.keeps_follow_law.ensures
     c.keeps_write_law.ensures e.command e is

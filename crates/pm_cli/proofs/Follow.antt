@@ -1,0 +1,63 @@
+-- The promise of `follow`.
+use Rattle.std.proofs.Common.{◌≡◌, ℕ, suc, ◌≤◌, ◌⊎◌, Bool, false, List, length, Option, None, Some, inl, inr, ◌∙◌}
+use Rattle.pm_values.specs.declared.refusal.Refusal.{Refusal}
+use Rattle.pm_values.specs.declared.refusal.Refusal.TheVariants as refusals
+use Rattle.pm_schema.specs.declared.schema.TableSchema.{TableSchema}
+use Rattle.pm_store.specs.Files.{Files}
+use Rattle.pm_store.specs.Store.{StoreView, at_first_own}
+use Rattle.pm_model_history.specs.History.{Entry, History, no_table, table}
+use Rattle.pm_model_folder.specs.Folder.{Folder, HasTable}
+use Rattle.pm_words.specs.declared.command.Command.TheVariants as commands
+use Rattle.pm_command_follow.specs.Follow.{AnswersHistory, MayRefuse, Prints, PrintsPrefix, PrintsSome, StopsAfter, TellsChanges}
+use Rattle.pm_command_follow.specs.Printed.{LeadOn, count_from, follow_text, frames_text}
+use Rattle.pm_command.specs.declared.start.Start.{Start}
+use Rattle.pm_cli.specs.InTurn.{IsExecuted}
+use Rattle.pm_cli.specs.Promise.{Does, Execution, Keeps, HasMade, follows}
+use Rattle.pm_cli.proofs.Common.{makes_nothing, none_made, with_command}
+use Rattle.pm_cli.proofs.Resting.{SameStarts, resting}
+
+module _ (from : Option ℕ) (full : Bool) (e : Execution) where
+  abbrev it : Execution
+  it = with_command (commands.Follow from full) e
+
+  served : (h : History) (first : StoreView) → Prints h from full first e.before.out e.after.out → HasMade it h None h
+  served no_table first prints = absurd prints
+  served (table s es) first prints = (follow_text s es from full, follows from full s es prints.starts, prints.taken)
+
+  in_part : (h : History) (snapshot : Option ℕ) → snapshot ≡ None → PrintsPrefix h from full e.before.out e.after.out
+      → HasMade it h (Some (refusals.SinkFault snapshot)) h
+  in_part no_table snapshot none prints = absurd prints
+  in_part (table s es) snapshot none (may, took) = (follow_text s es from full, follows from full s es may, took, none ∙ none_made (table s es))
+
+  -- before a refusal nothing was printed, or the first pieces were
+  printed : (h : History) (first : StoreView) (refusal : Refusal)
+      → (MayRefuse h from full first e.after.store refusal × (e.after.out ≡ e.before.out)) ⊎ StopsAfter h from full first e.after.store e.before.out e.after.out refusal
+      → PrintsSome h from full e.before.out e.after.out
+  printed no_table first refusal (inl (may, same)) = same
+  printed no_table first refusal (inr stops) = absurd stops
+  printed (table s es) first refusal (inl (may, same)) = inl same
+  printed (table s es) first refusal (inr (count, took, may)) = inr (count, took)
+
+  makes : (h : History) (first : StoreView) (answer : Option Refusal) → AnswersHistory h from full first e.after.store e.before.out e.after.out answer
+      → HasMade it h answer h
+  makes h first None prints = served h first prints
+  makes h first (Some (refusals.SinkFault snapshot)) (none, failed, prints) = in_part h snapshot none prints
+  makes h first (Some refusal) why = makes_nothing it h refusal tt (printed h first refusal why)
+
+pub keeps : SameStarts → (from : Option ℕ) (full : Bool) (e : Execution) → IsExecuted (with_command (commands.Follow from full) e)
+    → Keeps (with_command (commands.Follow from full) e)
+keeps law from full e is = λ alone h stands input.
+    let first = at_first_own e.before.store e.after.store in
+    let was = is.history alone h stands in
+    resting law (with_command (commands.Follow from full) e) h first (makes from full e h first e.refusal was.answers) was.rests was.images
+
+-- ---- what was printed, replayed
+
+abbrev pub ReplayLaw : Type 0
+ReplayLaw = (f : Files) (s : TableSchema) (es : List Entry) (start last : ℕ) → HasTable f s es → TellsChanges s → 1 ≤ start → start ≤ suc last
+    → LeadOn s es start last (frames_text s es start (count_from start last))
+
+pub replayed : ReplayLaw → (start : Start) (bytes : List ℕ) (found : StoreView) (from : ℕ) (s : TableSchema) (es : List Entry) (later : History) (text : List ℕ)
+    (f : Files) → 1 ≤ from → Folder f (table s es) → Does start bytes found (commands.Follow (Some from) false) (table s es) later text
+    → LeadOn s es from (length es) text
+replayed law start bytes found from s es later text f low folder (follows at full t entries (tells, high)) = law f s es from (length es) folder tells low high
