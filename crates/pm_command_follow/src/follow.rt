@@ -1,6 +1,6 @@
 //! The command `follow`, from its schema to its last frame.
 
-ghost use Rattle.std.specs.Prelude.{ℕ, ◌≡◌, ◌≤◌, ◌<◌, Bool, List, Option, None, Some, suc, IfErr, IfOk, IfSome};
+ghost use Rattle.std.specs.Prelude.{ℕ, ◌≡◌, ◌≤◌, ◌<◌, Bool, List, Option, None, Some, suc, true, IfErr, IfOk, IfSome};
 ghost use Rattle.std.specs.Result.{result_err};
 ghost use Rattle.pm_io.specs.Sink.{SinkLater, SinkView};
 ghost use Rattle.pm_machine.specs.Trace.{HasTrace};
@@ -114,8 +114,28 @@ fn follow_from<W: Sink, F: FileStore>(
     ensures store_later { IsLater (F.seen store.old) (F.seen store.new) }
 {
     if full {
-        print_table(alloc, schema, start, out, store)?;
+        return follow_with_table(alloc, schema, start, out, store);
     }
+    follow_on(alloc, schema, start, out, store)
+}
+
+/// Prints the starting table, and goes on.
+fn follow_with_table<W: Sink, F: FileStore>(
+    alloc: Global,
+    schema: &TableSchema,
+    start: u64,
+    out: &mut W,
+    store: &mut F,
+) -> Result<(), Refusal>
+    requires declared { IsDeclared schema.now }
+    requires start { 1 ≤ start }
+    ensures followed { (from : Option ℕ) (first : StoreView)
+        → HasTrace (Starts schema.now from start) first (F.seen store.old)
+        → IsFollowed from true (W.seen out.old) (W.seen out.new) first (F.seen store.new) (result_err result) }
+    ensures out_later { SinkLater (W.seen out.old) (W.seen out.new) }
+    ensures store_later { IsLater (F.seen store.old) (F.seen store.new) }
+{
+    print_table(alloc, schema, start, out, store)?;
     follow_on(alloc, schema, start, out, store)
 }
 

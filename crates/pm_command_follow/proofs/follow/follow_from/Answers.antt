@@ -1,0 +1,11 @@
+use Rattle.std.proofs.Common.{false}
+use Rattle.pm_command_follow.proofs.PieceLemmas.{opened_without}
+use Rattle.pm_command_follow.proofs.follow.follow_from.Goals as goal
+
+pub returns-then-full-clause-followed : goal.returns-then-full-clause-followed
+returns-then-full-clause-followed g c = λ from first starts. rw c.if-full.true (c.follow_with_table.ensures.followed from first starts)
+
+pub returns-clause-followed : goal.returns-clause-followed
+returns-clause-followed g c = λ from first starts.
+    let open_ = opened_without c.args.schema.now from c.args.start (g.W.Sink.seen c.args.out.now) first (g.F.FileStore.seen c.args.store.now) starts in
+    rw c.if-full.false (c.follow_on.ensures.followed from false open_.text (g.W.Sink.seen c.args.out.now) first open_.opens open_.took)
