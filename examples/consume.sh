@@ -10,7 +10,7 @@ folder=$1
 next=$2
 shift 2
 from=1
-[ ! -e "$next" ] || read -r from <"$next"
+[ ! -e "$next" ] || read -r from <"$next" || [ -n "$from" ]
 "${PAIMON:-./paimon}" "$folder" follow --from "$from" >"$next.frames"
 last=$(sed -n 's/^{"snapshot":\([0-9]*\)}$/\1/p' "$next.frames" | tail -n 1)
 [ -n "$last" ] || exit 0
