@@ -1,6 +1,6 @@
 -- The rows that a file has fit its table's columns, have their own keys, and a number and a kind that may stand there.
-use Rattle.std.proofs.Common.{◌≡◌, ℕ, ◌≤◌, ℤ, pos, negsuc, ◌≤ℤ◌, int_le, nat_le, List, [], ◌∷◌, map, Bool, true, false, ◌&&◌, Option, None, Some, Result, Ok, Err, refl, sym, subst, arith}
-use Rattle.std.specs.Prelude.{IsTrue, is_some, codes, drop, if◌then◌else◌}
+use Rattle.std.proofs.Common.{◌≡◌, ℕ, ◌≤◌, ℤ, pos, negsuc, ◌≤ℤ◌, int_le, min, nat_le, List, [], ◌∷◌, map, Bool, true, false, ◌&&◌, Option, None, Some, Result, Ok, Err, refl, sym, subst, arith}
+use Rattle.std.specs.Prelude.{IsTrue, is_some, codes, drop, if◌then◌else◌, option_map}
 use Rattle.std.specs.List.{AllByRecursion}
 use Rattle.std.specs.Str.{bytes_eq}
 use Rattle.std.proofs.lemmas.Bool.{and_parts, leb-true}
@@ -44,7 +44,7 @@ use Rattle.pm_run.specs.Form.{Form, field_of, form_of, row_fields}
 use Rattle.pm_run.specs.Kinds.{slot_of, slots_of}
 use Rattle.pm_run.specs.Order.{following, may_follow}
 use Rattle.pm_run.specs.Row as rows
-use Rattle.pm_run.specs.Row.{IsOfFile, agreed, at_most, kind_in, may_stand, most_sequence, natural, number_in, optional_in, row_in, row_kind, row_of, scalar_in, sequence_in, stored_kind, unless_retracts, value_by, whole_in}
+use Rattle.pm_run.specs.Row.{IsOfFile, agreed, at_most, kind_in, may_stand, most_sequence, natural, nearest_sequence, number_in, optional_in, row_in, row_kind, row_of, scalar_in, sequence_in, stored_kind, unless_retracts, value_by, whole_in}
 use Rattle.pm_run.specs.Rows.{AreBytes, Blocks, Follow, HasRows, Judged, LeadTo, all_placed, judged, next_row, opened_with, placed, then_judged}
 use Rattle.pm_run.specs.Taking.{first_read, found}
 use Rattle.pm_run.specs.Writing.{HaveRows}
@@ -206,9 +206,20 @@ at_most_within most m n e = by_test (nat_le m most) refl e
     by_test true is e = let same : m ≡ n = cc in subst (λ (k : ℕ). k ≤ most) same (leb-true m most is)
     by_test false is e = cc
 
-number_within : (d : Data) (n : ℕ) → sequence_in d ≡ Ok n → n ≤ most_sequence
-number_within d n e =
-    let p = some_step (options.◌>>=◌ (long_in d) natural) (at_most most_sequence) n (found_some (number_in d) n e) in
+nearest_within : (most n : ℕ) → min n most ≤ most
+nearest_within most n = omega arith
+
+number_within : (changes : Bool) (d : Data) (n : ℕ) → sequence_in changes d ≡ Ok n → n ≤ most_sequence
+number_within true d n e = by_long (long_in d) (found_some (number_in true d) n e)
+  where
+    by_long : (number : Option ℤ) → option_map nearest_sequence number ≡ Some n → n ≤ most_sequence
+    by_long (Some (pos m)) e =
+        let same : min m most_sequence ≡ n = cc in
+        subst (λ (k : ℕ). k ≤ most_sequence) same (nearest_within most_sequence m)
+    by_long (Some (negsuc m)) e = let same : 0 ≡ n = cc in subst (λ (k : ℕ). k ≤ most_sequence) same (nearest_within most_sequence 0)
+    by_long None e = cc
+number_within false d n e =
+    let p = some_step (options.◌>>=◌ (long_in d) natural) (at_most most_sequence) n (found_some (number_in false d) n e) in
     at_most_within most_sequence p.0 n p.2
 
 unless_kept : (kind kept got : Kind) → unless_retracts kind kept ≡ Ok got → (kept ≡ got) × (retracts kind ≡ false)
@@ -264,15 +275,15 @@ module _ (s : TableSchema) (changes : Bool) where
   row_of_file t keys ds x e w =
       let f = form_of s in
       let columns = slots_of t (map field_of s.columns) in
-      let seq = step_ok (first_read sequence_in ds) (after_sequence f changes columns keys) x e in
-      let first = first_of sequence_in ds seq.0 seq.1 w in
+      let seq = step_ok (first_read (sequence_in changes) ds) (after_sequence f changes columns keys) x e in
+      let first = first_of (sequence_in changes) ds seq.0 seq.1 w in
       let kind = step_ok (first_read kind_in seq.0.1) (after_kind f changes columns keys seq.0.0) x seq.2 in
       let second = first_of kind_in seq.0.1 kind.0 kind.1 first.later in
       let row = step_ok (rows.values_in columns kind.0.1) (after_row f changes keys seq.0.0 kind.0.0) x kind.2 in
       let key = step_ok (rows.values_in keys row.0.1) (after_keys f changes seq.0.0 kind.0.0 row.0.0) x row.2 in
       let own = step_ok (agreed f.places row.0.0 key.0.0) (after_own f changes seq.0.0 kind.0.0 row.0.0) x key.2 in
       let kept = step_ok (row_kind changes f.engine kind.0.0) (made f seq.0.0 row.0.0) x own.2 in
-      made_of_file seq.0.0 kind.0.0 kept.0 row.0.0 x (values_fit t s.columns kind.0.1 row.0 row.1 second.later) (number_within first.datum seq.0.0 first.read) kept.1 kept.2
+      made_of_file seq.0.0 kind.0.0 kept.0 row.0.0 x (values_fit t s.columns kind.0.1 row.0 row.1 second.later) (number_within changes first.datum seq.0.0 first.read) kept.1 kept.2
 
   -- a row that a datum is
   row_in_file : (t : Avro) (d : Data) (x : Stamped) → row_in (form_of s) changes t d ≡ Ok x → IsWithin d → IsOfFile s changes x

@@ -1,6 +1,6 @@
 -- Which row a record is, and how a row is written.
-use Rattle.std.specs.Prelude.{◌≡◌, ℕ, ◌-◌, ◌^◌, ◌≤◌, ℤ, pos, negsuc, int_le, nat_le, List, [], ◌∷◌, ◌++◌, codes}
-use Rattle.std.specs.Prelude.{Bool, true, false, ◌&&◌, if◌then◌else◌, Option, Some, None, Result, Ok, Err}
+use Rattle.std.specs.Prelude.{◌≡◌, ℕ, ◌-◌, ◌^◌, ◌≤◌, ℤ, pos, negsuc, int_le, min, nat_le, List, [], ◌∷◌, ◌++◌, codes}
+use Rattle.std.specs.Prelude.{Bool, true, false, ◌&&◌, if◌then◌else◌, Option, Some, None, option_map, Result, Ok, Err}
 use Rattle.std.specs.Ordering.{is_eq}
 use Rattle.pm_base.specs.Outcome.{◌>>=◌}
 use Rattle.pm_base.specs.Steps as options
@@ -51,13 +51,20 @@ natural z = None
 abbrev pub at_most : ℕ → ℕ → Option ℕ
 at_most most n = if nat_le n most then Some n else None
 
--- the sequence number that a datum is, if it is one
-abbrev pub number_in : Data → Option ℕ
-number_in d = options.◌>>=◌ (options.◌>>=◌ (long_in d) natural) (at_most most_sequence)
+-- the sequence number that is nearest to a number: 0 to one below it
+abbrev pub nearest_sequence : ℤ → ℕ
+nearest_sequence (pos n) = min n most_sequence
+nearest_sequence z = 0
 
--- the sequence number that a datum is
-abbrev pub sequence_in : Data → Result ℕ Misfit
-sequence_in d = found (number_in d)
+-- The number that a row of a changelog file or of a data file has by a datum, if it is one. In a changelog file it
+-- means nothing: each long is one, and is read as the nearest sequence number, which it is itself where it is one.
+abbrev pub number_in : Bool → Data → Option ℕ
+number_in true d = option_map nearest_sequence (long_in d)
+number_in false d = options.◌>>=◌ (options.◌>>=◌ (long_in d) natural) (at_most most_sequence)
+
+-- the number of a row that a datum is
+abbrev pub sequence_in : Bool → Data → Result ℕ Misfit
+sequence_in changes d = found (number_in changes d)
 
 -- the kind that a datum is the number of, if it is one
 abbrev pub code_in : Data → Option Kind
@@ -146,7 +153,7 @@ agreed places row values = if agree places row values then Ok values else Err Ba
 -- that the file may have.
 abbrev pub row_of : Form → Bool → List Slot → List Slot → List Data → Result Stamped Misfit
 row_of f changes columns keys ds = do
-  seq ← first_read sequence_in ds
+  seq ← first_read (sequence_in changes) ds
   kind ← first_read kind_in seq.1
   row ← values_in columns kind.1
   key ← values_in keys row.1

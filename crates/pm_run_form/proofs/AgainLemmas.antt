@@ -148,7 +148,7 @@ module _ (f : Form) (x : Stamped) (writable : IsWritable f x) where
     row_back changes fit key_fit numbered kept own =
         rw (
           selected_is,
-          sequence_back x.seq numbered,
+          sequence_back changes x.seq numbered,
           kind_back x.kind,
           values_back (run_type f) f.columns x.row key_data typed_columns fit,
           key_back,

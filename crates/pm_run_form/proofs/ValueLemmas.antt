@@ -1,5 +1,5 @@
 -- Values that are written of a row are read as the same.
-use Rattle.std.proofs.Common.{◌≡◌, ℕ, suc, ◌+◌, ◌≤◌, ℤ, pos, negsuc, ◌≤ℤ◌, int_le, Bool, true, false, T, List, [], ◌∷◌, ◌++◌, map, Some, Ok, refl, sym, ap, subst, arith}
+use Rattle.std.proofs.Common.{◌≡◌, ℕ, suc, ◌+◌, ◌≤◌, ℤ, pos, negsuc, ◌≤ℤ◌, int_le, min, Bool, true, false, T, List, [], ◌∷◌, ◌++◌, map, Some, Ok, refl, sym, ap, subst, arith}
 use Rattle.std.specs.Prelude.{if◌then◌else◌}
 use Rattle.std.specs.Cmp.{tied_itself}
 use Rattle.std.specs.List.{AllByRecursion, position_or_len}
@@ -223,8 +223,12 @@ agree_own (i ∷ places) row = rw (ap is_eq (tied_itself value_total (value_at r
 
 -- ---- the number and the kind
 
-pub sequence_back : (n : ℕ) → n ≤ most_sequence → sequence_in (long (pos n)) ≡ Ok n
-sequence_back n le = rw (le-leb n most_sequence le) refl
+nearest_back : (most n : ℕ) → n ≤ most → min n most ≡ n
+nearest_back most n le = omega (arith, le)
+
+pub sequence_back : (changes : Bool) (n : ℕ) → n ≤ most_sequence → sequence_in changes (long (pos n)) ≡ Ok n
+sequence_back true n le = rw (nearest_back most_sequence n le) refl
+sequence_back false n le = rw (le-leb n most_sequence le) refl
 
 pub kind_back : (kind : Kind) → kind_in (int (pos (code_of kind))) ≡ Ok kind
 kind_back Insert = refl

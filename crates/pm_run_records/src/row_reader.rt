@@ -13,8 +13,8 @@ ghost use Rattle.pm_run.specs.Form.{row_fields};
 ghost use Rattle.pm_run.specs.Order.{last_key};
 ghost use Rattle.pm_rows.specs.RowText.{kind_text};
 ghost use Rattle.pm_run_records.specs.RowReader.{reader_in};
-ghost use Rattle.pm_run.specs.Row.{code_in, kind_in, number_in, row_in, row_kind, row_of, sequence_in};
-ghost use Rattle.pm_run.specs.Row.{unless_retracts, value_in, values_in};
+ghost use Rattle.pm_run.specs.Row.{code_in, kind_in, nearest_sequence, number_in, row_in, row_kind, row_of};
+ghost use Rattle.pm_run.specs.Row.{sequence_in, unless_retracts, value_in, values_in};
 ghost use Rattle.pm_run.specs.Rows.{Opened, judged, placed, row_after};
 ghost use Rattle.pm_run.specs.Taking.{Takes, first_read};
 
@@ -150,7 +150,7 @@ impl RowReader {
             (row_of self.now.form self.now.changes self.now.columns self.now.keys (map view values.items)) }
     {
         let mut left = values.into_iter();
-        let seq = read_sequence(&mut left)?;
+        let seq = read_sequence(self.changes, &mut left)?;
         let kind = read_kind(&mut left)?;
         let row = read_values(alloc, self.columns.as_slice(), &mut left)?;
         let keys = read_values(alloc, self.keys.as_slice(), &mut left)?;
@@ -200,26 +200,40 @@ fn refusal_of(
     }
 }
 
-/// The sequence number that the next datum is.
-fn read_sequence(left: &mut IntoIter<Datum, Global>) -> Result<u64, Misfit>
+/// The number of a row that the next datum is.
+fn read_sequence(changes: bool, left: &mut IntoIter<Datum, Global>) -> Result<u64, Misfit>
     ensures { Takes (λ n. n) (map view (into_iter_items left.new)) result
-        (first_read sequence_in (map view (into_iter_items left.old))) }
+        (first_read (sequence_in changes) (map view (into_iter_items left.old))) }
 {
     match left.next() {
-        Some(datum) => sequence_of(&datum).ok_or(Misfit::Bad),
+        Some(datum) => sequence_of(changes, &datum).ok_or(Misfit::Bad),
         None => Err(Misfit::Bad),
     }
 }
 
-/// The sequence number that a datum is.
-fn sequence_of(datum: &Datum) -> Option<u64>
-    ensures { result ≡ number_in (view datum.now) }
+/// The number of a row that a datum is; in a changelog file each long is one.
+fn sequence_of(changes: bool, datum: &Datum) -> Option<u64>
+    ensures { result ≡ number_in changes (view datum.now) }
 {
-    let number = u64::try_from(read_long(datum)?).ok()?;
+    let number = read_long(datum)?;
+    if changes {
+        return Some(nearest_sequence(number));
+    }
+    let number = u64::try_from(number).ok()?;
     if number <= MOST_SEQUENCE {
         Some(number)
     } else {
         None
+    }
+}
+
+/// The sequence number that is nearest to a number.
+fn nearest_sequence(number: i64) -> u64
+    ensures { result ≡ nearest_sequence number }
+{
+    match u64::try_from(number) {
+        Ok(number) => number.min(MOST_SEQUENCE),
+        Err(_) => 0,
     }
 }
 
