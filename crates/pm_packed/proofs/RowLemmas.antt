@@ -1,5 +1,5 @@
 -- Rows at places, while bytes are added and places sorted.
-use Rattle.std.proofs.Common.{◌≡◌, ℕ, zero, suc, ◌+◌, ◌<◌, ◌≤◌, List, [], ◌∷◌, ◌++◌, drop, take, length, map, get_or, Bool, true, false, cond, not, ◌&&◌, refl, sym, ap, subst, ◌∙◌, append_assoc, arith}
+use Rattle.std.proofs.Common.{◌≡◌, ℕ, zero, suc, ◌+◌, ◌<◌, ◌≤◌, List, [], ◌∷◌, ◌++◌, drop, take, length, map, max, get_or, Bool, true, false, cond, not, ◌&&◌, refl, sym, ap, subst, ◌∙◌, append_assoc, arith}
 use Rattle.std.specs.List.{AllByRecursion, filter, slice_set}
 use Rattle.std.specs.List.Sorted.{IsPermutation, IsSortedByKey, IsStableByKey, ties}
 use Rattle.std.specs.Ordering.{is_lt, ordering_reverse}
@@ -13,6 +13,7 @@ use Rattle.std.specs.Result.{OnErr, OnOk}
 use Rattle.std.specs.declared.result.Result.{Result}
 use Rattle.std.specs.declared.result.Result.TheVariants.{Ok, Err}
 use Rattle.pm_base.proofs.Laws.{AllByRecursion-append}
+use Rattle.pm_row_slots.specs.Slot.{raised}
 use Rattle.pm_packed.specs.Rows.{Grows}
 use Rattle.pm_values.specs.Order.{Values, key_cmp, key_total}
 use Rattle.pm_values.proofs.Lemmas.{key_cmp-ties}
@@ -226,6 +227,26 @@ pub rows-copied : (bytes : List ℕ) (places : List Place) (i j : ℕ) (d : Plac
 rows-copied bytes places i j d none inside =
     map-set (row_at bytes) places i (get_or places j d)
     ∙ ap (slice_set (rows_at bytes places) i) (sym (get_or-map (row_at bytes) places j d none inside))
+
+-- ---- a row with a greater number
+
+seq_at : (bytes : List ℕ) (p : Place) → (row_at bytes p).seq ≡ p.head.seq
+seq_at bytes p = elim p.head.begins as (λ b. (by p.head (drop p.start bytes) b).seq ≡ p.head.seq) [ true ↦ refl | false ↦ refl ]
+
+-- a place whose row is that of another, with a greater number or its own
+abbrev pub IsRaisedTo : ℕ → Place → Place → Type 0
+IsRaisedTo n p q = (bytes : List ℕ) → row_at bytes q ≡ raised n (row_at bytes p)
+
+pub rows-raised : (bytes : List ℕ) (places : List Place) (i n : ℕ) (p q : Place) (none : Stamped) → i < length places → p ≡ get_or places i p → IsRaisedTo n p q
+    → rows_at bytes (slice_set places i q) ≡ slice_set (rows_at bytes places) i (raised n (get_or (rows_at bytes places) i none))
+rows-raised bytes places i n p q none inside lies_at up =
+    map-set (row_at bytes) places i q
+    ∙ ap (slice_set (rows_at bytes places) i) (up bytes ∙ ap (λ (r : Place). raised n (row_at bytes r)) lies_at ∙ ap (raised n) (sym (get_or-map (row_at bytes) places i p none inside)))
+
+pub number-at : (bytes : List ℕ) (places : List Place) (j : ℕ) (p : Place) (none : Stamped) → j < length places → p ≡ get_or places j p
+    → p.head.seq ≡ (get_or (rows_at bytes places) j none).seq
+number-at bytes places j p none inside lies_at =
+    sym (seq_at bytes p) ∙ ap (λ (r : Place). (row_at bytes r).seq) lies_at ∙ ap (λ (s : Stamped). s.seq) (sym (get_or-map (row_at bytes) places j p none inside))
 
 -- ---- a front and what stands after it
 

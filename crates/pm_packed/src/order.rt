@@ -4,11 +4,24 @@ ghost use Rattle.std.specs.Prelude.{◌≡◌};
 ghost use Rattle.pm_values.specs.Order.{key_cmp, rank, value_cmp};
 ghost use Rattle.pm_packed.specs.Values.{raw_value, values_in};
 
-use crate::raw::{Raw, take_raw};
+use crate::raw::{Raw, first_integer, take_raw};
 use std::cmp::Ordering;
 
-/// How the first values of bytes compare as keys, so many of each.
+/// How the first values of bytes compare as keys, so many of each. Keys of one integer each are compared at once.
+#[inline(always)]
 pub(crate) fn order_of(a_count: u8, a: &[u8], b_count: u8, b: &[u8]) -> Ordering
+    ensures { result ≡ key_cmp (values_in a_count a.now).0 (values_in b_count b.now).0 }
+{
+    if a_count == 1 && b_count == 1 {
+        if let (Some(first), Some(second)) = (first_integer(a), first_integer(b)) {
+            return first.cmp(&second);
+        }
+    }
+    order_of_many(a_count, a, b_count, b)
+}
+
+/// How the first values of bytes compare as keys, so many of each, one after another.
+fn order_of_many(a_count: u8, a: &[u8], b_count: u8, b: &[u8]) -> Ordering
     ensures { result ≡ key_cmp (values_in a_count a.now).0 (values_in b_count b.now).0 }
 {
     match (a_count.checked_sub(1), b_count.checked_sub(1)) {
@@ -16,7 +29,7 @@ pub(crate) fn order_of(a_count: u8, a: &[u8], b_count: u8, b: &[u8]) -> Ordering
             let (first, others) = take_raw(a);
             let (second, rest) = take_raw(b);
             match order_of_two(first, second) {
-                Ordering::Equal => order_of(a_count, others, b_count, rest),
+                Ordering::Equal => order_of_many(a_count, others, b_count, rest),
                 order => order,
             }
         }

@@ -2,6 +2,7 @@
 
 ghost use Rattle.std.specs.Prelude.{◌≡◌, IfSome};
 ghost use Rattle.pm_row_slots.specs.Seen.{seen_value};
+ghost use Rattle.pm_values.specs.declared.value.Value.TheVariants.{Int};
 ghost use Rattle.pm_packed.specs.Values.{content_in, day_in, raw_value, tagged, value_in, whole_in};
 
 use pm_row_slots::Seen;
@@ -26,6 +27,19 @@ pub(crate) fn take_raw(bytes: &[u8]) -> (Raw<'_>, &[u8])
         Some((tag, rest)) => take_tagged(*tag, rest),
         None => (Raw::Null, bytes),
     }
+}
+
+/// The first value of bytes where it is an integer.
+#[inline(always)]
+pub(crate) fn first_integer(bytes: &[u8]) -> Option<i64>
+    ensures { IfSome result (λ number. (value_in bytes.now).0 ≡ Int number) }
+{
+    let (tag, rest) = bytes.split_first()?;
+    if *tag != 3 {
+        return None;
+    }
+    let (number, _) = take_whole(rest);
+    Some(number)
 }
 
 /// The value with the tag, and the rest.

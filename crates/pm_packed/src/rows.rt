@@ -1,11 +1,14 @@
 //! Many packed rows.
 
-ghost use Rattle.std.specs.Prelude.{◌≡◌, ◌<◌, ◌≤◌, ◌∷◌, [], ◌++◌, length, take, drop, get_or, IfOk, IsTrue, OnErr, OnOk};
+ghost use Rattle.std.specs.Prelude.{◌≡◌, ◌<◌, ◌≤◌, ℕ, List, ◌∷◌, [], ◌++◌, length, take, drop, get_or};
+ghost use Rattle.std.specs.Prelude.{IfOk, IsTrue, OnErr, OnOk};
 ghost use Rattle.std.specs.List.{slice_set};
 ghost use Rattle.std.specs.List.Sorted.{IsPermutation, IsSortedByKey, IsStableByKey};
+ghost use Rattle.std.specs.Ordering.{eq_by_cmp};
 ghost use Rattle.pm_values.specs.Order.{key_cmp};
 ghost use Rattle.pm_values.specs.declared.record.Stamped.{Stamped as StampedView};
 ghost use Rattle.pm_row_slots.specs.Seen.{seen_row};
+ghost use Rattle.pm_row_slots.specs.Slot.{raised};
 ghost use Rattle.pm_packed.specs.Rows.{row_at, Grows, LiesAt};
 
 use crate::head::{Head, pack};
@@ -112,6 +115,28 @@ impl PackedRows {
         Ok(())
     }
 
+    /// Whether two rows have one key.
+    pub fn have_one_key(&self, first: usize, second: usize) -> bool
+        requires first { first < length self.now }
+        requires second { second < length self.now }
+        ensures { (none : StampedView) → result
+            ≡ eq_by_cmp key_cmp (get_or self.now first none).key (get_or self.now second none).key }
+    {
+        order_at(&self.bytes, &self.places[first], &self.places[second]) == Ordering::Equal
+    }
+
+    /// Gives a row the number of another one, where this is greater than its own.
+    pub fn raise(&mut self, index: usize, other: usize)
+        requires index { index < length self.old }
+        requires other { other < length self.old }
+        ensures { (none : StampedView) → self.new
+            ≡ slice_set self.old index (raised (get_or self.old other none).seq (get_or self.old index none)) }
+    {
+        let number = self.places[other].head.seq;
+        let place = self.places[index];
+        self.places[index] = raised_place(place, number);
+    }
+
     /// Puts a row in the place of an earlier one, and leaves it in its own.
     pub fn copy_back(&mut self, from: usize, to: usize)
         requires within { from < length self.old }
@@ -176,6 +201,23 @@ impl PackedRows {
         let own = if head.begins { bytes } else { rest };
         let _ = see_values(head.row_count, own, &mut row.row)?;
         Ok(())
+    }
+}
+
+/// The place with the number, where this is greater than its own.
+fn raised_place(place: Place, number: u32) -> Place
+    ensures { (bytes : List ℕ) → row_at bytes result ≡ raised number (row_at bytes place) }
+{
+    let Place { start, head } = place;
+    Place {
+        start,
+        head: Head {
+            seq: head.seq.max(number),
+            kind: head.kind,
+            key_count: head.key_count,
+            row_count: head.row_count,
+            begins: head.begins,
+        },
     }
 }
 

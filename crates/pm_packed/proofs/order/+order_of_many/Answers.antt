@@ -5,7 +5,7 @@ use Rattle.std.specs.declared.cmp.Ordering.TheVariants.{Equal}
 use Rattle.pm_values.specs.Order.{key_cmp, value_cmp}
 use Rattle.pm_packed.specs.Values.{raw_value, values_in}
 use Rattle.pm_packed.proofs.ValueLemmas.{order_first, other_first}
-use Rattle.pm_packed.proofs.order.+order_of.Goals as goal
+use Rattle.pm_packed.proofs.order.+order_of_many.Goals as goal
 
 pub returns-in-Equal : goal.returns-in-Equal
 returns-in-Equal t c =
@@ -18,7 +18,7 @@ returns-in-Equal t c =
     let one : c.in-Some-Some.a_count + 1 ≡ c.args.a_count = omega (arith, fewer.0, fewer.1) in
     let another : c.in-Some-Some.b_count + 1 ≡ c.args.b_count = omega (arith, fewer'.0, fewer'.1) in
     let same : Equal ≡ value_cmp v w = sym c.in-Equal.is ∙ c.order_of_two.ensures in
-    c.order_of.ensures
+    c.order_of_many.ensures
     ∙ ap (λ (o : Ordering). ordering_then o (key_cmp (values_in c.in-Some-Some.a_count others).0 (values_in c.in-Some-Some.b_count rest).0)) same
     ∙ sym (order_first c.in-Some-Some.a_count c.args.a_count c.in-Some-Some.b_count c.args.b_count c.args.a.now c.args.b.now others rest v w one another c.take_raw.ensures c.take_raw-in-Some-Some.ensures)
 
