@@ -85,6 +85,10 @@ impl MergeEngine for Aggregation {
         Needed::Both
     }
 
+    fn stores_rows(&self) -> bool {
+        false
+    }
+
     fn shows(&self, _stored: &Stored) -> bool {
         true
     }

@@ -53,6 +53,10 @@ impl MergeEngine for Deduplicate {
         Needed::Newer
     }
 
+    fn stores_rows(&self) -> bool {
+        true
+    }
+
     fn shows(&self, stored: &Stored) -> bool {
         !stored.kind.retracts()
     }

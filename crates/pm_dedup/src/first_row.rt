@@ -58,6 +58,10 @@ impl MergeEngine for FirstRow {
         Needed::Older
     }
 
+    fn stores_rows(&self) -> bool {
+        true
+    }
+
     fn shows(&self, _stored: &Stored) -> bool {
         true
     }

@@ -5,6 +5,7 @@ use Rattle.std.specs.Ordering.{eq_by_cmp}
 use Rattle.pm_values.specs.Order.{Values, key_cmp}
 use Rattle.pm_values.specs.declared.record.Stamped.{Stamped}
 use Rattle.pm_model_history.specs.Merge.{HistoryRow}
+use Rattle.pm_model_history.specs.declared.verdict.Verdict.TheVariants.{Take}
 use Rattle.pm_engine.specs.Covers.{IsKeyed, Run, of_key, row_of}
 use Rattle.pm_engine.specs.Meaning.{Meaning, SpeaksFor, stored_of}
 
@@ -31,12 +32,16 @@ abbrev pub AreStoredRows : Meaning → Run → List Stamped → Type 0
 AreStoredRows m run rows =
     AllByRecursion (λ (s : Stamped). row_of s ≡ stored_of m (map row_of (of_key s.key rows))) run
 
--- Private: a row became a stored row
+-- a row became a stored row
 pub record IsLifted (m : Meaning) (row stored : Stamped) : Type 0 where
   pub same_key : stored.key ≡ row.key
   pub number : stored.seq ≡ row.seq
   pub kind : stored.kind ≡ m.kind (row_of row ∷ [])
   pub speaks : IsKeyed m row → SpeaksFor m row.key (row_of stored) (row_of row ∷ [])
+
+-- each row of a kind that is taken is its own stored row
+abbrev pub StoresRows : Meaning → Type 0
+StoresRows m = (row : Stamped) → m.verdict row.kind ≡ Take → IsLifted m row row
 
 -- two stored rows of a key became one: it has the greater number, the kind of all rows of which both have the kinds,
 -- and it speaks for what both speak for

@@ -1,12 +1,13 @@
 //! The trait of a merge engine, with its four laws.
 
-ghost use Rattle.std.specs.Prelude.{◌≡◌, ◌≢◌, ◌∷◌, [], ◌++◌, List, IfOk};
+ghost use Rattle.std.specs.Prelude.{◌≡◌, ◌≢◌, ◌∷◌, [], ◌++◌, List, IfOk, IsTrue};
 ghost use Rattle.pm_values.specs.Fits.{Fits};
 ghost use Rattle.pm_values.specs.Order.{Values};
 ghost use Rattle.pm_model_history.specs.Merge.{HistoryRow, key_of};
 ghost use Rattle.pm_model_history.specs.declared.verdict.Verdict.TheVariants.{Take};
 ghost use Rattle.pm_engine.specs.Meaning.{Meaning, DropsNoEffect, SpeaksFor};
 ghost use Rattle.pm_engine.specs.Needed.{IsNeeded};
+ghost use Rattle.pm_engine.specs.Reducing.{StoresRows};
 ghost use Rattle.pm_engine.specs.Stored.{as_row};
 
 use crate::needed::Needed;
@@ -46,6 +47,10 @@ pub trait MergeEngine {
     /// is, but for its number.
     fn needed(&self) -> Needed
         ensures { IsNeeded (meaning self.now) result };
+
+    /// Whether each row is its own stored row, which `lift` gives unchanged.
+    fn stores_rows(&self) -> bool
+        ensures { IsTrue result → StoresRows (meaning self.now) };
 
     /// Whether the key of the stored row shows.
     fn shows(&self, stored: &Stored) -> bool

@@ -1,16 +1,20 @@
 //! Rows of a batch made into one run, where they lie packed: one at a time is taken out to be stored.
 
 ghost use Rattle.std.specs.Prelude.{◌≡◌, ◌↔◌, ◌+◌, ◌<◌, ◌≤◌, [], ◌∷◌, ◌++◌, drop, get_or, length, map, take};
-ghost use Rattle.std.specs.Prelude.{true, All, IfNone, IfOk, IfSome, OnOk};
+ghost use Rattle.std.specs.Prelude.{true, All, IfNone, IfOk, IfSome, OnOk, if◌then◌else◌};
 ghost use Rattle.std.specs.List.{FoldsTo};
 ghost use Rattle.std.specs.Ordering.{eq_by_cmp};
 ghost use Rattle.pm_values.specs.Order.{Values, key_cmp};
 ghost use Rattle.pm_values.specs.declared.record.Stamped.{Stamped as StampedView};
 ghost use Rattle.pm_model_history.specs.declared.verdict.Verdict.TheVariants.{Take};
 ghost use Rattle.pm_engine.specs.Covers.{CoversAll, IsKeyed, IsRising, of_key, row_of};
+ghost use Rattle.pm_engine.specs.Needed.{IsNeeded, raised};
 ghost use Rattle.pm_engine.specs.Reducing.{EndsApart, HasGreatestNumbers, HasKinds, IsLifted, IsCombined, Puts};
+ghost use Rattle.pm_engine.specs.Reducing.{StoresRows};
+ghost use Rattle.pm_engine.specs.declared.needed.Needed.TheVariants.{Newer, Older};
 
 use crate::engine::MergeEngine;
+use crate::needed::Needed;
 use crate::stored::Stored;
 use pm_packed::PackedRows;
 use pm_values::Stamped;
@@ -37,9 +41,105 @@ pub fn reduce<E: MergeEngine>(
     gathered(alloc, engine, rows)
 }
 
+/// The run of sorted rows.
+fn gathered<E: MergeEngine>(
+    alloc: Global,
+    engine: &E,
+    rows: PackedRows,
+) -> Result<PackedRows, AllocError>
+    requires { All (λ s. (E.meaning engine.now).verdict s.kind ≡ Take) rows }
+    ensures { IfOk result (λ run. FoldsTo (Puts (E.meaning engine.now)) [] rows run) }
+{
+    if engine.stores_rows() {
+        match engine.needed() {
+            Needed::Newer => return Ok(picked(engine, true, rows)),
+            Needed::Older => return Ok(picked(engine, false, rows)),
+            Needed::Both => {}
+        }
+    }
+    combined_rows(alloc, engine, rows)
+}
+
+/// The run of sorted rows where each is its own stored row, and the newer of two, or else the older one, is what both
+/// are combined to. It is made where they lie: its rows are the first ones, and none is taken out.
+fn picked<E: MergeEngine>(engine: &E, newer: bool, rows: PackedRows) -> PackedRows
+    requires taken { All (λ s. (E.meaning engine.now).verdict s.kind ≡ Take) rows }
+    requires own { StoresRows (E.meaning engine.now) }
+    requires needed { IsNeeded (E.meaning engine.now) (if newer then Newer else Older) }
+    ensures { FoldsTo (Puts (E.meaning engine.now)) [] rows result }
+{
+    let mut rows = rows;
+    if rows.len() == 0 {
+        return rows;
+    }
+    let mut last = 0;
+    for index in 1..rows.len() {
+        last = pick(engine, newer, &mut rows, last, index);
+    }
+    rows.truncate(last + 1);
+    rows
+}
+
+/// Takes the row at the index into the run, of which no key is above the row's: it is the rows up to the last one.
+/// Gives the index of the last one then.
+fn pick<E: MergeEngine>(
+    _engine: &E,
+    newer: bool,
+    rows: &mut PackedRows,
+    last: usize,
+    index: usize,
+) -> usize
+    requires before { last < index }
+    requires within { index < length rows.old }
+    requires taken { (none : StampedView) → (E.meaning _engine.now).verdict (get_or rows.old index none).kind ≡ Take }
+    requires own { StoresRows (E.meaning _engine.now) }
+    requires needed { IsNeeded (E.meaning _engine.now) (if newer then Newer else Older) }
+    ensures puts { (none : StampedView) → Puts (E.meaning _engine.now)
+        (take (last + 1) rows.old) (get_or rows.old index none) (take (result + 1) rows.new) }
+    ensures before { result ≤ index }
+    ensures later { drop (index + 1) rows.new ≡ drop (index + 1) rows.old }
+    ensures as_many { length rows.new ≡ length rows.old }
+{
+    if !rows.have_one_key(last, index) {
+        rows.copy_back(index, last + 1);
+        return last + 1;
+    }
+    if newer {
+        take_newer(rows, last, index);
+        return last;
+    }
+    take_older(rows, last, index);
+    last
+}
+
+/// Puts the newer row of two in the place of the older one, with the greater number.
+fn take_newer(rows: &mut PackedRows, older: usize, newer: usize)
+    requires before { older < newer }
+    requires within { newer < length rows.old }
+    ensures front { (none : StampedView) → take (older + 1) rows.new ≡ take older rows.old
+        ++ raised (get_or rows.old older none).seq (get_or rows.old newer none) ∷ [] }
+    ensures later { drop (newer + 1) rows.new ≡ drop (newer + 1) rows.old }
+    ensures as_many { length rows.new ≡ length rows.old }
+{
+    rows.raise(newer, older);
+    rows.copy_back(newer, older);
+}
+
+/// Gives the older row of two the greater number.
+fn take_older(rows: &mut PackedRows, older: usize, newer: usize)
+    requires before { older < newer }
+    requires within { newer < length rows.old }
+    ensures front { (none : StampedView) → take (older + 1) rows.new ≡ take older rows.old
+        ++ raised (get_or rows.old newer none).seq (get_or rows.old older none) ∷ [] }
+    ensures later { drop (newer + 1) rows.new ≡ drop (newer + 1) rows.old }
+    ensures as_many { length rows.new ≡ length rows.old }
+{
+    rows.raise(older, newer);
+}
+
 /// The run of sorted rows. It is made where they lie: its rows are the first ones, no more than were taken. The last
 /// one is in hand until another key comes, so that what is joined to it isn't packed each time.
-fn gathered<E: MergeEngine>(
+fn combined_rows<E: MergeEngine>(
     alloc: Global,
     engine: &E,
     rows: PackedRows,

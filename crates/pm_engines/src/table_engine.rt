@@ -116,6 +116,15 @@ impl MergeEngine for TableEngine {
         }
     }
 
+    fn stores_rows(&self) -> bool {
+        match self {
+            TableEngine::Deduplicate(engine) => engine.stores_rows(),
+            TableEngine::PartialUpdate(engine) => engine.stores_rows(),
+            TableEngine::Aggregation(engine) => engine.stores_rows(),
+            TableEngine::FirstRow(engine) => engine.stores_rows(),
+        }
+    }
+
     fn shows(&self, stored: &Stored) -> bool {
         match self {
             TableEngine::Deduplicate(engine) => engine.shows(stored),

@@ -87,6 +87,10 @@ impl MergeEngine for PartialUpdate {
         Needed::Both
     }
 
+    fn stores_rows(&self) -> bool {
+        false
+    }
+
     fn shows(&self, _stored: &Stored) -> bool {
         true
     }

@@ -1,27 +1,13 @@
 use Rattle.std.proofs.Common.{◌≡◌, ℕ, suc, ◌+◌, ◌<◌, List, [], ◌∷◌, ◌++◌, take, drop, length, get_or, ap, refl, sym, subst, ◌∙◌, arith}
 use Rattle.std.specs.List.{FoldsTo}
 use Rattle.std.proofs.Math.Seq.{take-suc}
-use Rattle.std.proofs.lemmas.List.{drop_more}
-use Rattle.pm_values.specs.declared.kind.Kind.TheVariants as kinds
 use Rattle.pm_values.specs.declared.record.Stamped.{Stamped}
 use Rattle.pm_model_history.specs.declared.verdict.Verdict.TheVariants.{Take}
 use Rattle.pm_engine.specs.Meaning.{Meaning}
 use Rattle.pm_engine.specs.Reducing.{IsLifted, Puts, begins}
+use Rattle.pm_engine.proofs.PickLemmas.{alike, blank}
 use Rattle.pm_engine.proofs.ReduceLemmas.{FoldsTo-push}
-use Rattle.pm_engine.proofs.reducing.gathered.Goals as goal
-
--- lists that are alike from an index on have the same row there, and are alike after it
-record AreAlike (xs ys : List Stamped) (i : ℕ) (none : Stamped) : Type 0 where
-  here : get_or xs i none ≡ get_or ys i none
-  later : drop (i + 1) xs ≡ drop (i + 1) ys
-
-alike : (xs ys : List Stamped) (i : ℕ) (none : Stamped) → i < length xs → i < length ys → drop i xs ≡ drop i ys → AreAlike xs ys i none
-alike xs ys i none in_xs in_ys same =
-    let both : get_or xs i none ∷ drop (i + 1) xs ≡ get_or ys i none ∷ drop (i + 1) ys = sym (drop_more xs i none in_xs) ∙ same ∙ drop_more ys i none in_ys in
-    record { here = ap (λ (zs : List Stamped). get_or zs 0 none) both; later = ap (drop 1) both }
-
-blank : Stamped
-blank = record { key = []; seq = 0; kind = kinds.Insert; row = [] }
+use Rattle.pm_engine.proofs.reducing.combined_rows.Goals as goal
 
 -- the run of the first row
 first_row : (m : Meaning) (rows : List Stamped) (stored : Stamped) → 0 < length rows → ((none : Stamped) → IsLifted m (get_or rows 0 none) stored) → FoldsTo (Puts m) [] (take 1 rows) (stored ∷ [])

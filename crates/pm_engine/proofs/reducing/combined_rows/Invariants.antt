@@ -1,7 +1,7 @@
 use Rattle.std.proofs.Common.{◌≡◌, ◌<◌, ◌≤◌, [], ◌∷◌, ◌++◌, take, drop, length}
 use Rattle.std.specs.List.{FoldsTo}
 use Rattle.pm_engine.specs.Reducing.{Puts}
-use Rattle.pm_engine.proofs.reducing.gathered.Given as goal
+use Rattle.pm_engine.proofs.reducing.combined_rows.Given as goal
 
 -- the rows so far are in the run, which is the first rows and the one in hand; those after them stand as they did
 abbrev pub invariant-loop-index : goal.invariant-loop-index

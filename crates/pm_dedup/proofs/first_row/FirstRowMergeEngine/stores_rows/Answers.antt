@@ -1,0 +1,18 @@
+use Rattle.std.proofs.Common.{[], ◌∷◌, ap, refl, subst, sym}
+use Rattle.pm_engine.specs.Covers.{row_of}
+use Rattle.pm_engine.specs.Meaning.{SpeaksFor}
+use Rattle.pm_engine.specs.OfSchema.{kind_by, meaning_of}
+use Rattle.pm_dedup.proofs.FirstLemmas.{lifts}
+use Rattle.pm_dedup.proofs.first_row.FirstRowMergeEngine.stores_rows.Goals as goal
+
+-- a taken row speaks for itself, and has its own kind
+pub returns : goal.returns
+returns c _ row taken =
+    let s = c.args.self.now.schema in
+    record {
+      same_key = refl;
+      number = refl;
+      kind = sym (ap (λ k. kind_by k (row_of row ∷ [])) c.args.self.now.keeps_first);
+      speaks = λ keyed. subst (λ key. SpeaksFor (meaning_of s) key (row_of row) (row_of row ∷ [])) keyed.own
+          (lifts s row.kind row.row c.args.self.now.keeps_first c.args.self.now.distinct taken keyed.fits);
+    }
