@@ -1,5 +1,6 @@
 pub mod Lemmas
 pub mod LineLemmas
 mod Known
+mod NewlineLemmas
 mod Reading
 mod Writing

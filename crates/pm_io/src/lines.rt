@@ -8,6 +8,7 @@ ghost use Rattle.pm_io.specs.declared.lines.LineFault.TheVariants.{Memory, Read}
 
 use crate::chunk::Chunk;
 use crate::{Failed, Source};
+use memchr::memchr;
 use std::alloc::{AllocError, Global};
 use std::marker::Model;
 use std::mem;
@@ -231,5 +232,5 @@ fn newline_in(bytes: &[u8]) -> Option<usize>
     ensures rest { IfSome result (λ index.
         bytes.now ≡ take index bytes.now ++ (newline ∷ drop (index + 1) bytes.now)) }
 {
-    bytes.iter().position(|byte| *byte == NEWLINE)
+    memchr(NEWLINE, bytes)
 }
