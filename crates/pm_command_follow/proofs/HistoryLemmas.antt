@@ -430,9 +430,11 @@ module _ (laws : Laws) (f : Files) (h : History) (folder : Folder f h) where
   may_start t from start starts = (starts.of.tells, subst (λ (start : ℕ). start ≤ suc (length es)) starts.is starts.high)
 
   pieces_of : (t : TableSchema) (from : Option ℕ) (full : Bool) (start count : ℕ) (text : List ℕ) (before after : SinkView) → StartsAt t from start
-      → count ≤ count_from start (length es) → text ≡ text_so_far t es full start count → Took full count text before after → TookPieces t es from full count before after
+      → (count < count_from start (length es)) ⊎ (count ≡ 0) → text ≡ text_so_far t es full start count → Took full count text before after
+      → TookPieces t es from full count before after
   pieces_of t from full start count text before after starts few is took = record {
-    some = subst (λ (start : ℕ). count ≤ count_from start (length es)) starts.is few;
+    starts = may_start t from start starts;
+    some = subst (λ (start : ℕ). (count < count_from start (length es)) ⊎ (count ≡ 0)) starts.is few;
     took = subst (λ (start : ℕ). Took full count (text_so_far t es full start count) before after) starts.is (took_so full count text (text_so_far t es full start count) before after is took);
   }
 
@@ -541,7 +543,7 @@ module _ (laws : Laws) (f : Files) (h : History) (folder : Folder f h) where
           t = t;
           is = opens.starts.of.is;
           count = 0;
-          took = pieces_of t from full start 0 text before after opens.starts (omega arith) opens.table.text_is took;
+          took = pieces_of t from full start 0 text before after opens.starts (inr refl) opens.table.text_is took;
           may = cause_listing first middle last (start_of from (length es) + 0) e wider found.cause;
         },
       ))
@@ -558,13 +560,13 @@ module _ (laws : Laws) (f : Files) (h : History) (folder : Folder f h) where
       let t = so.1.t in
       let start = so.1.start in
       let goes = so.1.goes in
-      let few : count ≤ count_from start (length es) = let within = so.1.within in omega (arith, within) in (
+      let few : count < count_from start (length es) = let within = so.1.within in omega (arith, within) in (
         so.0,
         record {
           t = t;
           is = goes.starts.of.is;
           count = count;
-          took = pieces_of t from full start count text before after goes.starts few goes.text_is took;
+          took = pieces_of t from full start count text before after goes.starts (inl few) goes.text_is took;
           may = subst (λ (start : ℕ). MayStop h (start + count) first last e) goes.starts.is so.1.so;
         },
       )

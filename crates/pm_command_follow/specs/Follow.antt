@@ -183,10 +183,16 @@ MayStop h id first after (refusals.StoreFault path) = Rose first.faults after.fa
 MayStop h id first after (refusals.Expired gone) = (gone ≡ id) × (id ≤ count_of h) × HasGone h id first
 MayStop h id first after other = ⊥
 
--- the sink took the first pieces of what is to be printed: the starting table, if it is asked for, and so many frames
+-- the start isn't too high, for a table that tells its changes
+abbrev pub MayStartAt : TableSchema → List Entry → Option ℕ → Type 0
+MayStartAt s entries from = TellsChanges s × (start_of from (length entries) ≤ suc (length entries))
+
+-- A part of what is to be printed was: the starting table, if it is asked for, and so many frames, none where none is
+-- left.
 pub record TookPieces (s : TableSchema) (entries : List Entry) (from : Option ℕ) (full : Bool) (count : ℕ)
     (before after : SinkView) : Type 0 where
-  pub some : count ≤ count_from (start_of from (length entries)) (length entries)
+  pub starts : MayStartAt s entries from
+  pub some : (count < count_from (start_of from (length entries)) (length entries)) ⊎ (count ≡ 0)
   pub took : Took full count (text_so_far s entries full (start_of from (length entries)) count) before after
 
 -- what was printed before a refusal: nothing, or the first pieces of the history's table
@@ -201,10 +207,6 @@ StopsAfter no_table from full first last before after e = ⊥
 StopsAfter (table s entries) from full first last before after e = (count : ℕ)
     × TookPieces s entries from full count before after
     × MayStop (table s entries) (start_of from (length entries) + count) first last e
-
--- the start isn't too high, for a table that tells its changes
-abbrev pub MayStartAt : TableSchema → List Entry → Option ℕ → Type 0
-MayStartAt s entries from = TellsChanges s × (start_of from (length entries) ≤ suc (length entries))
 
 -- Exactly the starting table of the history, if it is asked for, and the frames from the start to the newest snapshot
 -- were printed; all these snapshots are there.
