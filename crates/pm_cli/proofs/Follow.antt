@@ -24,10 +24,10 @@ module _ (from : Option ℕ) (full : Bool) (e : Execution) where
   served no_table first prints = absurd prints
   served (table s es) first prints = (follow_text s es from full, follows from full s es prints.starts, prints.taken)
 
-  in_part : (h : History) (snapshot : Option ℕ) → snapshot ≡ None → PrintsPrefix h from full e.before.out e.after.out
+  in_part : (h : History) (first : StoreView) (snapshot : Option ℕ) → snapshot ≡ None → PrintsPrefix h from full first e.before.out e.after.out
       → HasMade it h (Some (refusals.SinkFault snapshot)) h
-  in_part no_table snapshot none prints = absurd prints
-  in_part (table s es) snapshot none (may, took) = (follow_text s es from full, follows from full s es may, took, none ∙ none_made (table s es))
+  in_part no_table first snapshot none prints = absurd prints
+  in_part (table s es) first snapshot none (may, took, part) = (follow_text s es from full, follows from full s es may, took, none ∙ none_made (table s es))
 
   -- before a refusal nothing was printed, or the first pieces were
   printed : (h : History) (first : StoreView) (refusal : Refusal)
@@ -36,12 +36,12 @@ module _ (from : Option ℕ) (full : Bool) (e : Execution) where
   printed no_table first refusal (inl (may, same)) = same
   printed no_table first refusal (inr stops) = absurd stops
   printed (table s es) first refusal (inl (may, same)) = inl same
-  printed (table s es) first refusal (inr (count, took, may)) = inr (count, took)
+  printed (table s es) first refusal (inr (count, took, there, may)) = inr (count, took)
 
   makes : (h : History) (first : StoreView) (answer : Option Refusal) → AnswersHistory h from full first e.after.store e.before.out e.after.out answer
       → HasMade it h answer h
   makes h first None prints = served h first prints
-  makes h first (Some (refusals.SinkFault snapshot)) (none, failed, prints) = in_part h snapshot none prints
+  makes h first (Some (refusals.SinkFault snapshot)) (none, failed, prints) = in_part h first snapshot none prints
   makes h first (Some refusal) why = makes_nothing it h refusal tt (printed h first refusal why)
 
 pub keeps : SameStarts → (from : Option ℕ) (full : Bool) (e : Execution) → IsExecuted (with_command (commands.Follow from full) e)

@@ -40,7 +40,7 @@ use Rattle.pm_read_frame.specs.AllCalls.{DidFrame, ReadsFrame}
 use Rattle.pm_read_frame.specs.Meaning.{HasOneLog}
 use Rattle.pm_command.specs.Table as tables
 use Rattle.pm_command.proofs.TableLemmas.{files_of, images_rest, judged_caused, leaves_of, rests_of}
-use Rattle.pm_command_follow.specs.Follow.{AnswersHistory, DidTable, Ends, FollowsAny, GoesOn, HasFollowedTable, HasSchema, IsFollowed, Lists, MayRefuse, MayStartAt, MayStop, Opens, Prints, PrintsPrefix, PrintsTable, ReadsAll, ReadsFrames, ReadsTable, ShowsFirst, ShowsSchema, Starts, StopsAfter, TellsChanges, Then, Took, TookPieces, all, fails_frame, fails_table, of_listing, of_producer, of_reader, of_schema, of_start, of_table, of_unbuilt, refused_first, refused_frame, refused_listing}
+use Rattle.pm_command_follow.specs.Follow.{AnswersHistory, AreThere, DidTable, Ends, FollowsAny, GoesOn, HasFollowedTable, HasSchema, IsFollowed, Lists, MayRefuse, MayStartAt, MayStop, Opens, Prints, PrintsPrefix, PrintsTable, ReadsAll, ReadsFrames, ReadsTable, ShowsFirst, ShowsSchema, Starts, StopsAfter, TellsChanges, Then, Took, TookPart, TookPieces, all, fails_frame, fails_table, in_frame, in_table, of_listing, of_producer, of_reader, of_schema, of_start, of_table, of_unbuilt, refused_first, refused_frame, refused_listing}
 use Rattle.pm_command_follow.specs.Printed.{count_from, follow_text, frames_text, start_of, table_head, text_so_far}
 use Rattle.pm_command_follow.proofs.JoinLemmas.{IsRun, at_first, in_turn, rose_wider}
 use Rattle.pm_command_follow.proofs.TextLemmas.{follow_split, frame_behind, frames_push, table_is, took_behind, took_longer, with_frames}
@@ -233,6 +233,24 @@ module _ (laws : Laws) (f : Files) (h : History) (folder : Folder f h) where
     text_is : text ≡ frames_text t es start count
     there : (id : ℕ) → start ≤ id → id < start + count → IsSome (map.get f (path_of t id))
 
+  one_more : (t : TableSchema) (start count : ℕ) → ((id : ℕ) → start ≤ id → id < start + count → IsSome (map.get f (path_of t id)))
+      → IsSome (map.get f (path_of t (start + count))) → (id : ℕ) → start ≤ id → id < start + suc count → IsSome (map.get f (path_of t id))
+  one_more t start count each last id from below = by (cases_lt id (start + count))
+    where
+      by : (id < start + count) ⊎ (start + count ≤ id) → IsSome (map.get f (path_of t id))
+      by (inl less) = each id from less
+      by (inr not) =
+          let same : start + count ≡ id = omega (arith, not, below) in
+          subst (λ (id : ℕ). IsSome (map.get f (path_of t id))) same last
+
+  there_of : (t : TableSchema) (full : Bool) (start next : ℕ) (first : StoreView) → HasFiles f first
+      → (full ≡ true → IsSome (map.get f (path_of t (start - 1)))) → ((id : ℕ) → start ≤ id → id < next → IsSome (map.get f (path_of t id)))
+      → AreThere t full start next first
+  there_of t full start next first has base each = record {
+    base = λ asked. leaves_of (λ f. IsSome (map.get f (path_of t (start - 1)))) f first has (base asked);
+    each = λ id low below. leaves_of (λ f. IsSome (map.get f (path_of t id))) f first has (each id low below);
+  }
+
   frames_at : (t : TableSchema) (start count : ℕ) (text : List ℕ) (own : List Event) (first after : StoreView) → IsOf h t → 1 ≤ start → start + count ≤ suc (length es)
       → ReadsFrames t start count text own → IsRun f own first after → Stay f first after × HasFrames t start count text
   frames_at t start zero text own first after of low high (nothing, none) run =
@@ -253,16 +271,6 @@ module _ (laws : Laws) (f : Files) (h : History) (folder : Folder f h) where
           there = one_more t start count so.there there;
         },
       ))
-    where
-      one_more : (t : TableSchema) (start count : ℕ) → ((id : ℕ) → start ≤ id → id < start + count → IsSome (map.get f (path_of t id)))
-          → IsSome (map.get f (path_of t (start + count))) → (id : ℕ) → start ≤ id → id < start + suc count → IsSome (map.get f (path_of t id))
-      one_more t start count each last id from below = by (cases_lt id (start + count))
-        where
-          by : (id < start + count) ⊎ (start + count ≤ id) → IsSome (map.get f (path_of t id))
-          by (inl less) = each id from less
-          by (inr not) =
-              let same : start + count ≡ id = omega (arith, not, below) in
-              subst (λ (id : ℕ). IsSome (map.get f (path_of t id))) same last
 
   -- ---- what may be refused
 
@@ -479,15 +487,17 @@ module _ (laws : Laws) (f : Files) (h : History) (folder : Folder f h) where
         },
       ))
 
-  record PrefixAt (from : Option ℕ) (full : Bool) (before after : SinkView) : Type 0 where
+  record PrefixAt (from : Option ℕ) (full : Bool) (first : StoreView) (before after : SinkView) : Type 0 where
     t : TableSchema
     is : IsTableOf t h
     may : MayStartAt t es from
     took : TookPrefix before.taken after.taken (follow_text t es from full)
+    part : TookPart t es full (start_of from (length es)) first before after
 
   table_failed : (from : Option ℕ) (full : Bool) (t : TableSchema) (start : ℕ) (text : List ℕ) (own : List Event) (first last : StoreView) (before after : SinkView)
-      → Opens t from full start text own → TookPrefix before.taken after.taken text → IsRun f own first last → Stay f first last × PrefixAt from full before after
-  table_failed from full t start text own first last before after calls took run =
+      → full ≡ true → Opens t from full start text own → TookPrefix before.taken after.taken text → IsRun f own first last
+      → Stay f first last × PrefixAt from full first before after
+  table_failed from full t start text own first last before after asked calls took run =
       let so = opens_at t from full start text own first last calls run in
       let starts = so.1.starts in (
         so.0,
@@ -496,23 +506,29 @@ module _ (laws : Laws) (f : Files) (h : History) (folder : Folder f h) where
           is = starts.of.is;
           may = may_start t from start starts;
           took = prefix_at t from full start 0 text before.taken after.taken starts (omega arith) so.1.table.text_is took;
+          part = subst (λ (start : ℕ). TookPart t es full start first before after) starts.is (
+              in_table asked (there_of t full start start first run.has so.1.table.base (λ id low below. absurd (omega (arith, low, below))))
+              (subst (TookPrefix before.taken after.taken) so.1.table.text_is took)
+              );
         },
       )
 
   frame_failed : (from : Option ℕ) (full : Bool) (count : ℕ) (text frame_text : List ℕ) (own : List Event) (first last : StoreView) (before after : SinkView)
       → GoesOn from full count text (λ s id. DidFrame s id (Ok frame_text)) own → TookPrefix (and_then before.taken text) after.taken frame_text → IsRun f own first last
-      → Stay f first last × PrefixAt from full before after
+      → Stay f first last × PrefixAt from full first before after
   frame_failed from full count text frame_text own first last before after calls took run =
-      let so = gone_on (λ s id. DidFrame s id (Ok frame_text)) (λ t start. frame_text ≡ frame t es (start + count)) from full count text own first last calls run
+      let so = gone_on (λ s id. DidFrame s id (Ok frame_text)) (λ t start. (frame_text ≡ frame t es (start + count)) × IsSome (map.get f (path_of t (start + count)))) from full count text own first last calls run
       (λ t start goes within later middle did wider more.
       let low : 1 ≤ start + count = let from_one = goes.starts.low in omega (arith, from_one) in
       let read = frame_at t (start + count) (Ok frame_text) later middle last goes.starts.of low within did more in
-      (read.files, read.text (one_log t goes.starts.of))) in
+      let there : IsSome (map.get f (path_of t (start + count))) =
+      subst (λ (path : List ℕ). IsSome (map.get f path)) (sym (path_is t (start + count) low)) read.there in
+      (read.files, (read.text (one_log t goes.starts.of), there))) in
       let t = so.1.t in
       let start = so.1.start in
       let goes = so.1.goes in
       let few : suc count ≤ count_from start (length es) = let within = so.1.within in omega (arith, within) in
-      let is : text ++ frame_text ≡ text_so_far t es full start (suc count) = frame_behind t es full start count text frame_text goes.text_is so.1.so in (
+      let is : text ++ frame_text ≡ text_so_far t es full start (suc count) = frame_behind t es full start count text frame_text goes.text_is so.1.so.0 in (
         so.0,
         record {
           t = t;
@@ -520,6 +536,11 @@ module _ (laws : Laws) (f : Files) (h : History) (folder : Folder f h) where
           may = may_start t from start goes.starts;
           took = prefix_at t from full start (suc count) (text ++ frame_text) before.taken after.taken goes.starts few is
               (took_behind before.taken after.taken text frame_text took);
+          part = subst (λ (start : ℕ). TookPart t es full start first before after) goes.starts.is (
+              in_frame count few (there_of t full start (start + suc count) first run.has goes.base (one_more t start count goes.there so.1.so.1))
+              (subst (λ (text : List ℕ). TookPrefix (and_then before.taken text) after.taken (frame t es (start + count))) goes.text_is
+              (subst (TookPrefix (and_then before.taken text) after.taken) so.1.so.0 took))
+              );
         },
       )
 
@@ -528,6 +549,7 @@ module _ (laws : Laws) (f : Files) (h : History) (folder : Folder f h) where
     is : IsTableOf t h
     count : ℕ
     took : TookPieces t es from full count before after
+    there : AreThere t full (start_of from (length es)) (start_of from (length es) + count) first
     may : MayStop h (start_of from (length es) + count) first last e
 
   listing_refused : (from : Option ℕ) (full : Bool) (e : Refusal) (t : TableSchema) (start : ℕ) (text : List ℕ) (own : List Event) (first last : StoreView)
@@ -544,6 +566,8 @@ module _ (laws : Laws) (f : Files) (h : History) (folder : Folder f h) where
           is = opens.starts.of.is;
           count = 0;
           took = pieces_of t from full start 0 text before after opens.starts (inr refl) opens.table.text_is took;
+          there = subst (λ (start : ℕ). AreThere t full start (start + 0) first) opens.starts.is
+              (there_of t full start (start + 0) first run.has opens.table.base (λ id low below. absurd (omega (arith, low, below))));
           may = cause_listing first middle last (start_of from (length es) + 0) e wider found.cause;
         },
       ))
@@ -567,6 +591,8 @@ module _ (laws : Laws) (f : Files) (h : History) (folder : Folder f h) where
           is = goes.starts.of.is;
           count = count;
           took = pieces_of t from full start count text before after goes.starts (inl few) goes.text_is took;
+          there = subst (λ (start : ℕ). AreThere t full start (start + count) first) goes.starts.is
+              (there_of t full start (start + count) first run.has goes.base goes.there);
           may = subst (λ (start : ℕ). MayStop h (start + count) first last e) goes.starts.is so.1.so;
         },
       )
@@ -578,23 +604,29 @@ prints_of : (h : History) (t : TableSchema) (from : Option ℕ) (full : Bool) (f
 prints_of no_table t from full first before after is prints = absurd is
 prints_of (table u es) t from full first before after is prints = subst (λ (s : TableSchema). PrintsTable s es from full first before after) (sym is) prints
 
-prefix_of : (h : History) (t : TableSchema) (from : Option ℕ) (full : Bool) (before after : SinkView) → IsTableOf t h → MayStartAt t (entries_of h) from
-    → TookPrefix before.taken after.taken (follow_text t (entries_of h) from full) → PrintsPrefix h from full before after
-prefix_of no_table t from full before after is may took = absurd is
-prefix_of (table u es) t from full before after is may took =
-    subst (λ (s : TableSchema). MayStartAt s es from × TookPrefix before.taken after.taken (follow_text s es from full)) (sym is) (may, took)
+prefix_of : (h : History) (t : TableSchema) (from : Option ℕ) (full : Bool) (first : StoreView) (before after : SinkView) → IsTableOf t h → MayStartAt t (entries_of h) from
+    → TookPrefix before.taken after.taken (follow_text t (entries_of h) from full)
+    → TookPart t (entries_of h) full (start_of from (length (entries_of h))) first before after → PrintsPrefix h from full first before after
+prefix_of no_table t from full first before after is may took part = absurd is
+prefix_of (table u es) t from full first before after is may took part =
+    subst (λ (s : TableSchema). PrintsPrefix (table s es) from full first before after) (sym is) (may, took, part)
 
 stops_of : (h : History) (t : TableSchema) (from : Option ℕ) (full : Bool) (count : ℕ) (first last : StoreView) (before after : SinkView) (e : Refusal) → IsTableOf t h
-    → TookPieces t (entries_of h) from full count before after → MayStop h (start_of from (length (entries_of h)) + count) first last e
+    → TookPieces t (entries_of h) from full count before after
+    → AreThere t full (start_of from (length (entries_of h))) (start_of from (length (entries_of h)) + count) first → MayStop h (start_of from (length (entries_of h)) + count) first last e
     → StopsAfter h from full first last before after e
-stops_of no_table t from full count first last before after e is took may = absurd is
-stops_of (table u es) t from full count first last before after e is took may =
-    (count, subst (λ (s : TableSchema). TookPieces s es from full count before after) (sym is) took, may)
+stops_of no_table t from full count first last before after e is took there may = absurd is
+stops_of (table u es) t from full count first last before after e is took there may = (
+  count,
+  subst (λ (s : TableSchema). TookPieces s es from full count before after) (sym is) took,
+  subst (λ (s : TableSchema). AreThere s full (start_of from (length es)) (start_of from (length es) + count) first) (sym is) there,
+  may,
+)
 
 not_sink : (h : History) (from : Option ℕ) (full : Bool) (snapshot : Option ℕ) (first last : StoreView) (before after : SinkView)
     → StopsAfter h from full first last before after (refusals.SinkFault snapshot) → ⊥
 not_sink no_table from full snapshot first last before after stops = stops
-not_sink (table s _) from full snapshot first last before after (count, took, may) = may
+not_sink (table s _) from full snapshot first last before after (count, took, there, may) = may
 
 refusal_answers : (h : History) (from : Option ℕ) (full : Bool) (first last : StoreView) (before after : SinkView) (e : Refusal)
     → (MayRefuse h from full first last e × (after ≡ before)) ⊎ StopsAfter h from full first last before after e
@@ -611,20 +643,20 @@ answers laws f h folder from full own first last before after answer (all count 
     let so = all_printed laws f h folder from full count text own first last before after calls took run in
     (so.0, prints_of h so.1.t from full first before after so.1.is so.1.prints)
 answers laws f h folder from full own first last before after answer (fails_table t start text asked calls failed took) run =
-    let so = table_failed laws f h folder from full t start text own first last before after calls took run in
-    (so.0, (refl, failed, prefix_of h so.1.t from full before after so.1.is so.1.may so.1.took))
+    let so = table_failed laws f h folder from full t start text own first last before after asked calls took run in
+    (so.0, (refl, failed, prefix_of h so.1.t from full first before after so.1.is so.1.may so.1.took so.1.part))
 answers laws f h folder from full own first last before after answer (fails_frame count text frame_text calls failed took) run =
     let so = frame_failed laws f h folder from full count text frame_text own first last before after calls took run in
-    (so.0, (refl, failed, prefix_of h so.1.t from full before after so.1.is so.1.may so.1.took))
+    (so.0, (refl, failed, prefix_of h so.1.t from full first before after so.1.is so.1.may so.1.took so.1.part))
 answers laws f h folder from full own first last before after answer (refused_first e shows same) run =
     let so = refused_at_first laws f h folder from full e own first last shows run in
     (so.0, refusal_answers h from full first last before after e (inl (so.1, same)))
 answers laws f h folder from full own first last before after answer (refused_listing e t start text calls took) run =
     let so = listing_refused laws f h folder from full e t start text own first last before after calls took run in
-    (so.0, refusal_answers h from full first last before after e (inr (stops_of h so.1.t from full so.1.count first last before after e so.1.is so.1.took so.1.may)))
+    (so.0, refusal_answers h from full first last before after e (inr (stops_of h so.1.t from full so.1.count first last before after e so.1.is so.1.took so.1.there so.1.may)))
 answers laws f h folder from full own first last before after answer (refused_frame e count text calls took) run =
     let so = frame_refused laws f h folder from full e count text own first last before after calls took run in
-    (so.0, refusal_answers h from full first last before after e (inr (stops_of h so.1.t from full so.1.count first last before after e so.1.is so.1.took so.1.may)))
+    (so.0, refusal_answers h from full first last before after e (inr (stops_of h so.1.t from full so.1.count first last before after e so.1.is so.1.took so.1.there so.1.may)))
 
 pub follows : Laws → (from : Option ℕ) (full : Bool) (out out_after : SinkView) (store store_after : StoreView) (answer : Option Refusal)
     → IsFollowed from full out out_after store store_after answer → FollowsAny from full out out_after store store_after answer

@@ -12,6 +12,7 @@ use Rattle.pm_machine.specs.Trace.{Event, Traces}
 use Rattle.pm_options.specs.declared.kinds.Producer.TheVariants as producers
 use Rattle.pm_schema.specs.declared.schema.TableSchema.{TableSchema}
 use Rattle.pm_model_history.specs.History.{Entry, History, IsTableOf, no_table, table}
+use Rattle.pm_model_following.specs.Following.{frame}
 use Rattle.pm_model_folder.specs.Folder.{Folder}
 use Rattle.pm_model_folder.specs.Ledger.{count_of}
 use Rattle.pm_create.specs.Making.{LeavesFiles}
@@ -159,6 +160,11 @@ HasGone h id first = (s : TableSchema) × IsTableOf s h × LeavesFiles (λ f. ma
 abbrev pub IsThere : TableSchema → ℕ → StoreView → Type 0
 IsThere s id first = LeavesFiles (λ f. IsSome (map.get f (path_of s id))) first
 
+-- that of the starting table is, if it is asked for, and each from the start to below another one
+pub record AreThere (s : TableSchema) (full : Bool) (start next : ℕ) (first : StoreView) : Type 0 where
+  pub base : full ≡ true → IsThere s (start - 1) first
+  pub each : (id : ℕ) → start ≤ id → id < next → IsThere s id first
+
 -- What a history may be refused for before anything is printed: there is no table, none that tells its changes, or none
 -- that is built; the start that is asked for is too high; the snapshot of the starting table has gone; a fault of the
 -- store was counted; or memory ran out.
@@ -201,11 +207,12 @@ PrintsSome no_table from full before after = after ≡ before
 PrintsSome (table s entries) from full before after =
     (after ≡ before) ⊎ ((count : ℕ) × TookPieces s entries from full count before after)
 
--- the refusal came after these
+-- the refusal came after these, whose snapshots are there
 abbrev pub StopsAfter : History → Option ℕ → Bool → StoreView → StoreView → SinkView → SinkView → Refusal → Type 0
 StopsAfter no_table from full first last before after e = ⊥
 StopsAfter (table s entries) from full first last before after e = (count : ℕ)
     × TookPieces s entries from full count before after
+    × AreThere s full (start_of from (length entries)) (start_of from (length entries) + count) first
     × MayStop (table s entries) (start_of from (length entries) + count) first last e
 
 -- Exactly the starting table of the history, if it is asked for, and the frames from the start to the newest snapshot
@@ -221,11 +228,24 @@ abbrev pub Prints : History → Option ℕ → Bool → StoreView → SinkView �
 Prints no_table from full first before after = ⊥
 Prints (table s entries) from full first before after = PrintsTable s entries from full first before after
 
--- a prefix of it was printed
-abbrev pub PrintsPrefix : History → Option ℕ → Bool → SinkView → SinkView → Type 0
-PrintsPrefix no_table from full before after = ⊥
-PrintsPrefix (table s entries) from full before after =
-    MayStartAt s entries from × TookPrefix before.taken after.taken (follow_text s entries from full)
+-- The sink took a part of one piece, behind those before it: of the starting table, or of the frame behind so many.
+-- The snapshots of all these are there, and that of this piece.
+pub data TookPart (s : TableSchema) (entries : List Entry) (full : Bool) (start : ℕ) (first : StoreView)
+    (before after : SinkView) : Type 0 where
+  in_table : full ≡ true → AreThere s full start start first
+      → TookPrefix before.taken after.taken (text_so_far s entries full start 0)
+      → TookPart s entries full start first before after
+  in_frame : (count : ℕ) → count < count_from start (length entries)
+      → AreThere s full start (start + suc count) first
+      → TookPrefix (and_then before.taken (text_so_far s entries full start count)) after.taken
+      (frame s entries (start + count)) → TookPart s entries full start first before after
+
+-- a prefix of it was printed, up to a part of one piece
+abbrev pub PrintsPrefix : History → Option ℕ → Bool → StoreView → SinkView → SinkView → Type 0
+PrintsPrefix no_table from full first before after = ⊥
+PrintsPrefix (table s entries) from full first before after = MayStartAt s entries from
+    × TookPrefix before.taken after.taken (follow_text s entries from full)
+    × TookPart s entries full (start_of from (length entries)) first before after
 
 -- The answer to a history: all was printed; or a prefix of it, where the sink failed; or nothing was, or the first
 -- pieces, and why it may be refused for that.
@@ -233,7 +253,7 @@ abbrev pub AnswersHistory : History → Option ℕ → Bool → StoreView → St
     → Type 0
 AnswersHistory h from full first last before after None = Prints h from full first before after
 AnswersHistory h from full first last before after (Some (refusals.SinkFault snapshot)) =
-    (snapshot ≡ None) × SinkFailed before after × PrintsPrefix h from full before after
+    (snapshot ≡ None) × SinkFailed before after × PrintsPrefix h from full first before after
 AnswersHistory h from full first last before after (Some e) =
     (MayRefuse h from full first last e × (after ≡ before)) ⊎ StopsAfter h from full first last before after e
 
