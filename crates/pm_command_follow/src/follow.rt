@@ -24,7 +24,10 @@ use pm_values::Refusal;
 use std::alloc::Global;
 
 /// Prints how the snapshots of a table change it, from the one with that id on, or after the newest; and before that,
-/// where it is asked for in full, the table that is passed on at the one below.
+/// where it is asked for in full, the table that is passed on at the one below. Refuses with `NoTable`; `NoChangelog`,
+/// before any call after the schema's, where the table has no producer; `Unsupported`; `NoSnapshot` for a start above
+/// the newest and one; `Expired` for a snapshot that has gone; `StoreFault`; `SinkFault`; or out of memory. Where others
+/// act or the files are damaged it passes on what their readers refuse.
 pub fn run_follow<W: Sink, F: FileStore>(
     alloc: Global,
     from: Option<u64>,

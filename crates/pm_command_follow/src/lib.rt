@@ -1,9 +1,10 @@
 //! The command `follow`: print how the snapshots of a table change it.
 //!
 //! It is machines in turn: each reads what the next piece of the text needs, and the piece is printed before the next
-//! call of the store. `specs/Printed.antt` says what is printed of a table, and `specs/Follow.antt` what the command
-//! answers, what it has printed then, and that it leaves a folder as it is. `replay_law` is for whoever reads its
-//! frames: their rows, replayed on the table that was followed before them, give the one that is followed at the last.
+//! call of the store. `specs/Printed.antt` says what is printed of a table, where `frame` and `followed` are those of
+//! `pm_model_following`, and `specs/Follow.antt` what the command answers, what it has printed then, and that it leaves
+//! a folder as it is. `replay_law` is for whoever reads its frames: their rows, replayed on the table that was followed
+//! before them, give the one that is followed at the last.
 #![tactic(auto)]
 
 mod follow;
