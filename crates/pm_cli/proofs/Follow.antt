@@ -1,5 +1,5 @@
 -- The promise of `follow`.
-use Rattle.std.proofs.Common.{◌≡◌, ℕ, suc, ◌≤◌, ◌⊎◌, Bool, false, List, length, Option, None, Some, inl, inr, ◌∙◌}
+use Rattle.std.proofs.Common.{◌≡◌, ℕ, ◌≤◌, ◌⊎◌, Bool, List, length, Option, None, Some, inl, inr, ◌∙◌}
 use Rattle.pm_values.specs.declared.refusal.Refusal.{Refusal}
 use Rattle.pm_values.specs.declared.refusal.Refusal.TheVariants as refusals
 use Rattle.pm_schema.specs.declared.schema.TableSchema.{TableSchema}
@@ -8,8 +8,8 @@ use Rattle.pm_store.specs.Store.{StoreView, at_first_own}
 use Rattle.pm_model_history.specs.History.{Entry, History, no_table, table}
 use Rattle.pm_model_folder.specs.Folder.{Folder, HasTable}
 use Rattle.pm_words.specs.declared.command.Command.TheVariants as commands
-use Rattle.pm_command_follow.specs.Follow.{AnswersHistory, MayRefuse, Prints, PrintsPrefix, PrintsSome, StopsAfter, TellsChanges}
-use Rattle.pm_command_follow.specs.Printed.{LeadOn, count_from, follow_text, frames_text}
+use Rattle.pm_command_follow.specs.Follow.{AnswersHistory, MayRefuse, MayStartAt, Prints, PrintsPrefix, PrintsSome, StopsAfter}
+use Rattle.pm_command_follow.specs.Printed.{LeadFrom, follow_text, start_of}
 use Rattle.pm_command.specs.declared.start.Start.{Start}
 use Rattle.pm_cli.specs.InTurn.{IsExecuted}
 use Rattle.pm_cli.specs.Promise.{Does, Execution, Keeps, HasMade, follows}
@@ -53,11 +53,12 @@ keeps law from full e is = λ alone h stands input.
 
 -- ---- what was printed, replayed
 
-abbrev pub ReplayLaw : Type 0
-ReplayLaw = (f : Files) (s : TableSchema) (es : List Entry) (start last : ℕ) → HasTable f s es → TellsChanges s → 1 ≤ start → start ≤ suc last
-    → LeadOn s es start last (frames_text s es start (count_from start last))
+-- what the law says of all that is printed
+abbrev pub PrintedLaw : Type 0
+PrintedLaw = (f : Files) (s : TableSchema) (es : List Entry) (from : Option ℕ) (full : Bool) → HasTable f s es → MayStartAt s es from
+    → 1 ≤ start_of from (length es) → LeadFrom s es from full (follow_text s es from full)
 
-pub replayed : ReplayLaw → (start : Start) (bytes : List ℕ) (found : StoreView) (from : ℕ) (s : TableSchema) (es : List Entry) (later : History) (text : List ℕ)
-    (f : Files) → 1 ≤ from → Folder f (table s es) → Does start bytes found (commands.Follow (Some from) false) (table s es) later text
-    → LeadOn s es from (length es) text
-replayed law start bytes found from s es later text f low folder (follows at full t entries (tells, high)) = law f s es from (length es) folder tells low high
+pub replayed : PrintedLaw → (start : Start) (bytes : List ℕ) (found : StoreView) (from : Option ℕ) (full : Bool) (s : TableSchema) (es : List Entry) (later : History)
+    (text : List ℕ) (f : Files) → 1 ≤ start_of from (length es) → Folder f (table s es)
+    → Does start bytes found (commands.Follow from full) (table s es) later text → LeadFrom s es from full text
+replayed law start bytes found from full s es later text f low folder (follows at with_table t entries may) = law f s es from full folder may low

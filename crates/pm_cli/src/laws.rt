@@ -1,6 +1,6 @@
 //! The promise follows from what commands are proved to do; and histories have a beginning, from which commands go on.
 
-ghost use Rattle.std.specs.Prelude.{◌≡◌, ◌≤◌, ℕ, List, [], ◌∷◌, length, Bool, false, Option, None, Some, Ok};
+ghost use Rattle.std.specs.Prelude.{◌≡◌, ◌≤◌, ℕ, List, [], ◌∷◌, ◌++◌, length, Bool, Option, None, Some, Ok};
 ghost use Rattle.std.specs.FinMap as map;
 ghost use Rattle.std.specs.List.{AllByRecursion};
 ghost use Rattle.pm_base.specs.Known.{and_then};
@@ -14,7 +14,7 @@ ghost use Rattle.pm_schema.specs.declared.schema.TableSchema.{TableSchema};
 ghost use Rattle.pm_model_history.specs.History.{Entry, History, no_table, rows_up_to, table};
 ghost use Rattle.pm_model_history.specs.Merge.{HistoryRow};
 ghost use Rattle.pm_model_history.specs.Merged.{merged, scan_text};
-ghost use Rattle.pm_model_following.specs.Following.{followed};
+ghost use Rattle.pm_model_following.specs.Following.{followed, table_text};
 ghost use Rattle.pm_model_folder.specs.Changes.{Actor};
 ghost use Rattle.pm_model_folder.specs.Folder.{Folder};
 ghost use Rattle.pm_create.specs.Making.{LeavesFiles};
@@ -26,7 +26,7 @@ ghost use Rattle.pm_command.specs.Outside.{HaveSame, actor};
 ghost use Rattle.pm_command.specs.declared.start.Start.{Start};
 ghost use Rattle.pm_command_compact.specs.Compact as compact;
 ghost use Rattle.pm_command_create.specs.Create.{IsDraftOf, StandsForEither};
-ghost use Rattle.pm_command_follow.specs.Printed.{LeadOn};
+ghost use Rattle.pm_command_follow.specs.Printed.{LeadFrom, start_of, table_head};
 ghost use Rattle.pm_command_write.specs.Write.{IsImage, Lines, MayStartAfter};
 ghost use Rattle.pm_command_write.specs.declared.writer.Writer.{Writer};
 ghost use Rattle.pm_cli.specs.InTurn.{AreInTurn, HandsOn, HaveOwnNames, IsExecuted, MakeInTurn, Turn, ended};
@@ -210,16 +210,20 @@ pub fn same_scan_law()
         × (scan_text s (rows_up_to more (length more)) ≡ scan_text s (rows_up_to es (length es))) }
 {}
 
-/// Whoever follows a table from a snapshot on has what it prints as the frames of changes: their rows, replayed in
-/// order on the table that was followed at the one below, give the table that is followed at the newest. With the
-/// producer of inputs that is the merged table, which a scan prints.
+/// Whoever follows a table has what it prints as the starting table, if it is asked for, and frames of changes behind
+/// it. Their rows, replayed in order on the table that was followed at the one below the start, give the table that is
+/// followed at the newest; and those of the first frames, at each before that. With the producer of inputs the table
+/// that is followed at a snapshot is the merged one, which a scan of that snapshot prints; and the starting table's rows
+/// are printed as that scan prints them.
 pub fn frames_law()
-    ensures replayed { (start : Start) (bytes : List ℕ) (found : StoreView) (from : ℕ) (s : TableSchema)
-        (es : List Entry) (later : History) (text : List ℕ) (f : Files) → 1 ≤ from → Folder f (table s es)
-        → Does start bytes found (commands.Follow (Some from) false) (table s es) later text
-        → LeadOn s es from (length es) text }
-    ensures scanned { (s : TableSchema) (es : List Entry) → s.options.producer ≡ Input
-        → followed s es (length es) ≡ merged s (rows_up_to es (length es)) }
+    ensures replayed { (start : Start) (bytes : List ℕ) (found : StoreView) (from : Option ℕ) (full : Bool)
+        (s : TableSchema) (es : List Entry) (later : History) (text : List ℕ) (f : Files)
+        → 1 ≤ start_of from (length es) → Folder f (table s es)
+        → Does start bytes found (commands.Follow from full) (table s es) later text → LeadFrom s es from full text }
+    ensures scanned { (s : TableSchema) (es : List Entry) (id : ℕ) → s.options.producer ≡ Input
+        → followed s es id ≡ merged s (rows_up_to es id) }
+    ensures starting { (s : TableSchema) (es : List Entry) (id : ℕ) → s.options.producer ≡ Input
+        → table_text s es id ≡ table_head id ++ scan_text s (rows_up_to es id) }
 {
     replay_law();
 }

@@ -1,5 +1,5 @@
 -- The rows of printed frames, replayed.
-use Rattle.std.proofs.Common.{◌≡◌, ◌≢◌, ◌↔◌, ℕ, zero, suc, ◌+◌, ◌-◌, ◌≤◌, ◌&&◌, not, List, [], ◌∷◌, ◌++◌, map, codes, Option, None, Some, option_map, Ok, refl, sym, ap, ◌∙◌, arith}
+use Rattle.std.proofs.Common.{◌≡◌, ◌≢◌, ◌↔◌, ℕ, zero, suc, ◌+◌, ◌-◌, ◌≤◌, ◌&&◌, not, Bool, true, false, List, [], ◌∷◌, ◌++◌, length, map, codes, Option, None, Some, option_map, Ok, refl, sym, ap, ◌∙◌, arith}
 use Rattle.std.specs.List.{AllByRecursion, flat_map, range_with_len}
 use Rattle.std.specs.Option.{option_or}
 use Rattle.pm_options.specs.Faults.{refused}
@@ -21,8 +21,9 @@ use Rattle.pm_model_history.specs.Merge.{AllFit, HistoryRow}
 use Rattle.pm_model_following.specs.Following.{change, followed, frame, replay}
 use Rattle.pm_model_folder.specs.Folder.{HasTable, IsRowOf}
 use Rattle.pm_model_folder.specs.Paths.{schema_path}
-use Rattle.pm_command_follow.specs.Follow.{TellsChanges}
-use Rattle.pm_command_follow.specs.Printed.{LeadOn, count_from, frames_of, frames_text}
+use Rattle.pm_command_follow.specs.Follow.{MayStartAt, TellsChanges}
+use Rattle.pm_command_follow.specs.Printed.{LeadFrom, LeadOn, count_from, follow_text, frames_of, frames_text, start_of, starting_text, text_so_far}
+use Rattle.pm_command_follow.proofs.TextLemmas.{frames_split}
 
 -- ---- the engine of a table that tells its inputs
 
@@ -69,9 +70,14 @@ FramesLaw = (s : TableSchema) (es : List Entry) (n count : ℕ) → s.options.pr
     → (s.options.producer ≡ producers.Input → s.options.engine ≡ engines.Deduplicate) → AllFit s.columns (flat_map entry_rows es)
     → replay s (followed s es n) (flat_map (change s es) (range_with_len (n + 1) count)) ≡ followed s es (n + count)
 
-pub leads_on : FramesLaw → ((path text : List ℕ) (s : TableSchema) → (schema_of path text ≡ Ok s) ↔ SchemaOf path text s)
-    → ((path text : List ℕ) (s : TableSchema) → SchemaOf path text s → IsDeclared s)
-    → (f : Files) (s : TableSchema) (es : List Entry) (start last : ℕ) → HasTable f s es → TellsChanges s → 1 ≤ start → start ≤ suc last
+-- what a schema is read of, and how it is declared then
+abbrev ReadLaw : Type 0
+ReadLaw = (path text : List ℕ) (s : TableSchema) → (schema_of path text ≡ Ok s) ↔ SchemaOf path text s
+
+abbrev DeclaredLaw : Type 0
+DeclaredLaw = (path text : List ℕ) (s : TableSchema) → SchemaOf path text s → IsDeclared s
+
+pub leads_on : FramesLaw → ReadLaw → DeclaredLaw → (f : Files) (s : TableSchema) (es : List Entry) (start last : ℕ) → HasTable f s es → TellsChanges s → 1 ≤ start → start ≤ suc last
     → LeadOn s es start last (frames_text s es start (count_from start last))
 leads_on law read declares f s es start last stands tells low high =
     let first = stands.schema.first in
@@ -86,4 +92,35 @@ leads_on law read declares f s es start last stands tells low high =
       replayed = ap (replay s (followed s es (start - 1))) (joined s es (range_with_len start count))
           ∙ ap (λ (from : ℕ). replay s (followed s es (start - 1)) (flat_map (change s es) (range_with_len from count))) (sym again)
           ∙ replayed ∙ ap (followed s es) end;
+    }
+
+-- ---- all that is printed
+
+in_parts : (s : TableSchema) (es : List Entry) (full : Bool) (start count : ℕ)
+    → text_so_far s es full start count ≡ starting_text s es full start ++ frames_text s es start count
+in_parts s es false start count = refl
+in_parts s es true start count = refl
+
+first_frames : (s : TableSchema) (es : List Entry) (start last newest : ℕ) → last ≤ newest
+    → frames_text s es start (count_from start newest)
+    ≡ frames_text s es start (count_from start last) ++ frames_text s es (start + count_from start last) (count_from start newest - count_from start last)
+first_frames s es start last newest within =
+    let more : (suc last - start) + ((suc newest - start) - (suc last - start)) ≡ suc newest - start = omega (arith, within) in
+    ap (frames_text s es start) (sym more) ∙ frames_split s es start (count_from start last) (count_from start newest - count_from start last)
+
+pub leads_from : FramesLaw → ReadLaw → DeclaredLaw → (f : Files) (s : TableSchema) (es : List Entry) (from : Option ℕ) (full : Bool) → HasTable f s es
+    → MayStartAt s es from → 1 ≤ start_of from (length es) → LeadFrom s es from full (follow_text s es from full)
+leads_from law read declares f s es from full stands (tells, high) low =
+    let start = start_of from (length es) in
+    let newest = length es in
+    record {
+      frames = frames_text s es start (count_from start newest);
+      parts = in_parts s es full start (count_from start newest);
+      lead = leads_on law read declares f s es start newest stands tells low high;
+      each = λ last after within. (
+        frames_text s es start (count_from start last),
+        frames_text s es (start + count_from start last) (count_from start newest - count_from start last),
+        first_frames s es start last newest within,
+        leads_on law read declares f s es start last stands tells low after,
+      );
     }

@@ -1,5 +1,5 @@
 -- What `follow` prints of a table.
-use Rattle.std.specs.Prelude.{◌≡◌, ℕ, suc, ◌+◌, ◌-◌, List, [], ◌∷◌, ◌++◌, codes, length, Bool, true, false}
+use Rattle.std.specs.Prelude.{◌≡◌, ℕ, suc, ◌+◌, ◌-◌, ◌≤◌, List, [], ◌∷◌, ◌++◌, codes, length, Bool, true, false}
 use Rattle.std.specs.Prelude.{Option, None, Some}
 use Rattle.std.specs.Fmt.{decimal}
 use Rattle.std.specs.List.{flat_map, range_with_len}
@@ -27,6 +27,11 @@ table_head id = line (codes "{\"table\":" ++ decimal id ++ codes "}")
 abbrev pub frames_text : TableSchema → List Entry → ℕ → ℕ → List ℕ
 frames_text s entries start count = flat_map (frame s entries) (range_with_len start count)
 
+-- the starting table, if it is asked for
+abbrev pub starting_text : TableSchema → List Entry → Bool → ℕ → List ℕ
+starting_text s entries false start = []
+starting_text s entries true start = table_text s entries (start - 1)
+
 -- the starting table, if it was printed, and so many frames
 abbrev pub text_so_far : TableSchema → List Entry → Bool → ℕ → ℕ → List ℕ
 text_so_far s entries false start count = frames_text s entries start count
@@ -53,3 +58,14 @@ pub record LeadOn (s : TableSchema) (entries : List Entry) (start last : ℕ) (t
   pub changes : List (List HistoryRow)
   pub frames : text ≡ frames_of start changes
   pub replayed : replay s (followed s entries (start - 1)) (flat_map (λ rows. rows) changes) ≡ followed s entries last
+
+-- What was printed is the starting table, if it is asked for, and frames behind it, which lead on to the newest
+-- snapshot. So do the first of them to each snapshot before that.
+pub record LeadFrom (s : TableSchema) (entries : List Entry) (from : Option ℕ) (full : Bool) (text : List ℕ)
+    : Type 0 where
+  pub frames : List ℕ
+  pub parts : text ≡ starting_text s entries full (start_of from (length entries)) ++ frames
+  pub lead : LeadOn s entries (start_of from (length entries)) (length entries) frames
+  pub each : (last : ℕ) → start_of from (length entries) ≤ suc last → last ≤ length entries
+      → (first rest : List ℕ) × (frames ≡ first ++ rest)
+      × LeadOn s entries (start_of from (length entries)) last first

@@ -1,18 +1,18 @@
 //! What the calls of `follow` say of a history, and what its frames are for.
 
-ghost use Rattle.std.specs.Prelude.{◌≡◌, Bool, ℕ, suc, ◌≤◌, List, Option};
+ghost use Rattle.std.specs.Prelude.{◌≡◌, Bool, ℕ, suc, ◌≤◌, List, ◌++◌, length, Option};
 ghost use Rattle.pm_io.specs.Sink.{SinkView};
 ghost use Rattle.pm_store.specs.Store.{StoreView};
 ghost use Rattle.pm_values.specs.declared.refusal.Refusal.{Refusal};
 ghost use Rattle.pm_options.specs.declared.kinds.Producer.TheVariants.{Input};
 ghost use Rattle.pm_schema.specs.declared.schema.TableSchema.{TableSchema};
 ghost use Rattle.pm_model_history.specs.History.{Entry, rows_up_to};
-ghost use Rattle.pm_model_history.specs.Merged.{merged};
-ghost use Rattle.pm_model_following.specs.Following.{followed};
+ghost use Rattle.pm_model_history.specs.Merged.{merged, scan_text};
+ghost use Rattle.pm_model_following.specs.Following.{followed, table_text};
 ghost use Rattle.pm_model_folder.specs.Folder.{HasTable};
 ghost use Rattle.pm_store.specs.Files.{Files};
-ghost use Rattle.pm_command_follow.specs.Follow.{FollowsAny, IsFollowed, TellsChanges};
-ghost use Rattle.pm_command_follow.specs.Printed.{LeadOn, count_from, frames_text};
+ghost use Rattle.pm_command_follow.specs.Follow.{FollowsAny, IsFollowed, MayStartAt, TellsChanges};
+ghost use Rattle.pm_command_follow.specs.Printed.{LeadFrom, LeadOn, count_from, follow_text, frames_text, start_of, table_head};
 
 use pm_draft::built_law;
 use pm_model_following::{finished_law, frames_law};
@@ -34,14 +34,20 @@ pub fn follow_law()
 }
 
 /// Whoever replays the rows of the frames from one snapshot to another, in order, on the table that was followed before
-/// them has the table that is followed at the last. With the producer of inputs that is the merged table, which a scan
-/// of that snapshot prints.
+/// them has the table that is followed at the last. All that is printed is the starting table, if it is asked for, and
+/// such frames. With the producer of inputs the table that is followed at a snapshot is the merged one, which a scan of
+/// that snapshot prints; and so are the starting table's rows printed.
 pub fn replay_law()
     ensures replayed { (f : Files) (s : TableSchema) (entries : List Entry) (start last : ℕ) → HasTable f s entries
         → TellsChanges s → 1 ≤ start → start ≤ suc last
         → LeadOn s entries start last (frames_text s entries start (count_from start last)) }
+    ensures printed { (f : Files) (s : TableSchema) (entries : List Entry) (from : Option ℕ) (full : Bool)
+        → HasTable f s entries → MayStartAt s entries from → 1 ≤ start_of from (length entries)
+        → LeadFrom s entries from full (follow_text s entries from full) }
     ensures scanned { (s : TableSchema) (entries : List Entry) (last : ℕ) → s.options.producer ≡ Input
         → followed s entries last ≡ merged s (rows_up_to entries last) }
+    ensures starting { (s : TableSchema) (entries : List Entry) (id : ℕ) → s.options.producer ≡ Input
+        → table_text s entries id ≡ table_head id ++ scan_text s (rows_up_to entries id) }
 {
     frames_law();
     finished_law();

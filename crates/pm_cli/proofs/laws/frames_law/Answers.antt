@@ -2,7 +2,10 @@ use Rattle.pm_cli.proofs.Follow.{replayed}
 use Rattle.pm_cli.proofs.laws.frames_law.Goals as goal
 
 pub returns-clause-replayed : goal.returns-clause-replayed
-returns-clause-replayed c = replayed c.replay_law.ensures.replayed
+returns-clause-replayed c = replayed c.replay_law.ensures.printed
 
 pub returns-clause-scanned : goal.returns-clause-scanned
-returns-clause-scanned c = λ s es input. c.replay_law.ensures.scanned s es _ input
+returns-clause-scanned c = c.replay_law.ensures.scanned
+
+pub returns-clause-starting : goal.returns-clause-starting
+returns-clause-starting c = c.replay_law.ensures.starting

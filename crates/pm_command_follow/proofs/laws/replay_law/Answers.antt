@@ -1,8 +1,15 @@
-use Rattle.pm_command_follow.proofs.ReplayLemmas.{leads_on}
+use Rattle.pm_command_follow.proofs.ReplayLemmas.{leads_from, leads_on}
+use Rattle.pm_command_follow.proofs.TextLemmas.{table_is}
 use Rattle.pm_command_follow.proofs.laws.replay_law.Goals as goal
 
 pub returns-clause-replayed : goal.returns-clause-replayed
 returns-clause-replayed c = leads_on c.frames_law.ensures c.schema_law.ensures.exact c.declared_law.ensures.file
 
+pub returns-clause-printed : goal.returns-clause-printed
+returns-clause-printed c = leads_from c.frames_law.ensures c.schema_law.ensures.exact c.declared_law.ensures.file
+
 pub returns-clause-scanned : goal.returns-clause-scanned
 returns-clause-scanned c = c.finished_law.ensures
+
+pub returns-clause-starting : goal.returns-clause-starting
+returns-clause-starting c = λ s es id input. table_is s es id (c.finished_law.ensures s es id input)
