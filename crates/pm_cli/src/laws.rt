@@ -213,8 +213,8 @@ pub fn same_scan_law()
 /// Whoever follows a table has what it prints as the starting table, if it is asked for, and frames of changes behind
 /// it. Their rows, replayed in order on the table that was followed at the one below the start, give the table that is
 /// followed at the newest; and those of the first frames, at each before that. With the producer of inputs the table
-/// that is followed at a snapshot is the merged one, which a scan of that snapshot prints; and the starting table's rows
-/// are printed as that scan prints them.
+/// that is followed at a snapshot is the merged one, which a scan of that snapshot prints; and so are the starting
+/// table's rows printed.
 pub fn frames_law()
     ensures replayed { (start : Start) (bytes : List ℕ) (found : StoreView) (from : Option ℕ) (full : Bool)
         (s : TableSchema) (es : List Entry) (later : History) (text : List ℕ) (f : Files)

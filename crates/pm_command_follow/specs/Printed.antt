@@ -4,10 +4,11 @@ use Rattle.std.specs.Prelude.{Option, None, Some}
 use Rattle.std.specs.Fmt.{decimal}
 use Rattle.std.specs.List.{flat_map, range_with_len}
 use Rattle.pm_base.specs.Newline.{line}
+use Rattle.pm_options.specs.declared.kinds.Producer.TheVariants.{Input}
 use Rattle.pm_rows.specs.RowText.{row_text}
 use Rattle.pm_model_following.specs.Following.{followed, frame, frame_head, replay, table_text}
 use Rattle.pm_model_history.specs.History.{Entry}
-use Rattle.pm_model_history.specs.Merge.{HistoryRow}
+use Rattle.pm_model_history.specs.Merge.{AllFit, HistoryRow}
 use Rattle.pm_schema.specs.declared.schema.TableSchema.{TableSchema}
 
 -- the snapshot of the first frame: the one that is asked for, or the one after the latest
@@ -52,12 +53,20 @@ abbrev pub frames_of : ℕ → List (List HistoryRow) → List ℕ
 frames_of id [] = []
 frames_of id (rows ∷ more) = frame_of id rows ++ frames_of (id + 1) more
 
+-- the rows of changes, one after another
+abbrev pub rows_in : List (List HistoryRow) → List HistoryRow
+rows_in changes = flat_map (λ rows. rows) changes
+
 -- What was printed of frames is these, and their rows, replayed in order on the table that was followed before them,
--- give the one that is followed at the last.
+-- give the one that is followed at the last. With the producer of inputs the rows fit the schema, and no others that fit
+-- it have this text; so whoever reads its lines by the schema has these rows.
 pub record LeadOn (s : TableSchema) (entries : List Entry) (start last : ℕ) (text : List ℕ) : Type 0 where
   pub changes : List (List HistoryRow)
   pub frames : text ≡ frames_of start changes
-  pub replayed : replay s (followed s entries (start - 1)) (flat_map (λ rows. rows) changes) ≡ followed s entries last
+  pub replayed : replay s (followed s entries (start - 1)) (rows_in changes) ≡ followed s entries last
+  pub fits : s.options.producer ≡ Input → AllFit s.columns (rows_in changes)
+  pub only : s.options.producer ≡ Input → (others : List (List HistoryRow)) → AllFit s.columns (rows_in others)
+      → text ≡ frames_of start others → changes ≡ others
 
 -- What was printed is the starting table, if it is asked for, and frames behind it, which lead on to the newest
 -- snapshot. So do the first of them to each snapshot before that.

@@ -12,10 +12,12 @@ ghost use Rattle.pm_model_following.specs.Following.{followed, table_text};
 ghost use Rattle.pm_model_folder.specs.Folder.{HasTable};
 ghost use Rattle.pm_store.specs.Files.{Files};
 ghost use Rattle.pm_command_follow.specs.Follow.{FollowsAny, IsFollowed, MayStartAt, TellsChanges};
-ghost use Rattle.pm_command_follow.specs.Printed.{LeadFrom, LeadOn, count_from, follow_text, frames_text, start_of, table_head};
+ghost use Rattle.pm_command_follow.specs.Printed.{LeadFrom, LeadOn, count_from, follow_text, frames_text, start_of};
+ghost use Rattle.pm_command_follow.specs.Printed.{table_head};
 
 use pm_draft::built_law;
 use pm_model_following::{finished_law, frames_law};
+use pm_rows::{line_law, round_trip_law};
 use pm_schema::{declared_law, schema_law};
 
 /// What is promised of histories follows from the calls of the store and what the sink took.
@@ -49,6 +51,8 @@ pub fn replay_law()
     ensures starting { (s : TableSchema) (entries : List Entry) (id : ℕ) → s.options.producer ≡ Input
         → table_text s entries id ≡ table_head id ++ scan_text s (rows_up_to entries id) }
 {
+    round_trip_law();
+    line_law();
     frames_law();
     finished_law();
     schema_law();
