@@ -1,3 +1,4 @@
+mod CompleteLemmas
 mod HistoryLemmas
 pub mod JoinLemmas
 mod PieceLemmas

@@ -1,3 +1,4 @@
+pub mod Complete
 pub mod Follow
 pub mod Pieces
 pub mod Printed

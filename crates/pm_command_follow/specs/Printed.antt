@@ -58,8 +58,8 @@ abbrev pub rows_in : List (List HistoryRow) → List HistoryRow
 rows_in changes = flat_map (λ rows. rows) changes
 
 -- What was printed of frames is these, and their rows, replayed in order on the table that was followed before them,
--- give the one that is followed at the last. With the producer of inputs the rows fit the schema, and no others that fit
--- it have this text; so whoever reads its lines by the schema has these rows.
+-- give the one that is followed at the last. With the producer of inputs the rows fit the schema, and no others that
+-- fit it have this text; so whoever reads its lines by the schema has these rows.
 pub record LeadOn (s : TableSchema) (entries : List Entry) (start last : ℕ) (text : List ℕ) : Type 0 where
   pub changes : List (List HistoryRow)
   pub frames : text ≡ frames_of start changes

@@ -1,17 +1,19 @@
 //! What the calls of `follow` say of a history, and what its frames are for.
 
 ghost use Rattle.std.specs.Prelude.{◌≡◌, Bool, ℕ, suc, ◌≤◌, List, ◌++◌, length, Option};
-ghost use Rattle.pm_io.specs.Sink.{SinkView};
+ghost use Rattle.pm_base.specs.Faults.{Rose};
+ghost use Rattle.pm_io.specs.Sink.{SinkFailed, SinkView};
 ghost use Rattle.pm_store.specs.Store.{StoreView};
 ghost use Rattle.pm_values.specs.declared.refusal.Refusal.{Refusal};
 ghost use Rattle.pm_options.specs.declared.kinds.Producer.TheVariants.{Input};
 ghost use Rattle.pm_schema.specs.declared.schema.TableSchema.{TableSchema};
-ghost use Rattle.pm_model_history.specs.History.{Entry, rows_up_to};
+ghost use Rattle.pm_model_history.specs.History.{Entry, rows_up_to, table};
 ghost use Rattle.pm_model_history.specs.Merged.{merged, scan_text};
 ghost use Rattle.pm_model_following.specs.Following.{followed, table_text};
 ghost use Rattle.pm_model_folder.specs.Folder.{HasTable};
 ghost use Rattle.pm_store.specs.Files.{Files};
-ghost use Rattle.pm_command_follow.specs.Follow.{FollowsAny, IsFollowed, MayStartAt, TellsChanges};
+ghost use Rattle.pm_command_follow.specs.Complete.{MayPrintAll, PrintsAll};
+ghost use Rattle.pm_command_follow.specs.Follow.{FollowsAny, FollowsTable, IsFollowed, MayStartAt, TellsChanges};
 ghost use Rattle.pm_command_follow.specs.Printed.{LeadFrom, LeadOn, count_from, follow_text, frames_text, start_of};
 ghost use Rattle.pm_command_follow.specs.Printed.{table_head};
 
@@ -57,4 +59,16 @@ pub fn replay_law()
     finished_law();
     schema_law();
     declared_law();
+}
+
+/// Where the snapshots that it has to print are there, from a start that isn't too high, of a table that tells its
+/// changes and is built, and no fault of the store or of the sink was counted, all is printed, or memory ran out.
+pub fn complete_law()
+    ensures { (s : TableSchema) (entries : List Entry) (from : Option ℕ) (full : Bool) (first last : StoreView)
+        (before after : SinkView) (answer : Option Refusal)
+        → FollowsTable (table s entries) from full first last before after answer
+        → MayPrintAll s entries from full first → (Rose first.faults last.faults → ⊥) → (SinkFailed before after → ⊥)
+        → PrintsAll s entries from full first before after answer }
+{
+    built_law();
 }

@@ -12,4 +12,4 @@ mod laws;
 mod pieces;
 
 pub use follow::run_follow;
-pub use laws::{follow_law, replay_law};
+pub use laws::{complete_law, follow_law, replay_law};
