@@ -1,5 +1,5 @@
 -- A reader of the latest snapshot's id keeps the laws of machines.
-use Rattle.std.proofs.Common.{◌≡◌, ◌⊎◌, inl, ℕ, zero, suc, ◌<◌, ◌≤◌, List, [], ◌∷◌, ◌++◌, length, Some, IsSome, IfSome, refl, sym, ap, subst, arith, length-append}
+use Rattle.std.proofs.Common.{◌≡◌, ◌⊎◌, inl, ℕ, zero, suc, ◌<◌, ◌≤◌, List, [], ◌∷◌, ◌++◌, length, Some, IsSome, IfSome, refl, sym, ap, subst, ◌∙◌, arith, length-append}
 use Rattle.pm_values.specs.declared.refusal.Refusal.{Refusal}
 use Rattle.pm_store.specs.declared.answer.Answer.{Answer}
 use Rattle.pm_store.specs.declared.answer.Answer.TheVariants as answers
@@ -20,6 +20,7 @@ use Rattle.pm_model_folder.specs.Paths.{snapshot_folder}
 use Rattle.pm_model_folder.proofs.Facts.{goes_on, listed-snapshot, some-none}
 use Rattle.pm_paths.specs.Ids.{IsLatest}
 use Rattle.pm_paths.proofs.ListedLemmas.{latest_is}
+use Rattle.pm_read_schema.specs.Reader.{snapshots_call}
 use Rattle.pm_read_schema.specs.Trace.{listed_snapshots}
 use Rattle.pm_read_schema.proofs.Facts.{list_effect}
 use Rattle.pm_read_latest.specs.Meaning.{Knows}
@@ -45,6 +46,18 @@ latest_of f no_table (suc n) names folder is listing =
     let led = (listing.exact (snapshot_name (suc n))).0 (is.listed (omega arith)) in
     absurd (some-none _ (listed-snapshot f no_table (suc n) folder is.within led) (folder.snapshots (suc n) is.within))
 latest_of f (table s entries) latest names folder is listing = latest_is f s entries folder latest names is listing
+
+-- the id that is known
+abbrev id_in : Phase → ℕ
+id_in (phases.Ready latest) = latest
+id_in m = 0
+
+pub listed : (answer : Answer) (latest : ℕ) (f : Files) (p : Past) → Stands f p → Answers snapshots_call answer f → Goes phases.List answer (phases.Ready latest)
+    → latest ≡ count_of p.history
+listed (answers.Listed names) latest f p stands told (id, is, at) =
+    let same : latest ≡ id = ap id_in at in
+    same ∙ latest_of f p.history id names.items stands.folder is told
+listed answer latest f p stands told goes = absurd goes
 
 -- what an answer leads to is known of the same files
 knows_next : (m : Phase) (answer : Answer) (new : Phase) (f : Files) (p : Past) → Goes m answer new → Stands f p → Knows m f p

@@ -2,10 +2,13 @@
 
 ghost use Rattle.std.specs.Prelude.{◌≡◌, ◌⊎◌, ℕ, List, [], ◌∷◌, ◌++◌, Some, Result, Err};
 ghost use Rattle.pm_model_folder.specs.Changes.{Actor};
-ghost use Rattle.pm_model_folder.specs.Ledger.{Advances, Past, Stands};
+ghost use Rattle.pm_model_folder.specs.Ledger.{Advances, Past, Stands, count_of};
 ghost use Rattle.pm_machine.specs.Moves.{IsKept};
 ghost use Rattle.pm_machine.specs.Step.{path_of};
 ghost use Rattle.pm_machine.specs.Trace.{Event, HasTrace, faulted};
+ghost use Rattle.pm_read_schema.specs.Reader.{snapshots_call};
+ghost use Rattle.pm_store.specs.Answers.{Answers};
+ghost use Rattle.pm_store.specs.declared.answer.Answer.{Answer};
 ghost use Rattle.pm_store.specs.declared.call.Call.{Call};
 ghost use Rattle.pm_store.specs.Files.{Files};
 ghost use Rattle.pm_store.specs.Images.{MayLeave};
@@ -14,13 +17,21 @@ ghost use Rattle.pm_values.specs.declared.refusal.Refusal.{Refusal};
 ghost use Rattle.pm_values.specs.declared.refusal.Refusal.TheVariants as refusals;
 ghost use Rattle.pm_read_latest.specs.AllCalls.{DidLatest, FindsLatests};
 ghost use Rattle.pm_read_latest.specs.Meaning.{Knows};
-ghost use Rattle.pm_read_latest.specs.Reader.{next_call};
+ghost use Rattle.pm_read_latest.specs.Reader.{next_call, Goes};
 ghost use Rattle.pm_read_latest.specs.declared.phase.Phase.{Phase};
+ghost use Rattle.pm_read_latest.specs.declared.phase.Phase.TheVariants as phases;
 
 /// What a reader knows stays true through each kind of change of every actor.
 pub fn known_law()
     ensures { (m : Phase) (other : Actor) (f after : Files) (p q : Past) → Stands f p → Advances other f p after q
         → Knows m f p → Knows m after q }
+{}
+
+/// Whatever others do before the listing and after it, the id is that of the newest snapshot which the table has had
+/// when the snapshots are listed.
+pub fn listed_law()
+    ensures { (answer : Answer) (latest : ℕ) (f : Files) (p : Past) → Stands f p → Answers snapshots_call answer f
+        → Goes phases.List answer (phases.Ready latest) → latest ≡ count_of p.history }
 {}
 
 /// Whatever a crash leaves of its call has the same content at each path.

@@ -15,6 +15,6 @@ mod phase;
 mod reader;
 
 pub use all_calls::read_latest;
-pub use laws::{all_calls_law, images_law, known_law, one_answer_law};
+pub use laws::{all_calls_law, images_law, known_law, listed_law, one_answer_law};
 pub use phase::Phase;
 pub use reader::{LatestReader, into_latest, is_latest_ready, latest_reader};
