@@ -6,6 +6,7 @@ mod AtLemmas
 mod CauseLemmas
 mod ChangeLemmas
 mod FaultLemmas
+mod FrameLemmas
 mod KeptLemmas
 mod LineLemmas
 mod StoodLemmas

@@ -1,4 +1,5 @@
 pub mod AllCalls
+pub mod Frames
 pub mod Meaning
 pub mod Reader
 pub mod Reading

@@ -1,8 +1,11 @@
 //! Laws of readers of frames.
 
-ghost use Rattle.std.specs.Prelude.{◌≡◌, ◌⊎◌, ℕ, ◌≤◌, List, [], ◌∷◌, ◌++◌, Some, Result, Err};
+ghost use Rattle.std.specs.Prelude.{◌≡◌, ◌⊎◌, ℕ, suc, ◌+◌, ◌-◌, ◌≤◌, List, [], ◌∷◌, ◌++◌, length, Some, Result, Err};
+ghost use Rattle.std.specs.List.{flat_map, range_with_len};
 ghost use Rattle.pm_model_folder.specs.Changes.{Actor};
 ghost use Rattle.pm_model_folder.specs.Ledger.{Advances, Past, Stands};
+ghost use Rattle.pm_model_following.specs.Following.{frame};
+ghost use Rattle.pm_model_history.specs.History.{Entry as CommitView, GoesOn, History, table};
 ghost use Rattle.pm_machine.specs.Moves.{IsKept};
 ghost use Rattle.pm_machine.specs.Step.{path_of};
 ghost use Rattle.pm_machine.specs.Trace.{Event, HasTrace, faulted};
@@ -18,7 +21,8 @@ ghost use Rattle.pm_read_table.specs.Meaning.{MayRefuse};
 ghost use Rattle.pm_values.specs.declared.refusal.Refusal.{Refusal};
 ghost use Rattle.pm_values.specs.declared.refusal.Refusal.TheVariants as refusals;
 ghost use Rattle.pm_read_frame.specs.AllCalls.{DidFrame, ReadsFrames};
-ghost use Rattle.pm_read_frame.specs.Meaning.{HasTaken, IsFrame, Knows};
+ghost use Rattle.pm_read_frame.specs.Frames.{AreFramesFrom, IsFrameOf, joined};
+ghost use Rattle.pm_read_frame.specs.Meaning.{HasOneLog, HasTaken, IsFrame, Knows};
 ghost use Rattle.pm_read_frame.specs.Reader.{next_call, Shown};
 ghost use Rattle.pm_read_frame.specs.declared.phase.Phase.{Phase};
 
@@ -71,6 +75,25 @@ pub fn one_answer_law()
     one_reading_law::<Entry>();
     one_opening_law();
     one_list_law();
+}
+
+/// A frame that is known is one of the history from then on, however far it goes on; and behind frames up to a snapshot
+/// comes that of the next one. Of a table with one group and a producer such frames are, one after another, those of
+/// its snapshots from the first of them on, of which none is left out and none isn't there.
+pub fn frames_law()
+    ensures known { (f : Files) (p : Past) (id : ℕ) (text : List ℕ) → Stands f p → IsFrame p id text
+        → IsFrameOf p.history id text }
+    ensures later { (h later : History) (id : ℕ) (texts : List (List ℕ)) → GoesOn h later → AreFramesFrom h id texts
+        → AreFramesFrom later id texts }
+    ensures next { (h : History) (id : ℕ) (texts : List (List ℕ)) (text : List ℕ) → AreFramesFrom h id texts
+        → IsFrameOf h (id + length texts) text → AreFramesFrom h id (texts ++ text ∷ []) }
+    ensures within { (s : TableSchema) (entries : List CommitView) (id : ℕ) (texts : List (List ℕ))
+        → AreFramesFrom (table s entries) id texts → length texts ≤ suc (length entries) - id }
+    ensures text { (s : TableSchema) (entries : List CommitView) (id : ℕ) (texts : List (List ℕ)) → HasOneLog s
+        → AreFramesFrom (table s entries) id texts
+        → joined texts ≡ flat_map (frame s entries) (range_with_len id (length texts)) }
+{
+    kept_law();
 }
 
 /// Once all files of a changelog were read, the text is the frame of its snapshot.

@@ -8,7 +8,7 @@
 //! to the text; `specs/Meaning.antt` what a reader knows in each phase: in the end its text is the snapshot's frame,
 //! whatever others did meanwhile, where the table has a producer and one group; `specs/Trace.antt` which calls it made,
 //! and which show a refusal. `read_frame` makes all of them; `specs/AllCalls.antt` has what they do where nobody else
-//! acts.
+//! acts. `specs/Frames.antt` puts the frames of several readers together, whatever others did meanwhile.
 #![tactic(auto)]
 
 mod after;
@@ -23,7 +23,7 @@ mod reading;
 
 pub use all_calls::read_frame;
 pub use file::ChangesFile;
-pub use laws::{all_calls_law, causes_law, images_law, known_law, one_answer_law};
+pub use laws::{all_calls_law, causes_law, frames_law, images_law, known_law, one_answer_law};
 pub use phase::Phase;
 pub use reader::{FrameReader, frame_at, into_text, is_frame_ready};
 pub use reading::Reading;
