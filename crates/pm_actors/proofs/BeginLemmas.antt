@@ -12,10 +12,15 @@ use Rattle.pm_create.specs.Creator.{IsCreator, NewTable, calls_left, own_origin}
 use Rattle.pm_create.specs.Meaning as create
 use Rattle.pm_create.specs.declared.phase.Phase.TheVariants as creators
 use Rattle.pm_create.specs.declared.phase.Phase as creating
+use Rattle.pm_read_latest.specs.Meaning as latest_reader
+use Rattle.pm_read_latest.specs.declared.phase.Phase as finding
 use Rattle.pm_snapshots.specs.Meaning as snapshots
 use Rattle.pm_snapshots.specs.declared.phase.Phase as listing
 use Rattle.pm_scan.specs.Meaning as scan
 use Rattle.pm_scan.specs.declared.phase.Phase as scanning
+use Rattle.pm_read_frame.specs.Frames.{AreFramesFrom}
+use Rattle.pm_read_frame.specs.Meaning as frame_reader
+use Rattle.pm_read_frame.specs.declared.phase.Phase as following
 use Rattle.pm_commit.specs.AllCalls.{NamesNone}
 use Rattle.pm_commit.specs.Committer.{IsCommitter}
 use Rattle.pm_commit.specs.Meaning as commit
@@ -23,7 +28,7 @@ use Rattle.pm_commit.specs.Meaning.{KnowsOwn}
 use Rattle.pm_commit.specs.Own as owner
 use Rattle.pm_commit.specs.declared.phase.Phase as committing
 use Rattle.pm_commit.proofs.OwnLemmas.{append-planned}
-use Rattle.pm_actors.specs.World.{AllKnow, Begins, BeginsCommit, IsWorld, KeepsActor, Knows, MayBegin, MayFollow, MayJoin, Worker, commits, creates, lists, scans, waits}
+use Rattle.pm_actors.specs.World.{AllKnow, Begins, BeginsCommit, BeginsFollow, Followed, IsWorld, KeepsActor, Knows, KnowsFollowed, MayBegin, MayFollow, MayJoin, Worker, commits, creates, finds, follows, lists, scans, waits}
 use Rattle.pm_actors.proofs.WorldLemmas.{replaced}
 
 -- what the law of a folder that is found says
@@ -55,12 +60,30 @@ module _ (f : Files) (p : Past) where
             ([], (append-planned begins.begun.intent me begins.begun.author.base [] p appends refl, inr tt)),
       )
 
+  follow_begins : (x : Followed) (m : following.Phase) → BeginsFollow p.history x m → KnowsFollowed x p × frame_reader.Knows m f p
+  follow_begins x m begins =
+      let most = begins.most in
+      let bound = begins.bound in
+      let within = begins.within in (
+        record {
+          table = begins.table;
+          least = begins.least;
+          bound = begins.bound;
+          within = begins.within;
+          frames = subst (AreFramesFrom p.history x.start) (sym begins.none) tt;
+        },
+        subst (λ (m : following.Phase). frame_reader.Knows m f p) (sym begins.is)
+            (begins.table, begins.least, omega (arith, most, bound), omega (arith, most, within)),
+      )
+
   pub joined : (w : Worker) → MayJoin p w → Knows w f p
   joined (waits me) named = named
   joined (creates t m) (is, left, other) = creator_begins t m is left other
   joined (lists me m) (inl is) = subst (λ (m : listing.Phase). snapshots.Knows m f p) (sym is) tt
   joined (lists me m) (inr (s, is, table)) = subst (λ (m : listing.Phase). snapshots.Knows m f p) (sym is) table
   joined (scans me m) (a, is, table) = subst (λ (m : scanning.Phase). scan.Knows m f p) (sym is) table
+  joined (finds me s m) (is, table) = (table, subst (λ (m : finding.Phase). latest_reader.Knows m f p) (sym is) tt)
+  joined (follows me x m) begins = follow_begins x m begins
   joined (commits e m) begins = commit_begins e m begins
 
 -- who may begin where of its actor more is asked may begin where less is
@@ -69,6 +92,8 @@ begins_by P Q h more (waits me) may = more me may
 begins_by P Q h more (creates t m) may = may
 begins_by P Q h more (lists me m) may = may
 begins_by P Q h more (scans me m) may = may
+begins_by P Q h more (finds me s m) may = may
+begins_by P Q h more (follows me x m) may = may
 begins_by P Q h more (commits e m) may = record {
   begun = may.begun;
   schema = may.schema;

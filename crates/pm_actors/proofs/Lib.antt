@@ -1,2 +1,3 @@
 mod BeginLemmas
+mod FollowLemmas
 mod WorldLemmas

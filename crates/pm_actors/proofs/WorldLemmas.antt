@@ -1,5 +1,5 @@
 -- Whichever machine steps, the others know what they knew.
-use Rattle.std.proofs.Common.{◌≡◌, ◌≢◌, ℕ, List, [], ◌∷◌, ◌++◌, Option, None, Some, IfSome, option_map, refl, sym, ap, subst}
+use Rattle.std.proofs.Common.{◌≡◌, ◌≢◌, ℕ, ◌≤◌, List, [], ◌∷◌, ◌++◌, length, length-append, Option, None, Some, IfSome, option_map, refl, sym, ap, subst, ◌∙◌, arith}
 use Rattle.std.specs.List.{AllByRecursion}
 use Rattle.pm_store.specs.declared.call.Op.{Op}
 use Rattle.pm_store.specs.Files.{Files, after_effect, after_op, files_after}
@@ -7,22 +7,28 @@ use Rattle.pm_store.specs.Store.{own_op}
 use Rattle.pm_store.specs.declared.call.Effect.{Effect}
 use Rattle.pm_store.proofs.FileLaws.{files_after-push}
 use Rattle.pm_machine.specs.Moves.{IsKept, Keeps, Lasts}
-use Rattle.pm_model_history.specs.History.{Entry}
-use Rattle.pm_model_folder.specs.Changes.{Actor, IsActor, IsOwn, its_origin, origin_name}
-use Rattle.pm_model_folder.specs.Ledger.{Advances, HasNamedNone, Past, Stands}
+use Rattle.pm_model_history.specs.History.{Entry, GoesOn, History, IsTableOf, no_table, table}
+use Rattle.pm_model_folder.specs.Changes.{Actor, Change, IsActor, IsOwn, its_origin, origin_name}
+use Rattle.pm_model_folder.specs.Ledger.{Advances, HasNamedNone, Past, Stands, count_of}
 use Rattle.pm_model_folder.specs.Paths.{snapshot_file}
 use Rattle.pm_create.specs.Creator.{NewTable}
 use Rattle.pm_create.specs.Meaning as create
 use Rattle.pm_create.specs.declared.phase.Phase as creating
+use Rattle.pm_read_latest.specs.Meaning as latest_reader
+use Rattle.pm_read_latest.specs.declared.phase.Phase as finding
 use Rattle.pm_snapshots.specs.Meaning as snapshots
 use Rattle.pm_snapshots.specs.declared.phase.Phase as listing
 use Rattle.pm_scan.specs.Meaning as scan
 use Rattle.pm_scan.specs.declared.phase.Phase as scanning
+use Rattle.pm_schema.specs.declared.schema.TableSchema.{TableSchema}
+use Rattle.pm_read_frame.specs.Frames.{AreFramesFrom}
+use Rattle.pm_read_frame.specs.Meaning as frame_reader
+use Rattle.pm_read_frame.specs.declared.phase.Phase as following
 use Rattle.pm_commit.specs.Meaning as commit
 use Rattle.pm_commit.specs.Own as owner
 use Rattle.pm_commit.specs.Own.{OwnView}
 use Rattle.pm_commit.specs.declared.phase.Phase as committing
-use Rattle.pm_actors.specs.World.{AllKnow, AreAllApart, AreApart, Differ, IsWorld, KeepsActor, Knows, Leaves, Worker, actor_of, commits, creates, lists, scans, waits}
+use Rattle.pm_actors.specs.World.{AllKnow, AreAllApart, AreApart, Differ, Followed, IsWorld, KeepsActor, Knows, KnowsFollowed, Leaves, Worker, actor_of, commits, creates, finds, follows, lists, scans, waits}
 
 -- what the laws of the crates below say
 pub record KnownLaws : Type 0 where
@@ -36,6 +42,12 @@ pub record KnownLaws : Type 0 where
       → snapshots.Knows m f p → snapshots.Knows m after q
   pub scans : (m : scanning.Phase) (other : Actor) (f after : Files) (p q : Past) → Stands f p → Advances other f p after q
       → scan.Knows m f p → scan.Knows m after q
+  pub finds : (m : finding.Phase) (other : Actor) (f after : Files) (p q : Past) → Stands f p → Advances other f p after q
+      → latest_reader.Knows m f p → latest_reader.Knows m after q
+  pub follows : (m : following.Phase) (other : Actor) (f after : Files) (p q : Past) → Stands f p → Advances other f p after q
+      → frame_reader.Knows m f p → frame_reader.Knows m after q
+  pub goes_on : (me : Actor) (f after : Files) (h later : History) → Change me f h after later → GoesOn h later
+  pub frames : (h later : History) (id : ℕ) (texts : List (List ℕ)) → GoesOn h later → AreFramesFrom h id texts → AreFramesFrom later id texts
   pub commits : (e : Entry) (m : committing.Phase) (other : Actor) (f after : Files) (p q : Past) → Stands f p → Advances other f p after q
       → commit.IsOtherThan other m → commit.Knows e m f p → commit.Knows e m after q
 
@@ -55,6 +67,8 @@ steps laws (waits me) f after p q kept = (me, refl, laws.same me f after p q kep
 steps laws (creates t m) f after p q makes = (t.me, refl, makes.advances)
 steps laws (lists me m) f after p q kept = (me, refl, laws.same me f after p q kept)
 steps laws (scans me m) f after p q kept = (me, refl, laws.same me f after p q kept)
+steps laws (finds me s m) f after p q kept = (me, refl, laws.same me f after p q kept)
+steps laws (follows me x m) f after p q kept = (me, refl, laws.same me f after p q kept)
 steps laws (commits e m) f after p q makes = commit_steps e (commit.own_in m) f after p q makes
 
 -- ---- who knows
@@ -68,6 +82,30 @@ other_commit : (me : Actor) (o : Option OwnView) → IfSome (option_map owner.ac
 other_commit me None differ = tt
 other_commit me (Some o) differ = λ same. differ.apart (sym same)
 
+-- a table stays that of its history, which has no fewer entries
+table_stays : (s : TableSchema) (h later : History) → GoesOn h later → IsTableOf s h → IsTableOf s later
+table_stays s no_table later goes is = absurd is
+table_stays s (table t es) no_table goes is = absurd goes
+table_stays s (table t es) (table u more) goes is = goes.0 ∙ is
+
+count_grows : (h later : History) → GoesOn h later → count_of h ≤ count_of later
+count_grows no_table later goes = omega arith
+count_grows (table s es) no_table goes = absurd goes
+count_grows (table s es) (table t later) (same, more, is) =
+    let size = ap length is in let both = length-append es more in omega (arith, size, both)
+
+followed_stays : KnownLaws → (x : Followed) (p q : Past) → GoesOn p.history q.history → KnowsFollowed x p → KnowsFollowed x q
+followed_stays laws x p q goes known =
+    let grown = count_grows p.history q.history goes in
+    let within = known.within in
+    record {
+      table = table_stays x.schema p.history q.history goes known.table;
+      least = known.least;
+      bound = known.bound;
+      within = omega (arith, within, grown);
+      frames = laws.frames p.history q.history x.start x.frames goes known.frames;
+    }
+
 knows_still : KnownLaws → (b : Worker) (me : Actor) (f after : Files) (p q : Past) → IfSome (actor_of b) (λ other. Differ me other) → Stands f p
     → Advances me f p after q → Knows b f p → Knows b after q
 knows_still laws (waits other) me f after p q differ stands advances known =
@@ -76,6 +114,14 @@ knows_still laws (creates t m) me f after p q differ stands advances known =
     laws.creates t m me f after p q stands advances (origins_apart laws me t.me differ) known
 knows_still laws (lists other m) me f after p q differ stands advances known = laws.lists m me f after p q stands advances known
 knows_still laws (scans other m) me f after p q differ stands advances known = laws.scans m me f after p q stands advances known
+knows_still laws (finds other s m) me f after p q differ stands advances (is, known) = (
+  table_stays s p.history q.history (laws.goes_on me f after p.history q.history advances.change) is,
+  laws.finds m me f after p q stands advances known,
+)
+knows_still laws (follows other x m) me f after p q differ stands advances (followed, known) = (
+  followed_stays laws x p q (laws.goes_on me f after p.history q.history advances.change) followed,
+  laws.follows m me f after p q stands advances known,
+)
 knows_still laws (commits e m) me f after p q differ stands advances known =
     laws.commits e m me f after p q stands advances (other_commit me (commit.own_in m) differ) known
 

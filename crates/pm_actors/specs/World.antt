@@ -1,18 +1,23 @@
 -- Machines of commands beside each other on one folder, each run by an actor: what each may change, and what it knows.
-use Rattle.std.specs.Prelude.{◌≡◌, ◌≢◌, ◌⊎◌, List, [], ◌∷◌, Option, Some, IfSome, option_map}
+use Rattle.std.specs.Prelude.{◌≡◌, ◌≢◌, ◌⊎◌, ℕ, ◌+◌, ◌≤◌, List, [], ◌∷◌, ◌++◌, Option, Some, IfSome, option_map}
 use Rattle.std.specs.List.{AllByRecursion}
 use Rattle.pm_store.specs.Files.{Files, files_after}
 use Rattle.pm_store.specs.declared.call.Op.{Op}
 use Rattle.pm_machine.specs.Moves.{IsKept}
 use Rattle.pm_model_history.specs.History.{Entry, History, IsTableOf}
 use Rattle.pm_schema.specs.declared.schema.TableSchema.{TableSchema}
-use Rattle.pm_snapshot.specs.Names.{MayName}
+use Rattle.pm_snapshot.specs.Names.{MayName, greatest}
 use Rattle.pm_model_folder.specs.Changes.{Actor, IsActor, IsNoOrigin}
-use Rattle.pm_model_folder.specs.Ledger.{HasNamedNone, Past, Stands}
+use Rattle.pm_model_folder.specs.Ledger.{HasNamedNone, Past, Stands, count_of}
 use Rattle.pm_create.specs.Creator.{IsCreator, NewTable, calls_left, own_origin}
 use Rattle.pm_create.specs.Meaning as create
 use Rattle.pm_create.specs.declared.phase.Phase as creating
 use Rattle.pm_read_schema.specs.declared.phase.Phase.TheVariants as schema_readers
+use Rattle.pm_read_latest.specs.Meaning as latest_reader
+use Rattle.pm_read_latest.specs.declared.phase.Phase as finding
+use Rattle.pm_read_latest.specs.declared.phase.Phase.TheVariants as finders
+use Rattle.pm_read_log.specs.Log.{log_asked_of}
+use Rattle.pm_read_log.specs.declared.log_phase.LogPhase.TheVariants as logs
 use Rattle.pm_snapshots.specs.Meaning as snapshots
 use Rattle.pm_snapshots.specs.declared.phase.Phase as listing
 use Rattle.pm_snapshots.specs.declared.phase.Phase.TheVariants as listers
@@ -21,6 +26,10 @@ use Rattle.pm_read_table.specs.declared.phase.Phase.TheVariants as readers
 use Rattle.pm_scan.specs.Meaning as scan
 use Rattle.pm_scan.specs.declared.phase.Phase as scanning
 use Rattle.pm_scan.specs.declared.phase.Phase.TheVariants as scanners
+use Rattle.pm_read_frame.specs.Frames.{AreFramesFrom}
+use Rattle.pm_read_frame.specs.Meaning as frame_reader
+use Rattle.pm_read_frame.specs.declared.phase.Phase as following
+use Rattle.pm_read_frame.specs.declared.phase.Phase.TheVariants as followers
 use Rattle.pm_made.specs.Intent.{Means}
 use Rattle.pm_commit.specs.AllCalls.{NamesNone}
 use Rattle.pm_commit.specs.Committer.{IsCommitter}
@@ -30,13 +39,35 @@ use Rattle.pm_commit.specs.Own.{OwnView}
 use Rattle.pm_commit.specs.declared.phase.Phase as committing
 use Rattle.pm_commit.specs.declared.phase.Phase.TheVariants as committers
 
+-- what a following has: its table, the snapshot of its first frame, the newest one that was listed, and the frames that
+-- were read so far
+pub record Followed : Type 0 where
+  pub schema : TableSchema
+  pub start : ℕ
+  pub latest : ℕ
+  pub frames : List (List ℕ)
+
+-- it begins, and one frame more was read
+abbrev pub follow_from : TableSchema → ℕ → ℕ → Followed
+follow_from s start latest = record { schema = s; start = start; latest = latest; frames = [] }
+
+abbrev pub with_frame : Followed → List ℕ → Followed
+with_frame x text = record x { frames = x.frames ++ text ∷ [] }
+
+-- the reader of the frame of a snapshot, before its first call
+abbrev pub reader_at : TableSchema → ℕ → following.Phase
+reader_at s id = followers.Log (logs.Snapshot (log_asked_of s id))
+
 -- an actor whose command has no machine yet; or a machine of a command, by its phase: with the table that it makes, the
--- entry that it adds, or who runs it
+-- entry that it adds, or who runs it. The readers of the latest snapshot's id and of a frame have the table, too, and
+-- the following that they are for.
 pub data Worker : Type 0 where
   waits : Actor → Worker
   creates : NewTable → creating.Phase → Worker
   lists : Actor → listing.Phase → Worker
   scans : Actor → scanning.Phase → Worker
+  finds : Actor → TableSchema → finding.Phase → Worker
+  follows : Actor → Followed → following.Phase → Worker
   commits : Entry → committing.Phase → Worker
 
 -- who runs it; of a commit that is over nobody
@@ -45,6 +76,8 @@ actor_of (waits me) = Some me
 actor_of (creates t m) = Some t.me
 actor_of (lists me m) = Some me
 actor_of (scans me m) = Some me
+actor_of (finds me s m) = Some me
+actor_of (follows me x m) = Some me
 actor_of (commits e m) = option_map owner.actor_of (commit.own_in m)
 
 -- the kinds of change that it may make
@@ -53,7 +86,18 @@ Leaves (waits me) f p after later = IsKept f p after later
 Leaves (creates t m) f p after later = create.Makes t f p after later
 Leaves (lists me m) f p after later = IsKept f p after later
 Leaves (scans me m) f p after later = IsKept f p after later
+Leaves (finds me s m) f p after later = IsKept f p after later
+Leaves (follows me x m) f p after later = IsKept f p after later
 Leaves (commits e m) f p after later = commit.MakesEntry e m f p after later
+
+-- What is known of a following: its table is the history's, all snapshots up to the newest that was listed were
+-- committed, and what was read so far are frames from its start on.
+pub record KnowsFollowed (x : Followed) (p : Past) : Type 0 where
+  pub table : IsTableOf x.schema p.history
+  pub least : 1 ≤ x.start
+  pub bound : x.latest ≤ greatest
+  pub within : x.latest ≤ count_of p.history
+  pub frames : AreFramesFrom p.history x.start x.frames
 
 -- what it knows of the files and of what they stand for: before its command begins that no known snapshot names a file
 -- of its actor, also of those that have gone, which nobody can read any more
@@ -62,6 +106,8 @@ Knows (waits me) f p = HasNamedNone me p
 Knows (creates t m) f p = create.Knows t m f p
 Knows (lists me m) f p = snapshots.Knows m f p
 Knows (scans me m) f p = scan.Knows m f p
+Knows (finds me s m) f p = IsTableOf s p.history × latest_reader.Knows m f p
+Knows (follows me x m) f p = KnowsFollowed x p × frame_reader.Knows m f p
 Knows (commits e m) f p = commit.Knows e m f p
 
 abbrev pub AllKnow : List Worker → Files → Past → Type 0
@@ -111,15 +157,26 @@ pub record BeginsCommit (Named : Actor → Type 0) (h : History) (e : Entry) (m 
   pub none_lost : begun.lost ≡ []
   pub unnamed : Named (owner.actor_of begun)
 
+-- what a reader of a frame begins with: it is the first frame, of a snapshot that was listed
+pub record BeginsFollow (h : History) (x : Followed) (m : following.Phase) : Type 0 where
+  pub is : m ≡ reader_at x.schema x.start
+  pub none : x.frames ≡ []
+  pub table : IsTableOf x.schema h
+  pub least : 1 ≤ x.start
+  pub most : x.start ≤ x.latest
+  pub bound : x.latest ≤ greatest
+  pub within : x.latest ≤ count_of h
+
 -- A machine has made no call on a table with the history: who waits is one that named nothing, a creator's origin isn't
--- that table's, a lister has yet to
--- read the schema or has read it, and a scanner or a committer has read it.
+-- that table's, a lister has yet to read the schema or has read it, and any other has read it.
 abbrev pub Begins : (Actor → Type 0) → History → Worker → Type 0
 Begins Named h (waits me) = Named me
 Begins Named h (creates t m) = IsCreator t m × (calls_left m ≡ 2) × IsNoOrigin h (own_origin t.me)
 Begins Named h (lists me m) =
     (m ≡ listers.Schema schema_readers.Schemas) ⊎ ((s : TableSchema) × (m ≡ listers.List s) × IsTableOf s h)
 Begins Named h (scans me m) = (a : Asked) × (m ≡ scanners.View (readers.List a)) × IsTableOf a.schema h
+Begins Named h (finds me s m) = (m ≡ finders.List) × IsTableOf s h
+Begins Named h (follows me x m) = BeginsFollow h x m
 Begins Named h (commits e m) = BeginsCommit Named h e m
 
 -- in a folder that is found: no snapshot that is there names a file of a committer

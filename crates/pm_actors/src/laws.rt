@@ -1,20 +1,26 @@
 //! Laws of machines beside each other. Each holds with no call but of the laws of crates below.
 
-ghost use Rattle.std.specs.Prelude.{◌≡◌, List, [], ◌∷◌, ◌++◌};
+ghost use Rattle.std.specs.Prelude.{◌≡◌, ℕ, ◌+◌, ◌<◌, ◌≤◌, List, [], ◌∷◌, ◌++◌, length, Vec};
+ghost use Rattle.std.specs.Global.{Global};
 ghost use Rattle.std.specs.List.{AllByRecursion};
 ghost use Rattle.pm_actors.specs.World.{AllKnow, AreApart, IsWorld, KeepsActor, Knows, Leaves, MayBegin, MayFollow};
-ghost use Rattle.pm_actors.specs.World.{MayJoin, Worker, waits};
+ghost use Rattle.pm_actors.specs.World.{Followed, MayJoin, Worker, finds, follow_from, follows, reader_at, waits};
+ghost use Rattle.pm_actors.specs.World.{with_frame};
 ghost use Rattle.pm_machine.specs.Moves.{Keeps, Lasts};
 ghost use Rattle.pm_model_folder.specs.Changes.{Actor};
 ghost use Rattle.pm_model_folder.specs.Folder.{Folder};
 ghost use Rattle.pm_model_folder.specs.Ledger.{Past, Stands};
 ghost use Rattle.pm_model_history.specs.History.{History};
+ghost use Rattle.pm_read_frame.specs.declared.phase.Phase.TheVariants as followers;
+ghost use Rattle.pm_read_latest.specs.declared.phase.Phase.TheVariants as finders;
+ghost use Rattle.pm_schema.specs.declared.schema.TableSchema.{TableSchema};
 ghost use Rattle.pm_store.specs.Files.{Files, files_after};
 ghost use Rattle.pm_store.specs.Store.{own_op};
 ghost use Rattle.pm_store.specs.declared.call.Effect.{Effect};
 ghost use Rattle.pm_store.specs.declared.call.Op.{Op};
 
-use pm_model_folder::{found_law, own_law, past_law, unnamed_law};
+use pm_model_folder::{found_law, goes_on_law, own_law, past_law, unnamed_law};
+use pm_read_frame::frames_law;
 use pm_read_schema::nothing_law;
 
 /// A machine that begins beside others knows what it has to. So where its actor waited in their world, it comes in the
@@ -46,6 +52,10 @@ pub fn others_law()
     pm_create::known_law();
     pm_snapshots::known_law();
     pm_scan::known_law();
+    pm_read_latest::known_law();
+    pm_read_frame::known_law();
+    goes_on_law();
+    frames_law();
     pm_commit::known_law();
 }
 
@@ -62,6 +72,25 @@ pub fn world_law()
         → IsWorld (before ++ a ∷ later) ops → IsWorld (before ++ new ∷ later) ops }
 {
     others_law();
+}
+
+/// A following makes no call where its next machine comes in the place of the one before: once the snapshots were
+/// listed the reader of its first frame, and once a frame was read that of the next one, up to the newest that was
+/// listed. Each knows what it has to, and that all that was read so far are frames from the start on, whatever others
+/// did meanwhile.
+pub fn follow_law()
+    ensures first { (me : Actor) (s : TableSchema) (start latest : ℕ) (f : Files) (p : Past) → Stands f p
+        → Knows (finds me s (finders.Ready latest)) f p → 1 ≤ start → start ≤ latest
+        → Knows (follows me (follow_from s start latest) (reader_at s start)) f p }
+    ensures next { (me : Actor) (x : Followed) (text : Vec ℕ Global) (f : Files) (p : Past) → Stands f p
+        → Knows (follows me x (followers.Ready (x.start + length x.frames) text)) f p
+        → x.start + length x.frames < x.latest
+        → Knows (follows me (with_frame x text.items) (reader_at x.schema (x.start + length x.frames + 1))) f p }
+    ensures last { (me : Actor) (x : Followed) (text : Vec ℕ Global) (f : Files) (p : Past) → Stands f p
+        → Knows (follows me x (followers.Ready (x.start + length x.frames) text)) f p
+        → Knows (follows me (with_frame x text.items) followers.Over) f p }
+{
+    frames_law();
 }
 
 /// Where one of them stops, between two calls or within one, whatever of that was carried out, the others are a world.

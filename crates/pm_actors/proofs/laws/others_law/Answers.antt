@@ -11,6 +11,10 @@ returns c =
       creates = c.known_law.ensures;
       lists = c.known_law-2.ensures;
       scans = c.known_law-3.ensures;
-      commits = c.known_law-4.ensures;
+      finds = c.known_law-4.ensures;
+      follows = c.known_law-5.ensures;
+      goes_on = c.goes_on_law.ensures;
+      frames = c.frames_law.ensures.later;
+      commits = c.known_law-6.ensures;
     } in
     others_know laws
