@@ -1,3 +1,4 @@
+mod BesideLemmas
 mod CompleteLemmas
 mod HistoryLemmas
 pub mod JoinLemmas

@@ -1,3 +1,4 @@
+pub mod Beside
 pub mod Complete
 pub mod Follow
 pub mod Pieces

@@ -1,6 +1,6 @@
 //! What the calls of `follow` say of a history, and what its frames are for.
 
-ghost use Rattle.std.specs.Prelude.{◌≡◌, Bool, ℕ, suc, ◌≤◌, List, ◌++◌, length, Option};
+ghost use Rattle.std.specs.Prelude.{◌≡◌, Bool, ℕ, suc, ◌≤◌, List, ◌++◌, length, Option, Some};
 ghost use Rattle.pm_base.specs.Faults.{Rose};
 ghost use Rattle.pm_io.specs.Sink.{SinkFailed, SinkView};
 ghost use Rattle.pm_store.specs.Store.{StoreView};
@@ -9,16 +9,19 @@ ghost use Rattle.pm_options.specs.declared.kinds.Producer.TheVariants.{Input};
 ghost use Rattle.pm_schema.specs.declared.schema.TableSchema.{TableSchema};
 ghost use Rattle.pm_model_history.specs.History.{Entry, rows_up_to, table};
 ghost use Rattle.pm_model_history.specs.Merged.{merged, scan_text};
+ghost use Rattle.pm_draft.specs.Built.{IsBuilt};
 ghost use Rattle.pm_model_following.specs.Following.{followed, table_text};
 ghost use Rattle.pm_model_folder.specs.Folder.{HasTable};
+ghost use Rattle.pm_read_frame.specs.Frames.{joined};
 ghost use Rattle.pm_store.specs.Files.{Files};
+ghost use Rattle.pm_command_follow.specs.Beside.{ArePieces, IsFirstOf};
 ghost use Rattle.pm_command_follow.specs.Complete.{MayPrintAll, PrintsAll};
 ghost use Rattle.pm_command_follow.specs.Follow.{FollowsAny, FollowsTable, IsFollowed, MayStartAt, TellsChanges};
 ghost use Rattle.pm_command_follow.specs.Printed.{LeadFrom, LeadOn, count_from, follow_text, frames_text, start_of};
 ghost use Rattle.pm_command_follow.specs.Printed.{table_head};
 
 use pm_draft::built_law;
-use pm_model_following::{finished_law, frames_law};
+use pm_model_following::{finished_law, frames_law, kept_law};
 use pm_rows::{line_law, round_trip_law};
 use pm_schema::{declared_law, schema_law};
 
@@ -71,4 +74,23 @@ pub fn complete_law()
         → PrintsAll s entries from full first before after answer }
 {
     built_law();
+}
+
+/// Whatever others do meanwhile, pieces that were each known of the history as it was then are a prefix of what is
+/// printed of the history from their start on, however far it has gone on: no frame between them is left out, and none
+/// is there of a snapshot that the history hasn't. Where they are as many as there are up to the newest snapshot of a
+/// listing, they are all that is printed of the table as it was at that listing.
+pub fn pieces_law()
+    ensures first { (s : TableSchema) (entries : List Entry) (full : Bool) (start : ℕ) (first : List ℕ)
+        (frames : List (List ℕ)) → TellsChanges s → IsBuilt s → ArePieces (table s entries) full start first frames
+        → IsFirstOf s entries full start (length frames) (first ++ joined frames) }
+    ensures all { (f : Files) (s : TableSchema) (entries more : List Entry) (full : Bool) (start : ℕ) (first : List ℕ)
+        (frames : List (List ℕ)) → HasTable f s entries → TellsChanges s → IsBuilt s → start ≤ suc (length entries)
+        → ArePieces (table s (entries ++ more)) full start first frames
+        → length frames ≡ count_from start (length entries)
+        → first ++ joined frames ≡ follow_text s entries (Some start) full }
+{
+    pm_read_frame::frames_law();
+    kept_law();
+    finished_law();
 }

@@ -4,7 +4,9 @@
 //! call of the store. `specs/Printed.antt` says what is printed of a table, where `frame` and `followed` are those of
 //! `pm_model_following`, and `specs/Follow.antt` what the command answers, what it has printed then, and that it leaves
 //! a folder as it is. `replay_law` is for whoever reads its frames: their rows, replayed on the table that was followed
-//! before them, give the one that is followed at the last.
+//! before them, give the one that is followed at the last. `specs/Beside.antt` says what the pieces are where others
+//! act meanwhile, and `pieces_law` that they are a prefix of what is printed of the history, however far it has gone
+//! on.
 #![tactic(auto)]
 
 mod follow;
@@ -12,4 +14,4 @@ mod laws;
 mod pieces;
 
 pub use follow::run_follow;
-pub use laws::{complete_law, follow_law, replay_law};
+pub use laws::{complete_law, follow_law, pieces_law, replay_law};

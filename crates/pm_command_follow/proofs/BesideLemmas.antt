@@ -1,0 +1,120 @@
+-- The pieces of a following, put together whatever others did meanwhile.
+use Rattle.std.proofs.Common.{◌≡◌, ◌≢◌, ◌⊎◌, inl, inr, ℕ, zero, suc, ◌+◌, ◌-◌, ◌≤◌, Bool, true, false, List, [], ◌++◌, length, take, Some, refl, sym, ap, subst, ◌∙◌, append_assoc, length-append, arith}
+use Rattle.std.specs.FinMap.{FinMap, values}
+use Rattle.std.specs.List.{flat_map, range_with_len}
+use Rattle.std.proofs.lemmas.List.{take-append-le}
+use Rattle.pm_base.specs.Newline.{line}
+use Rattle.pm_options.specs.declared.kinds.Producer.TheVariants as producers
+use Rattle.pm_rows.specs.RowText.{row_text}
+use Rattle.pm_schema.specs.declared.schema.TableSchema.{TableSchema}
+use Rattle.pm_store.specs.Files.{Files}
+use Rattle.pm_values.specs.Order.{Values, key_cmp}
+use Rattle.pm_values.specs.declared.kind.Kind.TheVariants.{Insert}
+use Rattle.pm_model_history.specs.History.{Entry, GoesOn, History, entry_rows, rows_up_to, table}
+use Rattle.pm_model_history.specs.Merge.{HistoryRow}
+use Rattle.pm_model_history.specs.Merged.{scan_text}
+use Rattle.pm_model_following.specs.Following.{HaveBases, IsFinished, change, followed, frame, frame_head, table_text}
+use Rattle.pm_model_folder.specs.Folder.{HasTable}
+use Rattle.pm_model_folder.specs.Ledger.{IsKnown, Past, count_of}
+use Rattle.pm_draft.specs.Built.{IsBuilt}
+use Rattle.pm_read_frame.specs.Frames.{AreFramesFrom, joined}
+use Rattle.pm_read_frame.specs.Meaning.{HasOneLog}
+use Rattle.pm_command_follow.specs.Beside.{ArePieces, IsFirstOf, IsScanOf, IsStartOf}
+use Rattle.pm_command_follow.specs.Follow.{TellsChanges}
+use Rattle.pm_command_follow.specs.Printed.{count_from, follow_text, frames_text, table_head, text_so_far}
+use Rattle.pm_command_follow.proofs.TextLemmas.{follow_split, table_is}
+
+-- what the laws of frames and of the model say
+pub record Laws : Type 0 where
+  pub within : (s : TableSchema) (es : List Entry) (id : ℕ) (texts : List (List ℕ)) → AreFramesFrom (table s es) id texts
+      → length texts ≤ suc (length es) - id
+  pub text : (s : TableSchema) (es : List Entry) (id : ℕ) (texts : List (List ℕ)) → HasOneLog s → AreFramesFrom (table s es) id texts
+      → joined texts ≡ flat_map (frame s es) (range_with_len id (length texts))
+  pub finished : (s : TableSchema) (es : List Entry) (n : ℕ) → s.options.producer ≡ producers.Input → IsFinished s es n
+  pub table : (s : TableSchema) (es more : List Entry) (n : ℕ) → HaveBases 1 es → n ≤ length es → followed s (es ++ more) n ≡ followed s es n
+  pub change : (s : TableSchema) (es more : List Entry) (n : ℕ) → HaveBases 1 es → n ≤ length es → change s (es ++ more) n ≡ change s es n
+
+module _ (s : TableSchema) (tells : TellsChanges s) (built : IsBuilt s) where
+  input_of : s.options.producer ≡ producers.Input
+  input_of = by built.producer
+    where
+      by : (s.options.producer ≡ producers.None) ⊎ (s.options.producer ≡ producers.Input) → s.options.producer ≡ producers.Input
+      by (inl none) = absurd (tells none)
+      by (inr is) = is
+
+  one_log : HasOneLog s
+  one_log = record { producer = tells; bucket = built.bucket; partition = built.partition }
+
+-- ---- the starting table
+
+module _ (s : TableSchema) (es : List Entry) (id : ℕ) (rows : List ℕ) (is : IsScanOf (table s es) id rows) where
+  of_table : GoesOn (table is.scan.schema is.scan.entries) (table s es)
+  of_table = subst (λ (h : History). GoesOn h (table s es)) is.scan.is_table is.goes_on
+
+  scanned_to : id ≤ length is.scan.entries
+  scanned_to = by is.scan.known
+    where
+      by : (id ≡ 0) ⊎ IsKnown is.past id → id ≤ length is.scan.entries
+      by (inl origin) = omega (arith, origin)
+      by (inr known) = subst (λ (h : History). id ≤ count_of h) is.scan.is_table known.to
+
+  scan_is : rows ≡ scan_text s (rows_up_to es id)
+  scan_is =
+      let (same, more, whole) = of_table in
+      let own = is.scan.entries in
+      is.scan.is_text
+      ∙ ap (λ (es : List Entry). scan_text is.scan.schema (flat_map entry_rows es)) (sym (take-append-le id own more scanned_to))
+      ∙ sym (λ i. scan_text (same i) (rows_up_to (whole i) id))
+
+-- ---- the pieces together
+
+module _ (laws : Laws) (s : TableSchema) (tells : TellsChanges s) (built : IsBuilt s) where
+  together : (es : List Entry) (full : Bool) (start : ℕ) (first : List ℕ) (frames : List (List ℕ)) → IsStartOf (table s es) full start first
+      → AreFramesFrom (table s es) start frames → first ++ joined frames ≡ text_so_far s es full start (length frames)
+  together es false start first frames none are =
+      ap (λ (first : List ℕ). first ++ joined frames) none ∙ laws.text s es start frames (one_log s tells built) are
+  together es true start first frames (rows, scan, is) are =
+      ap (λ (first : List ℕ). first ++ joined frames)
+      (is ∙ ap (λ (rows : List ℕ). table_head (start - 1) ++ rows) (scan_is s es (start - 1) rows scan)
+      ∙ sym (table_is s es (start - 1) (laws.finished s es (start - 1) (input_of s tells built))))
+      ∙ ap (λ (text : List ℕ). table_text s es (start - 1) ++ text) (laws.text s es start frames (one_log s tells built) are)
+
+  pub are_first : (es : List Entry) (full : Bool) (start : ℕ) (first : List ℕ) (frames : List (List ℕ)) → ArePieces (table s es) full start first frames
+      → IsFirstOf s es full start (length frames) (first ++ joined frames)
+  are_first es full start first frames are =
+      let is = together es full start first frames are.base are.each in
+      let within = laws.within s es start frames are.each in
+      let (rest, split) = follow_split s es full start (length frames) (count_from start (length es)) within in
+      record {
+        text = is;
+        within = within;
+        prefix = (rest, split ∙ ap (λ (text : List ℕ). text ++ rest) (sym is));
+      }
+
+  -- ---- where more entries came
+
+  frames_kept : (es more : List Entry) (start count : ℕ) → HaveBases 1 es → start + count ≤ suc (length es)
+      → frames_text s (es ++ more) start count ≡ frames_text s es start count
+  frames_kept es more start zero bases within = refl
+  frames_kept es more start (suc count) bases within =
+      ap (λ (rows : List HistoryRow). (frame_head start ++ flat_map (λ (r : HistoryRow). line (row_text r.0 r.1)) rows) ++ frames_text s (es ++ more) (start + 1) count)
+      (laws.change s es more start bases (omega (arith, within)))
+      ∙ ap (λ (text : List ℕ). frame s es start ++ text) (frames_kept es more (start + 1) count bases (omega (arith, within)))
+
+  kept : (es more : List Entry) (full : Bool) (start count : ℕ) → HaveBases 1 es → start ≤ suc (length es) → start + count ≤ suc (length es)
+      → text_so_far s (es ++ more) full start count ≡ text_so_far s es full start count
+  kept es more false start count bases low within = frames_kept es more start count bases within
+  kept es more true start count bases low within =
+      ap (λ (table : FinMap key_cmp Values).
+      (table_head (start - 1) ++ flat_map (λ (row : Values). line (row_text Insert row)) (values table)) ++ frames_text s (es ++ more) start count)
+      (laws.table s es more (start - 1) bases (omega (arith, low)))
+      ∙ ap (λ (text : List ℕ). table_text s es (start - 1) ++ text) (frames_kept es more start count bases within)
+
+  pub are_all : (f : Files) (es more : List Entry) (full : Bool) (start : ℕ) (first : List ℕ) (frames : List (List ℕ)) → HasTable f s es
+      → start ≤ suc (length es) → ArePieces (table s (es ++ more)) full start first frames → length frames ≡ count_from start (length es)
+      → first ++ joined frames ≡ follow_text s es (Some start) full
+  are_all f es more full start first frames stands low are size =
+      let end : start + (suc (length es) - start) ≤ suc (length es) = omega (arith, low) in
+      (are_first (es ++ more) full start first frames are).text
+      ∙ ap (text_so_far s (es ++ more) full start) size
+      ∙ kept es more full start (count_from start (length es)) stands.history.bases low end
