@@ -2,6 +2,8 @@ mod BesideLemmas
 mod CompleteLemmas
 mod HistoryLemmas
 pub mod JoinLemmas
+mod OneLemmas
 mod PieceLemmas
 mod ReplayLemmas
+mod StageLemmas
 mod TextLemmas

@@ -1,3 +1,4 @@
+pub mod Answer
 pub mod Beside
 pub mod Complete
 pub mod Follow

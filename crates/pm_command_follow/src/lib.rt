@@ -14,4 +14,4 @@ mod laws;
 mod pieces;
 
 pub use follow::run_follow;
-pub use laws::{complete_law, follow_law, pieces_law, replay_law};
+pub use laws::{complete_law, follow_law, one_answer_law, pieces_law, replay_law};

@@ -32,7 +32,7 @@ names_in : Option Answer → List (List ℕ)
 names_in (Some (answers.Listed names)) = names.items
 names_in other = []
 
-same_names : (names others : Names) → listed_snapshots names ≡ listed_snapshots others → names.items ≡ others.items
+pub same_names : (names others : Names) → listed_snapshots names ≡ listed_snapshots others → names.items ≡ others.items
 unfolding names_in
 same_names names others is = ap (λ (event : Event). names_in event.answer) is
 
@@ -41,12 +41,12 @@ has_one one other own (names, is, at) (others, was, there) =
     let same = same_names names others (head_same (listed_snapshots names) (listed_snapshots others) [] [] (sym at ∙ there)) in
     one_latest names.items one other is (subst (λ (names : List (List ℕ)). IsLatest names other) (sym same) was)
 
-has_answered : (latest : ℕ) (own : List Event) → HasLatest latest own → AllByRecursion IsAnswered own
+pub has_answered : (latest : ℕ) (own : List Event) → HasLatest latest own → AllByRecursion IsAnswered own
 has_answered latest own (names, is, at) = subst (AllByRecursion IsAnswered) (sym at) (refl, tt)
 
 -- ---- what is shown
 
-shown : (refusal : Refusal) (own : List Event) → Shows refusal own → (refusal ≡ refusals.Memory) ⊎ Fails refusal own
+pub shown : (refusal : Refusal) (own : List Event) → Shows refusal own → (refusal ≡ refusals.Memory) ⊎ Fails refusal own
 shown refusals.Memory own shows = inl refl
 shown (refusals.StoreFault path) own shows = inr (failed next_call DidSoFar path own shows)
 shown other own shows = absurd shows

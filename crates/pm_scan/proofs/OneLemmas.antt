@@ -64,12 +64,12 @@ module _ (laws : OneLaws) where
   same_found live g None None none gone = refl
 
   -- to its id, its schema and the runs of its groups
-  record Alike (v w : View) : Type 0 where
-    id : v.id ≡ w.id
-    schema : v.schema ≡ w.schema
-    groups : v.groups.entries ≡ w.groups.entries
+  pub record Alike (v w : View) : Type 0 where
+    pub id : v.id ≡ w.id
+    pub schema : v.schema ≡ w.schema
+    pub groups : v.groups.entries ≡ w.groups.entries
 
-  one_view : (a : Asked) (v w : View) (m : view.Place) → view.IsViewAt a v m → view.IsViewAt a w m → Alike v w
+  pub one_view : (a : Asked) (v w : View) (m : view.Place) → view.IsViewAt a v m → view.IsViewAt a w m → Alike v w
   one_view a v w view.origin is was = record {
     id = is.id ∙ sym was.id;
     schema = is.schema ∙ sym was.schema;
@@ -86,7 +86,7 @@ module _ (laws : OneLaws) where
   one_view a v w m is was = absurd is
 
   -- so what is asked of the reader of its files is
-  same_asked : (v w : View) → Alike v w → all_of v ≡ all_of w
+  pub same_asked : (v w : View) → Alike v w → all_of v ≡ all_of w
   same_asked v w alike =
       ap (λ (s : TableSchema). chosen_of s v.id v.groups.entries []) alike.schema
       ∙ ap (λ (id : ℕ). chosen_of w.schema id v.groups.entries []) alike.id
