@@ -1,0 +1,3 @@
+mod ChangeLemmas
+mod ClaimLemmas
+mod ExpiryLemmas
