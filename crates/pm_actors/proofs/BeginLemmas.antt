@@ -114,8 +114,8 @@ one_may_join me p named =
 
 pub came : (before later : List Worker) (me : Actor) (w : Worker) (ops : List Op) → KeepsActor (waits me) w → MayFollow me w ops
     → IsWorld (before ++ waits me ∷ later) ops → IsWorld (before ++ w ∷ later) ops
-came before later me w ops keeps follows =
-    replaced before later (waits me) w ops keeps (λ p stands named. joined (files_after ops) p w (one_may_join me p named w (follows p stands)))
+came before later me w ops keeps may =
+    replaced before later (waits me) w ops keeps (λ p stands named. joined (files_after ops) p w (one_may_join me p named w (may p stands)))
 
 -- what the law of those that join says
 abbrev pub Joins : Type 0
