@@ -1,8 +1,9 @@
 -- What a claim on one name leaves of the others, and what a moment holds of consumers that count.
-use Rattle.std.proofs.Common.{◌≡◌, ◌≢◌, ◌⊎◌, inl, inr, ℕ, ◌≤◌, List, Bool, true, false, cond, Some, None, refl, sym, ap, ◌∙◌, arith, true≢false}
+use Rattle.std.proofs.Common.{◌≡◌, ◌≢◌, ◌⊎◌, inl, inr, ℕ, suc, ◌≤◌, List, [], ◌∷◌, ◌++◌, Bool, true, false, cond, Some, None, refl, sym, ap, ◌∙◌, arith, true≢false}
 use Rattle.std.specs.Str.{bytes_eq}
 use Rattle.std.proofs.lemmas.Slice.Eq.{bytes_eq-Decides}
-use Rattle.pm_model_consumers.specs.Claims.{Claim, Counts, Holds, IsClaimed, Moment, Said, free, known_at, new_at, settled, waits, with_claim}
+use Rattle.pm_model_consumers.specs.Changes.{SameFrames}
+use Rattle.pm_model_consumers.specs.Claims.{AreMoved, Claim, Counts, Holds, IsClaimed, Moment, Said, free, known_at, new_at, settled, waits, with_claim}
 
 -- ---- names
 
@@ -34,27 +35,44 @@ fresh-same a b e = cc
 pub none-not : (a : Said) → Some a ≡ None → ⊥
 none-not a e = cc
 
+-- ---- frames that consumers were moved past
+
+-- they stay where frames do
+pub moved-stay : (m n : Moment) → SameFrames m n → m.newest ≤ n.newest → (from : ℕ) (moved : List (List ℕ)) (next : ℕ) → AreMoved m from moved next
+    → AreMoved n from moved next
+moved-stay m n same more from [] next is = is
+moved-stay m n same more from (text ∷ moved) next (within, frame, rest) =
+    (omega (arith, within, more), frame ∙ sym (same from within), moved-stay m n same more (suc from) moved next rest)
+
+-- and one more is that of the number
+pub moved-more : (m : Moment) (from : ℕ) (moved : List (List ℕ)) (next : ℕ) (text : List ℕ) → AreMoved m from moved next → next ≤ m.newest → text ≡ m.frame next
+    → AreMoved m from (moved ++ text ∷ []) (suc next)
+moved-more m from [] next text is within frame = (omega (arith, is, within), frame ∙ ap m.frame (sym is), ap suc is)
+moved-more m from (own ∷ moved) next text (low, is, rest) within frame = (low, is, moved-more m (suc from) moved next text rest within frame)
+
 -- ---- who counts
 
 -- what a claim says of the file of a name, where it counts
 pub counted : (m : Moment) (name : List ℕ) (claim : Claim) → IsClaimed m name claim → Counts claim → (said : Said) × (m.file name ≡ Some said) × (m.least ≤ said.next)
 counted m name free is counts = absurd counts
 counted m name (waits who listed) (n, file, some, low) counts = (new_at n, file, low counts)
-counted m name (settled from) (n, file, low, rose) counts = (known_at n, file, low)
+counted m name (settled from moved) (n, file, low, are) counts = (known_at n, file, low)
 
 pub least : (m : Moment) (name : List ℕ) → Holds m → Counts (m.claim name) → (said : Said) × (m.file name ≡ Some said) × (m.least ≤ said.next)
 least m name holds = counted m name (m.claim name) (holds.claims name)
 
--- a claim holds where the file is the same and the least snapshot isn't above what counts
-pub claim-stays : (m n : Moment) (name : List ℕ) (claim : Claim) → n.file name ≡ m.file name
+-- a claim holds where the file and the frames are the same and the least snapshot isn't above what counts
+pub claim-stays : (m n : Moment) (name : List ℕ) (claim : Claim) → n.file name ≡ m.file name → SameFrames m n → m.newest ≤ n.newest
     → ((said : Said) → Counts claim → m.file name ≡ Some said → n.least ≤ said.next) → IsClaimed m name claim → IsClaimed n name claim
-claim-stays m n name free file low is = tt
-claim-stays m n name (waits who listed) file low (k, was, some, under) = (k, file ∙ was, some, λ has. low (new_at k) has was)
-claim-stays m n name (settled from) file low (k, was, under, rose) = (k, file ∙ was, low (known_at k) tt was, rose)
+claim-stays m n name free file frames more low is = tt
+claim-stays m n name (waits who listed) file frames more low (k, was, some, under) = (k, file ∙ was, some, λ has. low (new_at k) has was)
+claim-stays m n name (settled from moved) file frames more low (k, was, under, are) =
+    (k, file ∙ was, low (known_at k) tt was, moved-stay m n frames more from moved k are)
 
 -- so it does where the least snapshot is the same
-pub claim-same : (m n : Moment) (name : List ℕ) (claim : Claim) → n.file name ≡ m.file name → n.least ≡ m.least → IsClaimed m name claim → IsClaimed n name claim
-claim-same m n name claim file same is = claim-stays m n name claim file bound is
+pub claim-same : (m n : Moment) (name : List ℕ) (claim : Claim) → n.file name ≡ m.file name → SameFrames m n → m.newest ≤ n.newest → n.least ≡ m.least
+    → IsClaimed m name claim → IsClaimed n name claim
+claim-same m n name claim file frames more same is = claim-stays m n name claim file frames more bound is
   where
     bound : (said : Said) → Counts claim → m.file name ≡ Some said → n.least ≤ said.next
     bound said counts at =

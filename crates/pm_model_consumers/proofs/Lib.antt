@@ -1,3 +1,4 @@
 mod ChangeLemmas
 mod ClaimLemmas
 mod ExpiryLemmas
+mod FollowerLemmas

@@ -1,3 +1,4 @@
 pub mod Changes
 pub mod Claims
 pub mod Expiry
+pub mod Known

@@ -1,4 +1,4 @@
-use Rattle.pm_model_consumers.proofs.ExpiryLemmas.{announced-kept, left-kept, lists-names, reads-absent, reads-one}
+use Rattle.pm_model_consumers.proofs.ExpiryLemmas.{announced-kept, announces-end, left-kept, lists-names, reads-absent, reads-one}
 use Rattle.pm_model_consumers.proofs.laws.expirer_law.Goals as goal
 
 pub returns-clause-announced : goal.returns-clause-announced
@@ -15,3 +15,6 @@ returns-clause-reads c = reads-one
 
 pub returns-clause-absent : goal.returns-clause-absent
 returns-clause-absent c = reads-absent
+
+pub returns-clause-announces : goal.returns-clause-announces
+returns-clause-announces c = announces-end
