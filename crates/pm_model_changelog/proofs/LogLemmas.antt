@@ -2,7 +2,7 @@
 use Rattle.std.proofs.Common.{◌≡◌, ◌≢◌, inl, inr, ℕ, zero, suc, ◌+◌, ◌-◌, ◌<◌, ◌≤◌, leb, List, [], ◌∷◌, ◌++◌, map, filter, take, length, Bool, true, false, cond, Some, None, refl, sym, ap, subst, ◌∙◌, arith, le_refl, lt_irrefl, lt_of_lt_of_le}
 use Rattle.std.specs.FinMap.{get}
 use Rattle.std.specs.List.{flat_map, range_with_len}
-use Rattle.std.specs.Cmp.{tied_itself}
+use Rattle.std.specs.Cmp.{Equal-is, tied_itself}
 use Rattle.std.specs.Ordering.{eq_by_cmp, is_eq}
 use Rattle.std.specs.declared.cmp.Ordering.TheVariants.{Less, Equal, Greater}
 use Rattle.std.proofs.lemmas.Bool.{leb-true, le-leb, cases_lt}
@@ -13,7 +13,7 @@ use Rattle.pm_options.specs.declared.kinds.EngineKind.TheVariants as engines
 use Rattle.pm_values.specs.GroupOrder.{group_cmp, group_total}
 use Rattle.pm_values.specs.Order.{Values, key_cmp}
 use Rattle.pm_values.specs.declared.group.Group.{Group}
-use Rattle.pm_values.proofs.Lemmas.{key_cmp-IsAntisymmetric}
+use Rattle.pm_values.proofs.Lemmas.{group_cmp-IsAntisymmetric, key_cmp-IsAntisymmetric}
 use Rattle.pm_model_history.specs.History.{Entry, entry_rows, rows_up_to}
 use Rattle.pm_model_history.specs.Merge.{HistoryRow, key_of, rows_of}
 use Rattle.pm_model_history.specs.Merged.{primary_of, shows, shows_by, values_of}
@@ -100,6 +100,55 @@ shown-covered worth hidden s runs rows key covers = at (stored_rows key runs) re
     at [] none = none-at (rows_of (primary_of s) key rows) refl none ∙ sym (ap (shown_of s) none ∙ shown-nil s)
     at (x ∷ st) some = shown-same s (rows_of (primary_of s) key rows) (stored_rows key runs) (worth (meaning_of s) runs rows key covers (λ e. let bad : x ∷ st ≡ [] = sym some ∙ e in cc))
 
+-- ---- the rows of a group
+
+up-to : (n k : ℕ) (entries : List Entry) → rows_by (λ j. leb j n) k entries ≡ flat_map entry_rows (take ((n + 1) - k) entries)
+up-to n k [] = elim ((n + 1) - k) as (λ m. [] ≡ flat_map entry_rows (take m [])) [ zero ↦ refl | suc m ↦ refl ]
+up-to n k (entry ∷ entries) = elim (cases_lt n k) [
+  | inl past ↦
+      rows_by-none (λ j. leb j n) k (entry ∷ entries) (λ j above. not_leb j n (omega arith))
+      ∙ let gone : 0 ≡ (n + 1) - k = omega arith in ap (λ m. flat_map entry_rows (take m (entry ∷ entries))) gone
+  | inr within ↦
+      rows_by-cons (λ j. leb j n) k entry entries
+      ∙ ap (λ b. cond b (entry_rows entry) [] ++ rows_by (λ j. leb j n) (k + 1) entries) (le-leb k n within)
+      ∙ ap (λ xs. entry_rows entry ++ xs) (up-to n (k + 1) entries)
+      ∙ let one : suc ((n + 1) - (k + 1)) ≡ (n + 1) - k = omega arith in ap (λ m. flat_map entry_rows (take m (entry ∷ entries))) one
+]
+
+module _ (s : TableSchema) (g : Group) where
+  abbrev of_list : List NumberedRow → List HistoryRow
+  of_list xs = rows_in s g (map (λ (r : NumberedRow). r.1) xs)
+
+  -- those that are passed on are those up to a number
+  passed-some : (entries : List Entry) (n : ℕ) (rows : List NumberedRow)
+      → of_list (filter (is_passed s entries n) rows) ≡ of_list (filter (λ (r : NumberedRow). leb r.0 (passed s.options.producer entries n g)) rows)
+  passed-some entries n [] = refl
+  passed-some entries n (r ∷ rows) = at (eq_by_cmp group_cmp (group_of s r.1.1) g) refl (filter (is_passed s entries n) rows)
+      (filter (λ (r : NumberedRow). leb r.0 (passed s.options.producer entries n g)) rows) (passed-some entries n rows)
+    where
+      put : (b : Bool) (xs : List NumberedRow) → eq_by_cmp group_cmp (group_of s r.1.1) g ≡ false → of_list (cond b (r ∷ xs) xs) ≡ of_list xs
+      put true xs apart = ap (λ c. cond c (r.1 ∷ of_list xs) (of_list xs)) apart
+      put false xs apart = refl
+
+      both : (b : Bool) (xs ys : List NumberedRow) → of_list xs ≡ of_list ys → of_list (cond b (r ∷ xs) xs) ≡ of_list (cond b (r ∷ ys) ys)
+      both true xs ys same = ap (λ zs. cond (eq_by_cmp group_cmp (group_of s r.1.1) g) (r.1 ∷ zs) zs) same
+      both false xs ys same = same
+
+      at : (t : Bool) → eq_by_cmp group_cmp (group_of s r.1.1) g ≡ t → (mine its : List NumberedRow) → of_list mine ≡ of_list its
+          → of_list (cond (leb r.0 (passed s.options.producer entries n (group_of s r.1.1))) (r ∷ mine) mine) ≡ of_list (cond (leb r.0 (passed s.options.producer entries n g)) (r ∷ its) its)
+      at true is mine its rest =
+          both (leb r.0 (passed s.options.producer entries n (group_of s r.1.1))) mine its rest
+          ∙ ap (λ (h : Group). of_list (cond (leb r.0 (passed s.options.producer entries n h)) (r ∷ its) its))
+          (group_cmp-IsAntisymmetric (group_of s r.1.1) g ((Equal-is (group_cmp (group_of s r.1.1) g)).0 is))
+      at false is mine its rest =
+          put (leb r.0 (passed s.options.producer entries n (group_of s r.1.1))) mine is ∙ rest ∙ sym (put (leb r.0 (passed s.options.producer entries n g)) its is)
+
+  pub passed-group : (entries : List Entry) (n : ℕ) → rows_in s g (passed_rows s entries n) ≡ rows_in s g (rows_up_to entries (passed s.options.producer entries n g))
+  passed-group entries n =
+      let p : ℕ = passed s.options.producer entries n g in
+      let last : (p + 1) - 1 ≡ p = omega arith in
+      passed-some entries n (numbered_rows entries) ∙ ap (rows_in s g) (up-to p 1 entries ∙ ap (rows_up_to entries) last)
+
 -- ---- the rows of a key
 
 module _ (s : TableSchema) (g : Group) (key : Values) (in_group : IsKeyOf s g key) where
@@ -131,53 +180,11 @@ module _ (s : TableSchema) (g : Group) (key : Values) (in_group : IsKeyOf s g ke
           ap (λ b. rows_of (primary_of s) key (cond b (r ∷ rows_in s g rows) (rows_in s g rows))) is_u ∙ rest
           ∙ sym (ap (λ b. cond b (r ∷ rows_of (primary_of s) key rows) (rows_of (primary_of s) key rows)) is_t)
 
-  abbrev of_list : List NumberedRow → List HistoryRow
-  of_list xs = rows_of (primary_of s) key (map (λ (r : NumberedRow). r.1) xs)
-
-  -- those that are passed on are those up to a number
-  passed-some : (entries : List Entry) (n : ℕ) (rows : List NumberedRow)
-      → rows_of (primary_of s) key (map (λ (r : NumberedRow). r.1) (filter (is_passed s entries n) rows))
-      ≡ rows_of (primary_of s) key (map (λ (r : NumberedRow). r.1) (filter (λ (r : NumberedRow). leb r.0 (passed s.options.producer entries n g)) rows))
-  passed-some entries n [] = refl
-  passed-some entries n (r ∷ rows) = at (eq_by_cmp key_cmp key (key_of (primary_of s) r.1.1)) refl (filter (is_passed s entries n) rows)
-      (filter (λ (r : NumberedRow). leb r.0 (passed s.options.producer entries n g)) rows) (passed-some entries n rows)
-    where
-      put : (b : Bool) (xs : List NumberedRow) → eq_by_cmp key_cmp key (key_of (primary_of s) r.1.1) ≡ false → of_list (cond b (r ∷ xs) xs) ≡ of_list xs
-      put true xs apart = ap (λ c. cond c (r.1 ∷ of_list xs) (of_list xs)) apart
-      put false xs apart = refl
-
-      both : (b : Bool) (xs ys : List NumberedRow) → of_list xs ≡ of_list ys → of_list (cond b (r ∷ xs) xs) ≡ of_list (cond b (r ∷ ys) ys)
-      both true xs ys same = ap (λ zs. cond (eq_by_cmp key_cmp key (key_of (primary_of s) r.1.1)) (r.1 ∷ zs) zs) same
-      both false xs ys same = same
-
-      at : (t : Bool) → eq_by_cmp key_cmp key (key_of (primary_of s) r.1.1) ≡ t → (mine its : List NumberedRow) → of_list mine ≡ of_list its
-          → of_list (cond (leb r.0 (passed s.options.producer entries n (group_of s r.1.1))) (r ∷ mine) mine) ≡ of_list (cond (leb r.0 (passed s.options.producer entries n g)) (r ∷ its) its)
-      at true is mine its rest =
-          let group : group_of s r.1.1 ≡ g = in_group r.1.1 (tied-key (key_of (primary_of s) r.1.1) is) in
-          both (leb r.0 (passed s.options.producer entries n (group_of s r.1.1))) mine its rest
-          ∙ ap (λ (h : Group). of_list (cond (leb r.0 (passed s.options.producer entries n h)) (r ∷ its) its)) group
-      at false is mine its rest =
-          put (leb r.0 (passed s.options.producer entries n (group_of s r.1.1))) mine is ∙ rest ∙ sym (put (leb r.0 (passed s.options.producer entries n g)) its is)
-
-  up-to : (n k : ℕ) (entries : List Entry) → rows_by (λ j. leb j n) k entries ≡ flat_map entry_rows (take ((n + 1) - k) entries)
-  up-to n k [] = elim ((n + 1) - k) as (λ m. [] ≡ flat_map entry_rows (take m [])) [ zero ↦ refl | suc m ↦ refl ]
-  up-to n k (entry ∷ entries) = elim (cases_lt n k) [
-    | inl past ↦
-        rows_by-none (λ j. leb j n) k (entry ∷ entries) (λ j above. not_leb j n (omega arith))
-        ∙ let gone : 0 ≡ (n + 1) - k = omega arith in ap (λ m. flat_map entry_rows (take m (entry ∷ entries))) gone
-    | inr within ↦
-        rows_by-cons (λ j. leb j n) k entry entries
-        ∙ ap (λ b. cond b (entry_rows entry) [] ++ rows_by (λ j. leb j n) (k + 1) entries) (le-leb k n within)
-        ∙ ap (λ xs. entry_rows entry ++ xs) (up-to n (k + 1) entries)
-        ∙ let one : suc ((n + 1) - (k + 1)) ≡ (n + 1) - k = omega arith in ap (λ m. flat_map entry_rows (take m (entry ∷ entries))) one
-  ]
-
   passed-up-to : (entries : List Entry) (n : ℕ)
       → rows_of (primary_of s) key (passed_rows s entries n) ≡ rows_of (primary_of s) key (rows_up_to entries (passed s.options.producer entries n g))
   passed-up-to entries n =
-      let p : ℕ = passed s.options.producer entries n g in
-      let last : (p + 1) - 1 ≡ p = omega arith in
-      passed-some entries n (numbered_rows entries) ∙ ap (rows_of (primary_of s) key) (up-to p 1 entries ∙ ap (rows_up_to entries) last)
+      sym (of-group (passed_rows s entries n)) ∙ ap (rows_of (primary_of s) key) (passed-group s g entries n)
+      ∙ of-group (rows_up_to entries (passed s.options.producer entries n g))
 
   -- what the table that is passed on has of the key
   followed-at : TableLaw → (entries : List Entry) (n : ℕ) → get (followed s entries n) key ≡ shown_of s (rows_of (primary_of s) key (rows_up_to entries (passed s.options.producer entries n g)))

@@ -1,7 +1,7 @@
--- The log of a compaction, from the runs at the snapshot that it began from; and which rows of a group an entry passes
--- on.
-use Rattle.std.specs.Prelude.{◌≡◌, ◌≢◌, ℕ, ◌<◌, ◌≤◌, Bool, true, false, List, [], ◌∷◌, ◌++◌, length, map, drop, take}
-use Rattle.std.specs.Prelude.{Option, Some, None, if◌then◌else◌}
+-- The log of a compaction, from the runs at the snapshot that it began from, for each producer; and which rows of a
+-- group an entry passes on.
+use Rattle.std.specs.Prelude.{◌≡◌, ◌≢◌, ℕ, ◌<◌, ◌≤◌, ◌==◌, nat_lt, Bool, true, false}
+use Rattle.std.specs.Prelude.{List, [], ◌∷◌, ◌++◌, length, map, drop, take, Option, Some, None, if◌then◌else◌}
 use Rattle.std.specs.FinMap.{FinMap, from_entries, keys}
 use Rattle.std.specs.List.{AllByRecursion, flat_map}
 use Rattle.std.specs.declared.cmp.Ordering.TheVariants.{Greater}
@@ -18,6 +18,8 @@ use Rattle.pm_model_following.specs.Following.{base_of, compacted, leaves_out_eq
 use Rattle.pm_model_following.specs.Groups.{group_of, rows_in}
 use Rattle.pm_engine.specs.Covers.{Covers, CoversAll, Run, stored_rows}
 use Rattle.pm_engine.specs.OfSchema.{meaning_of}
+use Rattle.pm_runs.specs.Stand.{StoredRun, oldest_first, top_of}
+use Rattle.pm_runs.specs.Succession.{KnownRun, without_files}
 
 -- ---- the log
 
@@ -41,6 +43,24 @@ rising_keys runs =
 -- the log of runs that are put upon older ones: by rising key, what is told of each key of the newer runs
 abbrev pub log_of : TableSchema → List Run → List Run → List HistoryRow
 log_of s older newer = flat_map (told_by s older newer) (rising_keys newer)
+
+-- ---- by producer
+
+-- With look-ups it is the log of the runs at level 0 upon those above. With full compactions it is that of the others
+-- upon the run at the highest level, where all runs go there. Else nothing is told.
+abbrev pub log_by : Producer → TableSchema → Bool → List StoredRun → List HistoryRow
+log_by producers.None s whole stored = []
+log_by producers.Input s whole stored = []
+log_by producers.Lookup s whole stored =
+    log_of s (oldest_first (λ level. nat_lt 0 level) stored) (oldest_first (λ level. level == 0) stored)
+log_by producers.FullCompaction s false stored = []
+log_by producers.FullCompaction s true stored =
+    log_of s (oldest_first (λ level. level == top_of s) stored) (oldest_first (λ level. nat_lt level (top_of s)) stored)
+
+-- the rows that a compaction tells of a group with these runs at its base, newest first; it says of it whether all of
+-- them go to the highest level
+abbrev pub compaction_log : TableSchema → Bool → List KnownRun → List HistoryRow
+compaction_log s whole runs = log_by s.options.producer s whole (map without_files runs)
 
 -- ---- what an entry passes on
 

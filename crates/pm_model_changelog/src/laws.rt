@@ -9,10 +9,10 @@ ghost use Rattle.pm_schema.specs.declared.schema.TableSchema.{TableSchema};
 ghost use Rattle.pm_values.specs.Order.{Values};
 ghost use Rattle.pm_values.specs.declared.group.Group.{Group};
 ghost use Rattle.pm_values.specs.declared.record.Stamped.{Stamped};
-ghost use Rattle.pm_model_history.specs.History.{Entry, entry_rows};
+ghost use Rattle.pm_model_history.specs.History.{Entry, entry_rows, rows_up_to};
 ghost use Rattle.pm_model_history.specs.Merge.{AllFit, HistoryRow, key_of, rows_of};
 ghost use Rattle.pm_model_history.specs.Merged.{primary_of};
-ghost use Rattle.pm_model_following.specs.Following.{base_of, by_key, change, told_at};
+ghost use Rattle.pm_model_following.specs.Following.{base_of, by_key, change, passed, passed_rows, told_at};
 ghost use Rattle.pm_model_following.specs.Groups.{rows_in};
 ghost use Rattle.pm_engine.specs.Covers.{Covers, CoversAll, IsRising, Run, of_key};
 ghost use Rattle.pm_engine.specs.OfSchema.{meaning_of};
@@ -24,6 +24,13 @@ ghost use Rattle.pm_model_changelog.specs.Log.{rising_keys, log_of, told_by};
 use pm_engine::covers_law;
 use pm_model_history::merged_table_law;
 use pm_runs::rows_law;
+
+/// Of a group the rows that are passed on at a snapshot are its rows up to one entry.
+pub fn passed_law()
+    ensures { (s : TableSchema) (g : Group) (entries : List Entry) (n : ℕ)
+        → rows_in s g (passed_rows s entries n)
+        ≡ rows_in s g (rows_up_to entries (passed s.options.producer entries n g)) }
+{}
 
 /// What is told of a key are rows that have it.
 pub fn told_keys_law()
