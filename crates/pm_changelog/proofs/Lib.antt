@@ -1,3 +1,4 @@
 mod LogLemmas
 mod NumberLemmas
 mod OrderLemmas
+mod TellLemmas

@@ -22,7 +22,7 @@ use Rattle.pm_model_changelog.specs.Log.{AreByKey}
 use Rattle.pm_changelog.specs.GroupLog.{IsGroupLog, without_numbers, stamped_from}
 use Rattle.pm_changelog.specs.Written.{HoldsLog, IsFileOfLog, IsWrittenLog}
 use Rattle.pm_changelog.proofs.NumberLemmas.{counts-stamped, order-stamped, own-stamped, rows-stamped}
-use Rattle.pm_changelog.proofs.OrderLemmas.{AreSorted, order-sorted, rise-sorted, same-sorted}
+use Rattle.pm_changelog.proofs.OrderLemmas.{AreSorted, rise-sorted, same-sorted}
 
 -- ---- the rows that were taken
 

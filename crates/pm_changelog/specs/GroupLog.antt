@@ -1,6 +1,8 @@
 -- The log of a group: the rows that its changelog file is to hold.
-use Rattle.std.specs.Prelude.{◌≡◌, ℕ, suc, ◌+◌, List, [], ◌∷◌, ◌++◌, length, map, true, None, IsTrue}
+use Rattle.std.specs.Prelude.{◌≡◌, ◌≢◌, ℕ, suc, ◌+◌, List, [], ◌∷◌, ◌++◌, length, map, true, None, IsTrue}
 use Rattle.std.specs.List.{AllByRecursion}
+use Rattle.std.specs.declared.cmp.Ordering.TheVariants.{Greater}
+use Rattle.pm_values.specs.Order.{Values, key_cmp}
 use Rattle.pm_values.specs.declared.group.Group.{Group}
 use Rattle.pm_values.specs.declared.record.Change.{Change}
 use Rattle.pm_values.specs.declared.record.Stamped.{Stamped}
@@ -25,6 +27,10 @@ stamped_from n (c ∷ log) =
 pub record IsGroupLog (s : TableSchema) (rows : List HistoryRow) (log : List Change) : Type 0 where
   pub told : map row_of (stamped_from 0 log) ≡ rows
   pub own : AllByRecursion (HasOwnKey s) (stamped_from 0 log)
+
+-- a change of the key may come next: none of the log has a key above it
+abbrev pub IsNext : List Change → Values → Type 0
+IsNext log key = AllByRecursion (λ (c : Change). key_cmp c.key key ≢ Greater) log
 
 -- What the log of a group is, whichever producer made it: it tells the group's part of the change of the snapshot with
 -- which an entry comes after others.

@@ -1,15 +1,16 @@
 //! The log of a group.
 
-ghost use Rattle.std.specs.Prelude.{◌≡◌, ◌↔◌, [], map, IfOk, IsTrue};
+ghost use Rattle.std.specs.Prelude.{◌≡◌, ◌↔◌, [], ◌∷◌, ◌++◌, map, IfOk, IsTrue, OnErr, OnOk};
 ghost use Rattle.std.specs.List.{AllByRecursion};
 ghost use Rattle.pm_schema.specs.declared.schema.TableSchema.{TableSchema};
 ghost use Rattle.pm_model_following.specs.Following.{by_key};
 ghost use Rattle.pm_engine.specs.Covers.{row_of};
 ghost use Rattle.pm_run.specs.Writing.{HasOwnKey};
-ghost use Rattle.pm_changelog.specs.GroupLog.{without_numbers, IsGroupLog};
+ghost use Rattle.pm_changelog.specs.GroupLog.{without_numbers, IsGroupLog, IsNext};
 
 use pm_model_changelog::by_key_law;
 use pm_packed::PackedRows;
+use pm_values::{Key, Kind, Row, Stamped};
 use std::alloc::{AllocError, Global};
 use std::marker::Model;
 
@@ -52,6 +53,22 @@ impl GroupLog {
         ensures { IsTrue result ↔ (self.now ≡ []) }
     {
         self.rows.len() == 0
+    }
+
+    /// Tells one change more, of a key that isn't below those before. Without memory for it the log stays as it is. Out
+    /// of memory is also answered for a row of more values, or longer ones, than packed rows can have.
+    pub fn tell(&mut self, key: Key, kind: Kind, row: Row) -> Result<(), AllocError>
+        requires next { IsNext self.old key }
+        ensures told { OnOk result (self.new ≡ self.old ++ record { key = key; kind = kind; row = row } ∷ []) }
+        ensures kept { OnErr result (self.new ≡ self.old) }
+    {
+        let change = Stamped {
+            key,
+            seq: 0,
+            kind,
+            row,
+        };
+        self.rows.push(&change)
     }
 }
 
