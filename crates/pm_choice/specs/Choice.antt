@@ -1,8 +1,11 @@
 -- Which groups a compaction takes, which of their runs, and which files go with these.
-use Rattle.std.specs.Prelude.{◌≡◌, ◌↔◌, ◌≤◌, ◌==◌, ℕ, Bool, true, List, [], ◌∷◌, length, map, take, Option, None, Some}
+use Rattle.std.specs.Prelude.{◌≡◌, ◌↔◌, ◌≤◌, ◌==◌, ℕ, Bool, true, List}
+use Rattle.std.specs.Prelude.{[], ◌∷◌, length, map, drop, take, Option, None, Some}
 use Rattle.std.specs.List.{AllByRecursion, flat_map}
 use Rattle.pm_values.specs.declared.file_meta.FileMeta.{FileMeta}
 use Rattle.pm_values.specs.declared.group.Group.{Group}
+use Rattle.pm_options.specs.declared.kinds.Producer.{Producer}
+use Rattle.pm_options.specs.declared.kinds.Producer.TheVariants as producers
 use Rattle.pm_schema.specs.declared.schema.TableSchema.{TableSchema}
 use Rattle.pm_manifest.specs.Live.{Live}
 use Rattle.pm_manifest.specs.declared.entry.Entry.{Entry}
@@ -54,6 +57,18 @@ pub record IsChosen (rule : PickRule) (c : ChosenGroup) : Type 0 where
 -- the runs of a group that go, newest first
 abbrev pub taken_runs : ChosenGroup → List RunView
 taken_runs c = take c.take c.levels
+
+-- those that stay, newest first
+abbrev pub left_runs : ChosenGroup → List RunView
+left_runs c = drop c.take c.levels
+
+-- those of them in which old values are looked up, as the producer of look-ups does
+abbrev pub looked_by : Producer → ChosenGroup → List RunView
+looked_by producers.Lookup c = left_runs c
+looked_by other c = []
+
+abbrev pub looked_runs : TableSchema → ChosenGroup → List RunView
+looked_runs s c = looked_by s.options.producer c
 
 -- the entry of a live file of the table
 abbrev pub live_entry : TableSchema → Group → FileMeta → Entry

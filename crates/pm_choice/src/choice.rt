@@ -5,9 +5,11 @@ ghost use Rattle.std.specs.BTreeMap.{IsOrdered};
 ghost use Rattle.pm_values.specs.GroupOrder.{group_cmp};
 ghost use Rattle.pm_levels.specs.Picking.{top_of};
 ghost use Rattle.pm_levels.specs.Runs.{run_of};
-ghost use Rattle.pm_choice.specs.Choice.{choices, chosen_of, named_groups, taken_runs};
+ghost use Rattle.pm_choice.specs.Choice.{choices, chosen_of, left_runs, looked_runs, named_groups, taken_runs};
 
 use pm_levels::{Asked, Levels, PickRule, RunFiles, pick};
+use pm_options::Producer;
+use pm_schema::TableSchema;
 use pm_values::Group;
 use std::alloc::{AllocError, Global};
 use std::collections::BTreeMap;
@@ -34,6 +36,25 @@ impl ChosenGroup {
         let runs = self.levels.runs();
         let count = self.take.min(runs.len());
         &runs[..count]
+    }
+
+    /// The runs that stay, newest first.
+    pub fn left(&self) -> &[RunFiles]
+        ensures { map run_of result.now ≡ left_runs self.now }
+    {
+        let runs = self.levels.runs();
+        let count = self.take.min(runs.len());
+        &runs[count..]
+    }
+
+    /// Those of them in which old values are looked up, where the table's producer does that.
+    pub fn looked(&self, schema: &TableSchema) -> &[RunFiles]
+        ensures { map run_of result.now ≡ looked_runs schema.now self.now }
+    {
+        match schema.options.producer {
+            Producer::Lookup => self.left(),
+            _ => &self.levels.runs()[..0],
+        }
     }
 }
 
