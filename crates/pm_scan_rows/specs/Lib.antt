@@ -1,3 +1,4 @@
+pub mod Group
 pub mod Stored
 pub mod Shown
 pub mod Next

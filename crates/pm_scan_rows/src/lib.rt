@@ -7,6 +7,9 @@
 //! so that none is copied; with their bytes, for files that are written of a form (`WrittenRows`). `specs/Stored.antt`
 //! says what a run takes of a file, and what is still given of it.
 //!
+//! A `ReadGroup` is what was read of a group: such runs, and the bytes of files that nobody has judged yet, in which
+//! keys may be looked for.
+//!
 //! `print_groups` merges the runs of all groups at once and prints the rows that show, each as a line that inserts it
 //! and where it lies, but where it is combined. `scan_law` says that this is the text of a scan: where the runs of each
 //! group cover the rows that lie in it, what is printed are the rows of the merged table (`specs/Shown.antt`). It rests
@@ -18,6 +21,7 @@
 mod file;
 mod laws;
 mod print;
+mod read_group;
 mod rows;
 mod shown;
 mod stored_run;
@@ -25,6 +29,7 @@ mod written_rows;
 
 pub use laws::{scan_law, shows_by_kind_law};
 pub use print::print_groups;
+pub use read_group::ReadGroup;
 pub use rows::StoredRows;
 pub use shown::sources;
 pub use stored_run::StoredRun;
