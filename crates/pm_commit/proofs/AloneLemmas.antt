@@ -289,7 +289,7 @@ module _ (laws : Laws) (causes : ReaderCauses) (parts : PathParts) (b : Beginnin
         (rw is at (changes-on laws b.entry old (files_after ops) p stands known.0.0 known.0.1 known.0.2)),
         (rw is at (went-on old answer new (files_after ops) p on stands known)) here,
       ) in
-      inl (whole call, Steps-weaker (whole call) _ _ before after keeps came.0)
+      inl (whole call, refl, Steps-weaker (whole call) _ _ before after keeps came.0)
   alone-moves {old} {new} {before} {after} (Refused call answer refusal is came on) =
       let keeps : (ops : List Op) → Answers call answer (files_after ops)
       → Keeps Stands (MakesEntry b.entry old) (KnewAlone b old) (AloneRefused b refusal) (whole call) (files_after ops) =
@@ -297,7 +297,7 @@ module _ (laws : Laws) (causes : ReaderCauses) (parts : PathParts) (b : Beginnin
         (rw is at (changes-on laws b.entry old (files_after ops) p stands known.0.0 known.0.1 known.0.2)),
         (rw is at (refused-on old answer refusal (files_after ops) p on.0 stands known)) here,
       ) in
-      inl (whole call, Steps-weaker (whole call) _ _ before after keeps came.0)
+      inl (whole call, refl, Steps-weaker (whole call) _ _ before after keeps came.0)
   alone-moves {old} {new} {before} {after} (Stopped call is meanwhile stop) =
       inr (meanwhile, λ f p stands known. calm-same b old f p.history (has-call is) known.1)
   alone-moves {old} {new} {before} {after} (Failed call is came stop) =
@@ -309,4 +309,4 @@ module _ (laws : Laws) (causes : ReaderCauses) (parts : PathParts) (b : Beginnin
         (rw is at (changes-on laws b.entry old (files_after ops) p stands known.0.0 known.0.1 known.0.2)),
         rw is at (failed-on old effect (files_after ops) p (has-call is) stands known),
       ) in
-      inl (op, Steps-weaker op _ _ before after keeps came.0.1)
+      inl (op, refl, Steps-weaker op _ _ before after keeps came.0.1)

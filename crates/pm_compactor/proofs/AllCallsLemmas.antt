@@ -114,7 +114,7 @@ module _ (laws : CallLaws) (b : Beginning) (known : Option (List Op)) where
     where
       by : Moves Stands (MakesAlone b) (KnewAlone b old) (KnowsAlone b new result) before after
           → Follows (StandsForEither b) known after (KnowsFiles b new result)
-      by (inl (op, steps)) =
+      by (inl (op, own, steps)) =
           Follows-steps (StandsForEither b) (KnewFiles b old) (KnowsFiles b new result) known op
           (λ ops. Keeps Stands (MakesAlone b) (KnewAlone b old) (KnowsAlone b new result) op (files_after ops)) before after so steps
           alone

@@ -348,7 +348,7 @@ module _ (laws : AloneLaws) (b : Beginning) where
         (rw is at (changes-on old (files_after ops) p stands known)),
         (rw is at (went-on old answer new (files_after ops) p on stands known)) here,
       ) in
-      inl (whole call, Steps-weaker (whole call) _ _ before after keeps came.0)
+      inl (whole call, refl, Steps-weaker (whole call) _ _ before after keeps came.0)
   alone-moves {old} {new} {before} {after} (Refused call answer refusal is came on) =
       let keeps : (ops : List Op) → Answers call answer (files_after ops)
       → Keeps Stands (MakesAlone b) (KnewAlone b old) (RefusedFiles b refusal) (whole call) (files_after ops) =
@@ -356,7 +356,7 @@ module _ (laws : AloneLaws) (b : Beginning) where
         (rw is at (changes-on old (files_after ops) p stands known)),
         (rw is at (refused-on old answer refusal (files_after ops) p on.0 stands known)) here,
       ) in
-      inl (whole call, Steps-weaker (whole call) _ _ before after keeps came.0)
+      inl (whole call, refl, Steps-weaker (whole call) _ _ before after keeps came.0)
   alone-moves {old} {new} {before} {after} (Stopped call is meanwhile stop) =
       inr (meanwhile, λ f p stands known. (known.0, same-in b old f p (has-call is) known.1))
   alone-moves {old} {new} {before} {after} (Failed call is came stop) =
@@ -368,4 +368,4 @@ module _ (laws : AloneLaws) (b : Beginning) where
         (rw is at (changes-on old (files_after ops) p stands known)),
         rw is at (failed-on old effect (files_after ops) p stands known),
       ) in
-      inl (op, Steps-weaker op _ _ before after keeps came.0.1)
+      inl (op, refl, Steps-weaker op _ _ before after keeps came.0.1)

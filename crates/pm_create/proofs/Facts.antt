@@ -267,8 +267,9 @@ keeps_of t old new op f keeps p stands known =
 pub moves_of : (t : NewTable) (old new : Phase) (before after : StoreView)
     → Moves StandsBeside (MakesBeside old) (KnowsBeside old) (KnowsBeside new) before after
     → Moves Stands (Makes t) (Knows t old) (Knows t new) before after
-moves_of t old new before after (inl (op, steps)) = inl (
+moves_of t old new before after (inl (op, own, steps)) = inl (
   op,
+  own,
   Steps-weaker op
       (λ ops. Keeps StandsBeside (MakesBeside old) (KnowsBeside old) (KnowsBeside new) op (files_after ops))
       (λ ops. Keeps Stands (Makes t) (Knows t old) (Knows t new) op (files_after ops)) before after

@@ -36,12 +36,12 @@ moved {H = H} {Folder = Folder} {Change = Change} {knows = knows} {old = old} {n
     let keeps : (ops : List Op) → Answers call answer (files_after ops) → Keeps Folder (Change old) (knows old) (knows new) (whole call) (files_after ops) =
     λ ops here h folder known.
     ((rw is at (sound.changes old (files_after ops) h folder known)), (rw is at (sound.went old new answer (files_after ops) h on folder known)) here) in
-    inl (whole call, Steps-weaker (whole call) _ _ before after keeps came.0)
+    inl (whole call, refl, Steps-weaker (whole call) _ _ before after keeps came.0)
 moved {H = H} {Folder = Folder} {Change = Change} {knows = knows} {old = old} {new = new} {before = before} {after = after} sound (Refused call answer refusal is came on) =
     let keeps : (ops : List Op) → Answers call answer (files_after ops) → Keeps Folder (Change old) (knows old) (knows new) (whole call) (files_after ops) =
     λ ops here h folder known.
     ((rw is at (sound.changes old (files_after ops) h folder known)), (rw is at (sound.refused old new answer refusal (files_after ops) h on folder known)) here) in
-    inl (whole call, Steps-weaker (whole call) _ _ before after keeps came.0)
+    inl (whole call, refl, Steps-weaker (whole call) _ _ before after keeps came.0)
 moved {old = old} {new = new} sound (Stopped call is meanwhile stop) =
     inr (meanwhile, λ f h folder known. sound.stopped old new f h (has_call is) stop folder known)
 moved {H = H} {Folder = Folder} {Change = Change} {knows = knows} {old = old} {new = new} {before = before} {after = after} sound (Failed call is came stop) =
@@ -50,7 +50,7 @@ moved {H = H} {Folder = Folder} {Change = Change} {knows = knows} {old = old} {n
     let keeps : (ops : List Op) → MayHave call effect (files_after ops) → Keeps Folder (Change old) (knows old) (knows new) op (files_after ops) =
     λ ops may h folder known.
     ((rw is at (sound.changes old (files_after ops) h folder known)), (rw is at (sound.failed old new effect (files_after ops) h stop folder known)) may) in
-    inl (op, Steps-weaker op _ _ before after keeps came.0.1)
+    inl (op, refl, Steps-weaker op _ _ before after keeps came.0.1)
 
 -- a step is the next event after whatever the machine's calls were, or no event
 pub acted : {M : Type 0} {call_of : M → Option Call} {goes : M → Answer → M → Type 0}
@@ -103,7 +103,7 @@ module _ {H : Type 0} (Folder : Files → H → Type 0) (Change : Files → H �
   stands_known : (known : Option (List Op)) → before.ops ≡ known → Moves Folder Change knew knows before after →
       IsSomeAnd known (AtEnd knew) → Stands Folder (λ f h. P f h × knows f h) after
   stands_known None is moves here = absurd here
-  stands_known (Some ops) is (inl (op, steps)) (h, folder, (true_of, known)) =
+  stands_known (Some ops) is (inl (op, own, steps)) (h, folder, (true_of, known)) =
       let came = Steps-exact op (λ ops. Keeps Folder Change knew knows op (files_after ops)) before after ops is steps alone in
       let leads = (came.1 h folder known).1 in
       let stays = lasts (files_after ops) (after_op op (files_after ops)) h leads.0 folder true_of leads.1 in
