@@ -1,3 +1,4 @@
+mod AllCallsLemmas
+mod BesideLemmas
 pub mod Facts
 pub mod OneLemmas
-mod AllCallsLemmas

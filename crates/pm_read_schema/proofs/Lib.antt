@@ -1,4 +1,6 @@
 pub mod AllCallsLemmas
+pub mod BesideFacts
+mod BesideLemmas
 pub mod Facts
 mod FaultLemmas
 pub mod IdLemmas
