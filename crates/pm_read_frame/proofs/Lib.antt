@@ -1,12 +1,13 @@
-pub mod Facts
-pub mod OneLemmas
 mod AfterLemmas
 mod AllCallsLemmas
 mod AtLemmas
+mod BesideLemmas
 mod CauseLemmas
 mod ChangeLemmas
+pub mod Facts
 mod FaultLemmas
 mod FrameLemmas
 mod KeptLemmas
 mod LineLemmas
+pub mod OneLemmas
 mod StoodLemmas

@@ -1,6 +1,7 @@
 use Rattle.std.proofs.Common.{◌≡◌, Err, rules}
 use Rattle.pm_values.specs.declared.refusal.Refusal.TheVariants as refusals
 use Rattle.pm_read_frame.specs.AllCalls.{text_in}
+use Rattle.pm_read_frame.proofs.BesideLemmas.{learned-by}
 use Rattle.pm_read_frame.proofs.AllCallsLemmas.{first_left, frame_made, none_made}
 use Rattle.pm_read_frame.proofs.all_calls.read_frame.Goals as goal
 
@@ -30,3 +31,10 @@ returns-in-Err-clause-history g c =
     let seen = g.F.FileStore.seen in
     c.all_calls_law.ensures c.args.schema.now c.args.id (Err refusals.Memory) (seen c.args.store.now) (seen c.args.store.now) c.requires.after_origin
     (none_made c.args.schema.now c.args.id (seen c.args.store.now))
+
+pub returns-in-Ok-clause-beside : goal.returns-in-Ok-clause-beside
+returns-in-Ok-clause-beside g c =
+    let seen = g.F.FileStore.seen in
+    let same : c.in-Ok.schema ≡ c.args.schema.now = search rules in
+    learned-by c.args.schema.now c.in-Ok.schema c.args.id c.frame_at.result c.make_calls.result (seen c.args.store.now) (seen c.make_calls.new.store) same
+    c.frame_at.ensures c.requires.after_origin c.make_calls.ensures.beside
