@@ -54,7 +54,7 @@ pub acts_goes_on : (command : Command) (start : Start) (before after : Outside) 
 acts_goes_on commands.Create start before after answer (inl (e, is, refuses, rest)) = untouched before.store after.store rest.store
 acts_goes_on commands.Create start before after answer (inr (s, is, (made, (own, did, traces), prints))) =
     Traces-goes_on own before.store after.store traces
-acts_goes_on (commands.Scan at) start before after answer (made, (own, did, traces), prints) = Traces-goes_on own before.store after.store traces
+acts_goes_on (commands.Scan at) start before after answer (made, (own, did, traces), beside, prints) = Traces-goes_on own before.store after.store traces
 acts_goes_on commands.Snapshots start before after answer (made, (own, did, traces), prints) = Traces-goes_on own before.store after.store traces
 acts_goes_on (commands.Compact full) start before after answer (made, (own, did, traces), prints) = Traces-goes_on own before.store after.store traces
 acts_goes_on (commands.Follow from full) start before after answer (own, ends, traces) = Traces-goes_on own before.store after.store traces

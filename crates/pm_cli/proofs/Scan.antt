@@ -50,9 +50,9 @@ module _ (at : Option ℕ) (e : Execution) where
   makes : (h : History) (first : StoreView) (answer : Option Refusal) → Scans at e.before e.after answer
       → AnswersHistory h at first e.before e.after answer → HasMade (with_command (commands.Scan at) e) h answer h
   makes h first None acts (there, prints) = served h first there prints
-  makes h first (Some (refusals.SinkFault snapshot)) (made, (own, did, traces), says) (failed, there, prints) =
+  makes h first (Some (refusals.SinkFault snapshot)) (made, (own, did, traces), beside, says) (failed, there, prints) =
       in_part h first snapshot (none_named at made own e.before.out e.after.out snapshot did says) there prints
-  makes h first (Some refusal) (made, trace, prints) may =
+  makes h first (Some refusal) (made, trace, beside, prints) may =
       makes_nothing (with_command (commands.Scan at) e) h refusal tt (unprinted (text_of made) (result_err made) e.before.out e.after.out refusal tt prints)
 
 pub keeps : SameStarts → (at : Option ℕ) (e : Execution) → IsExecuted (with_command (commands.Scan at) e) → Keeps (with_command (commands.Scan at) e)

@@ -1,6 +1,7 @@
 -- Laws of `scan`: what is so of its calls, and of a history.
-use Rattle.std.proofs.Common.{◌≡◌, ◌⊎◌, inl, inr, ℕ, List, Option, None, Some, IsSome, Result, Ok, Err, refl, sym, subst, ap, ◌∙◌}
+use Rattle.std.proofs.Common.{◌≡◌, ◌⊎◌, inl, inr, ℕ, List, ◌++◌, IfOk, Option, None, Some, IsSome, Result, Ok, Err, Vec, refl, sym, subst, ap, ◌∙◌}
 use Rattle.std.specs.FinMap as map
+use Rattle.std.specs.Global.{Global}
 use Rattle.std.specs.Result.{result_err}
 use Rattle.pm_base.specs.Known.{and_then}
 use Rattle.pm_values.specs.declared.refusal.Refusal.{Refusal}
@@ -9,17 +10,22 @@ use Rattle.pm_io.specs.Sink.{SinkView, TookPrefix}
 use Rattle.pm_store.specs.Files.{Files}
 use Rattle.pm_store.specs.Store.{StoreView, at_first_own}
 use Rattle.pm_machine.specs.Trace.{HasTrace}
+use Rattle.pm_machine.proofs.Facts.{Traces-join}
 use Rattle.pm_model_history.specs.History.{History, IsTableOf, no_table, table}
 use Rattle.pm_schema.specs.declared.schema.TableSchema.{TableSchema}
 use Rattle.pm_model_folder.specs.Folder.{Folder}
 use Rattle.pm_model_folder.specs.Ledger.{count_of}
 use Rattle.pm_read_schema.specs.AllCalls.{DidRead, HasFiles, Stay, ReadsTables}
+use Rattle.pm_read_schema.specs.Beside.{AnyPast, Learns}
+use Rattle.pm_read_schema.proofs.BesideFacts.{learns-then}
 use Rattle.pm_draft.specs.Built.{IsBuilt, unbuilt}
 use Rattle.pm_scan.specs.AllCalls as scanner
-use Rattle.pm_scan.specs.AllCalls.{id_of, path_of, PrintsScan}
+use Rattle.pm_scan.specs.AllCalls.{id_of, path_of, text_in, PrintsScan}
+use Rattle.pm_scan.specs.Beside.{ScansBeside}
+use Rattle.pm_scan.specs.Meaning.{IsScan}
 use Rattle.pm_command.specs.Outside.{Outside, Prints}
 use Rattle.pm_command.specs.Table as tables
-use Rattle.pm_command_scan.specs.Scan.{DidScan, text_of, Scans, MayRefuse, IsThere, PrintsTable, PrintsPrefix, AnswersHistory, ScansTables, MakesText, Keeps, KeepsHistories, IsScanned}
+use Rattle.pm_command_scan.specs.Scan.{DidScan, text_of, Scans, MayRefuse, IsThere, PrintsTable, PrintsPrefix, AnswersHistory, ScansTables, MadeBeside, MakesText, Keeps, KeepsHistories, IsScanned}
 use Rattle.pm_command.proofs.TableLemmas.{trace_weaker, files_of, leaves_of, rests_of, images_rest, caused, judged_caused}
 
 -- ---- its calls
@@ -36,6 +42,20 @@ pub scanned_trace : (at : Option ℕ) (s : TableSchema) (made : Result (List ℕ
     → HasTrace (scanner.DidScan s at made) before after → HasTrace (DidScan at made) before after
 scanned_trace at s (Ok text) before after built = trace_weaker (scanner.DidScan s at (Ok text)) (DidScan at (Ok text)) (λ own did. (s, built, did)) before after
 scanned_trace at s (Err e) before after built = trace_weaker (scanner.DidScan s at (Err e)) (DidScan at (Err e)) (λ own did. inr (inr (s, built, did))) before after
+
+-- ---- what they make known
+
+-- calls that read the schema, and those of a scan after them
+pub scanned_beside : (at : Option ℕ) (s : TableSchema) (made : Result (Vec ℕ Global) Refusal) (before middle after : StoreView)
+    → HasTrace (DidRead (Ok s)) before middle → Learns AnyPast (λ f p. IsTableOf s p.history) before middle
+    → IfOk made (λ text. ScansBeside s at text.items middle after) → MadeBeside at (text_in made) before after
+scanned_beside at s (Err e) before middle after read learned scans = tt
+scanned_beside at s (Ok text) before middle after (earlier, did, first) learned (id, (later, has, then_came), knows) = (
+  s,
+  id,
+  (earlier ++ later, (earlier, later, did, has, refl), Traces-join earlier later before middle after first then_came),
+  learns-then AnyPast (λ f p. IsTableOf s p.history) (λ f p. IsScan p id text.items) before middle after learned knows,
+)
 
 -- ---- files that stay
 
@@ -105,16 +125,16 @@ scanned_keeps at s made before after built scans = λ alone h stands.
 
 pub refused_scanned : (at : Option ℕ) (e : Refusal) (out : SinkView) (store after : StoreView) → HasTrace (DidScan at (Err e)) store after
     → KeepsHistories at store after (Err e) → IsScanned at out out store after (Some e)
-refused_scanned at e out store after trace kept = (Err e, trace, kept, (refl, refl))
+refused_scanned at e out store after trace kept = (Err e, trace, tt, kept, (refl, refl))
 
 pub printed_scanned : (at : Option ℕ) (text printed : List ℕ) (out out_after : SinkView) (store after : StoreView) (answer : Option Refusal)
-    → printed ≡ text → HasTrace (DidScan at (Ok text)) store after → KeepsHistories at store after (Ok text)
+    → printed ≡ text → HasTrace (DidScan at (Ok text)) store after → MadeBeside at (Ok text) store after → KeepsHistories at store after (Ok text)
     → Prints printed None None out out_after answer → IsScanned at out out_after store after answer
-printed_scanned at text printed out out_after store after answer is trace kept prints =
-    (Ok text, trace, kept, subst (λ (text : List ℕ). Prints text None None out out_after answer) is prints)
+printed_scanned at text printed out out_after store after answer is trace beside kept prints =
+    (Ok text, trace, beside, kept, subst (λ (text : List ℕ). Prints text None None out out_after answer) is prints)
 
 pub scanned_answers : (at : Option ℕ) (before after : Outside) (answer : Option Refusal) → IsScanned at before.out after.out before.store after.store answer → Scans at before after answer
-scanned_answers at before after answer (made, trace, kept, prints) = (made, trace, prints)
+scanned_answers at before after answer (made, trace, beside, kept, prints) = (made, trace, beside, prints)
 
 -- the scan of a history was printed
 prints_table : (h : History) (at : Option ℕ) (text : List ℕ) (before after : SinkView) → PrintsScan h at text
@@ -143,7 +163,7 @@ made_answers h at first before after (Err e) answer makes (is, untaken) =
     subst (AnswersHistory h at first before after) (sym is) (refusal_answers h at first before after e makes)
 
 pub scanned_serves : (at : Option ℕ) (before after : Outside) (answer : Option Refusal) → IsScanned at before.out after.out before.store after.store answer → ScansTables at before after answer
-scanned_serves at before after answer (made, trace, kept, prints) = λ alone h stands.
+scanned_serves at before after answer (made, trace, beside, kept, prints) = λ alone h stands.
     let first = at_first_own before.store after.store in
     let was = kept alone h stands in record {
       answers = made_answers h at first before after made answer was.makes prints;

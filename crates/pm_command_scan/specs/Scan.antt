@@ -1,5 +1,5 @@
 -- What the command `scan` answers, what it prints, and that it leaves a folder as it is.
-use Rattle.std.specs.Prelude.{◌≡◌, ◌⊎◌, ℕ, ◌<◌, ◌≤◌, List, [], length, Option, None, Some, IsSome, Result, Ok, Err}
+use Rattle.std.specs.Prelude.{◌≡◌, ◌⊎◌, ℕ, ◌<◌, ◌≤◌, List, [], ◌++◌, length, Option, None, Some, IsSome, Result, Ok, Err}
 use Rattle.std.specs.FinMap as map
 use Rattle.std.specs.Result.{result_err}
 use Rattle.pm_base.specs.Known.{and_then}
@@ -14,10 +14,13 @@ use Rattle.pm_schema.specs.declared.schema.TableSchema.{TableSchema}
 use Rattle.pm_model_folder.specs.Folder.{Folder}
 use Rattle.pm_model_folder.specs.Ledger.{count_of}
 use Rattle.pm_create.specs.Making.{LeavesFiles}
+use Rattle.pm_read_schema.specs.Beside.{AnyPast, Learns}
 use Rattle.pm_read_schema.specs.Trace as reader
 use Rattle.pm_draft.specs.Built.{IsBuilt}
 use Rattle.pm_scan.specs.AllCalls as scanner
-use Rattle.pm_scan.specs.AllCalls.{id_of, path_of, PrintsScan}
+use Rattle.pm_scan.specs.AllCalls.{asked_at, id_of, path_of, PrintsScan}
+use Rattle.pm_scan.specs.Meaning.{IsScan}
+use Rattle.pm_scan.specs.Trace.{HasScan}
 use Rattle.pm_command.specs.Outside.{ImagesRest, Outside, Prints, Rests}
 use Rattle.pm_command.specs.Table as tables
 use Rattle.pm_command.specs.Table.{EndsAtSchema}
@@ -32,6 +35,19 @@ abbrev pub DidScan : Option ℕ → Result (List ℕ) Refusal → List Event →
 DidScan at (Ok text) own = GoesOnAs at (Ok text) own
 DidScan at (Err e) own = reader.Shows e own ⊎ (EndsAtSchema e own ⊎ GoesOnAs at (Err e) own)
 
+-- the schema was read, and by the calls of a scan after that the snapshot with the id, which has this text
+abbrev pub HasRead : TableSchema → Option ℕ → ℕ → List ℕ → List Event → Type 0
+HasRead s at id text own =
+    (earlier later : List Event) × scanner.Has s earlier × HasScan (asked_at s at) id text later
+    × (own ≡ earlier ++ later)
+
+-- Whatever others do before, between and after its calls, the text is the scan of the table at the snapshot that these
+-- read: of each history that the files stand for, once others changed them by the kinds of change alone.
+abbrev pub MadeBeside : Option ℕ → Result (List ℕ) Refusal → StoreView → StoreView → Type 0
+MadeBeside at (Ok text) before after = (s : TableSchema) × (id : ℕ) × HasTrace (HasRead s at id text) before after
+    × Learns AnyPast (λ f p. IsScan p id text) before after
+MadeBeside at (Err e) before after = Unit {0}
+
 -- the text of what it made
 abbrev pub text_of : Result (List ℕ) Refusal → List ℕ
 text_of (Ok text) = text
@@ -41,6 +57,7 @@ text_of (Err e) = []
 abbrev pub Scans : Option ℕ → Outside → Outside → Option Refusal → Type 0
 Scans at before after answer =
     (made : Result (List ℕ) Refusal) × HasTrace (DidScan at made) before.store after.store
+    × MadeBeside at made before.store after.store
     × Prints (text_of made) None (result_err made) before.out after.out answer
 
 -- ---- a history that stands at its first call, where nobody else acts from then on
@@ -122,8 +139,9 @@ KeepsHistories at before after made =
     FromFirst (λ first after. (h : History) → LeavesFiles (λ f. Folder f h) first → Keeps h at first after made)
     before after
 
--- the calls of `scan`, what they do to histories, and what was printed
+-- the calls of `scan`, what they make known and do to histories, and what was printed
 abbrev pub IsScanned : Option ℕ → SinkView → SinkView → StoreView → StoreView → Option Refusal → Type 0
 IsScanned at out out_after store store_after answer =
     (made : Result (List ℕ) Refusal) × HasTrace (DidScan at made) store store_after
-    × KeepsHistories at store store_after made × Prints (text_of made) None (result_err made) out out_after answer
+    × MadeBeside at made store store_after × KeepsHistories at store store_after made
+    × Prints (text_of made) None (result_err made) out out_after answer

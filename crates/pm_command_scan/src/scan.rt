@@ -5,7 +5,7 @@ ghost use Rattle.pm_io.specs.Sink.{SinkLater};
 ghost use Rattle.pm_machine.specs.Trace.{HasTrace};
 ghost use Rattle.pm_scan.specs.AllCalls.{text_in};
 ghost use Rattle.pm_store.specs.Store.{IsLater};
-ghost use Rattle.pm_command_scan.specs.Scan.{DidScan, IsScanned, KeepsHistories};
+ghost use Rattle.pm_command_scan.specs.Scan.{DidScan, IsScanned, KeepsHistories, MadeBeside};
 
 use pm_command::{judge, print};
 use pm_engines::declared_law;
@@ -39,6 +39,7 @@ fn scan_built<F: FileStore>(
     store: &mut F,
 ) -> Result<Vec<u8>, Refusal>
     ensures trace { HasTrace (DidScan snapshot (text_in result)) (F.seen store.old) (F.seen store.new) }
+    ensures beside { MadeBeside snapshot (text_in result) (F.seen store.old) (F.seen store.new) }
     ensures history { KeepsHistories snapshot (F.seen store.old) (F.seen store.new) (text_in result) }
     ensures later { IsLater (F.seen store.old) (F.seen store.new) }
 {

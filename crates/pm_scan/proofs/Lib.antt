@@ -1,11 +1,12 @@
-pub mod Facts
 mod AfterLemmas
+mod AllCallsLemmas
+mod BesideLemmas
 mod CauseLemmas
+pub mod Facts
 mod FilesLemmas
 mod KeptLemmas
 mod KnownLemmas
-mod ScanLemmas
-mod ViewLemmas
-mod AllCallsLemmas
-mod ViewCallsLemmas
 pub mod OneLemmas
+mod ScanLemmas
+mod ViewCallsLemmas
+mod ViewLemmas

@@ -7,6 +7,8 @@ ghost use Rattle.pm_schema.specs.Again.{IsDeclared};
 ghost use Rattle.pm_store.specs.Store.{StoreView, IsLater};
 ghost use Rattle.pm_read_table.specs.Asked.{Asked as AskedView};
 ghost use Rattle.pm_read_table.specs.declared.phase.Phase.TheVariants as readers;
+ghost use Rattle.pm_scan.specs.Beside.{ScansBeside, ScansOn};
+ghost use Rattle.pm_scan.specs.Meaning.{Knows};
 ghost use Rattle.pm_scan.specs.AllCalls.{asked_at, text_in, DidScan, Ends, Has, ScansTables};
 ghost use Rattle.pm_scan.specs.Scanner.{calls_left};
 ghost use Rattle.pm_scan.specs.Trace.{Did};
@@ -15,6 +17,7 @@ ghost use Rattle.pm_scan.specs.declared.phase.Phase.TheVariants as phases;
 use crate::laws::all_calls_law;
 use crate::scanner::{Scanner, into_text, is_scan_ready, newest_scan, scan_at};
 use pm_machine::take_step;
+use pm_model_folder::past_law;
 use pm_schema::TableSchema;
 use pm_store::FileStore;
 use pm_values::Refusal;
@@ -22,7 +25,7 @@ use std::alloc::Global;
 
 /// Scans the table whose schema was just read, at its latest snapshot or the one with that id: all further calls, one
 /// after another. It gives the text. What it promises is said of these calls, and from whatever moment on that reading
-/// began.
+/// began. Whatever others do meanwhile, the text is the scan of the table at the snapshot that the calls read.
 pub fn scan_table<F: FileStore>(
     alloc: Global,
     schema: TableSchema,
@@ -36,6 +39,7 @@ pub fn scan_table<F: FileStore>(
         → HasTrace (DidScan schema at (text_in result)) first (F.seen store.new) }
     ensures history { (first : StoreView) → HasTrace (Has schema) first (F.seen store.old)
         → ScansTables schema at first (F.seen store.new) (text_in result) }
+    ensures beside { IfOk result (λ text. ScansBeside schema at text.items (F.seen store.old) (F.seen store.new)) }
     ensures later { IsLater (F.seen store.old) (F.seen store.new) }
 {
     all_calls_law();
@@ -63,8 +67,11 @@ fn make_calls<F: FileStore>(
     requires { 0 < calls_left scanner }
     ensures trace { (a : AskedView) (first : StoreView) → HasTrace (Did a scanner) first (F.seen store.old)
         → HasTrace (Ends a (text_in result)) first (F.seen store.new) }
+    ensures beside { (a : AskedView) (first : StoreView) → HasTrace (Did a scanner) first (F.seen store.old)
+        → IfOk result (λ text. ScansOn a (Knows scanner) text.items first (F.seen store.old) (F.seen store.new)) }
     ensures later { IsLater (F.seen store.old) (F.seen store.new) }
 {
+    past_law();
     let mut scanner = scanner;
     while !is_scan_ready(&scanner) {
         match take_step(alloc, &mut scanner, store) {

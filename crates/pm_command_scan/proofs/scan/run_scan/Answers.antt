@@ -15,4 +15,4 @@ returns-clause-scanned g c =
     printed_scanned c.args.snapshot c.in_ok-text.text.items c.deref.result.now (g.W.Sink.seen c.args.out.now)
     (g.W.Sink.seen c.print.new.out) (g.F.FileStore.seen c.args.store.now) (g.F.FileStore.seen c.scan_built.new.store)
     (result_err c.print.result) c.deref.ensures.value
-    c.in_ok-text.ensures.trace c.in_ok-text.ensures.history c.print.ensures.prints
+    c.in_ok-text.ensures.trace c.in_ok-text.ensures.beside c.in_ok-text.ensures.history c.print.ensures.prints

@@ -1,6 +1,6 @@
 use Rattle.std.proofs.lemmas.Result.{err_from_is_err_and}
 use Rattle.pm_scan.specs.AllCalls.{text_in}
-use Rattle.pm_command_scan.proofs.ScanLaws.{judge_refused, scanned_trace, read_keeps, judge_keeps, scanned_keeps}
+use Rattle.pm_command_scan.proofs.ScanLaws.{judge_refused, scanned_beside, scanned_trace, read_keeps, judge_keeps, scanned_keeps}
 use Rattle.pm_command_scan.proofs.scan.scan_built.Goals as goal
 
 pub returns-in_err-schema-clause-history : goal.returns-in_err-schema-clause-history
@@ -23,6 +23,12 @@ returns-in_err-judge-clause-history g c =
     rw (p.1, p.2)
     (judge_keeps c.args.snapshot c.in_ok-schema.schema c.in_err-judge.field-0.0 (g.F.FileStore.seen c.args.store.now)
     (g.F.FileStore.seen c.read_table_schema.new.store) c.in_err-judge.ensures.unbuilt c.in_ok-schema.ensures.history)
+
+pub returns-clause-beside : goal.returns-clause-beside
+returns-clause-beside g c =
+    scanned_beside c.args.snapshot c.in_ok-schema.schema c.scan_table.result (g.F.FileStore.seen c.args.store.now)
+    (g.F.FileStore.seen c.read_table_schema.new.store) (g.F.FileStore.seen c.scan_table.new.store) c.in_ok-schema.ensures.trace
+    c.in_ok-schema.ensures.beside c.scan_table.ensures.beside
 
 pub returns-clause-trace : goal.returns-clause-trace
 returns-clause-trace g c =

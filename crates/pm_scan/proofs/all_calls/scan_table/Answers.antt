@@ -3,6 +3,7 @@ use Rattle.pm_machine.specs.Trace.{HasTrace}
 use Rattle.pm_scan.specs.AllCalls.{asked_at, text_in}
 use Rattle.pm_scan.specs.Trace.{Did}
 use Rattle.pm_scan.specs.declared.phase.Phase.{Phase}
+use Rattle.pm_scan.proofs.BesideLemmas.{learned-by}
 use Rattle.pm_scan.proofs.AllCallsLemmas.{begins, begun, first_left, went_on}
 use Rattle.pm_scan.proofs.all_calls.scan_table.Goals as goal
 
@@ -33,3 +34,11 @@ returns-clause-history g c = λ first has.
     let trace = went_on c.args.schema c.args.at (text_in c.make_calls.result) first (seen c.args.store.now) (seen c.make_calls.new.store) has
     (c.make_calls.ensures.trace a (seen c.args.store.now) own) in
     c.all_calls_law.ensures.scan c.args.schema c.args.at (text_in c.make_calls.result) first (seen c.make_calls.new.store) c.requires.declared trace
+
+pub returns-clause-beside : goal.returns-clause-beside
+returns-clause-beside g c =
+    let seen = g.F.FileStore.seen in
+    let a = asked_at c.args.schema c.args.at in
+    let own = subst (λ (m : Phase). HasTrace (Did a m) (seen c.args.store.now) (seen c.args.store.now)) (sym c.scanner_of.ensures) (begun a (seen c.args.store.now) (begins c.args.at)) in
+    learned-by c.args.schema c.args.at c.scanner_of.result c.make_calls.result (seen c.args.store.now) (seen c.make_calls.new.store)
+    c.scanner_of.ensures own c.make_calls.ensures.beside

@@ -1,0 +1,23 @@
+-- What the calls of a scan make known, whatever others do before, between and after these.
+use Rattle.std.specs.Prelude.{ℕ, List, Option}
+use Rattle.pm_store.specs.Files.{Files}
+use Rattle.pm_store.specs.Store.{StoreView}
+use Rattle.pm_machine.specs.Trace.{HasTrace}
+use Rattle.pm_schema.specs.declared.schema.TableSchema.{TableSchema}
+use Rattle.pm_model_history.specs.History.{IsTableOf}
+use Rattle.pm_model_folder.specs.Ledger.{Past}
+use Rattle.pm_read_schema.specs.Beside.{Learns}
+use Rattle.pm_read_table.specs.Asked.{Asked}
+use Rattle.pm_scan.specs.AllCalls.{asked_at}
+use Rattle.pm_scan.specs.Meaning.{IsScan}
+use Rattle.pm_scan.specs.Trace.{HasScan}
+
+-- the calls since a first moment read a snapshot, and of whatever was known before the last of them the text is known
+-- to be the scan of the table at it
+abbrev pub ScansOn : Asked → (Files → Past → Type 0) → List ℕ → StoreView → StoreView → StoreView → Type 0
+ScansOn a knew text first before after =
+    (id : ℕ) × HasTrace (HasScan a id text) first after × Learns knew (λ f p. IsScan p id text) before after
+
+-- so the calls of a scan of a table whose schema was read
+abbrev pub ScansBeside : TableSchema → Option ℕ → List ℕ → StoreView → StoreView → Type 0
+ScansBeside s at text before after = ScansOn (asked_at s at) (λ f p. IsTableOf s p.history) text before before after
