@@ -1,0 +1,7 @@
+mod LookLemmas
+mod KeyLemmas
+mod FoundLemmas
+mod FileLemmas
+mod StepLemmas
+mod WalkLemmas
+mod OldLemmas
