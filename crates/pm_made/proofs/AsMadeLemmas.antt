@@ -55,8 +55,8 @@ module _ (facts : SnapshotFacts) (manifests : ManifestFacts) (read : ReadEntries
   abbrev made : IsMadeOf s t.newest t.author t.intent t.names t.made
   made = ready.made
 
-  allowed : IsAllowed t
-  allowed = allowed-of t ready.allowed
+  allowed : IsAllowed t.newest t.author t.intent
+  allowed = allowed-of t.newest t.author t.intent ready.allowed
 
   abbrev old : Old facts f s entries ready.folder t.newest ready.newest.id t.newest.snapshot
   old = old-of facts f s entries ready.folder t.newest ready.newest.id t.newest.snapshot ready.newest.found

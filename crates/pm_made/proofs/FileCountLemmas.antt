@@ -8,10 +8,12 @@ use Rattle.pm_manifest.specs.declared.entry.ManifestMeta.{ManifestMeta}
 use Rattle.pm_put.specs.declared.putting.CommitFile.{CommitFile}
 use Rattle.pm_write.specs.Batch.{logs_in}
 use Rattle.pm_write.specs.Files.{after_names}
-use Rattle.pm_made.specs.Delta.{Delta, IsDeltaOf}
-use Rattle.pm_made.specs.Files.{AreManifests, HasBase, HasChangesList, HasDelta, HasManifest, appends, compacts, data_file, fences, kept, merged, no_list, no_manifest, one_list, one_manifest}
+use Rattle.pm_made.specs.Delta.{Delta, IsDeltaOf, entries_of}
+use Rattle.pm_made.specs.Files.{AreManifests, HasBase, HasChangesList, HasDelta, HasManifest, IsMadeOf, appends, compacts, data_file, fences, kept, merged, no_list, no_manifest, one_list, one_manifest}
 use Rattle.pm_made.specs.Intent.{most_files, removed_of}
 use Rattle.pm_made.specs.declared.intent.Intent.{Intent}
+use Rattle.pm_made.specs.declared.newest.Author.{Author}
+use Rattle.pm_made.specs.declared.newest.Made.{Made}
 use Rattle.pm_made.specs.declared.newest.Newest.{Newest}
 use Rattle.pm_made.specs.declared.snapshot.ListNames.{ListNames}
 use Rattle.pm_made.proofs.DeltaFilesLemmas.{none-told}
@@ -120,4 +122,12 @@ pub few-made : (s : TableSchema) (newest : Newest) (names : Naming) (intent : In
 few-made s newest names intent row_files left entries changes es lists all (d, has, is) (made, are, joined) =
     let few = few-files s newest names intent d row_files left has es changes lists made are is.told in
     let long = ap (λ (files : List CommitFile). length files) joined ∙ length-append row_files made in
+    omega (arith, few, long)
+
+pub made-few : (s : TableSchema) (newest : Newest) (author : Author) (intent : Intent) (names : Naming) (made : Made) → IsMadeOf s newest author intent names made
+    → length made.files.items ≤ most_files intent
+made-few s newest author intent names made is =
+    let few = few-files s newest names intent is.delta is.row_files is.left is.has_delta (entries_of is.delta) is.delta.changes is.lists is.list_files is.are_manifests
+    refl in
+    let long = ap (λ (files : List CommitFile). length files) is.files ∙ length-append is.row_files is.list_files in
     omega (arith, few, long)

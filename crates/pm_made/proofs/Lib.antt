@@ -1,13 +1,15 @@
-mod AllowedLemmas
+pub mod AllowedLemmas
 mod AsMadeLemmas
 mod CommitLemmas
 pub mod CountLemmas
+pub mod CountedLemmas
 mod DeltaFilesLemmas
 mod DeltaLemmas
 pub mod EntryLemmas
 pub mod FileCountLemmas
 mod GoneLemmas
 pub mod IntentLemmas
+pub mod KeyLemmas
 pub mod ListLemmas
 pub mod ListedLemmas
 pub mod LiveLemmas
@@ -20,3 +22,4 @@ pub mod NewFileLemmas
 pub mod NumberLemmas
 pub mod OldLemmas
 mod OwnLemmas
+pub mod StandLemmas

@@ -175,3 +175,11 @@ in-map {X} f (x ∷ xs) y h = elim (in-or (f x) (map f xs) y h) as (λ _. (z : X
   | inl is ↦ (x, in-head x xs, is)
   | inr more ↦ (let rest = in-map f xs y more in (rest.0, in-tail x xs rest.0 rest.1, rest.2))
 ]
+
+-- and the image of each of its items
+pub map-in : {X Y : Type 0} (f : X → Y) (xs : List X) (x : X) → Contains xs x → Contains (map f xs) (f x)
+map-in f [] x h = absurd (none-in x h)
+map-in f (z ∷ xs) x h = elim (in-or z xs x h) as (λ _. Contains (map f (z ∷ xs)) (f x)) [
+  | inl is ↦ subst (Contains (map f (z ∷ xs))) (ap f is) (in-head (f z) (map f xs))
+  | inr later ↦ in-tail (f z) (map f xs) (f x) (map-in f xs x later)
+]

@@ -3,9 +3,9 @@ use Rattle.std.proofs.Common.{◌≡◌, ℕ, zero, suc, ◌+◌, ◌*◌, List,
 use Rattle.std.specs.FinMap as finite
 use Rattle.std.specs.List.{AllByRecursion}
 use Rattle.pm_store.specs.Files.{Files}
-use Rattle.pm_values.specs.Names.{Naming}
+use Rattle.pm_values.specs.Names.{Naming, counted}
 use Rattle.pm_schema.specs.declared.schema.TableSchema.{TableSchema}
-use Rattle.pm_manifest.specs.Entries.{IsEntry}
+use Rattle.pm_manifest.specs.Entries.{IsEntry, IsWithin}
 use Rattle.pm_manifest.specs.Shape.{shape_of}
 use Rattle.pm_manifest.specs.declared.entry.Entry.{Entry}
 use Rattle.pm_manifest.specs.declared.entry.ManifestMeta.{ManifestMeta}
@@ -13,8 +13,9 @@ use Rattle.pm_model_contents.specs.Lists.{HasChangelog, HaveEntries, IsChangelog
 use Rattle.pm_model_folder.specs.Changes.{Actor}
 use Rattle.pm_put.specs.Meaning.{IsPut}
 use Rattle.pm_put.specs.declared.putting.CommitFile.{CommitFile}
-use Rattle.pm_made.specs.Files.{HasBase, HasChangesList, HasManifest, IsNewList, IsNewManifest, kept, merged, no_list, no_manifest, one_list, one_manifest}
+use Rattle.pm_made.specs.Files.{AreLists, AreManifests, HasBase, HasChangesList, HasManifest, IsNewList, IsNewManifest, kept, merged, no_list, no_manifest, one_list, one_manifest}
 use Rattle.pm_made.specs.declared.newest.Newest.{Newest}
+use Rattle.pm_made.specs.declared.snapshot.ListNames.{ListNames}
 use Rattle.pm_made.proofs.ListLemmas.{in-or, none-in}
 use Rattle.pm_made.proofs.MadeLemmas.{IsMade, IsMaker, MayGive, give-next, give-none, made-list, made-manifest, next-maker}
 
@@ -65,6 +66,34 @@ pub no-metas : (s : TableSchema) (names : Naming) (es : List Entry) (metas : Lis
     → HasManifest s names es metas made left → es ≡ [] → metas ≡ []
 no-metas s names es _ _ _ (no_manifest none) nothing = refl
 no-metas s names es _ _ _ (one_manifest m file some is) nothing = absurd (some nothing)
+
+-- nor is there a list of changelog files
+no-list-for : (s : TableSchema) (names : Naming) (metas : List ManifestMeta) (o : Option (List ℕ)) (made : List CommitFile) (left : Naming)
+    → HasChangesList s names metas o made left → metas ≡ [] → o ≡ None
+no-list-for s names metas _ _ _ (no_list none) nothing = refl
+no-list-for s names metas _ _ _ (one_list name file some is) nothing = absurd (some nothing)
+
+-- the entries of a manifest are such as are written
+manifest-within : (s : TableSchema) (names : Naming) (es : List Entry) (metas : List ManifestMeta) (made : List CommitFile) (left : Naming)
+    → HasManifest s names es metas made left → AllByRecursion (IsWithin (shape_of s)) es
+manifest-within s names es _ _ _ (no_manifest none) = subst (AllByRecursion (IsWithin (shape_of s))) (sym none) tt
+manifest-within s names es _ _ _ (one_manifest m file some is) = is.within
+
+module _ (s : TableSchema) (newest : Newest) (names : Naming) (es changelog : List Entry) (lists : ListNames) (made : List CommitFile)
+    (are : AreManifests s newest names es changelog lists made) where
+  abbrev own : AreLists s are.left es changelog are.base lists are.list_files
+  own = are.are_lists
+
+  pub unlisted : changelog ≡ [] → lists.changes ≡ None
+  unlisted none =
+      no-list-for s (counted own.after_changes) own.changes lists.changes own.changes_list own.after_list own.has_changes_list
+      (no-metas s own.after_delta changelog own.changes own.changes_files own.after_changes own.has_changes none)
+
+  pub entries-within : AllByRecursion (IsWithin (shape_of s)) es
+  entries-within = manifest-within s are.left es own.delta own.delta_files own.after_delta own.has_delta
+
+  pub changes-within : AllByRecursion (IsWithin (shape_of s)) changelog
+  changes-within = manifest-within s own.after_delta changelog own.changes own.changes_files own.after_changes own.has_changes
 
 -- ---- who named them
 

@@ -23,19 +23,26 @@ pub record IsMade (me : Actor) (base : ℕ) (path : List ℕ) : Type 0 where
   pub by : IsNamedBy me path
   pub based : by.names.base ≡ base
 
+-- the maker of names with another count
+abbrev pub at : Naming → ℕ → Naming
+at t n = record t { count = n }
+
+pub may-count : (t : Naming) (n : ℕ) → MayName t → n < 2 ^ 64 → MayName (at t n)
+may-count t n may bits = record {
+  is_maker = record {
+    sixteen = may.is_maker.sixteen;
+    bytes = may.is_maker.bytes;
+    actor_bits = may.is_maker.actor_bits;
+    base_bits = may.is_maker.base_bits;
+    count_bits = bits;
+  };
+  actor_within = may.actor_within;
+  base_within = may.base_within;
+}
+
 pub later-maker : (me : Actor) (base k : ℕ) (names : Naming) → IsMaker me base names → names.count + k < 2 ^ 64 → IsMaker me base (after_names k names)
 later-maker me base k names is bits = record {
-  may = record {
-    is_maker = (let own = is.may.is_maker in record {
-      sixteen = own.sixteen;
-      bytes = own.bytes;
-      actor_bits = own.actor_bits;
-      base_bits = own.base_bits;
-      count_bits = bits;
-    });
-    actor_within = is.may.actor_within;
-    base_within = is.may.base_within;
-  };
+  may = may-count names (names.count + k) is.may bits;
   session = is.session;
   actor = is.actor;
   based = is.based;

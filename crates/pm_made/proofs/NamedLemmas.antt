@@ -105,7 +105,7 @@ module _ (facts : SnapshotFacts) (me : Actor) (f after : Files) (s : TableSchema
   ]
 
   pub fence-below : int_lt (fence_of t.newest.snapshot) (pos b) ≡ true
-  fence-below = above-fence b (fence_of t.newest.snapshot) (allowed-of t ready.allowed).fence
+  fence-below = above-fence b (fence_of t.newest.snapshot) (allowed-of t.newest t.author t.intent ready.allowed).fence
 
   pub above : int_lt (fence_at entries k) (pos b) ≡ true
   above = subst (λ (z : ℤ). int_lt z (pos b) ≡ true) old.fence fence-below
