@@ -28,9 +28,9 @@ use Rattle.pm_runs.specs.Succession.{AreKnownAt, KnownRun, from_oldest, without_
 use Rattle.pm_compact.specs.Rewritten.{HaveFileNumbers}
 use Rattle.pm_paths.proofs.ListLemmas.{here, more}
 use Rattle.pm_made.proofs.EntryLemmas.{ReadEntries}
-use Rattle.pm_made.proofs.ListLemmas.{all-of, each-of, in-map}
+use Rattle.pm_made.proofs.ListLemmas.{all-of, each-of, in-map, map-in}
 use Rattle.pm_compaction.proofs.EntryLemmas.{LeftJoined, live-can}
-use Rattle.pm_compaction.proofs.ListLemmas.{flat-in, in-flat, map-in}
+use Rattle.pm_compaction.proofs.ListLemmas.{flat-in, in-flat}
 
 -- ---- the runs of a snapshot after the origin
 

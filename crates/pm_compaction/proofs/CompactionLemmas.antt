@@ -5,7 +5,7 @@ use Rattle.std.specs.List.{AllByRecursion}
 use Rattle.std.specs.List.Sorted.{IsStrictlySortedBy}
 use Rattle.pm_store.specs.Files.{Files, Puts}
 use Rattle.pm_values.specs.GroupOrder.{group_cmp}
-use Rattle.pm_values.specs.Names.{Naming, counted}
+use Rattle.pm_values.specs.Names.{Naming}
 use Rattle.pm_values.specs.declared.file_meta.FileMeta.{FileMeta}
 use Rattle.pm_values.specs.declared.group.Group.{Group}
 use Rattle.pm_model_history.specs.History.{Entry, IsTableOf, compaction, entry_rows, table}
@@ -38,7 +38,7 @@ use Rattle.pm_compact.specs.Made.{metas_of}
 use Rattle.pm_choice.specs.Choice.{live_entry}
 use Rattle.pm_made.specs.Commit.{Attempt, IsAsMade, IsReady}
 use Rattle.pm_made.specs.Delta.{Delta, adding, entries_of, is_of_any, left_of}
-use Rattle.pm_made.specs.Files.{HasBase, HasChangesList, HasManifest, delta_of_plan, kept, merged, merges, no_list, no_manifest, one_list, one_manifest}
+use Rattle.pm_made.specs.Files.{HasBase, HasManifest, delta_of_plan, kept, merged, merges, no_manifest, one_manifest}
 use Rattle.pm_made.specs.Intent.{IsEntryFor, removed_of}
 use Rattle.pm_made.specs.Refusals.{first_not_live}
 use Rattle.pm_made.specs.Snapshot.{new_snapshot}
@@ -46,18 +46,20 @@ use Rattle.pm_made.specs.declared.intent.Intent.{Intent}
 use Rattle.pm_made.specs.declared.intent.Intent.TheVariants as intents
 use Rattle.pm_made.specs.declared.intent.Plan.{Plan}
 use Rattle.pm_made.specs.declared.newest.Newest.{Newest}
-use Rattle.pm_made.proofs.ListLemmas.{all-of, each-of, in-map, none-found}
+use Rattle.pm_made.proofs.AllowedLemmas.{allowed-of}
+use Rattle.pm_made.proofs.ListLemmas.{all-of, each-of, in-map, map-in, none-found}
+use Rattle.pm_made.proofs.ListedLemmas.{unlisted}
 use Rattle.pm_made.proofs.OldLemmas.{puts-holds}
+use Rattle.pm_made.proofs.StandLemmas.{GroupAfter, OneRuns, SuccessionGoesOn, group-stands}
 use Rattle.pm_compaction.specs.Compacted.{GoesOnWith, HasCompacted}
 use Rattle.pm_compaction.specs.Plan.{IsRewrittenAt, KnowsPlan, RewrittenGroup, comes_of, goes_of, group_file, made_files, named_group}
-use Rattle.pm_compaction.proofs.AfterLemmas.{SuccessionGoesOn, group-stands}
 use Rattle.pm_compaction.proofs.ChangeLemmas.{holds-none}
 use Rattle.pm_compaction.proofs.DeltaLemmas.{IsDeltaFor, delta-for}
 use Rattle.pm_compaction.proofs.GroupLemmas.{GroupsTie, named-base, one-group, other-base, part-base, rising, which, whole-base, group_in}
-use Rattle.pm_compaction.proofs.ListLemmas.{flat-in, in-flat, map-in}
+use Rattle.pm_compaction.proofs.ListLemmas.{flat-in, in-flat}
 use Rattle.pm_compaction.proofs.LiveLemmas.{same-runs}
-use Rattle.pm_compaction.proofs.NewestLemmas.{FoundNewest, OneRuns, all-live, found, known, old-runs, own-numbered, own-runs, stood}
-use Rattle.pm_compaction.proofs.ReplacedLemmas.{GroupAfter, GroupFacts, group-after}
+use Rattle.pm_compaction.proofs.NewestLemmas.{FoundNewest, found, known, old-runs, own-numbered, own-runs, stood}
+use Rattle.pm_compaction.proofs.ReplacedLemmas.{GroupFacts, group-after}
 use Rattle.pm_compaction.proofs.RewrittenLemmas.{StillHolds, live-files, took-there}
 
 -- what the laws of lower crates say
@@ -91,23 +93,6 @@ base-merged : (s : TableSchema) (newest : Newest) (names left : Naming) (metas :
     → merges s newest.manifests.items ≡ true → length metas ≤ 1
 base-merged s newest names _ _ _ (kept few) enough = absurd (true≢false (sym enough ∙ few))
 base-merged s newest names _ _ _ (merged metas made left many has) enough = one-manifest s names left newest.live.items metas made has
-
--- ---- the changelog list
-
-no-manifests : (s : TableSchema) (names left : Naming) (es : List files.Entry) (metas : List ManifestMeta) (made : List CommitFile) → HasManifest s names es metas made left
-    → es ≡ [] → metas ≡ []
-no-manifests s names _ es _ _ (no_manifest none) nothing = refl
-no-manifests s names _ es _ _ (one_manifest m file some is) nothing = absurd (some nothing)
-
-no-list-for : (s : TableSchema) (names left : Naming) (metas : List ManifestMeta) (name : Option (List ℕ)) (made : List CommitFile) → HasChangesList s names metas name made left
-    → metas ≡ [] → name ≡ None
-no-list-for s names _ metas _ _ (no_list none) nothing = refl
-no-list-for s names _ metas _ _ (one_list name file some is) nothing = absurd (some nothing)
-
-no-changelog : (s : TableSchema) (before after names left : Naming) (es : List files.Entry) (metas : List ManifestMeta) (made : List CommitFile) (name : Option (List ℕ))
-    (list : List CommitFile) → HasManifest s before es metas made after → HasChangesList s names metas name list left → es ≡ [] → name ≡ None
-no-changelog s before after names left es metas made name list has has_list nothing =
-    no-list-for s names left metas name list has_list (no-manifests s before after es metas made has nothing)
 
 some-named : (x : RewrittenGroup) (xs : List RewrittenGroup) → map named_group (x ∷ xs) ≡ [] → ⊥
 some-named x xs is = cc
@@ -205,7 +190,7 @@ module _ (facts : Facts) (me : Actor) (f after : Files) (p : Past) (s : TableSch
   now = subst (λ (d : Delta). AreLive live1 (left_of d.removed es ++ d.added)) d-is made.live
 
   none-gone : first_not_live es removed ≡ None
-  none-gone = subst (λ (i : Intent). first_not_live es (removed_of i) ≡ None) is (all-live t.newest t.author t.intent ready.allowed)
+  none-gone = subst (λ (i : Intent). first_not_live es (removed_of i) ≡ None) is (allowed-of t.newest t.author t.intent ready.allowed).live
 
   -- ---- the plan's files
 
@@ -319,12 +304,9 @@ module _ (facts : Facts) (me : Actor) (f after : Files) (p : Past) (s : TableSch
   untold : made.contents.changes ≡ []
   untold = made.changes ∙ ap (λ (d : Delta). d.changes) d-is ∙ ap (λ (es : List files.Entry). map adding es) knows.untold
 
-  unlisted : ready.made.lists.changes ≡ None
-  unlisted =
-      let lists = ready.made.are_manifests.are_lists in
-      no-changelog s lists.after_delta lists.after_changes (counted lists.after_changes) lists.after_list ready.made.delta.changes lists.changes lists.changes_files
-      ready.made.lists.changes lists.changes_list lists.has_changes lists.has_changes_list
-      (ap (λ (d : Delta). d.changes) d-is ∙ ap (λ (es : List files.Entry). map adding es) knows.untold)
+  no-changelog : ready.made.lists.changes ≡ None
+  no-changelog = unlisted s t.newest ready.made.left (entries_of ready.made.delta) ready.made.delta.changes ready.made.lists ready.made.list_files
+      ready.made.are_manifests (ap (λ (d : Delta). d.changes) d-is ∙ ap (λ (es : List files.Entry). map adding es) knows.untold)
 
   bases : HaveBases 1 (entries ++ e ∷ [])
   bases = (rows-append s entries e ready.folder.history entry-after).bases
@@ -355,5 +337,5 @@ module _ (facts : Facts) (me : Actor) (f after : Files) (p : Past) (s : TableSch
     live = all-of (λ (e : files.Entry). is_of_any es e ≡ true) removed
         (λ e h. not-true (is_of_any es e) (none-found (λ (e : files.Entry). not (is_of_any es e)) removed none-gone e h));
     untold = untold;
-    unlisted = unlisted;
+    unlisted = no-changelog;
   }

@@ -24,10 +24,11 @@ use Rattle.pm_made.specs.declared.intent.Intent.TheVariants as intents
 use Rattle.pm_made.specs.declared.intent.Plan.{Plan}
 use Rattle.pm_made.specs.declared.newest.Newest.{Newest}
 use Rattle.pm_made.proofs.ListLemmas.{all-of, each-of, in-map}
+use Rattle.pm_made.proofs.StandLemmas.{OneRuns}
 use Rattle.pm_compaction.specs.Plan.{IsRewrittenAt, KnowsPlan, comes_of, group_file, made_files}
 use Rattle.pm_compaction.proofs.ListLemmas.{in-flat}
 use Rattle.pm_compaction.proofs.MadeLemmas.{named-file, own-file}
-use Rattle.pm_compaction.proofs.NewestLemmas.{OneRuns, found, found-appends, stood}
+use Rattle.pm_compaction.proofs.NewestLemmas.{found, found-appends, stood}
 
 -- ---- whose files they are
 

@@ -11,9 +11,9 @@ use Rattle.pm_model_history.specs.History.{Entry, compaction}
 use Rattle.pm_model_following.specs.Following.{base_of, is_named}
 use Rattle.pm_model_folder.specs.Folder.{GroupsRise}
 use Rattle.pm_paths.proofs.ListLemmas.{cases, here, more, nowhere}
-use Rattle.pm_made.proofs.ListLemmas.{each-of, in-map}
+use Rattle.pm_made.proofs.ListLemmas.{each-of, in-map, map-in}
 use Rattle.pm_compaction.specs.Plan.{RewrittenGroup, named_group}
-use Rattle.pm_compaction.proofs.ListLemmas.{any-of, map-in}
+use Rattle.pm_compaction.proofs.ListLemmas.{any-of}
 
 -- only equal groups tie
 abbrev pub GroupsTie : Type 0

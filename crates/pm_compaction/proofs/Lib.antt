@@ -1,4 +1,3 @@
-mod AfterLemmas
 mod BaseLemmas
 mod ChangeLemmas
 mod CompactionLemmas
@@ -7,7 +6,6 @@ mod DropLemmas
 mod EntryLemmas
 mod GivenLemmas
 mod GroupLemmas
-mod KeyLemmas
 mod ListLemmas
 mod LiveLemmas
 mod MadeLemmas

@@ -1,5 +1,5 @@
--- Items of lists that pass a test, and of lists of images.
-use Rattle.std.proofs.Common.{◌≡◌, Bool, true, false, true≢false, ◌||◌, List, [], ◌∷◌, map, inl, inr, Contains, refl, sym, ap, subst, ◌∙◌}
+-- Items of lists that pass a test, and of lists that are joined.
+use Rattle.std.proofs.Common.{◌≡◌, Bool, true, false, true≢false, ◌||◌, List, [], ◌∷◌, inl, inr, Contains, refl, sym, ap, subst, ◌∙◌}
 use Rattle.std.specs.List.{flat_map, list_any}
 use Rattle.std.proofs.lemmas.List.Elements.{Contains-append_cases, Contains-append_left, Contains-append_right}
 use Rattle.pm_paths.proofs.ListLemmas.{cases, here, more, nowhere}
@@ -19,16 +19,9 @@ any-of p (y ∷ xs) x h is = elim (cases y xs x h) as (λ _. list_any p (y ∷ x
   | inr later ↦ or-later (p y) (list_any p xs) (any-of p xs x later is)
 ]
 
--- ---- images
+-- ---- lists that are joined
 
 module _ {X Y : Type 0} where
-  pub map-in : (f : X → Y) (xs : List X) (x : X) → Contains xs x → Contains (map f xs) (f x)
-  map-in f [] x h = absurd (nowhere x h)
-  map-in f (z ∷ xs) x h = elim (cases z xs x h) as (λ _. Contains (map f (z ∷ xs)) (f x)) [
-    | inl is ↦ subst (Contains (map f (z ∷ xs))) (ap f is) (here (f z) (map f xs))
-    | inr later ↦ more (f z) (map f xs) (f x) (map-in f xs x later)
-  ]
-
   -- what lists that are joined have is an item of one of them
   pub in-flat : (f : X → List Y) (xs : List X) (y : Y) → Contains (flat_map f xs) y → (x : X) × Contains xs x × Contains (f x) y
   in-flat f [] y h = absurd (nowhere y h)

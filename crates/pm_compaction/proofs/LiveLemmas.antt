@@ -18,6 +18,8 @@ use Rattle.pm_model_folder.specs.Entries.{AreLive}
 use Rattle.pm_choice.specs.Choice.{live_entry}
 use Rattle.pm_made.specs.Delta.{is_of_any, left_of}
 use Rattle.pm_made.proofs.ListLemmas.{any-in, filter-in, in-filter}
+use Rattle.pm_made.proofs.StandLemmas as stand
+use Rattle.pm_made.proofs.StandLemmas.{two-moved}
 use Rattle.pm_compaction.proofs.BaseLemmas.{file-live, live-file}
 use Rattle.pm_compaction.proofs.ListLemmas.{any-of}
 
@@ -65,9 +67,6 @@ two-of xs ys a b (i, first, is_a) (j, second, is_b) =
     let front : IsPermutation (a ∷ (us ++ b ∷ vs)) (a ∷ b ∷ (us ++ vs)) =
     IsPermutation-cons a (us ++ b ∷ vs) (b ∷ (us ++ vs)) (IsPermutation-middle us b vs) in
     (us ++ vs, IsPermutation-trans (xs ++ ys) (a ∷ (us ++ b ∷ vs)) (a ∷ b ∷ (us ++ vs)) apart front)
-
-pub two-moved : (a b : FileMeta) (xs ys : List FileMeta) → IsPermutation xs ys → AreTwoOf a b xs → AreTwoOf a b ys
-two-moved a b xs ys same two = (two.0, IsPermutation-trans ys xs (a ∷ b ∷ two.0) (IsPermutation-sym xs ys same) two.1)
 
 pub two-left : (a b : FileMeta) (xs ys : List FileMeta) → AreTwoOf a b xs → AreTwoOf a b (xs ++ ys)
 two-left a b xs ys two = (two.0 ++ ys, IsPermutation-append_left ys xs (a ∷ b ∷ two.0) two.1)
@@ -122,18 +121,7 @@ module _ (one : OneId) (live0 live1 : Live) (es removed added : List Entry) (wer
     )
 
     abbrev pub same-runs : (runs : List RunView) → AreRunsOf live0 g runs → AreRunsOf live1 g runs
-    same-runs runs are = record {
-      files = are.files;
-      own = record {
-        exact = λ m. (
-          λ h. (let o = (are.own.exact m).0 h in (o.0, (same-live o.0 o.2).1 o.1, o.2, o.3)),
-          λ o. (are.own.exact m).1 (o.0, (same-live o.0 o.2).0 o.1, o.2, o.3),
-        );
-        apart = are.own.apart;
-      };
-      made = are.made;
-      disjoint = are.disjoint;
-    }
+    same-runs runs are = stand.same-runs live0 live1 g runs same-live are
 
   -- ---- a group whose runs were rewritten
 

@@ -15,7 +15,7 @@ use Rattle.pm_values.specs.declared.group.Group.{Group}
 use Rattle.pm_model_history.specs.History.{Entry}
 use Rattle.pm_schema.specs.Again.{IsDeclared}
 use Rattle.pm_schema.specs.declared.schema.TableSchema.{TableSchema}
-use Rattle.pm_run.specs.Writing.{data_prefix, suffix}
+use Rattle.pm_run.specs.Writing.{data_prefix}
 use Rattle.pm_run.specs.declared.run.RunFile.{RunFile}
 use Rattle.pm_levels.specs.Runs.{AreNamedApart, RunView, files_of}
 use Rattle.pm_manifest.specs.Entries.{IsEntry, IsFile, IsFileWithin, IsWithin}
@@ -42,15 +42,17 @@ use Rattle.pm_made.specs.declared.intent.Intent.TheVariants as intents
 use Rattle.pm_made.specs.declared.intent.Plan.{Plan}
 use Rattle.pm_paths.proofs.ListLemmas.{here, more}
 use Rattle.pm_made.proofs.EntryLemmas.{ReadEntries}
-use Rattle.pm_made.proofs.ListLemmas.{Pairs, all-of, each-of, in-map, pairs-append, pairs-to}
+use Rattle.pm_made.proofs.KeyLemmas.{file-can-be}
+use Rattle.pm_made.proofs.ListLemmas.{Pairs, all-of, each-of, in-map, map-in, pairs-append, pairs-to}
+use Rattle.pm_made.proofs.ListedLemmas.{entries-within}
+use Rattle.pm_made.proofs.StandLemmas.{two-moved}
 use Rattle.pm_compaction.specs.Plan.{IsRewrittenAt, KnowsPlan, RewrittenGroup, comes_of, goes_of}
 use Rattle.pm_compaction.proofs.BaseLemmas.{RunsThere, TakenStored, file-live, runs-there}
-use Rattle.pm_compaction.proofs.DeltaLemmas.{IsDeltaFor, delta-for, manifest-within}
+use Rattle.pm_compaction.proofs.DeltaLemmas.{IsDeltaFor, delta-for}
 use Rattle.pm_compaction.proofs.EntryLemmas.{LeftJoined, live-can}
 use Rattle.pm_compaction.proofs.GroupLemmas.{GroupsTie, group_in, rising}
-use Rattle.pm_compaction.proofs.KeyLemmas.{key-can-be, name-ends}
-use Rattle.pm_compaction.proofs.ListLemmas.{flat-in, in-flat, map-in}
-use Rattle.pm_compaction.proofs.LiveLemmas.{two-moved, two-of, two-right}
+use Rattle.pm_compaction.proofs.ListLemmas.{flat-in, in-flat}
+use Rattle.pm_compaction.proofs.LiveLemmas.{two-of, two-right}
 use Rattle.pm_compaction.proofs.MadeLemmas.{ComesBefore, OneName, greatest-in, least-in, named-file}
 use Rattle.pm_compaction.proofs.RewrittenLemmas.{made-in-turn, made-key, taken-file}
 
@@ -189,19 +191,10 @@ module _ (tie : GroupsTie) (left : LeftJoined) (read : ReadEntries) (stored : Ta
   file-can x is f has within =
       let (k, less, named) = named-file s most_in_file x.taking.out x.names is.made.run x.files f is.made.files has in
       let meta : Contains (metas_of x.files) f.meta = map-in (λ (f : RunFile). f.meta) x.files f has in
-      let key = made-key left read stored me files0 p s entries base known knows.known.after_origin knows.since to x is in record {
-        named = name-ends data_prefix suffix (after_names k x.names) f.meta.name named;
-        schema = within.schema;
-        size = within.size;
-        rows = within.rows;
-        least = key-can-be s x.group f.meta.min_key declared
-            (key f.meta.min_key (least-in s most_in_file x.taking.out x.names is.made.run x.files f.meta is.made.files meta)) within.least;
-        greatest = key-can-be s x.group f.meta.max_key declared
-            (key f.meta.max_key (greatest-in s most_in_file x.taking.out x.names is.made.run x.files f.meta is.made.files meta)) within.greatest;
-        first = within.first;
-        last = within.last;
-        level = within.level;
-      }
+      let key = made-key left read stored me files0 p s entries base known knows.known.after_origin knows.since to x is in
+      file-can-be s x.group data_prefix (after_names k x.names) f.meta declared named
+      (key f.meta.min_key (least-in s most_in_file x.taking.out x.names is.made.run x.files f.meta is.made.files meta))
+      (key f.meta.max_key (greatest-in s most_in_file x.taking.out x.names is.made.run x.files f.meta is.made.files meta)) within
 
   -- and of a group that manifests have
   can-come : AllByRecursion (IsWithin (shape_of s)) (map adding plan.added.items) → AllByRecursion (IsEntry (shape_of s)) plan.added.items
@@ -249,5 +242,4 @@ attempt-change tie left read stored one me files0 p s declared entries base t pl
     delta = subst (λ (i : Intent). IsDeltaFor i made.delta) is (delta-for s t.newest t.names made.left t.intent made.delta made.row_files made.has_delta)
 
     within : AllByRecursion (IsWithin (shape_of s)) (entries_of made.delta)
-    within = (let lists = made.are_manifests.are_lists in
-        manifest-within s made.are_manifests.left lists.after_delta (entries_of made.delta) lists.delta lists.delta_files lists.has_delta)
+    within = entries-within s t.newest made.left (entries_of made.delta) made.delta.changes made.lists made.list_files made.are_manifests

@@ -1,18 +1,13 @@
 -- The newest snapshot that a compaction finds, and the groups' runs there.
-use Rattle.std.proofs.Common.{◌≡◌, inl, inr, ℕ, zero, suc, ◌≤◌, Bool, true, false, cond, List, map, length, take, Option, None, Some, IsSome, refl, sym, ap, subst, ◌∙◌, arith}
+use Rattle.std.proofs.Common.{◌≡◌, inl, inr, ℕ, zero, suc, ◌≤◌, List, map, length, take, Option, None, Some, IsSome, refl, sym, ap, subst, ◌∙◌, arith}
 use Rattle.std.specs.FinMap as finite
-use Rattle.std.specs.List.Sorted.{IsPermutation}
 use Rattle.std.proofs.lemmas.List.{take_all}
-use Rattle.std.proofs.lemmas.List.Sorted.{IsPermutation-sym, IsPermutation-trans}
 use Rattle.pm_store.specs.Files.{Files}
 use Rattle.pm_values.specs.declared.group.Group.{Group}
-use Rattle.pm_values.specs.declared.refusal.Refusal.{Refusal}
 use Rattle.pm_model_history.specs.History.{Entry, History, table}
 use Rattle.pm_schema.specs.declared.schema.TableSchema.{TableSchema}
 use Rattle.pm_snapshot.specs.declared.snapshot.Snapshot.{Snapshot}
-use Rattle.pm_levels.specs.Runs.{RunView, files_of}
-use Rattle.pm_manifest.specs.Live.{Live}
-use Rattle.pm_manifest.specs.declared.entry.Entry as files
+use Rattle.pm_levels.specs.Runs.{RunView}
 use Rattle.pm_model_contents.specs.Named.{Contents, HasContents}
 use Rattle.pm_model_contents.specs.Runs.{AreRunsOf}
 use Rattle.pm_model_folder.specs.Commits.{HasCommit, IsCommitted, live_in}
@@ -27,39 +22,10 @@ use Rattle.pm_model_folder.proofs.HoldLemmas.{OneContents, SameContents, one-com
 use Rattle.pm_model_folder.proofs.LedgerFacts.{count-is}
 use Rattle.pm_model_folder.proofs.RunFacts.{in-files-same}
 use Rattle.pm_made.specs.Commit.{IsFoundAs, IsNewestOf}
-use Rattle.pm_made.specs.Intent.{removed_of}
-use Rattle.pm_made.specs.Refusals.{first_not_live, is_fenced, limit_of, not_live, not_live_or, passed, refusal_of}
 use Rattle.pm_made.specs.Snapshot.{appends_of}
-use Rattle.pm_made.specs.declared.intent.Intent.{Intent}
-use Rattle.pm_made.specs.declared.newest.Author.{Author}
 use Rattle.pm_made.specs.declared.newest.Newest.{Newest}
+use Rattle.pm_made.proofs.StandLemmas.{OneRuns, numbered-too}
 use Rattle.pm_compaction.proofs.BaseLemmas.{RunsThere, runs-there}
-use Rattle.pm_compaction.proofs.LiveLemmas.{two-moved}
-
--- ---- a commit that isn't refused
-
-some-no : (x : Refusal) → Some x ≡ None → ⊥
-some-no x is = cc
-
--- all files that go are live
-pub all-live : (newest : Newest) (author : Author) (intent : Intent) → refusal_of newest author intent ≡ None
-    → first_not_live newest.live.items (removed_of intent) ≡ None
-all-live newest author intent is = at (is_fenced newest author) is
-  where
-    by : (o : Option files.Entry) → not_live_or o (limit_of newest intent) ≡ None → o ≡ None
-    by None is = refl
-    by (Some e) is = absurd (some-no (not_live e) is)
-
-    at : (b : Bool) → cond b (Some (passed newest author)) (not_live_or (first_not_live newest.live.items (removed_of intent)) (limit_of newest intent)) ≡ None
-        → first_not_live newest.live.items (removed_of intent) ≡ None
-    at true is = absurd (some-no (passed newest author) is)
-    at false is = by (first_not_live newest.live.items (removed_of intent)) is
-
--- ---- the newest snapshot
-
--- the live files of a group are the runs of one list
-abbrev pub OneRuns : Type 0
-OneRuns = (live : Live) (g : Group) (runs others : List RunView) → AreRunsOf live g runs → AreRunsOf live g others → runs ≡ others
 
 module _ (one : OneContents) (same : SameContents) (one_runs : OneRuns) (f : Files) (p : Past) (s : TableSchema) (entries : List Entry) (newest : Newest)
     (stands : Stands f p) (was : p.history ≡ table s entries) (folder : HasTable f s entries) (is : IsNewestOf f s entries newest) (some : 1 ≤ length entries) where
@@ -134,10 +100,4 @@ module _ (one : OneContents) (same : SameContents) (one_runs : OneRuns) (f : Fil
       subst (λ (c : Contents). HasGroup f s entries k (live_in c) g) both.1 (cm.groups g)
 
   pub own-numbered : (g : Group) (runs : List RunView) (own : AreRunsOf (live_in found.contents) g runs) → AreNumberedApart own.files
-  own-numbered g runs own a b two =
-      let was = has g in
-      let same_runs : was.runs ≡ runs = one_runs (live_in found.contents) g was.runs runs was.own own in
-      let moved : IsPermutation own.files was.own.files =
-      IsPermutation-trans own.files (files_of runs) was.own.files own.made.whole
-      (subst (λ (rs : List RunView). IsPermutation (files_of rs) was.own.files) same_runs (IsPermutation-sym was.own.files (files_of was.runs) was.own.made.whole)) in
-      was.numbered a b (two-moved a b own.files was.own.files moved two)
+  own-numbered g runs own = let was = has g in numbered-too one_runs (live_in found.contents) g was.runs runs was.own own was.numbered

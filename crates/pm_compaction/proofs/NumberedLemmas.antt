@@ -11,8 +11,9 @@ use Rattle.pm_levels.specs.Runs.{AreMadeAt, AreNamedApart, AreRuns, AreTwoOf, Ma
 use Rattle.pm_manifest.specs.Live.{Live}
 use Rattle.pm_model_contents.specs.Runs.{AreFilesOf, AreRunsOf}
 use Rattle.pm_model_folder.specs.Stored.{AreNumberedApart}
-use Rattle.pm_compaction.proofs.LiveLemmas.{files-three, two-left, two-moved}
+use Rattle.pm_compaction.proofs.LiveLemmas.{files-three, two-left}
 use Rattle.pm_compaction.proofs.PlaceLemmas.{TwoOfMore}
+use Rattle.pm_made.proofs.StandLemmas.{two-moved}
 
 -- what the law of runs in the place of others says
 pub record Replaced : Type 0 where

@@ -29,13 +29,14 @@ use Rattle.pm_model_folder.proofs.HoldLemmas.{Holds}
 use Rattle.pm_model_folder.proofs.RunFacts.{hold-held}
 use Rattle.pm_put.specs.Meaning.{IsPut}
 use Rattle.pm_runs.specs.Stand.{top_of}
-use Rattle.pm_runs.specs.Succession.{Follows, HasNewestOf, IsNew, IsReplaced, KnownRun, MayTakePlace, StillStands, Taking, replaced, without_files}
+use Rattle.pm_runs.specs.Succession.{HasNewestOf, IsNew, IsReplaced, KnownRun, MayTakePlace, StillStands, Taking, replaced, without_files}
 use Rattle.pm_compact.specs.Made.{IsMadeAt, made_run, metas_of}
 use Rattle.pm_compact.specs.Rewritten.{AreRewritten}
 use Rattle.pm_choice.specs.Choice.{live_entry}
 use Rattle.pm_made.specs.Delta.{left_of}
 use Rattle.pm_made.proofs.EntryLemmas.{ReadEntries}
 use Rattle.pm_made.proofs.ListLemmas.{Pairs, all-weaker}
+use Rattle.pm_made.proofs.StandLemmas.{GroupAfter}
 use Rattle.pm_compaction.specs.Plan.{IsRewrittenAt, RewrittenGroup, group_file}
 use Rattle.pm_compaction.proofs.BaseLemmas.{TakenStored}
 use Rattle.pm_compaction.proofs.EntryLemmas.{LeftJoined}
@@ -58,14 +59,6 @@ pub record GroupFacts : Type 0 where
   pub told : (s : TableSchema) (drop : Bool) (level : ℕ) (names : Naming) (rests : List Rest) (files : List RunFile)
       → AreRewritten s (meaning_of s) drop level names rests files → AllByRecursion (IsMadeAt level) files
   pub drops : (s : TableSchema) → DropsNoEffect (meaning_of s)
-
--- a group's runs after the entry: they are live, hold their rows, are numbered apart, and follow those before
-pub record GroupAfter (after : Files) (s : TableSchema) (entries : List Entry) (e : Entry) (p : Past) (live : Live) (g : Group) : Type 0 where
-  pub runs : List KnownRun
-  pub own : AreRunsOf live g (map view_of runs)
-  pub numbered : AreNumberedApart own.files
-  pub hold : AllByRecursion (λ (run : KnownRun). HasRun after s g (view_of run) (without_files run)) runs
-  pub follow : Follows s g p.since (λ n. p.runs n g) (length entries) e runs
 
 abbrev pub three : List KnownRun → List KnownRun → List KnownRun → List RunView
 three xs ys zs = map view_of xs ++ (map view_of ys ++ map view_of zs)

@@ -45,12 +45,12 @@ use Rattle.pm_made.specs.Refusals.{first_not_live}
 use Rattle.pm_made.specs.Delta.{is_of_any}
 use Rattle.pm_paths.proofs.ListLemmas.{here, more}
 use Rattle.pm_made.proofs.EntryLemmas.{ReadEntries}
-use Rattle.pm_made.proofs.ListLemmas.{Pairs, any-in, each-of, in-map, none-found}
+use Rattle.pm_made.proofs.KeyLemmas.{HasRowOf}
+use Rattle.pm_made.proofs.ListLemmas.{Pairs, any-in, each-of, in-map, map-in, none-found}
 use Rattle.pm_compaction.specs.Plan.{IsRewrittenAt, RewrittenGroup}
 use Rattle.pm_compaction.proofs.BaseLemmas.{RunsThere, TakenStored, all-rising, numbered, runs-there}
 use Rattle.pm_compaction.proofs.EntryLemmas.{LeftJoined}
-use Rattle.pm_compaction.proofs.KeyLemmas.{HasRowOf}
-use Rattle.pm_compaction.proofs.ListLemmas.{flat-in, in-flat, map-in}
+use Rattle.pm_compaction.proofs.ListLemmas.{flat-in, in-flat}
 use Rattle.pm_compaction.proofs.LiveLemmas.{OneId}
 use Rattle.pm_compaction.proofs.MadeLemmas.{ComesBefore, OneName, in-turn, named-by, named-file}
 use Rattle.pm_compaction.proofs.RowLemmas.{covered-row, from-taken, has-key, kept-in, of-group, run-there, some-of-key}

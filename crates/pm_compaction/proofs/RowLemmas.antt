@@ -19,8 +19,8 @@ use Rattle.pm_runs.specs.Stand.{StoredRun, oldest_first}
 use Rattle.pm_runs.specs.Succession.{KnownRun, from_oldest, without_files}
 use Rattle.pm_compact.specs.Rewritten.{kept_rows}
 use Rattle.pm_paths.proofs.ListLemmas.{cases, here, more, nowhere}
-use Rattle.pm_made.proofs.ListLemmas.{filter-in, in-filter, in-map}
-use Rattle.pm_compaction.proofs.ListLemmas.{flat-in, map-in}
+use Rattle.pm_made.proofs.ListLemmas.{filter-in, in-filter, in-map, map-in}
+use Rattle.pm_compaction.proofs.ListLemmas.{flat-in}
 
 -- ---- the rows of a key
 
