@@ -1,5 +1,5 @@
 -- The changelog files of a batch: each holds its group's rows by key, and so the group's part of the snapshot's change.
-use Rattle.std.proofs.Common.{◌≡◌, ◌≢◌, ℕ, ℤ, suc, ◌+◌, Bool, true, false, true≢false, cond, List, [], ◌∷◌, ◌++◌, length, map, filter, Option, None, Some, inl, inr}
+use Rattle.std.proofs.Common.{◌≡◌, ◌≢◌, ℕ, ℤ, suc, Bool, true, false, true≢false, cond, List, [], ◌∷◌, ◌++◌, length, map, filter, Option, None, Some}
 use Rattle.std.proofs.Common.{Contains, refl, sym, ap, subst, ◌∙◌, arith}
 use Rattle.std.specs.BTreeMap.{is_at}
 use Rattle.std.specs.FinMap as finite
@@ -10,7 +10,7 @@ use Rattle.std.specs.Ordering.{eq_by_cmp}
 use Rattle.std.proofs.lemmas.List.{length-map}
 use Rattle.pm_store.specs.Files.{Files}
 use Rattle.pm_values.specs.GroupOrder.{group_cmp}
-use Rattle.pm_values.specs.Names.{Naming, counted}
+use Rattle.pm_values.specs.Names.{Naming}
 use Rattle.pm_values.specs.Order.{Values}
 use Rattle.pm_values.specs.declared.group.Group.{Group}
 use Rattle.pm_values.specs.declared.record.Change.{Change}
@@ -25,10 +25,8 @@ use Rattle.pm_model_history.specs.Merged.{primary_of}
 use Rattle.pm_model_following.specs.Following.{by_key, change}
 use Rattle.pm_model_following.specs.Groups.{group_of, rows_in}
 use Rattle.pm_engine.specs.Covers.{row_of}
-use Rattle.pm_run.specs.declared.run.RunFile.{RunFile}
 use Rattle.pm_changelog.specs.Written.{HoldsLog}
 use Rattle.pm_manifest.specs.declared.entry.Entry as files
-use Rattle.pm_model_contents.specs.Lists.{IsChangelogEntry}
 use Rattle.pm_model_contents.specs.Runs.{data_path}
 use Rattle.pm_model_folder.specs.Entries.{rows_in_files}
 use Rattle.pm_model_folder.specs.Stored.{HasFile, HoldChanges, HoldsChange, entries_in}
@@ -38,9 +36,8 @@ use Rattle.pm_write.specs.declared.files.NewFile.{NewFile}
 use Rattle.pm_made.specs.Delta.{added_entry}
 use Rattle.pm_made.proofs.ListLemmas.{filter-in, in-head, in-tail}
 use Rattle.pm_made.proofs.NumberLemmas.{group-is}
-use Rattle.pm_append.specs.Commit.{told_count}
 use Rattle.pm_append.proofs.ByKeyLemmas.{as-many}
-use Rattle.pm_append.proofs.EntryLemmas.{IsOnly, group-only, held-only, own-held}
+use Rattle.pm_append.proofs.EntryLemmas.{group-only, held-only, only, own-held}
 use Rattle.pm_append.proofs.FileLemmas.{AreLogFiles, AreOfGroups, group-ties, later-groups, less-apart, logs-of-groups, none-rows}
 
 -- what the laws of lower crates say of rows by key, and of the change of a table that passes its input on
@@ -197,29 +194,22 @@ module _ (facts : ChangeFacts) (f : Files) (s : TableSchema) (rows : List Histor
 
 -- ---- how many rows they tell
 
--- a table without partition columns and with one bucket has one group
-one-group : (g h : Group) → IsOnly g → IsOnly h → g ≡ h
-one-group g h first second =
-    let partition = first.partition ∙ sym second.partition in
-    let bucket = first.bucket ∙ sym second.bucket in
-    λ i. record { partition = partition i; bucket = bucket i }
-
--- of which all rows are
-all-only : (s : TableSchema) (g : Group) (rows : List HistoryRow) → s.partition ≡ [] → s.options.bucket ≡ 1 → IsOnly g → rows_in s g rows ≡ rows
-all-only s g [] none one only = refl
-all-only s g (r ∷ rows) none one only =
+-- all rows of a table without partition columns and with one bucket are of one group
+all-only : (s : TableSchema) (g : Group) (rows : List HistoryRow) → s.partition ≡ [] → s.options.bucket ≡ 1 → g ≡ only → rows_in s g rows ≡ rows
+all-only s g [] none one is = refl
+all-only s g (r ∷ rows) none one is =
     ap (λ (t : Bool). cond t (r ∷ rows_in s g rows) (rows_in s g rows))
-    (group-ties (group_of s r.1) g (one-group (group_of s r.1) g (group-only s r.1 none one) only))
-    ∙ ap (λ (more : List HistoryRow). r ∷ more) (all-only s g rows none one only)
+    (group-ties (group_of s r.1) g (group-only s r.1 none one ∙ sym is))
+    ∙ ap (λ (more : List HistoryRow). r ∷ more) (all-only s g rows none one is)
 
 module _ (facts : ChangeFacts) (s : TableSchema) (rows : List HistoryRow) (batch : Groups) (none : s.partition ≡ []) (one : s.options.bucket ≡ 1)
     (is : IsBatchOf s rows batch) where
-  file-many : (g : Group) (x : NewFile) → IsOnly g → IsLogWritten s rows g x → x.meta.rows ≡ length rows
-  file-many g x only written =
+  file-many : (g : Group) (x : NewFile) → g ≡ only → IsLogWritten s rows g x → x.meta.rows ≡ length rows
+  file-many g x is_only written =
       written.holds.tells.count ∙ sym (length-map written.holds.stored row_of) ∙ ap (λ (own : List HistoryRow). length own) written.holds.same
-      ∙ by-key-many facts s (rows_in s g rows) ∙ ap (λ (own : List HistoryRow). length own) (all-only s g rows none one only)
+      ∙ by-key-many facts s (rows_in s g rows) ∙ ap (λ (own : List HistoryRow). length own) (all-only s g rows none one is_only)
 
-  only-held : (e : Group × GroupRows) → held_of e.0 batch ≡ Some e.1 → IsOnly e.0
+  only-held : (e : Group × GroupRows) → held_of e.0 batch ≡ Some e.1 → e.0 ≡ only
   only-held e held = held-only s rows e.0 e.1 none one (own-held s rows batch e is held)
 
   by-groups : (es : Groups) (xs : List NewFile) → IsStrictlySortedBy group_cmp (keys_of es)
@@ -232,7 +222,7 @@ module _ (facts : ChangeFacts) (s : TableSchema) (rows : List HistoryRow) (batch
   by-groups (e ∷ []) (x ∷ []) ordered held each empty = let many = file-many e.0 x (only-held e held.0) each.0 in omega (arith, many)
   by-groups (e ∷ []) (x ∷ y ∷ xs) ordered held each empty = absurd each.1
   by-groups (e ∷ d ∷ es) (x ∷ xs) ordered held each empty =
-      absurd (less-apart e.0 d.0 ordered.0.0 (one-group e.0 d.0 (only-held e held.0) (only-held d held.1.0)))
+      absurd (less-apart e.0 d.0 ordered.0.0 (only-held e held.0 ∙ sym (only-held d held.1.0)))
 
   -- each row is told once
   pub told-once : (xs : List NewFile) → AllByRecursion (λ (e : Group × GroupRows). held_of e.0 batch ≡ Some e.1) batch → AreWrittenLogs s rows batch xs

@@ -1,19 +1,14 @@
 -- A try of `pm_made` to append a batch, which is ready and published, appends its rows.
-use Rattle.std.proofs.Common.{◌≡◌, ◌≢◌, ◌↔◌, ◌⊎◌, inl, inr, ℕ, pos, int_lt, suc, ◌+◌, ◌<◌, ◌≤◌, ◌^◌, Bool, true, false, cond, List, [], ◌∷◌, ◌++◌, length, map, Option, None, Some, IsSome, Contains, refl, sym, ap, subst, ◌∙◌, append-nil, arith}
+use Rattle.std.proofs.Common.{◌≡◌, ◌≢◌, ◌↔◌, ◌⊎◌, inl, inr, ℕ, pos, int_lt, suc, ◌+◌, ◌<◌, ◌≤◌, ◌^◌, Bool, true, false, List, [], ◌∷◌, ◌++◌, length, map, Option, None, Some, IsSome, Contains, refl, sym, ap, subst, ◌∙◌, append-nil, arith}
 use Rattle.std.specs.BTreeMap.{BTreeMap}
 use Rattle.std.specs.FinMap as finite
 use Rattle.std.specs.List.{AllByRecursion, AllZip}
 use Rattle.pm_store.specs.Files.{Files, Puts}
-use Rattle.pm_values.specs.Names.{Naming, counted}
+use Rattle.pm_values.specs.Names.{Naming}
 use Rattle.pm_values.specs.declared.group.Group.{Group}
 use Rattle.pm_values.specs.declared.record.Change.{Change}
-use Rattle.pm_values.specs.declared.record.Stamped.{Stamped}
-use Rattle.pm_values.specs.declared.refusal.Refusal.{Refusal}
 use Rattle.pm_model_history.specs.History.{Entry}
 use Rattle.pm_model_history.specs.Merge.{HistoryRow}
-use Rattle.pm_engine.specs.Covers.{CoversAll}
-use Rattle.pm_engine.specs.OfSchema.{meaning_of}
-use Rattle.pm_model_following.specs.Groups.{rows_in}
 use Rattle.pm_options.specs.declared.kinds.Producer.{Producer}
 use Rattle.pm_options.specs.declared.kinds.Producer.TheVariants as producers
 use Rattle.pm_schema.specs.declared.schema.TableSchema.{TableSchema}
@@ -34,24 +29,22 @@ use Rattle.pm_model_folder.specs.Stored.{HasGroup, HoldsChange}
 use Rattle.pm_model_folder.proofs.HoldLemmas.{Holds}
 use Rattle.pm_put.specs.Meaning.{IsPut}
 use Rattle.pm_put.specs.declared.putting.CommitFile.{CommitFile}
-use Rattle.pm_run.specs.Rows.{HasRows}
-use Rattle.pm_run.specs.Writing.{AreRising}
 use Rattle.pm_write.specs.Batch.{GroupRows, Groups, IsBatchOf, group_log, held_of, logs_in, numbered}
-use Rattle.pm_write.specs.Files.{AreFilesOfLogs, AreLogsWritten, AreNewFiles, AreWritten, IsLogWritten, after_names, exceeds, no_sequence}
+use Rattle.pm_write.specs.Files.{AreFilesOfLogs, AreLogsWritten, AreNewFiles, AreWritten, IsLogWritten, after_names, exceeds}
 use Rattle.pm_write.specs.declared.files.NewFile.{NewFile}
 use Rattle.pm_made.specs.Commit as tried
 use Rattle.pm_made.specs.Delta.{Delta, added_entry, entries_of, left_of}
-use Rattle.pm_made.specs.Files.{AreNumbered, HasBase, HasChangesList, HasDelta, HasManifest, appends, changes_of, data_file, kept, merged, merges, no_list, no_manifest, one_list, one_manifest}
+use Rattle.pm_made.specs.Files.{AreNumbered, HasBase, HasDelta, HasManifest, appends, changes_of, data_file, kept, merged, merges, no_manifest, one_manifest}
 use Rattle.pm_made.specs.Intent.{changelog_files}
-use Rattle.pm_made.specs.Refusals.{above_files, above_numbers, is_fenced, no_files, passed, refusal_of}
 use Rattle.pm_made.specs.Snapshot.{new_snapshot}
 use Rattle.pm_made.specs.declared.intent.Intent.TheVariants as intents
 use Rattle.pm_made.specs.declared.newest.Author.{Author}
 use Rattle.pm_made.specs.declared.newest.Newest.{Newest}
 use Rattle.pm_made.specs.declared.snapshot.ListNames.{ListNames}
+use Rattle.pm_made.proofs.AllowedLemmas.{allowed-of}
 use Rattle.pm_made.proofs.CountLemmas.{left-none}
-use Rattle.pm_made.proofs.ListLemmas.{each-of, in-either, in-head, in-left, in-or, in-right, in-tail, none-in, pairs-to}
-use Rattle.pm_made.proofs.ListedLemmas.{no-metas}
+use Rattle.pm_made.proofs.ListLemmas.{each-of, in-either, in-left, in-map, in-right, map-in, pairs-to}
+use Rattle.pm_made.proofs.ListedLemmas.{changes-within, entries-within, unlisted}
 use Rattle.pm_made.proofs.LiveLemmas.{AreAdds, AreNew}
 use Rattle.pm_made.proofs.LogLemmas.{changelog-least}
 use Rattle.pm_made.proofs.MadeLemmas.{IsMade, IsMaker, later-maker, made-data}
@@ -63,11 +56,9 @@ use Rattle.pm_append.specs.Snapshot.{append_snapshot}
 use Rattle.pm_append.proofs.ChangeLemmas.{AreLogs, ChangeFacts, holds-input, no-rows, none-logged, told-once, written-logs}
 use Rattle.pm_append.proofs.CountLemmas.{adds-rows}
 use Rattle.pm_append.proofs.EntryLemmas.{changes-can-be, entries-can-be}
-use Rattle.pm_append.proofs.FileLemmas.{AreLogFiles, apart-files, are-adds, data-of-groups, entry-file, next-above}
-use Rattle.pm_append.proofs.GroupLemmas.{NewestFacts}
+use Rattle.pm_append.proofs.FileLemmas.{AreLogFiles, apart-files, are-adds, data-of-groups, next-above}
 use Rattle.pm_append.proofs.GrownLemmas.{GroupFacts, NewRuns, go-on, stands}
 use Rattle.pm_append.proofs.RowCountLemmas.{adds-at-zero, files-few}
-use Rattle.pm_append.proofs.RowLemmas.{AddedFacts}
 
 -- ---- what the laws of lower crates say
 
@@ -86,15 +77,11 @@ CommitLaw = (me : Actor) (f after : Files) (s : TableSchema) (entries : List Ent
 
 pub record Facts : Type 0 where
   pub snapshots : SnapshotFacts
-  pub newest : NewestFacts
-  pub rows_added : AddedFacts
+  pub groups : GroupFacts
   pub live : (before : Option files.Entry) (id : FileId) (es : List files.Entry) (e : files.Entry) → live_at before id es ≡ Some e
       → (before ≡ Some e) ⊎ ((e.add ≡ true) × (id_of e ≡ id))
-  pub rising : (s : TableSchema) (bytes : List ℕ) (rows : List Stamped) → HasRows s false bytes rows → AreRising rows
   pub held : (s : TableSchema) (rows : List HistoryRow) (batch : Groups) → IsBatchOf s rows batch
       → AllByRecursion (λ (e : Group × GroupRows). held_of e.0 batch ≡ Some e.1) batch
-  pub covers : (s : TableSchema) (rows : List HistoryRow) (batch : Groups) (g : Group) (x : GroupRows) (n : ℕ) → IsBatchOf s rows batch
-      → held_of g batch ≡ Some x → CoversAll (meaning_of s) (numbered n x.run ∷ []) (rows_in s g rows)
   pub written : (s : TableSchema) (rows : List HistoryRow) (batch : Groups) (next : BTreeMap Group ℕ) (names : Naming) (new_files : List NewFile)
       → IsBatchOf s rows batch → exceeds next batch ≡ false → (new : AreNewFiles s next names batch new_files) → AreWritten s next batch new.data_files
   pub logs_written : (s : TableSchema) (rows : List HistoryRow) (batch : Groups) (next : BTreeMap Group ℕ) (names : Naming) (new_files : List NewFile)
@@ -130,31 +117,8 @@ from-batch s newest names _ _ _ _ (appends batch xs numbered) =
       put = refl;
     }
 
-within-of : (s : TableSchema) (names : Naming) (es : List files.Entry) (metas : List ManifestMeta) (made : List CommitFile) (left : Naming)
-    → HasManifest s names es metas made left → AllByRecursion (IsWithin (shape_of s)) es
-within-of s names es _ _ _ (no_manifest none) = subst (AllByRecursion (IsWithin (shape_of s))) (sym none) tt
-within-of s names es _ _ _ (one_manifest m file some is) = is.within
-
 some-no : {X : Type 0} (x : X) → None ≡ Some x → ⊥
 some-no x is = cc
-
-unless : (t : Bool) (x : Refusal) (o : Option Refusal) → cond t (Some x) o ≡ None → (t ≡ false) × (o ≡ None)
-unless true x o is = absurd (let no : Some x ≡ None = is in cc)
-unless false x o is = (refl, is)
-
--- a try that is allowed needs no number above the greatest
-few-numbers : (newest : Newest) (author : Author) (batch : Groups) → refusal_of newest author (intents.Append batch) ≡ None
-    → above_numbers newest.live.items batch ≡ false
-few-numbers newest author batch allowed =
-    let a = unless (is_fenced newest author) (passed newest author) _ allowed in
-    let b = unless (above_files (length newest.live.items + length batch)) no_files _ a.1 in
-    (unless (above_numbers newest.live.items batch) no_sequence _ b.1).0
-
--- without changelog files it has no changelog list
-no-changes-list : (s : TableSchema) (names : Naming) (metas : List ManifestMeta) (o : Option (List ℕ)) (made : List CommitFile) (left : Naming)
-    → HasChangesList s names metas o made left → metas ≡ [] → o ≡ None
-no-changes-list s names metas _ _ _ (no_list none) nothing = refl
-no-changes-list s names metas _ _ _ (one_list name file some is) nothing = absurd (some nothing)
 
 -- its snapshot is the one that appends rows with these files
 same-snapshot : (s : TableSchema) (newest : Newest) (author : Author) (batch : Groups) (xs told : List NewFile) (lists : ListNames)
@@ -233,13 +197,11 @@ module _ (facts : Facts) (made_law : MadeLaw) (commit_law : CommitLaw) (me : Act
   can-come = entries-can-be s t.rows t.batch own.numbered.next t.names xs ready.built.declared ready.built.no_partition ready.built.one_bucket
       ready.batch new_files.runs held
       (subst (λ (d : Delta). AllByRecursion (IsWithin (shape_of s)) (entries_of d)) own.delta
-      (let lists = ready.made.are_manifests.are_lists in
-      within-of s ready.made.are_manifests.left (entries_of ready.made.delta) lists.delta lists.delta_files lists.after_delta lists.has_delta))
+      (entries-within s t.newest ready.made.left (entries_of ready.made.delta) ready.made.delta.changes ready.made.lists ready.made.list_files ready.made.are_manifests))
 
   within-told : AllByRecursion (IsWithin (shape_of s)) changes
   within-told = subst (λ (d : Delta). AllByRecursion (IsWithin (shape_of s)) d.changes) own.delta
-      (let lists = ready.made.are_manifests.are_lists in
-      within-of s lists.after_delta ready.made.delta.changes lists.changes lists.changes_files lists.after_changes lists.has_changes)
+      (changes-within s t.newest ready.made.left (entries_of ready.made.delta) ready.made.delta.changes ready.made.lists ready.made.list_files ready.made.are_manifests)
 
   -- its changelog files are of its groups, where the table passes its input on, else there are none
   logged : s.options.producer ≡ producers.Input → AreLogFiles s (after_names (length xs) t.names) t.batch zs
@@ -316,19 +278,12 @@ module _ (facts : Facts) (made_law : MadeLaw) (commit_law : CommitLaw) (me : Act
 
   -- ---- files in place
 
-  in-data : (ys : List NewFile) (x : NewFile) → Contains ys x → Contains (map (data_file s) ys) (data_file s x)
-  in-data [] x h = absurd (none-in x h)
-  in-data (y ∷ ys) x h = elim (in-or y ys x h) as (λ _. Contains (map (data_file s) (y ∷ ys)) (data_file s x)) [
-    | inl is ↦ subst (λ (z : NewFile). Contains (map (data_file s) (y ∷ ys)) (data_file s z)) is (in-head (data_file s y) (map (data_file s) ys))
-    | inr more ↦ in-tail (data_file s y) (map (data_file s) ys) (data_file s x) (in-data ys x more)
-  ]
-
   file-place : (x : NewFile) → Contains own.new_files x → finite.get after (data_path s x.group x.meta.name) ≡ Some x.bytes
   file-place x h =
       let put : Contains t.made.files.items (data_file s x) =
       subst (λ (made : List CommitFile). Contains made (data_file s x)) (sym ready.made.files)
       (in-left ready.made.row_files ready.made.list_files (data_file s x)
-      (subst (λ (made : List CommitFile). Contains made (data_file s x)) (sym own.put) (in-data own.new_files x h))) in
+      (subst (λ (made : List CommitFile). Contains made (data_file s x)) (sym own.put) (map-in (data_file s) own.new_files x h))) in
       let there : finite.get f (data_path s x.group x.meta.name) ≡ Some x.bytes = each-of (IsPut f) t.made.files.items (data_file s x) ready.there put in
       holds (data_path s x.group x.meta.name) (subst (λ (o : Option (List ℕ)). IsSome o) (sym there) refl) ∙ there
 
@@ -362,7 +317,7 @@ module _ (facts : Facts) (made_law : MadeLaw) (commit_law : CommitLaw) (me : Act
             | inr both ↦ both.1
           ] in
           let named = old.data_named z (ap live0 own_id ∙ is) in
-          let one = entry-file s xs x h in
+          let one = in-map (added_entry s) xs x h in
           let same : data_path s z.group z.file.name ≡ data_path s one.0.group one.0.meta.name =
           ap (λ (i : FileId). data_path s i.group i.name) own_id ∙ ap (λ (w : files.Entry). data_path s w.group w.file.name) (sym one.2) in
           absurd (ready.unnamed k (data_path s one.0.group one.0.meta.name) named.0 (omega arith)
@@ -370,12 +325,9 @@ module _ (facts : Facts) (made_law : MadeLaw) (commit_law : CommitLaw) (me : Act
 
   -- ---- groups
 
-  abbrev group_facts : GroupFacts
-  group_facts = record { newest = facts.newest; rows_added = facts.rows_added; rising = facts.rising; covers = facts.covers }
-
   written : AreWritten s own.numbered.next t.batch xs
   written = facts.written s t.rows t.batch own.numbered.next t.names own.new_files ready.batch
-      (same-exceeds live_items own.numbered.next t.batch own.numbered.counts ∙ few-numbers t.newest t.author t.batch ready.allowed)
+      (same-exceeds live_items own.numbered.next t.batch own.numbered.counts ∙ (allowed-of t.newest t.author (intents.Append t.batch) ready.allowed).numbers)
       new_files
 
   new_runs : NewRuns me t.author.base after s t.rows t.batch xs live0 (live_in seen.contents)
@@ -393,8 +345,8 @@ module _ (facts : Facts) (made_law : MadeLaw) (commit_law : CommitLaw) (me : Act
   }
 
   has-group : (g : Group) → HasGroup after s (entries ++ entry_of t ∷ []) (suc k) (live_in seen.contents) g
-  has-group g = stands group_facts me t.author.base after s t.rows t.batch xs live0 (live_in seen.contents) new_runs f entries t.author.user t.author.identifier
-      holds ready.built.declared ready.folder.history.bases g (old.groups g)
+  has-group g = stands facts.groups me t.author.base after s t.rows t.batch xs live0 (live_in seen.contents) new_runs f entries t.author.user t.author.identifier
+      holds ready.built.declared ready.folder ready.unnamed old.runs_at old.groups g
 
   same-changes : seen.contents.changes ≡ changes
   same-changes = seen.changes ∙ ap (λ (d : Delta). d.changes) own.delta
@@ -425,7 +377,7 @@ module _ (facts : Facts) (made_law : MadeLaw) (commit_law : CommitLaw) (me : Act
   commits = commit_law me f after s entries (entry_of t) (attempt_of t) is-ready absent puts seen has-group holds-change
 
   group-grows : (g : Group) → Grows me f after s k g t.rows
-  group-grows = go-on group_facts me t.author.base f after s t.rows t.batch xs live0 seen.contents new_runs k (tried.snapshot_of s (attempt_of t) ready.made)
+  group-grows = go-on facts.groups me t.author.base f after s t.rows t.batch xs live0 seen.contents new_runs k (tried.snapshot_of s (attempt_of t) ready.made)
       seen.commit old.runs_at
 
   -- ---- what the folder has
@@ -442,11 +394,8 @@ module _ (facts : Facts) (made_law : MadeLaw) (commit_law : CommitLaw) (me : Act
       subst (λ (b : Bool). AreBaseIf b after s t.newest metas) (sym enough) (are-merged metas made_files left has (have enough))
 
   no-list : zs ≡ [] → ready.made.lists.changes ≡ None
-  no-list none =
-      let lists = ready.made.are_manifests.are_lists in
-      no-changes-list s (counted lists.after_changes) lists.changes ready.made.lists.changes lists.changes_list lists.after_list lists.has_changes_list
-      (no-metas s lists.after_delta ready.made.delta.changes lists.changes lists.changes_files lists.after_changes lists.has_changes
-      (ap (λ (d : Delta). d.changes) own.delta ∙ ap (map (added_entry s)) none))
+  no-list none = unlisted s t.newest ready.made.left (entries_of ready.made.delta) ready.made.delta.changes ready.made.lists ready.made.list_files
+      ready.made.are_manifests (ap (λ (d : Delta). d.changes) own.delta ∙ ap (map (added_entry s)) none)
 
   -- ---- what is told
 

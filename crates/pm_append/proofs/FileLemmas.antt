@@ -22,7 +22,7 @@ use Rattle.pm_write.specs.Files.{AreFilesOfLogs, AreFilesOfRuns, next_run}
 use Rattle.pm_write.specs.declared.files.NewFile.{NewFile}
 use Rattle.pm_made.specs.Delta.{added_entry}
 use Rattle.pm_made.specs.Refusals.{next_number}
-use Rattle.pm_made.proofs.ListLemmas.{Pairs, in-head, in-or, in-tail, none-in}
+use Rattle.pm_made.proofs.ListLemmas.{Pairs, in-head, in-map, in-or, in-tail, none-in}
 use Rattle.pm_made.proofs.LiveLemmas.{AreAdds}
 use Rattle.pm_made.proofs.NumberLemmas.{group-is}
 
@@ -145,32 +145,17 @@ module _ (P : Group → GroupRows → NewFile → Type 0) where
 
 -- ---- the entries that add them
 
--- an entry is that of a file
-pub entry-file : (s : TableSchema) (xs : List NewFile) (e : Entry) → Contains (map (added_entry s) xs) e → (x : NewFile) × Contains xs x × (added_entry s x ≡ e)
-entry-file s [] e h = absurd (none-in e h)
-entry-file s (x ∷ xs) e h = elim (in-or (added_entry s x) (map (added_entry s) xs) e h) as (λ _. (y : NewFile) × Contains (x ∷ xs) y × (added_entry s y ≡ e)) [
-  | inl is ↦ (x, in-head x xs, is)
-  | inr more ↦ (let found = entry-file s xs e more in (found.0, in-tail x xs found.0 found.1, found.2))
-]
-
-pub file-entry : (s : TableSchema) (xs : List NewFile) (x : NewFile) → Contains xs x → Contains (map (added_entry s) xs) (added_entry s x)
-file-entry s [] x h = absurd (none-in x h)
-file-entry s (y ∷ xs) x h = elim (in-or y xs x h) as (λ _. Contains (map (added_entry s) (y ∷ xs)) (added_entry s x)) [
-  | inl is ↦ subst (λ (z : NewFile). Contains (map (added_entry s) (y ∷ xs)) (added_entry s z)) is (in-head (added_entry s y) (map (added_entry s) xs))
-  | inr more ↦ in-tail (added_entry s y) (map (added_entry s) xs) (added_entry s x) (file-entry s xs x more)
-]
-
 -- they are adds, of different files
 pub are-adds : (s : TableSchema) (xs : List NewFile) → Pairs (λ (a b : NewFile). a.group ≢ b.group) xs → AreAdds (map (added_entry s) xs)
 are-adds s xs apart = record {
-  add = λ e h. (let found = entry-file s xs e h in ap (λ (z : Entry). z.add) (sym found.2));
+  add = λ e h. (let found = in-map (added_entry s) xs e h in ap (λ (z : Entry). z.add) (sym found.2));
   apart = all-apart xs apart;
 }
   where
     all-apart : (xs : List NewFile) → Pairs (λ (a b : NewFile). a.group ≢ b.group) xs → Pairs (λ (a b : Entry). id_of a ≢ id_of b) (map (added_entry s) xs)
     all-apart [] apart = tt
     all-apart (x ∷ xs) apart = (
-      λ e h same. (let found = entry-file s xs e h in
+      λ e h same. (let found = in-map (added_entry s) xs e h in
           apart.0 found.0 found.1 (ap (λ (i : FileId). i.group) same ∙ ap (λ (z : Entry). z.group) (sym found.2))),
       all-apart xs apart.1,
     )

@@ -1,4 +1,4 @@
--- The runs of a group once a new file of it is live, or none.
+-- The runs of a group once a new file of it is live.
 use Rattle.std.proofs.Common.{◌≡◌, ◌≢◌, ◌↔◌, ℕ, ◌<◌, false, List, [], ◌∷◌, None, Some, ◌⊎◌, inl, inr, Contains, refl, sym, ap, subst, ◌∙◌, append-nil, arith}
 use Rattle.std.specs.FinMap as finite
 use Rattle.pm_store.specs.Files.{Files}
@@ -25,30 +25,6 @@ pub record NewestFacts : Type 0 where
   pub two : (file : FileMeta) (files : List FileMeta) (a b : FileMeta) → AreTwoOf a b (file ∷ files)
       → ((a ≡ file) × Contains files b) ⊎ ((b ≡ file) × Contains files a) ⊎ AreTwoOf a b files
   pub disjoint : (file : FileMeta) (files : List FileMeta) → file.level ≡ 0 → AreDisjoint files → AreDisjoint (file ∷ files)
-
--- ---- a group without a new file
-
--- its live files are the same, and so are its runs
-pub same-files : (live after : Live) (g : Group) (files : List FileMeta) → ((e : Entry) → e.group ≡ g → IsLive after e ↔ IsLive live e)
-    → AreFilesOf live g files → AreFilesOf after g files
-same-files live after g files same own = record {
-  exact = λ m. (
-    λ h. (let o = (own.exact m).0 h in (o.0, (same o.0 o.2).1 o.1, o.2, o.3)),
-    λ o. (own.exact m).1 (o.0, (same o.0 o.2).0 o.1, o.2, o.3),
-  );
-  apart = own.apart;
-}
-
-abbrev pub same-runs : (live after : Live) (g : Group) (runs : List RunView) → ((e : Entry) → e.group ≡ g → IsLive after e ↔ IsLive live e)
-    → AreRunsOf live g runs → AreRunsOf after g runs
-same-runs live after g runs same are = record {
-  files = are.files;
-  own = same-files live after g are.files same are.own;
-  made = are.made;
-  disjoint = are.disjoint;
-}
-
--- ---- a group with a new file
 
 -- the new file of a group: it is at level 0, and its numbers are above those of the group's files there
 pub record IsNewest (live : Live) (g : Group) (a : Entry) : Type 0 where

@@ -2,12 +2,13 @@
 use Rattle.std.proofs.Common.{◌≡◌, ◌≢◌, ◌↔◌, ◌⊎◌, inl, inr, ℕ, ℤ, suc, ◌+◌, ◌≤◌, List, [], ◌∷◌, ◌++◌, length, map, false, Option, None, Some, Contains, refl, sym, ap, subst, ◌∙◌, arith}
 use Rattle.std.specs.BTreeMap.{BTreeMap}
 use Rattle.std.specs.FinMap as finite
+use Rattle.std.specs.List.{AllByRecursion}
 use Rattle.pm_store.specs.Files.{Files}
 use Rattle.pm_values.specs.Names.{Naming}
 use Rattle.pm_values.specs.declared.file_meta.FileMeta.{FileMeta}
 use Rattle.pm_values.specs.declared.group.Group.{Group}
 use Rattle.pm_values.specs.declared.record.Stamped.{Stamped}
-use Rattle.pm_model_history.specs.History.{Entry, append}
+use Rattle.pm_model_history.specs.History.{Entry, History, append, compaction, fence, table}
 use Rattle.pm_model_history.specs.Merge.{HistoryRow}
 use Rattle.pm_engine.specs.Covers.{CoversAll}
 use Rattle.pm_engine.specs.OfSchema.{meaning_of}
@@ -27,24 +28,33 @@ use Rattle.pm_write.specs.Batch.{GroupRows, Groups, IsBatchOf, held_of, numbered
 use Rattle.pm_write.specs.Files.{AreWritten, IsWritten, next_of}
 use Rattle.pm_write.specs.declared.files.NewFile.{NewFile}
 use Rattle.pm_model_folder.specs.Changes.{Actor, IsNamedBy}
-use Rattle.pm_model_folder.specs.Commits.{HasCommit, live_in}
-use Rattle.pm_model_folder.specs.Runs.{AreRunsAt}
-use Rattle.pm_model_folder.specs.Stored.{HasGroup, HasRun}
+use Rattle.pm_model_folder.specs.Commits.{HasCommit, Names, live_in}
+use Rattle.pm_model_folder.specs.Folder.{Folder, HasTable}
+use Rattle.pm_model_folder.specs.Ledger.{IsKnown, KnowsPast, KnowsTable, Past, Stands, count_of}
+use Rattle.pm_model_folder.specs.Runs.{AreInFiles, AreRunsAt, view_of}
+use Rattle.pm_model_folder.specs.Stored.{AreNumberedApart, HasGroup, HasRun}
+use Rattle.pm_model_folder.proofs.HoldLemmas.{Holds}
+use Rattle.pm_model_folder.proofs.LedgerFacts.{count-is}
+use Rattle.pm_model_folder.proofs.RunFacts.{hold-held}
 use Rattle.pm_runs.specs.Stand.{top_of}
-use Rattle.pm_model_folder.proofs.HoldLemmas.{Holds, group-held}
+use Rattle.pm_runs.specs.Succession.{KnownRun, grown, unchanged, without_files}
 use Rattle.pm_append.specs.Commit.{Grows, grows, stays}
 use Rattle.pm_made.specs.Delta.{added_entry}
-use Rattle.pm_append.proofs.FileLemmas.{AreDataFiles, OwnFile, data-of-groups, entry-file, file-entry, none-rows, own-file, some-count}
-use Rattle.pm_append.proofs.GroupLemmas.{IsNewest, NewestFacts, more-numbered, more-runs, new-run, same-runs}
-use Rattle.pm_made.proofs.ListLemmas.{in-or, none-in}
+use Rattle.pm_append.proofs.FileLemmas.{AreDataFiles, OwnFile, data-of-groups, none-rows, own-file, some-count}
+use Rattle.pm_append.proofs.GroupLemmas.{IsNewest, NewestFacts, more-numbered, more-runs, new-run}
+use Rattle.pm_made.proofs.ListLemmas.{in-map, in-or, map-in, none-in}
 use Rattle.pm_made.proofs.LiveLemmas.{AreNew}
 use Rattle.pm_made.proofs.MadeLemmas.{IsMade}
-use Rattle.pm_append.proofs.RowLemmas.{AddedFacts, stand-added, stand-same}
+use Rattle.pm_made.proofs.StandLemmas as stand
+use Rattle.pm_made.proofs.StandLemmas.{GroupAfter, OneRuns, SuccessionGoesOn, group-stands, numbered-too, same-runs}
 
 -- what the laws of lower crates say of runs and of batches
 pub record GroupFacts : Type 0 where
   pub newest : NewestFacts
-  pub rows_added : AddedFacts
+  pub found : (f : Files) (h : History) → Folder f h
+      → (p : Past) × (p.history ≡ h) × Stands f p × ((id : ℕ) → p.stood id ≡ f) × (p.since ≡ count_of h)
+  pub one_runs : OneRuns
+  pub goes_on : SuccessionGoesOn
   pub rising : (s : TableSchema) (bytes : List ℕ) (rows : List Stamped) → HasRows s false bytes rows → AreRising rows
   pub covers : (s : TableSchema) (rows : List HistoryRow) (batch : Groups) (g : Group) (x : GroupRows) (n : ℕ) → IsBatchOf s rows batch
       → held_of g batch ≡ Some x → CoversAll (meaning_of s) (numbered n x.run ∷ []) (rows_in s g rows)
@@ -63,6 +73,17 @@ pub record NewRuns (me : Actor) (base : ℕ) (after : Files) (s : TableSchema) (
     pub now_live : (x : files.Entry) → IsLive now x ↔ (IsLive live0 x ⊎ Contains (map (added_entry s) new_files) x)
     pub place : (x : NewFile) → Contains new_files x → finite.get after (data_path s x.group x.meta.name) ≡ Some x.bytes
     pub made_by : (x : NewFile) → Contains new_files x → IsMade me base (data_path s x.group x.meta.name)
+
+-- an append has no base
+bases-more : (user : List ℕ) (identifier : ℤ) (rows : List HistoryRow) (k : ℕ) (entries : List Entry) → HaveBases k entries
+    → HaveBases k (entries ++ append user identifier rows ∷ [])
+bases-more user identifier rows k [] have = tt
+bases-more user identifier rows k (append u i r ∷ entries) have = bases-more user identifier rows (k + 1) entries have
+bases-more user identifier rows k (fence number ∷ entries) have = bases-more user identifier rows (k + 1) entries have
+bases-more user identifier rows k (compaction base groups ∷ entries) have = (have.0, bases-more user identifier rows (k + 1) entries have.1)
+
+some-file : (m : FileMeta) → m ∷ [] ≢ []
+some-file m is = cc
 
 module _ (facts : GroupFacts) (me : Actor) (base : ℕ) (after : Files) (s : TableSchema) (rows : List HistoryRow) (batch : Groups) (new_files : List NewFile)
     (live0 now : Live) (all : NewRuns me base after s rows batch new_files live0 now) where
@@ -87,7 +108,7 @@ module _ (facts : GroupFacts) (me : Actor) (base : ℕ) (after : Files) (s : Tab
     same = λ x of_g. (
       λ is. elim ((all.now_live x).0 is) as (λ _. IsLive live0 x) [
         | inl was ↦ was
-        | inr h ↦ (let found = entry-file s new_files x h in
+        | inr h ↦ (let found = in-map (added_entry s) new_files x h in
             absurd (other found.0 found.1 (ap (λ (z : files.Entry). z.group) found.2 ∙ of_g)))
       ],
       λ was. (all.now_live x).1 (inl was),
@@ -113,7 +134,7 @@ module _ (facts : GroupFacts) (me : Actor) (base : ℕ) (after : Files) (s : Tab
           let greatest_is = is.greatest in
           let many_rows = (some-count s rows batch g r all.is_batch found).0 in
           (omega (arith, below, least), omega (arith, below, greatest_is, many_rows));
-      new = all.new a (file-entry s new_files x there);
+      new = all.new a (map-in (added_entry s) new_files x there);
     }
 
     added-by : Added g
@@ -123,12 +144,12 @@ module _ (facts : GroupFacts) (me : Actor) (base : ℕ) (after : Files) (s : Tab
       grown_by = λ z z_of_g. (
         λ live. elim ((all.now_live z).0 live) as (λ _. IsLive live0 z ⊎ (z ≡ a)) [
           | inl was ↦ inl was
-          | inr h ↦ (let own = entry-file s new_files z h in
+          | inr h ↦ (let own = in-map (added_entry s) new_files z h in
               inr (sym own.2 ∙ ap (added_entry s) (one own.0 own.1 (ap (λ (w : files.Entry). w.group) own.2 ∙ z_of_g))))
         ],
         λ either. (all.now_live z).1 (elim either as (λ _. IsLive live0 z ⊎ Contains (map (added_entry s) new_files) z) [
           | inl was ↦ inl was
-          | inr same ↦ inr (subst (Contains (map (added_entry s) new_files)) (sym same) (file-entry s new_files x there))
+          | inr same ↦ inr (subst (Contains (map (added_entry s) new_files)) (sym same) (map-in (added_entry s) new_files x there))
         ]),
       );
       stored = numbered start r.run;
@@ -151,45 +172,81 @@ module _ (facts : GroupFacts) (me : Actor) (base : ℕ) (after : Files) (s : Tab
       at None none other = inr (unchanged-by g none other)
       at (Some r) found (x, there, of_g, is, one) = inl (added-by g r found x there of_g is one)
 
-  -- so it stands for these rows too, where it stood for those before them
-  pub stands : (f : Files) (entries : List Entry) (user : List ℕ) (identifier : ℤ) → Holds f after → IsDeclared s → HaveBases 1 entries → (g : Group)
-      → HasGroup f s entries (length entries) live0 g → HasGroup after s (entries ++ append user identifier rows ∷ []) (suc (length entries)) now g
-  stands f entries user identifier holds declared bases g before = elim (group-change g) as
-      (λ _. HasGroup after s (entries ++ append user identifier rows ∷ []) (suc (length entries)) now g) [
-        | inl new_run ↦ with_run new_run
-        | inr none ↦ without none
-      ]
-    where
-      high : top_of s ≢ 0
-      high is = let levels = declared.options.levels in let least = levels.0 in omega (arith, least, is)
+  one-file : (g : Group) (x : Added g) (file : FileMeta) → Contains (x.entry.file ∷ []) file → IsNamedBy me (data_path s g file.name)
+  one-file g x file there = elim (in-or x.entry.file [] file there) as (λ _. IsNamedBy me (data_path s g file.name)) [
+    | inl is ↦ subst (λ (m : FileMeta). IsNamedBy me (data_path s g m.name)) is x.made_by.by
+    | inr none ↦ absurd (none-in file none)
+  ]
 
-      was : HasGroup after s entries (length entries) live0 g
-      was = group-held f after holds s entries (length entries) live0 g before
+  -- the run of a new file, at the snapshot of a number
+  abbrev run_at : (n : ℕ) (g : Group) → Added g → KnownRun
+  run_at n g x = record { level = x.entry.file.level; files = x.entry.file ∷ []; newest = n; rows = x.stored }
 
-      with_run : Added g → HasGroup after s (entries ++ append user identifier rows ∷ []) (suc (length entries)) now g
-      with_run x = record {
-        runs = lone x.entry.file ∷ was.runs;
-        own = more-runs facts.newest live0 now g x.entry x.newest_file x.grown_by was.runs was.own;
-        within = ((let low = x.newest_file.low in omega (arith, low)), was.within);
-        numbered = more-numbered facts.newest live0 now g x.entry x.newest_file x.grown_by was.runs was.own was.numbered;
-        stored = record { level = 0; rows = x.stored } ∷ was.stored;
-        read = (x.run, was.read);
-        stand = stand-added entries user identifier rows s g bases facts.rows_added x.stored was.stored high x.covers was.stand;
+  -- ---- its runs follow those before, and so stand for these rows too
+
+  module _ (f : Files) (entries : List Entry) (user : List ℕ) (identifier : ℤ) (holds : Holds f after) (declared : IsDeclared s) (folder : HasTable f s entries)
+      (unnamed : (id : ℕ) (path : List ℕ) → 1 ≤ id → id ≤ length entries → Names f s id path → IsNamedBy me path → ⊥)
+      (runs_at : (g : Group) (runs : List RunView) → AreRunsAt f s (length entries) g runs → AreRunsOf live0 g runs)
+      (groups : (g : Group) → HasGroup f s entries (length entries) live0 g) where
+    abbrev e : Entry
+    e = append user identifier rows
+
+    abbrev n : ℕ
+    n = length entries
+
+    past : (p : Past) × (p.history ≡ table s entries) × Stands f p × ((id : ℕ) → p.stood id ≡ f) × (p.since ≡ n)
+    past = facts.found f (table s entries) folder
+
+    abbrev p : Past
+    p = past.0
+
+    known : KnowsTable f s entries p
+    known = subst (λ (h : History). KnowsPast f h p) past.1 past.2.past
+
+    -- the runs there, as they are known
+    old : (g : Group) → AreInFiles f s n g (p.runs n g)
+    old g = subst (λ (h : Files). AreInFiles h s n g (p.runs n g)) (past.3 n) (known.runs.stood n g known.runs.since (omega arith))
+
+    own : (g : Group) → AreRunsOf live0 g (map view_of (p.runs n g))
+    own g = runs_at g (map view_of (p.runs n g)) (old g).are
+
+    own-numbered : (g : Group) → AreNumberedApart (own g).files
+    own-numbered g = let was = groups g in numbered-too facts.one_runs live0 g was.runs (map view_of (p.runs n g)) was.own (own g) was.numbered
+
+    held : (g : Group) → AllByRecursion (λ (run : KnownRun). HasRun after s g (view_of run) (without_files run)) (p.runs n g)
+    held g = hold-held f after holds s g (p.runs n g) (old g).hold
+
+    named-none : (id : ℕ) (path : List ℕ) → IsKnown p id → Names (p.stood id) s id path → IsNamedBy me path → ⊥
+    named-none id path is names =
+        let many = count-is p s entries past.1 in
+        let to = is.to in
+        unnamed id path is.after_origin (omega (arith, many, to)) (subst (λ (h : Files). Names h s id path) (past.3 id) names)
+
+    group-after : (g : Group) → GroupAfter after s entries e p now g
+    group-after g = elim (group-change g) as (λ _. GroupAfter after s entries e p now g) [
+      | inl x ↦ record {
+        runs = run_at (suc n) g x ∷ p.runs n g;
+        own = more-runs facts.newest live0 now g x.entry x.newest_file x.grown_by (map view_of (p.runs n g)) (own g);
+        numbered = more-numbered facts.newest live0 now g x.entry x.newest_file x.grown_by (map view_of (p.runs n g)) (own g) (own-numbered g);
+        hold = (record { level = refl; files = x.run.files; rising = x.run.rising }, held g);
+        follow = grown (run_at (suc n) g x) refl x.newest_file.low refl
+            (stand.new-run f p s entries known past.1 me named-none g (run_at (suc n) g x) (some-file x.entry.file) (one-file g x)) x.some x.covers;
       }
-
-      without : Unchanged g → HasGroup after s (entries ++ append user identifier rows ∷ []) (suc (length entries)) now g
-      without x = record {
-        runs = was.runs;
-        own = same-runs live0 now g was.runs x.same was.own;
-        within = was.within;
-        numbered = was.numbered;
-        stored = was.stored;
-        read = was.read;
-        stand = stand-same entries user identifier rows s g bases was.stored x.none was.stand;
+      | inr x ↦ record {
+        runs = p.runs n g;
+        own = same-runs live0 now g (map view_of (p.runs n g)) x.same (own g);
+        numbered = own-numbered g;
+        hold = held g;
+        follow = unchanged refl refl x.none;
       }
+    ]
 
-some-file : (m : FileMeta) → m ∷ [] ≢ []
-some-file m is = cc
+    pub stands : (g : Group) → HasGroup after s (entries ++ append user identifier rows ∷ []) (suc (length entries)) now g
+    stands g = group-stands facts.goes_on after s entries e p now g (known.runs.succession g) known.runs.since high
+        (bases-more user identifier rows 1 entries folder.history.bases) (group-after g)
+      where
+        high : 1 ≤ top_of s
+        high = let levels = declared.options.levels in let least = levels.0 in omega (arith, least)
 
 -- and its runs go on
 module _ (facts : GroupFacts) (me : Actor) (base : ℕ) (f after : Files) (s : TableSchema) (rows : List HistoryRow) (batch : Groups) (new_files : List NewFile)
@@ -198,15 +255,10 @@ module _ (facts : GroupFacts) (me : Actor) (base : ℕ) (f after : Files) (s : T
   abbrev Grown : Group → Type 0
   Grown g = Added facts me base after s rows batch new_files live0 (live_in c) all g
 
-  one-file : (g : Group) (x : Grown g) (file : FileMeta) → Contains (x.entry.file ∷ []) file → IsNamedBy me (data_path s g file.name)
-  one-file g x file there = elim (in-or x.entry.file [] file there) as (λ _. IsNamedBy me (data_path s g file.name)) [
-    | inl is ↦ subst (λ (m : FileMeta). IsNamedBy me (data_path s g m.name)) is x.made_by.by
-    | inr none ↦ absurd (none-in file none)
-  ]
-
   grows-by : (g : Group) → Grown g → Grows me f after s k g rows
-  grows-by g x = grows (record { level = x.entry.file.level; files = x.entry.file ∷ []; newest = suc k; rows = x.stored }) x.newest_file.low refl
-      (some-file x.entry.file) (one-file g x) (record { level = refl; files = x.run.files; rising = x.run.rising }) x.some x.covers
+  grows-by g x = grows (run_at facts me base after s rows batch new_files live0 (live_in c) all (suc k) g x) x.newest_file.low refl
+      (some-file x.entry.file) (one-file facts me base after s rows batch new_files live0 (live_in c) all g x)
+      (record { level = refl; files = x.run.files; rising = x.run.rising }) x.some x.covers
       (λ runs are. (y, c, commit, more-runs facts.newest live0 (live_in c) g x.entry x.newest_file x.grown_by runs (runs_at g runs are)))
 
   pub go-on : (g : Group) → Grows me f after s k g rows

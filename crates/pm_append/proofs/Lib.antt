@@ -2,9 +2,8 @@ mod ByKeyLemmas
 mod ChangeLemmas
 mod CommitLemmas
 mod CountLemmas
-mod EntryLemmas
+pub mod EntryLemmas
 mod FileLemmas
 mod GroupLemmas
 mod GrownLemmas
 mod RowCountLemmas
-mod RowLemmas

@@ -1,6 +1,6 @@
 -- The files that a batch adds are at level 0, and have at most as many rows as the batch.
 use Rattle.std.proofs.Common.{◌≡◌, ◌≢◌, ℕ, suc, ◌+◌, ◌≤◌, Bool, true, false, true≢false, cond, ◌||◌, List, [], ◌∷◌, length, map, Some}
-use Rattle.std.proofs.Common.{refl, sym, ◌∙◌, subst, append-nil, arith}
+use Rattle.std.proofs.Common.{refl, sym, ◌∙◌, append-nil, arith}
 use Rattle.std.specs.BTreeMap.{BTreeMap}
 use Rattle.std.specs.List.{AllByRecursion, AllZip, flat_map}
 use Rattle.std.specs.List.Sorted.{IsStrictlySortedBy}
@@ -22,12 +22,12 @@ use Rattle.pm_engine.specs.Meaning.{Meaning}
 use Rattle.pm_engine.specs.OfSchema.{meaning_of}
 use Rattle.pm_model_following.specs.Groups.{group_of, rows_in}
 use Rattle.pm_model_folder.specs.Entries.{rows_in_files}
-use Rattle.pm_write.specs.Batch.{GroupRows, Groups, HoldsRows, IsBatchOf, held_of, numbered}
+use Rattle.pm_write.specs.Batch.{GroupRows, Groups, IsBatchOf, held_of, numbered}
 use Rattle.pm_write.specs.Files.{IsNewFile, next_of}
 use Rattle.pm_write.specs.declared.files.NewFile.{NewFile}
 use Rattle.pm_append.specs.Commit.{AddsAtZero}
 use Rattle.pm_made.specs.Delta.{added_entry}
-use Rattle.pm_append.proofs.EntryLemmas.{IsOnly, held-only, rows-held}
+use Rattle.pm_append.proofs.EntryLemmas.{held-only, own-held, rows-held}
 use Rattle.pm_append.proofs.FileLemmas.{AreDataFiles, less-apart}
 
 -- ---- a run has at most as many rows as it covers
@@ -92,14 +92,11 @@ in-few s g (r ∷ rows) = at (eq_by_cmp group_cmp (group_of s r.1) g) (in-few s 
 
 module _ (s : TableSchema) (rows : List HistoryRow) (batch : Groups) (none : s.partition ≡ []) (one : s.options.bucket ≡ 1) (is : IsBatchOf s rows batch)
     (next : BTreeMap Group ℕ) where
-  own-rows : (e : Group × GroupRows) → held_of e.0 batch ≡ Some e.1 → HoldsRows s (rows_in s e.0 rows) (Some e.1)
-  own-rows e held = subst (HoldsRows s (rows_in s e.0 rows)) held (is.held e.0)
-
   -- the file of a group
   file-few : (names : Naming) (e : Group × GroupRows) (x : NewFile) → held_of e.0 batch ≡ Some e.1
       → IsNewFile s names e.0 (numbered (next_of next e.0) e.1.run) x → x.meta.rows ≤ length rows
   file-few names e x held new =
-      let of_group = (rows-held s (rows_in s e.0 rows) e.1 (own-rows e held)).1 in
+      let of_group = (rows-held s (rows_in s e.0 rows) e.1 (own-held s rows batch e is held)).1 in
       let few = run-few (meaning_of s) e.1.run (rows_in s e.0 rows) of_group.rising of_group.covers in
       let many = new.file.made.meta.count in
       let same = length-map e.1.run (λ (x : Stamped). record x { seq = next_of next e.0 + x.seq }) in
@@ -109,11 +106,7 @@ module _ (s : TableSchema) (rows : List HistoryRow) (batch : Groups) (none : s.p
   -- a table without partition columns and with one bucket has one group
   apart-none : (e d : Group × GroupRows) → held_of e.0 batch ≡ Some e.1 → held_of d.0 batch ≡ Some d.1 → e.0 ≡ d.0
   apart-none e d held other =
-      let first : IsOnly e.0 = held-only s rows e.0 e.1 none one (own-rows e held) in
-      let second : IsOnly d.0 = held-only s rows d.0 d.1 none one (own-rows d other) in
-      let partition = first.partition ∙ sym second.partition in
-      let bucket = first.bucket ∙ sym second.bucket in
-      λ i. record { partition = partition i; bucket = bucket i }
+      held-only s rows e.0 e.1 none one (own-held s rows batch e is held) ∙ sym (held-only s rows d.0 d.1 none one (own-held s rows batch d is other))
 
   by-groups : (es : Groups) (names : Naming) (xs : List NewFile) → IsStrictlySortedBy group_cmp (keys_of es)
       → AllByRecursion (λ (e : Group × GroupRows). held_of e.0 batch ≡ Some e.1) es → AreDataFiles s next names es xs

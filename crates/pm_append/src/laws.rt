@@ -12,13 +12,14 @@ ghost use Rattle.pm_model_folder.specs.Paths.{snapshot_path};
 ghost use Rattle.pm_made.specs.Commit.{IsAsMade};
 ghost use Rattle.pm_append.specs.Commit.{Grows, HasAppended, IsReady, Try, attempt_of, entry_of};
 
-use pm_engine::added_law;
 use pm_levels::newest_law;
 use pm_made::{commit_law, made_law};
 use pm_manifest::live_law;
 use pm_model_changelog::{by_key_law, input_law};
-use pm_model_contents::{kept_law, one_contents_law};
+use pm_model_contents::{kept_law, one_contents_law, one_runs_law};
+use pm_model_folder::found_law;
 use pm_run::order_law;
+use pm_runs::goes_on_law;
 use pm_snapshot::snapshot_law;
 use pm_write::{batch_law, written_law};
 
@@ -37,11 +38,13 @@ pub fn append_law()
         × HasAppended after s t.newest t.author (length t.rows)
         × ((g : Group) → Grows me f after s (length entries) g t.rows) }
 {
-    added_law();
     commit_law();
+    found_law();
+    goes_on_law();
     kept_law();
     made_law();
     one_contents_law();
+    one_runs_law();
     newest_law();
     live_law();
     order_law();

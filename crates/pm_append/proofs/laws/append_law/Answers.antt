@@ -9,17 +9,21 @@ returns c = published (record {
     consistent = c.snapshot_law.ensures.consistent;
     bears = c.snapshot_law.ensures.id;
   };
-  newest = record {
-    runs = c.newest_law.ensures.runs;
-    named = c.newest_law.ensures.named;
-    two = c.newest_law.ensures.two;
-    disjoint = c.newest_law.ensures.disjoint;
+  groups = record {
+    newest = record {
+      runs = c.newest_law.ensures.runs;
+      named = c.newest_law.ensures.named;
+      two = c.newest_law.ensures.two;
+      disjoint = c.newest_law.ensures.disjoint;
+    };
+    found = c.found_law.ensures;
+    one_runs = c.one_runs_law.ensures;
+    goes_on = c.goes_on_law.ensures;
+    rising = c.order_law.ensures.rising;
+    covers = c.batch_law.ensures.covers;
   };
-  rows_added = record { some = c.added_law.ensures.some; all = c.added_law.ensures.all };
   live = c.live_law.ensures;
-  rising = c.order_law.ensures.rising;
   held = c.batch_law.ensures.held;
-  covers = c.batch_law.ensures.covers;
   written = c.written_law.ensures.all;
   logs_written = c.written_law.ensures.logs;
   logs = c.batch_law.ensures.logs;
