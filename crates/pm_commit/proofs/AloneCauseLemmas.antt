@@ -20,6 +20,7 @@ use Rattle.pm_read_table.specs.declared.phase.Phase as view_phase
 use Rattle.pm_read_table.specs.declared.phase.Phase.TheVariants as readers
 use Rattle.pm_read_table.specs.declared.view.View.{View}
 use Rattle.pm_made.specs.Refusals.{refusal_of}
+use Rattle.pm_made.proofs.AllowedLemmas.{IsReason, is-reason}
 use Rattle.pm_commit.specs.Alone.{AloneIn, AloneRefused, Beginning, GivesReason, IsUnchanged, KnewAlone, ReadsNewest, SeesNewest, begun_at, newest_id}
 use Rattle.pm_commit.specs.Committer.{After, AfterReader, Makes, Reads, found_in, next_call}
 use Rattle.pm_put.specs.Making.{MakingView}
@@ -41,7 +42,7 @@ use Rattle.pm_commit.proofs.NewestLemmas.{IsOfNewest, expired-never, newest-at, 
 use Rattle.pm_commit.proofs.OutcomeLemmas.{heard-refused, read-refused, tried-refused}
 use Rattle.pm_commit.proofs.OwnLemmas.{none-taken}
 use Rattle.pm_commit.proofs.ReadsLemmas.{reads-on}
-use Rattle.pm_commit.proofs.TraceLemmas.{IsReason, if-is, is-reason, some-at}
+use Rattle.pm_commit.proofs.TraceLemmas.{if-is, some-at}
 
 -- ---- the commit once its try has begun
 

@@ -29,6 +29,8 @@ use Rattle.pm_read_table.specs.declared.phase.Phase.TheVariants as readers
 use Rattle.pm_read_table.specs.declared.view.View.{View}
 use Rattle.pm_machine.proofs.PhaseFacts.{both_if}
 use Rattle.pm_made.specs.Refusals.{refusal_of}
+use Rattle.pm_made.proofs.AllowedLemmas.{allowed-id}
+use Rattle.pm_made.proofs.MadeLemmas.{PathFacts}
 use Rattle.pm_put.specs.declared.putting.CommitFile.{CommitFile}
 use Rattle.pm_schema.specs.declared.schema.TableSchema.{TableSchema}
 use Rattle.pm_commit.specs.Alone.{AloneAt, AloneRefused, AreUntouched, Beginning, IsTryAt, IsUnchanged, KnewAlone, KnowsAlone, ReadsNewest, SeesNewest, begun_at, newest_id, with_entry}
@@ -47,11 +49,10 @@ use Rattle.pm_commit.specs.declared.phase.Phase.{Phase}
 use Rattle.pm_commit.specs.declared.phase.Phase.TheVariants as phases
 use Rattle.pm_commit.specs.declared.search.Seen.{Seen}
 use Rattle.pm_commit.proofs.AloneCauseLemmas.{begun-same, calm-caused, view-rests, view-sees}
-use Rattle.pm_commit.proofs.ApartLemmas.{PathParts, rest-apart, untouched-puts}
+use Rattle.pm_commit.proofs.ApartLemmas.{rest-apart, untouched-puts}
 use Rattle.pm_commit.proofs.CauseLemmas.{ReaderCauses}
 use Rattle.pm_commit.proofs.CommitterLemmas.{begun-at, still-committer}
 use Rattle.pm_commit.proofs.Facts.{Laws, NoPublish, by-publish, changes-on, gave-after, keeps-on, makes-on, next-on, published-leads, putter-at}
-use Rattle.pm_commit.proofs.MadeLemmas.{allowed-id}
 use Rattle.pm_commit.proofs.NewestLemmas.{never-lost, reads-newest}
 use Rattle.pm_commit.proofs.OutcomeLemmas.{err-ok, heard, ok-same, read-on, tried}
 use Rattle.pm_commit.proofs.TraceLemmas.{if-is, some-at}
@@ -131,7 +132,7 @@ try-last : (own : OwnView) (e : Entry) (s : TableSchema) (id : ℕ) (x : Publish
     → (is_try : KnowsTry own e s id (puts.Publish x) f p) → x ≡ publishing_of s id is_try.attempt.made.text
 try-last own e s id x f p is_try = is_try.put.0 ∙ ap (λ (n : ℕ). publishing_of s n is_try.attempt.made.text) (sym is_try.is)
 
-module _ (laws : Laws) (causes : ReaderCauses) (parts : PathParts) (b : Beginning) where
+module _ (laws : Laws) (causes : ReaderCauses) (parts : PathFacts) (b : Beginning) where
   -- no try is lost
   lost-never : (own : OwnView) (s : TableSchema) (id : ℕ) (x : Publishing) (answer : Published) (f : Files) (p : Past) → Stands f p
       → KnewAlone b (phases.Put own s id (puts.Publish x)) f p → Answers (publish_call x) (answers.Published answer) f → IsLost answer → ⊥

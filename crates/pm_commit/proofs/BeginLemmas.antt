@@ -20,6 +20,7 @@ use Rattle.pm_made.specs.declared.intent.Intent.TheVariants as intents
 use Rattle.pm_made.specs.declared.intent.Plan.{Plan}
 use Rattle.pm_made.specs.declared.newest.Author.{Author}
 use Rattle.pm_made.specs.declared.newest.Newest.{Newest}
+use Rattle.pm_made.proofs.FileCountLemmas.{made-few}
 use Rattle.pm_compaction.specs.Plan.{KnowsPlan, RewrittenGroup, group_file, made_files}
 use Rattle.pm_commit.specs.Committer.{Begins, IsCommitter, calls_left, first_of_put, most_calls, publishing_of}
 use Rattle.pm_commit.specs.Meaning.{AreThere, IsFoundIn, KnowsBut, KnowsOwn, MakesEntry, MakesFile, MakesIn, MakesOwn, PlannedIn, WasGiven, own_in}
@@ -31,8 +32,7 @@ use Rattle.pm_commit.proofs.AdvanceLemmas.{one-table, own-advances}
 use Rattle.pm_commit.proofs.CommitterLemmas.{makes-committer}
 use Rattle.pm_commit.proofs.CreateLemmas.{all-at}
 use Rattle.pm_commit.proofs.KnownLemmas.{made-known}
-use Rattle.pm_commit.proofs.MadeLemmas.{IsInTable, made-few}
-use Rattle.pm_commit.proofs.PathLemmas.{in-bucket, no-origin}
+use Rattle.pm_commit.proofs.PathLemmas.{IsInTable, in-bucket, no-origin}
 use Rattle.pm_commit.proofs.PublishLemmas.{own-same}
 use Rattle.pm_commit.proofs.StillLemmas.{IsHeld, IsMadeBy, OwnFiles, OwnGiven, WasGivenBy, always-if, given-own, held-in, in-still}
 

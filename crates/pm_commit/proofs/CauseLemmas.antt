@@ -30,6 +30,7 @@ use Rattle.pm_model_folder.specs.Ledger.{Past, Stands}
 use Rattle.pm_model_folder.specs.Paths.{snapshot_path}
 use Rattle.pm_model_folder.proofs.Facts.{snapshot-committed}
 use Rattle.pm_model_folder.proofs.LedgerFacts.{at-table}
+use Rattle.pm_made.proofs.AllowedLemmas.{IsReason, is-reason}
 use Rattle.pm_read_table.specs.Asked.{Asked, asked_of}
 use Rattle.pm_read_table.specs.Meaning as reader_meaning
 use Rattle.pm_read_table.specs.Reader as reader
@@ -54,7 +55,7 @@ use Rattle.pm_commit.proofs.OriginLemmas.{origin-on}
 use Rattle.pm_commit.proofs.OwnLemmas.{none-taken}
 use Rattle.pm_commit.proofs.OutcomeLemmas.{err-ok, heard-refused, read-refused, tried-refused}
 use Rattle.pm_commit.proofs.ReadsLemmas.{reads-on}
-use Rattle.pm_commit.proofs.TraceLemmas.{IsReason, is-reason, some-at}
+use Rattle.pm_commit.proofs.TraceLemmas.{some-at}
 
 -- what the law of a reader's causes says
 abbrev pub ReaderCauses : Type 0

@@ -14,6 +14,7 @@ use Rattle.pm_read_table.specs.declared.view.View.{View}
 use Rattle.pm_made.specs.Files.{IsMadeOf}
 use Rattle.pm_made.specs.Intent.{most_files}
 use Rattle.pm_made.specs.declared.newest.Made.{Made}
+use Rattle.pm_made.proofs.FileCountLemmas.{made-few}
 use Rattle.pm_put.specs.declared.putting.CommitFile.{CommitFile}
 use Rattle.pm_commit.specs.Committer.{AreIds, After, AfterPutter, AfterReader, Hears, IsCommitter, IsPutting, Makes, MayMake, Outcome, Reads, Tries, first_of_try, found_in, newest_of, publishing_of}
 use Rattle.pm_commit.specs.Own.{IsOwn, IsTried, MayView, OwnView, begun, begun_after, tries, with_lost, with_named}
@@ -27,7 +28,6 @@ use Rattle.pm_put.specs.declared.phase.Phase.TheVariants as puts
 use Rattle.pm_put.specs.declared.putting.Publishing.{Publishing}
 use Rattle.pm_commit.specs.declared.phase.Phase.{Phase}
 use Rattle.pm_commit.specs.declared.phase.Phase.TheVariants as phases
-use Rattle.pm_commit.proofs.MadeLemmas.{made-few}
 use Rattle.pm_commit.proofs.OutcomeLemmas.{heard, ok-same, read-on, tried}
 use Rattle.pm_commit.proofs.ReadsLemmas.{EntriesRead, IsOn, reads-on}
 

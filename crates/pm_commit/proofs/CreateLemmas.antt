@@ -19,8 +19,7 @@ use Rattle.pm_commit.specs.Committer.{put_of}
 use Rattle.pm_commit.specs.Meaning.{AreThere, KnowsOwn, KnowsTry, MakesOwn}
 use Rattle.pm_commit.specs.Own.{IsTried, OwnView, actor_of}
 use Rattle.pm_commit.proofs.AdvanceLemmas.{own-advances}
-use Rattle.pm_commit.proofs.MadeLemmas.{IsInTable, made-in}
-use Rattle.pm_commit.proofs.PathLemmas.{InTable, no-origin}
+use Rattle.pm_commit.proofs.PathLemmas.{InTable, IsInTable, made-in, no-origin}
 use Rattle.pm_commit.proofs.PublishLemmas.{own-same}
 use Rattle.pm_commit.proofs.StillLemmas.{OwnFiles}
 

@@ -1,10 +1,9 @@
 -- A base that is fenced stays so, and the newest snapshot shows it.
-use Rattle.std.proofs.Common.{◌≡◌, ℕ, ℤ, pos, negsuc, int_le, Bool, true, false, cond, if◌then◌else◌, List, [], ◌∷◌, ◌++◌, length, take, Option, None, Some, refl, sym, ap, subst, ◌∙◌, true≢false, arith}
+use Rattle.std.proofs.Common.{◌≡◌, ℕ, ℤ, pos, negsuc, int_le, Bool, true, false, if◌then◌else◌, List, [], ◌∷◌, ◌++◌, length, take, None, refl, sym, ap, subst, ◌∙◌, true≢false, arith}
 use Rattle.std.specs.List.{fold}
 use Rattle.std.proofs.lemmas.Bool.Decides.{nat_tests}
 use Rattle.std.proofs.lemmas.List.{take_all}
 use Rattle.pm_store.specs.Files.{Files}
-use Rattle.pm_values.specs.declared.refusal.Refusal.{Refusal}
 use Rattle.pm_model_history.specs.History.{Entry, GoesOn, History, append, compaction, fence, no_table, table}
 use Rattle.pm_schema.specs.declared.schema.TableSchema.{TableSchema}
 use Rattle.pm_snapshot.specs.declared.snapshot.Snapshot.{Snapshot}
@@ -14,10 +13,11 @@ use Rattle.pm_model_folder.proofs.HoldLemmas.{one-snapshot}
 use Rattle.pm_model_folder.proofs.LedgerFacts.{at-table}
 use Rattle.pm_read_table.specs.Meaning.{IsViewIn, view_origin, view_snapshot}
 use Rattle.pm_read_table.specs.declared.view.View.{View}
-use Rattle.pm_made.specs.Refusals.{fence_of, is_fenced, passed, refusal_of}
+use Rattle.pm_made.specs.Refusals.{fence_of, refusal_of}
 use Rattle.pm_made.specs.declared.intent.Intent.{Intent}
 use Rattle.pm_made.specs.declared.newest.Author.{Author}
 use Rattle.pm_made.specs.declared.newest.Newest.{Newest}
+use Rattle.pm_made.proofs.AllowedLemmas.{allowed-of}
 use Rattle.pm_commit.specs.Meaning.{IsFoundIn}
 use Rattle.pm_commit.specs.declared.found.Found.{Found}
 
@@ -93,11 +93,7 @@ module _ (f : Files) (p : Past) (s : TableSchema) (entries : List Entry) (stands
       ∙ view-fence is_found.view is_found.stood (sym (ap (λ (found : Found). found.newest.id) is_found.is) ∙ newest)
 
 -- so no try that was allowed then has a fenced base
-unless : (t : Bool) (x : Refusal) (o : Option Refusal) → cond t (Some x) o ≡ None → t ≡ false
-unless true x o is = absurd (let no : Some x ≡ None = is in cc)
-unless false x o is = refl
-
 pub not-fenced : (newest : Newest) (author : Author) (intent : Intent) (s : TableSchema) (entries : List Entry) → refusal_of newest author intent ≡ None
     → fence_of newest.snapshot ≡ fence_at entries (length entries) → IsFenced author.base (table s entries) → ⊥
 not-fenced newest author intent s entries allowed is fenced =
-    true≢false (sym fenced ∙ ap (int_le (pos author.base)) (sym is) ∙ unless (is_fenced newest author) (passed newest author) _ allowed)
+    true≢false (sym fenced ∙ ap (int_le (pos author.base)) (sym is) ∙ (allowed-of newest author intent allowed).fence)

@@ -14,6 +14,7 @@ use Rattle.pm_made.specs.Intent.{most_files}
 use Rattle.pm_made.specs.Refusals.{refusal_of}
 use Rattle.pm_made.specs.declared.newest.Author.{Author}
 use Rattle.pm_made.specs.declared.newest.Made.{Made}
+use Rattle.pm_made.proofs.FileCountLemmas.{made-few}
 use Rattle.pm_commit.specs.Committer.{Hears, Makes, Outcome, Tries, first_of_put, found_in, put_of}
 use Rattle.pm_commit.specs.Meaning.{AreThere, HasEarlier, IsFoundIn, KnowsIn, KnowsOwn}
 use Rattle.pm_commit.specs.Own.{IsOwn, MayView, OwnView, begun, with_lost, with_named}
@@ -24,7 +25,6 @@ use Rattle.pm_commit.specs.declared.found.Found.{Found}
 use Rattle.pm_put.proofs.Facts.{at_first}
 use Rattle.pm_commit.specs.declared.phase.Phase.{Phase}
 use Rattle.pm_commit.proofs.CommitterLemmas.{begun-first}
-use Rattle.pm_commit.proofs.MadeLemmas.{made-few}
 use Rattle.pm_commit.proofs.OutcomeLemmas.{heard, tried}
 use Rattle.pm_commit.proofs.OwnLemmas.{based-means}
 

@@ -18,7 +18,6 @@ pub mod FoundLemmas
 pub mod GivenLemmas
 pub mod GrowLemmas
 pub mod KnownLemmas
-pub mod MadeLemmas
 pub mod MarkLemmas
 pub mod NewestLemmas
 pub mod OneLemmas

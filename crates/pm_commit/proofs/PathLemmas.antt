@@ -1,14 +1,16 @@
 -- The paths of files that snapshots name are in no folder of snapshots or schemas.
-use Rattle.std.proofs.Common.{◌≡◌, ◌≢◌, ◌⊎◌, inl, inr, ℕ, ◌≤◌, List, [], ◌∷◌, ◌++◌, get_or, codes, refl, ap, ◌∙◌, arith}
+use Rattle.std.proofs.Common.{◌≡◌, ◌≢◌, ◌⊎◌, inl, inr, ℕ, ◌+◌, ◌≤◌, List, [], ◌∷◌, ◌++◌, length, get_or, codes, refl, sym, subst, ap, ◌∙◌, arith}
 use Rattle.std.specs.Fmt.{decimal}
+use Rattle.std.specs.List.{AllByRecursion}
 use Rattle.std.proofs.lemmas.Fmt.{decimal_injective}
 use Rattle.std.proofs.lemmas.List.{append_cancel_left}
 use Rattle.pm_store.specs.Files.{Files}
+use Rattle.pm_values.specs.Names.{Naming, name_of}
 use Rattle.pm_values.specs.declared.group.Group.{Group}
 use Rattle.pm_model_history.specs.History.{History, no_table, table}
 use Rattle.pm_schema.specs.Folder.{parts_text}
 use Rattle.pm_schema.specs.declared.schema.TableSchema.{TableSchema}
-use Rattle.pm_snapshot.specs.Names.{greatest}
+use Rattle.pm_snapshot.specs.Names.{greatest, prefix_of, suffix_of}
 use Rattle.pm_snapshot.specs.declared.snapshot.Snapshot.{Snapshot}
 use Rattle.pm_model_contents.specs.Lists.{manifest_path}
 use Rattle.pm_model_contents.specs.Named.{Contents, IsNamed, base_list, changelog_list, changes_file, data_file, delta_list, manifest}
@@ -16,6 +18,14 @@ use Rattle.pm_model_contents.specs.Runs.{data_path}
 use Rattle.pm_model_folder.specs.Changes.{IsNoOrigin}
 use Rattle.pm_model_folder.specs.Commits.{Names}
 use Rattle.pm_model_folder.specs.Paths.{schema_path, snapshot_file, snapshot_path}
+use Rattle.pm_put.specs.declared.putting.CommitFile.{CommitFile}
+use Rattle.pm_made.specs.Files.{IsMadeOf}
+use Rattle.pm_made.specs.declared.intent.Intent.{Intent}
+use Rattle.pm_made.specs.declared.newest.Author.{Author}
+use Rattle.pm_made.specs.declared.newest.Made.{Made}
+use Rattle.pm_made.specs.declared.newest.Newest.{Newest}
+use Rattle.pm_made.proofs.CountedLemmas.{IsPlaced, made-placed, turn-each}
+use Rattle.pm_made.proofs.MadeLemmas.{at}
 
 -- a path in the folder of manifests, or in a bucket of a table without partition columns, by its first byte
 abbrev pub InTable : List ℕ → Type 0
@@ -60,3 +70,23 @@ named-in s x c path none (changes_file e own) = in-bucket s e.group e.file.name 
 
 pub names-in : (f : Files) (s : TableSchema) (id : ℕ) (path : List ℕ) → s.partition ≡ [] → Names f s id path → InTable path
 names-in f s id path none (x, c, has, named) = named-in s x c path none named
+
+-- ---- what a try makes
+
+abbrev pub IsInTable : CommitFile → Type 0
+IsInTable file = InTable file.path
+
+placed-in : (s : TableSchema) (names : Naming) (n : ℕ) (file : CommitFile) → s.partition ≡ [] → IsPlaced names s n file → IsInTable file
+placed-in s names n file none placed =
+    let counted = placed.counted in
+    let name : List ℕ = name_of (prefix_of counted.file) (suffix_of counted.file) (at names n) in
+    elim placed.place as (λ _. IsInTable file) [
+      | inl listed ↦ in-manifests name file.path (counted.is ∙ ap (λ (folder : List ℕ). folder ++ 47 ∷ name) listed)
+      | inr kept ↦ subst InTable (sym (counted.is ∙ ap (λ (folder : List ℕ). folder ++ 47 ∷ name) kept.1)) (in-bucket s kept.0 name none)
+    ]
+
+pub made-in : (s : TableSchema) (newest : Newest) (author : Author) (intent : Intent) (names : Naming) (made : Made) → IsMadeOf s newest author intent names made
+    → s.partition ≡ [] → AllByRecursion IsInTable made.files.items
+made-in s newest author intent names made is none =
+    turn-each (IsPlaced names s) IsInTable (names.count + length made.files.items) (λ n file below placed. placed-in s names n file none placed)
+    names.count made.files.items (omega arith) (made-placed names s newest author intent made is)

@@ -35,6 +35,7 @@ use Rattle.pm_made.specs.declared.intent.Intent.TheVariants as intents
 use Rattle.pm_made.specs.declared.intent.Plan.{Plan}
 use Rattle.pm_made.specs.declared.newest.Author.{Author}
 use Rattle.pm_made.specs.declared.newest.Newest.{Newest}
+use Rattle.pm_made.proofs.AllowedLemmas.{allowed-id}
 use Rattle.pm_compaction.specs.Compacted.{GoesOnWith, HasCompacted}
 use Rattle.pm_compaction.specs.Plan.{KnowsPlan}
 use Rattle.pm_append.specs.Commit.{Grows, HasAppended, IsReady, Try, attempt_of, entry_of}
@@ -55,7 +56,6 @@ use Rattle.pm_commit.proofs.AdvanceLemmas.{GoesWith, NamedPaths, append-advances
 use Rattle.pm_commit.proofs.FenceLemmas.{newest-fence, not-fenced}
 use Rattle.pm_commit.proofs.FoundLemmas.{LiveEntries, found-there}
 use Rattle.pm_commit.proofs.GrowLemmas.{goes-with, new_runs}
-use Rattle.pm_commit.proofs.MadeLemmas.{allowed-id}
 use Rattle.pm_commit.proofs.OwnLemmas.{plain-names}
 use Rattle.pm_commit.proofs.StillLemmas.{OwnGiven, PlanStays, found-still}
 

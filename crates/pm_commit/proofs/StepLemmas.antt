@@ -14,6 +14,7 @@ use Rattle.pm_read_table.specs.declared.view.View.{View}
 use Rattle.pm_read_table.proofs.Facts as reader_facts
 use Rattle.pm_put.specs.declared.putting.CommitFile.{CommitFile}
 use Rattle.pm_made.specs.Intent.{most_files}
+use Rattle.pm_made.proofs.FileCountLemmas.{made-few}
 use Rattle.pm_commit.specs.Committer.{After, AfterPutter, AfterReader, Goes, Hears, IsCommitter, Makes, MayMake, Outcome, Reaches, Reads, Refuses, Stops, Tries, calls_left, first_of_try, found_in, later_tries, most_of_try, next_call, publishing_of, reached_at}
 use Rattle.pm_commit.specs.Own.{IsOwn, OwnView, begun, tries, with_lost, with_named}
 use Rattle.pm_commit.specs.Search.{older_ids, seen_in, seen_of}
@@ -27,7 +28,6 @@ use Rattle.pm_put.specs.declared.putting.Publishing.{Publishing}
 use Rattle.pm_commit.specs.declared.phase.Phase.{Phase}
 use Rattle.pm_commit.specs.declared.phase.Phase.TheVariants as phases
 use Rattle.pm_commit.proofs.CommitterLemmas.{begun-at, ready-may}
-use Rattle.pm_commit.proofs.MadeLemmas.{made-few}
 use Rattle.pm_commit.proofs.OutcomeLemmas.{heard, ok-same, read-on, tried}
 use Rattle.pm_commit.proofs.ReadsLemmas.{EntriesRead, reads-on}
 

@@ -1,5 +1,5 @@
 -- What the calls of a committer show.
-use Rattle.std.proofs.Common.{◌≡◌, ◌⊎◌, inl, inr, ℕ, ◌+◌, ◌<◌, Bool, true, false, if◌then◌else◌, List, [], ◌∷◌, ◌++◌, length, Option, None, Some, IsSome, IfSome, Ok, Err, IfOk, refl, sym, ap, ◌∙◌, subst, append_assoc, arith}
+use Rattle.std.proofs.Common.{◌≡◌, ◌⊎◌, inl, inr, ℕ, ◌+◌, ◌<◌, true, List, [], ◌∷◌, ◌++◌, length, Option, None, Some, IsSome, IfSome, Ok, Err, IfOk, refl, sym, ap, ◌∙◌, subst, append_assoc, arith}
 use Rattle.std.proofs.lemmas.List.{append-nil}
 use Rattle.std.proofs.lemmas.Option.{IfSome_then}
 use Rattle.pm_values.specs.declared.refusal.Refusal.{Refusal}
@@ -25,15 +25,10 @@ use Rattle.pm_read_table.specs.declared.phase.Phase.TheVariants as readers
 use Rattle.pm_read_table.specs.declared.view.View.{View}
 use Rattle.pm_read_table.proofs.Facts as reader_facts
 use Rattle.pm_read_table.proofs.Facts.{Joined}
-use Rattle.pm_manifest.specs.declared.entry.Entry.{Entry}
 use Rattle.pm_made.specs.Files.{IsMadeOf}
-use Rattle.pm_made.specs.Intent.{batch_of, removed_of}
-use Rattle.pm_made.specs.Refusals.{above_files, above_id, above_numbers, first_not_live, is_fenced, limit_of, live_count, no_files, no_id, not_live, not_live_or, passed, refusal_of}
-use Rattle.pm_made.specs.declared.intent.Intent.{Intent}
-use Rattle.pm_write.specs.Files.{no_sequence}
 use Rattle.pm_made.specs.declared.newest.Made.{Made}
 use Rattle.pm_made.specs.declared.newest.Author.{Author}
-use Rattle.pm_made.specs.declared.newest.Newest.{Newest}
+use Rattle.pm_made.proofs.AllowedLemmas.{IsReason, is-reason}
 use Rattle.pm_commit.specs.Committer.{After, AfterPutter, AfterReader, Goes, Hears, Loses, Makes, Outcome, Refuses, Shown, Stops, Tries, first_of_try, found_in, manifests_call, newest_in, newest_of, next_call, publishing_of, put_of}
 use Rattle.pm_commit.specs.Marks.{FindsUsed}
 use Rattle.pm_commit.specs.Own.{IsNoAppend, OwnView, begun, tries, with_lost}
@@ -106,44 +101,6 @@ reader-no (readers.Base q x) answer = read-no (manifest_path x.base_list) answer
 reader-no (readers.Delta q x base) answer = read-no (manifest_path x.delta_list) answer
 reader-no (readers.Manifests r) answer = read-no (manifest_path r.next.name) answer
 reader-no (readers.Again a id path) answer = read-no (snapshot_path id) answer
-
--- ---- reasons against a commit
-
-abbrev pub IsReason : Refusal → Type 0
-IsReason (refusals.Fenced base fence) = Unit {0}
-IsReason (refusals.CompactTaken file) = Unit {0}
-IsReason (refusals.Limit which number) = Unit {0}
-IsReason other = ⊥
-
-some-reason : (one other : Refusal) → IsReason one → Some one ≡ Some other → IsReason other
-some-reason one other is e = let same : one ≡ other = cc in subst IsReason same is
-
-none-reason : (P : Type 0) (refusal : Refusal) → None ≡ Some refusal → P
-none-reason P refusal e = absurd (let clash = e in cc)
-
-limit-reason : (b c d : Bool) (r t u refusal : Refusal) → IsReason r → IsReason t → IsReason u
-    → (if b then Some r else if c then Some t else if d then Some u else None) ≡ Some refusal → IsReason refusal
-limit-reason true c d r t u refusal two three four e = some-reason r refusal two e
-limit-reason false true d r t u refusal two three four e = some-reason t refusal three e
-limit-reason false false true r t u refusal two three four e = some-reason u refusal four e
-limit-reason false false false r t u refusal two three four e = none-reason (IsReason refusal) refusal e
-
-live-reason : (o : Option Entry) (limit : Option Refusal) (refusal : Refusal) → (limit ≡ Some refusal → IsReason refusal) → not_live_or o limit ≡ Some refusal
-    → IsReason refusal
-live-reason None limit refusal rest e = rest e
-live-reason (Some entry) limit refusal rest e = some-reason (not_live entry) refusal tt e
-
-fence-reason : (t : Bool) (one refusal : Refusal) (later : Option Refusal) → IsReason one → (later ≡ Some refusal → IsReason refusal)
-    → (if t then Some one else later) ≡ Some refusal → IsReason refusal
-fence-reason true one refusal later is rest e = some-reason one refusal is e
-fence-reason false one refusal later is rest e = rest e
-
-pub is-reason : (newest : Newest) (author : Author) (intent : Intent) (refusal : Refusal) → refusal_of newest author intent ≡ Some refusal → IsReason refusal
-is-reason newest author intent refusal is =
-    fence-reason (is_fenced newest author) (passed newest author) refusal _ tt
-    (live-reason (first_not_live newest.live.items (removed_of intent)) (limit_of newest intent) refusal
-    (limit-reason (above_files (live_count (length newest.live.items) intent)) (above_numbers newest.live.items (batch_of intent)) (above_id newest.id)
-    no_files no_sequence no_id refusal tt tt tt)) is
 
 module _ (s : TableSchema) where
   -- a search goes on with an event

@@ -51,6 +51,7 @@ use Rattle.pm_group_files.proofs.Facts as files_facts
 use Rattle.pm_group_files.proofs.Facts.{handed_known}
 use Rattle.pm_group_files.proofs.ViewLemmas.{OneRuns}
 use Rattle.pm_made.specs.declared.newest.Newest.{Newest}
+use Rattle.pm_made.proofs.MadeLemmas.{PathFacts, at, may-count}
 use Rattle.pm_choice.specs.declared.choice.ChosenGroup.{ChosenGroup}
 use Rattle.pm_plan.specs.Planned.{AllRewritten, HasRoom}
 use Rattle.pm_plan.specs.declared.planned.Asking.{Asking}
@@ -66,7 +67,7 @@ use Rattle.pm_commit.specs.declared.phase.Phase as commit_phase
 use Rattle.pm_commit.specs.declared.phase.Phase.TheVariants as commits
 use Rattle.pm_commit.proofs.AdvanceLemmas.{same-advances}
 use Rattle.pm_commit.proofs.AloneCauseLemmas.{begun-actor}
-use Rattle.pm_commit.proofs.ApartLemmas.{PathParts, at, may-count, untouched-puts}
+use Rattle.pm_commit.proofs.ApartLemmas.{untouched-puts}
 use Rattle.pm_commit.proofs.CauseLemmas.{ReaderCauses}
 use Rattle.pm_commit.proofs.CommitterLemmas.{asked-same}
 use Rattle.pm_commit.proofs.Facts.{Laws}
@@ -90,7 +91,7 @@ use Rattle.pm_compactor.proofs.TraceLemmas.{rewritten-join}
 pub record AloneLaws : Type 0 where
   pub held : Laws
   pub causes : ReaderCauses
-  pub parts : PathParts
+  pub parts : PathFacts
   pub runs : OneRuns
   pub others : OthersNone
   pub whole : WholeGroups

@@ -26,6 +26,9 @@ use Rattle.pm_made.specs.declared.intent.Plan.{Plan}
 use Rattle.pm_made.specs.declared.newest.Author.{Author}
 use Rattle.pm_made.specs.declared.newest.Made.{Made}
 use Rattle.pm_made.specs.declared.newest.Newest.{Newest}
+use Rattle.pm_made.proofs.CountedLemmas.{AreCounted, counted-join, made-counted}
+use Rattle.pm_made.proofs.FileCountLemmas.{made-few}
+use Rattle.pm_made.proofs.MadeLemmas.{PathFacts, at, may-count}
 use Rattle.pm_choice.specs.declared.choice.ChosenGroup.{ChosenGroup}
 use Rattle.pm_plan.specs.Planned.{AllRewritten, HasRoom, IsPlanFor}
 use Rattle.pm_plan.specs.declared.planned.Planned.{Planned}
@@ -34,8 +37,6 @@ use Rattle.pm_commit.specs.Alone.{IsTryAt, begun_at, left_of}
 use Rattle.pm_commit.specs.Committer.{first_of_put, newest_in, publishing_of}
 use Rattle.pm_commit.specs.Own.{OwnView, begun, own_for_plan, own_of, with_named}
 use Rattle.pm_commit.specs.declared.found.Found.{Found}
-use Rattle.pm_commit.proofs.ApartLemmas.{AreCounted, PathParts, at, counted-join, made-counted, may-count}
-use Rattle.pm_commit.proofs.MadeLemmas.{made-few}
 use Rattle.pm_compactor.specs.AllCalls.{Beginning, IsFoundNewest, IsMadeIn, IsNewestView, IsOfChoice, author_in, entry_of, newest_id}
 use Rattle.pm_compactor.specs.Alone.{AreApart, AreUntouched, IsCommitOf, IsPastOf, IsPutAt, IsStill, begun_in}
 use Rattle.pm_compactor.specs.Compactor.{actor_of, chosen_in, taken_groups, IsPlanIn}
@@ -208,7 +209,7 @@ module _ (law : WholeGroups) (b : Beginning) (v : View) (x : Planned) (f : Files
           count-low : start.names.count < 2 ^ 64
           count-low = let named = room.named in let files = room.few in let count = count-is in omega (arith, named, files, count)
 
-      pub all-apart : PathParts → AreApart (x.files.items ++ made.files.items)
+      pub all-apart : PathFacts → AreApart (x.files.items ++ made.files.items)
       all-apart parts =
           subst (λ (first : List CommitFile). AreApart (first ++ made.files.items)) (sym files-are)
           (counted-all-apart parts start.names may-start start.names.count (grown.more ++ made.files.items) few-names
@@ -222,7 +223,7 @@ module _ (law : WholeGroups) (b : Beginning) (v : View) (x : Planned) (f : Files
       left-first y [] = refl
       left-first y (file ∷ files) = refl
 
-      pub put-at : PathParts → IsPutAt b v own x.files.items (first_of_put own x.schema made) f
+      pub put-at : PathFacts → IsPutAt b v own x.files.items (first_of_put own x.schema made) f
       put-at parts =
           let left = left-first (publishing_of x.schema made.id made.text) made.files.items in (
             try-at,

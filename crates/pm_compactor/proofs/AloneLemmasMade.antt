@@ -14,9 +14,10 @@ use Rattle.pm_snapshot.specs.Names.{MayName, rows_file}
 use Rattle.pm_put.specs.declared.putting.CommitFile.{CommitFile}
 use Rattle.pm_compaction.specs.Plan.{group_file}
 use Rattle.pm_choice.specs.declared.choice.ChosenGroup.{ChosenGroup}
+use Rattle.pm_made.proofs.CountedLemmas.{AreCounted, counted-apart, counted-join}
+use Rattle.pm_made.proofs.MadeLemmas.{PathFacts, at}
 use Rattle.pm_plan.specs.Planned.{AllRewritten, HasRewritten, RewritesOf}
 use Rattle.pm_plan.specs.declared.planned.Planned.{Planned}
-use Rattle.pm_commit.proofs.ApartLemmas.{AreCounted, PathParts, at, counted-apart, counted-join}
 use Rattle.pm_compactor.specs.Alone.{AreApart}
 
 -- ---- counted names
@@ -26,7 +27,7 @@ counted-as t k n [] are = tt
 counted-as t k n (file ∷ files) (is, rest) = (record { folder = is.folder; file = is.file; is = is.is }, counted-as t k (n + 1) files rest)
 
 -- so no two have one path
-pub counted-all-apart : PathParts → (t : Naming) → MayName t → (n : ℕ) (files : List CommitFile) → n + length files ≤ 2 ^ 64 → AreCounted t n files → AreApart files
+pub counted-all-apart : PathFacts → (t : Naming) → MayName t → (n : ℕ) (files : List CommitFile) → n + length files ≤ 2 ^ 64 → AreCounted t n files → AreApart files
 counted-all-apart parts t may n [] room are = tt
 counted-all-apart parts t may n (file ∷ files) room (is, rest) =
     let more : n + suc (length files) ≤ 2 ^ 64 = room in

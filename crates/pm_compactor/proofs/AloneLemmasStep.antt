@@ -40,6 +40,7 @@ use Rattle.pm_group_files.proofs.FaultLemmas.{refuses_fault}
 use Rattle.pm_made.specs.Refusals.{refusal_of}
 use Rattle.pm_made.specs.declared.intent.Intent.TheVariants as intents
 use Rattle.pm_made.specs.declared.newest.Author.{Author}
+use Rattle.pm_made.proofs.AllowedLemmas.{IsReason, is-reason}
 use Rattle.pm_plan.specs.Planned.{AllRewritten}
 use Rattle.pm_plan.specs.declared.planned.Planned.{Planned}
 use Rattle.pm_commit.specs.Committer as commit
@@ -54,7 +55,7 @@ use Rattle.pm_commit.proofs.CauseLemmas.{IsNone, met-at, shown-none}
 use Rattle.pm_commit.proofs.CreateLemmas.{all-at}
 use Rattle.pm_commit.proofs.NewestLemmas.{IsOfNewest, expired-never, shown-newest}
 use Rattle.pm_commit.proofs.StillLemmas.{IsHeld, IsMadeBy, given-own, held-in}
-use Rattle.pm_commit.proofs.TraceLemmas.{IsReason, if-is, is-reason, some-at}
+use Rattle.pm_commit.proofs.TraceLemmas.{if-is, some-at}
 use Rattle.pm_compactor.specs.AllCalls.{Beginning, Chooses, GivesReason, IsNewestView, entry_of, newest_id}
 use Rattle.pm_compactor.specs.Alone.{AloneRefused, CommitsAlone, CreatesAlone, HasMadeOf, IsPastOf, IsStill, KnewAlone, KnewIn, KnowsAlone, MakesAlone}
 use Rattle.pm_compactor.specs.Compactor.{Goes, RefusesPlan, Shown, actor_of, next_call}

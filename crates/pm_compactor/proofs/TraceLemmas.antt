@@ -48,6 +48,7 @@ use Rattle.pm_group_files.proofs.Facts.{also_given, part_none}
 use Rattle.pm_group_files.proofs.FaultLemmas.{IsOfFiles, damaged, expired, shown_as, unsupported}
 use Rattle.pm_made.specs.declared.intent.Intent.TheVariants as intents
 use Rattle.pm_made.specs.declared.newest.Made.{Made}
+use Rattle.pm_made.proofs.AllowedLemmas.{IsReason, is-reason}
 use Rattle.pm_commit.specs.Committer as commit
 use Rattle.pm_commit.specs.Committer.{After, AfterPutter, AfterReader, Hears, Makes, Outcome, first_of_put, found_in, publishing_of, put_of}
 use Rattle.pm_commit.specs.Own.{OwnView, begun, own_for_plan}
@@ -59,7 +60,7 @@ use Rattle.pm_commit.specs.declared.phase.Phase as commit_phase
 use Rattle.pm_commit.specs.declared.phase.Phase.TheVariants as commits
 use Rattle.pm_commit.specs.declared.search.Seen.{Seen}
 use Rattle.pm_commit.proofs.OutcomeLemmas.{err-ok, heard, ok-same, read-on, tried}
-use Rattle.pm_commit.proofs.TraceLemmas.{IsReason, if-is, is-reason, some-at}
+use Rattle.pm_commit.proofs.TraceLemmas.{if-is, some-at}
 use Rattle.pm_scan.specs.Trace.{AfterView}
 use Rattle.pm_choice.specs.declared.choice.ChosenGroup.{ChosenGroup}
 use Rattle.pm_plan.specs.Planned.{AllRewritten, RewritesFirst}
