@@ -1,0 +1,6 @@
+mod BytesLemmas
+mod KeptLemmas
+mod SidesLemmas
+mod Sources
+mod StoredLemmas
+mod TellsLemmas
