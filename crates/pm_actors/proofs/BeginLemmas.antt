@@ -81,7 +81,7 @@ module _ (f : Files) (p : Past) where
   joined (creates t m) (is, left, other) = creator_begins t m is left other
   joined (lists me m) (inl is) = subst (λ (m : listing.Phase). snapshots.Knows m f p) (sym is) tt
   joined (lists me m) (inr (s, is, table)) = subst (λ (m : listing.Phase). snapshots.Knows m f p) (sym is) table
-  joined (scans me m) (a, is, table) = subst (λ (m : scanning.Phase). scan.Knows m f p) (sym is) table
+  joined (scans me m) (rows, a, is, table) = subst (λ (m : scanning.Phase). scan.Knows m f p) (sym is) table
   joined (finds me s m) (is, table) = (table, subst (λ (m : finding.Phase). latest_reader.Knows m f p) (sym is) tt)
   joined (follows me x m) begins = follow_begins x m begins
   joined (commits e m) begins = commit_begins e m begins

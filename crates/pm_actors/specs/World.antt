@@ -26,6 +26,7 @@ use Rattle.pm_read_table.specs.declared.phase.Phase.TheVariants as readers
 use Rattle.pm_scan.specs.Meaning as scan
 use Rattle.pm_scan.specs.declared.phase.Phase as scanning
 use Rattle.pm_scan.specs.declared.phase.Phase.TheVariants as scanners
+use Rattle.pm_scan.specs.declared.rows.Rows.{Rows}
 use Rattle.pm_read_frame.specs.Frames.{AreFramesFrom}
 use Rattle.pm_read_frame.specs.Meaning as frame_reader
 use Rattle.pm_read_frame.specs.declared.phase.Phase as following
@@ -174,7 +175,8 @@ Begins Named h (waits me) = Named me
 Begins Named h (creates t m) = IsCreator t m × (calls_left m ≡ 2) × IsNoOrigin h (own_origin t.me)
 Begins Named h (lists me m) =
     (m ≡ listers.Schema schema_readers.Schemas) ⊎ ((s : TableSchema) × (m ≡ listers.List s) × IsTableOf s h)
-Begins Named h (scans me m) = (a : Asked) × (m ≡ scanners.View (readers.List a)) × IsTableOf a.schema h
+Begins Named h (scans me m) =
+    (rows : Rows) × (a : Asked) × (m ≡ scanners.View rows (readers.List a)) × IsTableOf a.schema h
 Begins Named h (finds me s m) = (m ≡ finders.List) × IsTableOf s h
 Begins Named h (follows me x m) = BeginsFollow h x m
 Begins Named h (commits e m) = BeginsCommit Named h e m

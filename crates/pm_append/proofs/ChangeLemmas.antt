@@ -3,7 +3,7 @@ use Rattle.std.proofs.Common.{◌≡◌, ◌≢◌, ℕ, ℤ, suc, Bool, true, f
 use Rattle.std.proofs.Common.{Contains, refl, sym, ap, subst, ◌∙◌, arith}
 use Rattle.std.specs.BTreeMap.{is_at}
 use Rattle.std.specs.FinMap as finite
-use Rattle.std.specs.List.{AllByRecursion, AllZip}
+use Rattle.std.specs.List.{AllByRecursion, AllZip, flat_map}
 use Rattle.std.specs.List.Sorted.{IsStrictlySortedBy}
 use Rattle.std.specs.Map.{keys_of}
 use Rattle.std.specs.Ordering.{eq_by_cmp}
@@ -15,16 +15,18 @@ use Rattle.pm_values.specs.Order.{Values}
 use Rattle.pm_values.specs.declared.group.Group.{Group}
 use Rattle.pm_values.specs.declared.record.Change.{Change}
 use Rattle.pm_values.specs.declared.record.Stamped.{Stamped}
+use Rattle.pm_options.specs.declared.kinds.Producer.{Producer}
 use Rattle.pm_options.specs.declared.kinds.Producer.TheVariants as producers
 use Rattle.pm_schema.specs.Again.{IsDeclared}
 use Rattle.pm_schema.specs.Rules.{partition_holds}
 use Rattle.pm_schema.specs.declared.schema.TableSchema.{TableSchema}
 use Rattle.pm_model_history.specs.History.{Entry, append, entry_rows}
-use Rattle.pm_model_history.specs.Merge.{HistoryRow, rows_of}
+use Rattle.pm_model_history.specs.Merge.{AllFit, HistoryRow, rows_of}
 use Rattle.pm_model_history.specs.Merged.{primary_of}
-use Rattle.pm_model_following.specs.Following.{by_key, change}
+use Rattle.pm_model_following.specs.Following.{base_of, by_key, change}
 use Rattle.pm_model_following.specs.Groups.{group_of, rows_in}
 use Rattle.pm_engine.specs.Covers.{row_of}
+use Rattle.pm_model_changelog.specs.Log.{Compares, PassesNothing}
 use Rattle.pm_changelog.specs.Written.{HoldsLog}
 use Rattle.pm_manifest.specs.declared.entry.Entry as files
 use Rattle.pm_model_contents.specs.Runs.{data_path}
@@ -45,6 +47,9 @@ pub record ChangeFacts : Type 0 where
   pub same : (s : TableSchema) (key : Values) (rows : List HistoryRow) → rows_of (primary_of s) key (by_key s rows) ≡ rows_of (primary_of s) key rows
   pub input : (s : TableSchema) (g : Group) (entries : List Entry) (e : Entry) → partition_holds s ≡ true → s.options.producer ≡ producers.Input
       → rows_in s g (change s (entries ++ e ∷ []) (suc (length entries))) ≡ by_key s (rows_in s g (entry_rows e))
+  pub quiet : (s : TableSchema) (g : Group) (entries : List Entry) (e : Entry) (wholly : Bool) → partition_holds s ≡ true
+      → AllFit s.columns (flat_map entry_rows (entries ++ e ∷ [])) → Compares s.options.producer wholly → PassesNothing g entries e wholly
+      → rows_in s g (change s (entries ++ e ∷ []) (suc (length entries))) ≡ []
 
 -- ---- how many rows by key
 
@@ -191,6 +196,32 @@ module _ (facts : ChangeFacts) (f : Files) (s : TableSchema) (rows : List Histor
     change = λ some g. subst (HoldChanges f s g (entries_in g (map (added_entry s) xs)))
         (sym (facts.input s g entries (append user identifier rows) declared.rules.1.1.1.0 input)) (group-holds g);
   }
+
+-- with the producers that compare an append tells nothing
+no-base : (g : Group) (entries : List Entry) (e : Entry) (wholly : Bool) → base_of wholly g e ≡ None → PassesNothing g entries e wholly
+no-base g entries e wholly none = λ base some. absurd (let no : None ≡ Some base = sym none ∙ some in cc)
+
+module _ (facts : ChangeFacts) (f : Files) (s : TableSchema) (entries : List Entry) (user : List ℕ) (identifier : ℤ) (rows : List HistoryRow) (declared : IsDeclared s)
+    (fit : AllFit s.columns (flat_map entry_rows (entries ++ append user identifier rows ∷ []))) (other : s.options.producer ≢ producers.Input) where
+  abbrev e : Entry
+  e = append user identifier rows
+
+  holds : partition_holds s ≡ true
+  holds = declared.rules.1.1.1.0
+
+  none-told : s.options.producer ≢ producers.None → (g : Group) → rows_in s g (change s (entries ++ e ∷ []) (suc (length entries))) ≡ []
+  none-told some g = at s.options.producer refl
+    where
+      at : (q : Producer) → s.options.producer ≡ q → rows_in s g (change s (entries ++ e ∷ []) (suc (length entries))) ≡ []
+      at producers.None is = absurd (some is)
+      at producers.Input is = absurd (other is)
+      at producers.Lookup is =
+          facts.quiet s g entries e false holds fit (subst (λ (q : Producer). Compares q false) (sym is) refl) (no-base g entries e false refl)
+      at producers.FullCompaction is =
+          facts.quiet s g entries e true holds fit (subst (λ (q : Producer). Compares q true) (sym is) refl) (no-base g entries e true refl)
+
+  pub holds-none : HoldsChange f s (entries ++ e ∷ []) (suc (length entries)) []
+  holds-none = record { each = tt; change = none-told }
 
 -- ---- how many rows they tell
 

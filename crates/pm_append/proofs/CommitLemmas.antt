@@ -2,13 +2,16 @@
 use Rattle.std.proofs.Common.{◌≡◌, ◌≢◌, ◌↔◌, ◌⊎◌, inl, inr, ℕ, pos, int_lt, suc, ◌+◌, ◌<◌, ◌≤◌, ◌^◌, Bool, true, false, List, [], ◌∷◌, ◌++◌, length, map, Option, None, Some, IsSome, Contains, refl, sym, ap, subst, ◌∙◌, append-nil, arith}
 use Rattle.std.specs.BTreeMap.{BTreeMap}
 use Rattle.std.specs.FinMap as finite
-use Rattle.std.specs.List.{AllByRecursion, AllZip}
+use Rattle.std.specs.List.{AllByRecursion, AllZip, flat_map}
+use Rattle.std.proofs.lemmas.Grind.{flat_map-append}
+use Rattle.pm_base.proofs.Laws.{AllByRecursion-append}
 use Rattle.pm_store.specs.Files.{Files, Puts}
+use Rattle.pm_values.specs.Fits.{Fits}
 use Rattle.pm_values.specs.Names.{Naming}
 use Rattle.pm_values.specs.declared.group.Group.{Group}
 use Rattle.pm_values.specs.declared.record.Change.{Change}
-use Rattle.pm_model_history.specs.History.{Entry}
-use Rattle.pm_model_history.specs.Merge.{HistoryRow}
+use Rattle.pm_model_history.specs.History.{Entry, entry_rows}
+use Rattle.pm_model_history.specs.Merge.{AllFit, HistoryRow}
 use Rattle.pm_options.specs.declared.kinds.Producer.{Producer}
 use Rattle.pm_options.specs.declared.kinds.Producer.TheVariants as producers
 use Rattle.pm_schema.specs.declared.schema.TableSchema.{TableSchema}
@@ -24,6 +27,7 @@ use Rattle.pm_model_contents.specs.Runs.{IsLive, data_path}
 use Rattle.pm_model_folder.specs.Changes.{Actor, NamesOwn}
 use Rattle.pm_model_folder.specs.Commits.{HasCommit, IsCommit, Names, live_in}
 use Rattle.pm_model_folder.specs.Entries.{AreLive, fence_at, rows_added, rows_in_files}
+use Rattle.pm_model_folder.specs.Folder.{IsRowOf}
 use Rattle.pm_model_folder.specs.Paths.{snapshot_path}
 use Rattle.pm_model_folder.specs.Stored.{HasGroup, HoldsChange}
 use Rattle.pm_model_folder.proofs.HoldLemmas.{Holds}
@@ -43,7 +47,7 @@ use Rattle.pm_made.specs.declared.newest.Newest.{Newest}
 use Rattle.pm_made.specs.declared.snapshot.ListNames.{ListNames}
 use Rattle.pm_made.proofs.AllowedLemmas.{allowed-of}
 use Rattle.pm_made.proofs.CountLemmas.{left-none}
-use Rattle.pm_made.proofs.ListLemmas.{each-of, in-either, in-left, in-map, in-right, map-in, pairs-to}
+use Rattle.pm_made.proofs.ListLemmas.{all-weaker, each-of, in-either, in-left, in-map, in-right, map-in, pairs-to}
 use Rattle.pm_made.proofs.ListedLemmas.{changes-within, entries-within, unlisted}
 use Rattle.pm_made.proofs.LiveLemmas.{AreAdds, AreNew}
 use Rattle.pm_made.proofs.LogLemmas.{changelog-least}
@@ -53,9 +57,10 @@ use Rattle.pm_made.proofs.NumberLemmas.{changes-are, data-are, files-many, same-
 use Rattle.pm_made.proofs.OldLemmas.{Old, SnapshotFacts, old-of, puts-holds}
 use Rattle.pm_append.specs.Commit.{AreBase, AreBaseIf, AreMerged, Grows, HasAppended, IsReady, Try, attempt_of, entry_of, told_count}
 use Rattle.pm_append.specs.Snapshot.{append_snapshot}
-use Rattle.pm_append.proofs.ChangeLemmas.{AreLogs, ChangeFacts, holds-input, no-rows, none-logged, told-once, written-logs}
+use Rattle.pm_append.proofs.ChangeLemmas.{AreLogs, ChangeFacts, holds-input, holds-none, no-rows, none-logged, told-once, written-logs}
 use Rattle.pm_append.proofs.CountLemmas.{adds-rows}
 use Rattle.pm_append.proofs.EntryLemmas.{changes-can-be, entries-can-be}
+use Rattle.pm_append.proofs.FitLemmas.{batch-fits}
 use Rattle.pm_append.proofs.FileLemmas.{AreLogFiles, apart-files, are-adds, data-of-groups, next-above}
 use Rattle.pm_append.proofs.GrownLemmas.{GroupFacts, NewRuns, go-on, stands}
 use Rattle.pm_append.proofs.RowCountLemmas.{adds-at-zero, files-few}
@@ -143,8 +148,18 @@ no-files-of : (s : TableSchema) (names : Naming) (xs : List NewFile) → AreFile
 no-files-of s names [] are = refl
 no-files-of s names (x ∷ xs) are = absurd are
 
-none-input : producers.None ≡ producers.Input → ⊥
-none-input is = cc
+-- a producer is that of inputs, or another
+input-or : (q : Producer) → (q ≡ producers.Input) ⊎ (q ≢ producers.Input)
+input-or producers.None = inr (λ is. (let no : producers.None ≡ producers.Input = is in cc))
+input-or producers.Input = inl refl
+input-or producers.Lookup = inr (λ is. (let no : producers.Lookup ≡ producers.Input = is in cc))
+input-or producers.FullCompaction = inr (λ is. (let no : producers.FullCompaction ≡ producers.Input = is in cc))
+
+none-count : (q : Producer) (n : ℕ) → q ≢ producers.Input → told_count q n ≡ 0
+none-count producers.None n other = refl
+none-count producers.Input n other = absurd (other refl)
+none-count producers.Lookup n other = refl
+none-count producers.FullCompaction n other = refl
 
 -- ---- the published try
 
@@ -208,15 +223,18 @@ module _ (facts : Facts) (made_law : MadeLaw) (commit_law : CommitLaw) (me : Act
   logged input = subst (λ (logs : List (Group × List Change)). AreFilesOfLogs s (after_names (length xs) t.names) logs zs)
       (facts.logs s t.rows t.batch input ready.batch) new_files.logs
 
-  none-told : s.options.producer ≡ producers.None → zs ≡ []
-  none-told none = no-files-of s (after_names (length xs) t.names) zs
+  none-told : s.options.producer ≢ producers.Input → zs ≡ []
+  none-told other = no-files-of s (after_names (length xs) t.names) zs
       (subst (λ (logs : List (Group × List Change)). AreFilesOfLogs s (after_names (length xs) t.names) logs zs)
-      (facts.quiet s t.rows t.batch (λ input. none-input (sym none ∙ input)) ready.batch) new_files.logs)
+      (facts.quiet s t.rows t.batch other ready.batch) new_files.logs)
+
+  by-producer : (s.options.producer ≡ producers.Input) ⊎ (s.options.producer ≢ producers.Input)
+  by-producer = input-or s.options.producer
 
   can-tell : AllByRecursion (IsEntry (shape_of s)) changes
-  can-tell = elim ready.built.producer as (λ _. AllByRecursion (IsEntry (shape_of s)) changes) [
-    | inl none ↦ subst (λ (ys : List NewFile). AllByRecursion (IsEntry (shape_of s)) (map (added_entry s) ys)) (sym (none-told none)) tt
-    | inr input ↦ changes-can-be s t.rows t.batch (after_names (length xs) t.names) zs ready.built.declared ready.built.no_partition ready.built.one_bucket
+  can-tell = elim by-producer as (λ _. AllByRecursion (IsEntry (shape_of s)) changes) [
+    | inr other ↦ subst (λ (ys : List NewFile). AllByRecursion (IsEntry (shape_of s)) (map (added_entry s) ys)) (sym (none-told other)) tt
+    | inl input ↦ changes-can-be s t.rows t.batch (after_names (length xs) t.names) zs ready.built.declared ready.built.no_partition ready.built.one_bucket
         input ready.batch (logged input) held within-told
   ]
 
@@ -364,12 +382,18 @@ module _ (facts : Facts) (made_law : MadeLaw) (commit_law : CommitLaw) (me : Act
     place = λ x h. file-place x (in-new x (in-right xs zs x h));
   }
 
+  fits : AllFit s.columns (flat_map entry_rows (entries ++ entry_of t ∷ []))
+  fits = subst (AllFit s.columns) (sym (flat_map-append entry_rows entries (entry_of t ∷ []) ∙ ap (λ (rs : List HistoryRow). flat_map entry_rows entries ++ rs) (append-nil t.rows)))
+      (AllByRecursion-append (λ (r : HistoryRow). Fits s.columns r.1) (flat_map entry_rows entries) t.rows
+      (all-weaker (IsRowOf s) (λ (r : HistoryRow). Fits s.columns r.1) (λ r is_row. is_row.fits) (flat_map entry_rows entries) ready.folder.history.rows)
+      (batch-fits facts.groups.covers s t.rows t.batch ready.batch))
+
   holds-change : HoldsChange after s (entries ++ entry_of t ∷ []) (suc k) seen.contents.changes
   holds-change = subst (HoldsChange after s (entries ++ entry_of t ∷ []) (suc k)) (sym same-changes)
-      (elim ready.built.producer as (λ _. HoldsChange after s (entries ++ entry_of t ∷ []) (suc k) changes) [
-        | inl none ↦ subst (λ (ys : List NewFile). HoldsChange after s (entries ++ entry_of t ∷ []) (suc k) (map (added_entry s) ys)) (sym (none-told none))
-            (record { each = tt; change = λ some. absurd (some none) })
-        | inr input ↦ holds-input facts.change after s t.rows t.batch zs (logs input) entries t.author.user t.author.identifier ready.built.declared input
+      (elim by-producer as (λ _. HoldsChange after s (entries ++ entry_of t ∷ []) (suc k) changes) [
+        | inr other ↦ subst (λ (ys : List NewFile). HoldsChange after s (entries ++ entry_of t ∷ []) (suc k) (map (added_entry s) ys)) (sym (none-told other))
+            (holds-none facts.change after s entries t.author.user t.author.identifier t.rows ready.built.declared fits other)
+        | inl input ↦ holds-input facts.change after s t.rows t.batch zs (logs input) entries t.author.user t.author.identifier ready.built.declared input
       ])
 
   commits : IsCommit f after s entries (entry_of t)
@@ -403,18 +427,18 @@ module _ (facts : Facts) (made_law : MadeLaw) (commit_law : CommitLaw) (me : Act
   told_rows = told_count s.options.producer (length t.rows)
 
   tells : rows_in_files changes ≡ told_rows
-  tells = elim ready.built.producer as (λ _. rows_in_files changes ≡ told_rows) [
-    | inl none ↦ ap (λ (ys : List NewFile). rows_in_files (map (added_entry s) ys)) (none-told none)
-        ∙ sym (ap (λ (p : Producer). told_count p (length t.rows)) none)
-    | inr input ↦ told-once facts.change s t.rows t.batch ready.built.no_partition ready.built.one_bucket ready.batch zs held (logs input).written
+  tells = elim by-producer as (λ _. rows_in_files changes ≡ told_rows) [
+    | inr other ↦ ap (λ (ys : List NewFile). rows_in_files (map (added_entry s) ys)) (none-told other)
+        ∙ sym (none-count s.options.producer (length t.rows) other)
+    | inl input ↦ told-once facts.change s t.rows t.batch ready.built.no_partition ready.built.one_bucket ready.batch zs held (logs input).written
         (facts.empty s t.rows t.batch ready.batch).0
         ∙ sym (ap (λ (p : Producer). told_count p (length t.rows)) input)
   ]
 
   quiet : told_rows ≡ 0 → ready.made.lists.changes ≡ None
-  quiet nothing = no-list (elim ready.built.producer as (λ _. zs ≡ []) [
-    | inl none ↦ none-told none
-    | inr input ↦ none-logged s (after_names (length xs) t.names) t.batch zs (logged input)
+  quiet nothing = no-list (elim by-producer as (λ _. zs ≡ []) [
+    | inr other ↦ none-told other
+    | inl input ↦ none-logged s (after_names (length xs) t.names) t.batch zs (logged input)
         ((facts.empty s t.rows t.batch ready.batch).1
         (no-rows t.rows (sym (ap (λ (p : Producer). told_count p (length t.rows)) input) ∙ nothing)))
   ])

@@ -32,7 +32,6 @@ use Rattle.pm_runs.specs.Succession.{KnownRun, without_files}
 use Rattle.pm_write.specs.Batch.{Groups, IsBatchOf}
 use Rattle.pm_made.specs.Commit.{Attempt, IsNewestOf, MakesNames}
 use Rattle.pm_made.specs.Files.{IsMadeOf, merges}
-use Rattle.pm_made.specs.Intent.{TellsNothing}
 use Rattle.pm_made.specs.Refusals.{refusal_of}
 use Rattle.pm_made.specs.declared.intent.Intent.TheVariants as intents
 use Rattle.pm_made.specs.declared.newest.Author.{Author}
@@ -41,13 +40,11 @@ use Rattle.pm_made.specs.declared.newest.Newest.{Newest}
 use Rattle.pm_made.specs.declared.snapshot.ListNames.{ListNames}
 use Rattle.pm_append.specs.Snapshot.{append_snapshot}
 
--- the table is one that is built: it has one bucket and no partition columns, and where it has a changelog producer it
--- is that of inputs, with which a compaction tells nothing
-pub record IsBuilt (s : TableSchema) : Type 0 where
+-- the table has one group: one bucket, and no partition columns
+pub record HasOneGroup (s : TableSchema) : Type 0 where
   pub declared : IsDeclared s
   pub no_partition : s.partition ≡ []
   pub one_bucket : s.options.bucket ≡ 1
-  pub producer : TellsNothing s
 
 -- one try to append: the rows and their batch, who commits them, the newest snapshot as it was found, the maker of
 -- names before it named the files, and what was made
@@ -77,7 +74,7 @@ entry_of t = append t.author.user t.author.identifier t.rows
 -- a file that the actor named.
 pub record IsReady (me : Actor) (f : Files) (s : TableSchema) (entries : List Entry) (t : Try) : Type 0 where
   pub folder : HasTable f s entries
-  pub built : IsBuilt s
+  pub built : HasOneGroup s
   pub newest : IsNewestOf f s entries t.newest
   pub batch : IsBatchOf s t.rows t.batch
   pub made : IsMadeOf s t.newest t.author (intents.Append t.batch) t.names t.made

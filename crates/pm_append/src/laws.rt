@@ -15,7 +15,7 @@ ghost use Rattle.pm_append.specs.Commit.{Grows, HasAppended, IsReady, Try, attem
 use pm_levels::newest_law;
 use pm_made::{commit_law, made_law};
 use pm_manifest::live_law;
-use pm_model_changelog::{by_key_law, input_law};
+use pm_model_changelog::{by_key_law, input_law, quiet_law};
 use pm_model_contents::{kept_law, one_contents_law, one_runs_law};
 use pm_model_folder::found_law;
 use pm_run::order_law;
@@ -26,8 +26,8 @@ use pm_write::{batch_law, written_law};
 /// A try that is ready, whose snapshot appears after the newest, appends its rows to the history; what the snapshot
 /// names and the one before it doesn't was named by the actor; the snapshot and its lists are those that were made; its
 /// delta adds files at level 0 alone, beside a base list of the newest snapshot's manifests, and its changelog files
-/// tell each row once where the table passes its input on; and each group's runs go on with one more where it has rows
-/// of the group.
+/// tell each row once where the table passes its input on, and with other producers nothing is told of an append; and
+/// each group's runs go on with one more where it has rows of the group.
 pub fn append_law()
     ensures { (me : Actor) (f after : Files) (s : TableSchema) (entries : List Entry) (t : Try) →
         (ready : IsReady me f s entries t) → map.get f (snapshot_path (suc (length entries))) ≡ None →
@@ -52,5 +52,6 @@ pub fn append_law()
     batch_law();
     by_key_law();
     input_law();
+    quiet_law();
     written_law();
 }

@@ -4,7 +4,7 @@
 ghost use Rattle.std.specs.Prelude.{◌<◌, IfOk};
 ghost use Rattle.pm_schema.specs.Again.{IsDeclared};
 ghost use Rattle.pm_engines.specs.TableEngine.{HasEngine};
-ghost use Rattle.pm_append.specs.Commit.{IsBuilt};
+ghost use Rattle.pm_append.specs.Commit.{HasOneGroup};
 ghost use Rattle.pm_compactor.specs.Compactor.{calls_left};
 
 use crate::writers::{SESSION, TURNS, begin, judge, make_table, say_table, say_writer, take_turn};
@@ -96,7 +96,7 @@ fn compactor_of<F: FileStore>(
 
 /// The schema of the table, which is built.
 fn read_table<F: FileStore>(alloc: Global, store: &mut F) -> Result<TableSchema, Refusal>
-    ensures built { IfOk result IsBuilt }
+    ensures built { IfOk result HasOneGroup }
     ensures engine { IfOk result HasEngine }
 {
     let schema = read_table_schema(alloc, store)?;
@@ -106,7 +106,7 @@ fn read_table<F: FileStore>(alloc: Global, store: &mut F) -> Result<TableSchema,
 /// The schema, of a table that is built.
 fn judged(alloc: Global, schema: TableSchema) -> Result<TableSchema, Refusal>
     requires { IsDeclared schema }
-    ensures built { IfOk result IsBuilt }
+    ensures built { IfOk result HasOneGroup }
     ensures engine { IfOk result HasEngine }
 {
     declared_law();

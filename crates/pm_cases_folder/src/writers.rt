@@ -5,7 +5,7 @@ ghost use Rattle.pm_model_history.specs.Merge.{HistoryRow};
 ghost use Rattle.pm_schema.specs.Again.{IsDeclared};
 ghost use Rattle.pm_draft.specs.Built as draft;
 ghost use Rattle.pm_write.specs.Batch.{IsBatchOf};
-ghost use Rattle.pm_append.specs.Commit.{IsBuilt};
+ghost use Rattle.pm_append.specs.Commit.{HasOneGroup};
 ghost use Rattle.pm_commit.specs.Committer.{calls_left};
 
 use crate::command::run_command;
@@ -157,7 +157,7 @@ fn committer_of<F: FileStore>(
 
 /// The schema of the table, which is built.
 fn read_built<F: FileStore>(alloc: Global, store: &mut F) -> Result<TableSchema, Refusal>
-    ensures { IfOk result IsBuilt }
+    ensures { IfOk result HasOneGroup }
 {
     let schema = read_table_schema(alloc, store)?;
     built_of(alloc, schema)
@@ -166,7 +166,7 @@ fn read_built<F: FileStore>(alloc: Global, store: &mut F) -> Result<TableSchema,
 /// The schema, of a table that is built.
 fn built_of(alloc: Global, schema: TableSchema) -> Result<TableSchema, Refusal>
     requires { IsDeclared schema }
-    ensures { IfOk result IsBuilt }
+    ensures { IfOk result HasOneGroup }
 {
     match judge(alloc, &schema) {
         Ok(()) => Ok(schema),
@@ -187,7 +187,7 @@ pub(crate) fn judge(alloc: Global, schema: &TableSchema) -> Result<(), Refusal>
 
 /// The batch of a row that the table takes.
 fn batch_of(alloc: Global, schema: &TableSchema, row: &str) -> Result<Batch, Refusal>
-    requires { IsBuilt schema.now }
+    requires { HasOneGroup schema.now }
     ensures read { IfOk result (λ batch. (rows : List HistoryRow) × IsBatchOf schema.now rows batch) }
     ensures some { IfOk result (λ batch. batch ≢ []) }
 {
@@ -202,7 +202,7 @@ fn batch_of(alloc: Global, schema: &TableSchema, row: &str) -> Result<Batch, Ref
 
 /// The batch of the rows that the table takes of lines.
 fn read_batch(alloc: Global, schema: &TableSchema, lines: InputLines) -> Result<Batch, Refusal>
-    requires { IsBuilt schema.now }
+    requires { HasOneGroup schema.now }
     ensures { IfOk result (λ batch. (rows : List HistoryRow) × IsBatchOf schema.now rows batch) }
 {
     declared_law();

@@ -13,10 +13,8 @@ use Rattle.pm_schema.specs.declared.schema.TableSchema.{TableSchema}
 use Rattle.pm_snapshot.specs.Names.{greatest}
 use Rattle.pm_model_folder.specs.Changes.{Actor, origin_name}
 use Rattle.pm_model_folder.specs.Folder.{HasTable}
-use Rattle.pm_options.specs.declared.kinds.Producer.{Producer}
-use Rattle.pm_options.specs.declared.kinds.Producer.TheVariants as producers
 use Rattle.pm_create.specs.Making.{LeavesFiles}
-use Rattle.pm_draft.specs.Built.{unbuilt, unbuilt_bucket, unbuilt_partition, unbuilt_producer}
+use Rattle.pm_draft.specs.Built.{unbuilt, unbuilt_bucket, unbuilt_partition}
 use Rattle.pm_words.specs.declared.command.Command.{Command}
 use Rattle.pm_command.specs.Outside.{actor}
 use Rattle.pm_cli.specs.Promise.{Execution, HasMade, MayMake, StandsForOthers}
@@ -162,11 +160,6 @@ one_made s es e id is =
     ap Some (is ∙ sym count) ∙ ap (λ (b : Bool). if b then Some (length (es ++ e ∷ [])) else None) (sym more)
 
 -- no table is refused by a fault of the sink
-not_producer : (p : Producer) (e : Refusal) → unbuilt_producer p ≡ Some e → IsUnsupported e
-not_producer producers.None e is = cc
-not_producer producers.Input e is = cc
-not_producer p e is = subst IsUnsupported (some_of _ e is) tt
-
 not_bucket : (n : ℕ) (e : Refusal) → unbuilt_bucket n ≡ Some e → IsUnsupported e
 not_bucket n e = by (n == 1)
   where
@@ -184,12 +177,9 @@ either_of (Some d) p e is = inl is
 
 unsupported : (s : TableSchema) (e : Refusal) → unbuilt s ≡ Some e → IsUnsupported e
 unsupported s e is =
-    elim (either_of (unbuilt_producer s.options.producer) (option_or (unbuilt_bucket s.options.bucket) (unbuilt_partition s.partition)) e is) as (λ _. IsUnsupported e) [
-      | inl producer ↦ not_producer s.options.producer e producer
-      | inr rest ↦ elim (either_of (unbuilt_bucket s.options.bucket) (unbuilt_partition s.partition) e rest) as (λ _. IsUnsupported e) [
-        | inl bucket ↦ not_bucket s.options.bucket e bucket
-        | inr partition ↦ not_partition s.partition e partition
-      ]
+    elim (either_of (unbuilt_bucket s.options.bucket) (unbuilt_partition s.partition) e is) as (λ _. IsUnsupported e) [
+      | inl bucket ↦ not_bucket s.options.bucket e bucket
+      | inr partition ↦ not_partition s.partition e partition
     ]
 
 pub schema_not : (s : TableSchema) (snapshot : Option ℕ) → (refusals.SinkFault snapshot ≡ refusals.Memory) ⊎ (unbuilt s ≡ Some (refusals.SinkFault snapshot)) → ⊥

@@ -13,8 +13,8 @@ ghost use Rattle.pm_options.specs.declared.kinds.Producer.TheVariants.{Input};
 ghost use Rattle.pm_schema.specs.declared.schema.TableSchema.{TableSchema};
 ghost use Rattle.pm_model_history.specs.History.{Entry, History, no_table, rows_up_to, table};
 ghost use Rattle.pm_model_history.specs.Merge.{HistoryRow};
-ghost use Rattle.pm_model_history.specs.Merged.{merged, scan_text};
-ghost use Rattle.pm_model_following.specs.Following.{followed, table_text};
+ghost use Rattle.pm_model_history.specs.Merged.{scan_text};
+ghost use Rattle.pm_model_following.specs.Following.{IsFinished, table_text};
 ghost use Rattle.pm_model_folder.specs.Changes.{Actor};
 ghost use Rattle.pm_model_folder.specs.Folder.{Folder};
 ghost use Rattle.pm_create.specs.Making.{LeavesFiles};
@@ -26,6 +26,7 @@ ghost use Rattle.pm_command.specs.Outside.{HaveSame, actor};
 ghost use Rattle.pm_command.specs.declared.start.Start.{Start};
 ghost use Rattle.pm_command_compact.specs.Compact as compact;
 ghost use Rattle.pm_command_create.specs.Create.{IsDraftOf, StandsForEither};
+ghost use Rattle.pm_command_follow.specs.Finished.{HasPassedAll};
 ghost use Rattle.pm_command_follow.specs.Printed.{LeadFrom, start_of, table_head};
 ghost use Rattle.pm_command_write.specs.Write.{IsImage, Lines, MayStartAfter};
 ghost use Rattle.pm_command_write.specs.declared.writer.Writer.{Writer};
@@ -212,17 +213,18 @@ pub fn same_scan_law()
 
 /// Whoever follows a table has what it prints as the starting table, if it is asked for, and frames of changes behind
 /// it. Their rows, replayed in order on the table that was followed at the one below the start, give the table that is
-/// followed at the newest; and those of the first frames, at each before that. With the producer of inputs the table
-/// that is followed at a snapshot is the merged one, which a scan of that snapshot prints; and so are the starting
-/// table's rows printed.
+/// followed at the newest; and those of the first frames, at each before that. Where a snapshot is finished, the table
+/// that is followed at it is the merged one, which a scan of that snapshot prints; and so are the starting table's rows
+/// printed. It is where all rows up to it are passed on; with the producer of inputs they always are.
 pub fn frames_law()
     ensures replayed { (start : Start) (bytes : List ℕ) (found : StoreView) (from : Option ℕ) (full : Bool)
         (s : TableSchema) (es : List Entry) (later : History) (text : List ℕ) (f : Files)
         → 1 ≤ start_of from (length es) → Folder f (table s es)
         → Does start bytes found (commands.Follow from full) (table s es) later text → LeadFrom s es from full text }
-    ensures scanned { (s : TableSchema) (es : List Entry) (id : ℕ) → s.options.producer ≡ Input
-        → followed s es id ≡ merged s (rows_up_to es id) }
-    ensures starting { (s : TableSchema) (es : List Entry) (id : ℕ) → s.options.producer ≡ Input
+    ensures finished { (f : Files) (s : TableSchema) (es : List Entry) (id : ℕ) → Folder f (table s es)
+        → id ≤ length es → HasPassedAll s es id → IsFinished s es id }
+    ensures input { (s : TableSchema) (es : List Entry) (id : ℕ) → s.options.producer ≡ Input → HasPassedAll s es id }
+    ensures starting { (s : TableSchema) (es : List Entry) (id : ℕ) → IsFinished s es id
         → table_text s es id ≡ table_head id ++ scan_text s (rows_up_to es id) }
 {
     replay_law();

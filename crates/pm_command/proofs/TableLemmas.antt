@@ -11,8 +11,6 @@ use Rattle.pm_store.specs.Store.{StoreView}
 use Rattle.pm_store.proofs.ImageLaws.{Extends-weaker}
 use Rattle.pm_machine.specs.Trace.{Event, HasTrace}
 use Rattle.pm_model_history.specs.History.{History, IsTableOf, no_table, table}
-use Rattle.pm_options.specs.declared.kinds.Producer.{Producer}
-use Rattle.pm_options.specs.declared.kinds.Producer.TheVariants as producers
 use Rattle.pm_schema.specs.declared.schema.TableSchema.{TableSchema}
 use Rattle.pm_snapshot.specs.Names.{greatest}
 use Rattle.pm_model_folder.specs.Folder.{Folder}
@@ -21,7 +19,7 @@ use Rattle.pm_model_folder.specs.Meaning.{HasSnapshotAt}
 use Rattle.pm_model_folder.specs.Paths.{snapshot_path}
 use Rattle.pm_create.specs.Making.{LeavesFiles}
 use Rattle.pm_read_schema.specs.AllCalls.{HasFiles, IsCaused}
-use Rattle.pm_draft.specs.Built.{unbuilt, unbuilt_producer, unbuilt_bucket, unbuilt_partition}
+use Rattle.pm_draft.specs.Built.{unbuilt, unbuilt_bucket, unbuilt_partition}
 use Rattle.pm_command.specs.Outside.{HaveSame, ImagesRest, Rests, next_path}
 use Rattle.pm_command.specs.Table.{MayRefuse}
 
@@ -105,11 +103,6 @@ or_text : (o p : Option Refusal) → IfSome o IsText → IfSome p IsText → IfS
 or_text None p first next = next
 or_text (Some e) p first next = first
 
-producer_text : (producer : Producer) → IfSome (unbuilt_producer producer) IsText
-producer_text producers.None = tt
-producer_text producers.Input = tt
-producer_text other = tt
-
 bucket_text : (n : ℕ) → IfSome (unbuilt_bucket n) IsText
 bucket_text n = by (n == 1)
   where
@@ -123,8 +116,7 @@ partition_text (name ∷ names) = tt
 
 unbuilt_text : (s : TableSchema) → IfSome (unbuilt s) IsText
 unbuilt_text s =
-    or_text (unbuilt_producer s.options.producer) _ (producer_text s.options.producer)
-    (or_text (unbuilt_bucket s.options.bucket) (unbuilt_partition s.partition) (bucket_text s.options.bucket) (partition_text s.partition))
+    or_text (unbuilt_bucket s.options.bucket) (unbuilt_partition s.partition) (bucket_text s.options.bucket) (partition_text s.partition)
 
 unbuilt_caused : (h : History) (first after : StoreView) (s : TableSchema) (e : Refusal) → IsTableOf s h → unbuilt s ≡ Some e → MayRefuse h first after e
 unbuilt_caused h first after s e is why = at_refusal e why (subst (λ (o : Option Refusal). IfSome o IsText) why (unbuilt_text s))

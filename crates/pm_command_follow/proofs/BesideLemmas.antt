@@ -2,27 +2,25 @@
 use Rattle.std.proofs.Common.{◌≡◌, ◌≢◌, ◌⊎◌, inl, inr, ℕ, zero, suc, ◌+◌, ◌-◌, ◌≤◌, Bool, true, false, List, [], ◌++◌, length, take, Some, refl, sym, ap, subst, ◌∙◌, append_assoc, length-append, arith}
 use Rattle.std.specs.FinMap.{FinMap, values}
 use Rattle.std.specs.List.{flat_map, range_with_len}
-use Rattle.std.proofs.lemmas.List.{take-append-le}
 use Rattle.pm_base.specs.Newline.{line}
-use Rattle.pm_options.specs.declared.kinds.Producer.TheVariants as producers
 use Rattle.pm_rows.specs.RowText.{row_text}
 use Rattle.pm_schema.specs.declared.schema.TableSchema.{TableSchema}
 use Rattle.pm_store.specs.Files.{Files}
 use Rattle.pm_values.specs.Order.{Values, key_cmp}
 use Rattle.pm_values.specs.declared.kind.Kind.TheVariants.{Insert}
-use Rattle.pm_model_history.specs.History.{Entry, GoesOn, History, entry_rows, rows_up_to, table}
+use Rattle.pm_model_history.specs.History.{Entry, GoesOn, History, table}
 use Rattle.pm_model_history.specs.Merge.{HistoryRow}
 use Rattle.pm_model_history.specs.Merged.{scan_text}
-use Rattle.pm_model_following.specs.Following.{HaveBases, IsFinished, change, followed, frame, frame_head, table_text}
-use Rattle.pm_model_folder.specs.Folder.{HasTable}
+use Rattle.pm_model_following.specs.Following.{HaveBases, change, followed, frame, frame_head, passed_rows, table_text}
+use Rattle.pm_model_folder.specs.Folder.{Folder, HasTable}
 use Rattle.pm_model_folder.specs.Ledger.{IsKnown, Past, count_of}
 use Rattle.pm_draft.specs.Built.{IsBuilt}
 use Rattle.pm_read_frame.specs.Frames.{AreFramesFrom, joined}
 use Rattle.pm_read_frame.specs.Meaning.{HasOneLog}
-use Rattle.pm_command_follow.specs.Beside.{ArePieces, IsFirstOf, IsScanOf, IsStartOf}
+use Rattle.pm_command_follow.specs.Beside.{ArePieces, IsFirstOf, IsPassedOf, IsStartOf}
 use Rattle.pm_command_follow.specs.Follow.{TellsChanges}
 use Rattle.pm_command_follow.specs.Printed.{count_from, follow_text, frames_text, table_head, text_so_far}
-use Rattle.pm_command_follow.proofs.TextLemmas.{follow_split, table_is}
+use Rattle.pm_command_follow.proofs.TextLemmas.{follow_split}
 
 -- what the laws of frames and of the model say
 pub record Laws : Type 0 where
@@ -30,24 +28,16 @@ pub record Laws : Type 0 where
       → length texts ≤ suc (length es) - id
   pub text : (s : TableSchema) (es : List Entry) (id : ℕ) (texts : List (List ℕ)) → HasOneLog s → AreFramesFrom (table s es) id texts
       → joined texts ≡ flat_map (frame s es) (range_with_len id (length texts))
-  pub finished : (s : TableSchema) (es : List Entry) (n : ℕ) → s.options.producer ≡ producers.Input → IsFinished s es n
   pub table : (s : TableSchema) (es more : List Entry) (n : ℕ) → HaveBases 1 es → n ≤ length es → followed s (es ++ more) n ≡ followed s es n
   pub change : (s : TableSchema) (es more : List Entry) (n : ℕ) → HaveBases 1 es → n ≤ length es → change s (es ++ more) n ≡ change s es n
 
 module _ (s : TableSchema) (tells : TellsChanges s) (built : IsBuilt s) where
-  input_of : s.options.producer ≡ producers.Input
-  input_of = by built.producer
-    where
-      by : (s.options.producer ≡ producers.None) ⊎ (s.options.producer ≡ producers.Input) → s.options.producer ≡ producers.Input
-      by (inl none) = absurd (tells none)
-      by (inr is) = is
-
   one_log : HasOneLog s
   one_log = record { producer = tells; bucket = built.bucket; partition = built.partition }
 
 -- ---- the starting table
 
-module _ (s : TableSchema) (es : List Entry) (id : ℕ) (rows : List ℕ) (is : IsScanOf (table s es) id rows) where
+module _ (s : TableSchema) (es : List Entry) (id : ℕ) (rows : List ℕ) (is : IsPassedOf (table s es) id rows) where
   of_table : GoesOn (table is.scan.schema is.scan.entries) (table s es)
   of_table = subst (λ (h : History). GoesOn h (table s es)) is.scan.is_table is.goes_on
 
@@ -58,13 +48,20 @@ module _ (s : TableSchema) (es : List Entry) (id : ℕ) (rows : List ℕ) (is : 
       by (inl origin) = omega (arith, origin)
       by (inr known) = subst (λ (h : History). id ≤ count_of h) is.scan.is_table known.to
 
-  scan_is : rows ≡ scan_text s (rows_up_to es id)
-  scan_is =
+  bases : HaveBases 1 is.scan.entries
+  bases = (has_table (subst (Folder is.files) is.scan.is_table is.stood.folder)).history.bases
+    where
+      has_table : HasTable is.files is.scan.schema is.scan.entries → HasTable is.files is.scan.schema is.scan.entries
+      has_table has = has
+
+  scan_is : Laws → rows ≡ scan_text s (passed_rows s es id)
+  scan_is laws =
       let (same, more, whole) = of_table in
       let own = is.scan.entries in
       is.scan.is_text
-      ∙ ap (λ (es : List Entry). scan_text is.scan.schema (flat_map entry_rows es)) (sym (take-append-le id own more scanned_to))
-      ∙ sym (λ i. scan_text (same i) (rows_up_to (whole i) id))
+      ∙ ap (λ (table : FinMap key_cmp Values). flat_map (λ (row : Values). line (row_text Insert row)) (values table))
+      (sym (laws.table is.scan.schema own more id bases scanned_to))
+      ∙ sym (λ i. scan_text (same i) (passed_rows (same i) (whole i) id))
 
 -- ---- the pieces together
 
@@ -75,8 +72,7 @@ module _ (laws : Laws) (s : TableSchema) (tells : TellsChanges s) (built : IsBui
       ap (λ (first : List ℕ). first ++ joined frames) none ∙ laws.text s es start frames (one_log s tells built) are
   together es true start first frames (rows, scan, is) are =
       ap (λ (first : List ℕ). first ++ joined frames)
-      (is ∙ ap (λ (rows : List ℕ). table_head (start - 1) ++ rows) (scan_is s es (start - 1) rows scan)
-      ∙ sym (table_is s es (start - 1) (laws.finished s es (start - 1) (input_of s tells built))))
+      (is ∙ ap (λ (rows : List ℕ). table_head (start - 1) ++ rows) (scan_is s es (start - 1) rows scan laws))
       ∙ ap (λ (text : List ℕ). table_text s es (start - 1) ++ text) (laws.text s es start frames (one_log s tells built) are)
 
   pub are_first : (es : List Entry) (full : Bool) (start : ℕ) (first : List ℕ) (frames : List (List ℕ)) → ArePieces (table s es) full start first frames

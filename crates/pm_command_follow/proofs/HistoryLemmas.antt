@@ -2,7 +2,6 @@
 use Rattle.std.proofs.Common.{◌≡◌, ◌≢◌, ◌⊎◌, ◌↔◌, inl, inr, ℕ, zero, suc, ◌+◌, ◌-◌, ◌<◌, ◌≤◌, Bool, true, false, List, [], ◌++◌, length, Option, None, Some, IsSome, Result, Ok, Err, refl, sym, ap, subst, ◌∙◌, append-nil, arith}
 use Rattle.std.proofs.lemmas.Bool.{cases_lt}
 use Rattle.std.specs.FinMap as map
-use Rattle.std.specs.Option.{option_or}
 use Rattle.pm_base.specs.Known.{and_then}
 use Rattle.pm_values.specs.declared.refusal.Refusal.{Refusal}
 use Rattle.pm_values.specs.declared.refusal.Refusal.TheVariants as refusals
@@ -11,20 +10,19 @@ use Rattle.pm_store.specs.Files.{Files}
 use Rattle.pm_store.specs.Store.{StoreView, at_first_own}
 use Rattle.pm_machine.specs.Trace.{Event, HasTrace, Traces}
 use Rattle.pm_machine.proofs.AloneLaws.{Traces-first}
-use Rattle.pm_options.specs.declared.kinds.Producer.{Producer}
 use Rattle.pm_options.specs.declared.kinds.Producer.TheVariants as producers
 use Rattle.pm_schema.specs.Again.{IsDeclared}
 use Rattle.pm_schema.specs.Meaning.{SchemaOf}
 use Rattle.pm_schema.specs.Reading.{schema_of}
 use Rattle.pm_schema.specs.declared.schema.TableSchema.{TableSchema}
-use Rattle.pm_model_history.specs.History.{Entry, History, IsTableOf, no_table, rows_up_to, table}
+use Rattle.pm_model_history.specs.History.{Entry, History, IsTableOf, no_table, table}
 use Rattle.pm_model_history.specs.Merged.{scan_text}
-use Rattle.pm_model_following.specs.Following.{IsFinished, frame, table_text}
+use Rattle.pm_model_following.specs.Following.{frame, passed_rows, table_text}
 use Rattle.pm_snapshot.specs.Names.{greatest}
 use Rattle.pm_model_folder.specs.Folder.{Folder, HasTable}
 use Rattle.pm_model_folder.specs.Ledger.{count_of}
 use Rattle.pm_model_folder.specs.Paths.{schema_path, snapshot_path}
-use Rattle.pm_draft.specs.Built.{IsBuilt, unbuilt, unbuilt_bucket, unbuilt_partition, unbuilt_producer}
+use Rattle.pm_draft.specs.Built.{IsBuilt, unbuilt}
 use Rattle.pm_read_schema.specs.AllCalls.{HasFiles, Stay}
 use Rattle.pm_read_schema.specs.AllCalls as reader_calls
 use Rattle.pm_read_schema.specs.Trace as reader
@@ -34,7 +32,9 @@ use Rattle.pm_read_schema.proofs.StillLemmas.{stayed}
 use Rattle.pm_read_latest.specs.AllCalls as latest_calls
 use Rattle.pm_read_latest.specs.AllCalls.{DidLatest, FindsLatest, FindsLatests}
 use Rattle.pm_scan.specs.AllCalls as scanner
-use Rattle.pm_scan.specs.AllCalls.{ScansOf, ScansTable, asked_at, path_of}
+use Rattle.pm_scan.specs.AllCalls.{PassesOf, ScansRows, path_of}
+use Rattle.pm_scan.specs.Asked.{passed_at}
+use Rattle.pm_scan.specs.declared.rows.Rows.TheVariants as shown
 use Rattle.pm_read_frame.specs.AllCalls as frame_calls
 use Rattle.pm_read_frame.specs.AllCalls.{DidFrame, ReadsFrame}
 use Rattle.pm_read_frame.specs.Meaning.{HasOneLog}
@@ -43,16 +43,15 @@ use Rattle.pm_command.proofs.TableLemmas.{files_of, images_rest, judged_caused, 
 use Rattle.pm_command_follow.specs.Follow.{AnswersHistory, AreThere, DidTable, Ends, FollowsAny, GoesOn, HasFollowedTable, HasSchema, IsFollowed, Lists, MayRefuse, MayStartAt, MayStop, Opens, Prints, PrintsPrefix, PrintsTable, ReadsAll, ReadsFrames, ReadsTable, ShowsFirst, ShowsSchema, Starts, StopsAfter, TellsChanges, Then, Took, TookPart, TookPieces, all, fails_frame, fails_table, in_frame, in_table, of_listing, of_producer, of_reader, of_schema, of_start, of_table, of_unbuilt, refused_first, refused_frame, refused_listing}
 use Rattle.pm_command_follow.specs.Printed.{count_from, follow_text, frames_text, start_of, table_head, text_so_far}
 use Rattle.pm_command_follow.proofs.JoinLemmas.{IsRun, at_first, in_turn, rose_wider}
-use Rattle.pm_command_follow.proofs.TextLemmas.{follow_split, frame_behind, frames_push, table_is, took_behind, took_longer, with_frames}
+use Rattle.pm_command_follow.proofs.TextLemmas.{follow_split, frame_behind, frames_push, took_behind, took_longer, with_frames}
 
 -- the laws of the machines that read, and of the model
 pub record Laws : Type 0 where
   pub latest : (result : Result ℕ Refusal) (before after : StoreView) → HasTrace (DidLatest result) before after → FindsLatests before after result
-  pub scans : (s : TableSchema) (at : Option ℕ) (result : Result (List ℕ) Refusal) (before after : StoreView) → IsDeclared s
-      → HasTrace (scanner.Ends (asked_at s at) result) before after → ScansOf s at before after result
+  pub passed : (s : TableSchema) (id : ℕ) (result : Result (List ℕ) Refusal) (before after : StoreView) → IsDeclared s
+      → HasTrace (scanner.Ends (passed_at s id) result) before after → PassesOf s id before after result
   pub frames : (s : TableSchema) (id : ℕ) (result : Result (List ℕ) Refusal) (before after : StoreView) → 1 ≤ id
       → HasTrace (DidFrame s id result) before after → frame_calls.ReadsFrames s id before after result
-  pub finished : (s : TableSchema) (es : List Entry) (n : ℕ) → s.options.producer ≡ producers.Input → IsFinished s es n
   pub built : (s : TableSchema) → (unbuilt s ≡ None) ↔ IsBuilt s
   pub read : (path text : List ℕ) (s : TableSchema) → (schema_of path text ≡ Ok s) ↔ SchemaOf path text s
   pub declared : (path text : List ℕ) (s : TableSchema) → SchemaOf path text s → IsDeclared s
@@ -75,18 +74,6 @@ path_is : (s : TableSchema) (id : ℕ) → 1 ≤ id → path_of s id ≡ snapsho
 path_is s zero low = absurd (omega (arith, low))
 path_is s (suc id) low = refl
 
--- the first of two that are none is none
-none_first : (o p : Option Refusal) → option_or o p ≡ None → o ≡ None
-none_first None p is = refl
-none_first (Some e) p is = cc
-
--- a producer that is built and tells changes is that of inputs
-tells_input : (p : Producer) → p ≢ producers.None → unbuilt_producer p ≡ None → p ≡ producers.Input
-tells_input producers.None tells built = absurd (tells refl)
-tells_input producers.Input tells built = refl
-tells_input producers.Lookup tells built = cc
-tells_input producers.FullCompaction tells built = cc
-
 -- a table that is followed
 record IsOf (h : History) (t : TableSchema) : Type 0 where
   is : IsTableOf t h
@@ -101,11 +88,6 @@ module _ (laws : Laws) (f : Files) (h : History) (folder : Folder f h) where
   declared_of t is =
       let first = (has_table f h t folder is).schema.first in
       laws.declared (schema_path 0) first.0 t ((laws.read (schema_path 0) first.0 t).0 first.2)
-
-  input_of : (t : TableSchema) → IsOf h t → t.options.producer ≡ producers.Input
-  input_of t of =
-      tells_input t.options.producer of.tells
-      (none_first (unbuilt_producer t.options.producer) (option_or (unbuilt_bucket t.options.bucket) (unbuilt_partition t.partition)) ((laws.built t).1 of.built))
 
   -- ---- each piece
 
@@ -126,11 +108,11 @@ module _ (laws : Laws) (f : Files) (h : History) (folder : Folder f h) where
       at_first (λ first after. (f : Files) (h : History) → HasFiles f first → Folder f h → FindsLatest f h first after result) f own first after run
       (laws.latest result first after (own, did, run.trace)) f h run.has folder
 
-  scan_at : (t : TableSchema) (at : Option ℕ) (result : Result (List ℕ) Refusal) (own : List Event) (first after : StoreView) → IsOf h t
-      → scanner.Ends (asked_at t at) result own → IsRun f own first after → ScansTable f h t at first after result
-  scan_at t at result own first after of did run =
-      at_first (λ first after. (f : Files) (h : History) → HasFiles f first → Folder f h → IsTableOf t h → ScansTable f h t at first after result) f own first after run
-      (laws.scans t at result first after (declared_of t of.is) (own, did, run.trace)) f h run.has folder of.is
+  scan_at : (t : TableSchema) (id : ℕ) (result : Result (List ℕ) Refusal) (own : List Event) (first after : StoreView) → IsOf h t
+      → scanner.Ends (passed_at t id) result own → IsRun f own first after → ScansRows shown.Passed f h t (Some id) first after result
+  scan_at t id result own first after of did run =
+      at_first (λ first after. (f : Files) (h : History) → HasFiles f first → Folder f h → IsTableOf t h → ScansRows shown.Passed f h t (Some id) first after result) f own first after run
+      (laws.passed t id result first after (declared_of t of.is) (own, did, run.trace)) f h run.has folder of.is
 
   frame_at : (t : TableSchema) (id : ℕ) (result : Result (List ℕ) Refusal) (own : List Event) (first after : StoreView) → IsOf h t → 1 ≤ id → id ≤ length es
       → DidFrame t id result own → IsRun f own first after → ReadsFrame f t es id first after result
@@ -174,12 +156,12 @@ module _ (laws : Laws) (f : Files) (h : History) (folder : Folder f h) where
     text_is : text ≡ text_so_far t es full start 0
     base : full ≡ true → IsSome (map.get f (path_of t (start - 1)))
 
-  prints_start : (t : TableSchema) (start : ℕ) (rows : List ℕ) (h : History) → IsFinished t (entries_of h) (start - 1) → IsTableOf t h
-      → scanner.PrintsScan h (Some (start - 1)) rows → table_head (start - 1) ++ rows ≡ text_so_far t (entries_of h) true start 0
-  prints_start t start rows no_table finished is prints = absurd prints
-  prints_start t start rows (table u es) finished is prints =
-      let same : rows ≡ scan_text t (rows_up_to es (start - 1)) = prints ∙ ap (λ (u : TableSchema). scan_text u (rows_up_to es (start - 1))) is in
-      ap (λ (rows : List ℕ). table_head (start - 1) ++ rows) same ∙ sym (table_is t es (start - 1) finished) ∙ nothing_behind (table_text t es (start - 1))
+  prints_start : (t : TableSchema) (start : ℕ) (rows : List ℕ) (h : History) → IsTableOf t h
+      → scanner.PrintsRows shown.Passed h (Some (start - 1)) rows → table_head (start - 1) ++ rows ≡ text_so_far t (entries_of h) true start 0
+  prints_start t start rows no_table is prints = absurd prints
+  prints_start t start rows (table u es) is prints =
+      let same : rows ≡ scan_text t (passed_rows t es (start - 1)) = prints ∙ ap (λ (u : TableSchema). scan_text u (passed_rows u es (start - 1))) is in
+      ap (λ (rows : List ℕ). table_head (start - 1) ++ rows) same ∙ nothing_behind (table_text t es (start - 1))
     where
       nothing_behind : (text : List ℕ) → text ≡ text ++ []
       nothing_behind text = simp append-nil
@@ -190,10 +172,10 @@ module _ (laws : Laws) (f : Files) (h : History) (folder : Folder f h) where
       let stay = stayed f [] first after tt (subst (λ (own : List Event). Traces own first after) none run.trace) run.alone run.has in
       (stay.0, record { text_is = nothing; base = λ is. cc })
   table_at t true start text own first after of (rows, did, is) run =
-      let scan = scan_at t (Some (start - 1)) (Ok rows) own first after of did run in (
+      let scan = scan_at t (start - 1) (Ok rows) own first after of did run in (
         scan.files,
         record {
-          text_is = is ∙ prints_start t start rows h (laws.finished t es (start - 1) (input_of t of)) of.is scan.text;
+          text_is = is ∙ prints_start t start rows h of.is scan.text;
           base = λ is. scan.there.1;
         },
       )
@@ -374,10 +356,10 @@ module _ (laws : Laws) (f : Files) (h : History) (folder : Folder f h) where
           → StartsAt t from start → DidTable t start (Err e) own → first.faults ≤ middle.faults → IsRun f own middle after
           → Stay f middle after × MayRefuse h from true first after e
       table_refused t from start e own first middle after has starts (inl ends) wider run =
-          let scan = scan_at t (Some (start - 1)) (Err e) own middle after starts.of ends run in
+          let scan = scan_at t (start - 1) (Err e) own middle after starts.of ends run in
           (scan.files, cause_scan t from start first middle after e has starts wider scan.cause)
       table_refused t from start e own first middle after has starts (inr (memory, rows, ends)) wider run =
-          let scan = scan_at t (Some (start - 1)) (Ok rows) own middle after starts.of ends run in
+          let scan = scan_at t (start - 1) (Ok rows) own middle after starts.of ends run in
           (scan.files, subst (MayRefuse h from true first after) (sym memory) tt)
 
   -- ---- what it answers, with the table in its history

@@ -1,5 +1,6 @@
 mod BesideLemmas
 mod CompleteLemmas
+mod FinishedLemmas
 mod HistoryLemmas
 pub mod JoinLemmas
 mod OneLemmas

@@ -28,10 +28,11 @@ use Rattle.pm_group_files.specs.Trace as files_trace
 use Rattle.pm_group_files.proofs.FaultLemmas.{IsOfFiles, damaged, expired, unsupported}
 use Rattle.pm_group_files.proofs.OneLemmas as group
 use Rattle.pm_scan.specs.AllCalls as scanner
-use Rattle.pm_scan.specs.AllCalls.{asked_at}
+use Rattle.pm_scan.specs.Asked.{passed_at}
 use Rattle.pm_scan.specs.Meaning.{all_of}
 use Rattle.pm_scan.specs.Scanner as scanner_machine
 use Rattle.pm_scan.specs.Trace.{AfterView, DidSoFar, ShowsOfFiles}
+use Rattle.pm_scan.specs.declared.rows.Rows.TheVariants as shown
 use Rattle.pm_scan.proofs.OneLemmas as scans
 use Rattle.pm_scan.proofs.OneLemmas.{one_view, same_asked}
 use Rattle.pm_read_log.specs.Log.{LogAskedView, log_asked_of}
@@ -269,7 +270,7 @@ module _ (a : LogAskedView) where
 -- ---- all of them, one after another
 
 abbrev asked : TableSchema → ℕ → Asked
-asked s start = asked_at s (Some (start - 1))
+asked s start = (passed_at s (start - 1)).table
 
 -- so many frames are left, from this snapshot on
 abbrev Frames : ℕ → TableSchema → ℕ → List Event → Option Refusal → Type 0
@@ -284,7 +285,7 @@ Listing s start own x = Goes Listed NoRefusal (λ latest. Frames (count_from sta
 -- the view of the starting table was read to here, and its files are left
 abbrev Reading : TableSchema → ℕ → view.Place → List Event → Option Refusal → Type 0
 Reading s start m own x =
-    (c : Chosen) × ((v : View) × view.IsViewAt (asked s start) v m × (all_of v ≡ c))
+    (c : Chosen) × ((v : View) × view.IsViewAt (asked s start) v m × (all_of shown.Passed v ≡ c))
     × Goes (Taken c) (FilesRefused c) (λ col. Listing s start) own x
 
 -- the starting table is left where it is asked for
@@ -333,7 +334,7 @@ module _ (laws : OneLaws) where
 
   one_reading : (s : TableSchema) (start : ℕ) (m : view.Place) (own : List Event) (x y : Option Refusal) → Reading s start m own x → Reading s start m own y → x ≡ y
   one_reading s start m own x y (c, (v, is, at), then) (d, (w, was, there), behind) =
-      let same : c ≡ d = sym at ∙ same_asked laws.scans v w (one_view laws.scans (asked s start) v w m is was) ∙ there in
+      let same : c ≡ d = sym at ∙ same_asked laws.scans shown.Passed v w (one_view laws.scans (asked s start) v w m is was) ∙ there in
       (files_one s start d).one own x y
       (subst (λ (c : Chosen). Goes (Taken c) (FilesRefused c) (λ col. Listing s start) own x) same then) behind
 
@@ -393,9 +394,9 @@ in_table laws true s start text own more x (rows, (id, scan), is) then =
     let v = scan.view in
     let after = scan.all_read in
     let viewed = view.view_lead (asked s start) laws v after.first after.viewed in
-    let taken = group.part_lead (all_of v) scan.collected [] after.reads after.so in
+    let taken = group.part_lead (all_of shown.Passed v) scan.collected [] after.reads after.so in
     let rest : Reading s start viewed.0 (after.reads ++ more) x =
-    (all_of v, (v, viewed.2, refl), inl (with_groups [] scan.collected, after.reads, more, taken, refl, then)) in
+    (all_of shown.Passed v, (v, viewed.2, refl), inl (with_groups [] scan.collected, after.reads, more, taken, refl, then)) in
     inl (
       viewed.0,
       after.first,
@@ -467,15 +468,15 @@ module _ (laws : view.OneLaws) (s : TableSchema) (start : ℕ) where
   abbrev Scanned : Refusal → List Event → Type 0
   Scanned e own = Table true s start own (Some e)
 
-  files_refused : (e : Refusal) (own : List Event) → IsOfFiles e → (v : View) → AfterView (asked s start) v (files_trace.Shows (all_of v) e) own → Scanned e own
+  files_refused : (e : Refusal) (own : List Event) → IsOfFiles e → (v : View) → AfterView (asked s start) v (files_trace.Shows (all_of shown.Passed v) e) own → Scanned e own
   files_refused e own fault v after =
       let viewed = view.view_lead (asked s start) laws v after.first after.viewed in
-      let over = group.shows_lead (all_of v) e after.reads fault after.so in
-      inl (viewed.0, after.first, after.reads, (viewed.1, (v, viewed.2)), after.is, (all_of v, (v, viewed.2, refl), inr (e, refl, over)))
+      let over = group.shows_lead (all_of shown.Passed v) e after.reads fault after.so in
+      inl (viewed.0, after.first, after.reads, (viewed.1, (v, viewed.2)), after.is, (all_of shown.Passed v, (v, viewed.2, refl), inr (e, refl, over)))
 
-  by_files : (e : Refusal) (own : List Event) → ShowsOfFiles (asked s start) e own → IsElse (Scanned e own) e own
+  by_files : (e : Refusal) (own : List Event) → ShowsOfFiles (passed_at s (start - 1)) e own → IsElse (Scanned e own) e own
   by_files refusals.Memory own shows = inl refl
-  by_files (refusals.StoreFault path) own fails = inr (inl (failed scanner_machine.next_call (DidSoFar (asked s start)) path own fails))
+  by_files (refusals.StoreFault path) own fails = inr (inl (failed scanner_machine.next_call (DidSoFar (passed_at s (start - 1))) path own fails))
   by_files (refusals.Expired id) own (v, after) = inr (inr (files_refused (refusals.Expired id) own (expired id) v after))
   by_files (refusals.Damaged path place) own (v, after) = inr (inr (files_refused (refusals.Damaged path place) own (damaged path place) v after))
   by_files (refusals.Unsupported what text) own (v, after) = inr (inr (files_refused (refusals.Unsupported what text) own (unsupported what text) v after))

@@ -14,7 +14,7 @@ use Rattle.pm_read_schema.specs.AllCalls.{DidRead}
 use Rattle.pm_read_latest.specs.AllCalls.{DidLatest}
 use Rattle.pm_read_table.specs.declared.phase.Phase.TheVariants as views
 use Rattle.pm_scan.specs.AllCalls as scanner
-use Rattle.pm_scan.specs.AllCalls.{asked_at}
+use Rattle.pm_scan.specs.Asked.{passed_at}
 use Rattle.pm_read_frame.specs.AllCalls.{DidFrame}
 use Rattle.pm_command.specs.Outside as outside
 use Rattle.pm_command_follow.specs.Follow.{DidSchema, DidTable, HasSchema, IsFollowed, Lists, Opens, ReadsFrames, Starts, Then, Took, all, fails_frame, fails_table, of_listing, of_producer, of_reader, of_schema, of_start, of_table, of_unbuilt, refused_first, refused_frame, refused_listing}
@@ -67,21 +67,21 @@ started s from latest start first middle after has did (is, high, low) =
 
 -- ---- the starting table
 
-pub rows_shown : (s : TableSchema) (start : ℕ) (e : Refusal) (store after : StoreView) → HasTrace (scanner.Ends (asked_at s (Some (start - 1))) (Err e)) store after
+pub rows_shown : (s : TableSchema) (start : ℕ) (e : Refusal) (store after : StoreView) → HasTrace (scanner.Ends (passed_at s (start - 1)) (Err e)) store after
     → HasTrace (DidTable s start (Err e)) store after
 rows_shown s start e store after (own, shows, trace) = (own, inl shows, trace)
 
-pub memory_shown : (s : TableSchema) (start : ℕ) (rows : List ℕ) (store after : StoreView) → HasTrace (scanner.Ends (asked_at s (Some (start - 1))) (Ok rows)) store after
+pub memory_shown : (s : TableSchema) (start : ℕ) (rows : List ℕ) (store after : StoreView) → HasTrace (scanner.Ends (passed_at s (start - 1)) (Ok rows)) store after
     → HasTrace (DidTable s start (Err refusals.Memory)) store after
 memory_shown s start rows store after (own, did, trace) = (own, inr (refl, rows, did), trace)
 
 pub table_read : (s : TableSchema) (start : ℕ) (rows text : List ℕ) (store after : StoreView) → text ≡ table_head (start - 1) ++ rows
-    → HasTrace (scanner.Ends (asked_at s (Some (start - 1))) (Ok rows)) store after → HasTrace (DidTable s start (Ok text)) store after
+    → HasTrace (scanner.Ends (passed_at s (start - 1)) (Ok rows)) store after → HasTrace (DidTable s start (Ok text)) store after
 table_read s start rows text store after is (own, did, trace) = (own, (rows, did, is), trace)
 
 -- no call was made
-pub scan_none : (s : TableSchema) (id : ℕ) (store : StoreView) → HasTrace (scanner.Ends (asked_at s (Some id)) (Err refusals.Memory)) store store
-scan_none s id store = ([], inl (before_call (views.List (asked_at s (Some id))) refl (refl, refl, tt)), Traces-none store)
+pub scan_none : (s : TableSchema) (id : ℕ) (store : StoreView) → HasTrace (scanner.Ends (passed_at s id) (Err refusals.Memory)) store store
+scan_none s id store = ([], inl (before_call (views.List (passed_at s id).table) refl (refl, refl, tt)), Traces-none store)
 
 -- ---- a piece
 

@@ -233,7 +233,7 @@ leads_on lines law read declares f s es start last stands tells low high =
           ∙ ap (λ (from : ℕ). replay s (followed s es (start - 1)) (flat_map (change s es) (range_with_len from count))) (sym again)
           ∙ replayed ∙ ap (followed s es) end;
       fits = fits;
-      only = λ input others fit is. frames_parts lines s.columns start (changes_in s es start count) others (fits input) fit (sym (frames_are s es start count) ∙ is);
+      only = λ own others fit is. frames_parts lines s.columns start (changes_in s es start count) others own fit (sym (frames_are s es start count) ∙ is);
     }
 
 -- ---- all that is printed

@@ -4,24 +4,24 @@ use Rattle.pm_store.specs.Files.{Files}
 use Rattle.pm_schema.specs.declared.schema.TableSchema.{TableSchema}
 use Rattle.pm_model_history.specs.History.{Entry, GoesOn, History}
 use Rattle.pm_model_folder.specs.Ledger.{Past, Stands}
-use Rattle.pm_scan.specs.Meaning.{IsScan}
+use Rattle.pm_scan.specs.Meaning.{IsPassed}
 use Rattle.pm_read_frame.specs.Frames.{AreFramesFrom}
 use Rattle.pm_command_follow.specs.Printed.{count_from, follow_text, table_head, text_so_far}
 
--- The rows were known to be the scan of the table at the snapshot while files stood, and the history that they had goes
--- on as this one.
-pub record IsScanOf (h : History) (id : ℕ) (rows : List ℕ) : Type 0 where
+-- The rows were known to be those of the table that is passed on at the snapshot while files stood, and the history that
+-- they had goes on as this one.
+pub record IsPassedOf (h : History) (id : ℕ) (rows : List ℕ) : Type 0 where
   pub files : Files
   pub past : Past
   pub stood : Stands files past
-  pub scan : IsScan past id rows
+  pub scan : IsPassed past id rows
   pub goes_on : GoesOn past.history h
 
--- the starting table, where it is asked for: behind its head the scan at one below the start
+-- the starting table, where it is asked for: behind its head the rows that are passed on at one below the start
 abbrev pub IsStartOf : History → Bool → ℕ → List ℕ → Type 0
 IsStartOf h false start text = text ≡ []
 IsStartOf h true start text =
-    (rows : List ℕ) × IsScanOf h (start - 1) rows × (text ≡ table_head (start - 1) ++ rows)
+    (rows : List ℕ) × IsPassedOf h (start - 1) rows × (text ≡ table_head (start - 1) ++ rows)
 
 -- The pieces of a following: the starting table, if it is asked for, and frames from the start on, each known of the
 -- history as it was at some time.

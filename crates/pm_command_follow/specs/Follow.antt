@@ -21,7 +21,8 @@ use Rattle.pm_read_schema.specs.Trace as reader
 use Rattle.pm_read_schema.specs.declared.phase.Phase.TheVariants as readers
 use Rattle.pm_read_latest.specs.AllCalls.{DidLatest}
 use Rattle.pm_scan.specs.AllCalls as scanner
-use Rattle.pm_scan.specs.AllCalls.{asked_at, path_of}
+use Rattle.pm_scan.specs.AllCalls.{path_of}
+use Rattle.pm_scan.specs.Asked.{passed_at}
 use Rattle.pm_read_frame.specs.AllCalls.{DidFrame}
 use Rattle.pm_command.specs.Outside.{ImagesRest, Outside, Rests}
 use Rattle.pm_command_follow.specs.Printed.{count_from, follow_text, start_of, table_head, text_so_far}
@@ -59,13 +60,13 @@ abbrev pub Starts : TableSchema → Option ℕ → ℕ → List Event → Type 0
 Starts s from start own = (latest : ℕ) × Then (HasSchema s) (DidLatest (Ok latest)) own
     × (start ≡ start_of from latest) × (1 ≤ start) × (start ≤ suc latest)
 
--- The calls for the starting table, at one below the start, by what was made of them: its rows were read, and this is
--- its text; or they show a refusal, or memory ran out for the text.
+-- The calls for the starting table, the one that is passed on at one below the start, by what was made of them: its
+-- rows were read, and this is its text; or they show a refusal, or memory ran out for the text.
 abbrev pub DidTable : TableSchema → ℕ → Result (List ℕ) Refusal → List Event → Type 0
-DidTable s start (Ok text) own = (rows : List ℕ) × scanner.Ends (asked_at s (Some (start - 1))) (Ok rows) own
+DidTable s start (Ok text) own = (rows : List ℕ) × scanner.Ends (passed_at s (start - 1)) (Ok rows) own
     × (text ≡ table_head (start - 1) ++ rows)
-DidTable s start (Err e) own = scanner.Ends (asked_at s (Some (start - 1))) (Err e) own
-    ⊎ ((e ≡ refusals.Memory) × (rows : List ℕ) × scanner.Ends (asked_at s (Some (start - 1))) (Ok rows) own)
+DidTable s start (Err e) own = scanner.Ends (passed_at s (start - 1)) (Err e) own
+    ⊎ ((e ≡ refusals.Memory) × (rows : List ℕ) × scanner.Ends (passed_at s (start - 1)) (Ok rows) own)
 
 -- it was read where it is asked for, and this is its text
 abbrev pub ReadsTable : TableSchema → Bool → ℕ → List ℕ → List Event → Type 0

@@ -58,15 +58,15 @@ abbrev pub rows_in : List (List HistoryRow) → List HistoryRow
 rows_in changes = flat_map (λ rows. rows) changes
 
 -- What was printed of frames is these, and their rows, replayed in order on the table that was followed before them,
--- give the one that is followed at the last. With the producer of inputs the rows fit the schema, and no others that
--- fit it have this text; so whoever reads its lines by the schema has these rows.
+-- give the one that is followed at the last. Where the rows fit the schema, as they do with the producer of inputs, no
+-- others that fit it have this text; so whoever reads its lines by the schema has these rows.
 pub record LeadOn (s : TableSchema) (entries : List Entry) (start last : ℕ) (text : List ℕ) : Type 0 where
   pub changes : List (List HistoryRow)
   pub frames : text ≡ frames_of start changes
   pub replayed : replay s (followed s entries (start - 1)) (rows_in changes) ≡ followed s entries last
   pub fits : s.options.producer ≡ Input → AllFit s.columns (rows_in changes)
-  pub only : s.options.producer ≡ Input → (others : List (List HistoryRow)) → AllFit s.columns (rows_in others)
-      → text ≡ frames_of start others → changes ≡ others
+  pub only : AllFit s.columns (rows_in changes) → (others : List (List HistoryRow))
+      → AllFit s.columns (rows_in others) → text ≡ frames_of start others → changes ≡ others
 
 -- What was printed is the starting table, if it is asked for, and frames behind it, which lead on to the newest
 -- snapshot. So do the first of them to each snapshot before that.

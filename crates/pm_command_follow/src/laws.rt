@@ -12,15 +12,16 @@ ghost use Rattle.pm_values.specs.declared.refusal.Refusal.TheVariants as refusal
 ghost use Rattle.pm_options.specs.declared.kinds.Producer.TheVariants.{Input};
 ghost use Rattle.pm_schema.specs.declared.schema.TableSchema.{TableSchema};
 ghost use Rattle.pm_model_history.specs.History.{Entry as Commit, rows_up_to, table};
-ghost use Rattle.pm_model_history.specs.Merged.{merged, scan_text};
+ghost use Rattle.pm_model_history.specs.Merged.{scan_text};
 ghost use Rattle.pm_draft.specs.Built.{IsBuilt};
-ghost use Rattle.pm_model_following.specs.Following.{followed, table_text};
+ghost use Rattle.pm_model_following.specs.Following.{IsFinished, table_text};
 ghost use Rattle.pm_model_folder.specs.Folder.{HasTable};
 ghost use Rattle.pm_read_frame.specs.Frames.{joined};
 ghost use Rattle.pm_store.specs.Files.{Files};
 ghost use Rattle.pm_command_follow.specs.Answer.{IsUnshown};
 ghost use Rattle.pm_command_follow.specs.Beside.{ArePieces, IsFirstOf};
 ghost use Rattle.pm_command_follow.specs.Complete.{MayPrintAll, PrintsAll};
+ghost use Rattle.pm_command_follow.specs.Finished.{HasPassedAll};
 ghost use Rattle.pm_command_follow.specs.Follow.{Ends, FollowsAny, FollowsTable, IsFollowed, MayStartAt, TellsChanges};
 ghost use Rattle.pm_command_follow.specs.Printed.{LeadFrom, LeadOn, count_from, follow_text, frames_text, start_of};
 ghost use Rattle.pm_command_follow.specs.Printed.{table_head};
@@ -29,7 +30,7 @@ use pm_avro_file::one_opening_law;
 use pm_draft::built_law;
 use pm_manifest::{Entry, ManifestMeta, joined_law};
 use pm_model_contents::one_runs_law;
-use pm_model_following::{finished_law, frames_law, kept_law};
+use pm_model_following::{frames_law, kept_law};
 use pm_record::one_reading_law;
 use pm_rows::{line_law, round_trip_law};
 use pm_run::one_list_law;
@@ -44,7 +45,6 @@ pub fn follow_law()
     pm_read_latest::all_calls_law();
     pm_scan::all_calls_law();
     pm_read_frame::all_calls_law();
-    finished_law();
     built_law();
     schema_law();
     declared_law();
@@ -52,8 +52,9 @@ pub fn follow_law()
 
 /// Whoever replays the rows of the frames from one snapshot to another, in order, on the table that was followed before
 /// them has the table that is followed at the last. All that is printed is the starting table, if it is asked for, and
-/// such frames. With the producer of inputs the table that is followed at a snapshot is the merged one, which a scan of
-/// that snapshot prints; and so are the starting table's rows printed.
+/// such frames. Where a snapshot is finished, the table that is followed at it is the merged one, which a scan of that
+/// snapshot prints; and so are the starting table's rows printed. It is where all rows up to it are passed on; with the
+/// producer of inputs they always are.
 pub fn replay_law()
     ensures replayed { (f : Files) (s : TableSchema) (entries : List Commit) (start last : ℕ) → HasTable f s entries
         → TellsChanges s → 1 ≤ start → start ≤ suc last
@@ -61,15 +62,17 @@ pub fn replay_law()
     ensures printed { (f : Files) (s : TableSchema) (entries : List Commit) (from : Option ℕ) (full : Bool)
         → HasTable f s entries → MayStartAt s entries from → 1 ≤ start_of from (length entries)
         → LeadFrom s entries from full (follow_text s entries from full) }
-    ensures scanned { (s : TableSchema) (entries : List Commit) (last : ℕ) → s.options.producer ≡ Input
-        → followed s entries last ≡ merged s (rows_up_to entries last) }
-    ensures starting { (s : TableSchema) (entries : List Commit) (id : ℕ) → s.options.producer ≡ Input
+    ensures finished { (f : Files) (s : TableSchema) (entries : List Commit) (last : ℕ) → HasTable f s entries
+        → last ≤ length entries → HasPassedAll s entries last → IsFinished s entries last }
+    ensures input { (s : TableSchema) (entries : List Commit) (last : ℕ) → s.options.producer ≡ Input
+        → HasPassedAll s entries last }
+    ensures starting { (s : TableSchema) (entries : List Commit) (id : ℕ) → IsFinished s entries id
         → table_text s entries id ≡ table_head id ++ scan_text s (rows_up_to entries id) }
 {
     round_trip_law();
     line_law();
     frames_law();
-    finished_law();
+    kept_law();
     schema_law();
     declared_law();
 }
@@ -102,7 +105,6 @@ pub fn pieces_law()
 {
     pm_read_frame::frames_law();
     kept_law();
-    finished_law();
 }
 
 /// The same calls show one answer at most, but that memory may have run out and that the sink may have failed. So each

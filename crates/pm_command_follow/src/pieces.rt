@@ -1,10 +1,11 @@
 //! The pieces of what `follow` prints, each read and then printed.
 
-ghost use Rattle.std.specs.Prelude.{◌≡◌, ◌++◌, ◌≤◌, IfOk, Some};
+ghost use Rattle.std.specs.Prelude.{◌≡◌, ◌++◌, ◌≤◌, IfOk};
 ghost use Rattle.std.specs.Result.{result_err};
 ghost use Rattle.pm_io.specs.Sink.{SinkLater};
 ghost use Rattle.pm_machine.specs.Trace.{HasTrace};
-ghost use Rattle.pm_scan.specs.AllCalls.{Ends, asked_at, text_in};
+ghost use Rattle.pm_scan.specs.AllCalls.{Ends, text_in};
+ghost use Rattle.pm_scan.specs.Asked.{passed_at};
 ghost use Rattle.pm_schema.specs.Again.{IsDeclared};
 ghost use Rattle.pm_snapshot.specs.Names.{greatest};
 ghost use Rattle.pm_store.specs.Store.{IsLater};
@@ -17,13 +18,13 @@ use pm_command::print;
 use pm_engines::declared_law;
 use pm_io::Sink;
 use pm_read_frame::read_frame;
-use pm_scan::scan_table;
+use pm_scan::scan_passed;
 use pm_schema::TableSchema;
 use pm_store::FileStore;
 use pm_values::Refusal;
 use std::alloc::{AllocError, Global};
 
-/// Prints the starting table, as it is at one below the start.
+/// Prints the starting table, the one that is passed on at one below the start.
 pub(crate) fn print_table<W: Sink, F: FileStore>(
     alloc: Global,
     schema: &TableSchema,
@@ -55,28 +56,28 @@ fn read_table<F: FileStore>(
     ensures later { IsLater (F.seen store.old) (F.seen store.new) }
 {
     let below = start - 1;
-    let rows = scan_at(alloc, schema, below, store)?;
+    let rows = read_passed(alloc, schema, below, store)?;
     match with_head(rows, below) {
         Ok(text) => Ok(text),
         Err(_) => Err(Refusal::Memory),
     }
 }
 
-/// The scan of the table at this snapshot.
-fn scan_at<F: FileStore>(
+/// The rows of the table that is passed on at this snapshot.
+fn read_passed<F: FileStore>(
     alloc: Global,
     schema: &TableSchema,
     id: u64,
     store: &mut F,
 ) -> Result<Vec<u8>, Refusal>
     requires declared { IsDeclared schema.now }
-    ensures trace { HasTrace (Ends (asked_at schema.now (Some id)) (text_in result)) (F.seen store.old)
+    ensures trace { HasTrace (Ends (passed_at schema.now id) (text_in result)) (F.seen store.old)
         (F.seen store.new) }
     ensures later { IsLater (F.seen store.old) (F.seen store.new) }
 {
     declared_law();
     match schema.copy(alloc) {
-        Ok(schema) => scan_table(alloc, schema, Some(id), store),
+        Ok(schema) => scan_passed(alloc, schema, id, store),
         Err(_) => Err(Refusal::Memory),
     }
 }

@@ -18,7 +18,8 @@ use Rattle.pm_read_schema.specs.Beside.{AnyPast, Learns}
 use Rattle.pm_read_schema.specs.Trace as reader
 use Rattle.pm_draft.specs.Built.{IsBuilt}
 use Rattle.pm_scan.specs.AllCalls as scanner
-use Rattle.pm_scan.specs.AllCalls.{asked_at, id_of, path_of, PrintsScan}
+use Rattle.pm_scan.specs.AllCalls.{id_of, path_of, PrintsScan}
+use Rattle.pm_scan.specs.Asked.{asked_at}
 use Rattle.pm_scan.specs.Meaning.{IsScan}
 use Rattle.pm_scan.specs.Trace.{HasScan}
 use Rattle.pm_command.specs.Outside.{ImagesRest, Outside, Prints, Rests}

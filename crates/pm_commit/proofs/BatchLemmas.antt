@@ -13,7 +13,7 @@ use Rattle.pm_schema.specs.declared.schema.TableSchema.{TableSchema}
 use Rattle.pm_model_history.specs.Merge.{HistoryRow}
 use Rattle.pm_write.specs.Batch.{GroupRows, Groups, IsBatchOf, held_of}
 use Rattle.pm_made.proofs.IntentLemmas.{few-appended}
-use Rattle.pm_append.specs.Commit.{IsBuilt}
+use Rattle.pm_append.specs.Commit.{HasOneGroup}
 use Rattle.pm_append.proofs.EntryLemmas.{held-only, only, own-held}
 use Rattle.pm_made.specs.declared.newest.Author.{Author}
 use Rattle.pm_commit.specs.Own.{IsOwn, new_own}
@@ -25,7 +25,7 @@ pub record BatchLaw : Type 0 where
   pub folders : (s : TableSchema) (rows : List HistoryRow) (batch : Groups) → s.partition ≡ [] → IsBatchOf s rows batch
       → AllByRecursion (λ (e : Group × GroupRows). FitsPartition s e.0) batch
 
-each-only : (s : TableSchema) (rows : List HistoryRow) (batch : Groups) → IsBuilt s → IsBatchOf s rows batch → (es : Groups)
+each-only : (s : TableSchema) (rows : List HistoryRow) (batch : Groups) → HasOneGroup s → IsBatchOf s rows batch → (es : Groups)
     → AllByRecursion (λ (e : Group × GroupRows). held_of e.0 batch ≡ Some e.1) es → AllByRecursion (λ (e : Group × GroupRows). e.0 ≡ only) es
 each-only s rows batch built is [] held = tt
 each-only s rows batch built is (e ∷ es) (first, rest) = (
@@ -46,7 +46,7 @@ count-one (e ∷ d ∷ es) some (first, rest) (one, (two, others)) =
 
 -- ---- a new commit
 
-pub new-is-own : BatchLaw → (s : TableSchema) (rows : List HistoryRow) (batch : Groups) (author : Author) (check : Bool) (names : Naming) → IsBuilt s
+pub new-is-own : BatchLaw → (s : TableSchema) (rows : List HistoryRow) (batch : Groups) (author : Author) (check : Bool) (names : Naming) → HasOneGroup s
     → IsBatchOf s rows batch → batch ≢ [] → author.base ≡ 0 → names.count ≤ 2 ^ 61 → IsOwn s (new_own batch author check names)
 new-is-own law s rows batch author check names built is some first count = record {
   built = built;

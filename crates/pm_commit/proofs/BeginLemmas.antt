@@ -1,5 +1,5 @@
 -- A compaction begins with its first try made, while its files of rows are yet to be created.
-use Rattle.std.proofs.Common.{◌≡◌, inl, inr, ℕ, ◌+◌, ◌<◌, ◌≤◌, ◌^◌, List, [], ◌∷◌, ◌++◌, length, map as each, Option, None, Some, IfSome, refl, sym, ap, subst, arith}
+use Rattle.std.proofs.Common.{◌≡◌, inl, inr, ℕ, ◌+◌, ◌<◌, ◌≤◌, ◌^◌, List, [], ◌∷◌, ◌++◌, length, map as each, Option, None, Some, option_to_list, IfSome, refl, sym, ap, subst, arith}
 use Rattle.std.specs.FinMap as map
 use Rattle.std.specs.List.{AllByRecursion, flat_map}
 use Rattle.pm_base.proofs.Laws.{AllByRecursion-append}
@@ -14,14 +14,14 @@ use Rattle.pm_model_folder.specs.Changes.{Actor, IsOwnFile, its_file}
 use Rattle.pm_model_folder.specs.Ledger.{Advances, HasNamedNone, Past, Stands}
 use Rattle.pm_put.proofs.Facts.{next_left, put-more}
 use Rattle.pm_put.specs.declared.putting.CommitFile.{CommitFile}
-use Rattle.pm_append.specs.Commit.{IsBuilt}
+use Rattle.pm_append.specs.Commit.{HasOneGroup}
 use Rattle.pm_made.specs.declared.intent.Intent.{Intent}
 use Rattle.pm_made.specs.declared.intent.Intent.TheVariants as intents
 use Rattle.pm_made.specs.declared.intent.Plan.{Plan}
 use Rattle.pm_made.specs.declared.newest.Author.{Author}
 use Rattle.pm_made.specs.declared.newest.Newest.{Newest}
 use Rattle.pm_made.proofs.FileCountLemmas.{made-few}
-use Rattle.pm_compaction.specs.Plan.{KnowsPlan, RewrittenGroup, group_file, made_files}
+use Rattle.pm_compaction.specs.Plan.{KnowsPlan, RewrittenGroup, ToldGroup, group_file, made_files, told_files}
 use Rattle.pm_commit.specs.Committer.{Begins, IsCommitter, calls_left, first_of_put, most_calls, publishing_of}
 use Rattle.pm_commit.specs.Meaning.{AreThere, IsFoundIn, KnowsBut, KnowsOwn, MakesEntry, MakesFile, MakesIn, MakesOwn, PlannedIn, WasGiven, own_in}
 use Rattle.pm_commit.specs.Own.{IsOwn, IsTried, OwnView, actor_of, own_for_plan, with_named}
@@ -38,7 +38,7 @@ use Rattle.pm_commit.proofs.StillLemmas.{IsHeld, IsMadeBy, OwnFiles, OwnGiven, W
 
 -- ---- it begins
 
-pub plan-own : (s : TableSchema) (author : Author) (plan : Plan) (names : Naming) → IsBuilt s → names.base ≡ author.base → names.count ≤ 2 ^ 61
+pub plan-own : (s : TableSchema) (author : Author) (plan : Plan) (names : Naming) → HasOneGroup s → names.base ≡ author.base → names.count ≤ 2 ^ 61
     → IsOwn s (own_for_plan plan author names)
 plan-own s author plan names built based count = record {
   built = built;
@@ -101,12 +101,19 @@ groups-in s [] flat = tt
 groups-in s (x ∷ groups) flat =
     AllByRecursion-append IsInTable (made_files s x) (flat_map (made_files s) groups) (files-in s x.group x.files flat) (groups-in s groups flat)
 
+told-in : (s : TableSchema) (told : List ToldGroup) → s.partition ≡ [] → AllByRecursion IsInTable (flat_map (told_files s) told)
+told-in s [] flat = tt
+told-in s (y ∷ told) flat =
+    AllByRecursion-append IsInTable (told_files s y) (flat_map (told_files s) told) (files-in s y.group (option_to_list y.file) flat) (told-in s told flat)
+
 given-in : (intent : Intent) (me : Actor) (base : ℕ) (given : List CommitFile) (p : Past) (s : TableSchema) → IsTableOf s p.history → s.partition ≡ []
     → PlannedIn intent me base given p → AllByRecursion IsInTable given
 given-in (intents.Append batch) me base given p s is flat none = subst (AllByRecursion IsInTable) (sym none) tt
 given-in (intents.Compact plan) me base given p s is flat (t, knows) =
+    let none : t.partition ≡ [] = subst (λ (t : TableSchema). t.partition ≡ []) (one-table s t p.history is knows.table) flat in
     subst (AllByRecursion IsInTable) (sym knows.given_are)
-    (groups-in t knows.groups (subst (λ (t : TableSchema). t.partition ≡ []) (one-table s t p.history is knows.table) flat))
+    (AllByRecursion-append IsInTable (flat_map (made_files t) knows.groups) (flat_map (told_files t) knows.told) (groups-in t knows.groups none)
+    (told-in t knows.told none))
 given-in (intents.Fence number) me base given p s is flat none = absurd none
 
 module _ (law : OwnGiven) (own_files : OwnFiles) (e : Entry) (given done left : List CommitFile) (file : CommitFile) (f after : Files) (p : Past)

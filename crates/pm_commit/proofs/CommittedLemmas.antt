@@ -114,7 +114,7 @@ compacted-held same f g s newest author plan has own held =
       );
       delta = entries-held f g s c.delta (entries_of (delta_of_plan plan)) (λ meta h. at meta (Contains-append_right c.base c.delta meta h)) has.delta;
       live = has.live;
-      untold = has.untold;
+      tells = has.tells;
       unlisted = has.unlisted;
     }
 

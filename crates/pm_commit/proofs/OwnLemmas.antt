@@ -16,7 +16,7 @@ use Rattle.pm_made.specs.declared.intent.Intent.{Intent}
 use Rattle.pm_made.specs.declared.intent.Intent.TheVariants as intents
 use Rattle.pm_made.specs.declared.newest.Author.{Author}
 use Rattle.pm_made.specs.declared.newest.Newest.{Newest}
-use Rattle.pm_append.specs.Commit.{IsBuilt}
+use Rattle.pm_append.specs.Commit.{HasOneGroup}
 use Rattle.pm_commit.specs.Meaning.{PlannedIn}
 use Rattle.pm_commit.specs.Own.{IsAppend, IsNoAppend}
 
@@ -57,5 +57,5 @@ none-taken newest author (intents.Fence number) file reason is = is
 
 -- ---- a table that is built
 
-pub plain-names : (s : TableSchema) → IsBuilt s → HavePlainNames s
+pub plain-names : (s : TableSchema) → HasOneGroup s → HavePlainNames s
 plain-names s built = subst (λ (names : List (List ℕ)). AllByRecursion (AllByRecursion (λ (c : ℕ). c ≢ 47)) names) (sym built.no_partition) tt

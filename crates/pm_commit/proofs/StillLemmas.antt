@@ -16,7 +16,7 @@ use Rattle.pm_read_table.specs.Asked.{Asked}
 use Rattle.pm_read_table.specs.Meaning.{IsViewIn, view_origin, view_snapshot}
 use Rattle.pm_read_table.specs.declared.view.View.{View}
 use Rattle.pm_read_table.proofs.Facts as reader_facts
-use Rattle.pm_append.specs.Commit.{IsBuilt}
+use Rattle.pm_append.specs.Commit.{HasOneGroup}
 use Rattle.pm_made.specs.Commit.{Attempt, MakesNames}
 use Rattle.pm_made.specs.Files.{IsMadeOf}
 use Rattle.pm_made.specs.declared.intent.Intent.{Intent}
@@ -45,7 +45,7 @@ OthersNone = (me other : Actor) (f after : Files) (p q : Past) → Stands f p �
 
 -- what the law of a commit's own files says
 abbrev pub OwnFiles : Type 0
-OwnFiles = (me : Actor) (s : TableSchema) (t : Attempt) → IsBuilt s → MakesNames me t → IsMadeOf s t.newest t.author t.intent t.names t.made
+OwnFiles = (me : Actor) (s : TableSchema) (t : Attempt) → HasOneGroup s → MakesNames me t → IsMadeOf s t.newest t.author t.intent t.names t.made
     → AllByRecursion (λ (file : CommitFile). IsOwnFile me t.author.base file.path) t.made.files.items
 
 -- it is of each table whose partition columns have plain names
@@ -65,7 +65,7 @@ abbrev pub IsMadeBy : Actor → ℕ → CommitFile → Type 0
 IsMadeBy me base file = IsOwnFile me base file.path
 
 -- so is each file of a try, with the commit's
-tried-made : OwnFiles → (own : OwnView) (s : TableSchema) (t : Attempt) → t.author ≡ own.author → IsBuilt s → MakesNames (actor_of own) t
+tried-made : OwnFiles → (own : OwnView) (s : TableSchema) (t : Attempt) → t.author ≡ own.author → HasOneGroup s → MakesNames (actor_of own) t
     → IsMadeOf s t.newest t.author t.intent t.names t.made → AllByRecursion (IsMadeBy (actor_of own) own.author.base) t.made.files.items
 tried-made own_files own s t same built names made =
     subst (λ (author : Author). AllByRecursion (IsMadeBy (actor_of own) author.base) t.made.files.items) same
@@ -221,7 +221,7 @@ planned-still law (intents.Compact plan) me other base given f after p q advance
     (s, law me other f after p q s base plan given advances knows)
 planned-still law (intents.Fence number) me other base given f after p q advances is = absurd is
 
-pub given-own : OwnGiven → (intent : Intent) (me : Actor) (base : ℕ) (given : List CommitFile) (p : Past) (s : TableSchema) → IsTableOf s p.history → IsBuilt s
+pub given-own : OwnGiven → (intent : Intent) (me : Actor) (base : ℕ) (given : List CommitFile) (p : Past) (s : TableSchema) → IsTableOf s p.history → HasOneGroup s
     → PlannedIn intent me base given p → AllByRecursion (IsMadeBy me base) given
 given-own law (intents.Append batch) me base given p s is built none = subst (AllByRecursion (IsMadeBy me base)) (sym none) tt
 given-own law (intents.Compact plan) me base given p s is built (t, knows) =
@@ -230,13 +230,13 @@ given-own law (intents.Fence number) me base given p s is built none = absurd no
 
 -- a commit of a table that is built, of which this is known
 abbrev pub IsHeld : Entry → Past → OwnView → Type 0
-IsHeld e p own = (s : TableSchema) × IsBuilt s × KnowsOwn own e s p
+IsHeld e p own = (s : TableSchema) × HasOneGroup s × KnowsOwn own e s p
 
 pub held-in : (e : Entry) (m : Phase) (f : Files) (p : Past) → IsCommitter m → KnowsIn e m f p → IfSome (own_in m) (IsHeld e p)
 held-in e (phases.Names own s) f p (own_of, appends) known = (s, own_of.built, known)
 held-in e (phases.View own m) f p (left, (t, reads_t, own_of), may) (s, reads, known, reading, origin) =
     let same : t ≡ s = ap (λ (a : Asked). a.schema) (asked-same (newest_of t) (newest_of s) (sym reads_t.asked ∙ reads.asked)) in
-    (s, subst IsBuilt same own_of.built, known)
+    (s, subst HasOneGroup same own_of.built, known)
 held-in e (phases.Search own q) f p (may, few, ids) (known, is_found) = (q.found.schema, may.own_of.built, known)
 held-in e (phases.Put own s id m) f p (tried, some, few) (known, is_try) = (s, tried.built, known)
 held-in e (phases.Committed author id) f p is known = tt

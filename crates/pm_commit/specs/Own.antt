@@ -10,7 +10,7 @@ use Rattle.pm_made.specs.declared.intent.Intent.{Intent}
 use Rattle.pm_made.specs.declared.intent.Intent.TheVariants as intents
 use Rattle.pm_made.specs.declared.intent.Plan.{Plan}
 use Rattle.pm_made.specs.declared.newest.Author.{Author}
-use Rattle.pm_append.specs.Commit.{IsBuilt}
+use Rattle.pm_append.specs.Commit.{HasOneGroup}
 
 -- what a commit is for and by whom, whether an earlier commit of the user is looked for, the maker of names, and the
 -- ids that tries lost to others
@@ -104,7 +104,7 @@ file_limit = 2 ^ 40
 -- A commit of a table that is built, after so many tries that took names: it appends or compacts, its groups fit the
 -- table, an append has one of them, its base is that of its names, and there are names and tries enough.
 pub record IsOwnAfter (tried : ℕ) (s : TableSchema) (own : OwnView) : Type 0 where
-  pub built : IsBuilt s
+  pub built : HasOneGroup s
   pub made_for : IsMadeFor own.intent
   pub fits : FitsGroups s own.intent
   pub one_group : AppendsOneGroup own.intent

@@ -7,9 +7,10 @@ ghost use Rattle.pm_made.specs.declared.intent.Intent.TheVariants as intents;
 ghost use Rattle.pm_model_history.specs.Merge.{HistoryRow};
 ghost use Rattle.pm_store.specs.Store.{IsLater};
 ghost use Rattle.pm_write.specs.Batch.{IsBatchOf};
-ghost use Rattle.pm_append.specs.Commit.{IsBuilt};
+ghost use Rattle.pm_append.specs.Commit.{HasOneGroup};
 ghost use Rattle.pm_commit.specs.Alone.{CommitterAlone};
-ghost use Rattle.pm_commit.specs.Committer.{calls_left, most_calls, reached_at, AreNumbered, Begins, IsCommitter, Reaches};
+ghost use Rattle.pm_commit.specs.Committer.{calls_left, most_calls, reached_at};
+ghost use Rattle.pm_commit.specs.Committer.{AreNumbered, Begins, IsCommitter, Reaches};
 ghost use Rattle.pm_commit.specs.Meaning.{CommitterMoved};
 ghost use Rattle.pm_commit.specs.Own.{new_author, new_own};
 ghost use Rattle.pm_commit.specs.Trace.{CommitterActed};
@@ -53,7 +54,7 @@ pub fn new_committer(
     names: Names,
     now_millis: i64,
 ) -> Committer
-    requires built { IsBuilt schema }
+    requires built { HasOneGroup schema }
     requires read { (rows : List HistoryRow) × IsBatchOf schema rows batch }
     requires some { batch ≢ [] }
     requires count { names.count ≤ 2 ^ 61 }
@@ -77,7 +78,7 @@ pub fn new_compaction(
     plan: Plan,
     names: Names,
 ) -> Result<Committer, Refusal>
-    requires built { IsBuilt schema }
+    requires built { HasOneGroup schema }
     requires numbers { AreNumbered newest.live.items }
     requires based { (author.base ≡ newest.id) × (names.base ≡ newest.id) }
     requires count { names.count ≤ 2 ^ 61 }

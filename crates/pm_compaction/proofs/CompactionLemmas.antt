@@ -1,17 +1,24 @@
 -- A compaction that is ready and published adds its entry, and each group's runs go on.
-use Rattle.std.proofs.Common.{◌≡◌, ◌≢◌, inl, inr, ℕ, pos, suc, ◌+◌, ◌≤◌, int_lt, Bool, true, false, true≢false, not, List, [], ◌∷◌, ◌++◌, map, length, Option, None, Some, IsSome, Contains, refl, sym, ap, subst, ◌∙◌, arith}
+use Rattle.std.proofs.Common.{◌≡◌, ◌≢◌, inl, inr, ℕ, pos, suc, ◌+◌, ◌≤◌, int_lt, Bool, true, false, true≢false, not, List, [], ◌∷◌, ◌++◌, map, length, Option, None, Some, IsSome, option_to_list, Contains, refl, sym, ap, subst, ◌∙◌, arith}
 use Rattle.std.specs.FinMap as finite
-use Rattle.std.specs.List.{AllByRecursion}
+use Rattle.std.specs.List.{AllByRecursion, flat_map}
 use Rattle.std.specs.List.Sorted.{IsStrictlySortedBy}
+use Rattle.std.proofs.lemmas.List.Elements.{Contains-append_left, Contains-append_right}
+use Rattle.pm_base.proofs.Laws.{AllByRecursion-parts}
 use Rattle.pm_store.specs.Files.{Files, Puts}
 use Rattle.pm_values.specs.GroupOrder.{group_cmp}
+use Rattle.pm_values.specs.Fits.{Fits}
 use Rattle.pm_values.specs.Names.{Naming}
 use Rattle.pm_values.specs.declared.file_meta.FileMeta.{FileMeta}
 use Rattle.pm_values.specs.declared.group.Group.{Group}
+use Rattle.pm_values.specs.declared.record.Stamped.{Stamped}
 use Rattle.pm_model_history.specs.History.{Entry, IsTableOf, compaction, entry_rows, table}
-use Rattle.pm_model_following.specs.Following.{HaveBases, base_of}
+use Rattle.pm_model_history.specs.Merge.{AllFit, HistoryRow}
+use Rattle.pm_model_following.specs.Following.{HaveBases, base_of, change}
 use Rattle.pm_model_following.specs.Groups.{rows_in}
+use Rattle.pm_schema.specs.Rules.{partition_holds}
 use Rattle.pm_schema.specs.declared.schema.TableSchema.{TableSchema}
+use Rattle.pm_model_changelog.specs.Log.{compaction_log}
 use Rattle.pm_run.specs.declared.run.RunFile.{RunFile}
 use Rattle.pm_levels.specs.Runs.{files_of}
 use Rattle.pm_manifest.specs.Live.{Live}
@@ -21,11 +28,11 @@ use Rattle.pm_model_contents.specs.Lists.{HaveEntries}
 use Rattle.pm_model_folder.specs.Changes.{Actor}
 use Rattle.pm_model_folder.specs.Commits.{HasCommit, IsCommit, live_in}
 use Rattle.pm_model_folder.specs.Entries.{AreLive, fence_at}
-use Rattle.pm_model_folder.specs.Folder.{IsEntryAfter}
+use Rattle.pm_model_folder.specs.Folder.{IsEntryAfter, IsRowOf}
 use Rattle.pm_model_folder.specs.Ledger.{HasNamedNone, KnowsTable, Past, Stands, count_of}
 use Rattle.pm_model_folder.specs.Paths.{snapshot_path}
 use Rattle.pm_model_folder.specs.Runs.{view_of}
-use Rattle.pm_model_folder.specs.Stored.{HasGroup, HoldsChange}
+use Rattle.pm_model_folder.specs.Stored.{HasFile, HasGroup, HoldChanges, HoldsChange, entries_in}
 use Rattle.pm_model_folder.proofs.Facts.{rows-append}
 use Rattle.pm_model_folder.proofs.HoldLemmas.{Holds, OneContents, SameContents}
 use Rattle.pm_model_folder.proofs.LedgerFacts.{count-is, is-table}
@@ -33,7 +40,7 @@ use Rattle.pm_model_folder.proofs.RunFacts.{hold-held}
 use Rattle.pm_put.specs.Meaning.{IsPut}
 use Rattle.pm_put.specs.declared.putting.CommitFile.{CommitFile}
 use Rattle.pm_runs.specs.Stand.{top_of}
-use Rattle.pm_runs.specs.Succession.{StillStands, unchanged}
+use Rattle.pm_runs.specs.Succession.{IsTaken, KnownRun, StillStands, unchanged}
 use Rattle.pm_compact.specs.Made.{metas_of}
 use Rattle.pm_choice.specs.Choice.{live_entry}
 use Rattle.pm_made.specs.Commit.{Attempt, IsAsMade, IsReady}
@@ -47,20 +54,21 @@ use Rattle.pm_made.specs.declared.intent.Intent.TheVariants as intents
 use Rattle.pm_made.specs.declared.intent.Plan.{Plan}
 use Rattle.pm_made.specs.declared.newest.Newest.{Newest}
 use Rattle.pm_made.proofs.AllowedLemmas.{allowed-of}
-use Rattle.pm_made.proofs.ListLemmas.{all-of, each-of, in-map, map-in, none-found}
+use Rattle.pm_made.proofs.ListLemmas.{all-of, all-weaker, each-of, in-map, map-in, none-found}
 use Rattle.pm_made.proofs.ListedLemmas.{unlisted}
 use Rattle.pm_made.proofs.OldLemmas.{puts-holds}
 use Rattle.pm_made.proofs.StandLemmas.{GroupAfter, OneRuns, SuccessionGoesOn, group-stands}
 use Rattle.pm_compaction.specs.Compacted.{GoesOnWith, HasCompacted}
-use Rattle.pm_compaction.specs.Plan.{IsRewrittenAt, KnowsPlan, RewrittenGroup, comes_of, goes_of, group_file, made_files, named_group}
-use Rattle.pm_compaction.proofs.ChangeLemmas.{holds-none}
+use Rattle.pm_compaction.specs.Plan.{IsRewrittenAt, IsToldAt, KnowsPlan, RewrittenGroup, ToldGroup, comes_of, goes_of, group_file, made_files, named_group, tells_of, told_files}
+use Rattle.pm_compaction.proofs.ChangeLemmas.{ChangeFacts, other-part, own-part}
 use Rattle.pm_compaction.proofs.DeltaLemmas.{IsDeltaFor, delta-for}
 use Rattle.pm_compaction.proofs.GroupLemmas.{GroupsTie, named-base, one-group, other-base, part-base, rising, which, whole-base, group_in}
 use Rattle.pm_compaction.proofs.ListLemmas.{flat-in, in-flat}
 use Rattle.pm_compaction.proofs.LiveLemmas.{same-runs}
 use Rattle.pm_compaction.proofs.NewestLemmas.{FoundNewest, found, known, old-runs, own-numbered, own-runs, stood}
-use Rattle.pm_compaction.proofs.ReplacedLemmas.{GroupFacts, group-after}
+use Rattle.pm_compaction.proofs.ReplacedLemmas.{GroupFacts, group-after, no-above}
 use Rattle.pm_compaction.proofs.RewrittenLemmas.{StillHolds, live-files, took-there}
+use Rattle.pm_compaction.proofs.ToldLemmas.{LogFacts, adding-told, file-there, holds-told, none-in, rewritten-of, told-in, told-of, told-rising, told_in}
 
 -- what the laws of lower crates say
 pub record Facts : Type 0 where
@@ -71,6 +79,8 @@ pub record Facts : Type 0 where
   pub one_runs : OneRuns
   pub still : StillHolds
   pub goes_on : SuccessionGoesOn
+  pub change : ChangeFacts
+  pub log : LogFacts
   pub commit : (me : Actor) (f after : Files) (s : TableSchema) (entries : List Entry) (e : Entry) (t : Attempt) → (ready : IsReady me f s entries e t)
       → finite.get f (snapshot_path (suc (length entries))) ≡ None → Puts f (snapshot_path (suc (length entries))) (Some t.made.text) after
       → (made : IsAsMade after s (suc (length entries)) t ready.made)
@@ -106,7 +116,7 @@ module _ (facts : Facts) (me : Actor) (f after : Files) (p : Past) (s : TableSch
     (knows : KnowsPlan me s t.author.base plan given p) (put : AllByRecursion (IsPut f) given) (is : t.intent ≡ intents.Compact plan)
     (ready : IsReady me f s entries e t) (absent : finite.get f (snapshot_path (suc (length entries))) ≡ None)
     (puts : Puts f (snapshot_path (suc (length entries))) (Some t.made.text) after) (made : IsAsMade after s (suc (length entries)) t ready.made)
-    (above : int_lt (fence_at entries (length entries)) (pos t.author.base) ≡ true) where
+    (above : int_lt (fence_at entries (length entries)) (pos t.author.base) ≡ true) (partition : partition_holds s ≡ true) where
   abbrev k : ℕ
   k = length entries
 
@@ -159,6 +169,10 @@ module _ (facts : Facts) (me : Actor) (f after : Files) (p : Past) (s : TableSch
   pub entry-after : IsEntryAfter s entries e
   entry-after = subst (IsEntryAfter s entries) (sym e-is) (least, to, some-groups, above, knows.rise)
 
+  fits : AllFit s.columns (flat_map entry_rows (entries ++ e ∷ []))
+  fits = all-weaker (IsRowOf s) (λ (r : HistoryRow). Fits s.columns r.1) (λ r is_row. is_row.fits) (flat_map entry_rows (entries ++ e ∷ []))
+      (rows-append s entries e ready.folder.history entry-after).rows
+
   high : 1 ≤ top_of s
   high = at xs knows.some knows.each
     where
@@ -193,6 +207,12 @@ module _ (facts : Facts) (me : Actor) (f after : Files) (p : Past) (s : TableSch
   none-gone = subst (λ (i : Intent). first_not_live es (removed_of i) ≡ None) is (allowed-of t.newest t.author t.intent ready.allowed).live
 
   -- ---- the plan's files
+
+  -- each that was created is still there
+  given-put : (file : CommitFile) → Contains (flat_map (made_files s) xs ++ flat_map (told_files s) knows.told) file → IsPut after file
+  given-put file h =
+      let there : IsPut f file = each-of (IsPut f) given file put (subst (λ (fs : List CommitFile). Contains fs file) (sym knows.given_are) h) in
+      holds file.path (subst (λ (o : Option (List ℕ)). IsSome o) (sym there) refl) ∙ there
 
   module _ (x : RewrittenGroup) (h : Contains xs x) where
     one : (y : RewrittenGroup) → Contains xs y → y.group ≡ x.group → y ≡ x
@@ -233,9 +253,7 @@ module _ (facts : Facts) (me : Actor) (f after : Files) (p : Past) (s : TableSch
 
     files-put : AllByRecursion (IsPut after) (map (group_file s x.group) x.files)
     files-put = all-of (IsPut after) (map (group_file s x.group) x.files) (λ file there.
-        let here_f : IsPut f file = each-of (IsPut f) given file put (subst (λ (fs : List CommitFile). Contains fs file) (sym knows.given_are)
-        (flat-in (made_files s) xs x file h there)) in
-        holds file.path (subst (λ (o : Option (List ℕ)). IsSome o) (sym here_f) refl) ∙ here_f)
+        given-put file (Contains-append_left (flat_map (made_files s) xs) (flat_map (told_files s) knows.told) file (flat-in (made_files s) xs x file h there)))
 
     is-x : IsRewrittenAt me s base p x
     is-x = each-of (IsRewrittenAt me s base p) xs x knows.each h
@@ -243,12 +261,37 @@ module _ (facts : Facts) (me : Actor) (f after : Files) (p : Past) (s : TableSch
     table-known : KnowsTable f s entries p
     table-known = known facts.one_contents facts.same_contents facts.one_runs f p s entries t.newest stands was ready.folder ready.newest some
 
+    took : IsTaken s p.since (λ n. p.runs n x.group) (length entries) x.taking
+    took = took-there facts.groups.left facts.groups.read facts.groups.stored me f p s entries base table-known least knows.since to x is-x
+
     still : StillStands s x.group entries (λ n. p.runs n x.group) x.taking
-    still = facts.still f p s entries x.group x.taking newest.snapshot newest.contents stands was
-        (took-there facts.groups.left facts.groups.read facts.groups.stored me f p s entries base table-known least knows.since to x is-x)
+    still = facts.still f p s entries x.group x.taking newest.snapshot newest.contents stands was took
         (stood facts.one_contents facts.same_contents facts.one_runs f p s entries t.newest stands was ready.folder ready.newest some)
         (live-files facts.groups.left facts.groups.read facts.groups.stored me f p s entries base table-known least knows.since to x is-x facts.groups.one_id
         live0 es removed newest.live none-gone goes)
+
+    -- where it goes to the highest level all runs were taken
+    none-left : x.whole ≡ true → x.taking.rest ≡ []
+    none-left whole =
+        let levels : AllByRecursion (λ (r : KnownRun). r.level ≤ top_of s) (x.taking.taken ++ x.taking.rest) =
+        subst (AllByRecursion (λ (r : KnownRun). r.level ≤ top_of s)) took.was
+        ((table-known.runs.succession x.group).known x.taking.base took.from took.to).levels in
+        no-above (top_of s) x.taking.out x.taking.rest (is-x.whole.0 whole)
+        (AllByRecursion-parts (λ (r : KnownRun). r.level ≤ top_of s) x.taking.taken x.taking.rest levels).1 took.high
+
+    -- what is told of it is its part of the change
+    own-change : rows_in s x.group (change s (entries ++ e ∷ []) (suc (length entries))) ≡ compaction_log s x.whole (p.runs base x.group)
+    own-change =
+        let at_base : base_of false x.group e ≡ Some x.taking.base =
+        subst (λ (e : Entry). base_of false x.group e ≡ Some base) (sym e-groups) (named-base facts.tie xs base rise x h) ∙ sym (ap (λ (n : ℕ). Some n) is-x.based) in
+        own-part facts.change s entries base plan.groups.items e e-is partition fits x.group p.since (λ n. p.runs n x.group) x.taking x.whole
+        (table-known.runs.succession x.group) took still at_base
+        (λ whole. (
+          none-left whole,
+          subst (λ (e : Entry). base_of true x.group e ≡ Some base) (sym e-groups) (whole-base facts.tie xs base rise x h whole) ∙ sym (ap (λ (n : ℕ). Some n) is-x.based),
+        ))
+        (λ part. subst (λ (e : Entry). base_of true x.group e ≡ None) (sym e-groups) (part-base facts.tie xs base rise x h part))
+        ∙ ap (λ (n : ℕ). compaction_log s x.whole (p.runs n x.group)) is-x.based
 
     rewritten : GroupAfter after s entries e p live1 x.group
     rewritten = group-after facts.groups me f after p s entries e base table-known least knows.since to holds none is_table many x is-x still
@@ -284,9 +327,14 @@ module _ (facts : Facts) (me : Actor) (f after : Files) (p : Past) (s : TableSch
           own = same-runs facts.groups.one_id live0 live1 es removed added newest.live now g none-goes none-comes (map view_of (p.runs k g)) own;
           numbered = own-numbered facts.one_contents facts.same_contents facts.one_runs f p s entries t.newest stands was ready.folder ready.newest some g (map view_of (p.runs k g)) own;
           hold = hold-held f after holds s g (p.runs k g) old.hold;
-          follow = unchanged refl (subst (λ (e : Entry). base_of false g e ≡ None) (sym e-groups) (other-base facts.tie xs base rise g other))
+          follow = unchanged refl (subst (λ (e : Entry). base_of false g e ≡ None) (sym e-groups) (other-base facts.tie xs base rise false g other))
               (ap (λ (e : Entry). rows_in s g (entry_rows e)) e-is);
         }
+
+    -- nothing is told of it
+    none-change : rows_in s g (change s (entries ++ e ∷ []) (suc (length entries))) ≡ []
+    none-change = other-part facts.change s entries base plan.groups.items e e-is partition fits g
+        (λ wholly. subst (λ (e : Entry). base_of wholly g e ≡ None) (sym e-groups) (other-base facts.tie xs base rise wholly g other))
 
   pub group-goes : (g : Group) → GroupAfter after s entries e p live1 g
   group-goes g = elim (which facts.tie xs g) as (λ _. GroupAfter after s entries e p live1 g) [
@@ -301,22 +349,87 @@ module _ (facts : Facts) (me : Actor) (f after : Files) (p : Past) (s : TableSch
     follow = x.follow;
   }
 
-  untold : made.contents.changes ≡ []
-  untold = made.changes ∙ ap (λ (d : Delta). d.changes) d-is ∙ ap (λ (es : List files.Entry). map adding es) knows.untold
-
-  no-changelog : ready.made.lists.changes ≡ None
-  no-changelog = unlisted s t.newest ready.made.left (entries_of ready.made.delta) ready.made.delta.changes ready.made.lists ready.made.list_files
-      ready.made.are_manifests (ap (λ (d : Delta). d.changes) d-is ∙ ap (λ (es : List files.Entry). map adding es) knows.untold)
-
   bases : HaveBases 1 (entries ++ e ∷ [])
   bases = (rows-append s entries e ready.folder.history entry-after).bases
+
+  -- ---- the changelog
+
+  tells : made.contents.changes ≡ map adding plan.changes.items
+  tells = made.changes ∙ ap (λ (d : Delta). d.changes) d-is
+
+  abbrev ys : List ToldGroup
+  ys = knows.told
+
+  told-rise : IsStrictlySortedBy group_cmp (map told_in ys)
+  told-rise = told-rising ys plan.groups.items knows.all_told knows.rise
+
+  changes-are : made.contents.changes ≡ flat_map (tells_of s) ys
+  changes-are = tells ∙ ap (λ (es : List files.Entry). map adding es) knows.tells ∙ adding-told s ys
+
+  module _ (y : ToldGroup) (h : Contains ys y) where
+    is-y : IsToldAt me s base p y
+    is-y = each-of (IsToldAt me s base p) ys y knows.each_told h
+
+    told-put : AllByRecursion (IsPut after) (map (group_file s y.group) (option_to_list y.file))
+    told-put = all-of (IsPut after) (map (group_file s y.group) (option_to_list y.file)) (λ file there.
+        given-put file (Contains-append_right (flat_map (made_files s) xs) (flat_map (told_files s) ys) file (flat-in (told_files s) ys y file h there)))
+
+    y-there : (x : RunFile) → Contains (option_to_list y.file) x → (stored : List Stamped) × HasFile after s true y.group x.meta stored
+    y-there x there = file-there facts.log after s y.group (compaction_log s y.whole (p.runs base y.group)) is-y.log y.names y.file x is-y.tells is-y.written told-put there
+
+    y-holds : HoldChanges after s y.group (tells_of s y) (compaction_log s y.whole (p.runs base y.group))
+    y-holds = holds-told facts.log after s y.group (compaction_log s y.whole (p.runs base y.group)) is-y.log y.names y.file is-y.tells is-y.written told-put
+
+  each-there : (e : files.Entry) → Contains (flat_map (tells_of s) ys) e → (stored : List Stamped) × HasFile after s true e.group e.file stored
+  each-there e h =
+      let (y, there, own) = in-flat (tells_of s) ys e h in
+      let (x, has, is) = in-map (λ (f : RunFile). live_entry s y.group f.meta) (option_to_list y.file) e own in
+      subst (λ (e : files.Entry). (stored : List Stamped) × HasFile after s true e.group e.file stored) is (y-there y there x has)
+
+  -- a group's changelog file holds its part of the change
+  own-holds : (x : RewrittenGroup) → Contains xs x
+      → HoldChanges after s x.group (entries_in x.group (flat_map (tells_of s) ys)) (rows_in s x.group (change s (entries ++ e ∷ []) (suc (length entries))))
+  own-holds x h =
+      let (y, there, same) = told-of xs ys plan.groups.items knows.named knows.all_told x h in
+      let of_y : HoldChanges after s y.group (entries_in y.group (flat_map (tells_of s) ys)) (compaction_log s y.whole (p.runs base y.group)) =
+      subst (λ (es : List files.Entry). HoldChanges after s y.group es (compaction_log s y.whole (p.runs base y.group))) (sym (told-in facts.tie s ys told-rise y there))
+      (y-holds y there) in
+      subst (HoldChanges after s x.group (entries_in x.group (flat_map (tells_of s) ys))) (sym (own-change x h))
+      (subst (λ (n : Group × Bool). HoldChanges after s n.0 (entries_in n.0 (flat_map (tells_of s) ys)) (compaction_log s n.1 (p.runs base n.0))) same of_y)
+
+  other-holds : (g : Group) → ((x : RewrittenGroup) → Contains xs x → x.group ≢ g)
+      → HoldChanges after s g (entries_in g (flat_map (tells_of s) ys)) (rows_in s g (change s (entries ++ e ∷ []) (suc (length entries))))
+  other-holds g other =
+      subst (λ (es : List files.Entry). HoldChanges after s g es (rows_in s g (change s (entries ++ e ∷ []) (suc (length entries)))))
+      (sym (none-in facts.tie s g ys (λ y there same.
+      let (x, h, is) = rewritten-of xs ys plan.groups.items knows.named knows.all_told y there in
+      other x h (ap (λ (n : Group × Bool). n.0) is ∙ same))))
+      (none-change g other)
+
+  group-holds : (g : Group) → HoldChanges after s g (entries_in g (flat_map (tells_of s) ys)) (rows_in s g (change s (entries ++ e ∷ []) (suc (length entries))))
+  group-holds g = elim (which facts.tie xs g)
+      as (λ _. HoldChanges after s g (entries_in g (flat_map (tells_of s) ys)) (rows_in s g (change s (entries ++ e ∷ []) (suc (length entries))))) [
+        | inl found ↦ subst (λ (g : Group). HoldChanges after s g (entries_in g (flat_map (tells_of s) ys)) (rows_in s g (change s (entries ++ e ∷ []) (suc (length entries)))))
+            found.2 (own-holds found.0 found.1)
+        | inr other ↦ other-holds g other
+      ]
+
+  holds-change : HoldsChange after s (entries ++ e ∷ []) (suc (length entries)) made.contents.changes
+  holds-change = subst (HoldsChange after s (entries ++ e ∷ []) (suc (length entries))) (sym changes-are) (record {
+    each = all-of (λ (e : files.Entry). (stored : List Stamped) × HasFile after s true e.group e.file stored) (flat_map (tells_of s) ys) each-there;
+    change = λ some g. group-holds g;
+  })
+
+  no-changelog : plan.changes.items ≡ [] → ready.made.lists.changes ≡ None
+  no-changelog nothing = unlisted s t.newest ready.made.left (entries_of ready.made.delta) ready.made.delta.changes ready.made.lists ready.made.list_files
+      ready.made.are_manifests (ap (λ (d : Delta). d.changes) d-is ∙ ap (λ (es : List files.Entry). map adding es) nothing)
 
   pub committed : IsCommit f after s entries e
   committed =
       let table_known = known facts.one_contents facts.same_contents facts.one_runs f p s entries t.newest stands was ready.folder ready.newest some in
       facts.commit me f after s entries e t ready absent puts made
       (λ g. group-stands facts.goes_on after s entries e p live1 g (table_known.runs.succession g) table_known.runs.since high bases (group-goes g))
-      (holds-none after s base plan.groups.items entries e made.contents.changes knows.quiet e-is untold)
+      holds-change
 
   pub has-compacted : HasCompacted after s t.newest t.author plan
   has-compacted = record {
@@ -336,6 +449,6 @@ module _ (facts : Facts) (me : Actor) (f after : Files) (p : Past) (s : TableSch
     delta = subst (λ (d : Delta). HaveEntries after s made.contents.delta (entries_of d)) d-is made.entries;
     live = all-of (λ (e : files.Entry). is_of_any es e ≡ true) removed
         (λ e h. not-true (is_of_any es e) (none-found (λ (e : files.Entry). not (is_of_any es e)) removed none-gone e h));
-    untold = untold;
+    tells = tells;
     unlisted = no-changelog;
   }

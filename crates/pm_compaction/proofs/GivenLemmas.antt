@@ -1,6 +1,7 @@
 -- What a plan shows of its commit: the files that were made are the actor's, and the count that it bears is within that of the newest snapshot.
-use Rattle.std.proofs.Common.{◌≡◌, ℕ, ◌≤◌, List, ◌++◌, length, Contains, sym, ap, subst, ◌∙◌, append-nil, arith}
-use Rattle.std.specs.List.{AllByRecursion}
+use Rattle.std.proofs.Common.{◌≡◌, ℕ, ◌≤◌, List, length, option_to_list, Contains, sym, subst, arith}
+use Rattle.std.specs.List.{AllByRecursion, flat_map}
+use Rattle.pm_base.proofs.Laws.{AllByRecursion-append}
 use Rattle.pm_store.specs.Files.{Files}
 use Rattle.pm_model_history.specs.History.{Entry, History, table}
 use Rattle.pm_schema.specs.declared.schema.TableSchema.{TableSchema}
@@ -25,10 +26,11 @@ use Rattle.pm_made.specs.declared.intent.Plan.{Plan}
 use Rattle.pm_made.specs.declared.newest.Newest.{Newest}
 use Rattle.pm_made.proofs.ListLemmas.{all-of, each-of, in-map}
 use Rattle.pm_made.proofs.StandLemmas.{OneRuns}
-use Rattle.pm_compaction.specs.Plan.{IsRewrittenAt, KnowsPlan, comes_of, group_file, made_files}
+use Rattle.pm_compaction.specs.Plan.{IsRewrittenAt, IsToldAt, KnowsPlan, ToldGroup, comes_of, group_file, made_files, tells_of, told_files}
 use Rattle.pm_compaction.proofs.ListLemmas.{in-flat}
-use Rattle.pm_compaction.proofs.MadeLemmas.{named-file, own-file}
+use Rattle.pm_compaction.proofs.MadeLemmas.{named-file, own-file, own-log}
 use Rattle.pm_compaction.proofs.NewestLemmas.{found, found-appends, stood}
+use Rattle.pm_compaction.proofs.ToldLemmas.{is-of-log}
 
 -- ---- whose files they are
 
@@ -42,15 +44,32 @@ module _ (me : Actor) (s : TableSchema) (plain : HavePlainNames s) (base : ℕ) 
       subst (λ (e : files.Entry). IsOwnFile me base (data_path s e.group e.file.name)) same
       (own-file me base (length x.files) x.names is.names s x.group file.meta.name k plain within name)
 
+  own-told : (y : ToldGroup) → IsToldAt me s base p y → (f : RunFile) → Contains (option_to_list y.file) f → IsOwnFile me base (data_path s y.group f.meta.name)
+  own-told y is f h = own-log me base (length (option_to_list y.file)) y.names is.names s y.group f.meta.name plain
+      (is-of-log s y.names is.log y.file f is.written h).made.meta.named
+
+  own-change : (e : files.Entry) → Contains plan.changes.items e → IsOwnFile me base (data_path s e.group e.file.name)
+  own-change e h =
+      let (y, there, own) = in-flat (tells_of s) knows.told e (subst (λ (es : List files.Entry). Contains es e) knows.tells h) in
+      let (file, has, same) = in-map (λ (f : RunFile). live_entry s y.group f.meta) (option_to_list y.file) e own in
+      subst (λ (e : files.Entry). IsOwnFile me base (data_path s e.group e.file.name)) same
+      (own-told y (each-of (IsToldAt me s base p) knows.told y knows.each_told there) file has)
+
   pub own-files : AllByRecursion (λ (e : files.Entry). IsOwnFile me base (data_path s e.group e.file.name)) (given_files (intents.Compact plan))
-  own-files = subst (AllByRecursion (λ (e : files.Entry). IsOwnFile me base (data_path s e.group e.file.name)))
-      (sym (ap (λ (es : List files.Entry). plan.added.items ++ es) knows.untold ∙ append-nil plan.added.items))
+  own-files = AllByRecursion-append (λ (e : files.Entry). IsOwnFile me base (data_path s e.group e.file.name)) plan.added.items plan.changes.items
       (all-of (λ (e : files.Entry). IsOwnFile me base (data_path s e.group e.file.name)) plan.added.items own-entry)
+      (all-of (λ (e : files.Entry). IsOwnFile me base (data_path s e.group e.file.name)) plan.changes.items own-change)
 
   -- and so are those that were created
-  created-own : (file : CommitFile) → Contains given file → IsOwnFile me base file.path
-  created-own file h =
-      let (x, there, own) = in-flat (made_files s) knows.groups file (subst (λ (files : List CommitFile). Contains files file) knows.given_are h) in
+  log-own : (file : CommitFile) → Contains (flat_map (told_files s) knows.told) file → IsOwnFile me base file.path
+  log-own file h =
+      let (y, there, own) = in-flat (told_files s) knows.told file h in
+      let (f, has, same) = in-map (group_file s y.group) (option_to_list y.file) file own in
+      subst (λ (file : CommitFile). IsOwnFile me base file.path) same (own-told y (each-of (IsToldAt me s base p) knows.told y knows.each_told there) f has)
+
+  made-own : (file : CommitFile) → Contains (flat_map (made_files s) knows.groups) file → IsOwnFile me base file.path
+  made-own file h =
+      let (x, there, own) = in-flat (made_files s) knows.groups file h in
       let (f, has, same) = in-map (group_file s x.group) x.files file own in
       let is = each-of (IsRewrittenAt me s base p) knows.groups x knows.each there in
       let (k, within, name) = named-file s most_in_file x.taking.out x.names is.made.run x.files f is.made.files has in
@@ -58,7 +77,10 @@ module _ (me : Actor) (s : TableSchema) (plain : HavePlainNames s) (base : ℕ) 
       (own-file me base (length x.files) x.names is.names s x.group f.meta.name k plain within name)
 
   pub given-own : AllByRecursion (λ (file : CommitFile). IsOwnFile me base file.path) given
-  given-own = all-of (λ (file : CommitFile). IsOwnFile me base file.path) given created-own
+  given-own = subst (AllByRecursion (λ (file : CommitFile). IsOwnFile me base file.path)) (sym knows.given_are)
+      (AllByRecursion-append (λ (file : CommitFile). IsOwnFile me base file.path) (flat_map (made_files s) knows.groups) (flat_map (told_files s) knows.told)
+      (all-of (λ (file : CommitFile). IsOwnFile me base file.path) (flat_map (made_files s) knows.groups) made-own)
+      (all-of (λ (file : CommitFile). IsOwnFile me base file.path) (flat_map (told_files s) knows.told) log-own))
 
 pub attempt-own : (me : Actor) (s : TableSchema) (t : Attempt) (plan : Plan) (given : List CommitFile) (p : Past) → HavePlainNames s
     → KnowsPlan me s t.author.base plan given p → t.intent ≡ intents.Compact plan → AreOwnFiles me s t

@@ -19,7 +19,7 @@ use Rattle.pm_compaction.proofs.ListLemmas.{any-of}
 abbrev pub GroupsTie : Type 0
 GroupsTie = (a b : Group) → (group_cmp a b ≡ Equal) ↔ (a ≡ b)
 
-less-equal : (o : Ordering) → o ≡ Less → o ≡ Equal → ⊥
+pub less-equal : (o : Ordering) → o ≡ Less → o ≡ Equal → ⊥
 less-equal o less equal = let no : Less ≡ Equal = sym less ∙ equal in cc
 
 -- no item passes
@@ -75,7 +75,7 @@ module _ (tie : GroupsTie) where
 
   -- ---- what the entry names
 
-  same-group : (g : Group) → eq_by_cmp group_cmp g g ≡ true
+  pub same-group : (g : Group) → eq_by_cmp group_cmp g g ≡ true
   same-group g = ap is_eq ((tie g g).1 refl)
 
   is-equal : (o : Ordering) → is_eq o ≡ true → o ≡ Equal
@@ -86,7 +86,7 @@ module _ (tie : GroupsTie) where
   tests-same : (a b : Group) → eq_by_cmp group_cmp a b ≡ true → a ≡ b
   tests-same a b is = (tie a b).0 (is-equal (group_cmp a b) is)
 
-  other-group : (a b : Group) → a ≢ b → eq_by_cmp group_cmp a b ≡ false
+  pub other-group : (a b : Group) → a ≢ b → eq_by_cmp group_cmp a b ≡ false
   other-group a b differs = at (eq_by_cmp group_cmp a b) refl
     where
       at : (t : Bool) → eq_by_cmp group_cmp a b ≡ t → t ≡ false
@@ -113,11 +113,11 @@ module _ (tie : GroupsTie) where
         or-not true = refl
         or-not false = refl
 
-    pub other-base : (g : Group) → ((x : RewrittenGroup) → Contains xs x → x.group ≢ g) → base_of false g e ≡ None
-    other-base g none = by-none (is_named false g (map named_group xs))
-        (none-any (λ (p : Group × Bool). eq_by_cmp group_cmp g p.0 && (p.1 || not false)) (map named_group xs) (λ p h. at p (in-map named_group xs p h)))
+    pub other-base : (wholly : Bool) (g : Group) → ((x : RewrittenGroup) → Contains xs x → x.group ≢ g) → base_of wholly g e ≡ None
+    other-base wholly g none = by-none (is_named wholly g (map named_group xs))
+        (none-any (λ (p : Group × Bool). eq_by_cmp group_cmp g p.0 && (p.1 || not wholly)) (map named_group xs) (λ p h. at p (in-map named_group xs p h)))
       where
-        at : (p : Group × Bool) → ((x : RewrittenGroup) × Contains xs x × (named_group x ≡ p)) → (eq_by_cmp group_cmp g p.0 && (p.1 || not false)) ≡ false
+        at : (p : Group × Bool) → ((x : RewrittenGroup) × Contains xs x × (named_group x ≡ p)) → (eq_by_cmp group_cmp g p.0 && (p.1 || not wholly)) ≡ false
         at p (x, there, is) = rw (other-group g p.0 (λ same. none x there (ap (λ (q : Group × Bool). q.0) is ∙ sym same))) refl
 
     -- as whole, or not

@@ -1,3 +1,4 @@
+mod AtBaseLemmas
 mod BaseLemmas
 mod ChangeLemmas
 mod CompactionLemmas
@@ -17,3 +18,4 @@ mod PlanLemmas
 mod ReplacedLemmas
 mod RewrittenLemmas
 mod RowLemmas
+mod ToldLemmas

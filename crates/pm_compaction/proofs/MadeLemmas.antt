@@ -14,9 +14,9 @@ use Rattle.pm_schema.specs.Folder.{folder_text}
 use Rattle.pm_schema.specs.declared.schema.TableSchema.{TableSchema}
 use Rattle.pm_engine.specs.Covers.{Run}
 use Rattle.pm_run.specs.Order.{keys_of, last_key}
-use Rattle.pm_run.specs.Writing.{AreFilesOf, AreRising, data_prefix, first_key, suffix}
+use Rattle.pm_run.specs.Writing.{AreFilesOf, AreRising, changes_prefix, data_prefix, first_key, suffix}
 use Rattle.pm_run.specs.declared.run.RunFile.{RunFile}
-use Rattle.pm_snapshot.specs.Names.{rows_file}
+use Rattle.pm_snapshot.specs.Names.{changelog_file, rows_file}
 use Rattle.pm_model_contents.specs.Runs.{data_path}
 use Rattle.pm_model_folder.specs.Changes.{Actor, HavePlainNames, IsNamedBy, IsOwnFile, bucket}
 use Rattle.pm_model_folder.specs.Runs.{view_of}
@@ -111,6 +111,22 @@ module _ (me : Actor) (base count : ℕ) (names : Naming) (makes : NamesSoMany m
       → IsOwnFile me base (data_path s g name)
   own-file s g name k plain within is = record { by = named-by s g name k within is; in_table = bucket s g plain; based = makes.based }
 
+  -- so is a changelog file with the first of them
+  pub own-log : (s : TableSchema) (g : Group) (name : List ℕ) → HavePlainNames s → name ≡ name_of changes_prefix suffix names → IsOwnFile me base (data_path s g name)
+  own-log s g name plain is = record {
+    by = record {
+      folder = folder_text s g;
+      file = changelog_file;
+      names = names;
+      may = makes.may;
+      session = makes.session;
+      actor = makes.actor;
+      is = ap (λ (text : List ℕ). folder_text s g ++ 47 ∷ text) is;
+    };
+    in_table = bucket s g plain;
+    based = makes.based;
+  }
+
 -- ---- their keys
 
 -- of rows that rise the first have lower keys than the later ones
@@ -139,7 +155,7 @@ none-key : (a : Values) → None ≡ Some a → ⊥
 none-key a is = cc
 
 -- the first key and the last one are keys of the rows
-first-in : (rows : List Stamped) (k : Values) → first_key rows ≡ Some k → Contains (keys_of rows) k
+pub first-in : (rows : List Stamped) (k : Values) → first_key rows ≡ Some k → Contains (keys_of rows) k
 first-in [] k is = absurd (none-key k is)
 first-in (x ∷ rows) k is = subst (Contains (keys_of (x ∷ rows))) (some-key x.key k is) (here x.key (keys_of rows))
 
@@ -174,7 +190,7 @@ least-in s most level names rows (file ∷ made) m are h = elim (cases file.meta
 ]
 
 -- the greatest key, too
-last-own : (rows : List Stamped) (k : Values) → last_key None rows ≡ Some k → Contains (keys_of rows) k
+pub last-own : (rows : List Stamped) (k : Values) → last_key None rows ≡ Some k → Contains (keys_of rows) k
 last-own rows k is = elim (last-in None rows k is) as (λ _. Contains (keys_of rows) k) [
   | inl none ↦ absurd (none-key k none)
   | inr own ↦ own

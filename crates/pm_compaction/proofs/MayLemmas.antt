@@ -1,5 +1,5 @@
 -- What a plan changes can stand in a manifest, and no two of its entries are of one file.
-use Rattle.std.proofs.Common.{◌≡◌, ◌≢◌, ℕ, ◌≤◌, List, [], ◌∷◌, ◌++◌, map, length, Contains, refl, sym, ap, subst, ◌∙◌}
+use Rattle.std.proofs.Common.{◌≡◌, ◌≢◌, ℕ, ◌≤◌, Bool, List, [], ◌∷◌, ◌++◌, map, length, option_to_list, Contains, refl, sym, ap, subst, ◌∙◌}
 use Rattle.std.specs.List.{AllByRecursion, flat_map}
 use Rattle.std.specs.List.Sorted.{IsStrictlySortedBy}
 use Rattle.std.specs.declared.cmp.Ordering.TheVariants.{Less, Equal}
@@ -11,12 +11,18 @@ use Rattle.pm_base.proofs.Laws.{AllByRecursion-parts}
 use Rattle.pm_store.specs.Files.{Files}
 use Rattle.pm_values.specs.GroupOrder.{group_cmp}
 use Rattle.pm_values.specs.declared.file_meta.FileMeta.{FileMeta}
+use Rattle.pm_values.specs.Order.{Values}
 use Rattle.pm_values.specs.declared.group.Group.{Group}
-use Rattle.pm_model_history.specs.History.{Entry}
+use Rattle.pm_values.specs.declared.record.Stamped.{Stamped}
+use Rattle.pm_model_history.specs.History.{Entry, entry_rows}
+use Rattle.pm_model_history.specs.Merge.{HistoryRow}
 use Rattle.pm_schema.specs.Again.{IsDeclared}
 use Rattle.pm_schema.specs.declared.schema.TableSchema.{TableSchema}
-use Rattle.pm_run.specs.Writing.{data_prefix}
+use Rattle.pm_engine.specs.Covers.{row_of}
+use Rattle.pm_run.specs.Order.{keys_of}
+use Rattle.pm_run.specs.Writing.{HasOwnKey, changes_prefix, data_prefix}
 use Rattle.pm_run.specs.declared.run.RunFile.{RunFile}
+use Rattle.pm_changelog.specs.GroupLog.{stamped_from}
 use Rattle.pm_levels.specs.Runs.{AreNamedApart, RunView, files_of}
 use Rattle.pm_manifest.specs.Entries.{IsEntry, IsFile, IsFileWithin, IsWithin}
 use Rattle.pm_manifest.specs.Live.{id_of}
@@ -26,6 +32,7 @@ use Rattle.pm_manifest.specs.declared.file_id.FileId.{FileId}
 use Rattle.pm_model_contents.specs.Lists.{IsChangelogEntry}
 use Rattle.pm_model_folder.specs.Changes.{Actor}
 use Rattle.pm_model_folder.specs.Commits.{live_in}
+use Rattle.pm_model_folder.specs.Folder.{IsRowOf}
 use Rattle.pm_model_folder.specs.Ledger.{KnowsTable, Past}
 use Rattle.pm_model_folder.specs.Runs.{view_of}
 use Rattle.pm_runs.specs.Succession.{KnownRun}
@@ -42,19 +49,21 @@ use Rattle.pm_made.specs.declared.intent.Intent.TheVariants as intents
 use Rattle.pm_made.specs.declared.intent.Plan.{Plan}
 use Rattle.pm_paths.proofs.ListLemmas.{here, more}
 use Rattle.pm_made.proofs.EntryLemmas.{ReadEntries}
-use Rattle.pm_made.proofs.KeyLemmas.{file-can-be}
+use Rattle.pm_made.proofs.KeyLemmas.{HasRowOf, file-can-be}
 use Rattle.pm_made.proofs.ListLemmas.{Pairs, all-of, each-of, in-map, map-in, pairs-append, pairs-to}
-use Rattle.pm_made.proofs.ListedLemmas.{entries-within}
+use Rattle.pm_made.proofs.ListedLemmas.{changes-within, entries-within}
 use Rattle.pm_made.proofs.StandLemmas.{two-moved}
-use Rattle.pm_compaction.specs.Plan.{IsRewrittenAt, KnowsPlan, RewrittenGroup, comes_of, goes_of}
+use Rattle.pm_compaction.specs.Plan.{IsRewrittenAt, IsToldAt, KnowsPlan, RewrittenGroup, ToldGroup, comes_of, goes_of, tells_of}
+use Rattle.pm_compaction.proofs.AtBaseLemmas.{LogLaw, told-group}
 use Rattle.pm_compaction.proofs.BaseLemmas.{RunsThere, TakenStored, file-live, runs-there}
 use Rattle.pm_compaction.proofs.DeltaLemmas.{IsDeltaFor, delta-for}
 use Rattle.pm_compaction.proofs.EntryLemmas.{LeftJoined, live-can}
 use Rattle.pm_compaction.proofs.GroupLemmas.{GroupsTie, group_in, rising}
 use Rattle.pm_compaction.proofs.ListLemmas.{flat-in, in-flat}
 use Rattle.pm_compaction.proofs.LiveLemmas.{two-of, two-right}
-use Rattle.pm_compaction.proofs.MadeLemmas.{ComesBefore, OneName, greatest-in, least-in, named-file}
+use Rattle.pm_compaction.proofs.MadeLemmas.{ComesBefore, OneName, first-in, greatest-in, last-own, least-in, named-file}
 use Rattle.pm_compaction.proofs.RewrittenLemmas.{made-in-turn, made-key, taken-file}
+use Rattle.pm_compaction.proofs.ToldLemmas.{adding-told, is-of-log, rewritten-of}
 
 abbrev Apart : files.Entry → files.Entry → Type 0
 Apart a b = id_of a ≡ id_of b → ⊥
@@ -136,9 +145,9 @@ goes-group s x e h = let (m, there, is) = in-map (live_entry s x.group) (files_o
 comes-group : (s : TableSchema) (x : RewrittenGroup) (e : files.Entry) → Contains (comes_of s x) e → e.group ≡ x.group
 comes-group s x e h = let (f, there, is) = in-map (λ (f : RunFile). live_entry s x.group f.meta) x.files e h in ap (λ (e : files.Entry). e.group) (sym is)
 
-module _ (tie : GroupsTie) (left : LeftJoined) (read : ReadEntries) (stored : TakenStored) (one : OneName) (me : Actor) (files0 : Files) (p : Past) (s : TableSchema)
-    (declared : IsDeclared s) (entries : List Entry) (base : ℕ) (plan : Plan) (given : List CommitFile) (known : KnowsTable files0 s entries p) (to : base ≤ length entries)
-    (knows : KnowsPlan me s base plan given p) where
+module _ (law : LogLaw) (tie : GroupsTie) (left : LeftJoined) (read : ReadEntries) (stored : TakenStored) (one : OneName) (me : Actor) (files0 : Files) (p : Past)
+    (s : TableSchema) (declared : IsDeclared s) (entries : List Entry) (rows : AllByRecursion (IsRowOf s) (flat_map entry_rows entries)) (base : ℕ) (plan : Plan)
+    (given : List CommitFile) (known : KnowsTable files0 s entries p) (to : base ≤ length entries) (knows : KnowsPlan me s base plan given p) where
   abbrev xs : List RewrittenGroup
   xs = knows.groups
 
@@ -216,30 +225,100 @@ module _ (tie : GroupsTie) (left : LeftJoined) (read : ReadEntries) (stored : Ta
   come-apart = subst (Pairs Apart) (sym knows.comes) (flat-apart tie (comes_of s) (comes-group s) xs rise
       (λ x h. comes-apart s x.group x.files (made-pairs x (at x h))))
 
-  none-told : map adding plan.changes.items ≡ []
-  none-told = ap (λ (es : List files.Entry). map adding es) knows.untold
+  -- ---- its changelog files
 
-  pub may-change : AllByRecursion (IsWithin (shape_of s)) (entries_of (delta_of_plan plan)) → MayChange s (delta_of_plan plan)
-  may-change within = record {
+  -- a row of a group's log has a key of the group
+  log-key : (y : ToldGroup) → (is : IsToldAt me s base p y) → (x : Stamped) → Contains (stamped_from 0 is.log) x → HasRowOf s y.group x.key
+  log-key y is x h =
+      let own : HasOwnKey s x = each-of (HasOwnKey s) (stamped_from 0 is.log) x is.tells.own h in
+      let of_run = (known.runs.succession y.group).known base knows.since to in record {
+        row = x.row;
+        fits = own.fits;
+        group = told-group law tie s y.group entries base knows.known.after_origin to declared.rules.1.1.1.0 rows (known.runs.succession y.group).bases
+            (p.runs base y.group) y.whole of_run.stand (row_of x)
+            (subst (λ (rs : List HistoryRow). Contains rs (row_of x)) is.tells.told (map-in row_of (stamped_from 0 is.log) x h));
+        own = sym own.own;
+      }
+
+  -- a key that one of them has is one, too
+  own-log-key : (y : ToldGroup) → (is : IsToldAt me s base p y) → (key : Values) → Contains (keys_of (stamped_from 0 is.log)) key → HasRowOf s y.group key
+  own-log-key y is key h =
+      let (x, there, same) = in-map (λ (x : Stamped). x.key) (stamped_from 0 is.log) key h in
+      subst (HasRowOf s y.group) same (log-key y is x there)
+
+  log-can : (y : ToldGroup) (is : IsToldAt me s base p y) (f : RunFile) → Contains (option_to_list y.file) f → IsFileWithin (shape_of s) f.meta
+      → IsFile (shape_of s) y.group.partition f.meta
+  log-can y is f has within =
+      let meta = (is-of-log s y.names is.log y.file f is.written has).made.meta in
+      file-can-be s y.group changes_prefix y.names f.meta declared meta.named
+      (own-log-key y is f.meta.min_key (first-in (stamped_from 0 is.log) f.meta.min_key meta.least))
+      (own-log-key y is f.meta.max_key (last-own (stamped_from 0 is.log) f.meta.max_key meta.greatest)) within
+
+  -- the entry of a file of a group that is rewritten
+  group-can : (x : RewrittenGroup) → Contains xs x → (m : FileMeta) → IsFile (shape_of s) x.group.partition m → IsEntry (shape_of s) (live_entry s x.group m)
+  group-can x h m file =
+      let (r, first) = some-run x.taking.taken (at x h).took.some in
+      let (n, own) = taken-file left read stored me files0 p s entries base known knows.known.after_origin knows.since to x (at x h) r first in
+      let old = taken-can x (at x h) n (flat-in (λ (run : RunView). run.files) (map view_of x.taking.taken) (view_of r) n (map-in view_of x.taking.taken r first) own) in
+      record { partition = old.partition; total = refl; bucket = old.bucket; file = file }
+
+  told-can : (e : files.Entry) → Contains plan.changes.items e → IsWithin (shape_of s) e → IsEntry (shape_of s) e × IsChangelogEntry e
+  told-can e h within =
+      let (y, is_y, own) = in-flat (tells_of s) knows.told e (subst (λ (es : List files.Entry). Contains es e) knows.tells h) in
+      let (f, has, is) = in-map (λ (f : RunFile). live_entry s y.group f.meta) (option_to_list y.file) e own in
+      let told : IsToldAt me s base p y = each-of (IsToldAt me s base p) knows.told y knows.each_told is_y in
+      let (x, is_x, named) = rewritten-of xs knows.told plan.groups.items knows.named knows.all_told y is_y in
+      let of_x : x.group ≡ y.group = ap (λ (n : Group × Bool). n.0) named in
+      let file : IsFile (shape_of s) y.group.partition f.meta =
+      log-can y told f has (subst (λ (m : FileMeta). IsFileWithin (shape_of s) m) (ap (λ (e : files.Entry). e.file) (sym is)) within.file) in
+      let entry : IsEntry (shape_of s) (live_entry s y.group f.meta) = subst (λ (g : Group). IsEntry (shape_of s) (live_entry s g f.meta)) of_x
+      (group-can x is_x f.meta (subst (λ (g : Group). IsFile (shape_of s) g.partition f.meta) (sym of_x) file)) in
+      let level : f.meta.level ≡ 0 = (is-of-log s y.names told.log y.file f told.written has).made.meta.levelled in (
+        subst (IsEntry (shape_of s)) is entry,
+        subst IsChangelogEntry is (record { add = refl; level = level }),
+      )
+
+  -- they are written as they stand in the plan
+  as-told : map adding plan.changes.items ≡ plan.changes.items
+  as-told = ap (λ (es : List files.Entry). map adding es) knows.tells ∙ adding-told s knows.told ∙ sym knows.tells
+
+  module _ (within : AllByRecursion (IsWithin (shape_of s)) (map adding plan.changes.items)) where
+    each-told : (e : files.Entry) → Contains (map adding plan.changes.items) e → IsEntry (shape_of s) e × IsChangelogEntry e
+    each-told e h = told-can e (subst (λ (es : List files.Entry). Contains es e) as-told h) (each-of (IsWithin (shape_of s)) (map adding plan.changes.items) e within h)
+
+    can-tell : AllByRecursion (IsEntry (shape_of s)) (map adding plan.changes.items)
+    can-tell = all-of (IsEntry (shape_of s)) (map adding plan.changes.items) (λ e h. (each-told e h).0)
+
+    at-zero : AllByRecursion IsChangelogEntry (map adding plan.changes.items)
+    at-zero = all-of IsChangelogEntry (map adding plan.changes.items) (λ e h. (each-told e h).1)
+
+  pub may-change : AllByRecursion (IsWithin (shape_of s)) (entries_of (delta_of_plan plan)) → AllByRecursion (IsWithin (shape_of s)) (map adding plan.changes.items)
+      → MayChange s (delta_of_plan plan)
+  may-change within logged = record {
     can_go = can-go;
     can_come = adding-can s plan.added.items (can-come
         (AllByRecursion-parts (IsWithin (shape_of s)) (map deleted plan.removed.items) (map adding plan.added.items) within).1);
-    can_tell = subst (AllByRecursion (IsEntry (shape_of s))) (sym none-told) tt;
-    told = subst (AllByRecursion IsChangelogEntry) (sym none-told) tt;
+    can_tell = can-tell logged;
+    told = at-zero logged;
     removed = pairs-to Apart plan.removed.items go-apart;
     added = pairs-to Apart (map adding plan.added.items) (adding-apart plan.added.items come-apart);
   }
 
 -- what a try by the plan changes, where it is made
-pub attempt-change : (tie : GroupsTie) (left : LeftJoined) (read : ReadEntries) (stored : TakenStored) (one : OneName) (me : Actor) (files0 : Files) (p : Past) (s : TableSchema)
-    (declared : IsDeclared s) (entries : List Entry) (base : ℕ) (t : Attempt) (plan : Plan) (given : List CommitFile) → KnowsTable files0 s entries p → base ≤ length entries
-    → KnowsPlan me s base plan given p → t.intent ≡ intents.Compact plan → (made : IsMadeOf s t.newest t.author t.intent t.names t.made) → MayChange s made.delta
-attempt-change tie left read stored one me files0 p s declared entries base t plan given known to knows is made =
-    subst (MayChange s) (sym delta) (may-change tie left read stored one me files0 p s declared entries base plan given known to knows
-    (subst (λ (d : Delta). AllByRecursion (IsWithin (shape_of s)) (entries_of d)) delta within))
+pub attempt-change : (law : LogLaw) (tie : GroupsTie) (left : LeftJoined) (read : ReadEntries) (stored : TakenStored) (one : OneName) (me : Actor) (files0 : Files) (p : Past)
+    (s : TableSchema) (declared : IsDeclared s) (entries : List Entry) → AllByRecursion (IsRowOf s) (flat_map entry_rows entries) → (base : ℕ) (t : Attempt) (plan : Plan)
+    (given : List CommitFile) → KnowsTable files0 s entries p → base ≤ length entries → KnowsPlan me s base plan given p → t.intent ≡ intents.Compact plan
+    → (made : IsMadeOf s t.newest t.author t.intent t.names t.made) → MayChange s made.delta
+attempt-change law tie left read stored one me files0 p s declared entries rows base t plan given known to knows is made =
+    subst (MayChange s) (sym delta) (may-change law tie left read stored one me files0 p s declared entries rows base plan given known to knows
+    (subst (λ (d : Delta). AllByRecursion (IsWithin (shape_of s)) (entries_of d)) delta within)
+    (subst (λ (d : Delta). AllByRecursion (IsWithin (shape_of s)) d.changes) delta told))
   where
     delta : made.delta ≡ delta_of_plan plan
     delta = subst (λ (i : Intent). IsDeltaFor i made.delta) is (delta-for s t.newest t.names made.left t.intent made.delta made.row_files made.has_delta)
 
     within : AllByRecursion (IsWithin (shape_of s)) (entries_of made.delta)
     within = entries-within s t.newest made.left (entries_of made.delta) made.delta.changes made.lists made.list_files made.are_manifests
+
+    told : AllByRecursion (IsWithin (shape_of s)) made.delta.changes
+    told = changes-within s t.newest made.left (entries_of made.delta) made.delta.changes made.lists made.list_files made.are_manifests

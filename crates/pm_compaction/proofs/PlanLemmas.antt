@@ -3,13 +3,16 @@ use Rattle.std.proofs.Common.{ℕ, ◌≤◌, List, length, length-append, sym, 
 use Rattle.pm_store.specs.Files.{Files}
 use Rattle.pm_model_history.specs.History.{Entry, GoesOn, History, IsTableOf, no_table, table}
 use Rattle.pm_schema.specs.declared.schema.TableSchema.{TableSchema}
+use Rattle.pm_model_changelog.specs.Log.{compaction_log}
 use Rattle.pm_model_folder.specs.Changes.{Actor, Change}
 use Rattle.pm_model_folder.specs.Ledger.{Advances, Past, count_of}
 use Rattle.pm_model_folder.specs.Meaning.{SnapshotAt}
 use Rattle.pm_put.specs.declared.putting.CommitFile.{CommitFile}
 use Rattle.pm_made.specs.declared.intent.Plan.{Plan}
 use Rattle.pm_made.proofs.ListLemmas.{all-weaker}
-use Rattle.pm_compaction.specs.Plan.{IsRewrittenAt, KnowsPlan, RewrittenGroup}
+use Rattle.pm_runs.specs.Succession.{KnownRun}
+use Rattle.pm_changelog.specs.GroupLog.{IsGroupLog}
+use Rattle.pm_compaction.specs.Plan.{IsRewrittenAt, IsToldAt, KnowsPlan, RewrittenGroup, ToldGroup}
 
 -- the history goes on with each change
 abbrev pub HistoryGoesOn : Type 0
@@ -56,6 +59,14 @@ module _ (goes_on : HistoryGoesOn) (me other : Actor) (f after : Files) (p q : P
         names = is.names;
       }
 
+  told-stays : base ≤ count_of p.history → (y : ToldGroup) → IsToldAt me s base p y → IsToldAt me s base q y
+  told-stays within y is = record {
+    log = is.log;
+    tells = subst (λ (runs : List KnownRun). IsGroupLog s (compaction_log s y.whole runs) is.log) (sym (advances.runs base y.group within)) is.tells;
+    written = is.written;
+    names = is.names;
+  }
+
   pub plan-stays : (plan : Plan) (given : List CommitFile) → KnowsPlan me s base plan given p → KnowsPlan me s base plan given q
   plan-stays plan given knows = record {
     table = table-stays s p.history q.history goes knows.table;
@@ -72,8 +83,10 @@ module _ (goes_on : HistoryGoesOn) (me other : Actor) (f after : Files) (p q : P
     rise = knows.rise;
     goes = knows.goes;
     comes = knows.comes;
-    quiet = knows.quiet;
-    untold = knows.untold;
+    told = knows.told;
+    each_told = all-weaker (IsToldAt me s base p) (IsToldAt me s base q) (told-stays knows.known.to) knows.told knows.each_told;
+    all_told = knows.all_told;
+    tells = knows.tells;
     given_are = knows.given_are;
     full = λ appends asked.
         let (x, at, is) = knows.full appends asked in

@@ -70,7 +70,7 @@ views-all : (P : ℕ → Type 0) (runs : List KnownRun) → AllByRecursion (λ (
 views-all P [] all = tt
 views-all P (r ∷ runs) all = (all.0, views-all P runs all.1)
 
-no-above : (top out : ℕ) (runs : List KnownRun) → out ≡ top → AllByRecursion (λ (r : KnownRun). r.level ≤ top) runs
+pub no-above : (top out : ℕ) (runs : List KnownRun) → out ≡ top → AllByRecursion (λ (r : KnownRun). r.level ≤ top) runs
     → AllByRecursion (λ (r : KnownRun). out < r.level) runs → runs ≡ []
 no-above top out [] same low high = refl
 no-above top out (r ∷ runs) same low high = absurd (let a = low.0 in let b = high.0 in omega (arith, same, a, b))

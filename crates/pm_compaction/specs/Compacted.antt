@@ -1,5 +1,5 @@
 -- What the folder has once a compaction is published.
-use Rattle.std.specs.Prelude.{◌≡◌, suc, ◌+◌, ◌≤◌, List, [], length, true, false, None}
+use Rattle.std.specs.Prelude.{◌≡◌, suc, ◌+◌, ◌≤◌, List, [], length, map, true, false, None}
 use Rattle.std.specs.List.{AllByRecursion}
 use Rattle.pm_store.specs.Files.{Files}
 use Rattle.pm_values.specs.declared.group.Group.{Group}
@@ -12,7 +12,7 @@ use Rattle.pm_runs.specs.Succession.{Follows, KnownRun}
 use Rattle.pm_model_folder.specs.Commits.{HasCommit}
 use Rattle.pm_model_folder.specs.Ledger.{Past}
 use Rattle.pm_model_folder.specs.Runs.{AreInFiles}
-use Rattle.pm_made.specs.Delta.{entries_of, is_of_any}
+use Rattle.pm_made.specs.Delta.{adding, entries_of, is_of_any}
 use Rattle.pm_made.specs.Files.{delta_of_plan, merges}
 use Rattle.pm_made.specs.Snapshot.{new_snapshot}
 use Rattle.pm_made.specs.declared.intent.Intent.TheVariants as intents
@@ -35,7 +35,8 @@ pub record GoesOnWith (after : Files) (s : TableSchema) (entries : List Entry) (
 
 -- The snapshot after the newest is there, and to its last field the one of a compaction by the plan. Its base list has
 -- the manifests of the newest one, or one with the entries of all files that were live, if there were any; its delta
--- takes the plan's files away, each of which was live, and then adds those that were made; it has no changelog.
+-- takes the plan's files away, each of which was live, and then adds those that were made; its changelog has the plan's
+-- changelog files, and where there are none it has no list.
 pub record HasCompacted (f : Files) (s : TableSchema) (newest : Newest) (author : Author) (plan : Plan) : Type 0 where
   pub lists : ListNames
   pub contents : Contents
@@ -46,5 +47,5 @@ pub record HasCompacted (f : Files) (s : TableSchema) (newest : Newest) (author 
       → HaveEntries f s contents.base newest.live.items × (length contents.base ≤ 1)
   pub delta : HaveEntries f s contents.delta (entries_of (delta_of_plan plan))
   pub live : AllByRecursion (λ (e : files.Entry). is_of_any newest.live.items e ≡ true) plan.removed.items
-  pub untold : contents.changes ≡ []
-  pub unlisted : lists.changes ≡ None
+  pub tells : contents.changes ≡ map adding plan.changes.items
+  pub unlisted : plan.changes.items ≡ [] → lists.changes ≡ None

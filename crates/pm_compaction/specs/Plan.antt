@@ -1,14 +1,19 @@
 -- What a planned compaction knows: what it took of each group at its base, and which files came of it.
-use Rattle.std.specs.Prelude.{◌≡◌, ◌≢◌, ◌↔◌, ℕ, ◌+◌, ◌<◌, ◌≤◌, ◌^◌, Bool, true, List, [], map, length, Some}
+use Rattle.std.specs.Prelude.{◌≡◌, ◌≢◌, ◌↔◌, ℕ, ◌+◌, ◌<◌, ◌≤◌, ◌^◌, Bool, true, List, [], ◌++◌, map, length}
+use Rattle.std.specs.Prelude.{Option, Some, option_to_list}
 use Rattle.std.specs.List.{AllByRecursion, flat_map}
 use Rattle.pm_values.specs.Names.{Naming}
 use Rattle.pm_values.specs.declared.group.Group.{Group}
+use Rattle.pm_values.specs.declared.record.Change.{Change}
 use Rattle.pm_schema.specs.declared.schema.TableSchema.{TableSchema}
 use Rattle.pm_model_history.specs.History.{IsTableOf}
 use Rattle.pm_engine.specs.OfSchema.{meaning_of}
 use Rattle.pm_merge.specs.Merging.{runs_in}
 use Rattle.pm_merge.specs.Source.{Rest}
 use Rattle.pm_run.specs.declared.run.RunFile.{RunFile}
+use Rattle.pm_model_changelog.specs.Log.{compaction_log}
+use Rattle.pm_changelog.specs.GroupLog.{IsGroupLog}
+use Rattle.pm_changelog.specs.Written.{IsWrittenLog}
 use Rattle.pm_snapshot.specs.Names.{MayName}
 use Rattle.pm_snapshot.specs.declared.snapshot.Snapshot.{Snapshot}
 use Rattle.pm_manifest.specs.declared.entry.Entry as files
@@ -23,7 +28,6 @@ use Rattle.pm_model_folder.specs.Runs.{view_of}
 use Rattle.pm_put.specs.declared.putting.CommitFile.{CommitFile}
 use Rattle.pm_compact.specs.Rewritten.{AreRewritten}
 use Rattle.pm_choice.specs.Choice.{live_entry, run_entries}
-use Rattle.pm_made.specs.Intent.{TellsNothing}
 use Rattle.pm_made.specs.declared.intent.Plan.{Plan}
 
 -- ---- a group
@@ -76,12 +80,42 @@ pub record IsRewrittenAt (me : Actor) (s : TableSchema) (base : ℕ) (p : Past) 
   pub made : AreRewritten s (meaning_of s) x.whole x.taking.out x.names rests x.files
   pub names : NamesSoMany me base (length x.files) x.names
 
+-- ---- what is told of it
+
+-- what is told of a group that is compacted: its changelog file, with the next of these names, and none where nothing
+-- is told
+pub record ToldGroup : Type 0 where
+  pub group : Group
+  pub whole : Bool
+  pub names : Naming
+  pub file : Option RunFile
+
+-- as an entry of a history names it
+abbrev pub named_told : ToldGroup → Group × Bool
+named_told y = (y.group, y.whole)
+
+-- the entry of its changelog file
+abbrev pub tells_of : TableSchema → ToldGroup → List files.Entry
+tells_of s y = map (λ (f : RunFile). live_entry s y.group f.meta) (option_to_list y.file)
+
+-- that file, as it was created
+abbrev pub told_files : TableSchema → ToldGroup → List CommitFile
+told_files s y = map (group_file s y.group) (option_to_list y.file)
+
+-- The file was written of a log, with a name of the actor. The log tells what a compaction tells of the group, from all
+-- of its runs at the base.
+pub record IsToldAt (me : Actor) (s : TableSchema) (base : ℕ) (p : Past) (y : ToldGroup) : Type 0 where
+  pub log : List Change
+  pub tells : IsGroupLog s (compaction_log s y.whole (p.runs base y.group)) log
+  pub written : IsWrittenLog s y.names log y.file
+  pub names : NamesSoMany me base (length (option_to_list y.file)) y.names
+
 -- ---- all of them
 
 -- The plan of a compaction that an actor began at a base. The base is a known snapshot, from which on the groups' runs
 -- are known. Of each group, these rising and some, the newest runs there were rewritten: their files go, those that
--- were made come, and these are the ones that were created. Where it bears a count of appends, this is that of its
--- base.
+-- were made come, and what is told of each stands in its changelog file. All files that were made are the ones that
+-- were created, data files first. Where it bears a count of appends, this is that of its base.
 pub record KnowsPlan (me : Actor) (s : TableSchema) (base : ℕ) (plan : Plan) (given : List CommitFile) (p : Past)
     : Type 0 where
   pub table : IsTableOf s p.history
@@ -94,8 +128,10 @@ pub record KnowsPlan (me : Actor) (s : TableSchema) (base : ℕ) (plan : Plan) (
   pub rise : GroupsRise plan.groups.items
   pub goes : plan.removed.items ≡ flat_map (goes_of s) groups
   pub comes : plan.added.items ≡ flat_map (comes_of s) groups
-  pub quiet : TellsNothing s
-  pub untold : plan.changes.items ≡ []
-  pub given_are : given ≡ flat_map (made_files s) groups
+  pub told : List ToldGroup
+  pub each_told : AllByRecursion (IsToldAt me s base p) told
+  pub all_told : plan.groups.items ≡ map named_told told
+  pub tells : plan.changes.items ≡ flat_map (tells_of s) told
+  pub given_are : given ≡ flat_map (made_files s) groups ++ flat_map (told_files s) told
   pub full : (appends : ℕ) → plan.full ≡ Some appends
       → (x : Snapshot) × SnapshotAt (p.stood base) base x × (appends ≡ x.appends)

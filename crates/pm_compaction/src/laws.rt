@@ -23,6 +23,7 @@ ghost use Rattle.pm_made.specs.declared.newest.Newest.{Newest};
 ghost use Rattle.pm_compaction.specs.Compacted.{GoesOnWith, HasCompacted};
 ghost use Rattle.pm_compaction.specs.Plan.{KnowsPlan};
 
+use pm_changelog::group_log_law;
 use pm_choice::stored_law;
 use pm_compact::rewritten_law;
 use pm_dedup::Deduplicate;
@@ -30,6 +31,7 @@ use pm_engine::MergeEngine;
 use pm_levels::{newest_law, replaced_law};
 use pm_made::{commit_law, made_law};
 use pm_manifest::{id_law, joined_law, read_entry_law};
+use pm_model_changelog::{full_log_law, log_law, lookup_log_law, quiet_law};
 use pm_model_contents::{one_contents_law, one_runs_law, same_law};
 use pm_schema::{declared_law, schema_law};
 use pm_values::{names_law, order_law};
@@ -45,8 +47,8 @@ pub fn plan_law()
 
 /// So it shows of a try by the plan what this needs to be ready: its base is a snapshot of the table, the files that
 /// were made are the actor's, as they were created, the count of appends that it bears is within that of the newest
-/// snapshot, and its delta's entries, as they are written, can stand in a manifest, and no two that go, and no two that
-/// come, are of one file.
+/// snapshot, and its delta's entries and its changelog files, as they are written, can stand in a manifest, and no two
+/// that go, and no two that come, are of one file.
 pub fn ready_law()
     ensures base { (me : Actor) (p : Past) (s : TableSchema) (entries : List Entry) (base : ℕ) (plan : Plan)
         (given : List FileView) → p.history ≡ table s entries → KnowsPlan me s base plan given p →
@@ -67,6 +69,7 @@ pub fn ready_law()
         (made : IsMadeOf s t.newest t.author t.intent t.names t.made) → MayChange s made.delta }
 {
     pm_model_folder::appends_law();
+    log_law();
     stored_law();
     joined_law();
     read_entry_law();
@@ -81,9 +84,9 @@ pub fn ready_law()
 
 /// A try to compact by a plan that is ready, while the files that were made for it are there, adds its entry to the
 /// history once its snapshot appears after the newest, whatever came since its base. What the snapshot names and the
-/// one before it doesn't was named by the actor; the snapshot and its lists are those that were made; and each group's
-/// runs go on: they stay where the plan hasn't the group, else at most one run stands in the place of those that were
-/// taken.
+/// one before it doesn't was named by the actor; the snapshot and its lists are those that were made, and its changelog
+/// files hold its change, since what they tell was settled at the base; and each group's runs go on: they stay where
+/// the plan hasn't the group, else at most one run stands in the place of those that were taken.
 pub fn compaction_law()
     ensures { (me : Actor) (f after : Files) (p : Past) (s : TableSchema) (entries : List Entry) (e : Entry)
         (t : Attempt) (plan : Plan) (given : List FileView) → Stands f p → p.history ≡ table s entries →
@@ -112,6 +115,12 @@ pub fn compaction_law()
     same_law();
     names_law();
     order_law();
+    schema_law();
+    declared_law();
+    lookup_log_law();
+    full_log_law();
+    quiet_law();
+    group_log_law();
     pm_model_folder::still_law();
     pm_runs::goes_on_law();
     <Deduplicate as MergeEngine>::droppable_law();

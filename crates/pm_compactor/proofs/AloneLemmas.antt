@@ -19,7 +19,7 @@ use Rattle.pm_machine.proofs.PhaseFacts.{Spares}
 use Rattle.pm_model_history.specs.History.{Entry, compaction}
 use Rattle.pm_schema.specs.declared.schema.TableSchema.{TableSchema}
 use Rattle.pm_snapshot.specs.Names.{MayName}
-use Rattle.pm_engine.specs.Covers.{Run}
+use Rattle.pm_scan_rows.specs.Group.{GroupRead}
 use Rattle.pm_model_folder.specs.Changes.{Actor}
 use Rattle.pm_model_folder.specs.Ledger.{Advances, Past, Stands, count_of}
 use Rattle.pm_model_folder.specs.Meaning.{HasSnapshotAt}
@@ -39,7 +39,7 @@ use Rattle.pm_read_table.proofs.Facts as reader_facts
 use Rattle.pm_read_table.proofs.WithinLemmas.{with_reader}
 use Rattle.pm_group_files.specs.Chosen.{Chosen, chosen_of}
 use Rattle.pm_group_files.specs.Collected.{Collected, nothing_of, without_groups}
-use Rattle.pm_group_files.specs.Jobs.{all_jobs}
+use Rattle.pm_group_files.specs.Jobs.{all_wanted}
 use Rattle.pm_group_files.specs.Meaning as files_meaning
 use Rattle.pm_group_files.specs.Meaning.{IsChosen}
 use Rattle.pm_group_files.specs.Reader as files
@@ -53,14 +53,14 @@ use Rattle.pm_group_files.proofs.ViewLemmas.{OneRuns}
 use Rattle.pm_made.specs.declared.newest.Newest.{Newest}
 use Rattle.pm_made.proofs.MadeLemmas.{PathFacts, at, may-count}
 use Rattle.pm_choice.specs.declared.choice.ChosenGroup.{ChosenGroup}
-use Rattle.pm_plan.specs.Planned.{AllRewritten, HasRoom}
+use Rattle.pm_plan.specs.Planned.{AllRewritten, HasRoom, HasTold}
 use Rattle.pm_plan.specs.declared.planned.Asking.{Asking}
 use Rattle.pm_plan.specs.declared.planned.Planned.{Planned}
 use Rattle.pm_commit.specs.Alone.{IsTryAt, ReadsNewest, left_of}
 use Rattle.pm_commit.specs.Committer as commit
-use Rattle.pm_commit.specs.Committer.{first_of_put, newest_in, newest_of}
+use Rattle.pm_commit.specs.Committer.{first_of_put, newest_of}
 use Rattle.pm_commit.specs.Meaning as commit_meaning
-use Rattle.pm_commit.specs.Meaning.{KnowsBut, MakesEntry, MakesFile, MakesIn, MakesOwn, own_in}
+use Rattle.pm_commit.specs.Meaning.{KnowsBut, MakesEntry, MakesFile, MakesOwn}
 use Rattle.pm_commit.specs.Own as owns
 use Rattle.pm_commit.specs.Own.{OwnView, own_for_plan}
 use Rattle.pm_commit.specs.declared.phase.Phase as commit_phase
@@ -77,12 +77,12 @@ use Rattle.pm_commit.proofs.StillLemmas.{OthersNone}
 use Rattle.pm_commit.proofs.TraceLemmas.{some-at}
 use Rattle.pm_compactor.specs.AllCalls.{Beginning, IsNewestView, entry_of, newest_id}
 use Rattle.pm_compactor.specs.Alone.{AreApart, AreUntouched, CommitsAlone, CreatesAlone, HasMadeOf, IsCommitOf, IsPastOf, IsPutAt, IsStill, KnewAlone, LacksNone, MakesAlone, begun_in}
-use Rattle.pm_compactor.specs.Compactor.{AfterGroups, Begins, CreatesNext, Goes, IsCreating, Opens, OpensWith, Shown, actor_of, chosen_in, next_call, taken_groups, IsPlanIn}
+use Rattle.pm_compactor.specs.Compactor.{AfterGroups, Begins, CreatesNext, Goes, IsCreating, Opens, OpensWith, Shown, actor_of, chosen_in, next_call, wanted_in, IsPlanIn}
 use Rattle.pm_compactor.specs.Meaning.{IsEntryIn, Knows, Leaves, MayRefuse}
 use Rattle.pm_compactor.specs.declared.phase.Phase.{Phase}
 use Rattle.pm_compactor.specs.declared.phase.Phase.TheVariants as phases
 use Rattle.pm_compactor.proofs.AloneLemmasBegin.{IsDone, WholeGroups, commit-of, entry-is, put-at}
-use Rattle.pm_compactor.proofs.AloneLemmasMade.{all-grow}
+use Rattle.pm_compactor.proofs.AloneLemmasMade.{Grows, all-grow, told-grows}
 use Rattle.pm_compactor.proofs.AloneLemmasView.{SeenLaws, newest-view}
 use Rattle.pm_compactor.proofs.TraceLemmas.{rewritten-join}
 
@@ -96,7 +96,7 @@ pub record AloneLaws : Type 0 where
   pub others : OthersNone
   pub whole : WholeGroups
   pub begun : (a : Chosen) (f : Files) (p : Past) → IsChosen p a → a.given ≡ []
-      → files_meaning.Knows a (read_next a.id (nothing_of a.schema) (all_jobs a.schema a.groups)) f p
+      → files_meaning.Knows a (read_next a.id (nothing_of a.schema) (all_wanted a.schema a.groups)) f p
   pub created : (e : Entry) (given done left : List CommitFile) (file : CommitFile) (m : commit_phase.Phase) (f after : Files) (p : Past) → Stands f p
       → given ≡ done ++ file ∷ left → KnowsBut e given done m f p → 0 < commit.calls_left m → map.get f file.path ≡ None
       → Puts f file.path (Some file.bytes) after → KnowsBut e given (done ++ file ∷ []) m after p
@@ -162,14 +162,14 @@ present-on a m answer (readers.Again id path) f p none knows goes newest stands 
     gone-never f p a.schema id stands (again-id a m answer id path f p none knows goes ∙ newest) gone
 present-on a m answer to f p none knows goes newest stands known = tt
 
-present-handed : (m : files_phase.Phase) (groups : List (List Run)) (rest : files_phase.Phase) → LacksNone m → HandsOut m groups rest → LacksNone rest
+present-handed : (m : files_phase.Phase) (groups : List GroupRead) (rest : files_phase.Phase) → LacksNone m → HandsOut m groups rest → LacksNone rest
 present-handed (readers.Files r) groups rest none (are, is) = subst LacksNone (sym is) tt
 present-handed (readers.Ready c) groups rest none (are, is) = subst LacksNone (sym is) tt
 present-handed (readers.Again id path) groups rest none hands = absurd none
 present-handed readers.Over groups rest none (are, is) = subst LacksNone (sym is) tt
 
 -- where it has all files, it has no group left then
-pub ready-none : (m : files_phase.Phase) (groups : List (List Run)) (c : Collected) → HandsOut m groups (readers.Ready c) → c.groups ≡ []
+pub ready-none : (m : files_phase.Phase) (groups : List GroupRead) (c : Collected) → HandsOut m groups (readers.Ready c) → c.groups ≡ []
 ready-none (readers.Ready old) groups c (are, is) =
     let e : readers.Ready c ≡ readers.Ready (without_groups old) = is in
     let same : c ≡ without_groups old = cc in ap (λ (c : Collected). c.groups) same
@@ -272,8 +272,8 @@ module _ (laws : AloneLaws) (b : Beginning) where
               is_plan = plan;
               groups = [];
               rewritten = refl;
-              reading = laws.begun (chosen_of x.schema x.newest.id (taken_groups x.left.items) []) f p chosen refl;
-              present = next-present x.newest.id (nothing_of x.schema) (all_jobs x.schema (taken_groups x.left.items));
+              reading = laws.begun (chosen_of x.schema x.newest.id (wanted_in x) []) f p chosen refl;
+              present = next-present x.newest.id (nothing_of x.schema) (all_wanted x.schema (wanted_in x));
             },
           ),
         ),
@@ -283,28 +283,28 @@ module _ (laws : AloneLaws) (b : Beginning) where
   -- ---- the files are read
 
   -- the commit begins
-  module _ (v : View) (x : Planned) (f : Files) (p : Past) (past : IsPastOf b p) (still : IsStill b f p) (newest : IsNewestView b v) (some : chosen_in b.asking v ≢ [])
-      (done : IsDone b v x f p) (room : HasRoom x) (may : MayName x.names) where
-    enter : (new : Phase) → Begins x new → Knows new f p → KnewAlone b new f p
-    enter new (first, (plan, is_plan, (made, is_made, allowed, at_first)), creates_next) knows = by x.files.items refl creates_next
+  module _ (v : View) (x y : Planned) (f : Files) (p : Past) (past : IsPastOf b p) (still : IsStill b f p) (newest : IsNewestView b v) (some : chosen_in b.asking v ≢ [])
+      (done : IsDone b v x f p) (logged : HasTold x y) (room : HasRoom y) (may : MayName y.names) where
+    enter : (new : Phase) → Begins y new → Knows new f p → KnewAlone b new f p
+    enter new (first, (plan, is_plan, (made, is_made, allowed, at_first)), creates_next) knows = by y.files.items refl creates_next
       where
-        of : IsCommitOf b v (own_for_plan plan x.author x.names)
-        of = commit-of laws.whole b v x f p past newest done plan is_plan
+        of : IsCommitOf b v (own_for_plan plan y.author y.names)
+        of = commit-of laws.whole b v x y f p past newest done logged plan is_plan
 
-        at-put : IsPutAt b v (own_for_plan plan x.author x.names) x.files.items (first_of_put (own_for_plan plan x.author x.names) x.schema made) f
-        at-put = put-at laws.whole b v x f p past newest done plan is_plan made is_made allowed still room may laws.parts
+        at-put : IsPutAt b v (own_for_plan plan y.author y.names) y.files.items (first_of_put (own_for_plan plan y.author y.names) y.schema made) f
+        at-put = put-at laws.whole b v x y f p past newest done logged plan is_plan made is_made allowed still room may laws.parts
 
-        same-entry : (m : commit_phase.Phase) (e : Entry) → m ≡ first_of_put (own_for_plan plan x.author x.names) x.schema made → IsEntryIn m e → e ≡ entry_of b.asking v
+        same-entry : (m : commit_phase.Phase) (e : Entry) → m ≡ first_of_put (own_for_plan plan y.author y.names) y.schema made → IsEntryIn m e → e ≡ entry_of b.asking v
         same-entry m e is entry =
-            let own_entry : e ≡ compaction x.author.base plan.groups.items =
+            let own_entry : e ≡ compaction y.author.base plan.groups.items =
             subst (λ (m : commit_phase.Phase). IsEntryIn m e) is entry in
-            own_entry ∙ entry-is laws.whole b v x f p past newest done plan is_plan
+            own_entry ∙ entry-is laws.whole b v x y f p past newest done logged plan is_plan
 
-        create : (next : CommitFile) (rest : List CommitFile) (later : Phase) → x.files.items ≡ next ∷ rest → IsCreating first next rest later → Knows later f p
+        create : (next : CommitFile) (rest : List CommitFile) (later : Phase) → y.files.items ≡ next ∷ rest → IsCreating first next rest later → Knows later f p
             → KnewAlone b later f p
         create next rest (phases.Create m file left) are (is_m, is_file, is_left) ((is_committer, never, more), (e, given, done_files, parts, entry, but)) =
-            let is_first : m ≡ first_of_put (own_for_plan plan x.author x.names) x.schema made = is_m ∙ at_first in
-            let files_are : x.files.items ≡ file ∷ left.items =
+            let is_first : m ≡ first_of_put (own_for_plan plan y.author y.names) y.schema made = is_m ∙ at_first in
+            let files_are : y.files.items ≡ file ∷ left.items =
             are ∙ ap (λ (next : CommitFile). next ∷ rest) (sym is_file) ∙ ap (λ (rest : List CommitFile). file ∷ rest) (sym is_left) in (
               past,
               (
@@ -314,29 +314,29 @@ module _ (laws : AloneLaws) (b : Beginning) where
                   newest,
                   some,
                   record {
-                    own = own_for_plan plan x.author x.names;
+                    own = own_for_plan plan y.author y.names;
                     of = of;
                     given = given;
                     done = done_files;
                     parts = parts;
                     knows = subst (λ (e : Entry). KnowsBut e given done_files m f p) (same-entry m e is_first entry) but;
                     left = more;
-                    at = subst (λ (m : commit_phase.Phase). IsPutAt b v (own_for_plan plan x.author x.names) (file ∷ left.items) m f) (sym is_first)
-                        (subst (λ (files : List CommitFile). IsPutAt b v (own_for_plan plan x.author x.names) files
-                        (first_of_put (own_for_plan plan x.author x.names) x.schema made) f) files_are at-put);
+                    at = subst (λ (m : commit_phase.Phase). IsPutAt b v (own_for_plan plan y.author y.names) (file ∷ left.items) m f) (sym is_first)
+                        (subst (λ (files : List CommitFile). IsPutAt b v (own_for_plan plan y.author y.names) files
+                        (first_of_put (own_for_plan plan y.author y.names) y.schema made) f) files_are at-put);
                   },
                 ),
               ),
             )
         create next rest later are none known = absurd none
 
-        by : (files : List CommitFile) → x.files.items ≡ files → CreatesNext first files new → KnewAlone b new f p
+        by : (files : List CommitFile) → y.files.items ≡ files → CreatesNext first files new → KnewAlone b new f p
         by [] are is =
-            let to : new ≡ phases.Commit (first_of_put (own_for_plan plan x.author x.names) x.schema made) = is ∙ ap (λ (m : commit_phase.Phase). phases.Commit m) at_first in
-            let known : Knows (phases.Commit (first_of_put (own_for_plan plan x.author x.names) x.schema made)) f p = subst (λ (m : Phase). Knows m f p) to knows in
+            let to : new ≡ phases.Commit (first_of_put (own_for_plan plan y.author y.names) y.schema made) = is ∙ ap (λ (m : commit_phase.Phase). phases.Commit m) at_first in
+            let known : Knows (phases.Commit (first_of_put (own_for_plan plan y.author y.names) y.schema made)) f p = subst (λ (m : Phase). Knows m f p) to knows in
             let (is_compactor, (e, entry, commit_known)) = known in
-            let put_first = subst (λ (files : List CommitFile). IsPutAt b v (own_for_plan plan x.author x.names) files
-            (first_of_put (own_for_plan plan x.author x.names) x.schema made) f) are at-put in
+            let put_first = subst (λ (files : List CommitFile). IsPutAt b v (own_for_plan plan y.author y.names) files
+            (first_of_put (own_for_plan plan y.author y.names) y.schema made) f) are at-put in
             subst (λ (m : Phase). KnewAlone b m f p) (sym to) (
               past,
               (
@@ -344,17 +344,25 @@ module _ (laws : AloneLaws) (b : Beginning) where
                 newest,
                 some,
                 (
-                  own_for_plan plan x.author x.names,
+                  own_for_plan plan y.author y.names,
                   of,
                   (
-                    subst (λ (e : Entry). commit_meaning.Knows e (first_of_put (own_for_plan plan x.author x.names) x.schema made) f p)
-                        (same-entry (first_of_put (own_for_plan plan x.author x.names) x.schema made) e refl entry) commit_known,
+                    subst (λ (e : Entry). commit_meaning.Knows e (first_of_put (own_for_plan plan y.author y.names) y.schema made) f p)
+                        (same-entry (first_of_put (own_for_plan plan y.author y.names) y.schema made) e refl entry) commit_known,
                     (still.same, (put_first.0, put_first.2)),
                   ),
                 ),
               ),
             )
         by (next ∷ rest) are creating = create next rest new are creating knows
+
+  -- the names may stand in paths
+  grown-may : (x y : Planned) → Grows x y → HasRoom y → MayName x.names → MayName y.names
+  grown-may x y grown room may =
+      let named = room.named in
+      let few = room.few in
+      let count : y.names.count ≡ x.names.count + length grown.more = ap (λ (t : Naming). t.count) grown.names in
+      subst MayName (sym grown.names) (may-count x.names (x.names.count + length grown.more) may (omega (arith, named, few, count)))
 
   -- with the groups that are whole by now
   after-groups : (v : View) (x made : Planned) (m : files_phase.Phase) (new : Phase) (f : Files) (p : Past) → IsPastOf b p → IsStill b f p → IsNewestView b v
@@ -363,14 +371,14 @@ module _ (laws : AloneLaws) (b : Beginning) where
   after-groups v x made (readers.Files r) new f p past still newest some has none room may is knows =
       subst (λ (m : Phase). KnewAlone b m f p) (sym is) (past, (subst (λ (m : Phase). Knows m f p) is knows, still, (v, newest, some, has)))
   after-groups v x made (readers.Again id path) new f p past still newest some has none room may is knows = absurd has.present
-  after-groups v x made (readers.Ready c) new f p past still newest some has none room may begins knows =
-      enter v made f p past still newest some (record {
+  after-groups v x made (readers.Ready c) new f p past still newest some has none room may (all, logged, more_room, begins) knows =
+      enter v made all f p past still newest some (record {
         planned = has.planned;
         is_plan = has.is_plan;
         groups = has.groups;
         rewritten = has.rewritten;
         taken = (c, none c refl, has.reading);
-      }) room may new begins knows
+      }) logged more_room (grown-may made all (told-grows made all logged) more_room may) new begins knows
   after-groups v x made readers.Over new f p past still newest some has none room may is knows =
       subst (λ (m : Phase). KnewAlone b m f p) (sym is) (past, (subst (λ (m : Phase). Knows m f p) is knows, still, (v, newest, some, has)))
 
@@ -378,7 +386,7 @@ module _ (laws : AloneLaws) (b : Beginning) where
   pub read-more : (v : View) (x : Planned) (m : files_phase.Phase) (answer : Answer) (to : files_phase.Phase) (f : Files) (p : Past) → files.Goes m answer to → Stands f p
       → IsStill b f p → IsNewestView b v → HasMadeOf b v x m f p → (call : Call) → files.next_call m ≡ Some call → Answers call answer f → HasMadeOf b v x to f p
   read-more v x m answer to f p goes stands still newest has call is told =
-      let a : Chosen = chosen_of has.planned.schema has.planned.newest.id (taken_groups has.planned.left.items) has.groups in
+      let a : Chosen = chosen_of has.planned.schema has.planned.newest.id (wanted_in has.planned) has.groups in
       let reading = some-at (files.next_call m) call _ is (files_facts.knows_next a m answer to f p goes stands has.reading) told in
       let id : has.planned.newest.id ≡ count_of p.history =
       ap (λ (n : Newest). n.id) has.is_plan.newest_is ∙ newest.newest.id ∙ ap count_of (sym still.same) in
@@ -392,10 +400,10 @@ module _ (laws : AloneLaws) (b : Beginning) where
       }
 
   -- and made
-  pub made-more : (v : View) (x made : Planned) (groups : List (List Run)) (m rest : files_phase.Phase) (f : Files) (p : Past) → HandsOut m groups rest
+  pub made-more : (v : View) (x made : Planned) (groups : List GroupRead) (m rest : files_phase.Phase) (f : Files) (p : Past) → HandsOut m groups rest
       → AllRewritten x groups made → HasMadeOf b v x m f p → HasMadeOf b v made rest f p
   made-more v x made groups m rest f p hands rewritten has =
-      let a : Chosen = chosen_of has.planned.schema has.planned.newest.id (taken_groups has.planned.left.items) has.groups in
+      let a : Chosen = chosen_of has.planned.schema has.planned.newest.id (wanted_in has.planned) has.groups in
       record {
         planned = has.planned;
         is_plan = has.is_plan;
@@ -405,19 +413,13 @@ module _ (laws : AloneLaws) (b : Beginning) where
         present = present-handed m groups rest has.present hands;
       }
 
-  -- the names may stand in paths
-  pub made-may : (x made : Planned) (groups : List (List Run)) → AllRewritten x groups made → HasRoom made → MayName x.names → MayName made.names
-  made-may x made groups rewritten room may =
-      let grown = all-grow x groups made rewritten in
-      let named = room.named in
-      let few = room.few in
-      let count : made.names.count ≡ x.names.count + length grown.more = ap (λ (t : Naming). t.count) grown.names in
-      subst MayName (sym grown.names) (may-count x.names (x.names.count + length grown.more) may (omega (arith, named, few, count)))
+  pub made-may : (x made : Planned) (groups : List GroupRead) → AllRewritten x groups made → HasRoom made → MayName x.names → MayName made.names
+  made-may x made groups rewritten room may = grown-may x made (all-grow x groups made rewritten) room may
 
   pub went-files : (x : Planned) (m : files_phase.Phase) (answer : Answer) (new : Phase) (f : Files) (p : Past) → Goes (phases.Files x m) answer new → Stands f p
       → KnewAlone b (phases.Files x m) f p → (call : Call) → files.next_call m ≡ Some call → Answers call answer f → Knows new f p → KnewAlone b new f p
   went-files x m answer new f p (to, goes, (groups, rest, made, hands, rewritten, room, after)) stands
-      (past, ((is_compactor, (done, (takings, known, found, unnamed), reading)), still, (v, newest, some, has))) call is told knows =
+      (past, ((is_compactor, (done, given, many, (takings, known, found, unnamed), reading)), still, (v, newest, some, has))) call is told knows =
       let so_far = read-more v x m answer to f p goes stands still newest has call is told in
       after-groups v x made rest new f p past still newest some (made-more v x made groups to rest f p hands rewritten so_far)
       (λ c ready. ready-none to groups c (subst (HandsOut to groups) ready hands)) room (made-may x made groups rewritten room known.names.may) after knows

@@ -21,7 +21,7 @@ use Rattle.pm_machine.specs.Moves.{Changes, Keeps, Leads, Moves}
 use Rattle.pm_machine.specs.Running.{Refuses, Stops}
 use Rattle.pm_machine.specs.Step.{Stepped, Failed, Refused, Rested, Stopped, Went, path_of}
 use Rattle.pm_machine.proofs.PhaseFacts.{Spares}
-use Rattle.pm_engine.specs.Covers.{Run}
+use Rattle.pm_scan_rows.specs.Group.{GroupRead}
 use Rattle.pm_model_folder.specs.Changes.{Actor, IsNamedBy, IsOwnFile}
 use Rattle.pm_model_folder.specs.Ledger.{Past, Stands, count_of}
 use Rattle.pm_put.proofs.Facts.{call_makes}
@@ -41,7 +41,7 @@ use Rattle.pm_made.specs.Refusals.{refusal_of}
 use Rattle.pm_made.specs.declared.intent.Intent.TheVariants as intents
 use Rattle.pm_made.specs.declared.newest.Author.{Author}
 use Rattle.pm_made.proofs.AllowedLemmas.{IsReason, is-reason}
-use Rattle.pm_plan.specs.Planned.{AllRewritten}
+use Rattle.pm_plan.specs.Planned.{AllRewritten, HasTold}
 use Rattle.pm_plan.specs.declared.planned.Planned.{Planned}
 use Rattle.pm_commit.specs.Committer as commit
 use Rattle.pm_commit.specs.Marks.{FindsUsed}
@@ -64,6 +64,7 @@ use Rattle.pm_compactor.specs.declared.phase.Phase.{Phase}
 use Rattle.pm_compactor.specs.declared.phase.Phase.TheVariants as phases
 use Rattle.pm_compactor.proofs.AloneLemmas.{AloneLaws, IsCalm, calm-knows, calm-spares, create-makes, made-more, putter-of, read-more, ready-none, spares-makes, try-actor, went-create, went-files, went-names, went-view}
 use Rattle.pm_compactor.proofs.AloneLemmasBegin.{IsDone, author-is, found-is, of-choice}
+use Rattle.pm_compactor.proofs.TellLemmas.{refuses-fault}
 use Rattle.pm_compactor.proofs.AloneLemmasCommit.{changes-commit, failed-commit, refused-commit, went-commit}
 
 -- ---- before a file is created
@@ -176,11 +177,11 @@ module _ (laws : AloneLaws) (b : Beginning) where
   seen-refused (refusals.NoSnapshot id latest) f p stands same none newest may = absurd none
   seen-refused other f p stands same none newest may = absurd may
 
-  -- a reason against the plan, once all files were read and made
-  gives-reason : (x made : Planned) (groups : List (List Run)) (to rest : files_phase.Phase) (refusal : Refusal) (f : Files) (p : Past) (v : View) → IsPastOf b p
-      → IsNewestView b v → HasMadeOf b v x to f p → HandsOut to groups rest → AllRewritten x groups made → files.IsReady rest → RefusesPlan made refusal
-      → GivesReason b v refusal
-  gives-reason x made groups to (readers.Ready c) refusal f p v past newest has hands rewritten ready (plan, is_plan, reason) =
+  -- a reason against the plan, once all files were read and made, and what is told was written
+  gives-reason : (x made all : Planned) (groups : List GroupRead) (to rest : files_phase.Phase) (refusal : Refusal) (f : Files) (p : Past) (v : View) → IsPastOf b p
+      → IsNewestView b v → HasMadeOf b v x to f p → HandsOut to groups rest → AllRewritten x groups made → files.IsReady rest → HasTold made all
+      → RefusesPlan all refusal → GivesReason b v refusal
+  gives-reason x made all groups to (readers.Ready c) refusal f p v past newest has hands rewritten ready logged (plan, is_plan, reason) =
       let more = made-more laws b v x made groups to (readers.Ready c) f p hands rewritten has in
       let done : IsDone b v made f p = record {
         planned = more.planned;
@@ -190,14 +191,14 @@ module _ (laws : AloneLaws) (b : Beginning) where
         taken = (c, ready-none to groups c hands, more.reading);
       } in (
         plan,
-        of-choice laws.whole b v made f p past newest done plan is_plan,
-        made.newest,
-        found-is laws.whole b v made f p past newest done,
-        subst (λ (a : Author). refusal_of made.newest a (intents.Compact plan) ≡ Some refusal) (author-is laws.whole b v made f p past newest done) reason,
+        of-choice laws.whole b v made all f p past newest done logged plan is_plan,
+        all.newest,
+        found-is laws.whole b v made all f p past newest done logged,
+        subst (λ (a : Author). refusal_of all.newest a (intents.Compact plan) ≡ Some refusal) (author-is laws.whole b v made all f p past newest done logged) reason,
       )
-  gives-reason x made groups to (readers.Files r) refusal f p v past newest has hands rewritten ready refuses = absurd ready
-  gives-reason x made groups to (readers.Again id path) refusal f p v past newest has hands rewritten ready refuses = absurd ready
-  gives-reason x made groups to readers.Over refusal f p v past newest has hands rewritten ready refuses = absurd ready
+  gives-reason x made all groups to (readers.Files r) refusal f p v past newest has hands rewritten ready logged refuses = absurd ready
+  gives-reason x made all groups to (readers.Again id path) refusal f p v past newest has hands rewritten ready logged refuses = absurd ready
+  gives-reason x made all groups to readers.Over refusal f p v past newest has hands rewritten ready logged refuses = absurd ready
 
   by-reason : (x : Planned) (m : files_phase.Phase) (call : Call) (answer : Answer) (refusal : Refusal) (f : Files) (p : Past) → IsReason refusal
       → Stands f p → Knows (phases.Files x m) f p → next_call (phases.Files x m) ≡ Some call → Answers call answer f → Shown (phases.Files x m) answer refusal
@@ -209,17 +210,25 @@ module _ (laws : AloneLaws) (b : Beginning) where
   by-reason x m call answer (refusals.Limit which number) f p is stands known at told shown still gives = (still, gives)
   by-reason x m call answer other f p is stands known at told shown still gives = absurd is
 
+  -- no file is damaged
+  no-fault : (x : Planned) (m : files_phase.Phase) (call : Call) (answer : Answer) (refusal : Refusal) (f : Files) (p : Past) → Stands f p
+      → Knows (phases.Files x m) f p → next_call (phases.Files x m) ≡ Some call → Answers call answer f → Shown (phases.Files x m) answer refusal → IsStill b f p
+      → IsFileFault refusal → AloneRefused b refusal f p
+  no-fault x m call answer refusal f p stands known at told shown still fault =
+      file-kind refusal (AloneRefused b refusal f p) fault
+      (λ memory. forgotten refusal f p memory still.same)
+      (λ path place is. absurd (laws.may (phases.Files x m) call answer (refusals.Damaged path place) f p stands known at told
+      (subst (λ (e : Refusal). Shown (phases.Files x m) answer e) is shown)))
+      (λ what text is. absurd (laws.may (phases.Files x m) call answer (refusals.Unsupported what text) f p stands known at told
+      (subst (λ (e : Refusal). Shown (phases.Files x m) answer e) is shown)))
+
   refused-file : (x : Planned) (m : files_phase.Phase) (call : Call) (answer : Answer) (refusal : Refusal) (f : Files) (p : Past) (v : View) → Stands f p
       → Knows (phases.Files x m) f p → next_call (phases.Files x m) ≡ Some call → Answers call answer f → files.Shown m answer refusal → IsStill b f p
       → HasMadeOf b v x m f p → AloneRefused b refusal f p
   refused-file x (readers.Files r) call (answers.Found (Some bytes)) refusal f p v stands known at told (inl memory) still has = forgotten refusal f p memory still.same
   refused-file x (readers.Files r) call (answers.Found (Some bytes)) refusal f p v stands known at told (inr bad) still has =
-      file-kind refusal (AloneRefused b refusal f p) (refuses_fault r.collected.schema r.next bytes r.collected.rows refusal bad)
-      (λ memory. forgotten refusal f p memory still.same)
-      (λ path place is. absurd (laws.may (phases.Files x (readers.Files r)) call (answers.Found (Some bytes)) (refusals.Damaged path place) f p stands known at told
-      (subst (λ (e : Refusal). Shown (phases.Files x (readers.Files r)) (answers.Found (Some bytes)) e) is (inl (inr bad)))))
-      (λ what text is. absurd (laws.may (phases.Files x (readers.Files r)) call (answers.Found (Some bytes)) (refusals.Unsupported what text) f p stands known at told
-      (subst (λ (e : Refusal). Shown (phases.Files x (readers.Files r)) (answers.Found (Some bytes)) e) is (inl (inr bad)))))
+      no-fault x (readers.Files r) call (answers.Found (Some bytes)) refusal f p stands known at told (inl (inr bad)) still
+      (refuses_fault r.collected.schema r.next bytes r.collected.rows refusal bad)
   refused-file x (readers.Again id path) call answer refusal f p v stands known at told shown still has = absurd has.present
   refused-file x m call answer refusal f p v stands known at told shown still has = absurd shown
 
@@ -249,12 +258,14 @@ module _ (laws : AloneLaws) (b : Beginning) where
       refused-file x m call answer refusal f p v stands known at told shown still has
   calm-refused (phases.Files x m) answer refusal f p calm (inr (to, goes, inl (memory, has_all))) stands (past, (known, still, more)) call at told =
       forgotten refusal f p memory still.same
-  calm-refused (phases.Files x m) answer refusal f p calm (inr (to, goes, inr (rest, groups, made, hands, rewritten, ready, (plan, is_plan, reason)))) stands
+  calm-refused (phases.Files x m) answer refusal f p calm (inr (to, goes, inr (inl (rest, groups, hands, fails)))) stands (past, (known, still, more)) call at told =
+      no-fault x m call answer refusal f p stands known at told (inr (to, goes, inr (inl (rest, groups, hands, fails)))) still (refuses-fault x groups refusal fails)
+  calm-refused (phases.Files x m) answer refusal f p calm (inr (to, goes, inr (inr (rest, groups, made, all, hands, rewritten, ready, logged, (plan, is_plan, reason))))) stands
       (past, (known, still, (v, newest, some, has))) call at told =
       let so_far = read-more laws b v x m answer to f p goes stands still newest has call at told in
-      by-reason x m call answer refusal f p (is-reason made.newest made.author (intents.Compact plan) refusal reason) stands known at told
-      (inr (to, goes, inr (rest, groups, made, hands, rewritten, ready, (plan, is_plan, reason)))) still
-      (v, newest, some, gives-reason x made groups to rest refusal f p v past newest so_far hands rewritten ready (plan, is_plan, reason))
+      by-reason x m call answer refusal f p (is-reason all.newest all.author (intents.Compact plan) refusal reason) stands known at told
+      (inr (to, goes, inr (inr (rest, groups, made, all, hands, rewritten, ready, logged, (plan, is_plan, reason))))) still
+      (v, newest, some, gives-reason x made all groups to rest refusal f p v past newest so_far hands rewritten ready logged (plan, is_plan, reason))
   calm-refused m answer refusal f p calm shown stands known call at told = absurd calm
 
   -- a create met a file that was there at the beginning

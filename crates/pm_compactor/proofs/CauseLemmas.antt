@@ -1,7 +1,7 @@
 -- Which refusals a folder that stands can show a compactor, whatever others do between its calls.
 use Rattle.std.proofs.Common.{◌≡◌, inl, inr, ℕ, zero, suc, ◌+◌, ◌≤◌, ℤ, pos, negsuc, int_le, int_lt, Bool, true, false, true≢false, not, if◌then◌else◌, List, [], ◌∷◌, ◌++◌, codes, length, map, take, slice_get, Contains, Option, None, Some, IsSome, IfSome, append-nil, refl, sym, ap, subst, ◌∙◌, arith}
 use Rattle.std.specs.FinMap as paths
-use Rattle.std.specs.List.{AllByRecursion, AllZip, flat_map, fold}
+use Rattle.std.specs.List.{AllByRecursion, AllZip, FoldsTo, flat_map, fold}
 use Rattle.std.proofs.lemmas.Bool.Decides.{nat_tests}
 use Rattle.std.proofs.lemmas.Grind.{flat_map-append}
 use Rattle.std.proofs.lemmas.List.{map-append}
@@ -16,12 +16,13 @@ use Rattle.pm_store.specs.declared.call.Call.{Call}
 use Rattle.pm_store.specs.declared.call.Call.TheVariants as calls
 use Rattle.pm_values.specs.declared.file_meta.FileMeta.{FileMeta}
 use Rattle.pm_values.specs.declared.group.Group.{Group}
+use Rattle.pm_values.specs.declared.record.Change.{Change}
 use Rattle.pm_values.specs.declared.refusal.Refusal.{Refusal}
 use Rattle.pm_values.specs.declared.refusal.Refusal.TheVariants as refusals
 use Rattle.pm_model_history.specs.History.{Entry as EntryView, append, compaction, fence, IsTableOf}
 use Rattle.pm_schema.specs.declared.schema.TableSchema.{TableSchema}
 use Rattle.pm_snapshot.specs.declared.snapshot.Snapshot.{Snapshot}
-use Rattle.pm_engine.specs.Covers.{Run}
+use Rattle.pm_scan_rows.specs.Group.{GroupRead}
 use Rattle.pm_levels.specs.Runs.{RunView, files_of}
 use Rattle.pm_manifest.specs.FileId.{id_eq, id_equiv}
 use Rattle.pm_manifest.specs.Live.{id_of, live_after}
@@ -42,15 +43,16 @@ use Rattle.pm_read_table.specs.Meaning as view_meaning
 use Rattle.pm_read_table.specs.Meaning.{IsViewIn, view_origin, view_snapshot}
 use Rattle.pm_read_table.specs.Reader as view_reader
 use Rattle.pm_read_table.specs.View.{kept_for, live_entries}
-use Rattle.pm_read_table.specs.declared.asked.Wanted.{Wanted}
+use Rattle.pm_read_table.specs.declared.asked.Wanted.{Wanted as Sought}
 use Rattle.pm_read_table.specs.declared.asked.Wanted.TheVariants as wants
 use Rattle.pm_read_table.specs.declared.phase.Phase as view_phase
 use Rattle.pm_read_table.specs.declared.view.View.{View}
 use Rattle.pm_group_files.specs.Chosen.{Chosen}
-use Rattle.pm_group_files.specs.Jobs.{Grouped}
+use Rattle.pm_group_files.specs.Jobs.{Wanted}
 use Rattle.pm_group_files.specs.Meaning as files_meaning
 use Rattle.pm_group_files.specs.Meaning.{IsReadAs}
 use Rattle.pm_group_files.specs.Reader as files_reader
+use Rattle.pm_group_files.specs.Reader.{HandsOut}
 use Rattle.pm_group_files.specs.declared.phase.Phase as files_phase
 use Rattle.pm_group_files.proofs.Facts as files_facts
 use Rattle.pm_group_files.proofs.FaultLemmas.{IsOfFiles, damaged, expired, shown_as, unsupported}
@@ -69,7 +71,7 @@ use Rattle.pm_made.proofs.ListLemmas.{any-not, in-head, in-left, in-tail}
 use Rattle.pm_write.specs.Files.{no_sequence}
 use Rattle.pm_compaction.specs.Plan.{IsRewrittenAt, RewrittenGroup, goes_of}
 use Rattle.pm_plan.specs.Known.{AreTakenAt, KnowsPlanned}
-use Rattle.pm_plan.specs.Planned.{AllRewritten, RewritesOf}
+use Rattle.pm_plan.specs.Planned.{AllRewritten, HasTold, RewritesOf, TellsGroup}
 use Rattle.pm_plan.specs.declared.planned.Planned.{Planned}
 use Rattle.pm_commit.specs.Committer as commit
 use Rattle.pm_commit.specs.Meaning as commit_meaning
@@ -78,11 +80,11 @@ use Rattle.pm_commit.specs.declared.found.Found.{Found}
 use Rattle.pm_commit.specs.declared.phase.Phase as commit_phase
 use Rattle.pm_commit.specs.declared.phase.Phase.TheVariants as commits
 use Rattle.pm_commit.proofs.CauseLemmas.{IsNone, shown-none}
-use Rattle.pm_compactor.specs.Compactor.{RefusesPlan, Shown, actor_of, next_call, taken_groups}
+use Rattle.pm_compactor.specs.Compactor.{RefusesPlan, Shown, actor_of, next_call, wanted_in}
 use Rattle.pm_compactor.specs.Meaning.{Knows, KnowsOfPlan, MayRefuse, MayRefuseNames, MayRefusePlanned, MayRefuseView, asked_for}
 use Rattle.pm_compactor.specs.declared.phase.Phase.{Phase}
 use Rattle.pm_compactor.specs.declared.phase.Phase.TheVariants as phases
-use Rattle.pm_compactor.proofs.SoundLemmasFiles.{WholeAre, are-handed}
+use Rattle.pm_compactor.proofs.SoundLemmasFiles.{AreHanded, KeptHave, OneRows, OnlyMemory, PlanGrows, WholeAre, are-handed, some-untold}
 use Rattle.pm_compactor.proofs.SoundLemmasView.{known-live}
 
 -- what the laws of causes of its parts say
@@ -97,6 +99,10 @@ pub record CauseLaws : Type 0 where
   pub one : OneContents
   pub live : (entries : List Entry) → AreLive (live_after none_live entries) (live_entries entries)
   pub whole : WholeAre
+  pub rows : OneRows
+  pub kept : KeptHave
+  pub grows : PlanGrows
+  pub memory : OnlyMemory
 
 -- ---- a fence is below its own number
 
@@ -175,7 +181,7 @@ found-at p v wanted some (view_snapshot x base delta es live stood has left is) 
         groups = is.groups;
       };
       is = is.snapshot;
-      entries = is.entries ∙ ap (λ (w : Wanted). live_entries (kept_for w es)) wanted;
+      entries = is.entries ∙ ap (λ (w : Sought). live_entries (kept_for w es)) wanted;
     }
 
 -- ---- what was planned isn't fenced, and what goes was live
@@ -321,43 +327,59 @@ record IsSamePlan (old new : Planned) : Type 0 where
   author : new.author ≡ old.author
   removed : new.removed ≡ old.removed
 
-one-same : (cs : List ChosenGroup) (old new : Planned) (runs : List Run) → RewritesOf cs old runs new → IsSamePlan old new
-one-same [] old new runs rewrites = absurd rewrites
-one-same (c ∷ cs) old new runs rewrites = (let same = rewrites.put.same in record {
+one-same : (cs : List ChosenGroup) (old new : Planned) (read : GroupRead) → RewritesOf cs old read new → IsSamePlan old new
+one-same [] old new read rewrites = absurd rewrites
+one-same (c ∷ cs) old new read rewrites = (let same = rewrites.put.same in record {
   newest = ap (λ (x : Planned). x.newest) same;
   author = ap (λ (x : Planned). x.author) same;
   removed = ap (λ (x : Planned). x.removed) same;
 })
 
-all-same : (groups : List (List Run)) (old new : Planned) → AllRewritten old groups new → IsSamePlan old new
+all-same : (groups : List GroupRead) (old new : Planned) → AllRewritten old groups new → IsSamePlan old new
 all-same [] old new is = subst (IsSamePlan old) is (record { newest = refl; author = refl; removed = refl })
-all-same (runs ∷ groups) old new (middle, first, rest) =
-    let one = one-same old.left.items old middle runs first in
+all-same (read ∷ groups) old new (middle, first, rest) =
+    let one = one-same old.left.items old middle read first in
     let more = all-same groups middle new rest in
     record { newest = more.newest ∙ one.newest; author = more.author ∙ one.author; removed = more.removed ∙ one.removed }
 
+-- so does what is told of them
+logs-same : (logs : List (Group × List Change)) (old new : Planned) → FoldsTo TellsGroup old logs new → IsSamePlan old new
+logs-same [] old new is = subst (IsSamePlan old) is (record { newest = refl; author = refl; removed = refl })
+logs-same (told ∷ logs) old new (middle, tells, rest) =
+    let more = logs-same logs middle new rest in record {
+      newest = more.newest ∙ ap (λ (x : Planned). x.newest) tells.same;
+      author = more.author ∙ ap (λ (x : Planned). x.author) tells.same;
+      removed = more.removed ∙ ap (λ (x : Planned). x.removed) tells.same;
+    }
+
+told-plan : (old new : Planned) → HasTold old new → IsSamePlan old new
+told-plan old new has =
+    let same = logs-same old.logs.items (record old { logs = new.logs }) new has.told in
+    record { newest = same.newest; author = same.author; removed = same.removed }
+
 -- the runs of the groups that are left, as they stood at the base
-abbrev AreReadLeft : Planned → Past → List (List Run) → Type 0
-AreReadLeft x p groups = AllZip (IsReadAs (p.stood x.newest.id) x.schema) (taken_groups x.left.items) groups
+abbrev AreReadLeft : Planned → Past → List GroupRead → Type 0
+AreReadLeft x p groups = AllZip (IsReadAs (p.stood x.newest.id) x.schema) (wanted_in x) groups
 
-may-limit : (x made : Planned) (groups : List (List Run)) (f : Files) (p : Past) (refusal : Refusal) → AreReadLeft x p groups → AllRewritten x groups made
-    → RefusesPlan made refusal → IsLimit refusal → MayRefusePlanned x f p refusal
-may-limit x made groups f p (refusals.Limit which number) read rewritten refuses limit = (made, groups, read, rewritten, refuses)
-may-limit x made groups f p other read rewritten refuses limit = absurd limit
+may-limit : (x made all : Planned) (groups : List GroupRead) (f : Files) (p : Past) (refusal : Refusal) → AreReadLeft x p groups → AllRewritten x groups made
+    → HasTold made all → RefusesPlan all refusal → IsLimit refusal → MayRefusePlanned x f p refusal
+may-limit x made all groups f p (refusals.Limit which number) read rewritten told refuses limit = (made, all, groups, read, rewritten, told, refuses)
+may-limit x made all groups f p other read rewritten told refuses limit = absurd limit
 
-plan-caused : CauseLaws → (x made : Planned) (done : List RewrittenGroup) (groups : List (List Run)) (f : Files) (p : Past) (refusal : Refusal) → Stands f p
-    → KnowsOfPlan x done p → AreReadLeft x p groups → AllRewritten x groups made → RefusesPlan made refusal → MayRefusePlanned x f p refusal
-plan-caused laws x made done groups f p refusal stands (takings, knows, is_found, none) read rewritten (plan, is_plan, is) =
+plan-caused : CauseLaws → (x made all : Planned) (done : List RewrittenGroup) (groups : List GroupRead) (f : Files) (p : Past) (refusal : Refusal) → Stands f p
+    → KnowsOfPlan x done p → AreReadLeft x p groups → AllRewritten x groups made → HasTold made all → RefusesPlan all refusal → MayRefusePlanned x f p refusal
+plan-caused laws x made all done groups f p refusal stands (takings, knows, is_found, none) read rewritten told (plan, is_plan, is) =
     let same = all-same groups x made rewritten in
-    let removed : plan.removed.items ≡ x.removed.items = ap (λ es. es.items) (is_plan.removed ∙ same.removed) in
+    let later = told-plan made all told in
+    let removed : plan.removed.items ≡ x.removed.items = ap (λ es. es.items) (is_plan.removed ∙ later.removed ∙ same.removed) in
     let me = actor_of x.names in
     let gone : first_not_live x.newest.live.items plan.removed.items ≡ None =
     ap (λ (es : List Entry). first_not_live x.newest.live.items es) removed
     ∙ none-gone laws f p stands x done takings me knows is_found x.removed.items (all-there laws f p stands x done takings me knows is_found) in
     let mine : refusal_of x.newest x.author (intents.Compact plan) ≡ Some refusal =
-    ap (λ (n : Newest). refusal_of n x.author (intents.Compact plan)) (sym same.newest)
-    ∙ ap (λ (a : Author). refusal_of made.newest a (intents.Compact plan)) (sym same.author) ∙ is in
-    may-limit x made groups f p refusal read rewritten (plan, is_plan, is)
+    ap (λ (n : Newest). refusal_of n x.author (intents.Compact plan)) (sym (later.newest ∙ same.newest))
+    ∙ ap (λ (a : Author). refusal_of all.newest a (intents.Compact plan)) (sym (later.author ∙ same.author)) ∙ is in
+    may-limit x made all groups f p refusal read rewritten told (plan, is_plan, is)
     (only-limit x.newest x.author plan refusal (not-fenced laws f p stands x done takings me knows is_found) gone mine)
 
 -- ---- what its parts show
@@ -399,6 +421,17 @@ met : (at : Option (List ℕ)) → creates.Exists ≡ made_at at → IsSome at
 met None e = absurd (let clash = e in cc)
 met (Some bytes) e = refl
 
+-- the groups that are whole by the next file were read as they stood
+handed-at : CauseLaws → (x : Planned) (done : List RewrittenGroup) (given : List GroupRead) → length given ≡ length done → (m to : files_phase.Phase) (call : Call) (answer : Answer)
+    (groups : List GroupRead) (rest : files_phase.Phase) (f : Files) (p : Past) → Stands f p → files_meaning.Knows (asked_for x done given) m f p
+    → files_reader.next_call m ≡ Some call → Answers call answer f → files_reader.Goes m answer to → HandsOut to groups rest
+    → AreHanded (p.stood x.newest.id) x.schema (wanted_in x) groups (files_reader.IsReady rest)
+handed-at laws x done given many m to call answer groups rest f p stands reading at told goes hands =
+    let reading_to : files_meaning.Knows (asked_for x done given) to f p =
+    some-at (λ call. Answers call answer f → files_meaning.Knows (asked_for x done given) to f p) (files_reader.next_call m) call at
+    (files_facts.knows_next (asked_for x done given) m answer to f p goes stands reading) told in
+    are-handed laws.whole x done given many f p to groups rest reading_to hands
+
 pub causes : CauseLaws → (m : Phase) (call : Call) (answer : Answer) (refusal : Refusal) (f : Files) (p : Past) → Stands f p → Knows m f p → next_call m ≡ Some call
     → Answers call answer f → Shown m answer refusal → MayRefuse m f p refusal
 causes laws (phases.View asking m) call answer refusal f p stands known at told (inl (is, v, engine, goes)) = subst (MayRefuseView f p) (sym is) tt
@@ -407,18 +440,20 @@ causes laws (phases.View asking m) call answer refusal f p stands ((left, count,
 causes laws (phases.Names x) call (answers.Listed names) refusal f p stands known at told (inl is) = subst (MayRefuseNames x f) (sym is) tt
 causes laws (phases.Names x) call (answers.Listed names) refusal f p stands known at told (inr (path, finds, is)) =
     subst (MayRefuseNames x f) (sym is) (names.items, told-at (calls.List (codes "manifest")) call (answers.Listed names) f at told, finds)
-causes laws (phases.Files x m) call answer refusal f p stands (is, (done, plan, reading)) at told (inl shown) =
-    of-files x f p m answer refusal (laws.files (asked_for x done) m call answer refusal f p stands reading at told shown) shown
+causes laws (phases.Files x m) call answer refusal f p stands (is, (done, given, many, plan, reading)) at told (inl shown) =
+    of-files x f p m answer refusal (laws.files (asked_for x done given) m call answer refusal f p stands reading at told shown) shown
 causes laws (phases.Files x m) call answer refusal f p stands known at told (inr (to, goes, inl (is, some))) = forgotten x f p refusal is
-causes laws (phases.Files x m) call answer refusal f p stands (is, (done, plan, reading)) at told (inr (to, goes, inr (rest, groups, made, hands, rewritten, ready, refuses))) =
-    let reading_to : files_meaning.Knows (asked_for x done) to f p =
-    some-at (λ call. Answers call answer f → files_meaning.Knows (asked_for x done) to f p) (files_reader.next_call m) call at
-    (files_facts.knows_next (asked_for x done) m answer to f p goes stands reading) told in
-    let handed = are-handed laws.whole x done f p to groups rest reading_to hands in
-    let first : handed.first ≡ taken_groups x.left.items =
-    sym (handed.parts ∙ ap (λ (later : List Grouped). handed.first ++ later) (handed.ended ready) ∙ append-nil handed.first) in
-    plan-caused laws x made done groups f p refusal stands plan
-    (subst (λ (first : List Grouped). AllZip (IsReadAs (p.stood x.newest.id) x.schema) first groups) first handed.read) rewritten refuses
+causes laws (phases.Files x m) call answer refusal f p stands (is, (done, given, many, plan, reading)) at told (inr (to, goes, inr (inl (rest, groups, hands, fails)))) =
+    let handed = handed-at laws x done given many m to call answer groups rest f p stands reading at told goes hands in
+    forgotten x f p refusal
+    (some-untold laws.rows laws.kept laws.grows laws.memory f p stands (actor_of x.names) groups x done plan.0 handed.first handed.later refusal is.0 plan.1 handed.parts handed.read fails)
+causes laws (phases.Files x m) call answer refusal f p stands (is, (done, given, many, plan, reading)) at told
+    (inr (to, goes, inr (inr (rest, groups, made, all, hands, rewritten, ready, logged, refuses)))) =
+    let handed = handed-at laws x done given many m to call answer groups rest f p stands reading at told goes hands in
+    let first : handed.first ≡ wanted_in x =
+    sym (handed.parts ∙ ap (λ (later : List Wanted). handed.first ++ later) (handed.ended ready) ∙ append-nil handed.first) in
+    plan-caused laws x made all done groups f p refusal stands plan
+    (subst (λ (first : List Wanted). AllZip (IsReadAs (p.stood x.newest.id) x.schema) first groups) first handed.read) rewritten logged refuses
 causes laws (phases.Create m next rest) call (answers.Made creates.Exists) refusal f p stands known at told is =
     (is, met (paths.get f next.path) (told-at (calls.Create next.path next.bytes) call (answers.Made creates.Exists) f at told))
 causes laws (phases.Commit m) call answer refusal f p stands (is, (e, entry, known)) at told shown =

@@ -51,9 +51,9 @@ module _ (laws : StillLaws) (other : Actor) (f after : Files) (p q : Past) (stan
     ),
   )
   knows-still (phases.Names x) apart (is, (plan, chosen)) =
-      (is, (plan-still x [] apart plan, chosen-kept goes_on other f after p q advances (asked_for x []) chosen))
-  knows-still (phases.Files x m) apart (is, (done, plan, reading)) =
-      (is, (done, plan-still x done apart plan, files_facts.knows_still (asked_for x done) m other f after p q stands advances reading))
+      (is, (plan-still x [] apart plan, chosen-kept goes_on other f after p q advances (asked_for x [] []) chosen))
+  knows-still (phases.Files x m) apart (is, (done, given, many, plan, reading)) =
+      (is, (done, given, many, plan-still x done apart plan, files_facts.knows_still (asked_for x done given) m other f after p q stands advances reading))
   knows-still (phases.Create m next rest) apart (is, (e, given, done, parts, entry, but)) =
       (is, (e, given, done, parts, entry, laws.but e given done m other f after p q (next ∷ rest.items) parts stands advances apart but))
   knows-still (phases.Commit m) apart (is, (e, entry, known)) = (is, (e, entry, laws.committer e m other f after p q stands advances apart known))

@@ -19,4 +19,5 @@ mod PartLemmasRewritten
 mod SoundLemmas
 mod SoundLemmasFiles
 mod SoundLemmasView
+mod TellLemmas
 mod TraceLemmas

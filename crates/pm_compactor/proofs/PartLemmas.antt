@@ -7,9 +7,9 @@ use Rattle.pm_store.specs.declared.answer.Answer.TheVariants as answers
 use Rattle.pm_store.specs.declared.answer.Made.TheVariants as creates
 use Rattle.pm_put.specs.declared.putting.CommitFile.{CommitFile}
 use Rattle.pm_schema.specs.declared.schema.TableSchema.{TableSchema}
-use Rattle.pm_engine.specs.Covers.{Run}
+use Rattle.pm_scan_rows.specs.Group.{GroupRead}
 use Rattle.pm_engines.specs.TableEngine.{HasEngine}
-use Rattle.pm_append.specs.Commit.{IsBuilt}
+use Rattle.pm_append.specs.Commit.{HasOneGroup}
 use Rattle.pm_read_table.specs.Asked.{Asked}
 use Rattle.pm_read_table.specs.Reader as reader
 use Rattle.pm_read_table.specs.Reader.{OfSchema, most}
@@ -18,17 +18,16 @@ use Rattle.pm_read_table.specs.declared.phase.Phase.TheVariants as views
 use Rattle.pm_read_table.specs.declared.view.View.{View}
 use Rattle.pm_read_table.proofs.Facts as reader_facts
 use Rattle.pm_group_files.specs.Collected.{nothing_of}
-use Rattle.pm_group_files.specs.Jobs.{all_jobs}
+use Rattle.pm_group_files.specs.Jobs.{all_wanted}
 use Rattle.pm_group_files.specs.Reader as files
-use Rattle.pm_group_files.specs.Reader.{HandsOut, OfTable, read_next}
+use Rattle.pm_group_files.specs.Reader.{HandsOut, OfTable}
 use Rattle.pm_group_files.specs.declared.phase.Phase as files_phase
 use Rattle.pm_group_files.specs.declared.phase.Phase.TheVariants as readers
 use Rattle.pm_group_files.proofs.Facts as files_facts
 use Rattle.pm_made.specs.declared.newest.Newest.{Newest}
 use Rattle.pm_choice.specs.Question.{rule_of}
 use Rattle.pm_choice.specs.declared.choice.ChosenGroup.{ChosenGroup}
-use Rattle.pm_made.specs.Intent.{TellsNothing}
-use Rattle.pm_plan.specs.Planned.{CanMake, FitChosen, HasRoom, IsPlanOf}
+use Rattle.pm_plan.specs.Planned.{CanMake, FitChosen, FitTold, HasRoom, IsPlanOf}
 use Rattle.pm_plan.specs.declared.planned.Asking.{Asking}
 use Rattle.pm_plan.specs.declared.planned.Planned.{Planned}
 use Rattle.pm_commit.specs.Committer as commit
@@ -37,13 +36,13 @@ use Rattle.pm_commit.specs.declared.phase.Phase as commit_phase
 use Rattle.pm_commit.specs.declared.phase.Phase.TheVariants as commits
 use Rattle.pm_commit.proofs.CommitterLemmas.{asked-same, ready-schema}
 use Rattle.pm_commit.proofs.ReadsLemmas.{EntriesRead, reads-on}
-use Rattle.pm_compactor.specs.Compactor.{AfterFiles, AfterGroups, AfterReader, AreLeftFor, Begins, CanCommit, CreatesNext, Goes, IsCompactor, NeverSearches, OpensWith, Reaches, StartsFiles, TakesFiles, asked_of_view, calls_left, chosen_in, most_made, next_call, reached_at, taken_groups}
+use Rattle.pm_compactor.specs.Compactor.{AfterFiles, AfterGroups, AfterReader, AreLeftFor, Begins, CanCommit, CreatesNext, Goes, IsCompactor, NeverSearches, OpensWith, Reaches, StartsFiles, TakesFiles, asked_of_view, calls_left, chosen_in, most_made, next_call, reached_at, wanted_in}
 use Rattle.pm_compactor.specs.declared.phase.Phase.{Phase}
 use Rattle.pm_compactor.specs.declared.phase.Phase.TheVariants as phases
 use Rattle.pm_compactor.proofs.PartLemmasChosen.{fits-chosen, takes-files}
 use Rattle.pm_compactor.proofs.PartLemmasCommit.{begins-well, never-searches}
 use Rattle.pm_compactor.proofs.PartLemmasFiles.{all-end, first-left, goes-left, hands-left, hands-same, hands-table}
-use Rattle.pm_compactor.proofs.PartLemmasRewritten.{all-became, still-commits, still-makes}
+use Rattle.pm_compactor.proofs.PartLemmasRewritten.{all-became, still-commits, still-makes, told-commits}
 
 -- what the law of committers that are held says
 pub record HeldGoes : Type 0 where
@@ -78,29 +77,27 @@ after_view = 1 + (most + 2) + (most_made + most_calls)
 abbrev after_files : ℕ
 after_files = most_made + most_calls
 
-module _ (asking : Asking) (s : TableSchema) (count : asking.names.count ≤ 2 ^ 60) (built : IsBuilt s) (engine : HasEngine s) where
+module _ (asking : Asking) (s : TableSchema) (count : asking.names.count ≤ 2 ^ 60) (built : HasOneGroup s) (engine : HasEngine s) where
   -- a plan of a view
   plan-next : (v : View) (p : Planned) (chosen : List ChosenGroup) (n : ℕ) → Reads (views.Ready v) s → after_view < n → FitChosen s chosen → chosen ≢ []
       → AllByRecursion TakesFiles chosen → IsPlanOf asking v.schema (commit.newest_in v) chosen p → IsNext n (phases.Names p)
   plan-next v p chosen n reads below fit some takes is =
       let same : p.schema ≡ s = is.schema_is ∙ ready-schema v s reads in
       let no_files : length p.files.items ≡ 0 = ap length is.files in
-      let none_added : length p.added.items ≡ 0 = ap length is.added in
       let counted : p.names.count ≡ asking.names.count = ap (λ (x : Naming). x.count) is.names_are in
       let room : HasRoom p = record { named = omega (arith, count, counted, no_files); few = omega (arith, no_files) } in
       let made : CanMake p = record {
         engine = subst HasEngine (sym same) engine;
-        quiet = subst TellsNothing (sym same) built.producer;
         fit = subst (λ (t : TableSchema). FitChosen t p.left.items) (sym same) (subst (FitChosen s) (sym is.left) fit);
+        fit_logs = subst (FitTold p.schema) (sym is.logs) tt;
         room = room;
       } in
       let can : CanCommit p = record {
-        built = subst IsBuilt (sym same) built;
+        built = subst HasOneGroup (sym same) built;
         base = ap (λ a. a.base) is.author_is ∙ sym (ap (λ (x : Newest). x.id) is.newest_is);
         based = ap (λ (x : Naming). x.base) is.names_are ∙ sym (ap (λ (x : Newest). x.id) is.newest_is);
         numbers = subst (λ (x : Newest). commit.AreNumbered x.live.items) (sym is.newest_is) reads.numbers;
         room = room;
-        entered = no_files ∙ sym none_added;
       } in
       record {
         compactor = (made, can, (λ none. some (sym is.left ∙ none)), subst (AllByRecursion TakesFiles) (sym is.left) takes);
@@ -142,7 +139,7 @@ module _ (asking : Asking) (s : TableSchema) (count : asking.names.count ≤ 2 ^
 
 names-next : (p : Planned) (later : Phase) → IsCompactor (phases.Names p) → StartsFiles p later → IsNext after_view later
 names-next p later (made, can, some, takes) (within, is) =
-    let jobs = all_jobs p.schema (taken_groups p.left.items) in
+    let jobs = all_wanted p.schema (wanted_in p) in
     let first = first-left p.schema p.newest.id p.left.items jobs some (all-end p.schema p.left.items takes) within in
     let left = first.1 in
     let few = first.2 in
@@ -185,12 +182,13 @@ begins-next p later n can below (m, begun, creates) =
 -- with the groups that are whole made
 groups-next : (p : Planned) (rest : files_phase.Phase) (later : Phase) (n : ℕ) → CanMake p → CanCommit p → files.IsReady rest ⊎ (0 < files.calls_left rest)
     → OfTable (λ s. s ≡ p.schema) rest → AreLeftFor p.left.items rest → files.calls_left rest + after_files < n → after_files < n → AfterGroups p rest later → IsNext n later
-groups-next p (readers.Ready c) later n made can left table are fewer below begins = begins-next p later n can below begins
+groups-next p (readers.Ready c) later n made can left table are fewer below (all, told, room, begins) =
+    begins-next all later n (told-commits p all told can room) below begins
 groups-next p rest later n made can left table are fewer below is =
     let some : 0 < files.calls_left rest = elim left as (λ _. 0 < files.calls_left rest) [ inl ready ↦ absurd ready | inr some ↦ some ] in
     subst (IsNext n) (sym is) (record { compactor = (made, can, some, table, are); fewer = fewer; reaches = omega (arith, some) })
 
-ready-same : (m : files_phase.Phase) (groups : List (List Run)) (rest : files_phase.Phase) → HandsOut m groups rest → files.IsReady m ⊎ (0 < files.calls_left m)
+ready-same : (m : files_phase.Phase) (groups : List GroupRead) (rest : files_phase.Phase) → HandsOut m groups rest → files.IsReady m ⊎ (0 < files.calls_left m)
     → files.IsReady rest ⊎ (0 < files.calls_left rest)
 ready-same (readers.Files r) groups rest (are, is) left = subst (λ (m : files_phase.Phase). files.IsReady m ⊎ (0 < files.calls_left m)) (sym is) (inr (omega arith))
 ready-same (readers.Ready c) groups rest (are, is) left = subst (λ (m : files_phase.Phase). files.IsReady m ⊎ (0 < files.calls_left m)) (sym is) (inl tt)

@@ -1,7 +1,6 @@
 -- What follows the answers to a compactor's calls, by what the parts of the code say.
-use Rattle.std.proofs.Common.{◌≡◌, ◌≢◌, ◌⊎◌, inl, inr, ◌≤◌, List, [], ◌∷◌, length, Some, Result, Ok, Err, IfOk, IfErr, refl, sym, ap, subst, ◌∙◌, Vec, arith}
+use Rattle.std.proofs.Common.{◌≡◌, ◌≢◌, ◌⊎◌, inl, inr, ◌≤◌, List, [], ◌∷◌, length, Some, Result, Ok, Err, IfOk, IfErr, refl, sym, ap, subst, ◌∙◌, arith}
 use Rattle.std.proofs.lemmas.List.{length-map}
-use Rattle.std.specs.Global.{Global}
 use Rattle.std.specs.BTreeMap.{IsOrdered}
 use Rattle.pm_values.specs.GroupOrder.{group_cmp}
 use Rattle.pm_values.specs.Names.{Naming}
@@ -10,7 +9,7 @@ use Rattle.pm_values.specs.declared.refusal.Refusal.TheVariants as refusals
 use Rattle.pm_store.specs.declared.answer.Answer.{Answer}
 use Rattle.pm_put.specs.declared.putting.CommitFile.{CommitFile}
 use Rattle.pm_schema.specs.declared.schema.TableSchema.{TableSchema}
-use Rattle.pm_engine.specs.Covers.{Run}
+use Rattle.pm_scan_rows.specs.Group.{GroupRead, read_of, reads_of}
 use Rattle.pm_engines.specs.TableEngine.{HasEngine}
 use Rattle.pm_read_table.specs.Reader as reader
 use Rattle.pm_read_table.specs.Reader.{FailsToOpen, OfSchema}
@@ -18,19 +17,19 @@ use Rattle.pm_read_table.specs.View.{HasFolders}
 use Rattle.pm_read_table.specs.declared.phase.Phase as view_phase
 use Rattle.pm_read_table.specs.declared.view.View.{View}
 use Rattle.pm_read_table.proofs.WithinLemmas.{failed, schema_stays}
-use Rattle.pm_group_files.specs.Collected.{collected_of, without_groups}
+use Rattle.pm_group_files.specs.Collected.{without_groups}
 use Rattle.pm_group_files.specs.Reading.{reading_of}
 use Rattle.pm_group_files.specs.Reader as files
 use Rattle.pm_group_files.specs.Reader.{HandsOut}
 use Rattle.pm_group_files.specs.declared.phase.Phase as files_phase
 use Rattle.pm_group_files.specs.declared.phase.Phase.TheVariants as readers
-use Rattle.pm_scan_rows.specs.Shown.{groups_of}
+use Rattle.pm_scan_rows.specs.declared.read_group.ReadGroup.{ReadGroup}
 use Rattle.pm_made.specs.Refusals.{refusal_of}
 use Rattle.pm_made.specs.declared.intent.Intent.TheVariants as intents
 use Rattle.pm_made.specs.declared.newest.Author.{Author}
 use Rattle.pm_made.specs.declared.newest.Newest.{Newest}
 use Rattle.pm_choice.specs.declared.choice.ChosenGroup.{ChosenGroup}
-use Rattle.pm_plan.specs.Planned.{AllRewritten, HasRoom, IsCommitOf, IsPlanOf}
+use Rattle.pm_plan.specs.Planned.{AllRewritten, HasRoom, HasTold, IsCommitOf, IsPlanOf, RefusesSome}
 use Rattle.pm_plan.specs.declared.planned.Asking.{Asking}
 use Rattle.pm_plan.specs.declared.planned.Planned.{Planned}
 use Rattle.pm_plan.specs.declared.planned.PlannedCommit.{PlannedCommit}
@@ -70,15 +69,15 @@ fails-to-open asking m answer new refusal (some, count, (s, reads, built, engine
 pub still-reads : (p : Planned) (m : files_phase.Phase) → HasRoom p → (files.HasGroup m ⊎ files.IsReady m → ⊥) → AfterFiles p m (phases.Files p m)
 still-reads p (readers.Files r) room none = by_groups r.collected.groups refl
   where
-    by_groups : (gs : List (List Run)) → r.collected.groups ≡ gs → AfterFiles p (readers.Files r) (phases.Files p (readers.Files r))
+    by_groups : (gs : List GroupRead) → r.collected.groups ≡ gs → AfterFiles p (readers.Files r) (phases.Files p (readers.Files r))
     by_groups [] is =
         let same : phases.Files p (readers.Files r) ≡ phases.Files p (readers.Files (reading_of r.id (without_groups r.collected) r.next r.rest)) =
-        ap (λ (gs : List (List Run)). phases.Files p (readers.Files (reading_of r.id (collected_of r.collected.schema gs r.collected.runs r.collected.rows) r.next r.rest))) is in (
+        ap (λ (gs : List GroupRead). phases.Files p (readers.Files (reading_of r.id (record r.collected { groups = gs }) r.next r.rest))) is in (
           r.collected.groups,
           readers.Files (reading_of r.id (without_groups r.collected) r.next r.rest),
           p,
           (refl, refl),
-          subst (λ (gs : List (List Run)). AllRewritten p gs p) (sym is) refl,
+          subst (λ (gs : List GroupRead). AllRewritten p gs p) (sym is) refl,
           room,
           same,
         )
@@ -88,28 +87,63 @@ still-reads p (readers.Again id path) room none = ([], readers.Again id path, p,
 still-reads p readers.Over room none = ([], readers.Over, p, (refl, refl), refl, room, refl)
 
 -- no more groups are handed out than are left
-pub few-groups : (left : List ChosenGroup) (m : files_phase.Phase) (groups : List (Vec Run Global)) (rest : files_phase.Phase) → HandsOut m (groups_of groups) rest
+pub few-groups : (left : List ChosenGroup) (m : files_phase.Phase) (groups : List ReadGroup) (rest : files_phase.Phase) → HandsOut m (reads_of groups) rest
     → AreLeftFor left m → length groups ≤ length left
 few-groups left m groups rest hands are =
-    let few = hands-few left m (groups_of groups) rest hands are in
-    let long : length (groups_of groups) ≡ length groups = length-map groups (λ (runs : Vec Run Global). runs.items) in
+    let few = hands-few left m (reads_of groups) rest hands are in
+    let long : length (reads_of groups) ≡ length groups = length-map groups read_of in
     omega (arith, few, long)
 
 -- what was made of the groups that are whole
-pub files-on : (p : Planned) (m : files_phase.Phase) (groups : List (List Run)) (rest : files_phase.Phase) (made : Planned) (r : Result Phase Refusal) → HandsOut m groups rest
+pub files-on : (p : Planned) (m : files_phase.Phase) (groups : List GroupRead) (rest : files_phase.Phase) (made : Planned) (r : Result Phase Refusal) → HandsOut m groups rest
     → AllRewritten p groups made → HasRoom made → IfOk r (AfterGroups made rest) → IfOk r (AfterFiles p m)
 files-on p m groups rest made (Err e) hands rewritten room on = tt
 files-on p m groups rest made (Ok later) hands rewritten room on = (groups, rest, made, hands, rewritten, room, on)
 
-pub files-fail : (p : Planned) (m : files_phase.Phase) (groups : List (List Run)) (rest : files_phase.Phase) (made : Planned) (r : Result Phase Refusal) → HandsOut m groups rest
+pub files-fail : (p : Planned) (m : files_phase.Phase) (groups : List GroupRead) (rest : files_phase.Phase) (made : Planned) (r : Result Phase Refusal) → HandsOut m groups rest
     → AllRewritten p groups made → files.HasGroup m ⊎ files.IsReady m
-    → IfErr r (λ e. files.IsReady rest × ((e ≡ refusals.Memory) ⊎ RefusesPlan made e)) → IfErr r (FailsWith p m)
+    → IfErr r (λ e. files.IsReady rest × ((e ≡ refusals.Memory) ⊎ ((all : Planned) × HasTold made all × RefusesPlan all e))) → IfErr r (FailsWith p m)
 files-fail p m groups rest made (Ok later) hands rewritten whole on = tt
 files-fail p m groups rest made (Err e) hands rewritten whole (ready, why) =
     elim why as (λ _. FailsWith p m e) [
       | inl is ↦ inl (is, whole)
-      | inr against ↦ inr (rest, groups, made, hands, rewritten, ready, against)
+      | inr against ↦ inr (inr (rest, groups, made, against.0, hands, rewritten, ready, against.1, against.2))
     ]
+
+-- where nothing can be told of one of them
+pub groups-fail : (p : Planned) (m : files_phase.Phase) (groups : List GroupRead) (rest : files_phase.Phase) (e : Refusal) → HandsOut m groups rest
+    → files.HasGroup m ⊎ files.IsReady m → (e ≢ refusals.Memory → RefusesSome p groups e) → FailsWith p m e
+groups-fail p m groups rest refusals.Memory hands whole refuses = inl (refl, whole)
+groups-fail p m groups rest e hands whole refuses = inr (inl (rest, groups, hands, refuses (λ is. cc)))
+
+-- more are to be read, where not all were
+pub still-files : (p : Planned) (m : files_phase.Phase) → (files.IsReady m → ⊥) → AfterGroups p m (phases.Files p m)
+still-files p (readers.Ready c) unready = absurd (unready tt)
+still-files p m unready = refl
+
+-- ---- what is told is written
+
+pub told-begins : (p all : Planned) (r : Result Phase Refusal) → HasTold p all → HasRoom all → IfOk r (Begins all)
+    → IfOk r (λ later. (all : Planned) × HasTold p all × HasRoom all × Begins all later)
+told-begins p all (Err e) told room on = tt
+told-begins p all (Ok later) told room on = (all, told, room, on)
+
+pub told-fails : (p all : Planned) (r : Result Phase Refusal) → HasTold p all → IfErr r (λ e. (e ≡ refusals.Memory) ⊎ RefusesPlan all e)
+    → IfErr r (λ e. (e ≡ refusals.Memory) ⊎ ((all : Planned) × HasTold p all × RefusesPlan all e))
+told-fails p all (Ok later) told on = tt
+told-fails p all (Err e) told (inl is) = inl is
+told-fails p all (Err e) told (inr against) = inr (all, told, against)
+
+-- that comes once all files were read
+pub tells-on : (p : Planned) (m : files_phase.Phase) (r : Result Phase Refusal) → files.IsReady m
+    → IfOk r (λ later. (all : Planned) × HasTold p all × HasRoom all × Begins all later) → IfOk r (AfterGroups p m)
+tells-on p (readers.Ready c) (Ok later) ready on = on
+tells-on p (readers.Ready c) (Err e) ready on = tt
+tells-on p m r ready on = absurd ready
+
+pub tell-fails : (P : Refusal → Type 0) (m : files_phase.Phase) (r : Result Phase Refusal) → files.IsReady m → IfErr r P → IfErr r (λ e. files.IsReady m × P e)
+tell-fails P m (Ok later) ready on = tt
+tell-fails P m (Err e) ready on = (ready, on)
 
 -- ---- the commit
 

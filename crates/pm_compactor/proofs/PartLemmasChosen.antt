@@ -1,5 +1,5 @@
 -- What is chosen of a view: groups of the table, of each some runs, which have files.
-use Rattle.std.proofs.Common.{◌≡◌, ◌≢◌, ℕ, zero, suc, ◌<◌, ◌≤◌, ◌==◌, Bool, true, false, if◌then◌else◌, List, [], ◌∷◌, ◌++◌, length, length-take, map, min, take, Option, Some, None, IsSome, refl, sym, ap, subst, ◌∙◌, arith}
+use Rattle.std.proofs.Common.{◌≡◌, ◌≢◌, ℕ, zero, suc, ◌<◌, ◌≤◌, ◌==◌, Bool, true, false, if◌then◌else◌, List, [], ◌∷◌, ◌++◌, drop, length, length-take, map, min, take, Option, Some, None, IsSome, refl, sym, ap, subst, ◌∙◌, arith}
 use Rattle.std.proofs.lemmas.List.{length-map}
 use Rattle.std.specs.BTreeMap.{IsOrdered}
 use Rattle.std.specs.List.{AllByRecursion}
@@ -64,6 +64,11 @@ take-keeps P zero xs all = tt
 take-keeps P (suc n) [] all = tt
 take-keeps P (suc n) (x ∷ xs) all = (all.0, take-keeps P n xs all.1)
 
+drop-keeps : {X : Type 0} (P : X → Type 0) (n : ℕ) (xs : List X) → AllByRecursion P xs → AllByRecursion P (drop n xs)
+drop-keeps P zero xs all = all
+drop-keeps P (suc n) [] all = tt
+drop-keeps P (suc n) (x ∷ xs) all = drop-keeps P n xs all.1
+
 some-long : {X : Type 0} (xs : List X) → xs ≢ [] → 1 ≤ length xs
 some-long [] some = absurd (some refl)
 some-long (x ∷ xs) some = omega arith
@@ -81,6 +86,7 @@ takes-of asked rule e p has is =
     let from : 1 ≤ p.take = some-picked rule (map size_of e.1) (omega (arith, long, sizes)) asked p is in record {
       some = take-some p.take e.1 from long;
       each = take-keeps (λ (run : RunView). 0 < length run.files) p.take e.1 has.1;
+      others = drop-keeps (λ (run : RunView). 0 < length run.files) p.take e.1 has.1;
     }
 
 -- ---- a view that is ready

@@ -2,18 +2,20 @@
 use Rattle.std.proofs.Common.{◌≡◌, ℕ, suc, ◌+◌, ◌≤◌, ◌^◌, List, [], ◌∷◌, ◌++◌, length, length-append, map, refl, sym, ap, ◌∙◌, subst, arith}
 use Rattle.std.proofs.lemmas.List.{length-map}
 use Rattle.pm_schema.specs.declared.schema.TableSchema.{TableSchema}
-use Rattle.pm_engine.specs.Covers.{Run}
+use Rattle.std.specs.List.{FoldsTo}
+use Rattle.pm_base.proofs.Laws.{AllByRecursion-append}
+use Rattle.pm_values.specs.declared.group.Group.{Group}
+use Rattle.pm_values.specs.declared.record.Change.{Change}
+use Rattle.pm_schema.specs.Folder.{FitsPartition}
+use Rattle.pm_scan_rows.specs.Group.{GroupRead}
 use Rattle.pm_engines.specs.TableEngine.{HasEngine}
-use Rattle.pm_run.specs.declared.run.RunFile.{RunFile}
-use Rattle.pm_append.specs.Commit.{IsBuilt}
+use Rattle.pm_append.specs.Commit.{HasOneGroup}
 use Rattle.pm_made.specs.declared.newest.Author.{Author}
 use Rattle.pm_made.specs.declared.newest.Newest.{Newest}
-use Rattle.pm_choice.specs.Choice.{live_entry}
 use Rattle.pm_choice.specs.declared.choice.ChosenGroup.{ChosenGroup}
 use Rattle.pm_commit.specs.Committer.{AreNumbered}
-use Rattle.pm_made.specs.Intent.{TellsNothing}
 use Rattle.pm_compaction.specs.Plan.{group_file}
-use Rattle.pm_plan.specs.Planned.{AllRewritten, CanMake, FitChosen, HasRewritten, HasRoom, RewritesFirst, RewritesOf}
+use Rattle.pm_plan.specs.Planned.{AllRewritten, CanMake, FitChosen, FitTold, HasRewritten, HasRoom, HasTold, RewritesFirst, RewritesOf, TellsGroup}
 use Rattle.pm_plan.specs.declared.planned.Planned.{Planned}
 use Rattle.pm_compactor.specs.Compactor.{CanCommit}
 
@@ -26,9 +28,9 @@ pub record BecameFiles (groups : ℕ) (old new : Planned) : Type 0 where
   pub more : ℕ
   pub names : new.names.count ≡ old.names.count + more
   pub files : length new.files.items ≡ length old.files.items + more
-  pub added : length new.added.items ≡ length old.added.items + more
   pub left : length old.left.items ≡ groups + length new.left.items
   pub fit : FitChosen new.schema old.left.items → FitChosen new.schema new.left.items
+  pub told : FitChosen new.schema old.left.items → FitTold new.schema old.logs.items → FitTold new.schema new.logs.items
 
 -- ---- one group
 
@@ -36,8 +38,8 @@ long-more : {X Y : Type 0} (xs new : List X) (f : Y → X) (made : List Y) → n
 long-more {X} {Y} xs new f made is =
     ap length is ∙ length-append xs (map f made) ∙ ap (λ (n : ℕ). length xs + n) (length-map made f)
 
-group-became : (c : ChosenGroup) (runs : List Run) (old new : Planned) → HasRewritten old c runs new → BecameFiles 1 old new
-group-became c runs old new r = record {
+group-became : (c : ChosenGroup) (read : GroupRead) (old new : Planned) → HasRewritten old c read new → BecameFiles 1 old new
+group-became c read old new r = record {
   schema = ap (λ (p : Planned). p.schema) r.put.same;
   author = ap (λ (p : Planned). p.author) r.put.same;
   newest = ap (λ (p : Planned). p.newest) r.put.same;
@@ -45,20 +47,22 @@ group-became c runs old new r = record {
   more = length r.made;
   names = ap (λ (p : Planned). p.names.count) r.put.same;
   files = long-more old.files.items new.files.items (group_file old.schema c.group) r.made r.put.files;
-  added = long-more old.added.items new.added.items (λ (x : RunFile). live_entry old.schema c.group x.meta) r.made r.put.added;
   left = ap length r.first ∙ length-one new.left.items;
   fit = λ fits. (subst (FitChosen new.schema) r.first fits).1;
+  told = λ fits were. subst (FitTold new.schema) (sym r.logs)
+      (AllByRecursion-append (λ (told : Group × List Change). FitsPartition new.schema told.0) old.logs.items ((c.group, r.log) ∷ []) were
+      ((subst (FitChosen new.schema) r.first fits).0, tt));
 }
   where
     length-one : (rest : List ChosenGroup) → length (c ∷ rest) ≡ 1 + length rest
     length-one rest = omega arith
 
-pub first-became : (runs : List Run) (old new : Planned) → RewritesFirst old runs new → BecameFiles 1 old new
-first-became runs old new rewrites = by_left old.left.items rewrites
+pub first-became : (read : GroupRead) (old new : Planned) → RewritesFirst old read new → BecameFiles 1 old new
+first-became read old new rewrites = by_left old.left.items rewrites
   where
-    by_left : (left : List ChosenGroup) → RewritesOf left old runs new → BecameFiles 1 old new
+    by_left : (left : List ChosenGroup) → RewritesOf left old read new → BecameFiles 1 old new
     by_left [] none = absurd none
-    by_left (c ∷ left) r = group-became c runs old new r
+    by_left (c ∷ left) r = group-became c read old new r
 
 -- ---- some groups
 
@@ -71,9 +75,9 @@ none-became p = record {
   more = 0;
   names = omega arith;
   files = omega arith;
-  added = omega arith;
   left = omega arith;
   fit = λ fits. fits;
+  told = λ fits were. were;
 }
 
 both-became : (n : ℕ) (old middle new : Planned) → BecameFiles 1 old middle → BecameFiles n middle new → BecameFiles (suc n) old new
@@ -85,16 +89,19 @@ both-became n old middle new a b = record {
   more = a.more + b.more;
   names = let one = a.names in let two = b.names in omega (arith, one, two);
   files = let one = a.files in let two = b.files in omega (arith, one, two);
-  added = let one = a.added in let two = b.added in omega (arith, one, two);
   left = let one = a.left in let two = b.left in omega (arith, one, two);
   fit = λ fits. b.fit (subst (λ (s : TableSchema). FitChosen s middle.left.items) (sym b.schema)
       (a.fit (subst (λ (s : TableSchema). FitChosen s old.left.items) b.schema fits)));
+  told = λ fits were.
+      let first : FitChosen middle.schema old.left.items = subst (λ (s : TableSchema). FitChosen s old.left.items) b.schema fits in
+      let told : FitTold middle.schema middle.logs.items = a.told first (subst (λ (s : TableSchema). FitTold s old.logs.items) b.schema were) in
+      b.told (subst (λ (s : TableSchema). FitChosen s middle.left.items) (sym b.schema) (a.fit first)) (subst (λ (s : TableSchema). FitTold s middle.logs.items) (sym b.schema) told);
 }
 
-pub all-became : (groups : List (List Run)) (old new : Planned) → AllRewritten old groups new → BecameFiles (length groups) old new
+pub all-became : (groups : List GroupRead) (old new : Planned) → AllRewritten old groups new → BecameFiles (length groups) old new
 all-became [] old new same = subst (BecameFiles 0 old) same (none-became old)
-all-became (runs ∷ groups) old new (middle, first, rest) =
-    both-became (length groups) old middle new (first-became runs old middle first) (all-became groups middle new rest)
+all-became (read ∷ groups) old new (middle, first, rest) =
+    both-became (length groups) old middle new (first-became read old middle first) (all-became groups middle new rest)
 
 -- ---- what holds of a plan all along
 
@@ -102,8 +109,9 @@ all-became (runs ∷ groups) old new (middle, first, rest) =
 pub still-makes : (n : ℕ) (old new : Planned) → BecameFiles n old new → CanMake old → HasRoom new → CanMake new
 still-makes n old new became can room = record {
   engine = subst HasEngine (sym became.schema) can.engine;
-  quiet = subst TellsNothing (sym became.schema) can.quiet;
   fit = became.fit (subst (λ (s : TableSchema). FitChosen s old.left.items) (sym became.schema) can.fit);
+  fit_logs = became.told (subst (λ (s : TableSchema). FitChosen s old.left.items) (sym became.schema) can.fit)
+      (subst (λ (s : TableSchema). FitTold s old.logs.items) (sym became.schema) can.fit_logs);
   room = room;
 }
 
@@ -120,14 +128,51 @@ had-room n old new became room few = record {
 
 pub still-commits : (n : ℕ) (old new : Planned) → BecameFiles n old new → CanCommit old → HasRoom new → CanCommit new
 still-commits n old new became can room = record {
-  built = subst IsBuilt (sym became.schema) can.built;
+  built = subst HasOneGroup (sym became.schema) can.built;
   base = ap (λ (a : Author). a.base) became.author ∙ can.base ∙ sym (ap (λ (x : Newest). x.id) became.newest);
   based = became.base ∙ can.based ∙ sym (ap (λ (x : Newest). x.id) became.newest);
   numbers = subst (λ (x : Newest). AreNumbered x.live.items) (sym became.newest) can.numbers;
   room = room;
-  entered =
-      (let files = became.files in
-      let added = became.added in
-      let same = can.entered in
-      omega (arith, files, added, same));
 }
+
+-- ---- what is told is written
+
+-- this stays
+pub record ToldSame (old new : Planned) : Type 0 where
+  pub schema : new.schema ≡ old.schema
+  pub author : new.author ≡ old.author
+  pub newest : new.newest ≡ old.newest
+  pub base : new.names.base ≡ old.names.base
+  pub left : new.left ≡ old.left
+
+same-itself : (p : Planned) → ToldSame p p
+same-itself p = record { schema = refl; author = refl; newest = refl; base = refl; left = refl }
+
+all-same : (logs : List (Group × List Change)) (old new : Planned) → FoldsTo TellsGroup old logs new → ToldSame old new
+all-same [] old new is = subst (ToldSame old) is (same-itself old)
+all-same (told ∷ logs) old new (middle, tells, rest) =
+    let later = all-same logs middle new rest in record {
+      schema = later.schema ∙ ap (λ (p : Planned). p.schema) tells.same;
+      author = later.author ∙ ap (λ (p : Planned). p.author) tells.same;
+      newest = later.newest ∙ ap (λ (p : Planned). p.newest) tells.same;
+      base = later.base ∙ ap (λ (p : Planned). p.names.base) tells.same;
+      left = later.left ∙ ap (λ (p : Planned). p.left) tells.same;
+    }
+
+pub told-same : (old new : Planned) → HasTold old new → ToldSame old new
+told-same old new has =
+    let same = all-same old.logs.items (record old { logs = new.logs }) new has.told in
+    record { schema = same.schema; author = same.author; newest = same.newest; base = same.base; left = same.left }
+
+pub told-commits : (old new : Planned) → HasTold old new → CanCommit old → HasRoom new → CanCommit new
+told-commits old new has can room =
+    let same = all-same old.logs.items (record old { logs = new.logs }) new has.told in record {
+      built = subst HasOneGroup (sym same.schema) can.built;
+      base = ap (λ (a : Author). a.base) same.author ∙ can.base ∙ sym (ap (λ (x : Newest). x.id) same.newest);
+      based = same.base ∙ can.based ∙ sym (ap (λ (x : Newest). x.id) same.newest);
+      numbers = subst (λ (x : Newest). AreNumbered x.live.items) (sym same.newest) can.numbers;
+      room = room;
+    }
+
+pub told-left : (old new : Planned) → HasTold old new → new.left.items ≡ old.left.items
+told-left old new has = ap (λ xs. xs.items) (all-same old.logs.items (record old { logs = new.logs }) new has.told).left

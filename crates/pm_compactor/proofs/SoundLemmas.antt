@@ -1,5 +1,5 @@
 -- What a compactor's calls change, and what it knows after each answer.
-use Rattle.std.proofs.Common.{◌≡◌, ◌≢◌, inr, ℕ, ◌<◌, ◌≤◌, List, [], ◌∷◌, ◌++◌, codes, Option, None, Some, IfSome, refl, sym, ap, subst, ◌∙◌, append_assoc, append-nil, arith}
+use Rattle.std.proofs.Common.{◌≡◌, ◌≢◌, inr, ℕ, ◌<◌, ◌≤◌, List, [], ◌∷◌, ◌++◌, codes, length, length-append, Option, None, Some, IfSome, refl, sym, ap, subst, ◌∙◌, append_assoc, append-nil, arith}
 use Rattle.std.specs.FinMap as paths
 use Rattle.std.proofs.lemmas.Option.{IfSome_then}
 use Rattle.pm_values.specs.Names.{Naming}
@@ -21,7 +21,7 @@ use Rattle.pm_machine.proofs.PhaseFacts.{both_if}
 use Rattle.pm_model_history.specs.History.{Entry, compaction}
 use Rattle.pm_schema.specs.declared.schema.TableSchema.{TableSchema}
 use Rattle.pm_snapshot.specs.Names.{MayName}
-use Rattle.pm_append.specs.Commit.{IsBuilt}
+use Rattle.pm_append.specs.Commit.{HasOneGroup}
 use Rattle.pm_runs.specs.Succession.{Taking}
 use Rattle.pm_model_folder.specs.Changes.{Actor}
 use Rattle.pm_model_folder.specs.Ledger.{HasNamedNone, Past, Stands}
@@ -43,18 +43,17 @@ use Rattle.pm_read_table.proofs.Facts as view_facts
 use Rattle.pm_read_table.proofs.Facts.{Joined, OneList}
 use Rattle.pm_read_table.proofs.WithinLemmas.{with_reader}
 use Rattle.pm_group_files.specs.Chosen.{Chosen, chosen_of}
+use Rattle.pm_scan_rows.specs.Group.{GroupRead}
 use Rattle.pm_group_files.specs.Collected.{Collected, nothing_of}
-use Rattle.pm_group_files.specs.Jobs.{all_jobs}
+use Rattle.pm_group_files.specs.Jobs.{Wanted, all_wanted}
 use Rattle.pm_group_files.specs.Meaning as files_meaning
 use Rattle.pm_group_files.specs.Meaning.{IsChosen, IsTableView}
 use Rattle.pm_group_files.specs.Reader as files_reader
-use Rattle.pm_group_files.specs.Reader.{HandsOut}
 use Rattle.pm_group_files.specs.declared.phase.Phase as files_phase
 use Rattle.pm_group_files.specs.declared.phase.Phase.TheVariants as readers
 use Rattle.pm_group_files.proofs.Facts as files_facts
 use Rattle.pm_group_files.proofs.Facts.{handed_known, next_known}
 use Rattle.pm_group_files.proofs.ReadLemmas.{first-taken}
-use Rattle.pm_choice.specs.Choice.{taken_runs}
 use Rattle.pm_choice.specs.Question.{rule_of}
 use Rattle.pm_choice.specs.declared.choice.ChosenGroup.{ChosenGroup}
 use Rattle.pm_made.specs.declared.intent.Intent.{Intent}
@@ -62,15 +61,15 @@ use Rattle.pm_made.specs.declared.intent.Intent.TheVariants as intents
 use Rattle.pm_made.specs.declared.intent.Plan.{Plan}
 use Rattle.pm_made.specs.declared.newest.Author.{Author}
 use Rattle.pm_made.specs.declared.newest.Newest.{Newest}
-use Rattle.pm_compaction.specs.Plan.{KnowsPlan, RewrittenGroup}
+use Rattle.pm_compaction.specs.Plan.{KnowsPlan, NamesSoMany, RewrittenGroup}
 use Rattle.pm_plan.specs.Known.{AreTakenAt, KnowsPlanned, MayBegin}
-use Rattle.pm_plan.specs.Planned.{CanMake, IsPlanFor, IsPlanOf}
+use Rattle.pm_plan.specs.Planned.{CanMake, HasRoom, HasTold, IsPlanFor, IsPlanOf}
 use Rattle.pm_plan.specs.declared.planned.Asking.{Asking}
 use Rattle.pm_plan.specs.declared.planned.Planned.{Planned}
 use Rattle.pm_commit.specs.Committer as commit
 use Rattle.pm_commit.specs.Committer.{IsCommitter, newest_in, newest_of}
 use Rattle.pm_commit.specs.Meaning as commit_meaning
-use Rattle.pm_commit.specs.Meaning.{IsFoundIn, KnowsBut, MakesEntry, MakesFile, own_in}
+use Rattle.pm_commit.specs.Meaning.{IsFoundIn, KnowsBut, MakesEntry, MakesFile}
 use Rattle.pm_commit.specs.Own.{IsAppend, OwnView, begun}
 use Rattle.pm_commit.specs.declared.phase.Phase as commit_phase
 use Rattle.pm_commit.specs.declared.phase.Phase.TheVariants as commits
@@ -78,11 +77,12 @@ use Rattle.pm_commit.proofs.CommitterLemmas.{asked-same, begun-first, ready-sche
 use Rattle.pm_commit.proofs.PhaseLemmas.{own-on}
 use Rattle.pm_commit.proofs.ReadsLemmas.{EntriesRead, reads-on}
 use Rattle.pm_compactor.specs.Compactor.{AfterFiles, AfterGroups, Begins, CreatesNext, Goes, IsCompactor, IsPlanIn, Opens, OpensWith, Shown}
-use Rattle.pm_compactor.specs.Compactor.{actor_of, asked_of_view, chosen_in, next_call, taken_groups}
+use Rattle.pm_compactor.specs.Compactor.{actor_of, asked_of_view, chosen_in, next_call, wanted_groups, wanted_in, wanted_of}
 use Rattle.pm_compactor.specs.Meaning.{IsEntryIn, IsEntryOf, Knows, KnowsIn, KnowsOfPlan, Leaves, asked_for, made_groups}
 use Rattle.pm_compactor.specs.declared.phase.Phase.{Phase}
 use Rattle.pm_compactor.specs.declared.phase.Phase.TheVariants as phases
-use Rattle.pm_compactor.proofs.SoundLemmasFiles.{OneRows, PlanGrows, WholeAre, all-made, are-handed, none-mapped, runs_of}
+use Rattle.pm_compactor.proofs.SoundLemmasFiles.{KeptHave, OneRows, PlanGrows, WholeAre, all-made, are-handed, none-mapped}
+use Rattle.pm_compactor.proofs.PartLemmasRewritten.{ToldSame, told-same}
 use Rattle.pm_compactor.proofs.SoundLemmasView.{ViewLaws, may-begin, seen-at, taken-stood}
 
 -- what the laws of a plan say
@@ -90,8 +90,9 @@ pub record PlanLaws : Type 0 where
   pub begins : (me : Actor) (p : Past) (asking : Asking) (s : TableSchema) (newest : Newest) (chosen : List ChosenGroup) (x : Planned) → IsPlanOf asking s newest chosen x
       → MayBegin me p asking s newest chosen → (takings : List Taking) × KnowsPlanned me p x [] takings
   pub grows : PlanGrows
-  pub whole : (me : Actor) (p : Past) (x : Planned) (done : List RewrittenGroup) (plan : Plan) → KnowsPlanned me p x done [] → IsPlanFor x plan
-      → KnowsPlan me x.schema x.newest.id plan x.files.items p
+  pub named : (me : Actor) (p : Past) (x y : Planned) (done : List RewrittenGroup) → KnowsPlanned me p x done [] → HasTold x y → HasRoom y → NamesSoMany me x.newest.id 0 y.names
+  pub whole : (me : Actor) (p : Past) (x y : Planned) (done : List RewrittenGroup) (plan : Plan) → KnowsPlanned me p x done [] → HasTold x y → HasRoom y → IsPlanFor y plan
+      → KnowsPlan me x.schema x.newest.id plan y.files.items p
 
 -- what those of a committer say: of its beginning, of the files that it is given, and of its calls
 pub record CommitLaws : Type 0 where
@@ -114,6 +115,7 @@ pub record SoundLaws : Type 0 where
   pub read : EntriesRead
   pub views : ViewLaws
   pub rows : OneRows
+  pub kept : KeptHave
   pub whole : WholeAre
   pub plans : PlanLaws
   pub commits : CommitLaws
@@ -180,21 +182,21 @@ opens-with asking v (c ∷ cs) later X (x, plan, is) nothing names = names (λ n
 
 module _ (laws : SoundLaws) (f : Files) (p : Past) (stands : Stands f p) where
   -- a plan of what a view chose
-  plan-known : (asking : Asking) (s : TableSchema) (v : View) (x : Planned) → commit.Reads (views.Ready v) s → IsBuilt s → view_meaning.Knows (views.Ready v) f p
+  plan-known : (asking : Asking) (s : TableSchema) (v : View) (x : Planned) → commit.Reads (views.Ready v) s → HasOneGroup s → view_meaning.Knows (views.Ready v) f p
       → IsTableView p v → chosen_in asking v ≢ [] → MayName asking.names → HasNamedNone (actor_of asking.names) p → IsPlanIn asking v x
       → KnowsIn (phases.Names x) f p
   plan-known asking s v x reads built (table, viewed, sought) is some may none plan =
       let wanted : v.wanted ≡ wants.Entries = ap (λ (a : Asked). a.wanted) (asked-same (asked_of v.schema v.wanted) (newest_of s) reads.asked) in
       let since : p.since ≤ v.id = sought.reaches (subst AsksLatest (sym wanted) tt) in
       let seen = seen-at p v (asked_of_view asking v) (rule_of v.schema) is.is_view some in
-      let built_v : IsBuilt v.schema = subst IsBuilt (sym (ready-schema v s reads)) built in
+      let built_v : HasOneGroup v.schema = subst HasOneGroup (sym (ready-schema v s reads)) built in
       let me : actor_of x.names ≡ actor_of asking.names = ap actor_of plan.names_are in
       let begun =
       laws.plans.begins (actor_of asking.names) p asking v.schema (newest_in v) (chosen_in asking v) x plan
       (may-begin laws.views f p v stands is since seen asking may built_v some) in
       let after_origin = seen.own.known.after_origin in
-      let asked : asked_for x [] ≡ chosen_of v.schema v.id (taken_groups (chosen_in asking v)) [] =
-      λ i. chosen_of (plan.schema_is i) (plan.newest_is i).id (taken_groups (plan.left i)) [] in (
+      let asked : asked_for x [] [] ≡ chosen_of v.schema v.id (wanted_groups v.schema (chosen_in asking v)) [] =
+      λ i. chosen_of (plan.schema_is i) (plan.newest_is i).id (wanted_groups (plan.schema_is i) (plan.left i)) [] in (
         (
           begun.0,
           subst (λ (me : Actor). KnowsPlanned me p x [] begun.0) (sym me) begun.1,
@@ -210,7 +212,7 @@ module _ (laws : SoundLaws) (f : Files) (p : Past) (stands : Stands f p) where
         subst (IsChosen p) (sym asked) (taken-stood laws.views f p v stands is since seen asking built_v),
       )
 
-  view-leads : (asking : Asking) (s : TableSchema) (to : view_phase.Phase) (new : Phase) → IsBuilt s → MayName asking.names → HasNamedNone (actor_of asking.names) p
+  view-leads : (asking : Asking) (s : TableSchema) (to : view_phase.Phase) (new : Phase) → HasOneGroup s → MayName asking.names → HasNamedNone (actor_of asking.names) p
       → commit.Reads to s → view_meaning.Knows to f p → view_reader.WithReader (λ m. phases.View asking m) (Opens asking) to new → KnowsIn new f p
   view-leads asking s to new built may none reads reading after =
       with_reader (λ m. phases.View asking m) (Opens asking) (λ m. commit.Reads m s × view_meaning.Knows m f p) (KnowsIn new f p) to new after (reads, reading)
@@ -224,10 +226,11 @@ module _ (laws : SoundLaws) (f : Files) (p : Past) (stands : Stands f p) where
 
   -- more files are to be read, or the commit begins
   with-groups : (Q : files_phase.Phase → Type 0) (X : Type 0) (made : Planned) (rest : files_phase.Phase) (later : Phase) → AfterGroups made rest later → Q rest
-      → (later ≡ phases.Files made rest → X) → ((c : Collected) → Q (readers.Ready c) → Begins made later → X) → X
+      → (later ≡ phases.Files made rest → X)
+      → ((c : Collected) → Q (readers.Ready c) → (all : Planned) → HasTold made all → HasRoom all → Begins all later → X) → X
   with-groups Q X made (readers.Files r) later is so held begun = held is
   with-groups Q X made (readers.Again id path) later is so held begun = held is
-  with-groups Q X made (readers.Ready c) later begins so held begun = begun c so begins
+  with-groups Q X made (readers.Ready c) later (all, told, room, begins) so held begun = begun c so all told room begins
   with-groups Q X made readers.Over later is so held begun = held is
 
   taken-none : (s : TableSchema) (x : Planned) (left : List ChosenGroup) (takings : List Taking) → left ≡ []
@@ -236,34 +239,48 @@ module _ (laws : SoundLaws) (f : Files) (p : Past) (stands : Stands f p) where
   taken-none s x [] (t ∷ takings) none taken = absurd taken
   taken-none s x (c ∷ left) takings none taken = absurd (let clash : c ∷ left ≡ [] = none in cc)
 
-  begin-known : (x : Planned) (done : List RewrittenGroup) (later : Phase) → KnowsOfPlan x done p → x.left.items ≡ [] → IsCompactor later → Begins x later
-      → KnowsIn later f p
-  begin-known x done later (takings, knows, is_found, none) left compactor (m, (plan, is_plan, begins), next) =
-      let all : KnowsPlanned (actor_of x.names) p x done [] =
-      subst (λ (ts : List Taking). KnowsPlanned (actor_of x.names) p x done ts) (taken-none x.schema x x.left.items takings left knows.left) knows in
-      let committer = committer-of m x.files.items later next compactor in
+  -- y is the plan x once what is told was written
+  begin-known : (x y : Planned) (done : List RewrittenGroup) (later : Phase) → KnowsOfPlan x done p → x.left.items ≡ [] → HasTold x y → HasRoom y → IsCompactor later
+      → Begins y later → KnowsIn later f p
+  begin-known x y done later (takings, knows, is_found, none) left told room compactor (m, (plan, is_plan, begins), next) =
+      let me : Actor = actor_of x.names in
+      let same : ToldSame x y = told-same x y told in
+      let all : KnowsPlanned me p x done [] =
+      subst (λ (ts : List Taking). KnowsPlanned me p x done ts) (taken-none x.schema x x.left.items takings left knows.left) knows in
+      let named : NamesSoMany me x.newest.id 0 y.names = laws.plans.named me p x y done all told room in
+      let mine : actor_of y.names ≡ me = λ i. record { session = named.session i; number = named.actor i } in
+      let whole : KnowsPlan me y.schema y.newest.id plan y.files.items p =
+      subst (λ (s : TableSchema). KnowsPlan me s y.newest.id plan y.files.items p) (sym same.schema)
+      (subst (λ (n : Newest). KnowsPlan me x.schema n.id plan y.files.items p) (sym same.newest) (laws.plans.whole me p x y done plan all told room is_plan)) in
+      let found = subst (IsFoundIn p) (λ i. record { schema = sym same.schema i; newest = sym same.newest i }) is_found in
+      let author : y.author.base ≡ y.newest.id = ap (λ (a : Author). a.base) same.author ∙ knows.author ∙ sym (ap (λ (n : Newest). n.id) same.newest) in
+      let committer = committer-of m y.files.items later next compactor in
       let but =
-      laws.commits.begins f p x.schema x.newest x.author plan x.names x.files.items m stands is_found knows.author
-      (laws.plans.whole (actor_of x.names) p x done plan all is_plan) knows.names.may none committer begins in
-      next-on f p (compaction x.newest.id plan.groups.items) m x.files.items [] x.files.items later refl (begins-entry m knows.author begins) but next
+      laws.commits.begins f p y.schema y.newest y.author plan y.names y.files.items m stands found author
+      (subst (λ (me : Actor). KnowsPlan me y.schema y.newest.id plan y.files.items p) (sym mine) whole) named.may
+      (subst (λ (me : Actor). HasNamedNone me p) (sym mine) none) committer begins in
+      next-on f p (compaction y.newest.id plan.groups.items) m y.files.items [] y.files.items later refl (begins-entry y m author begins) but next
     where
-      begins-entry : (m : commit_phase.Phase) → x.author.base ≡ x.newest.id → commit.Begins x.schema x.newest x.author plan x.names m
+      begins-entry : (x : Planned) (m : commit_phase.Phase) → x.author.base ≡ x.newest.id → commit.Begins x.schema x.newest x.author plan x.names m
           → IsEntryIn m (compaction x.newest.id plan.groups.items)
-      begins-entry m base (made, is_made, allowed, is) =
+      begins-entry x m base (made, is_made, allowed, is) =
           subst (λ (m : commit_phase.Phase). IsEntryIn m (compaction x.newest.id plan.groups.items)) (sym is)
           (ap (λ (n : ℕ). compaction n plan.groups.items) (sym base))
 
-  files-known : (x : Planned) (done : List RewrittenGroup) (m : files_phase.Phase) (later : Phase) → CanMake x → KnowsOfPlan x done p
-      → files_meaning.Knows (asked_for x done) m f p → IsCompactor later → AfterFiles x m later → KnowsIn later f p
-  files-known x done m later can (takings, knows, is_found, none) reading compactor (groups, rest, made, hands, rewritten, room, after) =
+  files-known : (x : Planned) (done : List RewrittenGroup) (given : List GroupRead) (m : files_phase.Phase) (later : Phase) → length given ≡ length done → CanMake x
+      → KnowsOfPlan x done p → files_meaning.Knows (asked_for x done given) m f p → IsCompactor later → AfterFiles x m later → KnowsIn later f p
+  files-known x done given m later many can (takings, knows, is_found, none) reading compactor (groups, rest, made, hands, rewritten, room, after) =
       let me : Actor = actor_of x.names in
-      let handed = are-handed laws.whole x done f p m groups rest reading hands in
-      let a = all-made laws.rows laws.plans.grows f p stands me groups x made done takings handed.first handed.later can knows handed.parts handed.read rewritten room.few in
+      let handed = are-handed laws.whole x done given many f p m groups rest reading hands in
+      let a = all-made laws.rows laws.kept laws.plans.grows f p stands me groups x made done takings handed.first handed.later can knows handed.parts handed.read rewritten room.few in
       let mine : actor_of made.names ≡ me = λ i. record { session = a.knows.names.session i; number = a.knows.names.actor i } in
-      let asked : asked_for made a.all ≡ chosen_of x.schema x.newest.id (made_groups done ++ taken_groups x.left.items) (runs_of done ++ groups) =
-      λ i. chosen_of (a.schema i) (a.newest i).id (a.asked i) (a.given i) in
-      let reading_on : files_meaning.Knows (asked_for made a.all) rest f p =
-      subst (λ (a : Chosen). files_meaning.Knows a rest f p) (sym asked) (handed_known (asked_for x done) m groups rest f p hands reading) in
+      let asked : asked_for made a.all (given ++ groups) ≡ chosen_of x.schema x.newest.id (made_groups x.schema done ++ wanted_in x) (given ++ groups) =
+      (λ i. chosen_of (a.schema i) (a.newest i).id (made_groups (a.schema i) a.all ++ wanted_in made) (given ++ groups))
+      ∙ ap (λ (ws : List Wanted). chosen_of x.schema x.newest.id ws (given ++ groups)) a.asked in
+      let reading_on : files_meaning.Knows (asked_for made a.all (given ++ groups)) rest f p =
+      subst (λ (a : Chosen). files_meaning.Knows a rest f p) (sym asked) (handed_known (asked_for x done given) m groups rest f p hands reading) in
+      let all_many : length (given ++ groups) ≡ length a.all =
+      (let longer = length-append given groups in let made_many = a.many in omega (arith, longer, made_many, many)) in
       let plan : KnowsOfPlan made a.all p = (
         a.takings,
         subst (λ (me : Actor). KnowsPlanned me p made a.all a.takings) (sym mine) a.knows,
@@ -271,9 +288,9 @@ module _ (laws : SoundLaws) (f : Files) (p : Past) (stands : Stands f p) where
         subst (λ (me : Actor). HasNamedNone me p) (sym mine) none,
       ) in
       with-groups (λ m. files_reader.IsReady m → handed.later ≡ []) (KnowsIn later f p) made rest later after handed.ended
-      (λ is. subst (λ (m : Phase). KnowsIn m f p) (sym is) (a.all, plan, reading_on))
-      (λ c ended begins. begin-known made a.all later plan
-      (none-mapped (λ (c : ChosenGroup). (c.group, taken_runs c)) made.left.items (a.left ∙ ended tt)) compactor begins)
+      (λ is. subst (λ (m : Phase). KnowsIn m f p) (sym is) (a.all, given ++ groups, all_many, plan, reading_on))
+      (λ c ended all told more begins. begin-known made all a.all later plan
+      (none-mapped (wanted_of made.schema) made.left.items (a.left ∙ ended tt)) told more compactor begins)
 
 -- ---- the commit
 
@@ -318,15 +335,17 @@ module _ (laws : SoundLaws) where
       spared-leads (phases.Names x) new call f p (kept f (carried call f) p same) same (laws.still (phases.Names x) (answers.Listed names) new compactor (unused, (within, is)))
       (subst (λ (m : Phase). KnowsIn m f p) (sym is) (
         [],
+        [],
+        refl,
         plan,
-        next_known (asked_for x []) x.newest.id (nothing_of x.schema) (all_jobs x.schema (taken_groups x.left.items)) f p refl (first-taken p (asked_for x []) chosen refl),
+        next_known (asked_for x [] []) x.newest.id (nothing_of x.schema) (all_wanted x.schema (wanted_in x)) f p refl (first-taken p (asked_for x [] []) chosen refl),
       ))
-  went (phases.Files x r) new answer f p (to, on, after) stands (compactor, (done, plan, reading)) =
+  went (phases.Files x r) new answer f p (to, on, after) stands (compactor, (done, given, many, plan, reading)) =
       let still = laws.still (phases.Files x r) answer new compactor (to, on, after) in
       both_if (files_reader.next_call r) _ _ _
       (λ call same next told. spared-leads (phases.Files x r) new call f p (kept f (carried call f) p (same effects.Whole)) (same effects.Whole) still
-      (files-known laws f p stands x done to new compactor.0 plan (next told) still after))
-      (files_facts.spares r f) (files_facts.knows_next (asked_for x done) r answer to f p on stands reading)
+      (files-known laws f p stands x done given to new many compactor.0 plan (next told) still after))
+      (files_facts.spares r f) (files_facts.knows_next (asked_for x done given) r answer to f p on stands reading)
   went (phases.Create m next rest) new (answers.Made creates.Created) f p goes stands (compactor, (e, given, done, parts, entry, but)) = λ told.
       let call : Call = calls.Create next.path next.bytes in
       let put_at : Puts f next.path (Some next.bytes) (carried call f) = Answers-Changed call (answers.Made creates.Created) f told in

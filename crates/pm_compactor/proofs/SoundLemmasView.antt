@@ -1,17 +1,24 @@
 -- What a compactor knows once its view is ready: of each group that is chosen, its runs there.
-use Rattle.std.proofs.Common.{◌≡◌, ◌≢◌, inl, ℕ, zero, suc, ◌≤◌, List, [], ◌∷◌, map, take, cond, Option, None, Some, refl, sym, ap, subst, ◌∙◌, arith}
+use Rattle.std.proofs.Common.{◌≡◌, ◌≢◌, ℕ, zero, suc, ◌≤◌, All, List, [], ◌∷◌, ◌++◌, append-nil, drop, map, reverse, take, cond, Option, None, Some, refl, sym, ap, subst, ◌∙◌, arith}
 use Rattle.std.specs.BTreeMap.{is_at}
 use Rattle.std.specs.Cmp.{tied_itself}
 use Rattle.std.specs.List.{AllByRecursion}
 use Rattle.std.specs.List.Sorted.{IsStrictlySortedBy}
 use Rattle.std.specs.Map.{lookup}
 use Rattle.std.specs.Ordering.{is_eq}
+use Rattle.std.proofs.lemmas.List.Elements.{All-from_recursion}
+use Rattle.std.proofs.lemmas.List.Sorted.{All-permutation, IsPermutation-reverse}
 use Rattle.pm_base.proofs.Laws.{AllByRecursion-append}
 use Rattle.pm_store.specs.Files.{Files}
 use Rattle.pm_values.specs.GroupOrder.{group_cmp, group_total}
 use Rattle.pm_values.specs.declared.group.Group.{Group}
+use Rattle.pm_options.specs.declared.kinds.Producer.{Producer}
+use Rattle.pm_options.specs.declared.kinds.Producer.TheVariants as producers
 use Rattle.pm_schema.specs.declared.schema.TableSchema.{TableSchema}
-use Rattle.pm_model_history.specs.History.{IsTableOf}
+use Rattle.pm_model_history.specs.History.{Entry, IsTableOf}
+use Rattle.pm_engine.specs.Covers.{IsRising, Run}
+use Rattle.pm_engine.specs.OfSchema.{meaning_of}
+use Rattle.pm_merge.specs.Merge.{AreStored}
 use Rattle.pm_snapshot.specs.Names.{MayName}
 use Rattle.pm_snapshot.specs.declared.snapshot.Snapshot.{Snapshot}
 use Rattle.pm_levels.specs.Picking.{picked, top_of}
@@ -24,41 +31,47 @@ use Rattle.pm_manifest.specs.Live.{Live}
 use Rattle.pm_model_contents.specs.Groups.{GroupRuns}
 use Rattle.pm_model_contents.specs.Named.{Contents, HasContents}
 use Rattle.pm_model_contents.specs.Runs.{AreRunsOf}
+use Rattle.pm_runs.specs.Succession.{AreKnownAt, KnownRun, from_oldest, without_files}
 use Rattle.pm_model_folder.specs.Commits.{HasCommit, IsCommitted, live_in}
 use Rattle.pm_model_folder.specs.Ledger.{IsKnown, KnowsTable, Past, Stands}
 use Rattle.pm_model_folder.specs.Meaning.{SnapshotAt}
 use Rattle.pm_model_folder.specs.Runs.{AreInFiles, AreRunsAt, view_of}
+use Rattle.pm_model_folder.specs.Stored.{HasRun}
 use Rattle.pm_model_folder.proofs.HoldLemmas.{one-snapshot}
 use Rattle.pm_model_folder.proofs.LedgerFacts.{at-table, count-is}
 use Rattle.pm_read_table.specs.Meaning.{IsViewIn, view_origin, view_snapshot}
 use Rattle.pm_read_table.specs.View.{runs_at}
 use Rattle.pm_read_table.specs.declared.view.View.{View}
 use Rattle.pm_group_files.specs.Chosen.{chosen_of as asked_of}
-use Rattle.pm_group_files.specs.Jobs.{Grouped}
+use Rattle.pm_group_files.specs.Jobs.{Grouped, Wanted, whole_group}
 use Rattle.pm_group_files.specs.Meaning.{IsChosen as IsAsked, IsTableView, StoodAt}
 use Rattle.pm_group_files.proofs.ViewLemmas.{IsOfSnapshot, OneContents, OneRuns, each-found, of-snapshot, same-live}
-use Rattle.pm_append.specs.Commit.{IsBuilt}
-use Rattle.pm_choice.specs.Choice.{chosen_of, choices, group_of, of_pick, taken_runs, HaveLevels, IsChosen}
+use Rattle.pm_append.specs.Commit.{HasOneGroup}
+use Rattle.pm_choice.specs.Choice.{chosen_of, choices, group_of, looked_by, of_pick, taken_runs, HaveLevels, IsChosen}
 use Rattle.pm_choice.specs.Question.{rule_of}
 use Rattle.pm_choice.specs.declared.choice.ChosenGroup.{ChosenGroup}
 use Rattle.pm_commit.specs.Committer.{newest_in}
 use Rattle.pm_commit.proofs.KnownLemmas.{count-bound}
-use Rattle.pm_plan.specs.Known.{MayBegin}
+use Rattle.pm_plan.specs.Known.{AreStoredRuns, MayBegin}
 use Rattle.pm_plan.specs.declared.planned.Asking.{Asking}
-use Rattle.pm_compactor.specs.Compactor.{actor_of, asked_of_view, chosen_in, taken_groups}
+use Rattle.pm_compactor.specs.Compactor.{actor_of, asked_of_view, chosen_in, wanted_groups, wanted_of}
 
 -- what the laws of views and of choices say
 pub record ViewLaws : Type 0 where
   pub one : OneContents
   pub runs : OneRuns
   pub view : (f : Files) (p : Past) (v : View) (g : Group) (runs : List RunView) → Stands f p → IsTableView p v → runs_at v g ≡ Some runs
-      → IsKnown p v.id × StoodAt p v.schema v.id (g, runs)
-  pub prefix : (p : Past) (s : TableSchema) (id : ℕ) (g : Group) (runs : List RunView) (n : ℕ) → StoodAt p s id (g, runs) → 1 ≤ n
-      → StoodAt p s id (g, take n runs)
+      → IsKnown p v.id × StoodAt p v.schema v.id (whole_group (g, runs))
+  pub newest : (p : Past) (s : TableSchema) (id : ℕ) (g : Group) (runs : List RunView) (n : ℕ) → StoodAt p s id (whole_group (g, runs)) → 1 ≤ n
+      → StoodAt p s id (whole_group (g, take n runs))
+  pub kept : (p : Past) (s : TableSchema) (id : ℕ) (w : Wanted) (n : ℕ) → StoodAt p s id (whole_group (w.group, w.runs)) → 1 ≤ n
+      → StoodAt p s id (record w { runs = take n w.runs; kept = drop n w.runs })
   pub rising : (asked : Asked) (rule : PickRule) (groups : List (Group × List RunView)) → IsStrictlySortedBy group_cmp (map (λ e. e.0) groups)
       → IsStrictlySortedBy group_cmp (map group_of (choices asked rule groups))
   pub each : (asked : Asked) (rule : PickRule) (groups : List (Group × List RunView)) → 1 ≤ rule.trigger → 1 ≤ top_of rule
       → AllByRecursion (λ e. HaveLevels (top_of rule) e.1) groups → AllByRecursion (IsChosen rule) (choices asked rule groups)
+  pub stored : (s : TableSchema) (g : Group) (entries : List Entry) (n : ℕ) (taken left : List KnownRun) → AreKnownAt s g entries n (taken ++ left)
+      → All IsRising (from_oldest (taken ++ left)) → AreStored (meaning_of s) (from_oldest taken)
 
 -- ---- lists
 
@@ -148,7 +161,29 @@ known-live law f p v stands is since own g =
 record HasKnown (p : Past) (v : View) (g : Group) (runs : List RunView) : Type 0 where
   same : runs ≡ map view_of (p.runs v.id g)
   levels : HaveLevels (top_of (rule_of v.schema)) runs
-  stood : StoodAt p v.schema v.id (g, runs)
+  stored : AreStoredRuns v.schema (p.runs v.id g)
+  stood : StoodAt p v.schema v.id (whole_group (g, runs))
+
+-- ---- they are of stored rows
+
+rows-rise : (f : Files) (s : TableSchema) (g : Group) (runs : List KnownRun)
+    → AllByRecursion (λ (run : KnownRun). HasRun f s g (view_of run) (without_files run)) runs → All IsRising (from_oldest runs)
+rows-rise f s g runs hold =
+    let rows : List Run = map (λ (run : KnownRun). run.rows) runs in
+    All-permutation IsRising rows (reverse rows) (IsPermutation-reverse rows) (All-from_recursion IsRising rows (each runs hold))
+  where
+    each : (runs : List KnownRun) → AllByRecursion (λ (run : KnownRun). HasRun f s g (view_of run) (without_files run)) runs
+        → AllByRecursion IsRising (map (λ (run : KnownRun). run.rows) runs)
+    each [] hold = tt
+    each (run ∷ runs) hold = (hold.0.rising, each runs hold.1)
+
+rows-stored : ((s : TableSchema) (g : Group) (entries : List Entry) (n : ℕ) (taken left : List KnownRun) → AreKnownAt s g entries n (taken ++ left)
+    → All IsRising (from_oldest (taken ++ left)) → AreStored (meaning_of s) (from_oldest taken))
+    → (s : TableSchema) (g : Group) (entries : List Entry) (n : ℕ) (runs : List KnownRun) → AreKnownAt s g entries n runs → All IsRising (from_oldest runs)
+    → AreStored (meaning_of s) (from_oldest runs)
+rows-stored law s g entries n runs known rise =
+    law s g entries n runs [] (subst (AreKnownAt s g entries n) (sym (append-nil runs)) known)
+    (subst (λ (runs : List KnownRun). All IsRising (from_oldest runs)) (sym (append-nil runs)) rise)
 
 module _ (laws : ViewLaws) (f : Files) (p : Past) (v : View) (stands : Stands f p) (is : IsTableView p v) (since : p.since ≤ v.id) (seen : IsSeenAt p v) where
   has-known : (g : Group) (runs : List RunView) → runs_at v g ≡ Some runs → HasKnown p v g runs
@@ -162,13 +197,18 @@ module _ (laws : ViewLaws) (f : Files) (p : Past) (v : View) (stands : Stands f 
       let mine : GroupRuns own.live g (Some runs) = subst (GroupRuns own.live g) found (own.groups g) in
       let same : runs ≡ map view_of (p.runs v.id g) =
       laws.runs own.live g runs (map view_of (p.runs v.id g)) mine.0 (known-live laws.one f p v stands is.table since own g) in
+      let at : AreKnownAt s g table.0 v.id (p.runs v.id g) = (known.runs.succession g).known v.id since (omega (arith, to, count)) in
       record {
         same = same;
         levels = record {
           rise = mine.0.made.levels;
           within = subst (AllByRecursion (λ (run : RunView). run.level ≤ top_of (rule_of s))) (sym same)
-              (all-map (λ (run : RunView). run.level ≤ top_of (rule_of s)) view_of (p.runs v.id g)
-              ((known.runs.succession g).known v.id since (omega (arith, to, count))).levels);
+              (all-map (λ (run : RunView). run.level ≤ top_of (rule_of s)) view_of (p.runs v.id g) at.levels);
+        };
+        stored = record {
+          within = at.levels;
+          stored = rows-stored laws.stored s g table.0 v.id (p.runs v.id g) at
+              (rows-rise (p.stood v.id) s g (p.runs v.id g) (known.runs.stood v.id g since (omega (arith, to, count))).hold);
         };
         stood = (laws.view f p v g runs stands is found).1;
       }
@@ -177,7 +217,7 @@ module _ (laws : ViewLaws) (f : Files) (p : Past) (v : View) (stands : Stands f 
   all-known = each-found (λ g runs. HasKnown p v g runs) v.groups.entries is.order has-known
 
   -- an actor may begin with those that are chosen
-  pub may-begin : (asking : Asking) → MayName asking.names → IsBuilt v.schema → chosen_in asking v ≢ []
+  pub may-begin : (asking : Asking) → MayName asking.names → HasOneGroup v.schema → chosen_in asking v ≢ []
       → MayBegin (actor_of asking.names) p asking v.schema (newest_in v) (chosen_in asking v)
   may-begin asking may built some =
       let most = count-bound f p v.schema stands is.table in
@@ -205,7 +245,6 @@ module _ (laws : ViewLaws) (f : Files) (p : Past) (v : View) (stands : Stands f 
           based = refl;
           room = omega (arith, room);
         };
-        quiet = built.producer;
         some = some;
         rise = laws.rising (asked_of_view asking v) (rule_of v.schema) v.groups.entries is.order;
         each = laws.each (asked_of_view asking v) (rule_of v.schema) v.groups.entries
@@ -214,14 +253,25 @@ module _ (laws : ViewLaws) (f : Files) (p : Past) (v : View) (stands : Stands f 
             (all-weaker (λ (e : Grouped). HasKnown p v e.0 e.1) (λ e. HaveLevels (top_of (rule_of v.schema)) e.1) v.groups.entries (λ e known. known.levels) all-known);
         levels = chosen-all (λ g runs. runs ≡ map view_of (p.runs v.id g)) (asked_of_view asking v) (rule_of v.schema) v.groups.entries
             (all-weaker (λ (e : Grouped). HasKnown p v e.0 e.1) (λ (e : Grouped). e.1 ≡ map view_of (p.runs v.id e.0)) v.groups.entries (λ e known. known.same) all-known);
+        stored = chosen-all (λ g runs. AreStoredRuns v.schema (p.runs v.id g)) (asked_of_view asking v) (rule_of v.schema) v.groups.entries
+            (all-weaker (λ (e : Grouped). HasKnown p v e.0 e.1) (λ (e : Grouped). AreStoredRuns v.schema (p.runs v.id e.0)) v.groups.entries (λ e known. known.stored) all-known);
       }
 
-  -- what goes of them stood there
-  pub taken-stood : (asking : Asking) → IsBuilt v.schema → IsAsked p (asked_of v.schema v.id (taken_groups (chosen_in asking v)) [])
+  -- what is wanted of one that is chosen stood there: the runs that go, and with look-ups the files of those that stay
+  wanted-stood : (q : Producer) (c : ChosenGroup) → StoodAt p v.schema v.id (whole_group (c.group, c.levels)) → IsChosen (rule_of v.schema) c
+      → StoodAt p v.schema v.id (record { group = c.group; runs = taken_runs c; kept = looked_by q c })
+  wanted-stood producers.None c stood chosen = laws.newest p v.schema v.id c.group c.levels c.take stood chosen.choice.some
+  wanted-stood producers.Input c stood chosen = laws.newest p v.schema v.id c.group c.levels c.take stood chosen.choice.some
+  wanted-stood producers.Lookup c stood chosen =
+      laws.kept p v.schema v.id (whole_group (c.group, c.levels)) c.take stood chosen.choice.some
+  wanted-stood producers.FullCompaction c stood chosen = laws.newest p v.schema v.id c.group c.levels c.take stood chosen.choice.some
+
+  -- what is wanted of them stood there
+  pub taken-stood : (asking : Asking) → HasOneGroup v.schema → IsAsked p (asked_of v.schema v.id (wanted_groups v.schema (chosen_in asking v)) [])
   taken-stood asking built =
-      let stood : AllByRecursion (λ (c : ChosenGroup). StoodAt p v.schema v.id (c.group, c.levels)) (chosen_in asking v) =
-      chosen-all (λ g runs. StoodAt p v.schema v.id (g, runs)) (asked_of_view asking v) (rule_of v.schema) v.groups.entries
-      (all-weaker (λ (e : Grouped). HasKnown p v e.0 e.1) (λ (e : Grouped). StoodAt p v.schema v.id (e.0, e.1)) v.groups.entries (λ e known. known.stood) all-known) in
+      let stood : AllByRecursion (λ (c : ChosenGroup). StoodAt p v.schema v.id (whole_group (c.group, c.levels))) (chosen_in asking v) =
+      chosen-all (λ g runs. StoodAt p v.schema v.id (whole_group (g, runs))) (asked_of_view asking v) (rule_of v.schema) v.groups.entries
+      (all-weaker (λ (e : Grouped). HasKnown p v e.0 e.1) (λ (e : Grouped). StoodAt p v.schema v.id (whole_group (e.0, e.1))) v.groups.entries (λ e known. known.stood) all-known) in
       let each : AllByRecursion (IsChosen (rule_of v.schema)) (chosen_in asking v) =
       laws.each (asked_of_view asking v) (rule_of v.schema) v.groups.entries
       (let trigger = built.declared.options.trigger.0 in omega (arith, trigger)) (let levels = built.declared.options.levels.0 in omega (arith, levels))
@@ -229,9 +279,9 @@ module _ (laws : ViewLaws) (f : Files) (p : Past) (v : View) (stands : Stands f 
       record {
         table = is.table;
         known = seen.own.known;
-        each = all-map (StoodAt p v.schema v.id) (λ (c : ChosenGroup). (c.group, taken_runs c)) (chosen_in asking v)
-            (all-weaker (λ (c : ChosenGroup). StoodAt p v.schema v.id (c.group, c.levels) × IsChosen (rule_of v.schema) c)
-            (λ (c : ChosenGroup). StoodAt p v.schema v.id (c.group, taken_runs c)) (chosen_in asking v)
-            (λ c both. laws.prefix p v.schema v.id c.group c.levels c.take both.0 both.1.choice.some)
-            (all-both (λ (c : ChosenGroup). StoodAt p v.schema v.id (c.group, c.levels)) (IsChosen (rule_of v.schema)) (chosen_in asking v) stood each));
+        each = all-map (StoodAt p v.schema v.id) (wanted_of v.schema) (chosen_in asking v)
+            (all-weaker (λ (c : ChosenGroup). StoodAt p v.schema v.id (whole_group (c.group, c.levels)) × IsChosen (rule_of v.schema) c)
+            (λ (c : ChosenGroup). StoodAt p v.schema v.id (wanted_of v.schema c)) (chosen_in asking v)
+            (λ c both. wanted-stood v.schema.options.producer c both.0 both.1)
+            (all-both (λ (c : ChosenGroup). StoodAt p v.schema v.id (whole_group (c.group, c.levels))) (IsChosen (rule_of v.schema)) (chosen_in asking v) stood each));
       }

@@ -15,10 +15,9 @@ use Rattle.pm_machine.specs.Running.{Refuses, Stops}
 use Rattle.pm_machine.specs.Trace.{Event, Recounts, answered, faulted}
 use Rattle.pm_machine.proofs.PhaseFacts.{ended, recounts_of}
 use Rattle.pm_schema.specs.declared.schema.TableSchema.{TableSchema}
-use Rattle.pm_engine.specs.Covers.{Run}
+use Rattle.pm_scan_rows.specs.Group.{GroupRead}
 use Rattle.pm_put.proofs.Facts as put_facts
 use Rattle.pm_put.specs.Putter as putters
-use Rattle.pm_put.specs.Putter.{create_next as put_next}
 use Rattle.pm_put.specs.Trace.{all_created, creates}
 use Rattle.pm_put.specs.declared.phase.Phase as put_phase
 use Rattle.pm_put.specs.declared.phase.Phase.TheVariants as puts
@@ -35,7 +34,7 @@ use Rattle.pm_read_table.proofs.Facts.{Joined}
 use Rattle.pm_read_table.proofs.WithinLemmas.{with_reader}
 use Rattle.pm_group_files.specs.Chosen.{Chosen, chosen_of}
 use Rattle.pm_group_files.specs.Collected.{Collected, collected_of, nothing_of, with_groups, without_groups}
-use Rattle.pm_group_files.specs.Jobs.{Grouped, all_jobs}
+use Rattle.pm_group_files.specs.Jobs.{Wanted, all_wanted}
 use Rattle.pm_group_files.specs.Reader as files
 use Rattle.pm_group_files.specs.Reader.{HandsOut, read_next}
 use Rattle.pm_group_files.specs.Trace as files_trace
@@ -50,7 +49,7 @@ use Rattle.pm_made.specs.declared.intent.Intent.TheVariants as intents
 use Rattle.pm_made.specs.declared.newest.Made.{Made}
 use Rattle.pm_made.proofs.AllowedLemmas.{IsReason, is-reason}
 use Rattle.pm_commit.specs.Committer as commit
-use Rattle.pm_commit.specs.Committer.{After, AfterPutter, AfterReader, Hears, Makes, Outcome, first_of_put, found_in, publishing_of, put_of}
+use Rattle.pm_commit.specs.Committer.{AfterPutter, AfterReader, Hears, Makes, Outcome, first_of_put, found_in, put_of}
 use Rattle.pm_commit.specs.Own.{OwnView, begun, own_for_plan}
 use Rattle.pm_commit.specs.Search.{older_ids, seen_in, seen_of}
 use Rattle.pm_commit.specs.Trace as commit_trace
@@ -63,13 +62,14 @@ use Rattle.pm_commit.proofs.OutcomeLemmas.{err-ok, heard, ok-same, read-on, trie
 use Rattle.pm_commit.proofs.TraceLemmas.{if-is, some-at}
 use Rattle.pm_scan.specs.Trace.{AfterView}
 use Rattle.pm_choice.specs.declared.choice.ChosenGroup.{ChosenGroup}
-use Rattle.pm_plan.specs.Planned.{AllRewritten, RewritesFirst}
+use Rattle.pm_plan.specs.Planned.{AllRewritten, HasTold, RefusesSome, RewritesFirst}
 use Rattle.pm_plan.specs.declared.planned.Asking.{Asking}
 use Rattle.pm_plan.specs.declared.planned.Planned.{Planned}
-use Rattle.pm_compactor.specs.Compactor.{AfterFiles, AfterGroups, Begins, CreatesNext, Goes, Opens, OpensWith, RefusesPlan, Shown, chosen_in, next_call, taken_groups}
-use Rattle.pm_compactor.specs.Trace.{AskedOf, Did, DidSoFar, FindsReason, HasCreated, HasMade, HasPlan, IsFirst, Listed, MayTakeMemory, Shows, ShowsOfCommit, ShowsOfFiles, ShowsOwn}
+use Rattle.pm_compactor.specs.Compactor.{AfterFiles, AfterGroups, Begins, CreatesNext, Goes, Opens, OpensWith, RefusesPlan, Shown, chosen_in, next_call, wanted_in}
+use Rattle.pm_compactor.specs.Trace.{AskedOf, Did, DidSoFar, FailsToTell, FindsReason, HasCreated, HasMade, HasPlan, IsFirst, Listed, MayTakeMemory, Shows, ShowsOfCommit, ShowsOfFiles, ShowsOwn}
 use Rattle.pm_compactor.specs.declared.phase.Phase.{Phase}
 use Rattle.pm_compactor.specs.declared.phase.Phase.TheVariants as phases
+use Rattle.pm_compactor.proofs.TellLemmas.{refuses-kind, refuses-none}
 
 -- ---- lists of events
 
@@ -103,13 +103,13 @@ folds-join : {P A : Type 0} (R : P → A → P → Type 0) (p q r : P) (xs ys : 
 folds-join R p q r [] ys first later = subst (λ q. FoldsTo R q ys r) (sym first) later
 folds-join R p q r (x ∷ xs) ys (m, one, rest) later = (m, one, folds-join R m q r xs ys rest later)
 
-pub rewritten-join : (p q r : Planned) (xs ys : List (List Run)) → AllRewritten p xs q → AllRewritten q ys r → AllRewritten p (xs ++ ys) r
+pub rewritten-join : (p q r : Planned) (xs ys : List GroupRead) → AllRewritten p xs q → AllRewritten q ys r → AllRewritten p (xs ++ ys) r
 rewritten-join p q r xs ys first later = folds-join RewritesFirst p q r xs ys first later
 
 -- ---- the reader of files
 
-same-whole : (given : List (List Run)) (c : Collected) → with_groups given c ≡ with_groups (given ++ c.groups) (without_groups c)
-same-whole given c = ap (λ (groups : List (List Run)). collected_of c.schema groups c.runs c.rows) (sym (append-nil (given ++ c.groups)))
+same-whole : (given : List GroupRead) (c : Collected) → with_groups given c ≡ with_groups (given ++ c.groups) (without_groups c)
+same-whole given c = ap (λ (groups : List GroupRead). collected_of c.schema groups c.runs c.kept c.rows) (sym (append-nil (given ++ c.groups)))
 
 part-given : (a : Chosen) (c : Collected) (left : List Job) (own : List Event) → HasPart a c left own → HasPart (also_given a c.groups) (without_groups c) left own
 part-given a c left own part = record {
@@ -119,25 +119,25 @@ part-given a c left own part = record {
 }
 
 none-given : (a : Chosen) → also_given a [] ≡ a
-none-given a = ap (λ (given : List (List Run)). chosen_of a.schema a.id a.groups given) (append-nil a.given)
+none-given a = ap (λ (given : List GroupRead). chosen_of a.schema a.id a.groups given) (append-nil a.given)
 
 -- it handed groups out, which were given with those before
-handed : (a : Chosen) (m : files_phase.Phase) (groups : List (List Run)) (new : files_phase.Phase) (own : List Event) → HandsOut m groups new
+handed : (a : Chosen) (m : files_phase.Phase) (groups : List GroupRead) (new : files_phase.Phase) (own : List Event) → HandsOut m groups new
     → files_trace.DidSoFar a m own → files_trace.DidSoFar (also_given a groups) new own
 handed a (readers.Files r) groups new own (are, is) (same, part) =
-    subst (λ (groups : List (List Run)). files_trace.DidSoFar (also_given a groups) new own) (sym are)
+    subst (λ (groups : List GroupRead). files_trace.DidSoFar (also_given a groups) new own) (sym are)
     (subst (λ (m : files_phase.Phase). files_trace.DidSoFar (also_given a r.collected.groups) m own) (sym is) (same, part-given a r.collected (r.next ∷ r.rest) own part))
 handed a (readers.Ready c) groups new own (are, is) part =
-    subst (λ (groups : List (List Run)). files_trace.DidSoFar (also_given a groups) new own) (sym are)
+    subst (λ (groups : List GroupRead). files_trace.DidSoFar (also_given a groups) new own) (sym are)
     (subst (λ (m : files_phase.Phase). files_trace.DidSoFar (also_given a c.groups) m own) (sym is) (part-given a c [] own part))
 handed a (readers.Again id path) groups new own (none, is) lacks =
-    subst (λ (groups : List (List Run)). files_trace.DidSoFar (also_given a groups) new own) (sym none)
+    subst (λ (groups : List GroupRead). files_trace.DidSoFar (also_given a groups) new own) (sym none)
     (subst (λ (m : files_phase.Phase). files_trace.DidSoFar (also_given a []) m own) (sym is)
     (subst (λ (a : Chosen). files_trace.LacksFile a id path own) (sym (none-given a)) lacks))
 handed a readers.Over groups new own hands did = absurd did
 
 -- where it has all files, it has no group left then
-handed-none : (m : files_phase.Phase) (groups : List (List Run)) (c : Collected) → HandsOut m groups (readers.Ready c) → c.groups ≡ []
+handed-none : (m : files_phase.Phase) (groups : List GroupRead) (c : Collected) → HandsOut m groups (readers.Ready c) → c.groups ≡ []
 handed-none (readers.Ready old) groups c (are, is) =
     let same : c ≡ without_groups old = let e : readers.Ready c ≡ readers.Ready (without_groups old) = is in cc in ap (λ (c : Collected). c.groups) same
 handed-none (readers.Files r) groups c (are, is) = absurd (let clash = is in cc)
@@ -160,14 +160,14 @@ as-so-far a m answer (readers.Ready c) own goes did = did
 as-so-far a m answer readers.Over own goes did = absurd (files_facts.goes_on_not_over m answer goes)
 
 -- none was read yet
-first-jobs : (s : TableSchema) (id : ℕ) (groups : List Grouped) (jobs : List Job) → HasPart (chosen_of s id groups []) (nothing_of s) jobs []
+first-jobs : (s : TableSchema) (id : ℕ) (groups : List Wanted) (jobs : List Job) → HasPart (chosen_of s id groups []) (nothing_of s) jobs []
     → files_trace.DidSoFar (chosen_of s id groups []) (read_next id (nothing_of s) jobs) []
 first-jobs s id groups [] part = part
 first-jobs s id groups (job ∷ jobs) part = (refl, part)
 
-first-did : (s : TableSchema) (id : ℕ) (groups : List Grouped)
-    → files_trace.DidSoFar (chosen_of s id groups []) (read_next id (nothing_of s) (all_jobs s groups)) []
-first-did s id groups = first-jobs s id groups (all_jobs s groups) (part_none (chosen_of s id groups []) refl)
+first-did : (s : TableSchema) (id : ℕ) (groups : List Wanted)
+    → files_trace.DidSoFar (chosen_of s id groups []) (read_next id (nothing_of s) (all_wanted s groups)) []
+first-did s id groups = first-jobs s id groups (all_wanted s groups) (part_none (chosen_of s id groups []) refl)
 
 -- a group is whole, or all files were read
 abbrev IsWhole : files_phase.Phase → Type 0
@@ -226,22 +226,24 @@ module _ (a : AskedOf) (v : View) (p : Planned) where
       plan-as (Listed p P) (Listed p Q) own (λ reads listed. let (names, later, none, is, so) = listed in (names, later, none, is, as_other later so)) has
 
   -- what was asked of the reader of files
-  abbrev given-of : List (List Run) → Chosen
-  given-of groups = chosen_of p.schema p.newest.id (taken_groups p.left.items) groups
+  abbrev given-of : List GroupRead → Chosen
+  given-of groups = chosen_of p.schema p.newest.id (wanted_in p) groups
 
-  abbrev DidFiles : Planned → List (List Run) → files_phase.Phase → List Event → Type 0
+  abbrev DidFiles : Planned → List GroupRead → files_phase.Phase → List Event → Type 0
   DidFiles made groups m own = HasPlan a v p (Listed p (HasMade p made groups (files_trace.DidSoFar (given-of groups) m))) own
 
   -- ---- the commit begins
 
-  created-none : (all : Planned) (groups : List (List Run)) (c : Collected) (own : List Event) → c.groups ≡ []
-      → HasMade p all groups (files_trace.DidSoFar (given-of groups) (readers.Ready c)) own → HasCreated p all [] own
-  created-none all groups c own none made = record {
+  created-none : (made all : Planned) (groups : List GroupRead) (c : Collected) (own : List Event) → c.groups ≡ [] → HasTold made all
+      → HasMade p made groups (files_trace.DidSoFar (given-of groups) (readers.Ready c)) own → HasCreated p all [] own
+  created-none made all groups c own none told has = record {
     reads = own;
     groups = groups;
     collected = c;
-    all_read = record { rewritten = made.rewritten; so = made.so };
+    made = made;
+    all_read = record { rewritten = has.rewritten; so = has.so };
     none_left = none;
+    told = told;
     is = sym (append-nil own);
   }
 
@@ -251,8 +253,10 @@ module _ (a : AskedOf) (v : View) (p : Planned) where
     reads = has.reads;
     groups = has.groups;
     collected = has.collected;
+    made = has.made;
     all_read = has.all_read;
     none_left = has.none_left;
+    told = has.told;
     is = joined-push has.reads (all_created done) own (creates file answered_as.Created) has.is
         ∙ ap (λ (later : List Event). has.reads ++ later) (created-push done file);
   }
@@ -299,7 +303,7 @@ module _ (a : AskedOf) (v : View) (p : Planned) where
 
   -- ---- with a reader of files
 
-  made-more : (made all : Planned) (groups more : List (List Run)) (m rest : files_phase.Phase) (own : List Event) → HandsOut m more rest → AllRewritten made more all
+  made-more : (made all : Planned) (groups more : List GroupRead) (m rest : files_phase.Phase) (own : List Event) → HandsOut m more rest → AllRewritten made more all
       → HasMade p made groups (files_trace.DidSoFar (given-of groups) m) own
       → HasMade p all (groups ++ more) (files_trace.DidSoFar (given-of (groups ++ more)) rest) own
   made-more made all groups more m rest own hands rewritten has = record {
@@ -307,17 +311,17 @@ module _ (a : AskedOf) (v : View) (p : Planned) where
     so = handed (given-of groups) m more rest own hands has.so;
   }
 
-  did-groups : (all : Planned) (groups : List (List Run)) (rest : files_phase.Phase) (later : Phase) (own : List Event)
+  did-groups : (all : Planned) (groups : List GroupRead) (rest : files_phase.Phase) (later : Phase) (own : List Event)
       → ((c : Collected) → rest ≡ readers.Ready c → c.groups ≡ []) → AfterGroups all rest later → DidFiles all groups rest own → DidSoFar a later own
   did-groups all groups (readers.Files r) later own none is has = subst (λ (m : Phase). DidSoFar a m own) (sym is) (v, p, groups, has)
   did-groups all groups (readers.Again id path) later own none is has = subst (λ (m : Phase). DidSoFar a m own) (sym is) (v, p, groups, has)
-  did-groups all groups (readers.Ready c) later own none begins has =
+  did-groups made groups (readers.Ready c) later own none (all, told, room, begins) has =
       did-begun all later own begins
-      (listed-as (HasMade p all groups (files_trace.DidSoFar (given-of groups) (readers.Ready c))) (HasCreated p all []) own
-      (λ reads made. created-none all groups c reads (none c refl) made) has)
+      (listed-as (HasMade p made groups (files_trace.DidSoFar (given-of groups) (readers.Ready c))) (HasCreated p all []) own
+      (λ reads so. created-none made all groups c reads (none c refl) told so) has)
   did-groups all groups readers.Over later own none is has = subst (λ (m : Phase). DidSoFar a m own) (sym is) (v, p, groups, has)
 
-  did-files : (made : Planned) (groups : List (List Run)) (m : files_phase.Phase) (later : Phase) (own : List Event) → AfterFiles made m later
+  did-files : (made : Planned) (groups : List GroupRead) (m : files_phase.Phase) (later : Phase) (own : List Event) → AfterFiles made m later
       → DidFiles made groups m own → DidSoFar a later own
   did-files made groups m later own (more, rest, all, hands, rewritten, room, after) has =
       did-groups all (groups ++ more) rest later own (λ c is. handed-none m more c (subst (HandsOut m more) is hands)) after
@@ -483,6 +487,18 @@ module _ (law : Joined) (held : Recounted) (a : AskedOf) where
       listed-push a v p _ _ own e
       (λ later so. let (created, tries, is, done, did) = so in (created, tries ++ e ∷ [], joined-push created tries later e is, done, more tries did)) has
 
+  -- with the answer to a call of the reader of files
+  did-next : (v : View) (p made : Planned) (groups : List GroupRead) (m to : files_phase.Phase) (call : Call) (answer : Answer) (own : List Event)
+      → files.next_call m ≡ Some call → MayAnswer call answer → files.Goes m answer to → DidFiles a v p made groups m own
+      → DidFiles a v p made groups to (own ++ answered call answer ∷ [])
+  did-next v p made groups m to call answer own at may goes has =
+      listed-push a v p (HasMade p made groups (files_trace.DidSoFar (given-of a v p groups) m)) (HasMade p made groups (files_trace.DidSoFar (given-of a v p groups) to)) own
+      (answered call answer) (λ reads so. record {
+        rewritten = so.rewritten;
+        so = as-so-far (given-of a v p groups) m answer to _ goes
+            (some-at (files.next_call m) call _ at ((files_facts.recounts (given-of a v p groups)).went m to answer reads goes (as-did (given-of a v p groups) m reads so.so)) may);
+      }) has
+
   went-so : (m : Phase) (answer : Answer) (new : Phase) (own : List Event) → Goes m answer new → DidSoFar a m own
       → IfSome (next_call m) (λ call. MayAnswer call answer → DidSoFar a new (own ++ answered call answer ∷ []))
   went-so (phases.View asking m) answer new own (to, goes, with) (same, did) =
@@ -499,18 +515,12 @@ module _ (law : Joined) (held : Recounted) (a : AskedOf) where
           [],
           none,
           ap (λ (own : List Event). own ++ e ∷ []) quiet,
-          record { rewritten = refl; so = first-did p.schema p.newest.id (taken_groups p.left.items) },
+          record { rewritten = refl; so = first-did p.schema p.newest.id (wanted_in p) },
         )) has,
       )
   went-so (phases.Files made m) answer new own (to, goes, after) (v, p, groups, has) =
       if-is (files.next_call m) _ (λ call at may.
-      did-files a v p made groups to new (own ++ answered call answer ∷ []) after
-      (listed-push a v p (HasMade p made groups (files_trace.DidSoFar (given-of a v p groups) m)) (HasMade p made groups (files_trace.DidSoFar (given-of a v p groups) to)) own
-      (answered call answer) (λ reads so. record {
-        rewritten = so.rewritten;
-        so = as-so-far (given-of a v p groups) m answer to _ goes
-            (some-at (files.next_call m) call _ at ((files_facts.recounts (given-of a v p groups)).went m to answer reads goes (as-did (given-of a v p groups) m reads so.so)) may);
-      }) has))
+      did-files a v p made groups to new (own ++ answered call answer ∷ []) after (did-next v p made groups m to call answer own at may goes has))
   went-so (phases.Create m next rest) (answers.Made answered_as.Created) new own creates_next (v, p, all, first, made, done, parts, is_first, at, has) = λ may.
       let e : Event = creates next answered_as.Created in
       did-created a v p all first made (done ++ next ∷ []) rest.items new (own ++ e ∷ []) (parts ∙ sym (append_assoc done (next ∷ []) rest.items)) is_first
@@ -549,35 +559,66 @@ module _ (law : Joined) (held : Recounted) (a : AskedOf) where
   of-files refusal own (damaged path place) shows = inr (inl shows)
   of-files refusal own (unsupported what text) shows = inr (inl shows)
 
+  -- so is one of a file in which an old value is looked up
+  of-tell : (refusal : Refusal) (own : List Event) → IsOfFiles refusal → FailsToTell a refusal own → Shows a refusal own
+  of-tell refusal own (expired id) fails = inr (inr (inl fails))
+  of-tell refusal own (damaged path place) fails = inr (inr (inl fails))
+  of-tell refusal own (unsupported what text) fails = inr (inr (inl fails))
+
   -- and so is a reason against the commit
   of-reason : (refusal : Refusal) (own : List Event) → IsReason refusal → FindsReason a refusal own → Shows a refusal own
-  of-reason (refusals.Fenced base fence) own is finds = inr (inr (inl finds))
-  of-reason (refusals.CompactTaken file) own is finds = inr (inr (inl finds))
-  of-reason (refusals.Limit which number) own is finds = inr (inr (inl finds))
+  of-reason (refusals.Fenced base fence) own is finds = inr (inr (inr (inl finds)))
+  of-reason (refusals.CompactTaken file) own is finds = inr (inr (inr (inl finds)))
+  of-reason (refusals.Limit which number) own is finds = inr (inr (inr (inl finds)))
   of-reason other own is finds = absurd is
 
   of-commit : (refusal : Refusal) (own : List Event) → IsOfCommit refusal → ShowsOfCommit a refusal own → Shows a refusal own
   of-commit refusals.Memory own is shows = absurd is
   of-commit (refusals.StoreFault path) own is shows = absurd is
   of-commit (refusals.SessionUsed path) own is shows = inr (inr (inr shows))
-  of-commit other own is shows = inr (inr (inr shows))
+  of-commit other own is shows = inr (inr (inr (inr shows)))
 
   -- all files were read and made, and there is a reason
-  finds-reason : (v : View) (p made all : Planned) (groups more : List (List Run)) (m rest : files_phase.Phase) (refusal : Refusal) (own : List Event)
-      → HandsOut m more rest → AllRewritten made more all → files.IsReady rest → RefusesPlan all refusal → DidFiles a v p made groups m own
+  finds-reason : (v : View) (p made after all : Planned) (groups more : List GroupRead) (m rest : files_phase.Phase) (refusal : Refusal) (own : List Event)
+      → HandsOut m more rest → AllRewritten made more after → files.IsReady rest → HasTold after all → RefusesPlan all refusal → DidFiles a v p made groups m own
       → FindsReason a refusal own
-  finds-reason v p made all groups more m (readers.Ready c) refusal own hands rewritten ready refuses has = (
+  finds-reason v p made after all groups more m (readers.Ready c) refusal own hands rewritten ready told refuses has = (
     v,
     p,
     all,
     refuses,
     listed-as a v p (HasMade p made groups (files_trace.DidSoFar (given-of a v p groups) m)) (HasCreated p all []) own
-        (λ reads so. created-none a v p all (groups ++ more) c reads (handed-none m more c hands)
-        (made-more a v p made all groups more m (readers.Ready c) reads hands rewritten so)) has,
+        (λ reads so. created-none a v p after all (groups ++ more) c reads (handed-none m more c hands) told
+        (made-more a v p made after groups more m (readers.Ready c) reads hands rewritten so)) has,
   )
-  finds-reason v p made all groups more m (readers.Files r) refusal own hands rewritten ready refuses has = absurd ready
-  finds-reason v p made all groups more m (readers.Again id path) refusal own hands rewritten ready refuses has = absurd ready
-  finds-reason v p made all groups more m readers.Over refusal own hands rewritten ready refuses has = absurd ready
+  finds-reason v p made after all groups more m (readers.Files r) refusal own hands rewritten ready told refuses has = absurd ready
+  finds-reason v p made after all groups more m (readers.Again id path) refusal own hands rewritten ready told refuses has = absurd ready
+  finds-reason v p made after all groups more m readers.Over refusal own hands rewritten ready told refuses has = absurd ready
+
+  -- groups are whole, and nothing can be told of one of them
+  part-as : (v : View) (p made : Planned) (groups : List GroupRead) (m : files_phase.Phase) (c : Collected) (rest : List Job) (own : List Event)
+      → ((reads : List Event) → files_trace.DidSoFar (given-of a v p groups) m reads → HasPart (given-of a v p groups) c rest reads) → DidFiles a v p made groups m own
+      → HasPlan a v p (Listed p (HasMade p made groups (HasPart (given-of a v p groups) c rest))) own
+  part-as v p made groups m c rest own as_part has =
+      listed-as a v p (HasMade p made groups (files_trace.DidSoFar (given-of a v p groups) m)) (HasMade p made groups (HasPart (given-of a v p groups) c rest)) own
+      (λ reads so. record { rewritten = so.rewritten; so = as_part reads so.so }) has
+
+  fails-to-tell : (v : View) (p made : Planned) (groups more : List GroupRead) (m rest : files_phase.Phase) (refusal : Refusal) (own : List Event)
+      → HandsOut m more rest → RefusesSome made more refusal → DidFiles a v p made groups m own → FailsToTell a refusal own
+  fails-to-tell v p made groups more (readers.Files r) rest refusal own (are, is) fails has =
+      (v, p, made, groups, more, r.collected, r.next ∷ r.rest, sym are, fails, part-as v p made groups (readers.Files r) r.collected (r.next ∷ r.rest) own (λ reads did. did.1) has)
+  fails-to-tell v p made groups more (readers.Ready c) rest refusal own (are, is) fails has =
+      (v, p, made, groups, more, c, [], sym are, fails, part-as v p made groups (readers.Ready c) c [] own (λ reads did. did) has)
+  fails-to-tell v p made groups more (readers.Again id path) rest refusal own (none, is) fails has = absurd (refuses-none made more refusal fails none)
+  fails-to-tell v p made groups more readers.Over rest refusal own (none, is) fails has = absurd (refuses-none made more refusal fails none)
+
+  -- one is whole then
+  has-group : (made : Planned) (m rest : files_phase.Phase) (groups : List GroupRead) (refusal : Refusal) → HandsOut m groups rest → RefusesSome made groups refusal
+      → files.HasGroup m
+  has-group made (readers.Files r) rest groups refusal (are, is) fails = λ none. refuses-none made groups refusal fails (are ∙ none)
+  has-group made (readers.Ready c) rest groups refusal (are, is) fails = λ none. refuses-none made groups refusal fails (are ∙ none)
+  has-group made (readers.Again id path) rest groups refusal (none, is) fails = absurd (refuses-none made groups refusal fails none)
+  has-group made readers.Over rest groups refusal (none, is) fails = absurd (refuses-none made groups refusal fails none)
 
   refused-commit : (m : commit_phase.Phase) (answer : Answer) (refusal : Refusal) (own : List Event) → commit.Shown m answer refusal → DidSoFar a (phases.Commit m) own
       → IsKind refusal → IfSome (commit.next_call m) (λ call. MayAnswer call answer → Shows a refusal (own ++ answered call answer ∷ []))
@@ -637,17 +678,19 @@ module _ (law : Joined) (held : Recounted) (a : AskedOf) where
   ]
   refused-so (phases.Files made m) answer refusal own (inr (to, goes, inl (is, some))) did =
       forgot (phases.Files made m) answer refusal own did (may-take m answer to goes some) is
-  refused-so (phases.Files made m) answer refusal own (inr (to, goes, inr (rest, more, all, hands, rewritten, ready, refuses))) (v, p, groups, has) =
+  refused-so (phases.Files made m) answer refusal own (inr (to, goes, inr (inl (rest, more, hands, fails)))) (v, p, groups, has) =
+      elim (refuses-kind made more refusal fails) [
+        | inl is ↦ forgot (phases.Files made m) answer refusal own (v, p, groups, has) (may-take m answer to goes (inl (has-group made to rest more refusal hands fails))) is
+        | inr of ↦ if-is (files.next_call m) _ (λ call at may.
+            of-tell refusal (own ++ answered call answer ∷ []) of
+            (fails-to-tell v p made groups more to rest refusal (own ++ answered call answer ∷ []) hands fails (did-next v p made groups m to call answer own at may goes has)))
+      ]
+  refused-so (phases.Files made m) answer refusal own (inr (to, goes, inr (inr (rest, more, after, all, hands, rewritten, ready, told, refuses)))) (v, p, groups, has) =
       if-is (files.next_call m) _ (λ call at may.
       (let (plan, is_plan, reason) = refuses in
       of-reason refusal (own ++ answered call answer ∷ []) (is-reason all.newest all.author (intents.Compact plan) refusal reason)
-      (finds-reason v p made all groups more to rest refusal (own ++ answered call answer ∷ []) hands rewritten ready refuses
-      (listed-push a v p (HasMade p made groups (files_trace.DidSoFar (given-of a v p groups) m)) (HasMade p made groups (files_trace.DidSoFar (given-of a v p groups) to)) own
-      (answered call answer) (λ reads so. record {
-        rewritten = so.rewritten;
-        so = as-so-far (given-of a v p groups) m answer to _ goes
-            (some-at (files.next_call m) call _ at ((files_facts.recounts (given-of a v p groups)).went m to answer reads goes (as-did (given-of a v p groups) m reads so.so)) may);
-      }) has))))
+      (finds-reason v p made after all groups more to rest refusal (own ++ answered call answer ∷ []) hands rewritten ready told refuses
+      (did-next v p made groups m to call answer own at may goes has))))
   refused-so (phases.Create m next rest) (answers.Made answered_as.Exists) refusal own is (v, p, all, first, made, done, parts, is_first, at, has) = λ may.
       let e : Event = creates next answered_as.Exists in
       shows-as refusal (refusals.SessionUsed next.path) (own ++ e ∷ []) is

@@ -23,7 +23,7 @@ use Rattle.pm_model_folder.specs.Paths.{snapshot_path}
 use Rattle.pm_read_schema.specs.AllCalls.{HasFiles}
 use Rattle.pm_read_schema.specs.Trace as schema
 use Rattle.pm_read_schema.specs.declared.phase.Phase.TheVariants as schemas
-use Rattle.pm_engine.specs.Covers.{Run}
+use Rattle.pm_scan_rows.specs.Group.{GroupRead}
 use Rattle.pm_group_files.specs.Meaning.{IsReadAs}
 use Rattle.pm_levels.specs.Runs.{RunView}
 use Rattle.pm_model_folder.specs.Runs.{AreRunsAt}
@@ -38,14 +38,14 @@ use Rattle.pm_made.specs.declared.newest.Newest.{Newest}
 use Rattle.pm_compaction.specs.Compacted.{HasCompacted}
 use Rattle.pm_choice.specs.Choice.{named_groups, removed_entries}
 use Rattle.pm_choice.specs.Question.{full_appends}
-use Rattle.pm_plan.specs.Planned.{AllRewritten, author_of}
+use Rattle.pm_plan.specs.Planned.{AllRewritten, HasTold, author_of}
 use Rattle.pm_plan.specs.declared.planned.Asking.{Asking}
 use Rattle.pm_plan.specs.declared.planned.Planned.{Planned}
 use Rattle.pm_commit.specs.Alone.{with_entry}
 use Rattle.pm_commit.specs.AllCalls.{LeavesFiles, MayStart, NamesNone}
 use Rattle.pm_commit.specs.Committer.{newest_in, newest_of}
 use Rattle.pm_commit.specs.Marks.{FindsUsed}
-use Rattle.pm_compactor.specs.Compactor.{actor_of, asked_of_view, chosen_in, taken_groups, IsPlanIn}
+use Rattle.pm_compactor.specs.Compactor.{actor_of, asked_of_view, chosen_in, wanted_groups, IsPlanIn}
 use Rattle.pm_compactor.specs.Trace.{AskedOf, Did, Shows}
 use Rattle.pm_compactor.specs.declared.all_calls.Compacted.{Compacted}
 use Rattle.pm_compactor.specs.declared.all_calls.Compacted.TheVariants as compacts
@@ -125,16 +125,20 @@ abbrev pub author_in : Asking → View → Author
 author_in asking v = author_of asking v.id
 
 -- What was made of the groups that a view chose: of each the runs that go, with the rows that their files had at the
--- beginning, became the files of one run.
+-- beginning, became the files of one run, and what is told of it, by these and by the files of other runs in which old
+-- values are looked up, was written.
 pub record IsMadeIn (b : Beginning) (v : View) (made : Planned) : Type 0 where
   pub planned : Planned
   pub is_plan : IsPlanIn b.asking v planned
-  pub groups : List (List Run)
-  pub read : AllZip (IsReadAs b.files v.schema) (taken_groups (chosen_in b.asking v)) groups
-  pub rewritten : AllRewritten planned groups made
+  pub groups : List GroupRead
+  pub read : AllZip (IsReadAs b.files v.schema) (wanted_groups v.schema (chosen_in b.asking v)) groups
+  pub rewritten_plan : Planned
+  pub rewritten : AllRewritten planned groups rewritten_plan
+  pub told : HasTold rewritten_plan made
 
 -- The plan of what a view chose: it names the groups with a choice, takes the files of their runs that go away, adds
--- those that were made of these, and bears the appends of the view where all was asked for.
+-- those that were made of these, has the changelog files of what is told of them, and bears the appends of the view
+-- where all was asked for.
 pub record IsOfChoice (b : Beginning) (v : View) (plan : Plan) : Type 0 where
   pub groups : plan.groups.items ≡ named_groups (chosen_in b.asking v)
   pub removed : plan.removed.items ≡ removed_entries v.schema (chosen_in b.asking v)
@@ -142,7 +146,7 @@ pub record IsOfChoice (b : Beginning) (v : View) (plan : Plan) : Type 0 where
   pub is_made : IsMadeIn b v made
   pub added : plan.added ≡ made.added
   pub full : plan.full ≡ full_appends (asked_of_view b.asking v) v.snapshot
-  pub changes : plan.changes.items ≡ []
+  pub changes : plan.changes ≡ made.changes
 
 -- ---- what it does then
 

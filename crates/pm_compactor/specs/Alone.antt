@@ -12,7 +12,7 @@ use Rattle.pm_model_history.specs.History.{History}
 use Rattle.pm_model_folder.specs.Changes.{Actor}
 use Rattle.pm_model_folder.specs.Ledger.{Advances, HasNamedNone, IsKnown, Past, Stands}
 use Rattle.pm_model_folder.specs.Paths.{snapshot_path}
-use Rattle.pm_engine.specs.Covers.{Run}
+use Rattle.pm_scan_rows.specs.Group.{GroupRead}
 use Rattle.pm_put.specs.declared.putting.CommitFile.{CommitFile}
 use Rattle.pm_read_table.specs.declared.view.View.{View}
 use Rattle.pm_group_files.specs.Chosen.{chosen_of}
@@ -32,9 +32,10 @@ use Rattle.pm_commit.specs.Own as owns
 use Rattle.pm_commit.specs.Own.{OwnView}
 use Rattle.pm_commit.specs.declared.phase.Phase as commit_phase
 use Rattle.pm_commit.specs.declared.phase.Phase.TheVariants as commits
-use Rattle.pm_compactor.specs.AllCalls.{Beginning, BearsCompaction, Chooses, GivesReason, IsNewestView, IsOfChoice, IsUnchanged, LeavesFolder}
+use Rattle.pm_compactor.specs.AllCalls.{Beginning, BearsCompaction, Chooses, GivesReason}
+use Rattle.pm_compactor.specs.AllCalls.{IsNewestView, IsOfChoice, IsUnchanged, LeavesFolder}
 use Rattle.pm_compactor.specs.AllCalls.{StandsForEither, WasUsed, author_in, entry_of, newest_id}
-use Rattle.pm_compactor.specs.Compactor.{actor_of, chosen_in, taken_groups, IsPlanIn}
+use Rattle.pm_compactor.specs.Compactor.{actor_of, chosen_in, wanted_in, IsPlanIn}
 use Rattle.pm_compactor.specs.Meaning.{Knows}
 use Rattle.pm_compactor.specs.declared.all_calls.Compacted.{Compacted}
 use Rattle.pm_compactor.specs.declared.phase.Phase.{Phase}
@@ -80,9 +81,9 @@ pub record HasMadeOf (b : Beginning) (v : View) (x : Planned) (m : files_phase.P
     : Type 0 where
   pub planned : Planned
   pub is_plan : IsPlanIn b.asking v planned
-  pub groups : List (List Run)
+  pub groups : List GroupRead
   pub rewritten : AllRewritten planned groups x
-  pub reading : files.Knows (chosen_of planned.schema planned.newest.id (taken_groups planned.left.items) groups) m f p
+  pub reading : files.Knows (chosen_of planned.schema planned.newest.id (wanted_in planned) groups) m f p
   pub present : LacksNone m
 
 -- the commit is that of a plan of what a view chose, with its first try to come

@@ -1,5 +1,6 @@
 -- A compactor: its phases, its calls, and what each answer leads to.
-use Rattle.std.specs.Prelude.{◌≡◌, ◌≢◌, ◌⊎◌, ℕ, ℤ, ◌+◌, ◌<◌, ◌≤◌, ◌^◌, Bool, false, List, [], ◌∷◌, codes, length, map, Option, None, Some}
+use Rattle.std.specs.Prelude.{◌≡◌, ◌≢◌, ◌⊎◌, ℕ, ℤ, ◌+◌, ◌<◌, ◌≤◌, ◌^◌, Bool}
+use Rattle.std.specs.Prelude.{false, List, [], ◌∷◌, codes, length, map, Option, None, Some}
 use Rattle.std.specs.BTreeMap.{IsOrdered}
 use Rattle.std.specs.List.{AllByRecursion}
 use Rattle.pm_values.specs.GroupOrder.{group_cmp}
@@ -14,9 +15,9 @@ use Rattle.pm_store.specs.declared.call.Call.TheVariants as calls
 use Rattle.pm_model_folder.specs.Changes.{Actor}
 use Rattle.pm_put.specs.declared.putting.CommitFile.{CommitFile}
 use Rattle.pm_schema.specs.declared.schema.TableSchema.{TableSchema}
-use Rattle.pm_engine.specs.Covers.{Run}
 use Rattle.pm_engines.specs.TableEngine.{HasEngine}
-use Rattle.pm_append.specs.Commit.{IsBuilt}
+use Rattle.pm_append.specs.Commit.{HasOneGroup}
+use Rattle.pm_scan_rows.specs.Group.{GroupRead}
 use Rattle.pm_levels.specs.Runs.{RunView}
 use Rattle.pm_levels.specs.declared.choice.Asked.{Asked}
 use Rattle.pm_read_table.specs.Reader as reader
@@ -25,7 +26,7 @@ use Rattle.pm_read_table.specs.View.{HasFolders}
 use Rattle.pm_read_table.specs.declared.phase.Phase as view_phase
 use Rattle.pm_read_table.specs.declared.view.View.{View}
 use Rattle.pm_group_files.specs.Collected.{nothing_of}
-use Rattle.pm_group_files.specs.Jobs.{Grouped, all_jobs}
+use Rattle.pm_group_files.specs.Jobs.{Wanted, all_wanted}
 use Rattle.pm_group_files.specs.Reader as files
 use Rattle.pm_group_files.specs.Reader.{HandsOut, OfTable, read_next}
 use Rattle.pm_group_files.specs.declared.job.Ends.{Ends}
@@ -33,7 +34,7 @@ use Rattle.pm_group_files.specs.declared.job.Ends.TheVariants as ends
 use Rattle.pm_group_files.specs.declared.job.Job.{Job}
 use Rattle.pm_group_files.specs.declared.phase.Phase as files_phase
 use Rattle.pm_group_files.specs.declared.phase.Phase.TheVariants as readers
-use Rattle.pm_made.specs.Refusals.{most_live, refusal_of}
+use Rattle.pm_made.specs.Refusals.{refusal_of}
 use Rattle.pm_made.specs.declared.intent.Intent.TheVariants as intents
 use Rattle.pm_made.specs.declared.intent.Plan.{Plan}
 use Rattle.pm_made.specs.declared.newest.Author.{Author}
@@ -41,10 +42,10 @@ use Rattle.pm_commit.specs.Committer as commit
 use Rattle.pm_commit.specs.Marks.{FindsUsed}
 use Rattle.pm_commit.specs.declared.phase.Phase as commit_phase
 use Rattle.pm_commit.specs.declared.phase.Phase.TheVariants as commits
-use Rattle.pm_choice.specs.Choice.{choices, taken_runs}
+use Rattle.pm_choice.specs.Choice.{choices, left_runs, looked_runs, taken_runs}
 use Rattle.pm_choice.specs.Question.{question, rule_of}
 use Rattle.pm_choice.specs.declared.choice.ChosenGroup.{ChosenGroup}
-use Rattle.pm_plan.specs.Planned.{AllRewritten, CanMake, HasRoom, IsPlanFor, IsPlanOf}
+use Rattle.pm_plan.specs.Planned.{AllRewritten, CanMake, HasRoom, HasTold, IsPlanFor, IsPlanOf, RefusesSome}
 use Rattle.pm_plan.specs.declared.planned.Asking.{Asking}
 use Rattle.pm_plan.specs.declared.planned.Planned.{Planned}
 use Rattle.pm_compactor.specs.declared.compactor.CompactStep.{CompactStep}
@@ -54,9 +55,17 @@ use Rattle.pm_compactor.specs.declared.phase.Phase.TheVariants as phases
 
 -- ---- what is planned
 
--- the groups that are chosen, with their runs that go, as their files are read
-abbrev pub taken_groups : List ChosenGroup → List Grouped
-taken_groups chosen = map (λ (c : ChosenGroup). (c.group, taken_runs c)) chosen
+-- what is wanted of a group that is chosen: the rows of its runs that go, and the files of the runs in which old values
+-- are looked up
+abbrev pub wanted_of : TableSchema → ChosenGroup → Wanted
+wanted_of s c = record { group = c.group; runs = taken_runs c; kept = looked_runs s c }
+
+abbrev pub wanted_groups : TableSchema → List ChosenGroup → List Wanted
+wanted_groups s chosen = map (wanted_of s) chosen
+
+-- the files that are read of the groups that are left of a plan
+abbrev pub wanted_in : Planned → List Wanted
+wanted_in p = wanted_groups p.schema p.left.items
 
 -- what is asked, and the actor that asks
 abbrev pub asking_of : Bool → List ℕ → Naming → ℤ → Asking
@@ -97,9 +106,9 @@ next_call (phases.Commit m) = commit.next_call m
 next_call phases.Nothing = None
 next_call phases.Over = None
 
--- so many files are made at most where nothing is against the commit: as many as may be live
+-- so many files are made at most, as memory has no room for more
 abbrev pub most_made : ℕ
-most_made = most_live
+most_made = 2 ^ 32
 
 -- how many calls are left at most, where no refusal comes: beside those of the part in hand all files that may be read,
 -- all files that may be made, and all tries
@@ -126,9 +135,9 @@ Opens asking v later = IsOrdered group_cmp v.groups × HasFolders v × OpensWith
 abbrev pub AfterReader : Asking → view_phase.Phase → Phase → Type 0
 AfterReader asking m later = WithReader (λ m. phases.View asking m) (Opens asking) m later
 
--- the files of the runs that go are to be read
+-- the files of the groups are to be read
 abbrev pub StartsFiles : Planned → Phase → Type 0
-StartsFiles p later = let jobs = all_jobs p.schema (taken_groups p.left.items) in
+StartsFiles p later = let jobs = all_wanted p.schema (wanted_in p) in
     (length jobs ≤ most) × (later ≡ phases.Files p (read_next p.newest.id (nothing_of p.schema) jobs))
 
 -- this file is to be created next, before those
@@ -145,14 +154,14 @@ CreatesNext m (next ∷ files) later = IsCreating m next files later
 abbrev pub Begins : Planned → Phase → Type 0
 Begins p later = (m : commit_phase.Phase) × IsBegun p m × CreatesNext m p.files.items later
 
--- with what was made so far: more files are to be read, or the commit begins
+-- with what was made so far: more files are to be read, or what is told was written and the commit begins
 abbrev pub AfterGroups : Planned → files_phase.Phase → Phase → Type 0
-AfterGroups p (readers.Ready c) later = Begins p later
+AfterGroups p (readers.Ready c) later = (all : Planned) × HasTold p all × HasRoom all × Begins all later
 AfterGroups p m later = later ≡ phases.Files p m
 
--- with this reader of files: the groups that are whole, if there are any, are made into files at once
+-- with this reader of files: the groups that are whole, if there are any, are made into files and logs at once
 abbrev pub AfterFiles : Planned → files_phase.Phase → Phase → Type 0
-AfterFiles p m later = (groups : List (List Run)) × (rest : files_phase.Phase) × (made : Planned)
+AfterFiles p m later = (groups : List GroupRead) × (rest : files_phase.Phase) × (made : Planned)
     × HandsOut m groups rest × AllRewritten p groups made × HasRoom made × AfterGroups made rest later
 
 -- the phase after an answer that it goes on with
@@ -166,12 +175,22 @@ Goes (phases.Commit m) answer later =
     (new : commit_phase.Phase) × commit.Goes m answer new × (later ≡ phases.Commit new)
 Goes phase other later = ⊥
 
--- With this reader, by which groups are whole or all files were read, it goes on to no phase: memory runs out, or all
--- were read and made and there is a reason against the commit.
+-- nothing can be told of a group that is whole, since a file in which an old value is looked up doesn't read
+abbrev pub FailsToTell : Planned → files_phase.Phase → Refusal → Type 0
+FailsToTell p m refusal = (rest : files_phase.Phase) × (groups : List GroupRead) × HandsOut m groups rest
+    × RefusesSome p groups refusal
+
+-- all were read and made, and there is a reason against the commit
+abbrev pub FailsToBegin : Planned → files_phase.Phase → Refusal → Type 0
+FailsToBegin p m refusal = (rest : files_phase.Phase) × (groups : List GroupRead) × (made all : Planned)
+    × HandsOut m groups rest × AllRewritten p groups made × files.IsReady rest × HasTold made all
+    × RefusesPlan all refusal
+
+-- With this reader, by which groups are whole or all files were read, it goes on to no phase: memory runs out, or one
+-- of these is so.
 abbrev pub FailsWith : Planned → files_phase.Phase → Refusal → Type 0
 FailsWith p m refusal = ((refusal ≡ refusals.Memory) × (files.HasGroup m ⊎ files.IsReady m))
-    ⊎ ((rest : files_phase.Phase) × (groups : List (List Run)) × (made : Planned) × HandsOut m groups rest
-    × AllRewritten p groups made × files.IsReady rest × RefusesPlan made refusal)
+    ⊎ (FailsToTell p m refusal ⊎ FailsToBegin p m refusal)
 
 abbrev pub FailsAfter : Planned → files_phase.Phase → Answer → Refusal → Type 0
 FailsAfter p m answer refusal = (new : files_phase.Phase) × files.Goes m answer new × FailsWith p new refusal
@@ -190,20 +209,20 @@ Shown phase other refusal = ⊥
 
 -- ---- its invariant
 
--- a commit can be made of the plan: its table is built, its view is the base of its names, no file of the view has too
--- great a number, it has names, and each file that was made has its entry
+-- a commit can be made of the plan: its table has one group, its view is the base of its names, no file of the view has
+-- too great a number, and it has names
 pub record CanCommit (p : Planned) : Type 0 where
-  pub built : IsBuilt p.schema
+  pub built : HasOneGroup p.schema
   pub base : p.author.base ≡ p.newest.id
   pub based : p.names.base ≡ p.newest.id
   pub numbers : commit.AreNumbered p.newest.live.items
   pub room : HasRoom p
-  pub entered : length p.files.items ≡ length p.added.items
 
--- runs of the group go, each of which has files
+-- runs of the group go; each of its runs has files
 pub record TakesFiles (c : ChosenGroup) : Type 0 where
   pub some : taken_runs c ≢ []
   pub each : AllByRecursion (λ (run : RunView). 0 < length run.files) (taken_runs c)
+  pub others : AllByRecursion (λ (run : RunView). 0 < length run.files) (left_runs c)
 
 -- how many groups end with files
 abbrev pub ends_group : Ends → ℕ
@@ -231,7 +250,7 @@ NeverSearches other = Unit {0}
 
 abbrev pub IsCompactor : Phase → Type 0
 IsCompactor (phases.View asking m) = (0 < reader.calls_left m) × (asking.names.count ≤ 2 ^ 60)
-    × ((s : TableSchema) × commit.Reads m s × IsBuilt s × HasEngine s)
+    × ((s : TableSchema) × commit.Reads m s × HasOneGroup s × HasEngine s)
 IsCompactor (phases.Names p) = CanMake p × CanCommit p × (p.left.items ≢ []) × AllByRecursion TakesFiles p.left.items
 IsCompactor (phases.Files p m) = CanMake p × CanCommit p × (0 < files.calls_left m) × OfTable (λ s. s ≡ p.schema) m
     × AreLeftFor p.left.items m

@@ -1,5 +1,5 @@
 -- What a compactor knows of the snapshots, and what its steps mean for the files.
-use Rattle.std.specs.Prelude.{◌≡◌, ℕ, List, [], ◌∷◌, ◌++◌, map, Some, IfSome, IsSome, codes}
+use Rattle.std.specs.Prelude.{◌≡◌, ℕ, List, [], ◌∷◌, ◌++◌, length, map, Some, IfSome, IsSome, codes}
 use Rattle.std.specs.FinMap as paths
 use Rattle.std.specs.List.{AllZip}
 use Rattle.pm_values.specs.Names.{Naming}
@@ -10,19 +10,22 @@ use Rattle.pm_store.specs.Store.{StoreView}
 use Rattle.pm_machine.specs.Moves.{IsKept, Moves}
 use Rattle.pm_model_history.specs.History.{Entry, compaction}
 use Rattle.pm_snapshot.specs.Names.{MayName}
-use Rattle.pm_runs.specs.Succession.{Taking, from_oldest}
 use Rattle.pm_model_folder.specs.Changes.{Actor}
 use Rattle.pm_model_folder.specs.Ledger.{HasNamedNone, Past, Stands}
 use Rattle.pm_model_folder.specs.Runs.{view_of}
 use Rattle.pm_put.specs.declared.putting.CommitFile.{CommitFile}
-use Rattle.pm_engine.specs.Covers.{Run}
+use Rattle.pm_options.specs.declared.kinds.Producer.{Producer}
+use Rattle.pm_options.specs.declared.kinds.Producer.TheVariants as producers
+use Rattle.pm_schema.specs.declared.schema.TableSchema.{TableSchema}
+use Rattle.pm_runs.specs.Succession.{KnownRun, Taking}
+use Rattle.pm_scan_rows.specs.Group.{GroupRead}
 use Rattle.pm_plan.specs.Known.{KnowsPlanned}
-use Rattle.pm_plan.specs.Planned.{AllRewritten}
+use Rattle.pm_plan.specs.Planned.{AllRewritten, HasTold}
 use Rattle.pm_plan.specs.declared.planned.Planned.{Planned}
 use Rattle.pm_compaction.specs.Plan.{RewrittenGroup}
 use Rattle.pm_read_table.specs.Meaning as reader
 use Rattle.pm_group_files.specs.Chosen.{Chosen, chosen_of}
-use Rattle.pm_group_files.specs.Jobs.{Grouped}
+use Rattle.pm_group_files.specs.Jobs.{Wanted}
 use Rattle.pm_group_files.specs.Meaning as files
 use Rattle.pm_group_files.specs.Meaning.{IsChosen, IsReadAs}
 use Rattle.pm_made.specs.declared.intent.Intent.{Intent}
@@ -32,23 +35,31 @@ use Rattle.pm_commit.specs.Meaning as commit
 use Rattle.pm_commit.specs.declared.phase.Phase as commit_phase
 use Rattle.pm_commit.specs.Meaning.{IsFoundIn}
 use Rattle.pm_commit.specs.Marks.{FindsUsed}
-use Rattle.pm_compactor.specs.Compactor.{IsCompactor, RefusesPlan, actor_of, taken_groups}
+use Rattle.pm_compactor.specs.Compactor.{IsCompactor, RefusesPlan, actor_of, wanted_in}
 use Rattle.pm_compactor.specs.declared.phase.Phase.{Phase}
 use Rattle.pm_compactor.specs.declared.phase.Phase.TheVariants as phases
 
 -- ---- what was planned, as the past has it
 
--- the groups that were made, with their runs that went, as their files were read
-abbrev pub made_groups : List RewrittenGroup → List Grouped
-made_groups done = map (λ (x : RewrittenGroup). (x.group, map view_of x.taking.taken)) done
+-- of what was taken of a group the runs that stay in which old values are looked up
+abbrev pub looked_of : Producer → Taking → List KnownRun
+looked_of producers.Lookup t = t.rest
+looked_of other t = []
 
-abbrev pub takings_of : List RewrittenGroup → List Taking
-takings_of done = map (λ (x : RewrittenGroup). x.taking) done
+-- what was wanted of a group that was made: its runs that went, and those in which old values were looked up
+abbrev pub made_wanted : TableSchema → RewrittenGroup → Wanted
+made_wanted s z = record {
+  group = z.group;
+  runs = map view_of z.taking.taken;
+  kept = map view_of (looked_of s.options.producer z.taking);
+}
 
--- what the reader of files was asked for: all groups of the plan, of which those that were made were handed out
-abbrev pub asked_for : Planned → List RewrittenGroup → Chosen
-asked_for x done = chosen_of x.schema x.newest.id (made_groups done ++ taken_groups x.left.items)
-    (map (λ (t : Taking). from_oldest t.taken) (takings_of done))
+abbrev pub made_groups : TableSchema → List RewrittenGroup → List Wanted
+made_groups s done = map (made_wanted s) done
+
+-- what the reader of files was asked for: all groups of the plan, of which those that were made were handed out so
+abbrev pub asked_for : Planned → List RewrittenGroup → List GroupRead → Chosen
+asked_for x done given = chosen_of x.schema x.newest.id (made_groups x.schema done ++ wanted_in x) given
 
 -- What is known of a plan of which these groups were made: what its law says, that its table was found as its view has
 -- it, and that no known snapshot names a file of its actor.
@@ -70,9 +81,9 @@ IsEntryIn m e = IfSome (commit.own_in m) (λ own. IsEntryOf own.intent own.autho
 abbrev pub KnowsIn : Phase → Files → Past → Type 0
 KnowsIn (phases.View asking m) f p =
     reader.Knows m f p × MayName asking.names × HasNamedNone (actor_of asking.names) p
-KnowsIn (phases.Names x) f p = KnowsOfPlan x [] p × IsChosen p (asked_for x [])
-KnowsIn (phases.Files x m) f p =
-    (done : List RewrittenGroup) × KnowsOfPlan x done p × files.Knows (asked_for x done) m f p
+KnowsIn (phases.Names x) f p = KnowsOfPlan x [] p × IsChosen p (asked_for x [] [])
+KnowsIn (phases.Files x m) f p = (done : List RewrittenGroup) × (given : List GroupRead)
+    × (length given ≡ length done) × KnowsOfPlan x done p × files.Knows (asked_for x done given) m f p
 KnowsIn (phases.Create m next rest) f p = (e : Entry) × (given done : List CommitFile)
     × (given ≡ done ++ next ∷ rest.items) × IsEntryIn m e × commit.KnowsBut e given done m f p
 KnowsIn (phases.Commit m) f p = (e : Entry) × IsEntryIn m e × commit.Knows e m f p
@@ -122,14 +133,15 @@ MayRefuseNames x f refusals.Memory = Unit {0}
 MayRefuseNames x f (refusals.SessionUsed path) = IsMarked x.names f path
 MayRefuseNames x f other = ⊥
 
--- Of the files that are read, and of what is made of them. Of its own view no fence is at its base, and no file that
--- goes is live no more: what is made of the groups' runs, as they stood there, leaves no room.
+-- Of the files that are read, and of what is made of them; no file in which an old value is looked up is damaged
+-- either. Of its own view no fence is at its base, and no file that goes is live no more: what is made of the groups'
+-- runs, as they stood there, leaves no room.
 abbrev pub MayRefusePlanned : Planned → Files → Past → Refusal → Type 0
 MayRefusePlanned x f p refusals.Memory = Unit {0}
 MayRefusePlanned x f p (refusals.Expired id) = reader.IsExpired f p id
-MayRefusePlanned x f p (refusals.Limit which number) = (made : Planned) × (groups : List (List Run))
-    × AllZip (IsReadAs (p.stood x.newest.id) x.schema) (taken_groups x.left.items) groups
-    × AllRewritten x groups made × RefusesPlan made (refusals.Limit which number)
+MayRefusePlanned x f p (refusals.Limit which number) = (made all : Planned) × (groups : List GroupRead)
+    × AllZip (IsReadAs (p.stood x.newest.id) x.schema) (wanted_in x) groups
+    × AllRewritten x groups made × HasTold made all × RefusesPlan all (refusals.Limit which number)
 MayRefusePlanned x f p other = ⊥
 
 abbrev pub MayRefuse : Phase → Files → Past → Refusal → Type 0

@@ -6,7 +6,7 @@ use Rattle.pm_store.specs.declared.answer.Answer.{Answer}
 use Rattle.pm_store.specs.declared.answer.Answer.TheVariants as answers
 use Rattle.pm_store.specs.Store.{StoreView}
 use Rattle.pm_machine.specs.Trace.{Acts, Event, IsFailed, MayEnd}
-use Rattle.pm_engine.specs.Covers.{Run}
+use Rattle.pm_scan_rows.specs.Group.{GroupRead}
 use Rattle.pm_put.specs.Trace.{all_created, creates}
 use Rattle.pm_store.specs.declared.answer.Made.TheVariants as answered
 use Rattle.pm_put.specs.declared.putting.CommitFile.{CommitFile}
@@ -18,11 +18,12 @@ use Rattle.pm_read_table.specs.declared.view.View.{View}
 use Rattle.pm_group_files.specs.Chosen.{chosen_of}
 use Rattle.pm_group_files.specs.Collected.{Collected}
 use Rattle.pm_group_files.specs.Trace as files
+use Rattle.pm_group_files.specs.declared.job.Job.{Job}
 use Rattle.pm_commit.specs.Marks.{FindsUsed}
 use Rattle.pm_commit.specs.Trace as commit
 use Rattle.pm_commit.specs.Trace.{listed_manifests}
 use Rattle.pm_scan.specs.Trace.{AfterView}
-use Rattle.pm_plan.specs.Planned.{AllRewritten, IsPlanFor}
+use Rattle.pm_plan.specs.Planned.{AllRewritten, HasTold, IsPlanFor, RefusesSome}
 use Rattle.pm_plan.specs.declared.planned.Asking.{Asking}
 use Rattle.pm_plan.specs.declared.planned.Planned.{Planned}
 use Rattle.pm_made.specs.Files.{IsMadeOf}
@@ -33,7 +34,7 @@ use Rattle.pm_made.specs.declared.newest.Made.{Made}
 use Rattle.pm_commit.specs.Committer.{first_of_put}
 use Rattle.pm_commit.specs.Own.{OwnView, own_for_plan}
 use Rattle.pm_read_schema.specs.Trace.{Names}
-use Rattle.pm_compactor.specs.Compactor.{chosen_in, next_call, taken_groups, IsPlanIn, RefusesPlan}
+use Rattle.pm_compactor.specs.Compactor.{chosen_in, next_call, wanted_in, IsPlanIn, RefusesPlan}
 use Rattle.pm_compactor.specs.declared.compactor.CompactStep.{CompactStep}
 use Rattle.pm_compactor.specs.declared.phase.Phase.{Phase}
 use Rattle.pm_compactor.specs.declared.phase.Phase.TheVariants as phases
@@ -55,19 +56,22 @@ Listed p P own = (names : Names) × (later : List Event) × FindsUsed p.names na
     × (own ≡ listed_manifests names ∷ later) × P later
 
 -- so many groups were read whole, each once, and made: this was made of the plan
-pub record HasMade (p : Planned) (made : Planned) (groups : List (List Run)) (P : List Event → Type 0)
+pub record HasMade (p : Planned) (made : Planned) (groups : List GroupRead) (P : List Event → Type 0)
     (own : List Event) : Type 0 where
   pub rewritten : AllRewritten p groups made
   pub so : P own
 
--- all files were read, and the groups that are whole by them, none of which is left, were made; then these were created
-pub record HasCreated (p : Planned) (made : Planned) (done : List CommitFile) (own : List Event) : Type 0 where
+-- all files were read, and the groups that are whole by them, none of which is left, were made, and what is told was
+-- written; then these were created
+pub record HasCreated (p : Planned) (all : Planned) (done : List CommitFile) (own : List Event) : Type 0 where
   pub reads : List Event
-  pub groups : List (List Run)
+  pub groups : List GroupRead
   pub collected : Collected
+  pub made : Planned
   pub all_read : HasMade p made groups (files.HasPart (chosen_of p.schema p.newest.id
-      (taken_groups p.left.items) groups) collected []) reads
+      (wanted_in p) groups) collected []) reads
   pub none_left : collected.groups ≡ []
+  pub told : HasTold made all
   pub is : own ≡ reads ++ all_created done
 
 -- the commit of a plan, with what its first try made
@@ -82,9 +86,9 @@ pub record IsFirst (p : Planned) (first : OwnView) (made : Made) : Type 0 where
 abbrev pub DidSoFar : AskedOf → Phase → List Event → Type 0
 DidSoFar a (phases.View asking m) own = (asking ≡ a.asking) × reader.Did a.view m own
 DidSoFar a (phases.Names p) own = (v : View) × HasPlan a v p (λ later. later ≡ []) own
-DidSoFar a (phases.Files made m) own = (v : View) × (p : Planned) × (groups : List (List Run))
+DidSoFar a (phases.Files made m) own = (v : View) × (p : Planned) × (groups : List GroupRead)
     × HasPlan a v p (Listed p (HasMade p made groups
-    (files.DidSoFar (chosen_of p.schema p.newest.id (taken_groups p.left.items) groups) m))) own
+    (files.DidSoFar (chosen_of p.schema p.newest.id (wanted_in p) groups) m))) own
 DidSoFar a (phases.Create m next rest) own = (v : View) × (p all : Planned) × (first : OwnView) × (made : Made)
     × (done : List CommitFile) × (all.files.items ≡ done ++ next ∷ rest.items) × IsFirst all first made
     × (m ≡ first_of_put first all.schema made) × HasPlan a v p (Listed p (HasCreated p all done)) own
@@ -114,9 +118,17 @@ FindsReason a refusal own = (v : View) × (p all : Planned) × RefusesPlan all r
 
 -- the manifests were listed, and then the reader of files shows it
 abbrev pub ShowsOfFiles : AskedOf → Refusal → List Event → Type 0
-ShowsOfFiles a refusal own = (v : View) × (p all : Planned) × (groups : List (List Run))
+ShowsOfFiles a refusal own = (v : View) × (p all : Planned) × (groups : List GroupRead)
     × HasPlan a v p (Listed p (HasMade p all groups
-    (files.Shows (chosen_of p.schema p.newest.id (taken_groups p.left.items) groups) refusal))) own
+    (files.Shows (chosen_of p.schema p.newest.id (wanted_in p) groups) refusal))) own
+
+-- nothing can be told of a group that is whole by the files that were read: one of those in which an old value is
+-- looked up doesn't read
+abbrev pub FailsToTell : AskedOf → Refusal → List Event → Type 0
+FailsToTell a refusal own = (v : View) × (p made : Planned) × (given groups : List GroupRead) × (c : Collected)
+    × (rest : List Job) × (c.groups ≡ groups) × RefusesSome made groups refusal
+    × HasPlan a v p (Listed p (HasMade p made given
+    (files.HasPart (chosen_of p.schema p.newest.id (wanted_in p) given) c rest))) own
 
 -- all that was made was created, and then the committer shows it
 abbrev pub ShowsOfCommit : AskedOf → Refusal → List Event → Type 0
@@ -140,7 +152,8 @@ ShowsOwn a refusals.Memory own = MayEnd next_call (DidSoFar a) MayTakeMemory own
 ShowsOwn a (refusals.StoreFault path) own = IsFailed next_call (DidSoFar a) path own
 ShowsOwn a (refusals.SessionUsed path) own =
     IsUsed a path own ⊎ MeetsFile a path own ⊎ ShowsOfCommit a (refusals.SessionUsed path) own
-ShowsOwn a other own = ShowsOfFiles a other own ⊎ FindsReason a other own ⊎ ShowsOfCommit a other own
+ShowsOwn a other own =
+    ShowsOfFiles a other own ⊎ FailsToTell a other own ⊎ FindsReason a other own ⊎ ShowsOfCommit a other own
 
 -- which calls show a refusal
 abbrev pub Shows : AskedOf → Refusal → List Event → Type 0

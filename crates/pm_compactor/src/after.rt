@@ -12,14 +12,15 @@ ghost use Rattle.pm_read_table.specs.Reader as views;
 ghost use Rattle.pm_read_table.specs.View.{HasFolders};
 ghost use Rattle.pm_group_files.specs.Reader as readers;
 ghost use Rattle.pm_commit.specs.Committer as commits;
-ghost use Rattle.pm_plan.specs.Planned.{CanMake, FitChosen, IsPlanOf};
+ghost use Rattle.pm_plan.specs.Planned.{CanMake, FitChosen, HasRoom, HasTold, IsPlanOf};
 ghost use Rattle.pm_plan.specs.declared.planned.Planned.{Planned as PlannedView};
-ghost use Rattle.pm_compactor.specs.Compactor.{AfterFiles, AfterGroups, AfterReader, AreLeftFor, Begins, CanCommit, FailsWith};
+ghost use Rattle.pm_compactor.specs.Compactor.{AfterFiles, AfterGroups, AfterReader};
+ghost use Rattle.pm_compactor.specs.Compactor.{AreLeftFor, Begins, CanCommit, FailsWith};
 ghost use Rattle.pm_compactor.specs.Compactor.{Goes, IsCompactor, Opens, RefusesPlan, Shown, StartsFiles};
 ghost use Rattle.pm_compactor.specs.declared.phase.Phase.TheVariants as phases;
 
 use crate::create::create_next;
-use crate::jobs::taken_jobs;
+use crate::jobs::wanted_jobs;
 use crate::phase::Phase;
 use pm_base::Txt;
 use pm_choice::{ChosenGroup, asked_in, chosen_in, rule_of};
@@ -156,13 +157,13 @@ pub(crate) fn after_names(
     }
 }
 
-/// The phase in which the files of the runs that go are to be read.
+/// The phase in which the files of the groups are to be read.
 fn start_files(alloc: Global, planned: Planned) -> Result<Phase, Refusal>
     requires { FitChosen planned.schema planned.left.items }
     ensures starts { IfOk result (StartsFiles planned) }
     ensures memory { IfErr result (λ e. e ≡ Memory) }
 {
-    let Ok(jobs) = taken_jobs(alloc, &planned.schema, &planned.left) else {
+    let Ok(jobs) = wanted_jobs(alloc, &planned.schema, &planned.left) else {
         drop(planned);
         return Err(Refusal::Memory);
     };
@@ -202,7 +203,7 @@ pub(crate) fn after_files(
     }
 }
 
-/// The phase with this reader of files: the groups that are whole are made into files.
+/// The phase with this reader of files: the groups that are whole are made into files and logs.
 fn with_files(alloc: Global, planned: Planned, files: GroupReader) -> Result<Phase, Refusal>
     requires can_make { CanMake planned }
     requires can_commit { CanCommit planned }
@@ -224,7 +225,7 @@ fn has_work(files: &GroupReader) -> bool
     has_group(files) || are_files_read(files)
 }
 
-/// The phase once groups are whole: their files are made, and after the last group the commit is.
+/// The phase once groups are whole: their files and logs are made, and after the last group the commit is.
 fn with_groups(alloc: Global, planned: Planned, files: GroupReader) -> Result<Phase, Refusal>
     requires whole { readers.HasGroup files ⊎ readers.IsReady files }
     requires can_make { CanMake planned }
@@ -245,23 +246,41 @@ fn with_groups(alloc: Global, planned: Planned, files: GroupReader) -> Result<Ph
 
 /// The phase with what was made so far: more files are to be read, or the commit begins.
 fn after_groups(alloc: Global, planned: Planned, files: GroupReader) -> Result<Phase, Refusal>
+    requires can_make { CanMake planned }
     requires can_commit { CanCommit planned }
     requires done { readers.IsReady files → planned.left.items ≡ [] }
     ensures goes { IfOk result (AfterGroups planned files) }
-    ensures refuses { IfErr result (λ e. readers.IsReady files × ((e ≡ Memory) ⊎ RefusesPlan planned e)) }
+    ensures refuses { IfErr result (λ e. readers.IsReady files
+        × ((e ≡ Memory) ⊎ ((all : PlannedView) × HasTold planned all × RefusesPlan all e))) }
 {
     if are_files_read(&files) {
         drop(files);
-        begin(alloc, planned)
+        tell(alloc, planned)
     } else {
         Ok(Phase::Files { planned, files })
     }
 }
 
-/// The phase once all of it was made: the commit begins, and the files that were made are created before its own.
+/// The phase once all of it was made: what is told is written, and the commit begins.
+fn tell(alloc: Global, planned: Planned) -> Result<Phase, Refusal>
+    requires can_make { CanMake planned }
+    requires can_commit { CanCommit planned }
+    requires done { planned.left.items ≡ [] }
+    ensures goes { IfOk result (λ later. (all : PlannedView) × HasTold planned all × HasRoom all × Begins all later) }
+    ensures refuses { IfErr result (λ e. (e ≡ Memory)
+        ⊎ ((all : PlannedView) × HasTold planned all × RefusesPlan all e)) }
+{
+    match planned.tell(alloc) {
+        Ok(planned) => begin(alloc, planned),
+        Err(_) => Err(Refusal::Memory),
+    }
+}
+
+/// The phase once what is told was written: the commit begins, and the files that were made are created before its own.
 fn begin(alloc: Global, planned: Planned) -> Result<Phase, Refusal>
     requires can_commit { CanCommit planned }
     requires done { planned.left.items ≡ [] }
+    requires told { planned.logs.items ≡ [] }
     ensures begins { IfOk result (Begins planned) }
     ensures refuses { IfErr result (λ e. (e ≡ Memory) ⊎ RefusesPlan planned e) }
 {
@@ -272,7 +291,7 @@ fn begin(alloc: Global, planned: Planned) -> Result<Phase, Refusal>
         newest,
         plan,
         files,
-    } = planned.into_commit(alloc);
+    } = planned.into_commit();
     match new_compaction(alloc, schema, newest, author, plan, names) {
         Ok(committer) => Ok(create_next(committer, files)),
         Err(refusal) => {

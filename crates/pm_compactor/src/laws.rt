@@ -15,17 +15,19 @@ ghost use Rattle.pm_machine.specs.Trace.{Recounts};
 ghost use Rattle.pm_model_folder.specs.Changes.{Actor};
 ghost use Rattle.pm_model_folder.specs.Ledger.{Advances, Past, Stands};
 ghost use Rattle.pm_compactor.specs.Alone.{CompactorAlone};
-ghost use Rattle.pm_compactor.specs.Compactor.{calls_left, next_call, reached_at, Goes, GoesOn, IsCompactor, Reaches, Shown};
+ghost use Rattle.pm_compactor.specs.Compactor.{calls_left, next_call, reached_at, Goes};
+ghost use Rattle.pm_compactor.specs.Compactor.{GoesOn, IsCompactor, Reaches, Shown};
 ghost use Rattle.pm_compactor.specs.Meaning.{IsOtherThan, Knows, Leaves, MayRefuse};
 ghost use Rattle.pm_compactor.specs.Trace.{AskedOf, Did, Shows};
 ghost use Rattle.pm_compactor.specs.declared.phase.Phase.{Phase};
 ghost use Rattle.pm_compactor.specs.declared.phase.Phase.TheVariants as phases;
 
 use pm_append::append_law;
-use pm_choice::choices_law;
+use pm_choice::{choices_law, stored_law};
 use pm_commit::{begins_law, held_law};
 use pm_compaction::{compaction_law, plan_law, ready_law};
 use pm_group_files::{prefix_law, view_law, whole_law};
+use pm_group_log::known_log_law;
 use pm_made::own_files_law;
 use pm_manifest::{Entry, ManifestMeta, joined_law, read_entry_law};
 use pm_model_contents::{one_contents_law, one_runs_law, same_law};
@@ -50,9 +52,11 @@ pub(crate) fn machine_law()
     prefix_law();
     whole_law();
     choices_law();
+    stored_law();
     one_contents_law();
     one_runs_law();
     one_list_law();
+    known_log_law();
     planned_law();
     held_law();
     begins_law();
@@ -84,8 +88,8 @@ pub fn known_law()
 /// Whatever others do between its calls, a folder that stands shows a compactor no refusal but that memory ran out;
 /// that a snapshot has gone; that a name that is listed has its actor's mark, or a file was there; that the newest
 /// snapshot has fenced its base, or a file that goes is live no more, or it leaves no room; or that eleven tries were
-/// lost. So E10 and E11 never come of such a folder, and of its own view only that this leaves no room for what was
-/// made.
+/// lost. So E10 and E11 never come of such a folder, of no file in which an old value is looked up either, and of its
+/// own view only that this leaves no room for what was made.
 pub fn causes_law()
     ensures { (m : Phase) (call : Call) (answer : Answer) (refusal : Refusal) (f : Files) (p : Past) → Stands f p
         → Knows m f p → next_call m ≡ Some call → Answers call answer f → Shown m answer refusal
@@ -95,8 +99,11 @@ pub fn causes_law()
     pm_group_files::causes_law();
     pm_read_table::causes_law();
     one_contents_law();
+    one_list_law();
     entries_law();
     whole_law();
+    known_log_law();
+    planned_law();
 }
 
 /// Whatever a crash leaves of a compactor's next call is one of its changes, or none.

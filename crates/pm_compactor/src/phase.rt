@@ -8,7 +8,7 @@ use pm_read_table::ViewReader;
 use std::collections::VecDeque;
 
 /// How far a compaction has come: the next call is one of the newest view; or lists the manifests, since there is a
-/// choice; or reads a file of a run that goes; or creates a file that was made, before those after it; or is one of the
+/// choice; or reads a file of a chosen group; or creates a file that was made, before those after it; or is one of the
 /// commit. Or there was no choice; or the compaction ended before that.
 #[derive(Drop)]
 pub enum Phase {

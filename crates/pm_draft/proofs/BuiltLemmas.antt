@@ -1,13 +1,11 @@
 -- A schema is refused as not built exactly where it isn't.
-use Rattle.std.proofs.Common.{◌≡◌, ◌==◌, ℕ, Bool, true, false, List, [], ◌∷◌, codes, decimal, Option, None, Some, inl, inr, if◌then◌else◌, refl, ap, ◌∙◌}
+use Rattle.std.proofs.Common.{◌≡◌, ◌==◌, ℕ, Bool, true, false, List, [], ◌∷◌, codes, decimal, Option, None, Some, if◌then◌else◌, refl}
 use Rattle.std.specs.Option.{option_or}
 use Rattle.std.proofs.lemmas.Bool.Decides.{Decides-eqb}
-use Rattle.pm_options.specs.declared.kinds.Producer.{Producer}
-use Rattle.pm_options.specs.declared.kinds.Producer.TheVariants as producers
 use Rattle.pm_schema.specs.declared.schema.TableSchema.{TableSchema}
 use Rattle.pm_values.specs.declared.refusal.Refusal.{Refusal}
 use Rattle.pm_values.specs.declared.refusal.Refusal.TheVariants.{Unsupported}
-use Rattle.pm_draft.specs.Built.{IsBuilt, IsBuiltProducer, unbuilt, unbuilt_bucket, unbuilt_partition, unbuilt_producer}
+use Rattle.pm_draft.specs.Built.{IsBuilt, unbuilt, unbuilt_bucket, unbuilt_partition}
 
 some-none : (e : Refusal) → Some e ≡ None → ⊥
 some-none e is = cc
@@ -19,15 +17,6 @@ none-first (Some e) p is = absurd (some-none e is)
 none-second : (o p : Option Refusal) → option_or o p ≡ None → p ≡ None
 none-second None p is = is
 none-second (Some e) p is = absurd (some-none e is)
-
-producer-none : (p : Producer) → IsBuiltProducer p → unbuilt_producer p ≡ None
-producer-none p (inl is) = ap unbuilt_producer is
-producer-none p (inr is) = ap unbuilt_producer is
-
-none-producer : (p : Producer) → unbuilt_producer p ≡ None → IsBuiltProducer p
-none-producer producers.None is = inl refl
-none-producer producers.Input is = inr refl
-none-producer other is = absurd (some-none _ is)
 
 none-bucket : (n : ℕ) → unbuilt_bucket n ≡ None → n ≡ 1
 none-bucket n is = at (n == 1) refl is
@@ -41,15 +30,10 @@ none-partition [] is = refl
 none-partition (name ∷ names) is = absurd (some-none _ is)
 
 pub built-none : (s : TableSchema) → IsBuilt s → unbuilt s ≡ None
-built-none s built =
-    ap (λ (o : Option Refusal). option_or o (option_or (unbuilt_bucket s.options.bucket) (unbuilt_partition s.partition)))
-    (producer-none s.options.producer built.producer)
-    ∙ λ i. option_or (unbuilt_bucket (built.bucket i)) (unbuilt_partition (built.partition i))
+built-none s built = λ i. option_or (unbuilt_bucket (built.bucket i)) (unbuilt_partition (built.partition i))
 
 pub none-built : (s : TableSchema) → unbuilt s ≡ None → IsBuilt s
-none-built s is =
-    let later = none-second (unbuilt_producer s.options.producer) (option_or (unbuilt_bucket s.options.bucket) (unbuilt_partition s.partition)) is in record {
-      producer = none-producer s.options.producer (none-first (unbuilt_producer s.options.producer) _ is);
-      bucket = none-bucket s.options.bucket (none-first (unbuilt_bucket s.options.bucket) (unbuilt_partition s.partition) later);
-      partition = none-partition s.partition (none-second (unbuilt_bucket s.options.bucket) (unbuilt_partition s.partition) later);
-    }
+none-built s is = record {
+  bucket = none-bucket s.options.bucket (none-first (unbuilt_bucket s.options.bucket) (unbuilt_partition s.partition) is);
+  partition = none-partition s.partition (none-second (unbuilt_bucket s.options.bucket) (unbuilt_partition s.partition) is);
+}

@@ -1,15 +1,13 @@
 -- The refusals of the lines of a draft.
 use Rattle.std.proofs.Common.{◌==◌, ℕ, ℤ, List, [], ◌∷◌, Option, None, Some, IfSome, Result, Ok, Err, IfErr, refl, inr}
 use Rattle.pm_options.specs.Faults.{judged}
-use Rattle.pm_options.specs.declared.kinds.Producer.{Producer}
-use Rattle.pm_options.specs.declared.kinds.Producer.TheVariants as producers
 use Rattle.pm_schema.specs.Faults.{IsDraftFault}
 use Rattle.pm_schema.specs.Reading.{draft_of}
 use Rattle.pm_schema.specs.declared.schema.TableSchema.{TableSchema}
 use Rattle.pm_schema.proofs.Facts.{step_fault, judged_fault, cond_fault, or_fault, draft_faults}
 use Rattle.pm_values.specs.declared.refusal.Refusal.{Refusal}
 use Rattle.pm_values.specs.declared.refusal.Refusal.TheVariants as refusals
-use Rattle.pm_draft.specs.Built.{unbuilt, unbuilt_producer, unbuilt_bucket, unbuilt_partition}
+use Rattle.pm_draft.specs.Built.{unbuilt, unbuilt_bucket, unbuilt_partition}
 use Rattle.pm_draft.specs.Draft.{NumberedLine, draft_in, draft_line, form_fault, later_fault, later_line, unless_later}
 
 abbrev P : Refusal → Type 0
@@ -24,20 +22,14 @@ later_is : (later : Option ℕ) → IfSome (later_fault later) P
 later_is None = tt
 later_is (Some number) = (inr refl, refl)
 
-producer_is : (producer : Producer) → IfSome (unbuilt_producer producer) P
-producer_is producers.None = tt
-producer_is producers.Input = tt
-producer_is other = tt
-
 partition_is : (names : List (List ℕ)) → IfSome (unbuilt_partition names) P
 partition_is [] = tt
 partition_is (name ∷ names) = tt
 
 unbuilt_is : (s : TableSchema) → IfSome (unbuilt s) P
 unbuilt_is s =
-    or_fault P (unbuilt_producer s.options.producer) _ (producer_is s.options.producer)
-    (or_fault P (unbuilt_bucket s.options.bucket) (unbuilt_partition s.partition)
-    (cond_fault P (s.options.bucket == 1) None _ tt tt) (partition_is s.partition))
+    or_fault P (unbuilt_bucket s.options.bucket) (unbuilt_partition s.partition)
+    (cond_fault P (s.options.bucket == 1) None _ tt tt) (partition_is s.partition)
 
 pub lines_are : (lines : List NumberedLine) (origin : List ℕ) (now : ℤ) → IfErr (draft_in lines origin now) P
 unfolding draft_in

@@ -1,29 +1,15 @@
--- The tables that are built: those with no changelog producer or that of inputs, one bucket and no partition columns.
-use Rattle.std.specs.Prelude.{◌≡◌, ◌⊎◌, ℕ, ◌==◌, List, [], ◌∷◌, codes, decimal, Option, Some, None, if◌then◌else◌}
+-- The tables that are built: those with one bucket and no partition columns.
+use Rattle.std.specs.Prelude.{◌≡◌, ℕ, ◌==◌, List, [], ◌∷◌, codes, decimal, Option, Some, None, if◌then◌else◌}
 use Rattle.std.specs.Option.{option_or}
-use Rattle.pm_options.specs.Kinds.{producer_text}
 use Rattle.pm_options.specs.Written.{list_text}
-use Rattle.pm_options.specs.declared.kinds.Producer.{Producer}
-use Rattle.pm_options.specs.declared.kinds.Producer.TheVariants as producers
 use Rattle.pm_schema.specs.declared.schema.TableSchema.{TableSchema}
 use Rattle.pm_values.specs.declared.refusal.Refusal.{Refusal}
 use Rattle.pm_values.specs.declared.refusal.Refusal.TheVariants.{Unsupported}
 
--- a producer of such a table
-abbrev pub IsBuiltProducer : Producer → Type 0
-IsBuiltProducer p = (p ≡ producers.None) ⊎ (p ≡ producers.Input)
-
 -- a schema of such a table
 pub record IsBuilt (s : TableSchema) : Type 0 where
-  pub producer : IsBuiltProducer s.options.producer
   pub bucket : s.options.bucket ≡ 1
   pub partition : s.partition ≡ []
-
--- a producer that isn't built
-abbrev pub unbuilt_producer : Producer → Option Refusal
-unbuilt_producer producers.None = None
-unbuilt_producer producers.Input = None
-unbuilt_producer other = Some (Unsupported (codes "changelog-producer") (producer_text other))
 
 -- a number of buckets that isn't built
 abbrev pub unbuilt_bucket : ℕ → Option Refusal
@@ -36,6 +22,4 @@ unbuilt_partition (name ∷ names) = Some (Unsupported (codes "partitionKeys") (
 
 -- the first of these that a schema has
 abbrev pub unbuilt : TableSchema → Option Refusal
-unbuilt s =
-    option_or (unbuilt_producer s.options.producer)
-    (option_or (unbuilt_bucket s.options.bucket) (unbuilt_partition s.partition))
+unbuilt s = option_or (unbuilt_bucket s.options.bucket) (unbuilt_partition s.partition)

@@ -1,11 +1,10 @@
 //! What isn't built yet.
 
 ghost use Rattle.pm_options.specs.Faults.{Answers, judged};
-ghost use Rattle.pm_draft.specs.Built.{unbuilt, unbuilt_producer, unbuilt_bucket, unbuilt_partition};
+ghost use Rattle.pm_draft.specs.Built.{unbuilt, unbuilt_bucket, unbuilt_partition};
 
-use pm_options::Producer;
 use pm_schema::TableSchema;
-use pm_settings::{print_names, print_producer, unsupported};
+use pm_settings::{print_names, unsupported};
 use pm_values::{Refusal, Txt};
 use std::alloc::Global;
 
@@ -13,19 +12,8 @@ use std::alloc::Global;
 pub fn judge_built(alloc: Global, schema: &TableSchema) -> Result<(), Refusal>
     ensures { Answers (λ u. u) result (judged (unbuilt schema.now)) }
 {
-    judge_producer(alloc, schema.options.producer)?;
     judge_bucket(alloc, schema.options.bucket)?;
     judge_partition(alloc, schema.partition.as_slice())
-}
-
-/// Refuses a producer that isn't built.
-fn judge_producer(alloc: Global, producer: Producer) -> Result<(), Refusal>
-    ensures { Answers (λ u. u) result (judged (unbuilt_producer producer)) }
-{
-    match producer {
-        Producer::None | Producer::Input => Ok(()),
-        other => unsupported(alloc, "changelog-producer", print_producer(other)),
-    }
 }
 
 /// Refuses a number of buckets that isn't built.

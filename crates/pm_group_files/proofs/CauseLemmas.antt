@@ -1,5 +1,5 @@
 -- Which refusals a folder that stands can show a reader of files, whatever others do between its calls.
-use Rattle.std.proofs.Common.{◌≡◌, inl, inr, ℕ, zero, suc, ◌≤◌, List, [], ◌∷◌, None, Some, sym, ap, ◌∙◌, subst, arith}
+use Rattle.std.proofs.Common.{◌≡◌, inl, inr, ℕ, zero, suc, ◌≤◌, List, ◌∷◌, None, Some, refl, sym, ◌∙◌, subst, arith}
 use Rattle.std.specs.FinMap as map
 use Rattle.pm_values.specs.declared.refusal.Refusal.{Refusal}
 use Rattle.pm_values.specs.declared.refusal.Refusal.TheVariants as refusals
@@ -10,37 +10,29 @@ use Rattle.pm_store.specs.declared.answer.Answer.TheVariants as answers
 use Rattle.pm_store.specs.declared.call.Call.{Call}
 use Rattle.pm_store.specs.declared.call.Call.TheVariants as calls
 use Rattle.pm_schema.specs.declared.schema.TableSchema.{TableSchema}
-use Rattle.pm_model_contents.specs.Runs.{data_path}
 use Rattle.pm_model_folder.specs.Ledger.{Past, Stands}
 use Rattle.pm_model_folder.specs.Meaning.{HasSnapshotAt}
 use Rattle.pm_model_folder.specs.Paths.{snapshot_path}
 use Rattle.pm_model_folder.proofs.Facts.{some-none}
 use Rattle.pm_read_table.specs.Meaning.{MayRefuse}
 use Rattle.pm_group_files.specs.Chosen.{Chosen}
-use Rattle.pm_group_files.specs.Collected.{Collected, RefusesFile, with_groups}
-use Rattle.pm_group_files.specs.Jobs.{job_of}
+use Rattle.pm_group_files.specs.Collected.{Collected, RefusesJob, nothing_of, with_groups}
 use Rattle.pm_group_files.specs.Meaning.{HasTaken, Knows}
 use Rattle.pm_group_files.specs.Reader.{next_call, Shown}
 use Rattle.pm_group_files.specs.declared.job.Job.{Job}
 use Rattle.pm_group_files.specs.declared.phase.Phase.{Phase}
 use Rattle.pm_group_files.specs.declared.phase.Phase.TheVariants as phases
-use Rattle.pm_group_files.proofs.NextLemmas.{next-group}
+use Rattle.pm_group_files.proofs.NextLemmas.{next-refused}
 use Rattle.pm_group_files.proofs.ReadLemmas.{all-runs, next-stood}
-use Rattle.pm_group_files.proofs.TakenLemmas.{RowLaws, file-refused}
+use Rattle.pm_group_files.proofs.TakenLemmas.{RowLaws}
 
--- a file that is found is refused only where memory runs out
+-- a file that is found is refused only where memory runs out; one that is kept isn't refused
 pub file-cause : (laws : RowLaws) (f : Files) (p : Past) (stands : Stands f p) (a : Chosen) (c : Collected) (job : Job) (rest : List Job) → HasTaken p a c (job ∷ rest) → (bytes : List ℕ)
-    (refusal : Refusal) → Some bytes ≡ map.get f job.path → RefusesFile c.schema job bytes c.rows refusal → refusal ≡ refusals.Memory
+    (refusal : Refusal) → Some bytes ≡ map.get f job.path → RefusesJob c.schema job bytes c.rows refusal → refusal ≡ refusals.Memory
 file-cause laws f p stands a c job rest taken bytes refusal found refuses =
-    let s = a.schema in
-    let g : Files = p.stood a.id in
-    let n = next-group laws g s a.groups [] taken.done job rest (with_groups a.given c) (all-runs p s a.id a.groups taken.chosen.each) taken.parts taken.taken in
-    let of_table : RefusesFile s job bytes c.rows refusal = subst (λ (s : TableSchema). RefusesFile s job bytes c.rows refusal) taken.schema refuses in
-    let of_file : RefusesFile s (job_of s n.group n.end n.file) bytes c.rows refusal =
-    subst (λ (job : Job). RefusesFile s job bytes c.rows refusal) n.is of_table in
-    let there : map.get g (data_path s n.group n.file.name) ≡ Some bytes =
-    sym (ap (λ (job : Job). map.get g job.path) n.is) ∙ next-stood f p stands a c job rest taken bytes (sym found) in
-    file-refused laws g s n.group n.file n.own n.end bytes c.rows refusal n.has there n.rising of_file
+    next-refused laws (p.stood a.id) a.schema a.groups (nothing_of a.schema) taken.done job rest (with_groups a.given c) bytes refusal
+    (record { schema = refl; runs = refl; kept = refl; rows = refl }) (all-runs p a.schema a.id a.groups taken.chosen.each) taken.parts taken.taken
+    (next-stood f p stands a c job rest taken bytes (sym found)) (subst (λ (s : TableSchema). RefusesJob s job bytes c.rows refusal) taken.schema refuses)
 
 gone-snapshot : (f : Files) (s : TableSchema) (id : ℕ) → 1 ≤ id → None ≡ map.get f (snapshot_path id) → HasSnapshotAt f s id → ⊥
 gone-snapshot f s zero least none there = omega (arith, least)

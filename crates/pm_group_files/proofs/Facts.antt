@@ -15,7 +15,7 @@ use Rattle.pm_machine.specs.Running.{Refuses, Stops}
 use Rattle.pm_machine.specs.Trace.{Event, Recounts, after_answer, answered}
 use Rattle.pm_machine.proofs.PhaseFacts.{Spares, image_spared, recounts_of, sound_of_spared}
 use Rattle.pm_schema.specs.declared.schema.TableSchema.{TableSchema}
-use Rattle.pm_engine.specs.Covers.{Run}
+use Rattle.pm_scan_rows.specs.Group.{GroupRead}
 use Rattle.pm_model_folder.specs.Changes.{Actor}
 use Rattle.pm_model_folder.specs.Ledger.{Advances, Past, Stands}
 use Rattle.pm_model_folder.specs.Paths.{snapshot_path}
@@ -26,8 +26,8 @@ use Rattle.pm_read_table.specs.Trace.{read_file}
 use Rattle.pm_read_table.proofs.Facts.{gone_still}
 use Rattle.pm_read_table.proofs.FaultLemmas.{IsFileFault}
 use Rattle.pm_group_files.specs.Chosen.{Chosen, chosen_of}
-use Rattle.pm_group_files.specs.Collected.{Collected, HaveTaken, Takes, collected_of, nothing_of, with_groups, without_groups}
-use Rattle.pm_group_files.specs.Jobs.{all_jobs}
+use Rattle.pm_group_files.specs.Collected.{Collected, HaveTaken, Takes, nothing_of, with_groups, without_groups}
+use Rattle.pm_group_files.specs.Jobs.{all_wanted}
 use Rattle.pm_group_files.specs.Meaning.{HasTaken, Knows, KnowsChosen, StandsFor}
 use Rattle.pm_group_files.specs.Reader.{next_call, calls_left, read_next, Goes, HandsOut, HasGroup, IsReady, OfTable, Shown}
 use Rattle.pm_group_files.specs.Trace.{HaveRead, HasPart, DidSoFar, MayTakeMemory, Misreads, Shows, Did}
@@ -91,11 +91,11 @@ part_more a c new job rest bytes own part takes = record {
 }
 
 -- none was read yet
-pub part_none : (a : Chosen) → a.given ≡ [] → HasPart a (nothing_of a.schema) (all_jobs a.schema a.groups) []
+pub part_none : (a : Chosen) → a.given ≡ [] → HasPart a (nothing_of a.schema) (all_wanted a.schema a.groups) []
 part_none a none = record {
   done = [];
   parts = refl;
-  read = (ap (λ (given : List (List Run)). with_groups given (nothing_of a.schema)) none, refl);
+  read = (ap (λ (given : List GroupRead). with_groups given (nothing_of a.schema)) none, refl);
 }
 
 pub did_next : (a : Chosen) (id : ℕ) (c : Collected) (left : List Job) (own : List Event) → id ≡ a.id → HasPart a c left own → Did a (read_next id c left) own
@@ -217,11 +217,11 @@ images m call f image p = image_spared next_call m call f image p (spares m f)
 -- ---- groups that are handed out
 
 -- what was handed out before, and this
-abbrev pub also_given : Chosen → List (List Run) → Chosen
+abbrev pub also_given : Chosen → List GroupRead → Chosen
 also_given a groups = chosen_of a.schema a.id a.groups (a.given ++ groups)
 
-same_whole : (given : List (List Run)) (c : Collected) → with_groups given c ≡ with_groups (given ++ c.groups) (without_groups c)
-same_whole given c = ap (λ (groups : List (List Run)). collected_of c.schema groups c.runs c.rows) (sym (append-nil (given ++ c.groups)))
+same_whole : (given : List GroupRead) (c : Collected) → with_groups given c ≡ with_groups (given ++ c.groups) (without_groups c)
+same_whole given c = ap (λ (groups : List GroupRead). record c { groups = groups }) (sym (append-nil (given ++ c.groups)))
 
 taken_given : (p : Past) (a : Chosen) (c : Collected) (left : List Job) → HasTaken p a c left → HasTaken p (also_given a c.groups) (without_groups c) left
 taken_given p a c left taken = record {
@@ -240,22 +240,22 @@ part_given a c left own part = record {
 }
 
 -- what is known then, and which calls led there
-pub handed_known : (a : Chosen) (m : Phase) (groups : List (List Run)) (new : Phase) (f : Files) (p : Past) → HandsOut m groups new → Knows a m f p → Knows (also_given a groups) new f p
+pub handed_known : (a : Chosen) (m : Phase) (groups : List GroupRead) (new : Phase) (f : Files) (p : Past) → HandsOut m groups new → Knows a m f p → Knows (also_given a groups) new f p
 handed_known a (phases.Files r) groups new f p (are, is) (same, taken) =
-    subst (λ (groups : List (List Run)). Knows (also_given a groups) new f p) (sym are)
+    subst (λ (groups : List GroupRead). Knows (also_given a groups) new f p) (sym are)
     (subst (λ (m : Phase). Knows (also_given a r.collected.groups) m f p) (sym is) (same, taken_given p a r.collected (r.next ∷ r.rest) taken))
 handed_known a (phases.Ready c) groups new f p (are, is) taken =
-    subst (λ (groups : List (List Run)). Knows (also_given a groups) new f p) (sym are)
+    subst (λ (groups : List GroupRead). Knows (also_given a groups) new f p) (sym are)
     (subst (λ (m : Phase). Knows (also_given a c.groups) m f p) (sym is) (taken_given p a c [] taken))
 handed_known a (phases.Again id path) groups new f p (none, is) gone = subst (λ (m : Phase). Knows (also_given a groups) m f p) (sym is) gone
 handed_known a phases.Over groups new f p (none, is) known = subst (λ (m : Phase). Knows (also_given a groups) m f p) (sym is) tt
 
-pub handed_did : (a : Chosen) (m : Phase) (groups : List (List Run)) (new : Phase) (own : List Event) → HasGroup m → HandsOut m groups new
+pub handed_did : (a : Chosen) (m : Phase) (groups : List GroupRead) (new : Phase) (own : List Event) → HasGroup m → HandsOut m groups new
     → DidSoFar a m own → DidSoFar (also_given a groups) new own
 handed_did a (phases.Files r) groups new own some (are, is) (same, part) =
-    subst (λ (groups : List (List Run)). DidSoFar (also_given a groups) new own) (sym are)
+    subst (λ (groups : List GroupRead). DidSoFar (also_given a groups) new own) (sym are)
     (subst (λ (m : Phase). DidSoFar (also_given a r.collected.groups) m own) (sym is) (same, part_given a r.collected (r.next ∷ r.rest) own part))
 handed_did a (phases.Ready c) groups new own some (are, is) part =
-    subst (λ (groups : List (List Run)). DidSoFar (also_given a groups) new own) (sym are)
+    subst (λ (groups : List GroupRead). DidSoFar (also_given a groups) new own) (sym are)
     (subst (λ (m : Phase). DidSoFar (also_given a c.groups) m own) (sym is) (part_given a c [] own part))
 handed_did a m groups new own some hands did = absurd some

@@ -1,5 +1,5 @@
 -- The faults that the bytes of a data file may have.
-use Rattle.std.proofs.Common.{◌≡◌, ◌⊎◌, ℕ, List, [], ◌∷◌, refl, Option, None, Some, Result, Ok, Err, inl, inr, subst, sym, ◌∙◌}
+use Rattle.std.proofs.Common.{◌≡◌, ◌⊎◌, Bool, true, false, ℕ, List, [], ◌∷◌, refl, Option, None, Some, Result, Ok, Err, inl, inr, subst, sym, ◌∙◌}
 use Rattle.pm_values.specs.Order.{Values}
 use Rattle.pm_values.specs.declared.record.Stamped.{Stamped}
 use Rattle.pm_values.specs.declared.refusal.Refusal.{Refusal}
@@ -16,7 +16,7 @@ use Rattle.pm_run.specs.Rows.{Ends, Follow, Opened, all_placed, judged, next_row
 use Rattle.pm_read_table.proofs.FaultLemmas.{IsFileFault, of_fault}
 use Rattle.pm_store.specs.declared.answer.Answer.{Answer}
 use Rattle.pm_store.specs.declared.answer.Answer.TheVariants as answers
-use Rattle.pm_group_files.specs.Collected.{RefusesFile, misread, unopened}
+use Rattle.pm_group_files.specs.Collected.{RefusesFile, RefusesJob, RefusesWhere, misread, unopened}
 use Rattle.pm_group_files.specs.Reader.{Shown}
 use Rattle.pm_group_files.specs.Trace.{MayTakeMemory}
 use Rattle.pm_group_files.specs.declared.job.Job.{Job}
@@ -33,7 +33,7 @@ same_fault e other same is = subst IsFileFault (sym same) is
 
 -- ---- opening
 
-opened_fault : (s : TableSchema) (id : ℕ) (path bytes : List ℕ) (e : Refusal) → RefusesRun s id path bytes e → IsFileFault e
+pub opened_fault : (s : TableSchema) (id : ℕ) (path bytes : List ℕ) (e : Refusal) → RefusesRun s id path bytes e → IsFileFault e
 opened_fault s id path bytes refusals.Memory refuses = tt
 opened_fault s id path bytes e (inl (other, is)) = same_fault e _ is tt
 opened_fault s id path bytes e (inr (same, inl (fault, opens, is))) = same_fault e _ is (of_fault path fault)
@@ -47,7 +47,7 @@ some_same e other same = cc
 none_there : (e : Refusal) → ◌≡◌ {A = Option Refusal} None (Some e) → IsFileFault e
 none_there e same = absurd (let clash = same in cc)
 
-judged_fault : (o : Opened) (before : Option Values) (ps : List (ℕ × Data)) (e : Refusal) → (judged o before ps).refusal ≡ Some e → IsFileFault e
+pub judged_fault : (o : Opened) (before : Option Values) (ps : List (ℕ × Data)) (e : Refusal) → (judged o before ps).refusal ≡ Some e → IsFileFault e
 judged_fault o before [] e is = none_there e is
 judged_fault o before (p ∷ ps) e is = at (λ (before : Option Values) is. judged_fault o before ps e is) (next_row o before p.1) is
   where
@@ -65,9 +65,16 @@ follow_fault : (o : Opened) (offset : ℕ) (before : Option Values) (rows : List
 follow_fault o offset before rows e follow =
     ends_fault o before (all_placed follow.blocks) follow.last (judged o before (all_placed follow.blocks)).refusal e refl follow.ends
 
-pub refuses_fault : (s : TableSchema) (job : Job) (bytes : List ℕ) (before : Run) (e : Refusal) → RefusesFile s job bytes before e → IsFileFault e
-refuses_fault s job bytes before e (unopened refuses) = opened_fault s job.schema_id job.path bytes e refuses
-refuses_fault s job bytes before e (misread v more opens follow) = follow_fault v.opened v.opened.file.first (last_key None before) more e follow
+file_fault : (s : TableSchema) (job : Job) (bytes : List ℕ) (before : Run) (e : Refusal) → RefusesFile s job bytes before e → IsFileFault e
+file_fault s job bytes before e (unopened refuses) = opened_fault s job.schema_id job.path bytes e refuses
+file_fault s job bytes before e (misread v more opens follow) = follow_fault v.opened v.opened.file.first (last_key None before) more e follow
+
+pub refuses_fault : (s : TableSchema) (job : Job) (bytes : List ℕ) (before : Run) (e : Refusal) → RefusesJob s job bytes before e → IsFileFault e
+refuses_fault s job bytes before e refuses = by job.kept refuses
+  where
+    by : (kept : Bool) → RefusesWhere kept s job bytes before e → IsFileFault e
+    by false refused = file_fault s job bytes before e refused
+    by true refused = absurd refused
 
 -- a refusal is out of memory, or has what is said of it otherwise
 pub unless_memory : (e : Refusal) (P : Type 0) → UnlessMemory e P → (e ≡ refusals.Memory) ⊎ P

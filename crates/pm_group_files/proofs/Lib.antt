@@ -2,7 +2,7 @@ mod AfterLemmas
 pub mod CauseLemmas
 pub mod Facts
 pub mod FaultLemmas
-mod JobLemmas
+pub mod JobLemmas
 pub mod KeptLemmas
 mod NextLemmas
 pub mod OneLemmas

@@ -1,6 +1,7 @@
 -- The next file, once those before it were read: its rows follow those of its run that were, so it is refused
--- for memory alone.
-use Rattle.std.proofs.Common.{◌≡◌, ◌≢◌, ◌⊎◌, inl, inr, false, List, [], ◌∷◌, ◌++◌, Less, refl, sym, ap, subst, ◌∙◌, append_assoc}
+-- for memory alone. One that is kept is refused for nothing.
+use Rattle.std.proofs.Common.{◌≡◌, ◌≢◌, ◌⊎◌, inl, inr, Bool, true, false, ℕ, List, [], ◌∷◌, ◌++◌, Some, Less, refl, sym, ap, subst, ◌∙◌, append_assoc}
+use Rattle.std.specs.FinMap as map
 use Rattle.std.specs.List.{AllByRecursion, AllZip}
 use Rattle.std.specs.List.Sorted.{IsStrictlySortedBy}
 use Rattle.pm_base.proofs.Laws.{AllByRecursion-parts}
@@ -9,6 +10,8 @@ use Rattle.pm_values.specs.Order.{Values, key_cmp}
 use Rattle.pm_values.specs.declared.file_meta.FileMeta.{FileMeta}
 use Rattle.pm_values.specs.declared.group.Group.{Group}
 use Rattle.pm_values.specs.declared.record.Stamped.{Stamped}
+use Rattle.pm_values.specs.declared.refusal.Refusal.{Refusal}
+use Rattle.pm_values.specs.declared.refusal.Refusal.TheVariants.{Memory}
 use Rattle.pm_schema.specs.declared.schema.TableSchema.{TableSchema}
 use Rattle.pm_engine.specs.Covers.{Run}
 use Rattle.pm_levels.specs.Runs.{IsRun, RunView}
@@ -16,13 +19,14 @@ use Rattle.pm_run.specs.Order.{keys_of}
 use Rattle.pm_run.specs.Writing.{AreRising}
 use Rattle.pm_model_folder.specs.Stored.{HasFile, HasRun, HaveFileRows}
 use Rattle.pm_runs.specs.Stand.{StoredRun}
-use Rattle.pm_group_files.specs.Collected.{Collected, HaveTaken, collected_of}
-use Rattle.pm_group_files.specs.Jobs.{Grouped, all_jobs, file_jobs, job_of, run_jobs}
+use Rattle.pm_group_files.specs.Collected.{Collected, HaveTaken, RefusesJob, RefusesWhere, run_closed, with_rows}
+use Rattle.pm_group_files.specs.Jobs.{Wanted, all_wanted, file_jobs, file_jobs_as, job_of, jobs_with, run_jobs_as, wanted_jobs}
 use Rattle.pm_group_files.specs.Meaning.{HasRuns}
 use Rattle.pm_group_files.specs.declared.job.Ends.{Ends}
 use Rattle.pm_group_files.specs.declared.job.Ends.TheVariants as ends
 use Rattle.pm_group_files.specs.declared.job.Job.{Job}
-use Rattle.pm_group_files.proofs.TakenLemmas.{RowLaws, file-taken, one-group, run-taken, stored_runs, taken-split}
+use Rattle.pm_group_files.proofs.TakenLemmas.{IsBetween, RowLaws, file-refused, file-taken, one-group, run-taken, taken-split}
+use Rattle.pm_group_files.proofs.ReadLemmas.{all-joined, all-parts}
 
 -- ---- rows that rise
 
@@ -75,10 +79,10 @@ pub record FollowsOn (f : Files) (s : TableSchema) (job : Job) (c : Collected) :
   pub rising : AreRising (c.rows ++ own)
 
 module _ (laws : RowLaws) (f : Files) (s : TableSchema) (g : Group) where
-  next-here : (m : FileMeta) (end : Ends) (own later rows : List Stamped) (kept : List (List Run)) (runs : List Run) (before : Run) (job : Job) (rest jobs : List Job) (c : Collected) → HasFile f s false g m own → rows ≡ own ++ later
-      → AreRising (before ++ rows) → job_of s g end m ∷ jobs ≡ job ∷ rest → c ≡ collected_of s kept runs before → FollowsOn f s job c
-  next-here m end own later rows kept runs before job rest jobs c has split rising e same =
-      let all : AreRising ((before ++ own) ++ later) = subst AreRising (ap (λ (rows : List Stamped). before ++ rows) split ∙ sym (append_assoc before own later)) rising in
+  next-here : (m : FileMeta) (end : Ends) (own later rows : List Stamped) (old : Collected) (job : Job) (rest jobs : List Job) (c : Collected) → HasFile f s false g m own → rows ≡ own ++ later
+      → AreRising (old.rows ++ rows) → job_of s g end m ∷ jobs ≡ job ∷ rest → c ≡ old → FollowsOn f s job c
+  next-here m end own later rows old job rest jobs c has split rising e same =
+      let all : AreRising ((old.rows ++ own) ++ later) = subst AreRising (ap (λ (rows : List Stamped). old.rows ++ rows) split ∙ sym (append_assoc old.rows own later)) rising in
       record {
         group = g;
         file = m;
@@ -86,61 +90,105 @@ module _ (laws : RowLaws) (f : Files) (s : TableSchema) (g : Group) where
         own = own;
         is = sym (job-head (job_of s g end m) job jobs rest e);
         has = has;
-        rising = subst (λ (c : Collected). AreRising (c.rows ++ own)) (sym same) (rising-first (before ++ own) later all);
+        rising = subst (λ (c : Collected). AreRising (c.rows ++ own)) (sym same) (rising-first (old.rows ++ own) later all);
       }
 
-  next-file : (ms : List FileMeta) (rows : List Stamped) (end : Ends) (kept : List (List Run)) (runs : List Run) (before : Run) (done : List Job) (job : Job) (rest : List Job) (c : Collected) → HaveFileRows f s g ms rows
-      → AreRising (before ++ rows) → file_jobs s g end ms ≡ done ++ job ∷ rest → HaveTaken f done (collected_of s kept runs before) c → FollowsOn f s job c
-  next-file [] rows end kept runs before done job rest c have rising e taken = absurd (no-job done job rest e)
-  next-file (m ∷ []) rows end kept runs before [] job rest c have rising e taken =
-      next-here m end have.0 have.1 rows kept runs before job rest [] c have.3 have.2 rising e taken
-  next-file (m ∷ []) rows end kept runs before (first ∷ done) job rest c have rising e taken =
+  next-file : (ms : List FileMeta) (rows : List Stamped) (end : Ends) (old : Collected) (done : List Job) (job : Job) (rest : List Job) (c : Collected) → old.schema ≡ s → HaveFileRows f s g ms rows
+      → AreRising (old.rows ++ rows) → file_jobs s g end ms ≡ done ++ job ∷ rest → HaveTaken f done old c → FollowsOn f s job c
+  next-file [] rows end old done job rest c schema have rising e taken = absurd (no-job done job rest e)
+  next-file (m ∷ []) rows end old [] job rest c schema have rising e taken =
+      next-here m end have.0 have.1 rows old job rest [] c have.3 have.2 rising e taken
+  next-file (m ∷ []) rows end old (first ∷ done) job rest c schema have rising e taken =
       absurd (no-job done job rest (job-tail (job_of s g end m) first [] (done ++ job ∷ rest) e))
-  next-file (m ∷ n ∷ ms) rows end kept runs before [] job rest c have rising e taken =
-      next-here m ends.File have.0 have.1 rows kept runs before job rest (file_jobs s g end (n ∷ ms)) c have.3 have.2 rising e taken
-  next-file (m ∷ n ∷ ms) rows end kept runs before (first ∷ done) job rest c have rising e taken =
-      let own : HaveTaken f (job_of s g ends.File m ∷ done) (collected_of s kept runs before) c =
-      subst (λ (j : Job). HaveTaken f (j ∷ done) (collected_of s kept runs before) c) (sym (job-head (job_of s g ends.File m) first (file_jobs s g end (n ∷ ms)) (done ++ job ∷ rest) e)) taken in
-      let closes : own.1 ≡ collected_of s kept runs (before ++ have.0) = file-taken laws f s g m have.0 ends.File own.0 kept runs before own.1 have.3 own.2 own.3 in
-      next-file (n ∷ ms) have.1 end kept runs (before ++ have.0) done job rest c have.4
-      (subst AreRising (ap (λ (rows : List Stamped). before ++ rows) have.2 ∙ sym (append_assoc before have.0 have.1)) rising)
+  next-file (m ∷ n ∷ ms) rows end old [] job rest c schema have rising e taken =
+      next-here m ends.File have.0 have.1 rows old job rest (file_jobs s g end (n ∷ ms)) c have.3 have.2 rising e taken
+  next-file (m ∷ n ∷ ms) rows end old (first ∷ done) job rest c schema have rising e taken =
+      let own : HaveTaken f (job_of s g ends.File m ∷ done) old c =
+      subst (λ (j : Job). HaveTaken f (j ∷ done) old c) (sym (job-head (job_of s g ends.File m) first (file_jobs s g end (n ∷ ms)) (done ++ job ∷ rest) e)) taken in
+      let closes : own.1 ≡ with_rows (old.rows ++ have.0) old = file-taken laws f s g m have.0 ends.File own.0 old own.1 schema have.3 own.2 own.3 in
+      next-file (n ∷ ms) have.1 end (with_rows (old.rows ++ have.0) old) done job rest c schema have.4
+      (subst AreRising (ap (λ (rows : List Stamped). old.rows ++ rows) have.2 ∙ sym (append_assoc old.rows have.0 have.1)) rising)
       (job-tail (job_of s g ends.File m) first (file_jobs s g end (n ∷ ms)) (done ++ job ∷ rest) e)
       (subst (λ (middle : Collected). HaveTaken f done middle c) closes own.4)
 
-  next-run : (run : RunView) (older : List RunView) (stored : List StoredRun) (kept : List (List Run)) (runs : List Run) (done : List Job) (job : Job) (rest : List Job) (c : Collected) → AllByRecursion IsRun (run ∷ older)
-      → AllZip (HasRun f s g) (run ∷ older) stored → run_jobs s g (run ∷ older) ≡ done ++ job ∷ rest → HaveTaken f done (collected_of s kept runs []) c → FollowsOn f s job c
-  next-run run older [] kept runs done job rest c each read e taken = absurd read
-  next-run run [] (x ∷ xs) kept runs done job rest c each read e taken =
-      next-file run.files x.rows ends.Group kept runs [] done job rest c read.0.files read.0.rising e taken
-  next-run run (next ∷ older) (x ∷ xs) kept runs done job rest c each read e taken =
-      elim (where-is (file_jobs s g ends.Run run.files) (run_jobs s g (next ∷ older)) done job rest e) [
-        | inl here ↦ next-file run.files x.rows ends.Run kept runs [] done job here.0 c read.0.files read.0.rising here.1 taken
+  -- after none of a run its rows rise as they are
+  rising-alone : (before rows : List Stamped) → before ≡ [] → AreRising rows → AreRising (before ++ rows)
+  rising-alone before rows none rising = subst (λ (first : List Stamped). AreRising (first ++ rows)) (sym none) rising
+
+  next-run : (run : RunView) (older : List RunView) (stored : List StoredRun) (end : Ends) (old : Collected) (done : List Job) (job : Job) (rest : List Job) (c : Collected) → old.schema ≡ s → old.rows ≡ []
+      → AllByRecursion IsRun (run ∷ older) → AllZip (HasRun f s g) (run ∷ older) stored → run_jobs_as false s g end (run ∷ older) ≡ done ++ job ∷ rest → HaveTaken f done old c → FollowsOn f s job c
+  next-run run older [] end old done job rest c schema none each read e taken = absurd read
+  next-run run [] (x ∷ xs) end old done job rest c schema none each read e taken =
+      next-file run.files x.rows end old done job rest c schema read.0.files (rising-alone old.rows x.rows none read.0.rising) e taken
+  next-run run (next ∷ older) (x ∷ xs) end old done job rest c schema none each read e taken =
+      elim (where-is (file_jobs s g ends.Run run.files) (run_jobs_as false s g end (next ∷ older)) done job rest e) [
+        | inl here ↦ next-file run.files x.rows ends.Run old done job here.0 c schema read.0.files (rising-alone old.rows x.rows none read.0.rising) here.1 taken
         | inr there ↦
-            let parts = taken-split f (file_jobs s g ends.Run run.files) there.0 (collected_of s kept runs []) c
-            (subst (λ (jobs : List Job). HaveTaken f jobs (collected_of s kept runs []) c) there.1 taken) in
-            let closes : parts.0 ≡ collected_of s kept (runs ++ x.rows ∷ []) [] = run-taken laws f s g run.files x.rows ends.Run kept runs parts.0 each.0.some read.0.files parts.1 in
-            next-run next older xs kept (runs ++ x.rows ∷ []) there.0 job rest c each.1 read.1 there.2
+            let parts = taken-split f (file_jobs s g ends.Run run.files) there.0 old c
+            (subst (λ (jobs : List Job). HaveTaken f jobs old c) there.1 taken) in
+            let closes : parts.0 ≡ run_closed (with_rows (old.rows ++ x.rows) old) = run-taken laws f s g run.files x.rows ends.Run old parts.0 schema each.0.some read.0.files parts.1 in
+            next-run next older xs end (run_closed (with_rows (old.rows ++ x.rows) old)) there.0 job rest c schema refl each.1 read.1 there.2
             (subst (λ (middle : Collected). HaveTaken f there.0 middle c) closes parts.2)
       ]
 
-  next-runs : (own : List RunView) (stored : List StoredRun) (kept : List (List Run)) (done : List Job) (job : Job) (rest : List Job) (c : Collected) → own ≢ [] → AllByRecursion IsRun own
-      → AllZip (HasRun f s g) own stored → run_jobs s g own ≡ done ++ job ∷ rest → HaveTaken f done (collected_of s kept [] []) c → FollowsOn f s job c
-  next-runs [] stored kept done job rest c some each read e taken = absurd (some refl)
-  next-runs (run ∷ older) stored kept done job rest c some each read e taken = next-run run older stored kept [] done job rest c each read e taken
+  next-runs : (own : List RunView) (stored : List StoredRun) (end : Ends) (old : Collected) (done : List Job) (job : Job) (rest : List Job) (c : Collected) → old.schema ≡ s → old.rows ≡ [] → own ≢ []
+      → AllByRecursion IsRun own → AllZip (HasRun f s g) own stored → run_jobs_as false s g end own ≡ done ++ job ∷ rest → HaveTaken f done old c → FollowsOn f s job c
+  next-runs [] stored end old done job rest c schema none some each read e taken = absurd (some refl)
+  next-runs (run ∷ older) stored end old done job rest c schema none some each read e taken = next-run run older stored end old done job rest c schema none each read e taken
+
+  -- ---- files that are kept
+
+  abbrev IsKept : Job → Type 0
+  IsKept job = job.kept ≡ true
+
+  files-kept : (end : Ends) (ms : List FileMeta) → AllByRecursion IsKept (file_jobs_as true s g end ms)
+  files-kept end [] = tt
+  files-kept end (m ∷ []) = (refl, tt)
+  files-kept end (m ∷ n ∷ ms) = (refl, files-kept end (n ∷ ms))
+
+  runs-kept : (end : Ends) (runs : List RunView) → AllByRecursion IsKept (run_jobs_as true s g end runs)
+  runs-kept end [] = tt
+  runs-kept end (run ∷ []) = files-kept end run.files
+  runs-kept end (run ∷ older ∷ runs) =
+      all-joined IsKept (file_jobs_as true s g ends.Run run.files) (run_jobs_as true s g end (older ∷ runs)) (files-kept ends.Run run.files) (runs-kept end (older ∷ runs))
+
+  next-parts : (own kept : List RunView) (stored : List StoredRun) (old : Collected) (done : List Job) (job : Job) (rest : List Job) (c : Collected) → old.schema ≡ s → old.rows ≡ [] → own ≢ []
+      → AllByRecursion IsRun own → AllZip (HasRun f s g) own stored → jobs_with s g own kept ≡ done ++ job ∷ rest → HaveTaken f done old c → (job.kept ≡ true) ⊎ FollowsOn f s job c
+  next-parts own [] stored old done job rest c schema none some each read e taken =
+      inr (next-runs own stored ends.Group old done job rest c schema none some each read e taken)
+  next-parts own (first ∷ kept) stored old done job rest c schema none some each read e taken =
+      elim (where-is (run_jobs_as false s g ends.Run own) (run_jobs_as true s g ends.Group (first ∷ kept)) done job rest e) [
+        | inl here ↦ inr (next-runs own stored ends.Run old done job here.0 c schema none some each read here.1 taken)
+        | inr there ↦
+            inl (all-parts IsKept there.0 (job ∷ rest) (subst (AllByRecursion IsKept) there.2 (runs-kept ends.Group (first ∷ kept)))).1.0
+      ]
 
 module _ (laws : RowLaws) (f : Files) (s : TableSchema) where
-  pub next-group : (groups : List Grouped) (kept : List (List Run)) (done : List Job) (job : Job) (rest : List Job) (c : Collected) → AllByRecursion (HasRuns f s) groups
-      → all_jobs s groups ≡ done ++ job ∷ rest → HaveTaken f done (collected_of s kept [] []) c → FollowsOn f s job c
-  next-group [] kept done job rest c have e taken = absurd (no-job done job rest e)
-  next-group (group ∷ groups) kept done job rest c have e taken =
-      let g = group.0 in
-      let own = have.0 in
-      elim (where-is (run_jobs s g group.1) (all_jobs s groups) done job rest e) [
-        | inl here ↦ next-runs laws f s g group.1 own.stored kept done job here.0 c own.some own.each own.read here.1 taken
+  pub next-group : (groups : List Wanted) (old : Collected) (done : List Job) (job : Job) (rest : List Job) (c : Collected) → IsBetween s old
+      → AllByRecursion (λ (w : Wanted). HasRuns f s (w.group, w.runs) × AllByRecursion IsRun w.kept) groups → all_wanted s groups ≡ done ++ job ∷ rest → HaveTaken f done old c
+      → (job.kept ≡ true) ⊎ FollowsOn f s job c
+  next-group [] old done job rest c between have e taken = absurd (no-job done job rest e)
+  next-group (w ∷ groups) old done job rest c between have e taken =
+      let own = have.0.0 in
+      elim (where-is (wanted_jobs s w) (all_wanted s groups) done job rest e) [
+        | inl here ↦
+            next-parts laws f s w.group w.runs w.kept own.stored old done job here.0 c between.schema between.rows own.some own.each own.read here.1 taken
         | inr there ↦
-            let parts = taken-split f (run_jobs s g group.1) there.0 (collected_of s kept [] []) c
-            (subst (λ (jobs : List Job). HaveTaken f jobs (collected_of s kept [] []) c) there.1 taken) in
-            let one = one-group laws f s group own kept parts.0 parts.1 in
-            next-group groups (kept ++ stored_runs f s group own ∷ []) there.0 job rest c have.1 there.2
+            let parts = taken-split f (wanted_jobs s w) there.0 old c (subst (λ (jobs : List Job). HaveTaken f jobs old c) there.1 taken) in
+            let (x, is, one) = one-group laws f s w own have.0.1 old parts.0 between parts.1 in
+            next-group groups (record old { groups = old.groups ++ x ∷ [] }) there.0 job rest c
+            (record { schema = between.schema; runs = between.runs; kept = between.kept; rows = between.rows }) have.1 there.2
             (subst (λ (middle : Collected). HaveTaken f there.0 middle c) one parts.2)
       ]
+
+  -- it is refused for memory alone
+  pub next-refused : (groups : List Wanted) (old : Collected) (done : List Job) (job : Job) (rest : List Job) (c : Collected) (bytes : List ℕ) (refusal : Refusal) → IsBetween s old
+      → AllByRecursion (λ (w : Wanted). HasRuns f s (w.group, w.runs) × AllByRecursion IsRun w.kept) groups → all_wanted s groups ≡ done ++ job ∷ rest → HaveTaken f done old c
+      → map.get f job.path ≡ Some bytes → RefusesJob s job bytes c.rows refusal → refusal ≡ Memory
+  next-refused groups old done job rest c bytes refusal between have e taken there refuses = by (next-group groups old done job rest c between have e taken)
+    where
+      by : (job.kept ≡ true) ⊎ FollowsOn f s job c → refusal ≡ Memory
+      by (inl kept) = absurd (subst (λ (kept : Bool). RefusesWhere kept s job bytes c.rows refusal) kept refuses)
+      by (inr n) =
+          file-refused laws f s n.group n.file n.own n.end bytes c.rows refusal n.has (sym (ap (λ (job : Job). map.get f job.path) n.is) ∙ there) n.rising
+          (subst (λ (job : Job). RefusesJob s job bytes c.rows refusal) n.is refuses)

@@ -1,5 +1,5 @@
 -- What the files of groups lead to, each by its bytes, but that memory may run out: so the same calls lead to one place.
-use Rattle.std.proofs.Common.{◌≡◌, ◌≢◌, ◌⊎◌, inl, inr, ℕ, List, [], ◌∷◌, ◌++◌, false, true≢false, Option, None, Some, IsSome, Result, Ok, Err, refl, sym, ap, subst, ◌∙◌}
+use Rattle.std.proofs.Common.{◌≡◌, ◌≢◌, ◌⊎◌, inl, inr, ℕ, List, [], ◌∷◌, ◌++◌, Bool, true, false, true≢false, Option, None, Some, IsSome, Result, Ok, Err, refl, sym, ap, subst, ◌∙◌}
 use Rattle.std.specs.List.{AllByRecursion}
 use Rattle.pm_values.specs.Order.{Values}
 use Rattle.pm_values.specs.declared.record.Stamped.{Stamped}
@@ -23,8 +23,8 @@ use Rattle.pm_read_schema.proofs.LeadLemmas.{AreOne, Leads, IsAnswered, all_answ
 use Rattle.pm_read_table.specs.Trace.{read_file}
 use Rattle.pm_model_folder.specs.Paths.{snapshot_path}
 use Rattle.pm_group_files.specs.Chosen.{Chosen}
-use Rattle.pm_group_files.specs.Collected.{Closes, Collected, RefusesFile, Takes, collected_of, misread, nothing_of, unopened, with_groups}
-use Rattle.pm_group_files.specs.Jobs.{all_jobs}
+use Rattle.pm_group_files.specs.Collected.{Closes, ClosesKept, Collected, RefusesFile, RefusesJob, RefusesWhere, Takes, TakesRows, TakesWhere, misread, nothing_of, unopened, with_groups, with_kept, with_rows}
+use Rattle.pm_group_files.specs.Jobs.{all_wanted}
 use Rattle.pm_group_files.specs.Trace.{FindsNext, HasPart, HaveRead, IsDamaged, LacksFile, Misreads, ReadsAgain, Shows}
 use Rattle.pm_group_files.specs.declared.job.Ends.{Ends as JobEnds}
 use Rattle.pm_group_files.specs.declared.job.Ends.TheVariants as ends
@@ -50,7 +50,7 @@ pub data Place : Type 0 where
 -- what a file's bytes lead to
 pub data FileRead (c : Collected) (job : Job) (jobs : List Job) (bytes : List ℕ) (new : Place) : Type 0 where
   is_taken : (next : Collected) → Takes job bytes c next → new ≡ files next jobs → FileRead c job jobs bytes new
-  is_refused : (e : Refusal) → e ≢ refusals.Memory → RefusesFile c.schema job bytes c.rows e → new ≡ over e → FileRead c job jobs bytes new
+  is_refused : (e : Refusal) → e ≢ refusals.Memory → RefusesJob c.schema job bytes c.rows e → new ≡ over e → FileRead c job jobs bytes new
 
 -- what an answer leads to, at a snapshot
 abbrev pub After : ℕ → Place → Answer → Place → Type 0
@@ -137,11 +137,23 @@ module _ (laws : FileLaws) where
   one_closed ends.Run c one other is was = is ∙ sym was
   one_closed ends.Group c one other is was = is ∙ sym was
 
-  one_taken : (job : Job) (bytes : List ℕ) (c one other : Collected) → Takes job bytes c one → Takes job bytes c other → one ≡ other
-  one_taken job bytes c one other (rows, (v, opens, follow), closes) (others, (w, opened, followed), closed) =
+  one_kept : (end : JobEnds) (c one other : Collected) → ClosesKept end c one → ClosesKept end c other → one ≡ other
+  one_kept ends.File c one other is was = is ∙ sym was
+  one_kept ends.Run c one other is was = is ∙ sym was
+  one_kept ends.Group c one other is was = is ∙ sym was
+
+  one_rows : (job : Job) (bytes : List ℕ) (c one other : Collected) → TakesRows job bytes c one → TakesRows job bytes c other → one ≡ other
+  one_rows job bytes c one other (rows, (v, opens, follow), closes) (others, (w, opened, followed), closed) =
       let same = one_follow c.schema job bytes c.rows w v others rows None None opened opens followed follow in
-      one_closed job.ends (collected_of c.schema c.groups c.runs (c.rows ++ rows)) one other closes
-      (subst (λ (rows : List Stamped). Closes job.ends (collected_of c.schema c.groups c.runs (c.rows ++ rows)) other) same.0 closed)
+      one_closed job.ends (with_rows (c.rows ++ rows) c) one other closes
+      (subst (λ (rows : List Stamped). Closes job.ends (with_rows (c.rows ++ rows) c) other) same.0 closed)
+
+  one_taken : (job : Job) (bytes : List ℕ) (c one other : Collected) → Takes job bytes c one → Takes job bytes c other → one ≡ other
+  one_taken job bytes c one other took taken = by job.kept took taken
+    where
+      by : (kept : Bool) → TakesWhere kept job bytes c one → TakesWhere kept job bytes c other → one ≡ other
+      by false took taken = one_rows job bytes c one other took taken
+      by true took taken = one_kept job.ends (with_kept bytes c) one other took taken
 
   end_not : (e : Refusal) → ◌≡◌ {A = Option Refusal} None (Some e) → ⊥
   end_not e is = cc
@@ -149,22 +161,37 @@ module _ (laws : FileLaws) where
   one_end_refusal : (e d : Refusal) → ◌≡◌ {A = Option Refusal} (Some e) (Some d) → e ≡ d
   one_end_refusal e d is = cc
 
-  taken_not : (job : Job) (bytes : List ℕ) (c new : Collected) (e : Refusal) → e ≢ refusals.Memory → Takes job bytes c new → RefusesFile c.schema job bytes c.rows e → ⊥
-  taken_not job bytes c new e other (rows, (v, opens, follow), closes) (unopened refuses) =
+  rows_not : (job : Job) (bytes : List ℕ) (c new : Collected) (e : Refusal) → e ≢ refusals.Memory → TakesRows job bytes c new → RefusesFile c.schema job bytes c.rows e → ⊥
+  rows_not job bytes c new e other (rows, (v, opens, follow), closes) (unopened refuses) =
       opened_not c.schema job.schema_id job.path bytes v e other opens (refused_of c.schema job.schema_id job.path bytes e other refuses)
-  taken_not job bytes c new e other (rows, (v, opens, follow), closes) (misread w others opened followed) =
+  rows_not job bytes c new e other (rows, (v, opens, follow), closes) (misread w others opened followed) =
       end_not e (one_follow c.schema job bytes c.rows v w rows others None (Some e) opens opened follow followed).1
 
-  one_refused : (s : TableSchema) (job : Job) (bytes : List ℕ) (before : Run) (e d : Refusal) → e ≢ refusals.Memory → d ≢ refusals.Memory → RefusesFile s job bytes before e
+  taken_not : (job : Job) (bytes : List ℕ) (c new : Collected) (e : Refusal) → e ≢ refusals.Memory → Takes job bytes c new → RefusesJob c.schema job bytes c.rows e → ⊥
+  taken_not job bytes c new e other took refuses = by job.kept took refuses
+    where
+      by : (kept : Bool) → TakesWhere kept job bytes c new → RefusesWhere kept c.schema job bytes c.rows e → ⊥
+      by false took refuses = rows_not job bytes c new e other took refuses
+      by true took refuses = refuses
+
+  one_file_refused : (s : TableSchema) (job : Job) (bytes : List ℕ) (before : Run) (e d : Refusal) → e ≢ refusals.Memory → d ≢ refusals.Memory → RefusesFile s job bytes before e
       → RefusesFile s job bytes before d → e ≡ d
-  one_refused s job bytes before e d other more (unopened refuses) (unopened refused) =
+  one_file_refused s job bytes before e d other more (unopened refuses) (unopened refused) =
       one_unopened s job.schema_id job.path bytes e d other more (refused_of s job.schema_id job.path bytes e other refuses) (refused_of s job.schema_id job.path bytes d more refused)
-  one_refused s job bytes before e d other more (unopened refuses) (misread w others opened followed) =
+  one_file_refused s job bytes before e d other more (unopened refuses) (misread w others opened followed) =
       absurd (opened_not s job.schema_id job.path bytes w e other opened (refused_of s job.schema_id job.path bytes e other refuses))
-  one_refused s job bytes before e d other more (misread v rows opens follow) (unopened refused) =
+  one_file_refused s job bytes before e d other more (misread v rows opens follow) (unopened refused) =
       absurd (opened_not s job.schema_id job.path bytes v d more opens (refused_of s job.schema_id job.path bytes d more refused))
-  one_refused s job bytes before e d other more (misread v rows opens follow) (misread w others opened followed) =
+  one_file_refused s job bytes before e d other more (misread v rows opens follow) (misread w others opened followed) =
       one_end_refusal e d (one_follow s job bytes before v w rows others (Some e) (Some d) opens opened follow followed).1
+
+  one_refused : (s : TableSchema) (job : Job) (bytes : List ℕ) (before : Run) (e d : Refusal) → e ≢ refusals.Memory → d ≢ refusals.Memory → RefusesJob s job bytes before e
+      → RefusesJob s job bytes before d → e ≡ d
+  one_refused s job bytes before e d other more refuses refused = by job.kept refuses refused
+    where
+      by : (kept : Bool) → RefusesWhere kept s job bytes before e → RefusesWhere kept s job bytes before d → e ≡ d
+      by false refuses refused = one_file_refused s job bytes before e d other more refuses refused
+      by true refuses refused = absurd refuses
 
   one_file : (c : Collected) (job : Job) (jobs : List Job) (bytes : List ℕ) (one other : Place) → FileRead c job jobs bytes one → FileRead c job jobs bytes other → one ≡ other
   one_file c job jobs bytes one other (is_taken next took is) (is_taken also taken was) =
@@ -192,7 +219,7 @@ module _ (laws : FileLaws) where
 
 -- where its reader begins
 abbrev pub start : Chosen → Place
-start a = files (nothing_of a.schema) (all_jobs a.schema a.groups)
+start a = files (nothing_of a.schema) (all_wanted a.schema a.groups)
 
 pub have_lead : (id : ℕ) (jobs rest : List Job) (old new : Collected) (own : List Event) → HaveRead jobs old new own → Leads (Goes id) own (files old (jobs ++ rest)) (files new rest)
 have_lead id [] rest old new own (same, none) = led (Goes id) own [] (files old rest) (files new rest) none (ap (λ (c : Collected). files c rest) same)

@@ -1,5 +1,5 @@
 -- What a reader of files knows once it has read one, or found it absent.
-use Rattle.std.proofs.Common.{◌≡◌, ◌⊎◌, inl, inr, ℕ, zero, suc, ◌≤◌, List, [], ◌∷◌, ◌++◌, Option, Some, None, IsSome, refl, sym, ap, subst, ◌∙◌, append_assoc, arith}
+use Rattle.std.proofs.Common.{◌≡◌, Bool, true, false, ◌⊎◌, inl, inr, ℕ, zero, suc, ◌≤◌, List, [], ◌∷◌, ◌++◌, Option, Some, None, IsSome, refl, sym, ap, subst, ◌∙◌, append_assoc, arith}
 use Rattle.std.specs.FinMap as paths
 use Rattle.std.specs.List.{AllByRecursion, AllZip}
 use Rattle.pm_store.specs.Files.{Files}
@@ -8,8 +8,7 @@ use Rattle.pm_values.specs.declared.group.Group.{Group}
 use Rattle.pm_values.specs.declared.record.Stamped.{Stamped}
 use Rattle.pm_schema.specs.declared.schema.TableSchema.{TableSchema}
 use Rattle.pm_model_history.specs.History.{History, IsTableOf, no_table, table}
-use Rattle.pm_engine.specs.Covers.{Run}
-use Rattle.pm_levels.specs.Runs.{RunView}
+use Rattle.pm_levels.specs.Runs.{IsRun, RunView}
 use Rattle.pm_model_folder.specs.Changes.{Actor}
 use Rattle.pm_model_folder.specs.Commits.{Needs}
 use Rattle.pm_model_folder.specs.Ledger.{Advances, IsKnown, KeepsFiles, KnowsPast, Past, Stands}
@@ -17,11 +16,12 @@ use Rattle.pm_model_folder.specs.Meaning.{HasSnapshotAt}
 use Rattle.pm_model_folder.specs.Paths.{snapshot_path}
 use Rattle.pm_model_folder.specs.Stored.{HasRun, HaveFileRows}
 use Rattle.pm_runs.specs.Stand.{StoredRun}
+use Rattle.pm_scan_rows.specs.Group.{GroupRead}
 use Rattle.pm_read_table.specs.Meaning.{HasGone}
 use Rattle.pm_group_files.proofs.KeptLemmas.{Going, goes, known-kept, stood-kept, table-kept}
 use Rattle.pm_group_files.specs.Chosen.{Chosen}
 use Rattle.pm_group_files.specs.Collected.{Collected, HaveTaken, Takes, nothing_of, with_groups}
-use Rattle.pm_group_files.specs.Jobs.{Grouped, all_jobs, file_jobs, run_jobs}
+use Rattle.pm_group_files.specs.Jobs.{Wanted, all_wanted, file_jobs_as, jobs_with, run_jobs_as, wanted_jobs}
 use Rattle.pm_group_files.specs.Meaning.{HasRuns, HasTaken, IsChosen, StoodAt}
 use Rattle.pm_group_files.specs.declared.job.Ends.{Ends}
 use Rattle.pm_group_files.specs.declared.job.Ends.TheVariants as ends
@@ -44,18 +44,27 @@ module _ (f : Files) (s : TableSchema) where
   abbrev pub IsThere : Job → Type 0
   IsThere job = (bytes : List ℕ) × (paths.get f job.path ≡ Some bytes)
 
-  files-there : (g : Group) (end : Ends) (ms : List FileMeta) (rows : List Stamped) → HaveFileRows f s g ms rows → AllByRecursion IsThere (file_jobs s g end ms)
-  files-there g end [] rows have = tt
-  files-there g end (m ∷ []) rows have = ((have.3.bytes, have.3.there), tt)
-  files-there g end (m ∷ n ∷ ms) rows have = ((have.3.bytes, have.3.there), files-there g end (n ∷ ms) have.1 have.4)
+  files-there : (kept : Bool) (g : Group) (end : Ends) (ms : List FileMeta) (rows : List Stamped) → HaveFileRows f s g ms rows → AllByRecursion IsThere (file_jobs_as kept s g end ms)
+  files-there kept g end [] rows have = tt
+  files-there kept g end (m ∷ []) rows have = ((have.3.bytes, have.3.there), tt)
+  files-there kept g end (m ∷ n ∷ ms) rows have = ((have.3.bytes, have.3.there), files-there kept g end (n ∷ ms) have.1 have.4)
 
-  runs-there : (g : Group) (runs : List RunView) (stored : List StoredRun) → AllZip (HasRun f s g) runs stored → AllByRecursion IsThere (run_jobs s g runs)
-  runs-there g [] stored read = tt
-  runs-there g (run ∷ []) [] read = absurd read
-  runs-there g (run ∷ []) (x ∷ xs) read = files-there g ends.Group run.files x.rows read.0.files
-  runs-there g (run ∷ older ∷ runs) [] read = absurd read
-  runs-there g (run ∷ older ∷ runs) (x ∷ xs) read =
-      all-joined IsThere (file_jobs s g ends.Run run.files) (run_jobs s g (older ∷ runs)) (files-there g ends.Run run.files x.rows read.0.files) (runs-there g (older ∷ runs) xs read.1)
+  runs-there : (kept : Bool) (g : Group) (end : Ends) (runs : List RunView) (stored : List StoredRun) → AllZip (HasRun f s g) runs stored → AllByRecursion IsThere (run_jobs_as kept s g end runs)
+  runs-there kept g end [] stored read = tt
+  runs-there kept g end (run ∷ []) [] read = absurd read
+  runs-there kept g end (run ∷ []) (x ∷ xs) read = files-there kept g end run.files x.rows read.0.files
+  runs-there kept g end (run ∷ older ∷ runs) [] read = absurd read
+  runs-there kept g end (run ∷ older ∷ runs) (x ∷ xs) read =
+      all-joined IsThere (file_jobs_as kept s g ends.Run run.files) (run_jobs_as kept s g end (older ∷ runs)) (files-there kept g ends.Run run.files x.rows read.0.files)
+      (runs-there kept g end (older ∷ runs) xs read.1)
+
+  -- those that are read, and those that are kept
+  pub parts-there : (g : Group) (runs kept : List RunView) (stored others : List StoredRun) → AllZip (HasRun f s g) runs stored → AllZip (HasRun f s g) kept others
+      → AllByRecursion IsThere (jobs_with s g runs kept)
+  parts-there g runs [] stored others read older = runs-there false g ends.Group runs stored read
+  parts-there g runs (first ∷ kept) stored others read older =
+      all-joined IsThere (run_jobs_as false s g ends.Run runs) (run_jobs_as true s g ends.Group (first ∷ kept)) (runs-there false g ends.Run runs stored read)
+      (runs-there true g ends.Group (first ∷ kept) others older)
 
 -- ---- each of them is needed, and was there
 
@@ -63,19 +72,19 @@ module _ (p : Past) (s : TableSchema) (id : ℕ) where
   abbrev IsNeeded : Job → Type 0
   IsNeeded job = Needs (p.stood id) s id job.path
 
-  all-needed : (groups : List Grouped) → AllByRecursion (StoodAt p s id) groups → AllByRecursion IsNeeded (all_jobs s groups)
+  all-needed : (groups : List Wanted) → AllByRecursion (StoodAt p s id) groups → AllByRecursion IsNeeded (all_wanted s groups)
   all-needed [] stood = tt
-  all-needed (e ∷ groups) stood = all-joined IsNeeded (run_jobs s e.0 e.1) (all_jobs s groups) stood.0.needed (all-needed groups stood.1)
+  all-needed (w ∷ groups) stood = all-joined IsNeeded (wanted_jobs s w) (all_wanted s groups) stood.0.needed (all-needed groups stood.1)
 
-  all-there : (groups : List Grouped) → AllByRecursion (StoodAt p s id) groups → AllByRecursion (IsThere (p.stood id) s) (all_jobs s groups)
+  all-there : (groups : List Wanted) → AllByRecursion (StoodAt p s id) groups → AllByRecursion (IsThere (p.stood id) s) (all_wanted s groups)
   all-there [] stood = tt
-  all-there (e ∷ groups) stood =
-      all-joined (IsThere (p.stood id) s) (run_jobs s e.0 e.1) (all_jobs s groups)
-      (runs-there (p.stood id) s e.0 e.1 stood.0.runs.stored stood.0.runs.read) (all-there groups stood.1)
+  all-there (w ∷ groups) stood =
+      all-joined (IsThere (p.stood id) s) (wanted_jobs s w) (all_wanted s groups)
+      (parts-there (p.stood id) s w.group w.runs w.kept stood.0.runs.stored stood.0.older.0 stood.0.runs.read stood.0.older.1) (all-there groups stood.1)
 
-  pub all-runs : (groups : List Grouped) → AllByRecursion (StoodAt p s id) groups → AllByRecursion (HasRuns (p.stood id) s) groups
+  pub all-runs : (groups : List Wanted) → AllByRecursion (StoodAt p s id) groups → AllByRecursion (λ (w : Wanted). HasRuns (p.stood id) s (w.group, w.runs) × AllByRecursion IsRun w.kept) groups
   all-runs [] stood = tt
-  all-runs (e ∷ groups) stood = (stood.0.runs, all-runs groups stood.1)
+  all-runs (w ∷ groups) stood = ((stood.0.runs, stood.0.kept), all-runs groups stood.1)
 
 -- ---- a known snapshot's files are kept
 
@@ -142,25 +151,27 @@ module _ (f : Files) (p : Past) (stands : Stands f p) (a : Chosen) (c : Collecte
   }
 
 -- none was read yet
-pub first-taken : (p : Past) (a : Chosen) → IsChosen p a → a.given ≡ [] → HasTaken p a (nothing_of a.schema) (all_jobs a.schema a.groups)
+pub first-taken : (p : Past) (a : Chosen) → IsChosen p a → a.given ≡ [] → HasTaken p a (nothing_of a.schema) (all_wanted a.schema a.groups)
 first-taken p a chosen none = record {
   chosen = chosen;
   done = [];
   parts = refl;
-  taken = ap (λ (given : List (List Run)). with_groups given (nothing_of a.schema)) none;
+  taken = ap (λ (given : List GroupRead). with_groups given (nothing_of a.schema)) none;
   schema = refl;
 }
 
 -- ---- whatever others do
 
 module _ (going : Going) (me : Actor) (f after : Files) (p q : Past) (advances : Advances me f p after q) where
-  stood-still : (s : TableSchema) (id : ℕ) → IsKnown p id → (groups : List Grouped) → AllByRecursion (StoodAt p s id) groups → AllByRecursion (StoodAt q s id) groups
+  stood-still : (s : TableSchema) (id : ℕ) → IsKnown p id → (groups : List Wanted) → AllByRecursion (StoodAt p s id) groups → AllByRecursion (StoodAt q s id) groups
   stood-still s id known [] each = tt
-  stood-still s id known (e ∷ groups) each =
+  stood-still s id known (w ∷ groups) each =
       let same : p.stood id ≡ q.stood id = stood-kept going me f after p q advances id known in (
         record {
-          runs = subst (λ (files : Files). HasRuns files s e) same each.0.runs;
-          needed = subst (λ (files : Files). AllByRecursion (λ (job : Job). Needs files s id job.path) (run_jobs s e.0 e.1)) same each.0.needed;
+          runs = subst (λ (files : Files). HasRuns files s (w.group, w.runs)) same each.0.runs;
+          kept = each.0.kept;
+          older = subst (λ (files : Files). (stored : List StoredRun) × AllZip (HasRun files s w.group) w.kept stored) same each.0.older;
+          needed = subst (λ (files : Files). AllByRecursion (λ (job : Job). Needs files s id job.path) (wanted_jobs s w)) same each.0.needed;
         },
         stood-still s id known groups each.1,
       )

@@ -1,6 +1,5 @@
 -- Rows that rise, runs of them, and groups of runs.
-use Rattle.std.proofs.Common.{◌≡◌, ℕ, Bool, true, false, ◌&&◌, List, [], ◌∷◌, ◌++◌, reverse, Option, None, Some, Vec, refl, sym, ap, ◌∙◌, subst}
-use Rattle.std.specs.Global.{Global}
+use Rattle.std.proofs.Common.{◌≡◌, ℕ, Bool, true, false, ◌&&◌, List, [], ◌∷◌, ◌++◌, reverse, Option, None, Some, refl, sym, ap, ◌∙◌, subst}
 use Rattle.std.specs.List.{All, AllByRecursion}
 use Rattle.std.specs.List.Sorted.{IsStrictlySortedBy}
 use Rattle.std.specs.Ordering.{is_lt}
@@ -15,10 +14,12 @@ use Rattle.pm_values.specs.declared.record.Stamped.{Stamped}
 use Rattle.pm_engine.specs.Covers.{IsRising, Run}
 use Rattle.pm_run.specs.Order.{are_in_order, keys_of, last_key, may_follow}
 use Rattle.pm_schema.specs.declared.schema.TableSchema.{TableSchema}
-use Rattle.pm_scan_rows.specs.Shown.{groups_of}
-use Rattle.pm_group_files.specs.Collected.{Closes, Collected, HasMore, Takes, collected_of}
-use Rattle.pm_group_files.specs.declared.job.Ends.TheVariants as ends
+use Rattle.pm_scan_rows.specs.Group.{GroupRead, read_of, reads_of, runs_read}
+use Rattle.pm_scan_rows.specs.declared.read_group.ReadGroup.{ReadGroup}
+use Rattle.pm_group_files.specs.Collected.{Closes, Collected, HasMore, TakesRows}
+use Rattle.pm_group_files.specs.Collected.{collected_of, group_closed, with_rows}
 use Rattle.pm_group_files.specs.declared.job.Job.{Job}
+use Rattle.pm_group_files.proofs.ReadLemmas.{all-parts}
 use Rattle.pm_group_files.proofs.TakenLemmas.{rising-in_order}
 
 -- ---- rows in order rise
@@ -92,40 +93,49 @@ none_rising = All-from_recursion IsRising [] tt
 
 -- ---- groups
 
-abbrev pub Groups : Type 0
-Groups = List (Vec Run Global)
-
 -- one group more
-groups_push : (groups new : Groups) (runs : Vec Run Global) → new ≡ groups ++ runs ∷ [] → groups_of new ≡ groups_of groups ++ runs.items ∷ []
-groups_push groups new runs is = ap groups_of is ∙ map-append (λ (runs : Vec Run Global). runs.items) groups (runs ∷ [])
+groups_push : (groups new : List ReadGroup) (x : ReadGroup) → new ≡ groups ++ x ∷ [] → reads_of new ≡ reads_of groups ++ read_of x ∷ []
+groups_push groups new x is = ap reads_of is ∙ map-append read_of groups (x ∷ [])
 
-pub all_rising_push : (groups new : Groups) (runs : Vec Run Global) → new ≡ groups ++ runs ∷ [] → All (All IsRising) (groups_of groups) → All IsRising runs.items
-    → All (All IsRising) (groups_of new)
-all_rising_push groups new runs is all rising = subst (All (All IsRising)) (sym (groups_push groups new runs is)) (All-push (All IsRising) (groups_of groups) runs.items all rising)
+runs_push : (groups : List GroupRead) (x : GroupRead) → runs_read (groups ++ x ∷ []) ≡ runs_read groups ++ x.runs ∷ []
+runs_push groups x = map-append (λ (x : GroupRead). x.runs) groups (x ∷ [])
 
-pub no_groups : (groups : Groups) → groups ≡ [] → All (All IsRising) (groups_of groups)
-no_groups groups none = subst (λ (groups : Groups). All (All IsRising) (groups_of groups)) (sym none) (All-from_recursion (All IsRising) [] tt)
+pub all_rising_push : (groups new : List ReadGroup) (x : ReadGroup) → new ≡ groups ++ x ∷ [] → All (All IsRising) (runs_read (reads_of groups)) → All IsRising x.runs.items
+    → All (All IsRising) (runs_read (reads_of new))
+all_rising_push groups new x is all rising =
+    subst (All (All IsRising)) (sym (ap runs_read (groups_push groups new x is) ∙ runs_push (reads_of groups) (read_of x)))
+    (All-push (All IsRising) (runs_read (reads_of groups)) x.runs.items all rising)
 
--- once the run in hand is closed, and the runs of its group are kept, the oldest first
-pub group_closed : (old : Collected) (s : TableSchema) (groups after : Groups) (runs none : List Run) (reversed : Vec Run Global) (rows : Run)
-    → collected_of s (groups_of groups) runs rows ≡ collected_of old.schema old.groups (old.runs ++ old.rows ∷ []) []
-    → reversed.items ≡ reverse runs → after ≡ groups ++ reversed ∷ [] → none ≡ [] → Closes ends.Group old (collected_of s (groups_of after) none rows)
-group_closed old s groups after runs none reversed rows is turned pushed emptied =
-    ap (λ (kept : List (List Run)). collected_of s kept none rows)
-    (groups_push groups after reversed pushed ∙ ap (λ (own : List Run). groups_of groups ++ own ∷ []) turned)
-    ∙ ap (λ (left : List Run). collected_of s (groups_of groups ++ reverse runs ∷ []) left rows) emptied
-    ∙ ap (λ (c : Collected). collected_of c.schema (c.groups ++ reverse c.runs ∷ []) [] c.rows) is
+pub no_groups : (groups : List ReadGroup) → groups ≡ [] → All (All IsRising) (runs_read (reads_of groups))
+no_groups groups none = subst (λ (groups : List ReadGroup). All (All IsRising) (runs_read (reads_of groups))) (sym none) (All-from_recursion (All IsRising) [] tt)
+
+-- once the runs of the group in hand stand with the oldest first, and it is put to the others
+pub group_put : (old : Collected) (s : TableSchema) (groups after : List ReadGroup) (runs left : List Run) (kept files : List (List ℕ)) (rows : Run) (x : ReadGroup)
+    → old ≡ collected_of s (reads_of groups) runs kept rows → x.runs.items ≡ reverse runs → x.kept.items ≡ kept → after ≡ groups ++ x ∷ [] → left ≡ [] → files ≡ []
+    → collected_of s (reads_of after) left files rows ≡ group_closed old
+group_put old s groups after runs left kept files rows x is turned same pushed emptied none =
+    ap (λ (all : List GroupRead). collected_of s all left files rows) (groups_push groups after x pushed)
+    ∙ ap (λ (own : List Run). collected_of s (reads_of groups ++ record { runs = own; kept = x.kept.items } ∷ []) left files rows) turned
+    ∙ ap (λ (own : List (List ℕ)). collected_of s (reads_of groups ++ record { runs = reverse runs; kept = own } ∷ []) left files rows) same
+    ∙ ap (λ (left : List Run). collected_of s (reads_of groups ++ record { runs = reverse runs; kept = kept } ∷ []) left files rows) emptied
+    ∙ ap (λ (files : List (List ℕ)). collected_of s (reads_of groups ++ record { runs = reverse runs; kept = kept } ∷ []) [] files rows) none
+    ∙ ap group_closed (sym is)
+
+-- the runs of the first of groups rise where those of all do
+pub rising_of : (all later : List (List Run)) (seen own : Collected) → seen ≡ own → all ++ later ≡ runs_read own.groups → All (All IsRising) (runs_read seen.groups) → All (All IsRising) all
+rising_of all later seen own is joined rising =
+    let whole : All (All IsRising) (all ++ later) = subst (All (All IsRising)) (ap (λ (c : Collected). runs_read c.groups) is ∙ sym joined) rising in
+    All-from_recursion (All IsRising) all (all-parts (All IsRising) all later (recursion_from_All (All IsRising) (all ++ later) whole)).0
 
 -- ---- a file is taken
 
 -- once its rows were put to those in hand, and what ends with it was closed
-pub takes_from : (job : Job) (bytes : List ℕ) (old new : Collected) (s : TableSchema) (groups : List (List Run)) (runs : List Run) (rows before items : Run)
-    → old ≡ collected_of s groups runs rows → before ≡ rows
-    → ((more : List Stamped) × HasMore s job bytes before more × (items ≡ before ++ more))
-    → Closes job.ends (collected_of s groups runs items) new → Takes job bytes old new
-takes_from job bytes old new s groups runs rows before items is same (more, has, joined) closes =
-    subst (λ (old : Collected). Takes job bytes old new) (sym is) (
+pub rows_from : (job : Job) (bytes : List ℕ) (old new seen : Collected) (before items : Run) → seen ≡ old → before ≡ seen.rows
+    → ((more : List Stamped) × HasMore seen.schema job bytes before more × (items ≡ before ++ more))
+    → Closes job.ends (with_rows items seen) new → TakesRows job bytes old new
+rows_from job bytes old new seen before items is same (more, has, joined) closes =
+    subst (λ (old : Collected). TakesRows job bytes old new) is (
       more,
-      subst (λ (b : Run). HasMore s job bytes b more) same has,
-      subst (λ (r : Run). Closes job.ends (collected_of s groups runs r) new) (joined ∙ ap (λ (b : Run). b ++ more) same) closes,
+      subst (λ (b : Run). HasMore seen.schema job bytes b more) same has,
+      subst (λ (rows : Run). Closes job.ends (with_rows rows seen) new) (joined ∙ ap (λ (b : Run). b ++ more) same) closes,
     )

@@ -1,7 +1,7 @@
 -- The calls of a reader of files: they change nothing, and what they say of the files that each answer is of.
-use Rattle.std.proofs.Common.{◌≡◌, ◌≢◌, inl, inr, ℕ, List, [], ◌∷◌, ◌++◌, Option, None, Some, IfSome, sym, ap, subst, ◌∙◌}
+use Rattle.std.proofs.Common.{◌≡◌, ◌≢◌, inl, inr, ℕ, List, [], ◌∷◌, ◌++◌, Option, None, Some, IfSome, refl, sym, subst}
 use Rattle.std.specs.FinMap as map
-use Rattle.std.specs.List.{AllByRecursion}
+use Rattle.std.specs.List.{AllByRecursion, AllZip}
 use Rattle.pm_base.proofs.Laws.{AllByRecursion-push}
 use Rattle.pm_values.specs.declared.refusal.Refusal.{Refusal}
 use Rattle.pm_values.specs.declared.refusal.Refusal.TheVariants as refusals
@@ -9,22 +9,25 @@ use Rattle.pm_store.specs.Files.{Files}
 use Rattle.pm_machine.specs.Trace.{Event}
 use Rattle.pm_machine.proofs.PhaseFacts.{Spares}
 use Rattle.pm_schema.specs.declared.schema.TableSchema.{TableSchema}
-use Rattle.pm_model_contents.specs.Runs.{data_path}
+use Rattle.pm_levels.specs.Runs.{IsRun}
+use Rattle.pm_runs.specs.Stand.{StoredRun}
 use Rattle.pm_model_folder.specs.Paths.{snapshot_path}
+use Rattle.pm_model_folder.specs.Stored.{HasRun}
 use Rattle.pm_read_schema.proofs.AllCallsLemmas.{read_still}
 use Rattle.pm_read_schema.proofs.StillLemmas.{AreStill, AreTold, IsStill, ended_still, failed_still, told_last}
 use Rattle.pm_read_table.specs.Trace.{read_file}
 use Rattle.pm_group_files.specs.Chosen.{Chosen}
-use Rattle.pm_group_files.specs.Collected.{Collected, HaveTaken, RefusesFile, nothing_of, with_groups}
-use Rattle.pm_group_files.specs.Jobs.{job_of}
+use Rattle.pm_group_files.specs.Collected.{Collected, HaveTaken, RefusesJob, nothing_of, with_groups}
+use Rattle.pm_group_files.specs.Jobs.{Grouped, Wanted, all_wanted, wanted_jobs, whole_groups}
 use Rattle.pm_group_files.specs.Meaning.{HasRuns}
 use Rattle.pm_group_files.specs.Reader.{next_call}
 use Rattle.pm_group_files.specs.Trace.{HaveRead, HasPart, FindsNext, LacksFile, ReadsAgain, DidSoFar, MayTakeMemory, Misreads, IsDamaged, Shows}
 use Rattle.pm_group_files.specs.declared.job.Job.{Job}
 use Rattle.pm_group_files.specs.declared.phase.Phase.{Phase}
 use Rattle.pm_group_files.specs.declared.phase.Phase.TheVariants as phases
-use Rattle.pm_group_files.proofs.NextLemmas.{FollowsOn, next-group}
-use Rattle.pm_group_files.proofs.TakenLemmas.{RowLaws, file-refused, taken-schema}
+use Rattle.pm_group_files.proofs.NextLemmas.{next-refused}
+use Rattle.pm_group_files.proofs.ReadLemmas.{IsThere, all-joined, all-parts, parts-there}
+use Rattle.pm_group_files.proofs.TakenLemmas.{RowLaws, taken-schema}
 
 -- ---- they change nothing
 
@@ -97,36 +100,53 @@ module _ (f : Files) (a : Chosen) where
       → HaveTaken f part.done (nothing_of a.schema) (with_groups a.given c)
   taken_at c rest own part told = files_at part.done (nothing_of a.schema) (with_groups a.given c) own part.read told
 
-module _ (laws : RowLaws) (f : Files) (a : Chosen) (have : AllByRecursion (HasRuns f a.schema) a.groups) where
-  -- the next file is there
-  follows_at : (c : Collected) (job : Job) (rest : List Job) (found : Option (List ℕ)) (own : List Event) → FindsNext a c job rest found own → AreTold f own
-      → (c.schema ≡ a.schema) × FollowsOn f a.schema job (with_groups a.given c) × (found ≡ map.get f job.path)
-  follows_at c job rest found own (earlier, part, is) told =
-      let parts = told_last f earlier (read_file job.path found) (subst (AreTold f) is told) in
-      let taken = taken_at f a c (job ∷ rest) earlier part parts.0 in (
-        taken-schema f part.done (nothing_of a.schema) (with_groups a.given c) taken,
-        next-group laws f a.schema a.groups [] part.done job rest (with_groups a.given c) have part.parts taken,
-        parts.1,
-      )
+-- a group is there of which this is wanted: the runs that are read, and the older ones whose files are kept
+pub record HasWanted (f : Files) (s : TableSchema) (w : Wanted) : Type 0 where
+  pub runs : HasRuns f s (w.group, w.runs)
+  pub kept : AllByRecursion IsRun w.kept
+  pub older : (stored : List StoredRun) × AllZip (HasRun f s w.group) w.kept stored
 
+-- one of which all is read is, where its runs are
+pub whole-wanted : (f : Files) (s : TableSchema) (groups : List Grouped) → AllByRecursion (HasRuns f s) groups → AllByRecursion (HasWanted f s) (whole_groups groups)
+whole-wanted f s [] have = tt
+whole-wanted f s (e ∷ groups) have = (record { runs = have.0; kept = tt; older = ([], tt) }, whole-wanted f s groups have.1)
+
+wanted-there : (f : Files) (s : TableSchema) (groups : List Wanted) → AllByRecursion (HasWanted f s) groups → AllByRecursion (IsThere f s) (all_wanted s groups)
+wanted-there f s [] have = tt
+wanted-there f s (w ∷ groups) have =
+    all-joined (IsThere f s) (wanted_jobs s w) (all_wanted s groups)
+    (parts-there f s w.group w.runs w.kept have.0.runs.stored have.0.older.0 have.0.runs.read have.0.older.1) (wanted-there f s groups have.1)
+
+wanted-runs : (f : Files) (s : TableSchema) (groups : List Wanted) → AllByRecursion (HasWanted f s) groups
+    → AllByRecursion (λ (w : Wanted). HasRuns f s (w.group, w.runs) × AllByRecursion IsRun w.kept) groups
+wanted-runs f s [] have = tt
+wanted-runs f s (w ∷ groups) have = ((have.0.runs, have.0.kept), wanted-runs f s groups have.1)
+
+module _ (laws : RowLaws) (f : Files) (a : Chosen) (have : AllByRecursion (HasWanted f a.schema) a.groups) where
+  -- the next file is there
   lacks_at : (id : ℕ) (path : List ℕ) (own : List Event) → LacksFile a id path own → AreTold f own → ⊥
-  lacks_at id path own lacks told =
-      let got = follows_at lacks.collected lacks.job lacks.rest None own lacks.absent told in
-      let n = got.1 in
-      some_gone (map.get f (data_path a.schema n.group n.file.name)) n.has.bytes n.has.there (got.2 ∙ ap (λ (job : Job). map.get f job.path) n.is)
+  lacks_at id path own lacks told = by lacks.absent
+    where
+      by : FindsNext a lacks.collected lacks.job lacks.rest None own → ⊥
+      by (earlier, part, is) =
+          let parts = told_last f earlier (read_file lacks.job.path None) (subst (AreTold f) is told) in
+          let all = subst (AllByRecursion (IsThere f a.schema)) part.parts (wanted-there f a.schema a.groups have) in
+          let there = (all-parts (IsThere f a.schema) part.done (lacks.job ∷ lacks.rest) all).1.0 in
+          some_gone (map.get f lacks.job.path) there.0 there.1 parts.1
 
   pub again_at : (id : ℕ) (path : List ℕ) (found : Option (List ℕ)) (own : List Event) → ReadsAgain a id path found own → AreTold f own → ⊥
   again_at id path found own (earlier, lacks, is) told =
       lacks_at id path earlier lacks (told_last f earlier (read_file (snapshot_path id) found) (subst (AreTold f) is told)).0
 
+  -- and is refused for memory alone
   pub misreads_at : (refusal : Refusal) (own : List Event) → refusal ≢ refusals.Memory → Misreads a refusal own → AreTold f own → ⊥
-  misreads_at refusal own other (c, job, rest, bytes, refuses, finds) told =
-      let got = follows_at c job rest (Some bytes) own finds told in
-      let n = got.1 in
-      let of_table : RefusesFile a.schema job bytes c.rows refusal = subst (λ (t : TableSchema). RefusesFile t job bytes c.rows refusal) got.0 refuses in
-      let of_file : RefusesFile a.schema (job_of a.schema n.group n.end n.file) bytes c.rows refusal = subst (λ (j : Job). RefusesFile a.schema j bytes c.rows refusal) n.is of_table in
-      other (file-refused laws f a.schema n.group n.file n.own n.end bytes c.rows refusal n.has
-      (sym (got.2 ∙ ap (λ (job : Job). map.get f job.path) n.is)) n.rising of_file)
+  misreads_at refusal own other (c, job, rest, bytes, refuses, (earlier, part, is)) told =
+      let parts = told_last f earlier (read_file job.path (Some bytes)) (subst (AreTold f) is told) in
+      let taken = taken_at f a c (job ∷ rest) earlier part parts.0 in
+      let same = taken-schema f part.done (nothing_of a.schema) (with_groups a.given c) taken in
+      other (next-refused laws f a.schema a.groups (nothing_of a.schema) part.done job rest (with_groups a.given c) bytes refusal
+      (record { schema = refl; runs = refl; kept = refl; rows = refl }) (wanted-runs f a.schema a.groups have) part.parts taken (sym parts.1)
+      (subst (λ (s : TableSchema). RefusesJob s job bytes c.rows refusal) same refuses))
 
   pub damaged_at : (path : List ℕ) (place : ℕ) (own : List Event) → IsDamaged a path place own → AreTold f own → ⊥
   damaged_at path place own (inl (zero, id, bytes, again)) told = again_at id path (Some bytes) own again told

@@ -5,6 +5,7 @@ use Rattle.std.specs.List.{AllByRecursion, AllZip}
 use Rattle.std.specs.List.Sorted.{IsStrictlySortedBy}
 use Rattle.std.specs.Ordering.{is_lt}
 use Rattle.std.proofs.lemmas.Bool.{and_parts}
+use Rattle.std.proofs.lemmas.List.{map-append}
 use Rattle.pm_store.specs.Files.{Files}
 use Rattle.pm_values.specs.Order.{Values, key_cmp}
 use Rattle.pm_values.specs.declared.file_meta.FileMeta.{FileMeta}
@@ -14,7 +15,8 @@ use Rattle.pm_values.specs.declared.refusal.Refusal.{Refusal}
 use Rattle.pm_values.specs.declared.refusal.Refusal.TheVariants.{Memory}
 use Rattle.pm_schema.specs.declared.schema.TableSchema.{TableSchema}
 use Rattle.pm_engine.specs.Covers.{Run}
-use Rattle.pm_levels.specs.Runs.{IsRun, RunView}
+use Rattle.pm_levels.specs.Runs.{IsRun, RunView, files_of}
+use Rattle.pm_scan_rows.specs.Group.{GroupRead, runs_read}
 use Rattle.pm_model_contents.specs.Runs.{data_path}
 use Rattle.pm_run.specs.Order.{are_in_order, keys_of, last_key, may_follow}
 use Rattle.pm_run.specs.Reader.{OpensRun, RunView as ReaderView, StillGives, before_first}
@@ -22,12 +24,19 @@ use Rattle.pm_run.specs.Rows.{Follow, HasRows, Opened, opened_with}
 use Rattle.pm_run.specs.Writing.{AreRising}
 use Rattle.pm_model_folder.specs.Stored.{HasFile, HasRun, HaveFileRows}
 use Rattle.pm_runs.specs.Stand.{StoredRun}
-use Rattle.pm_group_files.specs.Collected.{Closes, Collected, HasMore, HaveTaken, RefusesFile, Takes, collected_of, misread, unopened, with_groups}
-use Rattle.pm_group_files.specs.Jobs.{Grouped, all_jobs, file_jobs, job_of, run_jobs}
-use Rattle.pm_group_files.specs.Meaning.{HasRuns}
+use Rattle.pm_group_files.specs.Collected.{Closes, ClosesKept, Collected, HasMore, HaveTaken, RefusesFile, Takes, TakesWhere, collected_of, group_closed, misread, run_closed, unopened}
+use Rattle.pm_group_files.specs.Collected.{with_groups, with_kept, with_rows}
+use Rattle.pm_group_files.specs.Jobs.{Grouped, Wanted, all_wanted, file_jobs, file_jobs_as, job_of, jobs_with, run_jobs, run_jobs_as, wanted_jobs, whole_groups}
+use Rattle.pm_group_files.specs.Meaning.{HasRuns, HaveBytes, IsReadAs}
 use Rattle.pm_group_files.specs.declared.job.Ends.{Ends}
 use Rattle.pm_group_files.specs.declared.job.Ends.TheVariants as ends
 use Rattle.pm_group_files.specs.declared.job.Job.{Job}
+
+AllZip-append : {A B : Type 0} (R : A → B → Type 0) (xs us : List A) (ys vs : List B) → AllZip R xs ys → AllZip R us vs → AllZip R (xs ++ us) (ys ++ vs)
+AllZip-append R [] us [] vs first then = then
+AllZip-append R [] us (y ∷ ys) vs first then = absurd first
+AllZip-append R (x ∷ xs) us [] vs first then = absurd first
+AllZip-append R (x ∷ xs) us (y ∷ ys) vs first then = (first.0, AllZip-append R xs us ys vs first.1 then)
 
 -- ---- the laws of the crates below
 
@@ -61,13 +70,22 @@ pub taken-more : (f : Files) (done : List Job) (job : Job) (bytes : List ℕ) (o
 taken-more f done job bytes old middle new taken there takes = taken-join f done (job ∷ []) old middle new taken (bytes, new, there, takes, refl)
 
 -- what is collected is of one schema
-closed-schema : (end : Ends) (s : TableSchema) (kept : List (List Run)) (runs : List Run) (rows : Run) (new : Collected) → Closes end (collected_of s kept runs rows) new → new.schema ≡ s
-closed-schema ends.File s kept runs rows new closes = ap (λ (c : Collected). c.schema) closes
-closed-schema ends.Run s kept runs rows new closes = ap (λ (c : Collected). c.schema) closes
-closed-schema ends.Group s kept runs rows new closes = ap (λ (c : Collected). c.schema) closes
+closed-schema : (end : Ends) (old new : Collected) → Closes end old new → new.schema ≡ old.schema
+closed-schema ends.File old new closes = ap (λ (c : Collected). c.schema) closes
+closed-schema ends.Run old new closes = ap (λ (c : Collected). c.schema) closes
+closed-schema ends.Group old new closes = ap (λ (c : Collected). c.schema) closes
+
+kept-schema : (end : Ends) (old new : Collected) → ClosesKept end old new → new.schema ≡ old.schema
+kept-schema ends.File old new closes = ap (λ (c : Collected). c.schema) closes
+kept-schema ends.Run old new closes = ap (λ (c : Collected). c.schema) closes
+kept-schema ends.Group old new closes = ap (λ (c : Collected). c.schema) closes
 
 pub takes-schema : (job : Job) (bytes : List ℕ) (old new : Collected) → Takes job bytes old new → new.schema ≡ old.schema
-takes-schema job bytes old new takes = closed-schema job.ends old.schema old.groups old.runs (old.rows ++ takes.0) new takes.2
+takes-schema job bytes old new takes = by job.kept takes
+  where
+    by : (kept : Bool) → TakesWhere kept job bytes old new → new.schema ≡ old.schema
+    by false (more, has, closes) = closed-schema job.ends (with_rows (old.rows ++ more) old) new closes
+    by true closes = kept-schema job.ends (with_kept bytes old) new closes
 
 pub taken-schema : (f : Files) (jobs : List Job) (old new : Collected) → HaveTaken f jobs old new → new.schema ≡ old.schema
 taken-schema f [] old new taken = ap (λ (c : Collected). c.schema) taken
@@ -75,19 +93,29 @@ taken-schema f (job ∷ jobs) old new taken = taken-schema f jobs taken.1 new ta
 
 -- ---- after groups that were handed out
 
-closed-after : (given : List (List Run)) (end : Ends) (s : TableSchema) (kept : List (List Run)) (runs : List Run) (rows : Run) (new : Collected)
-    → Closes end (collected_of s kept runs rows) new → Closes end (collected_of s (given ++ kept) runs rows) (with_groups given new)
-closed-after given ends.File s kept runs rows new closes = ap (with_groups given) closes
-closed-after given ends.Run s kept runs rows new closes = ap (with_groups given) closes
-closed-after given ends.Group s kept runs rows new closes =
-    ap (with_groups given) closes
-    ∙ ap (λ (groups : List (List Run)). collected_of s groups [] []) (sym (append_assoc given kept (reverse (runs ++ rows ∷ []) ∷ [])))
+group-after : (given : List GroupRead) (c : Collected) → with_groups given (group_closed c) ≡ group_closed (with_groups given c)
+group-after given c =
+    ap (λ (groups : List GroupRead). record (group_closed c) { groups = groups })
+    (sym (append_assoc given c.groups (record { runs = reverse c.runs; kept = c.kept } ∷ [])))
+
+closed-after : (given : List GroupRead) (end : Ends) (old new : Collected) → Closes end old new → Closes end (with_groups given old) (with_groups given new)
+closed-after given ends.File old new closes = ap (with_groups given) closes
+closed-after given ends.Run old new closes = ap (with_groups given) closes
+closed-after given ends.Group old new closes = ap (with_groups given) closes ∙ group-after given (run_closed old)
+
+kept-after : (given : List GroupRead) (end : Ends) (old new : Collected) → ClosesKept end old new → ClosesKept end (with_groups given old) (with_groups given new)
+kept-after given ends.File old new closes = ap (with_groups given) closes
+kept-after given ends.Run old new closes = ap (with_groups given) closes
+kept-after given ends.Group old new closes = ap (with_groups given) closes ∙ group-after given old
 
 -- a file makes the same of what was collected after them
-pub takes-after : (given : List (List Run)) (job : Job) (bytes : List ℕ) (old new : Collected) → Takes job bytes old new
+pub takes-after : (given : List GroupRead) (job : Job) (bytes : List ℕ) (old new : Collected) → Takes job bytes old new
     → Takes job bytes (with_groups given old) (with_groups given new)
-takes-after given job bytes old new (more, has, closes) =
-    (more, has, closed-after given job.ends old.schema old.groups old.runs (old.rows ++ more) new closes)
+takes-after given job bytes old new takes = by job.kept takes
+  where
+    by : (kept : Bool) → TakesWhere kept job bytes old new → TakesWhere kept job bytes (with_groups given old) (with_groups given new)
+    by false (more, has, closes) = (more, has, closed-after given job.ends (with_rows (old.rows ++ more) old) new closes)
+    by true closes = kept-after given job.ends (with_kept bytes old) new closes
 
 -- ---- rows after others
 
@@ -172,79 +200,199 @@ module _ (laws : RowLaws) (f : Files) (s : TableSchema) (g : Group) where
       cc
 
   -- so its rows are put to those before it
-  pub file-taken : (m : FileMeta) (own : List Stamped) (end : Ends) (bytes : List ℕ) (kept : List (List Run)) (runs : List Run) (before : Run) (new : Collected) → HasFile f s false g m own
-      → paths.get f (data_path s g m.name) ≡ Some bytes → Takes (job_of s g end m) bytes (collected_of s kept runs before) new → Closes end (collected_of s kept runs (before ++ own)) new
-  file-taken m own end bytes kept runs before new has there takes =
-      subst (λ rows. Closes end (collected_of s kept runs (before ++ rows)) new) (more-own m own end bytes before takes.0 has there takes.1) takes.2
+  pub file-taken : (m : FileMeta) (own : List Stamped) (end : Ends) (bytes : List ℕ) (c : Collected) (new : Collected) → c.schema ≡ s → HasFile f s false g m own
+      → paths.get f (data_path s g m.name) ≡ Some bytes → Takes (job_of s g end m) bytes c new → Closes end (with_rows (c.rows ++ own) c) new
+  file-taken m own end bytes c new same has there (more, is, closes) =
+      let read : HasMore s (job_of s g end m) bytes c.rows more = subst (λ (t : TableSchema). HasMore t (job_of s g end m) bytes c.rows more) same is in
+      subst (λ (rows : List Stamped). Closes end (with_rows (c.rows ++ rows) c) new) (more-own m own end bytes c.rows more has there read) closes
 
   -- ---- a run
 
-  files-taken : (m : FileMeta) (ms : List FileMeta) (rows : List Stamped) (end : Ends) (kept : List (List Run)) (runs : List Run) (before : Run) (new : Collected) → HaveFileRows f s g (m ∷ ms) rows
-      → HaveTaken f (file_jobs s g end (m ∷ ms)) (collected_of s kept runs before) new → Closes end (collected_of s kept runs (before ++ rows)) new
-  files-taken m [] rows end kept runs before new have taken =
+  files-taken : (m : FileMeta) (ms : List FileMeta) (rows : List Stamped) (end : Ends) (c new : Collected) → c.schema ≡ s → HaveFileRows f s g (m ∷ ms) rows
+      → HaveTaken f (file_jobs s g end (m ∷ ms)) c new → Closes end (with_rows (c.rows ++ rows) c) new
+  files-taken m [] rows end c new same have taken =
       let whole : have.0 ≡ rows = sym (have.2 ∙ ap (λ l. have.0 ++ l) have.4 ∙ append-nil have.0) in
-      let closes = file-taken m have.0 end taken.0 kept runs before taken.1 have.3 taken.2 taken.3 in
-      subst (λ r. Closes end (collected_of s kept runs (before ++ r)) new) whole (subst (λ c. Closes end (collected_of s kept runs (before ++ have.0)) c) (sym taken.4) closes)
-  files-taken m (n ∷ ms) rows end kept runs before new have taken =
-      let closes : taken.1 ≡ collected_of s kept runs (before ++ have.0) = file-taken m have.0 ends.File taken.0 kept runs before taken.1 have.3 taken.2 taken.3 in
-      let rest : HaveTaken f (file_jobs s g end (n ∷ ms)) (collected_of s kept runs (before ++ have.0)) new = subst (λ c. HaveTaken f (file_jobs s g end (n ∷ ms)) c new) closes taken.4 in
-      let later = files-taken n ms have.1 end kept runs (before ++ have.0) new have.4 rest in
-      subst (λ r. Closes end (collected_of s kept runs r) new) (append_assoc before have.0 have.1 ∙ ap (λ r. before ++ r) (sym have.2)) later
+      let closes = file-taken m have.0 end taken.0 c taken.1 same have.3 taken.2 taken.3 in
+      subst (λ r. Closes end (with_rows (c.rows ++ r) c) new) whole (subst (λ d. Closes end (with_rows (c.rows ++ have.0) c) d) (sym taken.4) closes)
+  files-taken m (n ∷ ms) rows end c new same have taken =
+      let here : taken.1 ≡ with_rows (c.rows ++ have.0) c = file-taken m have.0 ends.File taken.0 c taken.1 same have.3 taken.2 taken.3 in
+      let rest : HaveTaken f (file_jobs s g end (n ∷ ms)) (with_rows (c.rows ++ have.0) c) new = subst (λ d. HaveTaken f (file_jobs s g end (n ∷ ms)) d new) here taken.4 in
+      let later = files-taken n ms have.1 end (with_rows (c.rows ++ have.0) c) new same have.4 rest in
+      subst (λ r. Closes end (with_rows r c) new) (append_assoc c.rows have.0 have.1 ∙ ap (λ r. c.rows ++ r) (sym have.2)) later
 
-  -- a run has a file, so it is taken whole, and closed
-  pub run-taken : (files : List FileMeta) (rows : List Stamped) (end : Ends) (kept : List (List Run)) (runs : List Run) (new : Collected) → 0 < length files → HaveFileRows f s g files rows
-      → HaveTaken f (file_jobs s g end files) (collected_of s kept runs []) new → Closes end (collected_of s kept runs rows) new
-  run-taken [] rows end kept runs new some have taken = let no : 0 < 0 = some in let never : ⊥ = omega arith in absurd never
-  run-taken (m ∷ ms) rows end kept runs new some have taken = files-taken m ms rows end kept runs [] new have taken
+  pub run-taken : (files : List FileMeta) (rows : List Stamped) (end : Ends) (c new : Collected) → c.schema ≡ s → 0 < length files → HaveFileRows f s g files rows
+      → HaveTaken f (file_jobs s g end files) c new → Closes end (with_rows (c.rows ++ rows) c) new
+  run-taken [] rows end c new same some have taken = let no : 0 < 0 = some in let never : ⊥ = omega arith in absurd never
+  run-taken (m ∷ ms) rows end c new same some have taken = files-taken m ms rows end c new same have taken
 
-  -- ---- a group
+  -- ---- runs that are read
 
   abbrev rows_of : List StoredRun → List Run
   rows_of stored = map (λ (r : StoredRun). r.rows) stored
 
-  -- a group was read whole: its runs are kept, the oldest first
-  pub group-taken : (run : RunView) (older : List RunView) (stored : List StoredRun) (kept : List (List Run)) (done : List Run) (new : Collected) → AllByRecursion IsRun (run ∷ older)
-      → AllZip (HasRun f s g) (run ∷ older) stored → HaveTaken f (run_jobs s g (run ∷ older)) (collected_of s kept done []) new
-      → new ≡ collected_of s (kept ++ reverse (done ++ rows_of stored) ∷ []) [] []
-  group-taken run [] [] kept done new each read taken = absurd read
-  group-taken run [] (x ∷ []) kept done new each read taken = run-taken run.files x.rows ends.Group kept done new each.0.some read.0.files taken
-  group-taken run [] (x ∷ y ∷ xs) kept done new each read taken = absurd read.1
-  group-taken run (next ∷ older) [] kept done new each read taken = absurd read
-  group-taken run (next ∷ older) (x ∷ xs) kept done new each read taken =
-      let parts = taken-split f (file_jobs s g ends.Run run.files) (run_jobs s g (next ∷ older)) (collected_of s kept done []) new taken in
-      let closes : parts.0 ≡ collected_of s kept (done ++ x.rows ∷ []) [] = run-taken run.files x.rows ends.Run kept done parts.0 each.0.some read.0.files parts.1 in
-      let rest : HaveTaken f (run_jobs s g (next ∷ older)) (collected_of s kept (done ++ x.rows ∷ []) []) new = subst (λ c. HaveTaken f (run_jobs s g (next ∷ older)) c new) closes parts.2 in
-      let later = group-taken next older xs kept (done ++ x.rows ∷ []) new each.1 read.1 rest in
-      later ∙ ap (λ (runs : List Run). collected_of s (kept ++ reverse runs ∷ []) [] []) (append_assoc done (x.rows ∷ []) (rows_of xs))
+  -- with these runs more, and no run in hand
+  abbrev with_runs : List Run → Collected → Collected
+  with_runs runs c = record c { runs = c.runs ++ runs; rows = [] }
+
+  -- with the last of them this ends: the run, or with it the group
+  abbrev AfterRuns : Ends → List Run → Collected → Collected → Type 0
+  AfterRuns ends.File runs c new = ⊥
+  AfterRuns ends.Run runs c new = new ≡ with_runs runs c
+  AfterRuns ends.Group runs c new = new ≡ group_closed (with_runs runs c)
+
+  after-more : (end : Ends) (run : Run) (runs : List Run) (c new : Collected) → AfterRuns end runs (with_runs (run ∷ []) c) new → AfterRuns end (run ∷ runs) c new
+  after-more ends.File run runs c new after = after
+  after-more ends.Run run runs c new after =
+      after ∙ ap (λ (all : List Run). record c { runs = all; rows = [] }) (append_assoc c.runs (run ∷ []) runs)
+  after-more ends.Group run runs c new after =
+      after ∙ ap (λ (all : List Run). group_closed (record c { runs = all; rows = [] })) (append_assoc c.runs (run ∷ []) runs)
+
+  -- the last run closes what ends with it
+  last-run : (end : Ends) (run : Run) (c new : Collected) → (end ≡ ends.File → ⊥) → c.rows ≡ [] → Closes end (with_rows (c.rows ++ run) c) new → AfterRuns end (run ∷ []) c new
+  last-run ends.File run c new more none closes = absurd (more refl)
+  last-run ends.Run run c new more none closes = closes ∙ ap (λ (rows : Run). record c { runs = c.runs ++ (rows ++ run) ∷ []; rows = [] }) none
+  last-run ends.Group run c new more none closes =
+      closes ∙ ap (λ (rows : Run). group_closed (record c { runs = c.runs ++ (rows ++ run) ∷ []; rows = [] })) none
+
+  pub runs-taken : (run : RunView) (older : List RunView) (stored : List StoredRun) (end : Ends) (c new : Collected) → (end ≡ ends.File → ⊥) → c.schema ≡ s → c.rows ≡ []
+      → AllByRecursion IsRun (run ∷ older) → AllZip (HasRun f s g) (run ∷ older) stored → HaveTaken f (run_jobs_as false s g end (run ∷ older)) c new
+      → AfterRuns end (rows_of stored) c new
+  runs-taken run [] [] end c new more same none each read taken = absurd read
+  runs-taken run [] (x ∷ []) end c new more same none each read taken =
+      last-run end x.rows c new more none (run-taken run.files x.rows end c new same each.0.some read.0.files taken)
+  runs-taken run [] (x ∷ y ∷ xs) end c new more same none each read taken = absurd read.1
+  runs-taken run (next ∷ older) [] end c new more same none each read taken = absurd read
+  runs-taken run (next ∷ older) (x ∷ xs) end c new more same none each read taken =
+      let parts = taken-split f (file_jobs s g ends.Run run.files) (run_jobs_as false s g end (next ∷ older)) c new taken in
+      let here : parts.0 ≡ with_runs (x.rows ∷ []) c =
+      last-run ends.Run x.rows c parts.0 (λ e. let clash : ends.Run ≡ ends.File = e in cc) none (run-taken run.files x.rows ends.Run c parts.0 same each.0.some read.0.files parts.1) in
+      let rest = subst (λ d. HaveTaken f (run_jobs_as false s g end (next ∷ older)) d new) here parts.2 in
+      after-more end x.rows (rows_of xs) c new
+      (runs-taken next older xs end (with_runs (x.rows ∷ []) c) new more same refl each.1 read.1 rest)
+
+  -- ---- files that are kept
+
+  kept-files : (m : FileMeta) (ms : List FileMeta) (end : Ends) (c new : Collected) → HaveTaken f (file_jobs_as true s g end (m ∷ ms)) c new
+      → (bytes : List (List ℕ)) × HaveBytes f s g (m ∷ ms) bytes × ClosesKept end (record c { kept = c.kept ++ bytes }) new
+  kept-files m [] end c new (bytes, middle, there, takes, rest) =
+      (bytes ∷ [], (there, tt), subst (λ d. ClosesKept end (with_kept bytes c) d) (sym rest) takes)
+  kept-files m (n ∷ ms) end c new (bytes, middle, there, takes, rest) =
+      let next = subst (λ d. HaveTaken f (file_jobs_as true s g end (n ∷ ms)) d new) takes rest in
+      let (later, have, closes) = kept-files n ms end (with_kept bytes c) new next in (
+        bytes ∷ later,
+        (there, have),
+        subst (λ (kept : List (List ℕ)). ClosesKept end (record c { kept = kept }) new) (append_assoc c.kept (bytes ∷ []) later) closes,
+      )
+
+  -- of runs that have files
+  kept-run : (files : List FileMeta) (end : Ends) (c new : Collected) → 0 < length files → HaveTaken f (file_jobs_as true s g end files) c new
+      → (bytes : List (List ℕ)) × HaveBytes f s g files bytes × ClosesKept end (record c { kept = c.kept ++ bytes }) new
+  kept-run [] end c new some taken = let no : 0 < 0 = some in let never : ⊥ = omega arith in absurd never
+  kept-run (m ∷ ms) end c new some taken = kept-files m ms end c new taken
+
+  pub kept-taken : (run : RunView) (older : List RunView) (end : Ends) (c new : Collected) → AllByRecursion IsRun (run ∷ older)
+      → HaveTaken f (run_jobs_as true s g end (run ∷ older)) c new
+      → (bytes : List (List ℕ)) × HaveBytes f s g (files_of (run ∷ older)) bytes × ClosesKept end (record c { kept = c.kept ++ bytes }) new
+  kept-taken run [] end c new each taken =
+      let (bytes, have, closes) = kept-run run.files end c new each.0.some taken in
+      (bytes, subst (λ (ms : List FileMeta). HaveBytes f s g ms bytes) (sym (append-nil run.files)) have, closes)
+  kept-taken run (next ∷ older) end c new each taken =
+      let parts = taken-split f (file_jobs_as true s g ends.Run run.files) (run_jobs_as true s g end (next ∷ older)) c new taken in
+      let (first, have, closes) = kept-run run.files ends.Run c parts.0 each.0.some parts.1 in
+      let rest = subst (λ d. HaveTaken f (run_jobs_as true s g end (next ∷ older)) d new) closes parts.2 in
+      let (last, later, ended) = kept-taken next older end (record c { kept = c.kept ++ first }) new each.1 rest in (
+        first ++ last,
+        AllZip-append (λ (m : FileMeta) (bytes : List ℕ). paths.get f (data_path s g m.name) ≡ Some bytes) run.files (files_of (next ∷ older)) first last have later,
+        subst (λ (kept : List (List ℕ)). ClosesKept end (record c { kept = kept }) new) (append_assoc c.kept first last) ended,
+      )
 
 -- ---- groups
 
--- the stored runs of a group, the oldest first
-abbrev pub stored_runs : (f : Files) (s : TableSchema) (e : Grouped) → HasRuns f s e → List Run
-stored_runs f s e has = reverse (map (λ (r : StoredRun). r.rows) has.stored)
+-- a group is whole, of which this was read
+abbrev pub IsWholeAs : Files → TableSchema → Wanted → Collected → Collected → Type 0
+IsWholeAs f s w old new = (x : GroupRead) × IsReadAs f s w x × (new ≡ record old { groups = old.groups ++ x ∷ [] })
 
--- those of each of these groups
-unfoldable pub all_stored : (f : Files) (s : TableSchema) (groups : List Grouped) → AllByRecursion (HasRuns f s) groups → List (List Run)
-all_stored f s [] have = []
-all_stored f s (e ∷ groups) have = stored_runs f s e have.0 ∷ all_stored f s groups have.1
+-- nothing of a group is in hand
+pub record IsBetween (s : TableSchema) (c : Collected) : Type 0 where
+  pub schema : c.schema ≡ s
+  pub runs : c.runs ≡ []
+  pub kept : c.kept ≡ []
+  pub rows : c.rows ≡ []
 
 module _ (laws : RowLaws) (f : Files) (s : TableSchema) where
-  by_runs : (g : Group) (runs : List RunView) (stored : List StoredRun) (kept : List (List Run)) (new : Collected) → runs ≢ [] → AllByRecursion IsRun runs → AllZip (HasRun f s g) runs stored
-      → HaveTaken f (run_jobs s g runs) (collected_of s kept [] []) new → new ≡ collected_of s (kept ++ reverse (map (λ (r : StoredRun). r.rows) stored) ∷ []) [] []
-  by_runs g [] stored kept new some each read taken = absurd (some refl)
-  by_runs g (run ∷ older) stored kept new some each read taken = group-taken laws f s g run older stored kept [] new each read taken
+  -- nothing is in hand between groups, so a group that ends has what was collected since
+  closed-between : (t : TableSchema) (groups : List GroupRead) (done : List Run) (own all : List (List ℕ)) (rows : Run) (runs : List Run) (kept : List (List ℕ))
+      → done ≡ [] → own ≡ [] → rows ≡ [] → all ≡ kept
+      → collected_of t (groups ++ record { runs = reverse (done ++ runs); kept = all } ∷ []) [] [] [] ≡ collected_of t (groups ++ record { runs = reverse runs; kept = kept } ∷ []) done own rows
+  closed-between t groups done own all rows runs kept p q r e = rw (p, q, r, e) refl
 
-  pub one-group : (e : Grouped) (has : HasRuns f s e) (kept : List (List Run)) (new : Collected) → HaveTaken f (run_jobs s e.0 e.1) (collected_of s kept [] []) new
-      → new ≡ collected_of s (kept ++ stored_runs f s e has ∷ []) [] []
-  one-group e has kept new taken = by_runs e.0 e.1 has.stored kept new has.some has.each has.read taken
+  by_parts : (g : Group) (runs kept : List RunView) (stored : List StoredRun) → runs ≢ [] → AllByRecursion IsRun runs → AllByRecursion IsRun kept → AllZip (HasRun f s g) runs stored
+      → (c new : Collected) → IsBetween s c → HaveTaken f (jobs_with s g runs kept) c new
+      → (bytes : List (List ℕ)) × HaveBytes f s g (files_of kept) bytes × (new ≡ record c { groups = c.groups ++ record { runs = reverse (map (λ (r : StoredRun). r.rows) stored); kept = bytes } ∷ [] })
+  by_parts g [] kept stored some each older read c new between taken = absurd (some refl)
+  by_parts g (run ∷ runs) [] stored some each older read c new between taken =
+      let rows : List Run = map (λ (r : StoredRun). r.rows) stored in
+      let after : new ≡ group_closed (record c { runs = c.runs ++ rows; rows = [] }) =
+      runs-taken laws f s g run runs stored ends.Group c new (λ e. let clash : ends.Group ≡ ends.File = e in cc) between.schema between.rows each read taken in
+      ([], tt, after ∙ closed-between c.schema c.groups c.runs c.kept c.kept c.rows rows [] between.runs between.kept between.rows between.kept)
+  by_parts g (run ∷ runs) (first ∷ kept) stored some each older read c new between taken =
+      let rows : List Run = map (λ (r : StoredRun). r.rows) stored in
+      let read_now : Collected = record c { runs = c.runs ++ rows; rows = [] } in
+      let parts = taken-split f (run_jobs_as false s g ends.Run (run ∷ runs)) (run_jobs_as true s g ends.Group (first ∷ kept)) c new taken in
+      let after : parts.0 ≡ read_now =
+      runs-taken laws f s g run runs stored ends.Run c parts.0 (λ e. let clash : ends.Run ≡ ends.File = e in cc) between.schema between.rows each read parts.1 in
+      let rest = subst (λ (d : Collected). HaveTaken f (run_jobs_as true s g ends.Group (first ∷ kept)) d new) after parts.2 in
+      let (bytes, have, closes) = kept-taken laws f s g first kept ends.Group read_now new older rest in (
+        bytes,
+        have,
+        closes ∙ closed-between c.schema c.groups c.runs c.kept (c.kept ++ bytes) c.rows rows bytes between.runs between.kept between.rows (ap (λ (own : List (List ℕ)). own ++ bytes) between.kept),
+      )
 
-  pub groups-taken : (groups : List Grouped) (have : AllByRecursion (HasRuns f s) groups) (kept : List (List Run)) (final : Collected)
-      → HaveTaken f (all_jobs s groups) (collected_of s kept [] []) final → final ≡ collected_of s (kept ++ all_stored f s groups have) [] []
+  -- a group is whole: its runs were read, and its older files are there
+  pub one-group : (w : Wanted) → HasRuns f s (w.group, w.runs) → AllByRecursion IsRun w.kept → (c new : Collected) → IsBetween s c → HaveTaken f (wanted_jobs s w) c new
+      → IsWholeAs f s w c new
+  one-group w has kept c new between taken =
+      let (bytes, have, whole) = by_parts w.group w.runs w.kept has.stored has.some has.each kept has.read c new between taken in (
+        record { runs = reverse (map (λ (r : StoredRun). r.rows) has.stored); kept = bytes },
+        record { stored = has.stored; read = has.read; are = refl; kept = have },
+        whole,
+      )
+
+  -- what all groups are, one after another
+  pub groups-taken : (groups : List Wanted) → AllByRecursion (λ (w : Wanted). HasRuns f s (w.group, w.runs) × AllByRecursion IsRun w.kept) groups → (c final : Collected) → IsBetween s c
+      → HaveTaken f (all_wanted s groups) c final → (xs : List GroupRead) × AllZip (IsReadAs f s) groups xs × (final ≡ record c { groups = c.groups ++ xs })
+  groups-taken [] have c final between taken = ([], tt, taken ∙ ap (λ (groups : List GroupRead). record c { groups = groups }) (sym (append-nil c.groups)))
+  groups-taken (w ∷ groups) have c final between taken =
+      let parts = taken-split f (wanted_jobs s w) (all_wanted s groups) c final taken in
+      let (x, is, whole) = one-group w have.0.0 have.0.1 c parts.0 between parts.1 in
+      let rest = subst (λ (d : Collected). HaveTaken f (all_wanted s groups) d final) whole parts.2 in
+      let (xs, are, all) = groups-taken groups have.1 (record c { groups = c.groups ++ x ∷ [] }) final
+      (record { schema = between.schema; runs = between.runs; kept = between.kept; rows = between.rows }) rest in
+      (x ∷ xs, (is, are), all ∙ ap (λ (gs : List GroupRead). record c { groups = gs }) (append_assoc c.groups (x ∷ []) xs))
+
+-- ---- groups of which all is read
+
+-- their runs, the oldest first
+unfoldable pub all_stored : (f : Files) (s : TableSchema) (groups : List Grouped) → AllByRecursion (HasRuns f s) groups → List (List Run)
+all_stored f s [] have = []
+all_stored f s (e ∷ groups) have = reverse (map (λ (r : StoredRun). r.rows) have.0.stored) ∷ all_stored f s groups have.1
+
+module _ (laws : RowLaws) (f : Files) (s : TableSchema) where
+  runs-more : (groups : List GroupRead) (x : GroupRead) (later : List (List Run)) → runs_read (groups ++ x ∷ []) ++ later ≡ runs_read groups ++ (x.runs ∷ later)
+  runs-more groups x later =
+      ap (λ (first : List (List Run)). first ++ later) (map-append (λ (x : GroupRead). x.runs) groups (x ∷ []))
+      ∙ append_assoc (runs_read groups) (x.runs ∷ []) later
+
+  -- they are read, each group's after the other's
+  pub whole-runs : (groups : List Grouped) (have : AllByRecursion (HasRuns f s) groups) (c final : Collected) → IsBetween s c
+      → HaveTaken f (all_wanted s (whole_groups groups)) c final → runs_read final.groups ≡ runs_read c.groups ++ all_stored f s groups have
   unfolding all_stored
-  groups-taken [] have kept final taken = taken ∙ ap (λ (l : List (List Run)). collected_of s l [] []) (sym (append-nil kept))
-  groups-taken (e ∷ groups) have kept final taken =
-      let parts = taken-split f (run_jobs s e.0 e.1) (all_jobs s groups) (collected_of s kept [] []) final taken in
-      let one = one-group e have.0 kept parts.0 parts.1 in
-      let rest : HaveTaken f (all_jobs s groups) (collected_of s (kept ++ stored_runs f s e have.0 ∷ []) [] []) final = subst (λ (c : Collected). HaveTaken f (all_jobs s groups) c final) one parts.2 in
-      let later = groups-taken groups have.1 (kept ++ stored_runs f s e have.0 ∷ []) final rest in
-      later ∙ ap (λ (l : List (List Run)). collected_of s l [] []) (append_assoc kept (stored_runs f s e have.0 ∷ []) (all_stored f s groups have.1))
+  whole-runs [] have c final between taken = ap (λ (c : Collected). runs_read c.groups) taken ∙ sym (append-nil (runs_read c.groups))
+  whole-runs (e ∷ groups) have c final between taken =
+      let parts = taken-split f (run_jobs s e.0 e.1) (all_wanted s (whole_groups groups)) c final taken in
+      let (bytes, there, whole) = by_parts laws f s e.0 e.1 [] have.0.stored have.0.some have.0.each tt have.0.read c parts.0 between parts.1 in
+      let x : GroupRead = record { runs = reverse (map (λ (r : StoredRun). r.rows) have.0.stored); kept = bytes } in
+      let rest = subst (λ (d : Collected). HaveTaken f (all_wanted s (whole_groups groups)) d final) whole parts.2 in
+      whole-runs groups have.1 (record c { groups = c.groups ++ x ∷ [] }) final
+      (record { schema = between.schema; runs = between.runs; kept = between.kept; rows = between.rows }) rest
+      ∙ runs-more c.groups x (all_stored f s groups have.1)

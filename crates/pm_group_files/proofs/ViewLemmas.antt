@@ -33,7 +33,7 @@ use Rattle.pm_model_folder.specs.Stored.{HasGroup, HasRun}
 use Rattle.pm_read_table.specs.View.{IsViewOf, kept_for, runs_at}
 use Rattle.pm_read_table.specs.Meaning.{IsViewIn, Stood, view_origin, view_snapshot}
 use Rattle.pm_read_table.specs.declared.view.View.{View}
-use Rattle.pm_group_files.specs.Jobs.{Grouped, file_jobs, run_jobs}
+use Rattle.pm_group_files.specs.Jobs.{Grouped, file_jobs, run_jobs, whole_group}
 use Rattle.pm_group_files.specs.Meaning.{HasRuns, IsTableView, StoodAt}
 use Rattle.pm_group_files.specs.declared.job.Ends.{Ends}
 use Rattle.pm_group_files.specs.declared.job.Ends.TheVariants as ends
@@ -230,7 +230,7 @@ known-view p v g runs (view_origin o) found = let no : Some runs ≡ None = sym 
 known-view p v g runs (view_snapshot x base delta es live stood has left of) found = of-snapshot p v x base delta es live stood has left of
 
 pub view-stood : OneRuns → OneContents → (f : Files) (p : Past) (v : View) (g : Group) (runs : List RunView) → Stands f p → IsTableView p v → runs_at v g ≡ Some runs
-    → IsKnown p v.id × StoodAt p v.schema v.id (g, runs)
+    → IsKnown p v.id × StoodAt p v.schema v.id (whole_group (g, runs))
 view-stood one_runs one f p v g runs stands is found =
     let own = known-view p v g runs is.is_view found in
     let s = v.schema in
@@ -244,6 +244,8 @@ view-stood one_runs one f p v g runs stands is found =
       own.known,
       record {
         runs = has-runs one_runs (p.stood v.id) s (take v.id t.entries) v.id own.live (g, runs) group has;
+        kept = tt;
+        older = ([], tt);
         needed = needed one (p.stood v.id) s (take v.id t.entries) v.id own.snapshot own.base own.delta own.es own.live committed own.there own.has own.left (g, runs) has;
       },
     )

@@ -1,13 +1,17 @@
 -- What a reader of files knows of them, and what its steps mean.
-use Rattle.std.specs.Prelude.{◌≡◌, ◌≢◌, ℕ, List, [], ◌∷◌, ◌++◌, map, reverse}
+use Rattle.std.specs.Prelude.{◌≡◌, ◌≢◌, ℕ, List, [], ◌∷◌, ◌++◌, map, reverse, Some}
+use Rattle.std.specs.FinMap as paths
 use Rattle.std.specs.BTreeMap.{IsOrdered}
 use Rattle.std.specs.List.{AllByRecursion, AllZip}
 use Rattle.pm_values.specs.GroupOrder.{group_cmp}
 use Rattle.pm_store.specs.Files.{Files}
+use Rattle.pm_values.specs.declared.file_meta.FileMeta.{FileMeta}
+use Rattle.pm_values.specs.declared.group.Group.{Group}
 use Rattle.pm_schema.specs.declared.schema.TableSchema.{TableSchema}
 use Rattle.pm_model_history.specs.History.{IsTableOf}
-use Rattle.pm_engine.specs.Covers.{Run}
-use Rattle.pm_levels.specs.Runs.{IsRun}
+use Rattle.pm_levels.specs.Runs.{IsRun, files_of}
+use Rattle.pm_model_contents.specs.Runs.{data_path}
+use Rattle.pm_scan_rows.specs.Group.{GroupRead}
 use Rattle.pm_runs.specs.Stand.{StoredRun}
 use Rattle.pm_model_folder.specs.Commits.{Needs}
 use Rattle.pm_model_folder.specs.Ledger.{IsKnown, Past, Stands}
@@ -16,7 +20,7 @@ use Rattle.pm_read_table.specs.Meaning.{HasGone, IsViewIn}
 use Rattle.pm_read_table.specs.declared.view.View.{View}
 use Rattle.pm_group_files.specs.Chosen.{Chosen}
 use Rattle.pm_group_files.specs.Collected.{Collected, HaveTaken, nothing_of, with_groups}
-use Rattle.pm_group_files.specs.Jobs.{Grouped, all_jobs, run_jobs}
+use Rattle.pm_group_files.specs.Jobs.{Grouped, Wanted, all_wanted, wanted_jobs}
 use Rattle.pm_group_files.specs.declared.job.Job.{Job}
 use Rattle.pm_group_files.specs.declared.phase.Phase.{Phase}
 use Rattle.pm_group_files.specs.declared.phase.Phase.TheVariants as phases
@@ -28,10 +32,12 @@ pub record HasRuns (f : Files) (s : TableSchema) (e : Grouped) : Type 0 where
   pub stored : List StoredRun
   pub read : AllZip (HasRun f s e.0) e.1 stored
 
--- they were there as the files stood at a snapshot, which needs their files
-pub record StoodAt (p : Past) (s : TableSchema) (id : ℕ) (e : Grouped) : Type 0 where
-  pub runs : HasRuns (p.stood id) s e
-  pub needed : AllByRecursion (λ (job : Job). Needs (p.stood id) s id job.path) (run_jobs s e.0 e.1)
+-- they were there as the files stood at a snapshot, which needs their files and those that are kept
+pub record StoodAt (p : Past) (s : TableSchema) (id : ℕ) (w : Wanted) : Type 0 where
+  pub runs : HasRuns (p.stood id) s (w.group, w.runs)
+  pub kept : AllByRecursion IsRun w.kept
+  pub older : (stored : List StoredRun) × AllZip (HasRun (p.stood id) s w.group) w.kept stored
+  pub needed : AllByRecursion (λ (job : Job). Needs (p.stood id) s id job.path) (wanted_jobs s w)
 
 -- the view is that of the table at a snapshot
 pub record IsTableView (p : Past) (v : View) : Type 0 where
@@ -50,23 +56,30 @@ pub record IsChosen (p : Past) (a : Chosen) : Type 0 where
 pub record HasTaken (p : Past) (a : Chosen) (c : Collected) (left : List Job) : Type 0 where
   pub chosen : IsChosen p a
   pub done : List Job
-  pub parts : all_jobs a.schema a.groups ≡ done ++ left
+  pub parts : all_wanted a.schema a.groups ≡ done ++ left
   pub taken : HaveTaken (p.stood a.id) done (nothing_of a.schema) (with_groups a.given c)
   pub schema : c.schema ≡ a.schema
 
--- a group was read whole, and these are its runs, the oldest first: each has the rows of its files
-pub record IsReadAs (f : Files) (s : TableSchema) (e : Grouped) (runs : List Run) : Type 0 where
-  pub stored : List StoredRun
-  pub read : AllZip (HasRun f s e.0) e.1 stored
-  pub are : runs ≡ reverse (map (λ (r : StoredRun). r.rows) stored)
+-- files of a group are there with these bytes
+abbrev pub HaveBytes : Files → TableSchema → Group → List FileMeta → List (List ℕ) → Type 0
+HaveBytes f s g ms kept =
+    AllZip (λ (m : FileMeta) (bytes : List ℕ). paths.get f (data_path s g m.name) ≡ Some bytes) ms kept
 
--- where these files are left the first of the groups are whole, with these runs; all are where none is left
-pub record AreReadAs (f : Files) (s : TableSchema) (groups : List Grouped) (left : List Job) (runs : List (List Run))
+-- What is wanted of a group was read: of its runs, the oldest first, each has the rows of its files; and the files that
+-- are kept have these bytes, whatever they hold.
+pub record IsReadAs (f : Files) (s : TableSchema) (w : Wanted) (x : GroupRead) : Type 0 where
+  pub stored : List StoredRun
+  pub read : AllZip (HasRun f s w.group) w.runs stored
+  pub are : x.runs ≡ reverse (map (λ (r : StoredRun). r.rows) stored)
+  pub kept : HaveBytes f s w.group (files_of w.kept) x.kept
+
+-- where these files are left the first of the groups are whole, with these runs and files; all are where none is left
+pub record AreReadAs (f : Files) (s : TableSchema) (groups : List Wanted) (left : List Job) (reads : List GroupRead)
     : Type 0 where
-  pub whole : List Grouped
-  pub later : List Grouped
+  pub whole : List Wanted
+  pub later : List Wanted
   pub parts : groups ≡ whole ++ later
-  pub read : AllZip (IsReadAs f s) whole runs
+  pub read : AllZip (IsReadAs f s) whole reads
   pub ended : left ≡ [] → later ≡ []
 
 -- What it knows in each phase where this was asked, whatever others do: that what it has collected is what stood at the

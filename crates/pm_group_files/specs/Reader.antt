@@ -7,9 +7,9 @@ use Rattle.pm_store.specs.declared.answer.Answer.TheVariants as answers
 use Rattle.pm_store.specs.declared.call.Call.{Call}
 use Rattle.pm_store.specs.declared.call.Call.TheVariants as calls
 use Rattle.pm_schema.specs.declared.schema.TableSchema.{TableSchema}
-use Rattle.pm_engine.specs.Covers.{Run}
+use Rattle.pm_scan_rows.specs.Group.{GroupRead}
 use Rattle.pm_model_folder.specs.Paths.{snapshot_path}
-use Rattle.pm_group_files.specs.Collected.{Collected, RefusesFile, Takes, without_groups}
+use Rattle.pm_group_files.specs.Collected.{Collected, RefusesJob, Takes, without_groups}
 use Rattle.pm_group_files.specs.Reading.{reading_of}
 use Rattle.pm_group_files.specs.declared.job.Job.{Job}
 use Rattle.pm_group_files.specs.declared.phase.Phase.{Phase}
@@ -60,7 +60,7 @@ Goes phase other later = ⊥
 -- the rows that it should have; or it is absent, and the snapshot read again is absent, or stands.
 abbrev pub Shown : Phase → Answer → Refusal → Type 0
 Shown (phases.Files r) (answers.Found (Some bytes)) refusal =
-    (refusal ≡ refusals.Memory) ⊎ RefusesFile r.collected.schema r.next bytes r.collected.rows refusal
+    (refusal ≡ refusals.Memory) ⊎ RefusesJob r.collected.schema r.next bytes r.collected.rows refusal
 Shown (phases.Again id path) (answers.Found None) refusal = refusal ≡ refusals.Expired id
 Shown (phases.Again id path) (answers.Found (Some bytes)) refusal = refusal ≡ refusals.Damaged path 0
 Shown phase other refusal = ⊥
@@ -74,7 +74,7 @@ HasGroup (phases.Ready c) = c.groups ≢ []
 HasGroup other = ⊥
 
 -- these are the groups that are whole, and this is left without them
-abbrev pub HandsOut : Phase → List (List Run) → Phase → Type 0
+abbrev pub HandsOut : Phase → List GroupRead → Phase → Type 0
 HandsOut (phases.Files r) groups later =
     (groups ≡ r.collected.groups) × (later ≡ phases.Files (reading_of r.id (without_groups r.collected) r.next r.rest))
 HandsOut (phases.Ready c) groups later = (groups ≡ c.groups) × (later ≡ phases.Ready (without_groups c))

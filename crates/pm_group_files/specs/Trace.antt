@@ -8,8 +8,8 @@ use Rattle.pm_machine.specs.Trace.{Event, IsFailed, MayEnd}
 use Rattle.pm_model_folder.specs.Paths.{snapshot_path}
 use Rattle.pm_read_table.specs.Trace.{read_file}
 use Rattle.pm_group_files.specs.Chosen.{Chosen}
-use Rattle.pm_group_files.specs.Collected.{Collected, RefusesFile, Takes, nothing_of, with_groups}
-use Rattle.pm_group_files.specs.Jobs.{all_jobs}
+use Rattle.pm_group_files.specs.Collected.{Collected, RefusesJob, Takes, nothing_of, with_groups}
+use Rattle.pm_group_files.specs.Jobs.{all_wanted}
 use Rattle.pm_group_files.specs.Reader.{next_call}
 use Rattle.pm_group_files.specs.declared.job.Job.{Job}
 use Rattle.pm_group_files.specs.declared.phase.Phase.{Phase}
@@ -27,7 +27,7 @@ HaveRead (job ∷ jobs) old new own = (bytes : List ℕ) × (middle : Collected)
 -- what the first have
 pub record HasPart (a : Chosen) (c : Collected) (rest : List Job) (own : List Event) : Type 0 where
   pub done : List Job
-  pub parts : all_jobs a.schema a.groups ≡ done ++ rest
+  pub parts : all_wanted a.schema a.groups ≡ done ++ rest
   pub read : HaveRead done (nothing_of a.schema) (with_groups a.given c) own
 
 -- and this was found at the path of the next file
@@ -63,10 +63,10 @@ abbrev pub MayTakeMemory : Phase → Answer → Type 0
 MayTakeMemory (phases.Files r) (answers.Found (Some bytes)) = Unit {0}
 MayTakeMemory m answer = ⊥
 
--- a file was found with bytes that are refused so
+-- a file that is read was found with bytes that are refused so
 abbrev pub Misreads : Chosen → Refusal → List Event → Type 0
 Misreads a refusal own = (c : Collected) × (job : Job) × (rest : List Job) × (bytes : List ℕ)
-    × RefusesFile c.schema job bytes c.rows refusal × FindsNext a c job rest (Some bytes) own
+    × RefusesJob c.schema job bytes c.rows refusal × FindsNext a c job rest (Some bytes) own
 
 -- a file is damaged: it was absent though the snapshot stands, or its bytes are refused so
 abbrev pub IsDamaged : Chosen → List ℕ → ℕ → List Event → Type 0

@@ -2,7 +2,7 @@
 
 ghost use Rattle.std.specs.Prelude.{◌≡◌, ◌↔◌, All, IsTrue};
 ghost use Rattle.pm_engine.specs.Covers.{IsRising};
-ghost use Rattle.pm_scan_rows.specs.Shown.{groups_of};
+ghost use Rattle.pm_scan_rows.specs.Group.{reads_of, runs_read};
 ghost use Rattle.pm_group_files.specs.Collected.{nothing_of};
 ghost use Rattle.pm_group_files.specs.Reader.{read_next, HandsOut, HasGroup, IsReady};
 ghost use Rattle.pm_group_files.specs.declared.phase.Phase.TheVariants as phases;
@@ -13,7 +13,7 @@ use crate::job::Job;
 use crate::phase::Phase;
 use crate::reading::Reading;
 use pm_machine::{LawfulPhase, Running};
-use pm_scan_rows::StoredRun;
+use pm_scan_rows::ReadGroup;
 use pm_schema::TableSchema;
 use std::alloc::Global;
 use std::collections::VecDeque;
@@ -33,7 +33,7 @@ pub fn read_files(alloc: Global, schema: TableSchema, id: u64, files: VecDeque<J
     Running::new(read_next(id, Collected::new(alloc, schema), files))
 }
 
-/// Whether a group is whole, whose runs weren't handed out.
+/// Whether a group is whole that wasn't handed out.
 pub fn has_group(reader: &GroupReader) -> bool
     ensures { IsTrue result ↔ HasGroup reader.now }
 {
@@ -44,10 +44,10 @@ pub fn has_group(reader: &GroupReader) -> bool
     }
 }
 
-/// The runs of the groups that are whole, each with the oldest first, and the reader without them.
-pub fn take_groups(alloc: Global, reader: GroupReader) -> (Vec<Vec<StoredRun>>, GroupReader)
-    ensures hands_out { HandsOut reader (groups_of result.0.items) result.1 }
-    ensures rising { All (All IsRising) (groups_of result.0.items) }
+/// The groups that are whole, and the reader without them.
+pub fn take_groups(alloc: Global, reader: GroupReader) -> (Vec<ReadGroup>, GroupReader)
+    ensures hands_out { HandsOut reader (reads_of result.0.items) result.1 }
+    ensures rising { All (All IsRising) (runs_read (reads_of result.0.items)) }
 {
     match reader.into_phase() {
         Phase::Files { reading } => {

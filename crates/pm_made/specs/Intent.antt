@@ -1,8 +1,7 @@
 -- What a commit is for, and which entry it adds.
-use Rattle.std.specs.Prelude.{◌≡◌, ◌⊎◌, ℕ, zero, suc, ◌+◌, ℤ, List, [], ◌++◌, length}
+use Rattle.std.specs.Prelude.{◌≡◌, ℕ, zero, suc, ◌+◌, ℤ, List, [], ◌++◌, length}
 use Rattle.std.specs.List.{AllByRecursion}
 use Rattle.pm_values.specs.declared.group.Group.{Group}
-use Rattle.pm_options.specs.declared.kinds.Producer.TheVariants as producers
 use Rattle.pm_model_history.specs.History.{Entry, append, compaction, entry_rows, fence}
 use Rattle.pm_schema.specs.Folder.{FitsPartition}
 use Rattle.pm_schema.specs.declared.schema.TableSchema.{TableSchema}
@@ -29,10 +28,6 @@ removed_of other = []
 abbrev pub given_files : Intent → List files.Entry
 given_files (intents.Compact plan) = plan.added.items ++ plan.changes.items
 given_files other = []
-
--- a compaction tells nothing of the table: it has no producer of changelog files, or that of inputs
-abbrev pub TellsNothing : TableSchema → Type 0
-TellsNothing s = (s.options.producer ≡ producers.None) ⊎ (s.options.producer ≡ producers.Input)
 
 -- the groups of its batch fit the table
 abbrev pub FitsGroups : TableSchema → Intent → Type 0

@@ -1,5 +1,5 @@
 -- What is known of a plan as it begins, once its groups were chosen of the runs at its base.
-use Rattle.std.proofs.Common.{◌≡◌, ◌≢◌, ◌↔◌, ◌⊎◌, inl, inr, ℕ, zero, suc, ◌<◌, ◌≤◌, true, List, [], ◌∷◌, length, map, take, drop, Option, None, Some, unwrap_or, refl, sym, ap, subst, ◌∙◌, arith}
+use Rattle.std.proofs.Common.{◌≡◌, ◌≢◌, ◌⊎◌, inl, inr, ℕ, zero, suc, ◌<◌, ◌≤◌, List, [], ◌∷◌, length, map, take, drop, Option, None, Some, unwrap_or, refl, sym, ap, subst, ◌∙◌, arith}
 use Rattle.std.proofs.lemmas.List.{drop-map, length-map, take-append-drop, take-map}
 use Rattle.std.specs.List.{AllByRecursion, AllZip}
 use Rattle.std.specs.List.Sorted.{IsStrictlySortedBy}
@@ -15,7 +15,6 @@ use Rattle.pm_runs.specs.Succession.{KnownRun, Taking}
 use Rattle.pm_model_folder.specs.Changes.{Actor}
 use Rattle.pm_model_folder.specs.Folder.{GroupsRise}
 use Rattle.pm_model_folder.specs.Ledger.{Past}
-use Rattle.pm_model_folder.specs.Meaning.{SnapshotAt}
 use Rattle.pm_model_folder.specs.Runs.{view_of}
 use Rattle.pm_made.specs.declared.newest.Author.{Author}
 use Rattle.pm_made.specs.declared.newest.Newest.{Newest}
@@ -23,7 +22,7 @@ use Rattle.pm_choice.specs.Choice.{group_of, named_groups, IsChosen}
 use Rattle.pm_choice.specs.Question.{appends_at, full_appends, question, rule_of}
 use Rattle.pm_choice.specs.declared.choice.ChosenGroup.{ChosenGroup}
 use Rattle.pm_compaction.specs.Plan.{NamesSoMany}
-use Rattle.pm_plan.specs.Known.{AreChosenAt, AreTakenAt, IsTakenAt, KnowsPlanned, MayBegin}
+use Rattle.pm_plan.specs.Known.{AreChosenAt, AreStoredRuns, AreTakenAt, IsLoggedAt, IsTakenAt, KnowsPlanned, MayBegin}
 use Rattle.pm_plan.specs.Planned.{IsPlanOf}
 use Rattle.pm_plan.specs.declared.planned.Asking.{Asking}
 use Rattle.pm_plan.specs.declared.planned.Planned.{Planned}
@@ -61,13 +60,17 @@ taking-at base p c = record {
 }
 
 module _ (s : TableSchema) (base : ℕ) (p : Past) (since : p.since ≤ base) (after : 1 ≤ base) where
-  is-taken : (c : ChosenGroup) → IsChosen (rule_of s) c → c.levels ≡ map view_of (p.runs base c.group) → IsTakenAt s base p c (taking-at base p c)
-  is-taken c is levels =
+  is-taken : (c : ChosenGroup) → IsChosen (rule_of s) c → c.levels ≡ map view_of (p.runs base c.group) → AreStoredRuns s (p.runs base c.group)
+      → IsTakenAt s base p c (taking-at base p c)
+  is-taken c is levels stored =
       let runs : List KnownRun = p.runs base c.group in
       let first : take c.take c.levels ≡ map view_of (take c.take runs) = ap (λ (rs : List RunView). take c.take rs) levels ∙ take-map view_of c.take runs in
       let last : drop c.take c.levels ≡ map view_of (drop c.take runs) = ap (λ (rs : List RunView). drop c.take rs) levels ∙ drop-map view_of c.take runs in
       let many : length c.levels ≡ length runs = ap (λ (rs : List RunView). length rs) levels ∙ length-map runs view_of in
       record {
+        chosen = is;
+        levels = levels;
+        runs = stored;
         based = refl;
         took = record {
           from = since;
@@ -83,6 +86,8 @@ module _ (s : TableSchema) (base : ℕ) (p : Past) (since : p.since ≤ base) (a
               (subst (λ (rs : List RunView). AllByRecursion (λ (run : RunView). c.out < run.level) rs) last is.choice.high);
         };
         out = refl;
+        first = refl;
+        others = refl;
         seen = sym first;
         whole = (
           λ whole. all-top c.out c.take (length c.levels) (top_of s) is.choice.whole (is.whole.0 whole),
@@ -90,9 +95,10 @@ module _ (s : TableSchema) (base : ℕ) (p : Past) (since : p.since ≤ base) (a
         );
       }
 
-  all-taken : (cs : List ChosenGroup) → AllByRecursion (IsChosen (rule_of s)) cs → AreChosenAt base p cs → AreTakenAt s base p cs (map (taking-at base p) cs)
-  all-taken [] are levels = tt
-  all-taken (c ∷ cs) are levels = (is-taken c are.0 levels.0, all-taken cs are.1 levels.1)
+  all-taken : (cs : List ChosenGroup) → AllByRecursion (IsChosen (rule_of s)) cs → AreChosenAt base p cs
+      → AllByRecursion (λ (c : ChosenGroup). AreStoredRuns s (p.runs base c.group)) cs → AreTakenAt s base p cs (map (taking-at base p) cs)
+  all-taken [] are levels stored = tt
+  all-taken (c ∷ cs) are levels stored = (is-taken c are.0 levels.0 stored.0, all-taken cs are.1 levels.1 stored.1)
 
 -- ---- all of them
 
@@ -117,14 +123,15 @@ begins-as me p asking x is may = record {
   since = may.since;
   author = ap (λ (a : Author). a.base) is.author_is;
   names = subst (NamesSoMany me x.newest.id 0) (sym is.names_are) may.names;
-  quiet = may.quiet;
   made = tt;
-  left = all-taken x.schema x.newest.id p may.since may.known.after_origin x.left.items may.each may.levels;
+  left = all-taken x.schema x.newest.id p may.since may.known.after_origin x.left.items may.each may.levels may.stored;
   some = λ none. some-named x.left.items may.some (sym is.groups ∙ none);
   named = is.groups;
   rise = subst (λ gs. GroupsRise gs) (sym is.groups) (subst (λ (gs : List Group). IsStrictlySortedBy group_cmp gs) (names-are x.left.items) may.rise);
   goes = is.removed;
   comes = is.added;
+  logs = subst (AllZip (IsLoggedAt x.schema x.newest.id p) []) (sym is.logs) tt;
+  untold = is.changes;
   files = is.files;
   full = λ appends asked.
       let (y, found, at) = may.snapshot in

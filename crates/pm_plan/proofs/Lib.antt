@@ -2,4 +2,5 @@ mod BeginLemmas
 mod GrownLemmas
 mod LeftLemmas
 mod MakeLemmas
+mod RewrittenLemmas
 mod StayLemmas

@@ -1,5 +1,5 @@
 -- What is made of rows that were read: they have no refusal, so the only one is that memory ran out.
-use Rattle.std.proofs.Common.{◌≡◌, ◌≢◌, List, [], ◌∷◌, ◌++◌, Some, All, map, refl, ap, sym, subst, ◌∙◌, suc, Vec, Global, Result, Ok, Err, IfErr, arith}
+use Rattle.std.proofs.Common.{◌≡◌, ◌≢◌, List, [], ◌∷◌, ◌++◌, Some, All, map, refl, ap, sym, subst, ◌∙◌, suc, Result, Ok, Err, IfErr, arith}
 use Rattle.std.specs.List.{AllByRecursion}
 use Rattle.pm_schema.specs.declared.schema.TableSchema.{TableSchema}
 use Rattle.pm_values.specs.declared.refusal.Refusal.{Refusal}
@@ -10,7 +10,8 @@ use Rattle.pm_merge.specs.Merging.{GivesAll, HaveNoRefusal, first_refusal, rests
 use Rattle.pm_merge.specs.Source.{Rest}
 use Rattle.pm_run.specs.Form.{Form, form_of}
 use Rattle.pm_compact.specs.Rewritten.{RefusesAfter}
-use Rattle.pm_scan_rows.specs.Shown.{groups_of}
+use Rattle.pm_scan_rows.specs.Group.{reads_of, runs_read}
+use Rattle.pm_scan_rows.specs.declared.read_group.ReadGroup.{ReadGroup}
 use Rattle.pm_scan_rows.specs.Stored.{AreGivenFor, rest_of, run_left}
 use Rattle.pm_scan_rows.specs.declared.written_rows.WrittenRows.{WrittenRows}
 
@@ -48,17 +49,17 @@ only-memory law m runs e refuses =
     (λ no. let r = refuses no in absurd (no (law m (rests_of runs) r.1 r.0 e r.2 (no-refusal runs) (λ other. r.3))))
 
 -- the runs of each group rise, as those of all do
-first-rises : (group : Vec Run Global) (groups : List (Vec Run Global)) → All (All IsRising) (groups_of (group ∷ groups)) → All IsRising group.items
-first-rises group groups all = all 0 group.items (omega arith)
+first-rises : (group : ReadGroup) (groups : List ReadGroup) → All (All IsRising) (runs_read (reads_of (group ∷ groups))) → All IsRising group.runs.items
+first-rises group groups all = all 0 group.runs.items (omega arith)
 
-later-rises : (before : List (Vec Run Global)) (rest : List (Vec Run Global)) → All (All IsRising) (groups_of (before ++ rest)) → All (All IsRising) (groups_of rest)
+later-rises : (before : List ReadGroup) (rest : List ReadGroup) → All (All IsRising) (runs_read (reads_of (before ++ rest))) → All (All IsRising) (runs_read (reads_of rest))
 later-rises [] rest all = all
 later-rises (group ∷ before) rest all = later-rises before rest (λ k d within. all (suc k) d (omega (arith, within)))
 
-pub group-rises : (before after : List (Vec Run Global)) (group : Vec Run Global) (groups : List (Vec Run Global)) → before ++ group ∷ after ≡ groups
-    → All (All IsRising) (groups_of groups) → All IsRising group.items
+pub group-rises : (before after : List ReadGroup) (group : ReadGroup) (groups : List ReadGroup) → before ++ group ∷ after ≡ groups
+    → All (All IsRising) (runs_read (reads_of groups)) → All IsRising group.runs.items
 group-rises before after group groups parts all =
-    first-rises group after (later-rises before (group ∷ after) (subst (λ (gs : List (Vec Run Global)). All (All IsRising) (groups_of gs)) (sym parts) all))
+    first-rises group after (later-rises before (group ∷ after) (subst (λ (gs : List ReadGroup). All (All IsRising) (runs_read (reads_of gs))) (sym parts) all))
 
 -- what holds of each refusal holds of the one that came
 pub err-only : {X E : Type 0} (r : Result X E) (P Q : E → Type 0) → ((e : E) → P e → Q e) → IfErr r P → IfErr r Q

@@ -1,17 +1,21 @@
 -- What is known of a plan stays so, whoever commits.
-use Rattle.std.proofs.Common.{◌≡◌, ℕ, ◌≤◌, List, [], ◌∷◌, length, length-append, sym, ap, subst, ◌∙◌, arith}
+use Rattle.std.proofs.Common.{◌≡◌, ℕ, ◌≤◌, List, [], ◌∷◌, drop, length, length-append, map, take, sym, ap, subst, ◌∙◌, arith}
 use Rattle.std.specs.List.{AllByRecursion, AllZip}
 use Rattle.pm_store.specs.Files.{Files}
 use Rattle.pm_values.specs.declared.group.Group.{Group}
 use Rattle.pm_model_history.specs.History.{Entry, GoesOn, History, IsTableOf, no_table, table}
 use Rattle.pm_schema.specs.declared.schema.TableSchema.{TableSchema}
-use Rattle.pm_runs.specs.Succession.{IsTaken, Taking}
+use Rattle.pm_values.specs.declared.record.Change.{Change as ToldChange}
+use Rattle.pm_runs.specs.Succession.{IsTaken, KnownRun, Taking}
+use Rattle.pm_changelog.specs.GroupLog.{IsGroupLog}
+use Rattle.pm_model_folder.specs.Runs.{view_of}
 use Rattle.pm_model_folder.specs.Changes.{Actor, Change}
 use Rattle.pm_model_folder.specs.Ledger.{Advances, Past, count_of}
 use Rattle.pm_model_folder.specs.Meaning.{SnapshotAt}
 use Rattle.pm_choice.specs.declared.choice.ChosenGroup.{ChosenGroup}
 use Rattle.pm_compaction.specs.Plan.{IsRewrittenAt, RewrittenGroup}
-use Rattle.pm_plan.specs.Known.{IsTakenAt, KnowsPlanned}
+use Rattle.pm_model_changelog.specs.Log.{compaction_log}
+use Rattle.pm_plan.specs.Known.{AreStoredRuns, IsLoggedAt, IsTakenAt, KnowsPlanned}
 use Rattle.pm_plan.specs.declared.planned.Planned.{Planned}
 
 -- the history goes on with each change
@@ -71,12 +75,25 @@ module _ (goes_on : HistoryGoesOn) (me other : Actor) (f after : Files) (p q : P
     }
 
     taken-stays : (c : ChosenGroup) (t : Taking) → IsTakenAt s base p c t → IsTakenAt s base q c t
-    taken-stays c t is = record {
-      based = is.based;
-      took = took-stays c.group t is.based is.took;
-      out = is.out;
-      seen = is.seen;
-      whole = is.whole;
+    taken-stays c t is =
+        let same : q.runs base c.group ≡ p.runs base c.group = advances.runs base c.group within in
+        record {
+          chosen = is.chosen;
+          levels = is.levels ∙ ap (map view_of) (sym same);
+          runs = subst (AreStoredRuns s) (sym same) is.runs;
+          based = is.based;
+          took = took-stays c.group t is.based is.took;
+          out = is.out;
+          first = is.first ∙ ap (take c.take) (sym same);
+          others = is.others ∙ ap (drop c.take) (sym same);
+          seen = is.seen;
+          whole = is.whole;
+        }
+
+    logged-stays : (z : RewrittenGroup) (told : Group × List ToldChange) → IsLoggedAt s base p z told → IsLoggedAt s base q z told
+    logged-stays z told is = record {
+      group = is.group;
+      tells = subst (λ (runs : List KnownRun). IsGroupLog s (compaction_log s z.whole runs) told.1) (sym (advances.runs base z.group within)) is.tells;
     }
 
 pub planned-stays : HistoryGoesOn → (me other : Actor) (f after : Files) (p q : Past) (x : Planned) (done : List RewrittenGroup) (takings : List Taking)
@@ -95,7 +112,6 @@ planned-stays goes_on me other f after p q x done takings advances knows =
       since = (let low = knows.since in let since = advances.since in omega (arith, low, since));
       author = knows.author;
       names = knows.names;
-      quiet = knows.quiet;
       made = all-weaker (IsRewrittenAt me x.schema base p) (IsRewrittenAt me x.schema base q) (made-stays goes_on me other f after p q x.schema base advances within) done knows.made;
       left = zip-weaker (IsTakenAt x.schema base p) (IsTakenAt x.schema base q) (taken-stays goes_on me other f after p q x.schema base advances within) x.left.items takings knows.left;
       some = knows.some;
@@ -103,6 +119,8 @@ planned-stays goes_on me other f after p q x done takings advances knows =
       rise = knows.rise;
       goes = knows.goes;
       comes = knows.comes;
+      logs = zip-weaker (IsLoggedAt x.schema base p) (IsLoggedAt x.schema base q) (logged-stays goes_on me other f after p q x.schema base advances within) done x.logs.items knows.logs;
+      untold = knows.untold;
       files = knows.files;
       full = λ appends asked.
           let (y, at, is) = knows.full appends asked in

@@ -1,24 +1,28 @@
 -- What a compaction has planned, and what it has made so far.
 use Rattle.std.specs.Prelude.{◌≡◌, ℕ, ◌+◌, ◌-◌, ◌≤◌, ◌^◌, pos, List, [], ◌∷◌, ◌++◌, length, map}
+use Rattle.std.specs.Prelude.{Option, option_to_list}
 use Rattle.std.specs.List.{AllByRecursion, FoldsTo}
 use Rattle.pm_values.specs.Names.{Naming, based}
 use Rattle.pm_values.specs.declared.group.Group.{Group}
+use Rattle.pm_values.specs.declared.record.Change.{Change}
+use Rattle.pm_values.specs.declared.refusal.Refusal.{Refusal}
 use Rattle.pm_schema.specs.Folder.{FitsPartition}
 use Rattle.pm_schema.specs.declared.schema.TableSchema.{TableSchema}
-use Rattle.pm_engine.specs.Covers.{Run}
 use Rattle.pm_engine.specs.OfSchema.{meaning_of}
 use Rattle.pm_engines.specs.TableEngine.{HasEngine}
 use Rattle.pm_merge.specs.Merging.{rests_of}
 use Rattle.pm_run.specs.declared.run.RunFile.{RunFile}
+use Rattle.pm_scan_rows.specs.Group.{GroupRead}
 use Rattle.pm_compact.specs.Rewritten.{AreRewritten}
+use Rattle.pm_changelog.specs.Written.{IsWrittenLog}
 use Rattle.pm_made.specs.declared.intent.Plan.{Plan}
 use Rattle.pm_made.specs.declared.newest.Author.{Author}
 use Rattle.pm_made.specs.declared.newest.Newest.{Newest}
 use Rattle.pm_choice.specs.Choice.{live_entry, named_groups, removed_entries}
 use Rattle.pm_choice.specs.Question.{full_appends, question}
 use Rattle.pm_choice.specs.declared.choice.ChosenGroup.{ChosenGroup}
-use Rattle.pm_made.specs.Intent.{TellsNothing}
 use Rattle.pm_compaction.specs.Plan.{group_file}
+use Rattle.pm_group_log.specs.Told.{IsToldOf, RefusesTelling}
 use Rattle.pm_plan.specs.declared.planned.Asking.{Asking}
 use Rattle.pm_plan.specs.declared.planned.Planned.{Planned}
 use Rattle.pm_plan.specs.declared.planned.PlannedCommit.{PlannedCommit}
@@ -44,6 +48,8 @@ pub record IsPlanOf (asking : Asking) (s : TableSchema) (newest : Newest) (chose
   pub removed : p.removed.items ≡ removed_entries s chosen
   pub left : p.left.items ≡ chosen
   pub added : p.added.items ≡ []
+  pub logs : p.logs.items ≡ []
+  pub changes : p.changes.items ≡ []
   pub files : p.files.items ≡ []
 
 -- ---- what is made of a group
@@ -61,25 +67,77 @@ pub record AddsFiles (old : Planned) (g : Group) (made : List RunFile) (new : Pl
   pub files : new.files.items ≡ old.files.items ++ map (group_file old.schema g) made
   pub same : new ≡ record old { added = new.added; files = new.files }
 
--- The first group that is left became files at its level, from its runs that go, the oldest first: with the next names,
--- and without the droppable rows where all of its runs go. Nothing else changed.
-pub record HasRewritten (old : Planned) (c : ChosenGroup) (runs : List Run) (new : Planned) : Type 0 where
+-- The first group that is left, of which this was read, became files at its level, from its runs that go, the oldest
+-- first: with the next names, and without the droppable rows where all of its runs go. And it has a log, which is put
+-- to the others. Nothing else changed.
+pub record HasRewritten (old : Planned) (c : ChosenGroup) (x : GroupRead) (new : Planned) : Type 0 where
   pub made : List RunFile
-  pub are : AreRewritten old.schema (meaning_of old.schema) c.whole c.out old.names (rests_of runs) made
+  pub are : AreRewritten old.schema (meaning_of old.schema) c.whole c.out old.names (rests_of x.runs) made
   pub first : old.left.items ≡ c ∷ new.left.items
-  pub put : AddsFiles (record (named_by made old) { left = new.left }) c.group made new
+  pub log : List Change
+  pub tells : IsToldOf old.schema c x log
+  pub logs : new.logs.items ≡ old.logs.items ++ (c.group, log) ∷ []
+  pub put : AddsFiles (record (named_by made old) { left = new.left; logs = new.logs }) c.group made new
+
+-- Private: what is told of a group, of which this was read, stands behind the other logs, and nothing else changed
+pub record LogsGroup (old : Planned) (c : ChosenGroup) (x : GroupRead) (new : Planned) : Type 0 where
+  pub log : List Change
+  pub tells : IsToldOf old.schema c x log
+  pub logs : new.logs.items ≡ old.logs.items ++ (c.group, log) ∷ []
+  pub same : new ≡ record old { logs = new.logs }
 
 -- the first group that is left, of which there are some, became files
-abbrev pub RewritesOf : List ChosenGroup → Planned → List Run → Planned → Type 0
-RewritesOf [] old runs new = ⊥
-RewritesOf (c ∷ left) old runs new = HasRewritten old c runs new
+abbrev pub RewritesOf : List ChosenGroup → Planned → GroupRead → Planned → Type 0
+RewritesOf [] old x new = ⊥
+RewritesOf (c ∷ left) old x new = HasRewritten old c x new
 
-abbrev pub RewritesFirst : Planned → List Run → Planned → Type 0
-RewritesFirst old runs new = RewritesOf old.left.items old runs new
+abbrev pub RewritesFirst : Planned → GroupRead → Planned → Type 0
+RewritesFirst old x new = RewritesOf old.left.items old x new
 
--- the first groups that are left became files, one after another; these are their runs
-abbrev pub AllRewritten : Planned → List (List Run) → Planned → Type 0
+-- the first groups that are left became files, one after another; this was read of them
+abbrev pub AllRewritten : Planned → List GroupRead → Planned → Type 0
 AllRewritten old groups new = FoldsTo RewritesFirst old groups new
+
+-- nothing can be told of the first group that is left, of which this was read
+abbrev pub RefusesOf : List ChosenGroup → TableSchema → GroupRead → Refusal → Type 0
+RefusesOf [] s x refusal = ⊥
+RefusesOf (c ∷ left) s x refusal = RefusesTelling s c x refusal
+
+abbrev pub RefusesFirst : Planned → GroupRead → Refusal → Type 0
+RefusesFirst p x refusal = RefusesOf p.left.items p.schema x refusal
+
+-- as many names were given at most as files were made, beside those before, and memory has no room for so many
+pub record HasRoom (p : Planned) : Type 0 where
+  pub named : p.names.count ≤ 2 ^ 60 + length p.files.items
+  pub few : length p.files.items ≤ 2 ^ 32
+
+-- the groups before one became files, within the room that there is, and nothing can be told of that one
+pub record RefusesSome (p : Planned) (groups : List GroupRead) (refusal : Refusal) : Type 0 where
+  pub before : List GroupRead
+  pub first : GroupRead
+  pub after : List GroupRead
+  pub parts : groups ≡ before ++ first ∷ after
+  pub made : Planned
+  pub rewritten : AllRewritten p before made
+  pub room : HasRoom made
+  pub refuses : RefusesFirst made first refusal
+
+-- ---- what is told
+
+-- What is told of a group was written: a changelog file with the next name, or none where nothing is told. It stands
+-- behind the others, with its entry, and nothing else changed.
+pub record TellsGroup (old : Planned) (told : Group × List Change) (new : Planned) : Type 0 where
+  pub file : Option RunFile
+  pub written : IsWrittenLog old.schema old.names told.1 file
+  pub changes : new.changes.items
+      ≡ old.changes.items ++ map (λ (x : RunFile). live_entry old.schema told.0 x.meta) (option_to_list file)
+  pub files : new.files.items ≡ old.files.items ++ map (group_file old.schema told.0) (option_to_list file)
+  pub same : new ≡ record (named_by (option_to_list file) old) { changes = new.changes; files = new.files }
+
+-- that of all groups was, one after another, and no log is there any more
+pub record HasTold (old : Planned) (new : Planned) : Type 0 where
+  pub none : new.logs.items ≡ []
+  pub told : FoldsTo TellsGroup (record old { logs = new.logs }) old.logs.items new
 
 -- ---- what holds of a plan all along
 
@@ -87,27 +145,26 @@ AllRewritten old groups new = FoldsTo RewritesFirst old groups new
 abbrev pub FitChosen : TableSchema → List ChosenGroup → Type 0
 FitChosen s chosen = AllByRecursion (λ (c : ChosenGroup). FitsPartition s c.group) chosen
 
--- as many names were given at most as files were made, beside those before, and memory has no room for so many
-pub record HasRoom (p : Planned) : Type 0 where
-  pub named : p.names.count ≤ 2 ^ 60 + length p.files.items
-  pub few : length p.files.items ≤ 2 ^ 32
+-- the groups of which something may be told, too
+abbrev pub FitTold : TableSchema → List (Group × List Change) → Type 0
+FitTold s logs = AllByRecursion (λ (told : Group × List Change). FitsPartition s told.0) logs
 
--- Files can be made of the groups that are left: the table has an engine, and no producer that tells of a compaction,
--- their folders have paths, and names are left.
+-- Files can be made of the groups that are left, and of what is told of the others: the table has an engine, their
+-- folders have paths, and names are left.
 pub record CanMake (p : Planned) : Type 0 where
   pub engine : HasEngine p.schema
-  pub quiet : TellsNothing p.schema
   pub fit : FitChosen p.schema p.left.items
+  pub fit_logs : FitTold p.schema p.logs.items
   pub room : HasRoom p
 
 -- ---- its end
 
--- what the commit is for; it has no changelog, as a compaction tells nothing of the table
+-- what the commit is for
 pub record IsPlanFor (p : Planned) (plan : Plan) : Type 0 where
   pub groups : plan.groups ≡ p.groups
   pub removed : plan.removed ≡ p.removed
   pub added : plan.added ≡ p.added
-  pub changes : plan.changes.items ≡ []
+  pub changes : plan.changes ≡ p.changes
   pub full : plan.full ≡ p.full
 
 pub record IsCommitOf (p : Planned) (c : PlannedCommit) : Type 0 where

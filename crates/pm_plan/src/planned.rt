@@ -7,18 +7,22 @@ ghost use Rattle.pm_engine.specs.OfSchema.{meaning_of};
 ghost use Rattle.pm_engines.specs.TableEngine.{HasEngine};
 ghost use Rattle.pm_merge.specs.Merging.{rests_of, runs_in};
 ghost use Rattle.pm_scan_rows.specs.Stored.{AreGivenFor, rest_of};
-ghost use Rattle.pm_scan_rows.specs.Shown.{groups_of};
+ghost use Rattle.pm_scan_rows.specs.Group.{read_of, reads_of, runs_read};
 ghost use Rattle.pm_schema.specs.Folder.{FitsPartition};
 ghost use Rattle.pm_compact.specs.Rewritten.{AreRewritten};
 ghost use Rattle.pm_values.specs.declared.refusal.Refusal.TheVariants.{Memory};
-ghost use Rattle.pm_made.specs.Intent.{TellsNothing};
-ghost use Rattle.pm_plan.specs.Planned.{AllRewritten, FitChosen, AddsFiles, HasRoom, IsCommitOf, IsPlanOf, CanMake};
-ghost use Rattle.pm_plan.specs.Planned.{RewritesFirst, named_by};
+ghost use Rattle.pm_choice.specs.Choice.{live_entry};
+ghost use Rattle.pm_compaction.specs.Plan.{group_file};
+ghost use Rattle.pm_group_log.specs.Told.{RefusesTelling};
+ghost use Rattle.pm_plan.specs.Planned.{AllRewritten, AddsFiles, HasRoom, HasTold, IsCommitOf, IsPlanOf, CanMake};
+ghost use Rattle.pm_plan.specs.Planned.{LogsGroup, RefusesFirst, RefusesSome, RewritesFirst, TellsGroup, named_by};
 
-use pm_base::Txt;
+use pm_base::{Blob, Txt};
+use pm_changelog::{GroupLog, write_log};
 use pm_choice::{ChosenGroup, asked_in, full_in, groups_in, removed_in};
 use pm_compact::{drops_by_kind_law, rewrite};
 use pm_engines::TableEngine;
+use pm_group_log::group_log;
 use pm_made::{Author, Newest, Plan};
 use pm_manifest::Entry;
 use pm_merge::given_law;
@@ -26,11 +30,12 @@ use pm_model_contents::data_path;
 use pm_put::CommitFile;
 use pm_run::RunFile;
 use pm_run_form::TableForm;
-use pm_scan_rows::{StoredRun, WrittenRows, written_sources};
+use pm_scan_rows::{ReadGroup, StoredRun, WrittenRows, written_sources};
 use pm_schema::TableSchema;
 use pm_values::{Group, Names, Refusal};
 use std::alloc::{AllocError, Global};
 use std::collections::VecDeque;
+use std::mem;
 
 /// More files than this are answered as out of memory.
 const MOST_FILES: usize = 1 << 32;
@@ -46,7 +51,8 @@ pub struct Asking {
 }
 
 /// A compaction with a choice: who commits, of which view, and what goes; the groups whose files are still to be read,
-/// of which the first is being read; and of the others what was made, as entries and as files.
+/// of which the first is being read; of the others what was made, as entries and as files, and what is told; and the
+/// entries of changelog files, once these were written.
 #[derive(Drop)]
 pub struct Planned {
     pub author: Author,
@@ -59,6 +65,8 @@ pub struct Planned {
     pub removed: Vec<Entry>,
     pub left: VecDeque<ChosenGroup>,
     pub added: Vec<Entry>,
+    pub logs: Vec<(Group, GroupLog)>,
+    pub changes: Vec<Entry>,
     pub files: VecDeque<CommitFile>,
 }
 
@@ -112,49 +120,72 @@ pub fn planned_of(
         removed,
         left: VecDeque::from(chosen),
         added: Vec::new(alloc),
+        logs: Vec::new(alloc),
+        changes: Vec::new(alloc),
         files: VecDeque::new(alloc),
     })
 }
 
 impl Planned {
-    /// Makes the runs of groups that were read whole into files, each with the oldest first: those of the first groups
-    /// that are left. Where memory runs out the plan is gone, as a group may be off it of which no file is there.
-    pub fn rewrite_groups(
-        self,
-        alloc: Global,
-        groups: Vec<Vec<StoredRun>>,
-    ) -> Result<Planned, Refusal>
+    /// Makes the runs of groups that were read into files, and what is told of each into its log: those of the first
+    /// groups that are left. After a refusal the plan is gone, as a group may be off it of which no file is there. One
+    /// beside `Memory` is that of a file in which an old value is looked up.
+    pub fn rewrite_groups(self, alloc: Global, groups: Vec<ReadGroup>) -> Result<Planned, Refusal>
         requires ready { CanMake self }
-        requires rising { All (All IsRising) (groups_of groups.items) }
+        requires rising { All (All IsRising) (runs_read (reads_of groups.items)) }
         requires few { length groups.items ≤ length self.left.items }
-        ensures rewritten { IfOk result (AllRewritten self (groups_of groups.items)) }
+        ensures rewritten { IfOk result (AllRewritten self (reads_of groups.items)) }
         ensures ready { IfOk result CanMake }
-        ensures memory { IfErr result (λ e. e ≡ Memory) }
+        ensures refuses { IfErr result (λ e. e ≢ Memory → RefusesSome self (reads_of groups.items) e) }
     {
         let mut planned = self;
-        for runs in groups {
-            planned.rewrite_first(alloc, runs.as_slice())?;
+        for read in groups {
+            planned.rewrite_first(alloc, read)?;
         }
         Ok(planned)
     }
 
-    /// Makes the runs of the first group that is left into files at its level.
-    fn rewrite_first(&mut self, alloc: Global, runs: &[StoredRun]) -> Result<(), Refusal>
+    /// Makes what is told of the first group that is left into its log, and its runs into files at its level.
+    fn rewrite_first(&mut self, alloc: Global, read: ReadGroup) -> Result<(), Refusal>
         requires ready { CanMake self.old }
-        requires rising { All IsRising runs.now }
+        requires rising { All IsRising read.runs.items }
         requires some { self.old.left.items ≢ [] }
-        ensures rewritten { OnOk result (RewritesFirst self.old runs.now self.new) }
+        ensures rewritten { OnOk result (RewritesFirst self.old (read_of read) self.new) }
         ensures ready { OnOk result (CanMake self.new) }
-        ensures memory { IfErr result (λ e. e ≡ Memory) }
+        ensures refuses { IfErr result (λ e. e ≢ Memory → RefusesFirst self.old (read_of read) e) }
     {
         let Some(chosen) = self.left.pop_front() else {
             unreachable!()
         };
-        let made = self.make(alloc, &chosen, runs)?;
+        let ReadGroup { runs, kept } = read;
+        let rows = runs.as_slice();
+        self.log_group(alloc, &chosen, rows, kept)?;
+        let made = self.make(alloc, &chosen, rows)?;
         self.put_files(alloc, &chosen.group, made)?;
         if self.files.len() > MOST_FILES {
             return Err(Refusal::Memory);
         }
+        Ok(())
+    }
+
+    /// Puts what is told of a group to the logs; the bytes that were kept of it are let go before a file is made.
+    fn log_group(
+        &mut self,
+        alloc: Global,
+        chosen: &ChosenGroup,
+        runs: &[StoredRun],
+        kept: Vec<Blob>,
+    ) -> Result<(), Refusal>
+        requires engine { HasEngine self.old.schema }
+        requires fits { FitsPartition self.old.schema chosen.now.group }
+        requires rising { All IsRising runs.now }
+        ensures logs { OnOk result
+            (LogsGroup self.old chosen.now (record { runs = runs.now; kept = kept.items }) self.new) }
+        ensures refuses { IfErr result (λ e. e ≢ Memory
+            → RefusesTelling self.old.schema chosen.now (record { runs = runs.now; kept = kept.items }) e) }
+    {
+        let log = group_log(alloc, &self.schema, chosen, runs, kept)?;
+        self.logs.push((chosen.group.copy(alloc)?, log))?;
         Ok(())
     }
 
@@ -213,22 +244,53 @@ impl Planned {
         requires { FitsPartition self.old.schema group.now }
         ensures { OnOk result (AddsFiles self.old group.now (file ∷ []) self.new) }
     {
-        let RunFile { meta, bytes } = file;
-        let path = data_path(alloc, &self.schema, group, &meta.name)?;
-        self.files.push_back(CommitFile { path, bytes })?;
-        self.added.push(Entry {
-            add: true,
-            group: group.copy(alloc)?,
-            buckets: self.schema.options.bucket,
-            file: meta,
-        })?;
+        let (entry, made) = entered(alloc, &self.schema, group, file)?;
+        self.files.push_back(made)?;
+        self.added.push(entry)?;
         Ok(())
     }
 
-    /// What the commit is for, once no group is left.
-    pub fn into_commit(self, alloc: Global) -> PlannedCommit
+    /// Writes what is told of the groups, one after another: a changelog file of each of which something is told, with
+    /// the next names. The files stand behind those of the groups' rows.
+    pub fn tell(self, alloc: Global) -> Result<Planned, AllocError>
+        requires ready { CanMake self }
+        ensures told { IfOk result (HasTold self) }
+        ensures room { IfOk result HasRoom }
+    {
+        let mut planned = self;
+        let logs = mem::replace(&mut planned.logs, Vec::new(alloc));
+        for told in logs {
+            planned.tell_group(alloc, told)?;
+        }
+        Ok(planned)
+    }
+
+    /// Writes what is told of a group.
+    fn tell_group(&mut self, alloc: Global, told: (Group, GroupLog)) -> Result<(), AllocError>
+        requires fits { FitsPartition self.old.schema told.0 }
+        requires room { HasRoom self.old }
+        ensures tells { OnOk result (TellsGroup self.old told self.new) }
+        ensures room { OnOk result (HasRoom self.new) }
+    {
+        let (group, log) = told;
+        let file = write_log(alloc, &self.schema, &log, &mut self.names)?;
+        drop(log);
+        let Some(file) = file else {
+            return Ok(());
+        };
+        let (entry, changes) = entered(alloc, &self.schema, &group, file)?;
+        self.files.push_back(changes)?;
+        self.changes.push(entry)?;
+        if self.files.len() > MOST_FILES {
+            return Err(AllocError);
+        }
+        Ok(())
+    }
+
+    /// What the commit is for, once no group is left and what is told was written.
+    pub fn into_commit(self) -> PlannedCommit
         requires done { self.left.items ≡ [] }
-        requires quiet { TellsNothing self.schema }
+        requires told { self.logs.items ≡ [] }
         ensures { IsCommitOf self result }
     {
         let Planned {
@@ -239,15 +301,19 @@ impl Planned {
             full,
             groups,
             removed,
+            left,
             added,
+            logs,
+            changes,
             files,
-            ..
         } = self;
+        drop(left);
+        drop(logs);
         let plan = Plan {
             groups,
             removed,
             added,
-            changes: Vec::new(alloc),
+            changes,
             full,
         };
         PlannedCommit {
@@ -259,6 +325,28 @@ impl Planned {
             files,
         }
     }
+}
+
+/// The entry of a file that was made for a group, and the file at its path.
+fn entered(
+    alloc: Global,
+    schema: &TableSchema,
+    group: &Group,
+    file: RunFile,
+) -> Result<(Entry, CommitFile), AllocError>
+    requires { FitsPartition schema.now group.now }
+    ensures entry { IfOk result (λ made. made.0 ≡ live_entry schema.now group.now file.meta) }
+    ensures file { IfOk result (λ made. made.1 ≡ group_file schema.now group.now file) }
+{
+    let RunFile { meta, bytes } = file;
+    let path = data_path(alloc, schema, group, &meta.name)?;
+    let entry = Entry {
+        add: true,
+        group: group.copy(alloc)?,
+        buckets: schema.options.bucket,
+        file: meta,
+    };
+    Ok((entry, CommitFile { path, bytes }))
 }
 
 /// The rows of runs that were read, with their bytes, as they are merged into files of a form.

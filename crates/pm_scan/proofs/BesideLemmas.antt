@@ -11,38 +11,44 @@ use Rattle.pm_model_history.specs.History.{IsTableOf}
 use Rattle.pm_model_folder.specs.Ledger.{Past, Stands}
 use Rattle.pm_read_schema.specs.Beside.{Learns}
 use Rattle.pm_read_schema.proofs.BesideFacts.{PastStays, learns-moves, learns-none, learns-weaker}
-use Rattle.pm_read_table.specs.Asked.{Asked}
 use Rattle.pm_read_table.specs.declared.phase.Phase.TheVariants as readers
-use Rattle.pm_scan.specs.AllCalls.{asked_at}
-use Rattle.pm_scan.specs.Beside.{ScansBeside, ScansOn}
-use Rattle.pm_scan.specs.Meaning.{IsScan, Knows}
+use Rattle.pm_scan.specs.Asked.{AskedRows, asked_for}
+use Rattle.pm_scan.specs.Beside.{RowsBeside, ScansOn}
+use Rattle.pm_scan.specs.Meaning.{IsScanOf, Knows}
 use Rattle.pm_scan.specs.Trace.{Did}
 use Rattle.pm_scan.specs.declared.phase.Phase.{Phase}
 use Rattle.pm_scan.specs.declared.phase.Phase.TheVariants as phases
+use Rattle.pm_scan.specs.declared.rows.Rows.{Rows}
 use Rattle.pm_scan.proofs.Facts.{knows_still}
+use Rattle.pm_scan.proofs.KeptLemmas.{Kept}
 
 pub first-learned : (m : Phase) (store : StoreView) → Learns (Knows m) (Knows m) store store
 first-learned m store = learns-none (Knows m) store
 
-pub more-learned : PastStays → (start m new : Phase) (first before after : StoreView) → Learns (Knows start) (Knows m) first before
+pub more-learned : PastStays → Kept → (start m new : Phase) (first before after : StoreView) → Learns (Knows start) (Knows m) first before
     → Moves Stands IsKept (Knows m) (Knows new) before after → Learns (Knows start) (Knows new) first after
-more-learned past start m new first before after = learns-moves past (Knows start) (Knows m) (Knows new) first before after (knows_still m)
+more-learned past kept start m new first before after = learns-moves past (Knows start) (Knows m) (Knows new) first before after (knows_still kept m)
 
-pub last-learned : (a : Asked) (start m : Phase) (id : ℕ) (text : Vec ℕ Global) (begun first after : StoreView) → m ≡ phases.Ready id text
+pub last-learned : (a : AskedRows) (start m : Phase) (k : Rows) (id : ℕ) (text : Vec ℕ Global) (begun first after : StoreView) → m ≡ phases.Ready k id text
     → HasTrace (Did a m) begun after → Learns (Knows start) (Knows m) first after → ScansOn a (Knows start) text.items begun first after
-last-learned a start m id text begun first after is (own, did, trace) learned =
-    (id, (own, subst (λ (m : Phase). Did a m own) is did, trace), subst (λ (m : Phase). Learns (Knows start) (Knows m) first after) is learned)
+last-learned a start m k id text begun first after is (own, did, trace) learned =
+    let scan = subst (λ (m : Phase). Did a m own) is did in (
+      id,
+      (own, scan.1, trace),
+      subst (λ (k : Rows). Learns (Knows start) (λ f p. IsScanOf k p id text.items) first after) scan.0
+          (subst (λ (m : Phase). Learns (Knows start) (Knows m) first after) is learned),
+    )
 
 -- of a schema that was read
-pub learned-by : (s : TableSchema) (at : Option ℕ) (m : Phase) (made : Result (Vec ℕ Global) Refusal) (before after : StoreView)
-    → m ≡ phases.View (readers.List (asked_at s at)) → HasTrace (Did (asked_at s at) m) before before
-    → ((a : Asked) (first : StoreView) → HasTrace (Did a m) first before → IfOk made (λ text. ScansOn a (Knows m) text.items first before after))
-    → IfOk made (λ text. ScansBeside s at text.items before after)
-learned-by s at m (Err e) before after is begun learned = tt
-learned-by s at m (Ok text) before after is begun learned =
-    let (id, trace, knows) = learned (asked_at s at) before begun in (
+pub learned-by : (k : Rows) (s : TableSchema) (at : Option ℕ) (m : Phase) (made : Result (Vec ℕ Global) Refusal) (before after : StoreView)
+    → m ≡ phases.View k (readers.List (asked_for k s at).table) → HasTrace (Did (asked_for k s at) m) before before
+    → ((a : AskedRows) (first : StoreView) → HasTrace (Did a m) first before → IfOk made (λ text. ScansOn a (Knows m) text.items first before after))
+    → IfOk made (λ text. RowsBeside k s at text.items before after)
+learned-by k s at m (Err e) before after is begun learned = tt
+learned-by k s at m (Ok text) before after is begun learned =
+    let (id, trace, knows) = learned (asked_for k s at) before begun in (
       id,
       trace,
-      learns-weaker (λ f p. IsTableOf s p.history) (Knows m) (λ f p. IsScan p id text.items) (λ f p. IsScan p id text.items) before after
+      learns-weaker (λ f p. IsTableOf s p.history) (Knows m) (λ f p. IsScanOf k p id text.items) (λ f p. IsScanOf k p id text.items) before after
           (λ f p known. subst (λ (m : Phase). Knows m f p) (sym is) known) (λ f p stands known. known) knows,
     )

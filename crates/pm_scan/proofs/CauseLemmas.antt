@@ -31,9 +31,9 @@ FilesCauses = (a : Chosen) (m : files_phase.Phase) (call : Call) (answer : Answe
 
 pub causes : ReaderCauses → FilesCauses → (m : Phase) (call : Call) (answer : Answer) (refusal : Refusal) (f : Files) (p : Past) → Stands f p → Knows m f p
     → next_call m ≡ Some call → Answers call answer f → Shown m answer refusal → MayRefuse f p refusal
-causes view own (phases.View r) call answer refusal f p stands known at told (inl (is, v, engine, goes)) = subst (MayRefuse f p) (sym is) tt
-causes view own (phases.View r) call answer refusal f p stands known at told (inr shown) = view r call answer refusal f p stands known at told shown
-causes view own (phases.Files id m) call answer refusal f p stands known at told (inl (is, c, goes)) = subst (MayRefuse f p) (sym is) tt
-causes view own (phases.Files id m) call answer refusal f p stands (v, same, table, known) at told (inr shown) =
-    own (all_of v) m call answer refusal f p stands known at told shown
+causes view own (phases.View k r) call answer refusal f p stands known at told (inl (is, v, engine, goes)) = subst (MayRefuse f p) (sym is) tt
+causes view own (phases.View k r) call answer refusal f p stands known at told (inr shown) = view r call answer refusal f p stands known at told shown
+causes view own (phases.Files k id m) call answer refusal f p stands known at told (inl (is, c, goes)) = subst (MayRefuse f p) (sym is) tt
+causes view own (phases.Files k id m) call answer refusal f p stands (v, same, table, known) at told (inr shown) =
+    own (all_of k v) m call answer refusal f p stands known at told shown
 causes view own m call answer refusal f p stands known at told shown = absurd shown

@@ -6,6 +6,8 @@ pub mod Facts
 mod FilesLemmas
 mod KeptLemmas
 mod KnownLemmas
+mod PassedLemmas
+mod RowsLemmas
 pub mod OneLemmas
 mod ScanLemmas
 mod ViewCallsLemmas

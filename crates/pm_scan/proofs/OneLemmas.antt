@@ -14,6 +14,7 @@ use Rattle.pm_machine.specs.Step.{path_of}
 use Rattle.pm_machine.specs.Trace.{Event, faulted}
 use Rattle.pm_schema.specs.declared.schema.TableSchema.{TableSchema}
 use Rattle.pm_engine.specs.OfSchema.{meaning_of}
+use Rattle.pm_scan_rows.specs.Group.{runs_read}
 use Rattle.pm_scan_rows.specs.Shown.{PrintsGroups}
 use Rattle.pm_levels.specs.Runs.{RunView}
 use Rattle.pm_manifest.specs.Live.{Live}
@@ -27,10 +28,14 @@ use Rattle.pm_read_table.specs.declared.view.View.{View}
 use Rattle.pm_read_table.proofs.OneLemmas as view
 use Rattle.pm_group_files.specs.Chosen.{Chosen, chosen_of}
 use Rattle.pm_group_files.specs.Collected.{with_groups}
+use Rattle.pm_group_files.specs.Jobs.{whole_groups}
 use Rattle.pm_group_files.specs.Trace as files_trace
 use Rattle.pm_group_files.proofs.FaultLemmas.{IsOfFiles, damaged, expired, unsupported}
 use Rattle.pm_group_files.proofs.OneLemmas.{FileLaws, LeadsTo, Place, files, lead_answered, one_place, over, part_lead, shows_lead}
-use Rattle.pm_scan.specs.AllCalls.{DidScan, Ends, Has, PrintAlike, asked_at}
+use Rattle.pm_scan.specs.AllCalls.{DidScan, Ends, Has, PrintAlike}
+use Rattle.pm_scan.specs.Asked.{AskedRows, asked_at}
+use Rattle.pm_scan.specs.Rows.{groups_of}
+use Rattle.pm_scan.specs.declared.rows.Rows.{Rows}
 use Rattle.pm_scan.specs.Meaning.{all_of}
 use Rattle.pm_scan.specs.Scanner.{next_call}
 use Rattle.pm_scan.specs.Trace.{AfterView, DidSoFar, ShowsOfFiles}
@@ -86,13 +91,16 @@ module _ (laws : OneLaws) where
   one_view a v w m is was = absurd is
 
   -- so what is asked of the reader of its files is
-  pub same_asked : (v w : View) → Alike v w → all_of v ≡ all_of w
-  same_asked v w alike =
-      ap (λ (s : TableSchema). chosen_of s v.id v.groups.entries []) alike.schema
-      ∙ ap (λ (id : ℕ). chosen_of w.schema id v.groups.entries []) alike.id
-      ∙ ap (λ (groups : List (Group × List RunView)). chosen_of w.schema w.id groups []) alike.groups
+  pub same_asked : (k : Rows) (v w : View) → Alike v w → all_of k v ≡ all_of k w
+  same_asked k v w alike =
+      ap (λ (s : TableSchema). chosen_of s v.id (whole_groups (groups_of k s v.groups.entries)) []) alike.schema
+      ∙ ap (λ (id : ℕ). chosen_of w.schema id (whole_groups (groups_of k w.schema v.groups.entries)) []) alike.id
+      ∙ ap (λ (groups : List (Group × List RunView)). chosen_of w.schema w.id (whole_groups (groups_of k w.schema groups)) []) alike.groups
 
-  module _ (a : Asked) where
+  module _ (b : AskedRows) where
+    abbrev a : Asked
+    a = b.table
+
     -- the view was read, and then its files led here
     record Scanned (own : List Event) (n : Place) : Type 0 where
       view_is : View
@@ -102,9 +110,9 @@ module _ (laws : OneLaws) where
       place : view.Place
       lead : Leads (view.Goes a) first (view.start a) place
       at : view.IsViewAt a view_is place
-      reach : LeadsTo (all_of view_is) reads n
+      reach : LeadsTo (all_of b.rows view_is) reads n
 
-    scanned : (v : View) (P : List Event → Type 0) (n : Place) (own : List Event) → ((reads : List Event) → P reads → LeadsTo (all_of v) reads n) → AfterView a v P own → Scanned own n
+    scanned : (v : View) (P : List Event → Type 0) (n : Place) (own : List Event) → ((reads : List Event) → P reads → LeadsTo (all_of b.rows v) reads n) → AfterView a v P own → Scanned own n
     scanned v P n own leads after =
         let viewed = view.view_lead a laws.reader v after.first after.viewed in record {
           view_is = v;
@@ -120,7 +128,7 @@ module _ (laws : OneLaws) where
     -- ---- what they show
 
     abbrev IsAnswer : Place → Result (List ℕ) Refusal → Type 0
-    IsAnswer (files c []) (Ok text) = PrintsGroups (meaning_of c.schema) c.groups text
+    IsAnswer (files c []) (Ok text) = PrintsGroups (meaning_of c.schema) (runs_read c.groups) text
     IsAnswer (over e) (Err other) = e ≡ other
     IsAnswer m made = ⊥
 
@@ -135,25 +143,25 @@ module _ (laws : OneLaws) where
     by_reader e own (view.of_failure fails) = of_failure e refl fails
     by_reader e own (view.of_place m lead refused) = of_reader e refl m lead refused
 
-    of_fault : (e : Refusal) (own : List Event) → IsOfFiles e → (v : View) → AfterView a v (files_trace.Shows (all_of v) e) own → IsShown (Err e) own
+    of_fault : (e : Refusal) (own : List Event) → IsOfFiles e → (v : View) → AfterView a v (files_trace.Shows (all_of b.rows v) e) own → IsShown (Err e) own
     of_fault e own fault v after =
-        of_files (over e) (scanned v (files_trace.Shows (all_of v) e) (over e) own (λ reads shows. shows_lead (all_of v) e reads fault shows) after) refl
+        of_files (over e) (scanned v (files_trace.Shows (all_of b.rows v) e) (over e) own (λ reads shows. shows_lead (all_of b.rows v) e reads fault shows) after) refl
 
     -- a reader of files shows no other refusal
-    files_shown : (e : Refusal) (own : List Event) → ShowsOfFiles a e own → IsShown (Err e) own
+    files_shown : (e : Refusal) (own : List Event) → ShowsOfFiles b e own → IsShown (Err e) own
     files_shown refusals.Memory own shows = of_memory refl
-    files_shown (refusals.StoreFault path) own fails = of_failure (refusals.StoreFault path) refl (failed next_call (DidSoFar a) path own fails)
+    files_shown (refusals.StoreFault path) own fails = of_failure (refusals.StoreFault path) refl (failed next_call (DidSoFar b) path own fails)
     files_shown (refusals.Expired id) own (v, after) = of_fault (refusals.Expired id) own (expired id) v after
     files_shown (refusals.Damaged path place) own (v, after) = of_fault (refusals.Damaged path place) own (damaged path place) v after
     files_shown (refusals.Unsupported what text) own (v, after) = of_fault (refusals.Unsupported what text) own (unsupported what text) v after
     files_shown e own (v, after) = absurd after.so
 
-    is_shown : (made : Result (List ℕ) Refusal) (own : List Event) → Ends a made own → IsShown made own
+    is_shown : (made : Result (List ℕ) Refusal) (own : List Event) → Ends b made own → IsShown made own
     is_shown (Ok text) own (id, scan) =
         let v = scan.view in
         of_files (files (with_groups [] scan.collected) [])
-        (scanned v (files_trace.HasPart (all_of v) scan.collected []) (files (with_groups [] scan.collected) []) own
-        (λ reads part. part_lead (all_of v) scan.collected [] reads part) scan.all_read)
+        (scanned v (files_trace.HasPart (all_of b.rows v) scan.collected []) (files (with_groups [] scan.collected) []) own
+        (λ reads part. part_lead (all_of b.rows v) scan.collected [] reads part) scan.all_read)
         scan.prints
     is_shown (Err e) own (inl shows) = by_reader e own (view.is_shown a laws.reader e own shows)
     is_shown (Err e) own (inr shows) = files_shown e own shows
@@ -163,7 +171,7 @@ module _ (laws : OneLaws) where
     scanned_answered : (own : List Event) (n : Place) → Scanned own n → AllByRecursion IsAnswered own
     scanned_answered own n s =
         let one = view.leads_answered a s.first s.place s.lead in
-        let two = lead_answered (all_of s.view_is) s.reads n s.reach in
+        let two = lead_answered (all_of b.rows s.view_is) s.reads n s.reach in
         subst (AllByRecursion IsAnswered) (sym s.is) (AllByRecursion-append IsAnswered s.first s.reads one two)
 
     one_scanned : (own : List Event) (n k : Place) → Scanned own n → Scanned own k → n ≡ k
@@ -171,9 +179,9 @@ module _ (laws : OneLaws) where
         let end = one_end (view.Goes a) (view.IsEnd a) (view.are_one a laws.reader) (view.ends_stay a) s.first t.first s.reads t.reads (view.start a) s.place t.place (sym s.is ∙ t.is)
         s.lead (view.view_ends a s.view_is s.place s.at) t.lead (view.view_ends a t.view_is t.place t.at) in
         let alike = one_view a t.view_is s.view_is t.place t.at (subst (view.IsViewAt a s.view_is) end.1 s.at) in
-        let asked = subst (λ (c : Chosen). LeadsTo c t.reads k) (same_asked t.view_is s.view_is alike) t.reach in
-        let same = subst (λ (reads : List Event). LeadsTo (all_of s.view_is) reads k) (sym end.2) asked in
-        one_place (all_of s.view_is) laws.read s.reads n k s.reach same
+        let asked = subst (λ (c : Chosen). LeadsTo c t.reads k) (same_asked b.rows t.view_is s.view_is alike) t.reach in
+        let same = subst (λ (reads : List Event). LeadsTo (all_of b.rows s.view_is) reads k) (sym end.2) asked in
+        one_place (all_of b.rows s.view_is) laws.read s.reads n k s.reach same
 
     -- the view's reader isn't refused where the view was read
     refused_not : (own : List Event) (e : Refusal) (m : view.Place) (n : Place) → Leads (view.Goes a) own (view.start a) m → view.IsRefusedAt a e m → Scanned own n → ⊥
@@ -187,7 +195,7 @@ module _ (laws : OneLaws) where
     AreAlike one other = (one ≡ other) ⊎ ((one ≡ Err refusals.Memory) ⊎ ((other ≡ Err refusals.Memory) ⊎ PrintAlike one other))
 
     one_answer_at : (n : Place) (one other : Result (List ℕ) Refusal) → IsAnswer n one → IsAnswer n other → AreAlike one other
-    one_answer_at (files c []) (Ok text) (Ok more) is was = inr (inr (inr (c.schema, c.groups, is, was)))
+    one_answer_at (files c []) (Ok text) (Ok more) is was = inr (inr (inr (c.schema, runs_read c.groups, is, was)))
     one_answer_at (files c []) (Ok text) (Err e) is was = absurd was
     one_answer_at (over e) (Err one) (Err other) is was = inl (ap Err (sym is ∙ was))
     one_answer_at (over e) (Err one) (Ok text) is was = absurd was
@@ -240,7 +248,7 @@ module _ (laws : OneLaws) where
             is ∙ ap (λ (later : List Event). earlier ++ later) at_last ∙ sym (append_assoc earlier first (faulted call ∷ [])),
           ) in
           inr (was ∙ ap Err (one_failed d e own all fails))
-      by (of_reader d was m lead refused) = absurd (failed_not e own fails (whole (view.leads_answered (asked_at s at) later m lead)))
+      by (of_reader d was m lead refused) = absurd (failed_not e own fails (whole (view.leads_answered (asked_at s at).table later m lead)))
       by (of_files n scan answer) = absurd (failed_not e own fails (whole (scanned_answered (asked_at s at) later n scan)))
 
   pub failed_scan : (s : TableSchema) (at : Option ℕ) (earlier : List Event) (call : Call) (made : Result (List ℕ) Refusal)

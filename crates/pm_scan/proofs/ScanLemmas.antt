@@ -1,5 +1,5 @@
 -- What was collected of the files of a view covers its rows, so the groups print the scan of the table.
-use Rattle.std.proofs.Common.{◌≡◌, ◌≢◌, ℕ, ◌<◌, List, [], ◌∷◌, ◌++◌, length, map, filter, reverse, true, false, cond, Contains, Some, None, refl, sym, ap, subst, ◌∙◌, arith}
+use Rattle.std.proofs.Common.{◌≡◌, ◌≢◌, ℕ, ◌<◌, ◌≤◌, List, [], ◌∷◌, ◌++◌, length, map, filter, reverse, true, false, cond, Contains, Some, None, refl, sym, ap, subst, ◌∙◌, arith}
 use Rattle.std.specs.BTreeMap.{is_at}
 use Rattle.std.specs.List.{AllByRecursion, AllZip}
 use Rattle.std.specs.List.Sorted.{IsStrictlySortedBy}
@@ -17,7 +17,10 @@ use Rattle.pm_model_history.specs.Merge.{HistoryRow}
 use Rattle.pm_model_history.specs.Merged.{scan_text}
 use Rattle.pm_engine.specs.Covers.{Covers, Run}
 use Rattle.pm_engine.specs.OfSchema.{meaning_of}
+use Rattle.std.specs.FinMap.{empty}
+use Rattle.pm_model_following.specs.Following.{HaveBases, followed, passed, passed_rows}
 use Rattle.pm_model_following.specs.Groups.{rows_in}
+use Rattle.pm_scan_rows.specs.Group.{runs_read}
 use Rattle.pm_scan_rows.specs.Shown.{GroupRuns as Covered, GroupsCover, PrintsGroups}
 use Rattle.pm_levels.specs.Runs.{RunView, files_of}
 use Rattle.pm_manifest.specs.Live.{Live}
@@ -29,17 +32,21 @@ use Rattle.pm_runs.specs.Stand.{StoredRun, oldest_first}
 use Rattle.pm_group_files.specs.Collected.{Collected, HaveTaken, nothing_of}
 use Rattle.pm_group_files.specs.Jobs.{Grouped, all_jobs}
 use Rattle.pm_group_files.specs.Meaning.{HasRuns}
-use Rattle.pm_group_files.proofs.TakenLemmas.{RowLaws, all_stored, groups-taken}
+use Rattle.pm_group_files.proofs.TakenLemmas.{RowLaws, all_stored, whole-runs}
 use Rattle.pm_group_files.proofs.ViewLemmas.{HasOwn, OneRuns, at-one, each-own, has-runs}
 
 -- ---- the laws of the crates below
 
--- of the rows of files, of the runs of groups, and of scans
+-- of the rows of files, of the runs of groups, of scans, and of what is passed on
 pub record Laws : Type 0 where
   pub rows : RowLaws
   pub one_runs : OneRuns
   pub scan : (s : TableSchema) (rows : List HistoryRow) (groups : List Covered) (text : List ℕ) → IsDeclared s → GroupsCover s groups rows
       → PrintsGroups (meaning_of s) (map (λ (p : Covered). p.1) groups) text → text ≡ scan_text s rows
+  pub passed : (s : TableSchema) (g : Group) (entries : List Entry) (n : ℕ)
+      → rows_in s g (passed_rows s entries n) ≡ rows_in s g (rows_up_to entries (passed s.options.producer entries n g))
+  pub kept : (s : TableSchema) (entries more : List Entry) (n : ℕ) → HaveBases 1 entries → n ≤ length entries → followed s (entries ++ more) n ≡ followed s entries n
+  pub start : (s : TableSchema) (entries : List Entry) → followed s entries 0 ≡ empty
 
 -- ---- the groups of a view
 
@@ -125,10 +132,10 @@ module _ (laws : Laws) (f : Files) (s : TableSchema) (entries : List Entry) (id 
 
   -- once the files of all groups were read, in their order, what the groups print is the scan of the table
   pub scanned : (groups : List Grouped) (final : Collected) (text : List ℕ) → IsDeclared s → IsStrictlySortedBy group_cmp (keys_of groups)
-      → ((g : Group) → GroupRuns live g (lookup (is_at (group_cmp g)) groups)) → HaveTaken f (all_jobs s groups) (nothing_of s) final → PrintsGroups (meaning_of s) final.groups text
+      → ((g : Group) → GroupRuns live g (lookup (is_at (group_cmp g)) groups)) → HaveTaken f (all_jobs s groups) (nothing_of s) final → PrintsGroups (meaning_of s) (runs_read final.groups) text
       → text ≡ scan_text s (rows_up_to entries id)
   scanned groups final text declared rising runs taken prints =
       let each = each-own live groups rising (λ g own found. subst (GroupRuns live g) found (runs g)) in
-      let kept : final.groups ≡ map (λ (p : Covered). p.1) (covered groups) =
-      ap (λ (c : Collected). c.groups) (groups-taken laws.rows f s groups (all-have groups each) [] final taken) ∙ stored_are groups each in
+      let kept : runs_read final.groups ≡ map (λ (p : Covered). p.1) (covered groups) =
+      whole-runs laws.rows f s groups (all-have groups each) (nothing_of s) final (record { schema = refl; runs = refl; kept = refl; rows = refl }) taken ∙ stored_are groups each in
       laws.scan s (rows_up_to entries id) (covered groups) text declared (groups-cover groups rising runs) (subst (λ l. PrintsGroups (meaning_of s) l text) kept prints)

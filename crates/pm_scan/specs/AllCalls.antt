@@ -10,7 +10,7 @@ use Rattle.pm_values.specs.declared.refusal.Refusal.TheVariants as refusals
 use Rattle.pm_store.specs.Files.{Files}
 use Rattle.pm_store.specs.Store.{StoreView, FromFirst}
 use Rattle.pm_machine.specs.Trace.{Event}
-use Rattle.pm_model_history.specs.History.{History, IsTableOf, no_table, rows_up_to, table}
+use Rattle.pm_model_history.specs.History.{History, IsTableOf, no_table, table}
 use Rattle.pm_model_history.specs.Merged.{scan_text}
 use Rattle.pm_schema.specs.declared.schema.TableSchema.{TableSchema}
 use Rattle.pm_engine.specs.Covers.{Run}
@@ -22,32 +22,24 @@ use Rattle.pm_model_folder.specs.Paths.{origin_path, snapshot_path}
 use Rattle.pm_read_schema.specs.AllCalls.{HasFiles, Stay}
 use Rattle.pm_read_schema.specs.Trace as schema
 use Rattle.pm_read_schema.specs.declared.phase.Phase.TheVariants as readers
-use Rattle.pm_read_table.specs.Asked.{Asked, asked_of}
-use Rattle.pm_read_table.specs.declared.asked.Wanted.{Wanted}
-use Rattle.pm_read_table.specs.declared.asked.Wanted.TheVariants as wants
+use Rattle.pm_scan.specs.Asked.{AskedRows, asked_at, passed_at}
+use Rattle.pm_scan.specs.Rows.{rows_at}
 use Rattle.pm_scan.specs.Trace.{HasScan, Shows}
+use Rattle.pm_scan.specs.declared.rows.Rows.{Rows}
+use Rattle.pm_scan.specs.declared.rows.Rows.TheVariants as shown
 
 -- the schema was read
 abbrev pub Has : TableSchema → List Event → Type 0
 Has s own = schema.Did (readers.Ready s) own
-
--- the latest snapshot is asked for, or the one with an id
-abbrev pub wanted_of : Option ℕ → Wanted
-wanted_of None = wants.Newest
-wanted_of (Some id) = wants.At id
 
 -- the text of an answer, wherever it lies in memory
 abbrev pub text_in : Result (Vec ℕ Global) Refusal → Result (List ℕ) Refusal
 text_in (Ok text) = Ok text.items
 text_in (Err refusal) = Err refusal
 
--- what is asked of a scanner
-abbrev pub asked_at : TableSchema → Option ℕ → Asked
-asked_at s at = asked_of s (wanted_of at)
-
 -- The calls of a scan by its answer: from those that read the schema they go on to those of the scan, which has this
 -- text, or which show the refusal.
-abbrev pub Ends : Asked → Result (List ℕ) Refusal → List Event → Type 0
+abbrev pub Ends : AskedRows → Result (List ℕ) Refusal → List Event → Type 0
 Ends a (Ok text) own = (id : ℕ) × HasScan a id text own
 Ends a (Err refusal) own = Shows a refusal own
 
@@ -76,10 +68,15 @@ path_of s (suc id) = snapshot_path (suc id)
 abbrev pub IsThere : Files → TableSchema → History → ℕ → Type 0
 IsThere f s h id = (id ≤ count_of h) × IsSome (map.get f (path_of s id))
 
--- the text is the scan of the history's table at the snapshot that is asked for
+-- the text is the scan of the rows of the history's table at the snapshot that is asked for
+abbrev pub PrintsRows : Rows → History → Option ℕ → List ℕ → Type 0
+PrintsRows rows no_table at text = ⊥
+PrintsRows rows (table s entries) at text =
+    text ≡ scan_text s (rows_at rows s entries (id_of at (length entries)))
+
+-- it is the scan of the table there
 abbrev pub PrintsScan : History → Option ℕ → List ℕ → Type 0
-PrintsScan no_table at text = ⊥
-PrintsScan (table s entries) at text = text ≡ scan_text s (rows_up_to entries (id_of at (length entries)))
+PrintsScan h at text = PrintsRows shown.All h at text
 
 -- What a refusal needs where the files stand for this history: the snapshot that is asked for is above the latest, or
 -- has gone; a fault of the store was counted; or memory ran out.
@@ -92,14 +89,19 @@ IsCaused f s h at first after (refusals.Expired id) =
 IsCaused f s h at first after other = ⊥
 
 -- What a scan is where the files stand for a history at the first call, and nobody else acts from then on: the files
--- stay, the text is the scan of the table at the snapshot, which is there, and a refusal has its cause.
-pub record ScansTable (f : Files) (h : History) (s : TableSchema) (at : Option ℕ) (first after : StoreView)
-    (result : Result (List ℕ) Refusal) : Type 0 where
+-- stay, the text is the scan of the rows at the snapshot, which is there, and a refusal has its cause.
+pub record ScansRows (rows : Rows) (f : Files) (h : History) (s : TableSchema) (at : Option ℕ)
+    (first after : StoreView) (result : Result (List ℕ) Refusal) : Type 0 where
   pub files : Stay f first after
   pub schema : IsTableOf s h
   pub there : IfOk result (λ _. IsThere f s h (id_of at (count_of h)))
-  pub text : IfOk result (PrintsScan h at)
+  pub text : IfOk result (PrintsRows rows h at)
   pub cause : IfErr result (IsCaused f s h at first after)
+
+-- of all rows
+abbrev pub ScansTable : Files → History → TableSchema → Option ℕ → StoreView → StoreView → Result (List ℕ) Refusal
+    → Type 0
+ScansTable f h s at first after result = ScansRows shown.All f h s at first after result
 
 -- what it promises of histories, from the first call on
 abbrev pub ScansTables : TableSchema → Option ℕ → StoreView → StoreView → Result (List ℕ) Refusal → Type 0
@@ -112,3 +114,9 @@ abbrev pub ScansOf : TableSchema → Option ℕ → StoreView → StoreView → 
 ScansOf s at before after result =
     FromFirst (λ first after. (f : Files) (h : History) → HasFiles f first → Folder f h → IsTableOf s h
     → ScansTable f h s at first after result) before after
+
+-- the same where the rows that are passed on at a snapshot are asked for
+abbrev pub PassesOf : TableSchema → ℕ → StoreView → StoreView → Result (List ℕ) Refusal → Type 0
+PassesOf s id before after result =
+    FromFirst (λ first after. (f : Files) (h : History) → HasFiles f first → Folder f h → IsTableOf s h
+    → ScansRows shown.Passed f h s (Some id) first after result) before after

@@ -5,19 +5,21 @@ ghost use Rattle.pm_machine.specs.Trace.{HasTrace};
 ghost use Rattle.pm_engines.specs.TableEngine.{HasEngine};
 ghost use Rattle.pm_schema.specs.Again.{IsDeclared};
 ghost use Rattle.pm_store.specs.Store.{StoreView, IsLater};
-ghost use Rattle.pm_read_table.specs.Asked.{Asked as AskedView};
 ghost use Rattle.pm_read_table.specs.declared.phase.Phase.TheVariants as readers;
-ghost use Rattle.pm_scan.specs.Beside.{ScansBeside, ScansOn};
+ghost use Rattle.pm_scan.specs.AllCalls.{text_in, DidScan, Ends, Has, ScansTables};
+ghost use Rattle.pm_scan.specs.Asked.{AskedRows, asked_at, passed_at};
+ghost use Rattle.pm_scan.specs.Beside.{PassesBeside, ScansBeside, ScansOn};
 ghost use Rattle.pm_scan.specs.Meaning.{Knows};
-ghost use Rattle.pm_scan.specs.AllCalls.{asked_at, text_in, DidScan, Ends, Has, ScansTables};
 ghost use Rattle.pm_scan.specs.Scanner.{calls_left};
 ghost use Rattle.pm_scan.specs.Trace.{Did};
 ghost use Rattle.pm_scan.specs.declared.phase.Phase.TheVariants as phases;
+ghost use Rattle.pm_scan.specs.declared.rows.Rows.TheVariants as shown;
 
 use crate::laws::all_calls_law;
-use crate::scanner::{Scanner, into_text, is_scan_ready, newest_scan, scan_at};
+use crate::scanner::{Scanner, into_text, is_scan_ready, newest_scan, passed_scan, scan_at};
 use pm_machine::take_step;
 use pm_model_folder::past_law;
+use pm_model_following::kept_law;
 use pm_schema::TableSchema;
 use pm_store::FileStore;
 use pm_values::Refusal;
@@ -46,11 +48,29 @@ pub fn scan_table<F: FileStore>(
     make_calls(alloc, scanner_of(schema, at), store)
 }
 
+/// Reads the rows that are passed on at the snapshot with that id of the table whose schema was just read, and gives
+/// the text of their scan. What it promises is said of these calls. Whatever others do meanwhile, the text is the scan
+/// of these rows at the snapshot that the calls read.
+pub fn scan_passed<F: FileStore>(
+    alloc: Global,
+    schema: TableSchema,
+    id: u64,
+    store: &mut F,
+) -> Result<Vec<u8>, Refusal>
+    requires declared { IsDeclared schema }
+    requires engine { HasEngine schema }
+    ensures own { HasTrace (Ends (passed_at schema id) (text_in result)) (F.seen store.old) (F.seen store.new) }
+    ensures beside { IfOk result (λ text. PassesBeside schema id text.items (F.seen store.old) (F.seen store.new)) }
+    ensures later { IsLater (F.seen store.old) (F.seen store.new) }
+{
+    make_calls(alloc, passed_scan(schema, id), store)
+}
+
 /// A scanner of the table at its latest snapshot, or the one with that id.
 fn scanner_of(schema: TableSchema, at: Option<u64>) -> Scanner
     requires declared { IsDeclared schema }
     requires engine { HasEngine schema }
-    ensures { result ≡ phases.View (readers.List (asked_at schema at)) }
+    ensures { result ≡ phases.View shown.All (readers.List (asked_at schema at).table) }
 {
     match at {
         Some(id) => scan_at(schema, id),
@@ -65,13 +85,14 @@ fn make_calls<F: FileStore>(
     store: &mut F,
 ) -> Result<Vec<u8>, Refusal>
     requires { 0 < calls_left scanner }
-    ensures trace { (a : AskedView) (first : StoreView) → HasTrace (Did a scanner) first (F.seen store.old)
+    ensures trace { (a : AskedRows) (first : StoreView) → HasTrace (Did a scanner) first (F.seen store.old)
         → HasTrace (Ends a (text_in result)) first (F.seen store.new) }
-    ensures beside { (a : AskedView) (first : StoreView) → HasTrace (Did a scanner) first (F.seen store.old)
+    ensures beside { (a : AskedRows) (first : StoreView) → HasTrace (Did a scanner) first (F.seen store.old)
         → IfOk result (λ text. ScansOn a (Knows scanner) text.items first (F.seen store.old) (F.seen store.new)) }
     ensures later { IsLater (F.seen store.old) (F.seen store.new) }
 {
     past_law();
+    kept_law();
     let mut scanner = scanner;
     while !is_scan_ready(&scanner) {
         match take_step(alloc, &mut scanner, store) {

@@ -3,6 +3,7 @@
 ghost use Rattle.std.specs.Prelude.{◌≡◌, ◌⊎◌, List, [], ◌∷◌, ◌++◌, ℕ, Option, Some, Result, Err};
 ghost use Rattle.pm_engine.specs.OfSchema.{meaning_of};
 ghost use Rattle.pm_schema.specs.declared.schema.TableSchema.{TableSchema};
+ghost use Rattle.pm_scan_rows.specs.Group.{runs_read};
 ghost use Rattle.pm_scan_rows.specs.Shown.{PrintsGroups};
 ghost use Rattle.pm_model_folder.specs.Changes.{Actor};
 ghost use Rattle.pm_model_folder.specs.Ledger.{Advances, Past, Stands};
@@ -20,19 +21,22 @@ ghost use Rattle.pm_schema.specs.Again.{IsDeclared};
 ghost use Rattle.pm_store.specs.Store.{StoreView};
 ghost use Rattle.pm_values.specs.declared.refusal.Refusal.{Refusal};
 ghost use Rattle.pm_values.specs.declared.refusal.Refusal.TheVariants as refusals;
-ghost use Rattle.pm_scan.specs.AllCalls.{asked_at, DidScan, Ends, PrintAlike, ScansOf, ScansTables};
+ghost use Rattle.pm_scan.specs.AllCalls.{DidScan, Ends, PassesOf, PrintAlike, ScansOf, ScansTables};
+ghost use Rattle.pm_scan.specs.Asked.{asked_at, passed_at};
 ghost use Rattle.pm_group_files.specs.Collected.{Collected, HaveTaken, nothing_of};
-ghost use Rattle.pm_group_files.specs.Jobs.{all_jobs};
 ghost use Rattle.pm_group_files.specs.Meaning.{IsChosen, IsTableView};
 ghost use Rattle.pm_group_files.specs.declared.job.Job.{Job};
-ghost use Rattle.pm_scan.specs.Meaning.{all_of, IsScan, Knows};
-ghost use Rattle.pm_scan.specs.Scanner.{next_call, Shown};
+ghost use Rattle.pm_scan.specs.Meaning.{all_of, IsScanOf, Knows};
+ghost use Rattle.pm_scan.specs.Scanner.{jobs_of, next_call, Shown};
 ghost use Rattle.pm_scan.specs.declared.phase.Phase.{Phase};
+ghost use Rattle.pm_scan.specs.declared.rows.Rows.{Rows};
 
 use pm_avro_file::one_opening_law;
 use pm_group_files::view_law;
 use pm_manifest::{Entry, ManifestMeta, joined_law};
+use pm_model_changelog::passed_law;
 use pm_model_contents::{one_contents_law, one_runs_law};
+use pm_model_following::{kept_law, start_law};
 use pm_record::one_reading_law;
 use pm_run::{one_list_law, order_law};
 use pm_scan_rows::scan_law;
@@ -42,7 +46,9 @@ use pm_schema::{declared_law, schema_law};
 pub fn known_law()
     ensures { (m : Phase) (other : Actor) (f after : Files) (p q : Past) → Stands f p → Advances other f p after q
         → Knows m f p → Knows m after q }
-{}
+{
+    kept_law();
+}
 
 /// Whatever a crash leaves of a scanner's next call has the same content at each path.
 pub fn images_law()
@@ -82,13 +88,13 @@ pub fn one_answer_law()
 }
 
 /// What is known of a view and of its files, whatever others do: its groups, if there are any, stood at the snapshot,
-/// which needs their files; and once all were read, what the groups print is the scan of the table.
+/// which needs their files; and once all were read that have the rows, what they print is the scan of these.
 pub(crate) fn files_law()
-    ensures chosen { (f : Files) (p : Past) (v : View) (job : Job) (jobs : List Job) → Stands f p → IsTableView p v
-        → all_jobs v.schema v.groups.entries ≡ job ∷ jobs → IsChosen p (all_of v) }
-    ensures all { (f : Files) (p : Past) (v : View) → Stands f p → IsTableView p v → (c : Collected) (text : List ℕ)
-        → HaveTaken (p.stood v.id) (all_jobs v.schema v.groups.entries) (nothing_of v.schema) c
-        → PrintsGroups (meaning_of c.schema) c.groups text → IsScan p v.id text }
+    ensures chosen { (rows : Rows) (f : Files) (p : Past) (v : View) (job : Job) (jobs : List Job) → Stands f p
+        → IsTableView p v → jobs_of rows v ≡ job ∷ jobs → IsChosen p (all_of rows v) }
+    ensures all { (rows : Rows) (f : Files) (p : Past) (v : View) → Stands f p → IsTableView p v → (c : Collected)
+        (text : List ℕ) → HaveTaken (p.stood v.id) (jobs_of rows v) (nothing_of v.schema) c
+        → PrintsGroups (meaning_of c.schema) (runs_read c.groups) text → IsScanOf rows p v.id text }
 {
     view_law();
     declared_law();
@@ -99,6 +105,9 @@ pub(crate) fn files_law()
     order_law();
     pm_run::reading_law();
     scan_law();
+    passed_law();
+    kept_law();
+    start_law();
 }
 
 /// What all calls of a scan show of a history that stands at the first of them, where nobody else acts from then on; and
@@ -108,6 +117,8 @@ pub fn all_calls_law()
         → IsDeclared s → HasTrace (DidScan s at result) before after → ScansTables s at before after result }
     ensures own { (s : TableSchema) (at : Option ℕ) (result : Result (List ℕ) Refusal) (before after : StoreView)
         → IsDeclared s → HasTrace (Ends (asked_at s at) result) before after → ScansOf s at before after result }
+    ensures passed { (s : TableSchema) (id : ℕ) (result : Result (List ℕ) Refusal) (before after : StoreView)
+        → IsDeclared s → HasTrace (Ends (passed_at s id) result) before after → PassesOf s id before after result }
 {
     joined_law();
     one_reading_law::<ManifestMeta>();
@@ -118,4 +129,7 @@ pub fn all_calls_law()
     order_law();
     pm_run::reading_law();
     scan_law();
+    passed_law();
+    kept_law();
+    start_law();
 }

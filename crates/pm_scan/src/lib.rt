@@ -1,4 +1,5 @@
-//! The command `scan` as a machine: it reads a table at a snapshot, and has the text of its scan.
+//! The command `scan` as a machine: it reads a table at a snapshot, and has the text of its scan, or of that of the rows
+//! which are passed on there (`Rows`).
 //!
 //! A `Scanner` reads the view of a table whose schema was read, by the reader of `pm_read_table`, and then the view's
 //! data files, by the reader of `pm_group_files`, which it holds in its phase. It changes nothing. It takes the runs of
@@ -6,10 +7,10 @@
 //! `pm_scan_rows` prints of them.
 //!
 //! `specs/Scanner.antt` has the phases, the calls and what each answer leads to; `specs/Meaning.antt` what a scanner
-//! knows in each phase, and what a step means for the files: in the end its text is the scan of the table at the
-//! snapshot, whatever others did meanwhile; `specs/Trace.antt` which calls it made, and which show a refusal.
-//! `scan_table` makes all calls of a scanner of a table whose schema was read; `specs/AllCalls.antt` has what they do
-//! where nobody else acts.
+//! knows in each phase, and what a step means for the files: in the end its text is the scan of the rows at the
+//! snapshot, whatever others did meanwhile; `specs/Rows.antt` which rows these are, and which runs have them;
+//! `specs/Trace.antt` which calls it made, and which show a refusal. `scan_table` and `scan_passed` make all calls of a
+//! scanner of a table whose schema was read; `specs/AllCalls.antt` has what they do where nobody else acts.
 #![tactic(auto)]
 
 mod after;
@@ -17,9 +18,11 @@ mod all_calls;
 mod laws;
 mod machine;
 mod phase;
+mod rows;
 mod scanner;
 
-pub use all_calls::scan_table;
+pub use all_calls::{scan_passed, scan_table};
 pub use laws::{all_calls_law, causes_law, images_law, known_law, one_answer_law};
 pub use phase::Phase;
-pub use scanner::{Scanner, into_text, is_scan_ready, newest_scan, scan_at};
+pub use rows::Rows;
+pub use scanner::{Scanner, into_text, is_scan_ready, newest_scan, passed_scan, scan_at};

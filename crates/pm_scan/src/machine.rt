@@ -1,16 +1,15 @@
 //! The phases of a scanner, and what they mean.
 
 ghost use Rattle.pm_model_folder.specs.Ledger as ledgers;
-ghost use Rattle.pm_read_table.specs.Asked as asks;
+ghost use Rattle.pm_scan.specs.Asked as asks;
 ghost use Rattle.pm_scan.specs.Meaning.{Knows};
 ghost use Rattle.pm_scan.specs.Scanner.{calls_left, next_call, Goes, IsReady, IsScanner, Shown};
 ghost use Rattle.pm_scan.specs.Trace.{Did, Shows};
 ghost use Rattle.pm_scan.specs.declared.phase.Phase.TheVariants as phases;
 
-use crate::after::after_files;
+use crate::after::{after_files, after_view};
 use crate::phase::Phase;
 use pm_machine::{Machine, ReaderPhase};
-use pm_read_table::after_view;
 use pm_store::{Answer, LentCall};
 use pm_values::Refusal;
 use std::alloc::{AllocError, Global};
@@ -28,7 +27,7 @@ impl pm_machine::Phase for Phase {
 
     fn call(&self, alloc: Global) -> Result<Option<LentCall<'_>>, AllocError> {
         match self {
-            Phase::View { reader } => reader.call(alloc),
+            Phase::View { reader, .. } => reader.call(alloc),
             Phase::Files { files, .. } => files.call(alloc),
             Phase::Ready { .. } | Phase::Over => Ok(None),
         }
@@ -40,8 +39,10 @@ impl pm_machine::Phase for Phase {
 
     fn next(self, alloc: Global, answer: Answer) -> Result<Phase, Refusal> {
         match (self, answer) {
-            (Phase::View { reader }, answer) => after_view(alloc, reader, answer),
-            (Phase::Files { id, files }, answer) => after_files(alloc, id, files, answer),
+            (Phase::View { rows, reader }, answer) => after_view(alloc, rows, reader, answer),
+            (Phase::Files { rows, id, files }, answer) => {
+                after_files(alloc, rows, id, files, answer)
+            }
             _ => unreachable!(),
         }
     }
@@ -54,7 +55,7 @@ impl ReaderPhase for Phase {
 
     ghost knows = { Knows };
 
-    ghost Asked = { asks.Asked };
+    ghost Asked = { asks.AskedRows };
 
     ghost did = { Did };
 

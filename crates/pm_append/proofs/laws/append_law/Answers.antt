@@ -29,5 +29,5 @@ returns c = published (record {
   logs = c.batch_law.ensures.logs;
   quiet = c.batch_law.ensures.quiet;
   empty = c.batch_law.ensures.empty;
-  change = record { same = c.by_key_law.ensures.same; input = c.input_law.ensures };
+  change = record { same = c.by_key_law.ensures.same; input = c.input_law.ensures; quiet = c.quiet_law.ensures };
 }) c.made_law.ensures c.commit_law.ensures

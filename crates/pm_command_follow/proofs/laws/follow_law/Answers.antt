@@ -4,9 +4,8 @@ use Rattle.pm_command_follow.proofs.laws.follow_law.Goals as goal
 pub returns : goal.returns
 returns c = follows (record {
   latest = c.all_calls_law.ensures;
-  scans = c.all_calls_law-2.ensures.own;
+  passed = c.all_calls_law-2.ensures.passed;
   frames = c.all_calls_law-3.ensures;
-  finished = c.finished_law.ensures;
   built = c.built_law.ensures;
   read = c.schema_law.ensures.exact;
   declared = c.declared_law.ensures.file;

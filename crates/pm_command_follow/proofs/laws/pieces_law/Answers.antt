@@ -5,7 +5,6 @@ pub returns-clause-first : goal.returns-clause-first
 returns-clause-first c = λ s es full start first frames tells built. are_first (record {
   within = c.frames_law.ensures.within;
   text = c.frames_law.ensures.text;
-  finished = c.finished_law.ensures;
   table = c.kept_law.ensures.table;
   change = c.kept_law.ensures.change;
 }) s tells built es full start first frames
@@ -14,7 +13,6 @@ pub returns-clause-all : goal.returns-clause-all
 returns-clause-all c = λ f s es more full start first frames stands tells built. are_all (record {
   within = c.frames_law.ensures.within;
   text = c.frames_law.ensures.text;
-  finished = c.finished_law.ensures;
   table = c.kept_law.ensures.table;
   change = c.kept_law.ensures.change;
 }) s tells built f es more full start first frames stands

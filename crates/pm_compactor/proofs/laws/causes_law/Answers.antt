@@ -10,5 +10,9 @@ returns c =
       one = c.one_contents_law.ensures;
       live = c.entries_law.ensures;
       whole = c.whole_law.ensures;
+      rows = λ s bytes rows others one other. c.one_list_law.ensures.one s _ bytes rows others one other;
+      kept = c.known_log_law.ensures.kept;
+      grows = c.planned_law.ensures.grows;
+      memory = c.planned_law.ensures.memory;
     } in
     causes laws

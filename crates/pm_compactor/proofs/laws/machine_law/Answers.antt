@@ -12,13 +12,16 @@ returns-clause-sound c =
         one = c.one_contents_law.ensures;
         runs = c.one_runs_law.ensures;
         view = c.view_law.ensures;
-        prefix = c.prefix_law.ensures;
+        newest = c.prefix_law.ensures.newest;
+        kept = c.prefix_law.ensures.kept;
         rising = c.choices_law.ensures.rising;
         each = c.choices_law.ensures.each;
+        stored = c.stored_law.ensures;
       };
       rows = λ s bytes rows others one other. c.one_list_law.ensures.one s _ bytes rows others one other;
+      kept = c.known_log_law.ensures.kept;
       whole = c.whole_law.ensures;
-      plans = record { begins = c.planned_law.ensures.begins; grows = c.planned_law.ensures.grows; whole = c.planned_law.ensures.whole };
+      plans = record { begins = c.planned_law.ensures.begins; grows = c.planned_law.ensures.grows; named = c.planned_law.ensures.named; whole = c.planned_law.ensures.whole };
       commits = record {
         begins = c.begins_law.ensures.begins;
         created = c.begins_law.ensures.created;

@@ -20,7 +20,7 @@ loop-alloc-preserved g c =
     record {
       trace = λ a first begun. went_further a c.loop-alloc.scanner c.take_step.new.reader first (seen c.loop-alloc.store) (seen c.take_step.new.store)
           c.in-Ok.field-0 (c.loop-alloc.invariant.trace a first begun) c.in-Ok.ensures.acts c.take_step.ensures.later;
-      learned = more-learned c.past_law.ensures c.args.scanner c.loop-alloc.scanner c.take_step.new.reader (seen c.args.store.now)
+      learned = more-learned c.past_law.ensures c.kept_law.ensures.table c.args.scanner c.loop-alloc.scanner c.take_step.new.reader (seen c.args.store.now)
           (seen c.loop-alloc.store) (seen c.take_step.new.store) c.loop-alloc.invariant.learned c.take_step.ensures.moves;
       left = call_left c.take_step.new.reader c.in-Ok.ensures.reaches;
       later = search rules;
@@ -35,11 +35,11 @@ returns-in-Err-clause-trace g c = λ a first begun.
 pub returns-clause-trace : goal.returns-clause-trace
 returns-clause-trace g c = λ a first begun.
     let seen = g.F.FileStore.seen in
-    was_done a c.loop-alloc.scanner c.into_text.ensures.0 c.into_text.result first (seen c.loop-alloc.store) c.into_text.ensures.1
+    was_done a c.loop-alloc.scanner c.into_text.ensures.0 c.into_text.ensures.1 c.into_text.result first (seen c.loop-alloc.store) c.into_text.ensures.2
     (c.loop-alloc.invariant.trace a first begun)
 
 pub returns-clause-beside : goal.returns-clause-beside
 returns-clause-beside g c = λ a first begun.
     let seen = g.F.FileStore.seen in
-    last-learned a c.args.scanner c.loop-alloc.scanner c.into_text.ensures.0 c.into_text.result first (seen c.args.store.now) (seen c.loop-alloc.store)
-    c.into_text.ensures.1 (c.loop-alloc.invariant.trace a first begun) c.loop-alloc.invariant.learned
+    last-learned a c.args.scanner c.loop-alloc.scanner c.into_text.ensures.0 c.into_text.ensures.1 c.into_text.result first (seen c.args.store.now) (seen c.loop-alloc.store)
+    c.into_text.ensures.2 (c.loop-alloc.invariant.trace a first begun) c.loop-alloc.invariant.learned

@@ -1,8 +1,10 @@
 use Rattle.std.proofs.Common.{subst, sym}
 use Rattle.pm_machine.specs.Trace.{HasTrace}
-use Rattle.pm_scan.specs.AllCalls.{asked_at, text_in}
+use Rattle.pm_scan.specs.AllCalls.{text_in}
+use Rattle.pm_scan.specs.Asked.{asked_at}
 use Rattle.pm_scan.specs.Trace.{Did}
 use Rattle.pm_scan.specs.declared.phase.Phase.{Phase}
+use Rattle.pm_scan.specs.declared.rows.Rows.TheVariants as shown
 use Rattle.pm_scan.proofs.BesideLemmas.{learned-by}
 use Rattle.pm_scan.proofs.AllCallsLemmas.{begins, begun, first_left, went_on}
 use Rattle.pm_scan.proofs.all_calls.scan_table.Goals as goal
@@ -40,5 +42,5 @@ returns-clause-beside g c =
     let seen = g.F.FileStore.seen in
     let a = asked_at c.args.schema c.args.at in
     let own = subst (λ (m : Phase). HasTrace (Did a m) (seen c.args.store.now) (seen c.args.store.now)) (sym c.scanner_of.ensures) (begun a (seen c.args.store.now) (begins c.args.at)) in
-    learned-by c.args.schema c.args.at c.scanner_of.result c.make_calls.result (seen c.args.store.now) (seen c.make_calls.new.store)
+    learned-by shown.All c.args.schema c.args.at c.scanner_of.result c.make_calls.result (seen c.args.store.now) (seen c.make_calls.new.store)
     c.scanner_of.ensures own c.make_calls.ensures.beside

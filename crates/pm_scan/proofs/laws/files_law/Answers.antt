@@ -15,10 +15,13 @@ returns c =
       };
       one_runs = c.one_runs_law.ensures;
       scan = c.scan_law.ensures;
+      passed = c.passed_law.ensures;
+      kept = c.kept_law.ensures.table;
+      start = c.start_law.ensures;
     } in
     let one : OneContents = c.one_contents_law.ensures in
     let tells : Tells = record { exact = c.schema_law.ensures.exact; declared = c.declared_law.ensures.file } in
     record {
-      chosen = λ f p v job jobs stands is parts. view-chosen c.view_law.ensures f p v stands is job jobs parts;
+      chosen = λ k f p v job jobs stands is parts. view-chosen c.view_law.ensures f p v stands is k job jobs parts;
       all = view-scan laws one tells;
     }

@@ -8,5 +8,5 @@ pub invariant_of-result : goal.invariant_of-result
 invariant_of-result c = record {
   groups = no_groups c.new.result.items c.new.ensures.items;
   runs = subst (All IsRising) (sym c.new-2.ensures.items) none_rising;
-  rows = subst IsRising (sym c.new-3.ensures) rising_none;
+  rows = subst IsRising (sym c.new-4.ensures) rising_none;
 }
