@@ -1,7 +1,7 @@
 #!/usr/bin/env python3
 """Random drafts, words, rows and options, and what the program answers to them, beside what a second program does that
-was written from the documents (reference_*.py). Compactions come where the program knows that command, and so do
-tables that are followed. It promises, of each command on a table that nobody else writes:
+was written from the documents (reference_*.py). Compactions come where the program knows that command, and tables of
+each producer that it makes. It promises, of each command on a table that nobody else writes:
   - its status, what it prints and what it says are those of the second program;
   - the files that it makes are byte by byte those that the second program writes, and no other file changes;
   - the second program reads of the files what the commands' rows are worth.
@@ -16,7 +16,7 @@ import time
 
 import reference_files
 from reference_commands import Table, leave_out
-from reference_table import KINDS, TYPES, Refused
+from reference_table import BUILT_PRODUCERS, KINDS, TYPES, Refused
 from trials import DRAFT, Tally, fault_of, knows, random_of, read_arguments, run, tree, work_folder
 
 SESSION = "[0-9a-f]{8}(?:-[0-9a-f]{4}){3}-[0-9a-f]{12}"
@@ -25,6 +25,12 @@ TEXTS = ["", "a", "ab", "abcdefg", "abcdefgh", "é", "\u20ac\U0001d11e", 'q"\\',
 DATES = ["0001-01-01", "9999-12-31", "1970-01-01", "2024-02-29", "1969-12-31"]
 BAD_DATES = ["2023-02-29", "0000-01-01", "1970-1-1", "", "1970-01-01x"]
 ENGINES = ["deduplicate", "deduplicate", "first-row", "partial-update", "aggregation"]
+PRODUCERS = {
+    "deduplicate": ["input", "lookup", "full-compaction"],
+    "first-row": ["lookup"],
+    "partial-update": ["lookup", "full-compaction"],
+    "aggregation": ["lookup", "full-compaction"],
+}
 FUNCTIONS = {
     "integer": ["sum", "max", "min", "last_value", "first_value", "first_non_null_value"],
     "STRING": ["listagg", "max", "min", "last_value", "last_non_null_value", "first_value"],
@@ -76,8 +82,11 @@ def draw_draft(random):
     primary = random.sample(names, 1 if maybe(random, 0.7) else 2)
     engine = random.choice(ENGINES)
     options = {} if engine == "deduplicate" else {"merge-engine": engine}
-    if engine == "deduplicate" and maybe(random, 0.5):
-        options["changelog-producer"] = "input"
+    producers = [producer for producer in PRODUCERS[engine] if producer in BUILT_PRODUCERS]
+    if producers and maybe(random, 0.6):
+        options["changelog-producer"] = random.choice(producers)
+    if maybe(random, 0.2):
+        options["changelog-producer.row-deduplicate"] = random.choice(["true", "false"])
     if engine in ("partial-update", "aggregation"):
         for field in fields:
             field["type"] = field["type"].removesuffix(" NOT NULL")
@@ -286,6 +295,12 @@ class Trial:
             self.tally.breaks(f"table {self.folder.name}", "the files are worth another table")
 
 
+def makes(program, folder, producer):
+    """Whether the program makes tables of a producer."""
+    draft = DRAFT[:-1] + b',"options":{"changelog-producer":"%s"}}' % producer.encode()
+    return run([program, folder, "create"], draft).status == 0
+
+
 def main():
     found = read_arguments(__doc__, 1000)
     tally = Tally()
@@ -293,6 +308,8 @@ def main():
         for word in ("compact", "follow"):
             if not knows(found.program, work, word):
                 leave_out(word)
+        for producer in [known for known in BUILT_PRODUCERS if not makes(found.program, work / known, known)]:
+            BUILT_PRODUCERS.remove(producer)
         for number in range(found.count):
             Trial(tally, found.program, work / str(number), random_of(found.seed, number)).run()
             tally.add("tables")

@@ -5,10 +5,11 @@ second program: reference_files.py has the folders, and what the files hold.
 
 import itertools
 
-from reference_compact import Choice, asked_in, merged, pieces
+from reference_compact import Choice, asked_in, first_told, log_of, merged, pieces
 from reference_files import (
     GREATEST_ID,
     GREATEST_SEQUENCE,
+    Lookup,
     View,
     data_file,
     entry,
@@ -52,8 +53,12 @@ class Session:
         if used:
             raise Refused(f"E20 session used manifest/{min(used, key=str.encode)}")
 
+    def add_changes(self, schema, rows):
+        """Creates the changelog file of rows, each with its kind."""
+        return self.add_data(schema, [(at, kind, row) for at, (kind, row) in enumerate(rows)], 0, "changelog")
+
     def add_data(self, schema, run, level, word="data"):
-        """Creates the data file of a run, or the changelog file of a batch."""
+        """Creates the data file of a run, or the file of changes that have numbers."""
         name = self.name(word, ".avro")
         data = data_file(schema, run, self.marker)
         self.create(f"bucket-0/{name}", data)
@@ -101,11 +106,25 @@ def compact(folder, full, session, time):
     made = Session(folder, session, time)
     made.judge_names()
     count, level = choice
-    rows = [view.run_rows(run) for run in found[:count]][::-1]
-    files = pieces(merged(schema, rows, count == len(found)))
+    rows = [view.run_rows(run) for run in found[:count]]
+    log = log_in(view, found, rows)
+    files = pieces(merged(schema, rows[::-1], count == len(found)))
     removed = [file for run in found[:count] for file in run]
     full_at = view.properties["appends"] if asked == "all" else None
-    return commit(made, schema, Compaction(removed, files, level, full_at), view)
+    return commit(made, schema, Compaction(removed, files, level, full_at, log), view)
+
+
+def log_in(view, found, rows):
+    """What a compaction tells that takes the newest of the runs, of which the rows are given."""
+    schema, left = view.schema, found[len(rows) :]
+    is_told = schema.producer == "lookup" or schema.producer == "full-compaction" and not left
+    if not is_told:
+        return []
+    lookup = Lookup(view, left)
+    taken = list(zip((run[0]["level"] for run in found), rows))[::-1]
+    newer = [of_run for level, of_run in taken if level < first_told(schema)]
+    older = [of_run for level, of_run in taken if level >= first_told(schema)]
+    return log_of(schema, newer, older, lookup.rows)
 
 
 class Append:
@@ -141,8 +160,7 @@ class Append:
         """Creates the changelog files, which have all rows by rising key, each as it came."""
         if schema.producer != "input":
             return []
-        rows = [row for of_key in by_key(schema, self.rows) for row in of_key]
-        return [made.add_data(schema, [(at, kind, row) for at, (kind, row) in enumerate(rows)], 0, "changelog")]
+        return [made.add_changes(schema, [row for of_key in by_key(schema, self.rows) for row in of_key])]
 
 
 def first_number(view):
@@ -150,13 +168,14 @@ def first_number(view):
 
 
 class Compaction:
-    """Files that go, and the rows of those that come in their place, made in the first try alone."""
+    """Files that go, the rows of those that come in their place, and what is told, each with its kind. The files are
+    made in the first try alone."""
 
     kind, appends, user, ident = "COMPACT", 0, None, GREATEST
 
-    def __init__(self, removed, files, level, full):
-        self.removed, self.files, self.level, self.full = removed, files, level, full
-        self.made, self.created = len(files), None
+    def __init__(self, removed, files, level, full, log):
+        self.removed, self.files, self.level, self.full, self.log = removed, files, level, full, log
+        self.made, self.created, self.changes = len(files), None, None
 
     def is_done(self, view):
         """A compaction looks for no user."""
@@ -176,8 +195,9 @@ class Compaction:
         return self.created
 
     def told(self, made, schema):
-        """A compaction of a table that tells its input has nothing to tell."""
-        return []
+        if self.changes is None:
+            self.changes = [made.add_changes(schema, self.log)] if self.log else []
+        return self.changes
 
 
 def newest_view(folder, schema):

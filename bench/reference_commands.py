@@ -7,8 +7,8 @@ import re
 
 import reference_changes
 import reference_files
-import reference_table
-from reference_table import Refused, by_key, printable, read_batch, read_draft, scanned
+from reference_compact import told_of
+from reference_table import Refused, by_key, printable, read_batch, read_draft, scanned, worth
 
 GREATEST = 2**63 - 1
 OPTIONS = {
@@ -23,11 +23,8 @@ FLAGS = ("--full",)  # the options that take no text
 
 
 def leave_out(command):
-    """Has the words of a command give none, for a program that hasn't it yet. One that can't follow makes no table that
-    is followed."""
+    """Has the words of a command give none, for a program that hasn't it yet."""
     OPTIONS.pop(command, None)
-    if command == "follow":
-        reference_table.BUILT_PRODUCERS.remove("input")
 
 
 def is_value(option, text):
@@ -119,6 +116,7 @@ class Table:
         self.schema = None
         self.commits = []  # of each its user and its identifier
         self.rows = []  # of each commit the rows that it took
+        self.passed = [0]  # of each snapshot, from 0 on, how many commits had their rows passed on
         self.folder = reference_files.Memory()
 
     def answer(self, words, data, session, time):
@@ -135,8 +133,8 @@ class Table:
         elif command == "write":
             self.write(data, session, options.get("--user"), int(options.get("--ident", GREATEST)), printed)
         elif command == "compact" and printed.startswith("snapshot "):
-            self.commits.append((f"{session}-0", GREATEST))
-            self.rows.append([])
+            passed = len(self.commits) if self.passes_on() else self.passed[-1]
+            self.add(f"{session}-0", GREATEST, [], passed)
         elif command == "scan":
             printed = self.scan(options.get("--snapshot"))
         elif command == "follow":
@@ -150,22 +148,50 @@ class Table:
         if not rows or earlier and earlier[-1] >= ident:
             wanted = "already\n" if rows else "nothing to commit\n"
         else:
-            self.commits.append((user or f"{session}-0", ident))
-            self.rows.append(rows)
+            passed = len(self.commits) + 1 if self.schema.producer in ("none", "input") else self.passed[-1]
+            self.add(user or f"{session}-0", ident, rows, passed)
             wanted = f"snapshot {len(self.commits)}\n"
         if printed != wanted:
             raise AssertionError(f"the files say {printed!r} in the place of {wanted!r}")
 
+    def add(self, user, ident, rows, passed):
+        """Adds a commit, and how many of all have their rows passed on with it."""
+        self.commits.append((user, ident))
+        self.rows.append(rows)
+        self.passed.append(passed)
+
+    def passes_on(self):
+        """Whether the compaction that made the newest files passes on all rows before it: with look-ups each does, with
+        full compactions one that left no other run."""
+        if self.schema.producer == "full-compaction":
+            view = reference_changes.newest_view(self.folder, reference_files.read_schema(self.folder))
+            return len(reference_files.runs(view.live)) <= 1
+        return True
+
     def scan(self, asked):
-        number = len(self.commits) if asked is None else int(asked)
-        return scanned(self.schema, [row for rows in self.rows[:number] for row in rows])
+        return scanned(self.schema, self.rows_to(len(self.commits) if asked is None else int(asked)))
+
+    def rows_to(self, number):
+        return [row for rows in self.rows[:number] for row in rows]
 
     def follow(self, asked, is_full):
         """The frames from a number on; those that aren't there have no line, as in the files."""
         start = len(self.commits) + 1 if asked is None else int(asked)
-        table = f'{{"table":{start - 1}}}\n{self.scan(start - 1)}' if is_full else ""
-        frames = ""
-        for number, rows in enumerate(self.rows[start - 1 :], start):
-            told = [row for of_key in by_key(self.schema, rows) for row in of_key]
-            frames += reference_files.framed(number, told)
-        return table + frames
+        passed = self.rows_to(self.passed[start - 1])
+        shown = f'{{"table":{start - 1}}}\n{scanned(self.schema, passed)}' if is_full else ""
+        for number in range(start, len(self.commits) + 1):
+            shown += reference_files.framed(number, self.change(number))
+        return shown
+
+    def change(self, number):
+        """What a snapshot tells, by the rows that were passed on before it and with it."""
+        if self.schema.producer == "input":
+            return [row for of_key in by_key(self.schema, self.rows[number - 1]) for row in of_key]
+        before, after = self.passed[number - 1], self.passed[number]
+        told = []
+        for of_key in by_key(self.schema, [row for rows in self.rows[before:after] for row in rows]):
+            key = self.schema.key(of_key[0][1])
+            known = [row for row in self.rows_to(before) if self.schema.key(row[1]) == key]
+            old = worth(self.schema, known) if known else None
+            told += told_of(self.schema, old, worth(self.schema, known + of_key))
+        return told

@@ -1,5 +1,5 @@
-"""What a compaction takes and what becomes of it, by docs/BEHAVIOUR.md: part of the second program, which reads and
-writes the files of it in reference_files.py.
+"""What a compaction takes, what becomes of it and what it tells, by docs/BEHAVIOUR.md: part of the second program,
+which reads and writes the files of it in reference_files.py.
 """
 
 from reference_table import ADDING, worth
@@ -16,6 +16,17 @@ def asked_in(schema, full, appends, last):
     return "level 0" if schema.options.get("changelog-producer") == "lookup" else "by size"
 
 
+def top_of(schema):
+    """The highest level."""
+    trigger = schema.options.get("num-sorted-run.compaction-trigger", "5")
+    return int(schema.options.get("num-levels", int(trigger) + 1)) - 1
+
+
+def first_told(schema):
+    """The lowest level whose rows were told, by the table's producer: what is told of others is told upon these."""
+    return {"lookup": 1, "full-compaction": top_of(schema)}.get(schema.producer, 0)
+
+
 class Choice:
     """How many runs of a group go, the newest ones, and to which level; of each run its level and its size."""
 
@@ -24,7 +35,7 @@ class Choice:
         self.trigger = int(trigger)
         self.amplification = int(schema.options.get("compaction.max-size-amplification-percent", "200"))
         self.ratio = int(schema.options.get("compaction.size-ratio", "1"))
-        self.top = int(schema.options.get("num-levels", self.trigger + 1)) - 1
+        self.top = top_of(schema)
         self.levels = [level for level, _ in runs]
         self.sizes = [min(size, LARGEST) for _, size in runs]
 
@@ -67,14 +78,19 @@ def stored_row(schema, of_key):
     return of_key[-1] if schema.engine == "deduplicate" else of_key[0]
 
 
-def merged(schema, found, is_whole):
-    """The run that runs become, the oldest first: of each key one row with the greatest number. Where all runs of the
-    group went, a row that deletes has nothing left to delete."""
+def rows_by_key(schema, found):
+    """The rows of each key in runs, those of the oldest first."""
     rows = {}
     for run in found:
         for number, kind, row in run:
             rows.setdefault(schema.key(row), []).append((number, kind, row))
-    run = []
+    return rows
+
+
+def merged(schema, found, is_whole):
+    """The run that runs become, the oldest first: of each key one row with the greatest number. Where all runs of the
+    group went, a row that deletes has nothing left to delete."""
+    rows, run = rows_by_key(schema, found), []
     for key in sorted(rows):
         kind, row = stored_row(schema, [(kind, row) for _, kind, row in rows[key]])
         if not is_whole or schema.engine != "deduplicate" or kind in ADDING:
@@ -85,3 +101,26 @@ def merged(schema, found, is_whole):
 def pieces(run):
     """The rows of each file of a run."""
     return [run[at : at + MOST_IN_FILE] for at in range(0, len(run), MOST_IN_FILE)]
+
+
+def log_of(schema, newer, older, look):
+    """What runs that are told now say of their keys, by rising key, upon the older ones: of these some are at hand, and
+    the rows of a key in the others are looked up. Of both the oldest run comes first."""
+    now, before, told = rows_by_key(schema, newer), rows_by_key(schema, older), []
+    for key in sorted(now):
+        known = look(key) + before.get(key, [])
+        told += told_of(schema, shown_of(schema, known), shown_of(schema, known + now[key]))
+    return told
+
+
+def shown_of(schema, rows):
+    """The row that stored rows of a key show; none where they show none."""
+    return worth(schema, [(kind, row) for _, kind, row in rows]) if rows else None
+
+
+def told_of(schema, old, new):
+    """What is told of a key that showed one row and shows another, or none."""
+    leaves_out = schema.engine == "first-row" or schema.options.get("changelog-producer.row-deduplicate") == "true"
+    if old is None or new is None:
+        return [("-D", old)] * (old is not None) + [("+I", new)] * (new is not None)
+    return [] if leaves_out and old == new else [("-U", old), ("+U", new)]

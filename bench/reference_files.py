@@ -9,7 +9,7 @@ import re
 import stat
 
 from reference_avro import FIRST_DAY, LAST_DAY, Bad, Blocks, binary, read_binary, written
-from reference_compact import stored_row
+from reference_compact import first_told, stored_row
 from reference_table import (
     ADDING,
     BITS,
@@ -290,6 +290,11 @@ def may_stand(kind, wanted, in_union=False):
 
 def read_records(path, data, needed, read):
     """The records of a file, each as it is read with its type; a first fault is refused with its block's offset."""
+    return [record for block in read_blocks(path, data, needed, read) for record in block]
+
+
+def read_blocks(path, data, needed, read):
+    """The same, one block after another, each when it is asked for."""
     try:
         blocks = Blocks(data)
     except Bad as error:
@@ -297,13 +302,11 @@ def read_records(path, data, needed, read):
     for fields_of, names in needed:
         if not set(names) <= set(fields_of(blocks.kind)):
             raise damaged(path)
-    found = []
     for offset, block in blocks:
         try:
-            found += [read(blocks.kind, datum) for datum in block()]
+            yield [read(blocks.kind, datum) for datum in block()]
         except Bad as error:
             raise damaged(path, offset) from error
-    return found
 
 
 def value_of(fields, record, name, wanted, bounds=None):
@@ -444,9 +447,13 @@ class RunReader:
         self.last = None
 
     def read(self, path, data):
+        return [row for block in self.blocks(path, data) for row in block]
+
+    def blocks(self, path, data):
+        """The rows of a file, one block after another."""
         names = [f"_KEY_{name}" for name, _, _ in self.schema.key_columns()]
         needed = [*names, "_SEQUENCE_NUMBER", "_VALUE_KIND", *self.schema.names]
-        return read_records(path, data, [(record_fields, needed)], self.read_row)
+        return read_blocks(path, data, [(record_fields, needed)], self.read_row)
 
     def read_row(self, kind, record):
         if record is None:
@@ -480,15 +487,16 @@ def newest_of(folder):
     return max(snapshot_ids(folder), default=0)
 
 
-def table_at(folder, schema, asked):
-    """The lines of a table at a snapshot."""
+def table_at(folder, schema, asked, least=0):
+    """The lines of a table at a snapshot, as far as its runs from that level on have them."""
     newest = newest_of(folder)
     number = newest if asked is None else asked
     if number > newest:
         raise Refused(f"E12 snapshot {number} latest {newest}")
     view, rows = View(folder, schema, number), []
     for run in runs(view.live_files()):
-        rows = [(kind, row) for _, kind, row in view.run_rows(run)] + rows
+        if run[0]["level"] >= least:
+            rows = [(kind, row) for _, kind, row in view.run_rows(run)] + rows
     return scanned(schema, rows)
 
 
@@ -503,7 +511,7 @@ def follow(folder, asked, is_full, show):
     if start > newest + 1:
         raise Refused(f"E12 snapshot {start} latest {newest}")
     if is_full:
-        show(f'{{"table":{start - 1}}}\n' + table_at(folder, schema, start - 1))
+        show(f'{{"table":{start - 1}}}\n' + table_at(folder, schema, start - 1, first_told(schema)))
     for number in range(start, newest_of(folder) + 1):
         rows = View(folder, schema, number).changes()
         show(framed(number, rows))
@@ -566,10 +574,13 @@ class View:
         for file in files:
             path = f"bucket-0/{file['name']}"
             data = self.read(path)
-            if file["schema"] != self.schema.id:
-                raise damaged(f"schema/schema-{file['schema']}")
+            self.judge_schema(file)
             rows += reader.read(path, data)
         return rows
+
+    def judge_schema(self, file):
+        if file["schema"] != self.schema.id:
+            raise damaged(f"schema/schema-{file['schema']}")
 
     def changes(self):
         """The rows of the snapshot's changelog, each with its kind."""
@@ -582,6 +593,51 @@ class View:
                 files.append(file)
         found = [self.rows_of([file], RunReader(self.schema, True)) for file in files]
         return [(kind, row) for rows in found for _, kind, row in rows]
+
+
+class Lookup:
+    """Runs in which the rows of keys are looked up, the newest first. Their files are read and not judged: only those
+    are that may have a key, as far as up to its place."""
+
+    def __init__(self, view, found):
+        self.view = view
+        self.files = [LookedFile(view, file, view.read(f"bucket-0/{file['name']}")) for run in found for file in run]
+
+    def rows(self, key):
+        """The rows that the runs have of a key, those of the oldest first."""
+        found = [row for file in self.files if file.may_have(key) for row in file.look(key)]
+        return found[::-1]
+
+
+class LookedFile:
+    """A file with the blocks that were read of it, of each its last key and the rows of its keys."""
+
+    def __init__(self, view, file, data):
+        self.view, self.file = view, file
+        self.known, self.left = [], self.blocks(data)
+
+    def may_have(self, key):
+        return self.file["least"] <= key <= self.file["greatest"]
+
+    def blocks(self, data):
+        """Reads a block when it is asked for. The order of keys is judged in each block alone."""
+        schema = self.view.schema
+        self.view.judge_schema(self.file)
+        reader = RunReader(schema)
+        for block in reader.blocks(f"bucket-0/{self.file['name']}", data):
+            reader.last = None
+            yield [schema.key(row) for _, _, row in block[-1:]], {schema.key(row[2]): row for row in block}
+
+    def look(self, key):
+        """The rows of a key. No block is read behind the first one whose last key isn't below it."""
+        for last, rows in self.known:
+            if last >= [key]:
+                return [rows[key]] if key in rows else []
+        for last, rows in self.left:
+            self.known.append((last, rows))
+            if last >= [key]:
+                return [rows[key]] if key in rows else []
+        return []
 
 
 def runs(live):

@@ -163,7 +163,7 @@ def judge_options(options):
             raise unsupported(key, text)
 
 
-BUILT_PRODUCERS = ["none", "input"]
+BUILT_PRODUCERS = ["none", "input", "lookup", "full-compaction"]
 
 
 class Schema:
