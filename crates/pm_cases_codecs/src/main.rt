@@ -44,6 +44,7 @@
 //! | `timed-run` | a count | in how many milliseconds such a run is written and read, for a script of `bench/` |
 //! | `long-merge` | a count, how many runs, `spread` or `same` | the files that they become, as of `long-run` |
 //! | `timed-merge` | the same | their sums; in how many milliseconds they are read and rewritten; the sums then |
+//! | `look-up` | a count, a limit, how many blocks may be kept, a file, keys | what is found of each; or the refusal |
 //! | `merge` | a draft, `keep` or `drop`, runs | the rows of the run that they are made into; or `nothing` |
 //!
 //! The argument of `live` is manifests with `;` between them. The entries of one are words: `+NAME@LEVEL/BUCKET` adds a
@@ -72,7 +73,9 @@
 //! A row of `write-run` and `merge` is `NUMBER:LINE`, its sequence number and its row line; rows have a TAB between
 //! each two. Runs have `;` between each two, the oldest first, and the keys of each rise; where no TAB follows `keep`
 //! or `drop`, there is no run. The rows of `write-changes` have the numbers from 0 on. Those of `long-run` have the
-//! keys from 1 on, each its key as its number, and `v` and its key as its text.
+//! keys from 1 on, each its key as its number, and `v` and its key as its text; in such a run at level 5 the keys of
+//! `look-up` are looked up, one after another, with a TAB between each two. Of the file of that name, if there is one,
+//! the last byte is another. What is found is the line of the key's row, or `none`.
 //!
 //! The runs of `long-merge` have so many rows together, and a file each. Their keys count from 1 on: where they are
 //! `spread` each stands in one run, which a hash of it tells, else all stand in each run. The rows are numbered from 1
@@ -181,7 +184,7 @@ fn answer_table(rt: &HostRuntime, case: &mut Case, codec: &str, arguments: &str)
         | "write-run"
         | "write-changes"
         | "merge" => table::answer(rt, case, codec, first, rest),
-        "long-run" | "timed-run" | "long-merge" | "timed-merge" => {
+        "long-run" | "timed-run" | "long-merge" | "timed-merge" | "look-up" => {
             table::answer(rt, case, codec, DRAFT, arguments)
         }
         _ => case.reject(),

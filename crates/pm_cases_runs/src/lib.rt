@@ -1,9 +1,10 @@
-//! Cases of files of rows, of changelogs, and of runs that are merged or rewritten, which `pm_cases_codecs` answers: what
+//! Cases of files of rows, of changelogs, and of runs that are merged, rewritten or looked in, which `pm_cases_codecs` answers: what
 //! a line of it says of them stands in the head of that program.
 #![tactic(auto)]
 
 mod long_merge;
 mod long_run;
+mod look_up;
 mod merge;
 mod order;
 mod rows;

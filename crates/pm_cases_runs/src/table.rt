@@ -1,6 +1,6 @@
 //! A table, and what is tried with its rows.
 
-use crate::{long_merge, long_run, merge, run_file, timed_merge, timed_run, written};
+use crate::{long_merge, long_run, look_up, merge, run_file, timed_merge, timed_run, written};
 use pm_cases::Case;
 use pm_model_history::primary_of;
 use pm_schema::TableSchema;
@@ -43,6 +43,7 @@ pub fn run_answer(
         "merge" => merge::answer(case, table, rest),
         "long-run" => long_run::answer(case, table, rest),
         "long-merge" => long_merge::answer(case, table, rest),
+        "look-up" => look_up::answer(case, table, rest),
         "timed-merge" => timed_merge::answer(rt, case, table, rest),
         _ => timed_run::answer(rt, case, table, rest),
     }
