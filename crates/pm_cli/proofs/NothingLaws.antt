@@ -53,7 +53,7 @@ followed_none : (from : Option ℕ) (full : Bool) (out : SinkView) (store : Stor
     → follow.IsFollowed from full out out store store (Some refusals.Memory)
 followed_none from full out store =
     let none = read_none store in
-    (none.0, follow.refused_first refusals.Memory (follow.of_schema (follow.of_reader none.1)) refl, none.2)
+    ((none.0, follow.refused_first refusals.Memory (follow.of_schema (follow.of_reader none.1)) refl, none.2), follow.refuses refusals.Memory refl)
 
 -- what the law of `follow` says
 abbrev pub FollowLaw : Type 0

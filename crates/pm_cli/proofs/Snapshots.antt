@@ -139,10 +139,10 @@ makes : (e : Execution) (h : History) (answer : Option Refusal) → ListsSnapsho
     → LeavesFiles (λ f. Folder f h) (found_by e) → AnswersHistory h (found_by e) e.before e.after answer
     → HasMade (with_command commands.Snapshots e) h answer h
 makes e h None acts stands (some, (lines, are, taken)) = (snapshots_text lines, does e h lines some are stands, taken)
-makes e h (Some (refusals.SinkFault snapshot)) (made, (own, did, traces), says) stands (failed, some, (lines, are, taken)) =
+makes e h (Some (refusals.SinkFault snapshot)) (made, (own, did, traces), beside, says) stands (failed, some, (lines, are, taken)) =
     let none = none_named made own e.before.out e.after.out snapshot did says in
     (snapshots_text lines, does e h lines some are stands, taken, none ∙ none_made h)
-makes e h (Some refusal) (made, trace, prints) stands may =
+makes e h (Some refusal) (made, trace, beside, prints) stands may =
     makes_nothing (with_command commands.Snapshots e) h refusal tt (unprinted (text_of made) (result_err made) e.before.out e.after.out refusal tt prints)
 
 pub keeps : SameStarts → (e : Execution) → IsExecuted (with_command commands.Snapshots e) → Keeps (with_command commands.Snapshots e)

@@ -642,7 +642,7 @@ answers laws f h folder from full own first last before after answer (refused_fr
 
 pub follows : Laws → (from : Option ℕ) (full : Bool) (out out_after : SinkView) (store store_after : StoreView) (answer : Option Refusal)
     → IsFollowed from full out out_after store store_after answer → FollowsAny from full out out_after store store_after answer
-follows laws from full out out_after store store_after answer (own, ends, trace) = λ alone h stands.
+follows laws from full out out_after store store_after answer ((own, ends, trace), beside) = λ alone h stands.
     let first = at_first_own store store_after in
     let files = files_of (λ f. Folder f h) first stands in
     let so = answers laws files.0 h files.2 from full own first store_after out out_after answer ends

@@ -3,8 +3,11 @@ mod CompleteLemmas
 mod FinishedLemmas
 mod HistoryLemmas
 pub mod JoinLemmas
+mod KnownLemmas
+mod LearnLemmas
 mod OneLemmas
 mod PieceLemmas
+mod ReadLemmas
 mod ReplayLemmas
 mod StageLemmas
 mod TextLemmas

@@ -17,7 +17,7 @@ use Rattle.pm_scan.specs.AllCalls as scanner
 use Rattle.pm_scan.specs.Asked.{passed_at}
 use Rattle.pm_read_frame.specs.AllCalls.{DidFrame}
 use Rattle.pm_command.specs.Outside as outside
-use Rattle.pm_command_follow.specs.Follow.{DidSchema, DidTable, HasSchema, IsFollowed, Lists, Opens, ReadsFrames, Starts, Then, Took, all, fails_frame, fails_table, of_listing, of_producer, of_reader, of_schema, of_start, of_table, of_unbuilt, refused_first, refused_frame, refused_listing}
+use Rattle.pm_command_follow.specs.Follow.{DidSchema, DidTable, HasEnded, HasSchema, Lists, Opens, ReadsFrames, Starts, Then, Took, all, fails_frame, fails_table, of_listing, of_producer, of_reader, of_schema, of_start, of_table, of_unbuilt, refused_first, refused_frame, refused_listing}
 use Rattle.pm_command_follow.specs.Pieces.{HasPrinted, PrintsFrame, PrintsFrames, PrintsPiece, PrintsStart}
 use Rattle.pm_command_follow.specs.Printed.{count_from, start_of, table_head}
 use Rattle.pm_command_follow.proofs.JoinLemmas.{in_a_row, rose_wider}
@@ -41,20 +41,20 @@ pub schema_read : (s : TableSchema) (store after : StoreView) → s.options.prod
 schema_read s store after tells built (own, did, trace) = (own, (tells, built, did), trace)
 
 pub schema_shown : (from : Option ℕ) (full : Bool) (e : Refusal) (out : SinkView) (store after : StoreView) → HasTrace (DidSchema (Err e)) store after
-    → IsFollowed from full out out store after (Some e)
+    → HasEnded from full out out store after (Some e)
 schema_shown from full e out store after (own, shows, trace) = (own, refused_first e (of_schema shows) refl, trace)
 
 -- ---- the start
 
 pub listing_shown : (s : TableSchema) (from : Option ℕ) (full : Bool) (e : Refusal) (out : SinkView) (first middle after : StoreView) → HasTrace (HasSchema s) first middle
-    → HasTrace (DidLatest (Err e)) middle after → IsFollowed from full out out first after (Some e)
+    → HasTrace (DidLatest (Err e)) middle after → HasEnded from full out out first after (Some e)
 listing_shown s from full e out first middle after has did =
     let t = in_a_row (HasSchema s) (DidLatest (Err e)) first middle after has did in
     (t.0, refused_first e (of_listing s t.1) refl, t.2)
 
 pub start_shown : (s : TableSchema) (from : Option ℕ) (full : Bool) (latest : ℕ) (e : Refusal) (out : SinkView) (first middle after : StoreView)
     → HasTrace (HasSchema s) first middle → HasTrace (DidLatest (Ok latest)) middle after
-    → (id : ℕ) × (from ≡ Some id) × (suc latest < id) × (e ≡ refusals.NoSnapshot id latest) → IsFollowed from full out out first after (Some e)
+    → (id : ℕ) × (from ≡ Some id) × (suc latest < id) × (e ≡ refusals.NoSnapshot id latest) → HasEnded from full out out first after (Some e)
 start_shown s from full latest e out first middle after has did (id, asked, above, is) =
     let t = in_a_row (HasSchema s) (DidLatest (Ok latest)) first middle after has did in
     (t.0, refused_first e (of_start s id latest asked above is t.1) refl, t.2)
@@ -98,10 +98,10 @@ unprinted did e out store after trace = inr (trace, refl)
 -- ---- with the starting table or without it
 
 pub table_shown : (s : TableSchema) (from : Option ℕ) (start : ℕ) (e : Refusal) (out out_after : SinkView) (first middle after : StoreView)
-    → HasTrace (Starts s from start) first middle → PrintsStart s start out out_after middle after (Some e) → IsFollowed from true out out_after first after (Some e)
+    → HasTrace (Starts s from start) first middle → PrintsStart s start out out_after middle after (Some e) → HasEnded from true out out_after first after (Some e)
 table_shown s from start e out out_after first middle after starts (inl (text, did, (is, failed, took))) =
     let t = in_a_row (Starts s from start) (DidTable s start (Ok text)) first middle after starts did in
-    subst (λ (e : Refusal). IsFollowed from true out out_after first after (Some e)) (sym is) (t.0, fails_table s start text refl t.1 failed took, t.2)
+    subst (λ (e : Refusal). HasEnded from true out out_after first after (Some e)) (sym is) (t.0, fails_table s start text refl t.1 failed took, t.2)
 table_shown s from start e out out_after first middle after starts (inr (did, same)) =
     let t = in_a_row (Starts s from start) (DidTable s start (Err e)) first middle after starts did in
     (t.0, refused_first e (of_table s start refl t.1) same, t.2)
@@ -138,7 +138,7 @@ opened_without s from start out first after (own, starts, trace) = record {
 
 pub second_shown : (s : TableSchema) (from : Option ℕ) (full : Bool) (start : ℕ) (text : List ℕ) (e : Refusal) (out out_after : SinkView) (first middle after : StoreView)
     → HasTrace (Opens s from full start text) first middle → Took full 0 text out out_after → HasTrace (DidLatest (Err e)) middle after
-    → IsFollowed from full out out_after first after (Some e)
+    → HasEnded from full out out_after first after (Some e)
 second_shown s from full start text e out out_after first middle after opens took did =
     let t = in_a_row (Opens s from full start text) (DidLatest (Err e)) first middle after opens did in
     (t.0, refused_listing e s start text t.1 took, t.2)
@@ -154,7 +154,7 @@ took_join full count text frames first middle last (taken, untouched, later) (mo
 pub frames_shown : (s : TableSchema) (from : Option ℕ) (full : Bool) (start latest : ℕ) (text : List ℕ) (out between out_after : SinkView)
     (first middle now after : StoreView) (answer : Option Refusal) → HasTrace (Opens s from full start text) first middle → Took full 0 text out between
     → HasTrace (DidLatest (Ok latest)) middle now → PrintsFrames s start latest between out_after now after answer
-    → IsFollowed from full out out_after first after answer
+    → HasEnded from full out out_after first after answer
 frames_shown s from full start latest text out between out_after first middle now after None opens took did (frames, read, took_frames) =
     let lists = in_a_row (Opens s from full start text) (DidLatest (Ok latest)) first middle now opens did in
     let t = in_a_row (Lists s from full start latest text) (ReadsFrames s start (count_from start latest) frames) first now after lists read in (
@@ -169,7 +169,7 @@ frames_shown s from full start latest text out between out_after first middle no
     let more = in_a_row (ReadsFrames s start count frames) (DidFrame s (start + count) (Ok frame)) now until after read did_frame in
     let t = in_a_row (Lists s from full start latest text) (Then (ReadsFrames s start count frames) (DidFrame s (start + count) (Ok frame))) first now after lists more in
     let took_all = took_join full count text frames out between last took took_frames in
-    subst (λ (e : Refusal). IsFollowed from full out out_after first after (Some e)) (sym is) (
+    subst (λ (e : Refusal). HasEnded from full out out_after first after (Some e)) (sym is) (
       t.0,
       fails_frame count (text ++ frames) frame (s, start, latest, text, frames, few, t.1, refl)
           (rose_wider out.faults last.faults out_after.faults took_all.2 failed)

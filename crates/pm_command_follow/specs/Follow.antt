@@ -8,7 +8,7 @@ use Rattle.pm_values.specs.declared.refusal.Refusal.{Refusal}
 use Rattle.pm_values.specs.declared.refusal.Refusal.TheVariants as refusals
 use Rattle.pm_io.specs.Sink.{SinkView, SinkFailed, SinkLater, TookPrefix}
 use Rattle.pm_store.specs.Store.{StoreView, FromFirst}
-use Rattle.pm_machine.specs.Trace.{Event, Traces}
+use Rattle.pm_machine.specs.Trace.{Event, HasTrace, Traces}
 use Rattle.pm_options.specs.declared.kinds.Producer.TheVariants as producers
 use Rattle.pm_schema.specs.declared.schema.TableSchema.{TableSchema}
 use Rattle.pm_model_history.specs.History.{Entry, History, IsTableOf, no_table, table}
@@ -17,6 +17,7 @@ use Rattle.pm_model_folder.specs.Folder.{Folder}
 use Rattle.pm_model_folder.specs.Ledger.{count_of}
 use Rattle.pm_create.specs.Making.{LeavesFiles}
 use Rattle.pm_draft.specs.Built.{IsBuilt, unbuilt}
+use Rattle.pm_read_schema.specs.Beside.{AnyPast, Learns}
 use Rattle.pm_read_schema.specs.Trace as reader
 use Rattle.pm_read_schema.specs.declared.phase.Phase.TheVariants as readers
 use Rattle.pm_read_latest.specs.AllCalls.{DidLatest}
@@ -25,6 +26,7 @@ use Rattle.pm_scan.specs.AllCalls.{path_of}
 use Rattle.pm_scan.specs.Asked.{passed_at}
 use Rattle.pm_read_frame.specs.AllCalls.{DidFrame}
 use Rattle.pm_command.specs.Outside.{ImagesRest, Outside, Rests}
+use Rattle.pm_command_follow.specs.Beside.{IsFirstOf}
 use Rattle.pm_command_follow.specs.Printed.{count_from, follow_text, start_of, table_head, text_so_far}
 
 -- ---- its calls
@@ -139,9 +141,52 @@ pub data Ends (from : Option ℕ) (full : Bool) (before after : SinkView) (own :
       → Ends from full before after own (Some e)
 
 -- its calls, with what was printed
+abbrev pub HasEnded : Option ℕ → Bool → SinkView → SinkView → StoreView → StoreView → Option Refusal → Type 0
+HasEnded from full out out_after store store_after answer =
+    (own : List Event) × Ends from full out out_after own answer × Traces own store store_after
+
+-- ---- whatever others do before, between and after its calls
+
+-- it starts there, and any calls came after these
+abbrev pub HasStarted : TableSchema → Option ℕ → ℕ → List Event → Type 0
+HasStarted s from start own = Then (Starts s from start) (λ later. Unit {0}) own
+
+-- it opened, the snapshots were listed again, whose latest this is, and the frames of all up to it were read
+abbrev pub ReadsTo : TableSchema → Option ℕ → Bool → ℕ → ℕ → List Event → Type 0
+ReadsTo s from full start latest own = (table frames : List ℕ)
+    × Then (Lists s from full start latest table) (ReadsFrames s start (count_from start latest) frames) own
+
+-- The text is that of the first pieces of what is printed of the table: of each history that the files stand for, once
+-- others changed them by the kinds of change alone.
+abbrev pub LearnsFirst : TableSchema → Bool → ℕ → ℕ → List ℕ → StoreView → StoreView → Type 0
+LearnsFirst s full start count text before after = Learns AnyPast
+    (λ f p. (entries : List Entry) × (p.history ≡ table s entries) × IsFirstOf s entries full start count text)
+    before after
+
+-- What was printed, and what it is of the history. All frames were, up to the latest snapshot that was listed, behind
+-- the starting table, if it is asked for. Or a prefix of so many was, where the sink failed; or so many were, before
+-- calls that were refused; or nothing was.
+pub data FollowsBeside (from : Option ℕ) (full : Bool) (before after : SinkView) (store store_after : StoreView)
+    : Option Refusal → Type 0 where
+  prints : (s : TableSchema) (start latest : ℕ) (text : List ℕ)
+      → HasTrace (ReadsTo s from full start latest) store store_after → after.taken ≡ and_then before.taken text
+      → LearnsFirst s full start (count_from start latest) text store store_after
+      → FollowsBeside from full before after store store_after None
+  breaks_off : (s : TableSchema) (start count : ℕ) (text : List ℕ)
+      → HasTrace (HasStarted s from start) store store_after → TookPrefix before.taken after.taken text
+      → LearnsFirst s full start count text store store_after
+      → FollowsBeside from full before after store store_after (Some (refusals.SinkFault None))
+  stops : (e : Refusal) (s : TableSchema) (start count : ℕ) (text : List ℕ)
+      → HasTrace (HasStarted s from start) store store_after → after.taken ≡ and_then before.taken text
+      → LearnsFirst s full start count text store store_after
+      → FollowsBeside from full before after store store_after (Some e)
+  refuses : (e : Refusal) → after ≡ before → FollowsBeside from full before after store store_after (Some e)
+
+-- its calls, with what was printed, and what that is of the history
 abbrev pub IsFollowed : Option ℕ → Bool → SinkView → SinkView → StoreView → StoreView → Option Refusal → Type 0
 IsFollowed from full out out_after store store_after answer =
-    (own : List Event) × Ends from full out out_after own answer × Traces own store store_after
+    HasEnded from full out out_after store store_after answer
+    × FollowsBeside from full out out_after store store_after answer
 
 -- what `follow` answers, from the snapshot with an id on or after the latest, with the starting table or without it
 abbrev pub Follows : Option ℕ → Bool → Outside → Outside → Option Refusal → Type 0

@@ -1,6 +1,7 @@
 //! The command `follow`, from its schema to its last frame.
 
-ghost use Rattle.std.specs.Prelude.{ℕ, ◌≡◌, ◌≤◌, ◌<◌, Bool, List, Option, None, Some, suc, true, IfErr, IfOk, IfSome};
+ghost use Rattle.std.specs.Prelude.{ℕ, ◌≡◌, ◌≤◌, ◌<◌, Bool, List, Option, None, Some, suc, true};
+ghost use Rattle.std.specs.Prelude.{IfErr, IfOk, IfSome};
 ghost use Rattle.std.specs.Result.{result_err};
 ghost use Rattle.pm_io.specs.Sink.{SinkLater, SinkView};
 ghost use Rattle.pm_machine.specs.Trace.{HasTrace};
@@ -8,13 +9,16 @@ ghost use Rattle.pm_schema.specs.Again.{IsDeclared};
 ghost use Rattle.pm_snapshot.specs.Names.{greatest};
 ghost use Rattle.pm_store.specs.Store.{StoreView, IsLater};
 ghost use Rattle.pm_values.specs.declared.refusal.Refusal.TheVariants as refusals;
-ghost use Rattle.pm_command_follow.specs.Follow.{DidSchema, FollowsAny, HasSchema, IsFollowed, Opens, Starts, Took};
+ghost use Rattle.pm_command_follow.specs.Follow.{DidSchema, FollowsAny, FollowsBeside, HasEnded, HasSchema};
+ghost use Rattle.pm_command_follow.specs.Follow.{IsFollowed, Opens, Starts, Took};
+ghost use Rattle.pm_command_follow.specs.Pieces.{HasBegun, LearnsTable};
 ghost use Rattle.pm_command_follow.specs.Printed.{start_of};
 
-use crate::laws::follow_law;
+use crate::laws::{follow_law, pieces_law};
 use crate::pieces::{print_frames, print_table};
 use pm_command::judge;
 use pm_io::Sink;
+use pm_model_folder::past_law;
 use pm_options::Producer;
 use pm_read_latest::read_latest;
 use pm_read_schema::read_table_schema;
@@ -24,10 +28,11 @@ use pm_values::Refusal;
 use std::alloc::Global;
 
 /// Prints how the snapshots of a table change it, from the one with that id on, or after the newest; and before that,
-/// where it is asked for in full, the table that is passed on at the one below. Refuses with `NoTable`; `NoChangelog`,
-/// before any call after the schema's, where the table has no producer; `Unsupported`; `NoSnapshot` for a start above
-/// the newest and one; `Expired` for a snapshot that has gone; `StoreFault`; `SinkFault`; or out of memory. Where others
-/// act or the files are damaged it passes on what their readers refuse.
+/// where it is asked for in full, the table that is passed on at the one below. Whatever others do meanwhile, this is a
+/// prefix of what is printed of the history. Refuses with `NoTable`; `NoChangelog`, before any call after the schema's,
+/// where the table has no producer; `Unsupported`; `NoSnapshot` for a start above the newest and one; `Expired` for a
+/// snapshot that has gone; `StoreFault`; `SinkFault`; or out of memory. Where others act or the files are damaged it
+/// passes on what their readers refuse.
 pub fn run_follow<W: Sink, F: FileStore>(
     alloc: Global,
     from: Option<u64>,
@@ -51,6 +56,7 @@ pub fn run_follow<W: Sink, F: FileStore>(
 /// The schema of a table that tells its changes and is built.
 fn followed_schema<F: FileStore>(alloc: Global, store: &mut F) -> Result<TableSchema, Refusal>
     ensures trace { HasTrace (DidSchema result) (F.seen store.old) (F.seen store.new) }
+    ensures beside { IfOk result (λ s. LearnsTable s (F.seen store.old) (F.seen store.new)) }
     ensures declared { IfOk result IsDeclared }
     ensures later { IsLater (F.seen store.old) (F.seen store.new) }
 {
@@ -74,7 +80,10 @@ fn follow_table<W: Sink, F: FileStore>(
     requires declared { IsDeclared schema.now }
     requires from { IfSome from (λ id. 1 ≤ id) }
     ensures followed { (first : StoreView) → HasTrace (HasSchema schema.now) first (F.seen store.old)
-        → IsFollowed from full (W.seen out.old) (W.seen out.new) first (F.seen store.new) (result_err result) }
+        → HasEnded from full (W.seen out.old) (W.seen out.new) first (F.seen store.new) (result_err result) }
+    ensures beside { (first : StoreView) → HasTrace (HasSchema schema.now) first (F.seen store.old)
+        → LearnsTable schema.now first (F.seen store.old)
+        → FollowsBeside from full (W.seen out.old) (W.seen out.new) first (F.seen store.new) (result_err result) }
     ensures out_later { SinkLater (W.seen out.old) (W.seen out.new) }
     ensures store_later { IsLater (F.seen store.old) (F.seen store.new) }
 {
@@ -112,7 +121,11 @@ fn follow_from<W: Sink, F: FileStore>(
     requires start { 1 ≤ start }
     ensures followed { (from : Option ℕ) (first : StoreView)
         → HasTrace (Starts schema.now from start) first (F.seen store.old)
-        → IsFollowed from full (W.seen out.old) (W.seen out.new) first (F.seen store.new) (result_err result) }
+        → HasEnded from full (W.seen out.old) (W.seen out.new) first (F.seen store.new) (result_err result) }
+    ensures beside { (from : Option ℕ) (first : StoreView)
+        → HasTrace (Starts schema.now from start) first (F.seen store.old)
+        → LearnsTable schema.now first (F.seen store.old)
+        → FollowsBeside from full (W.seen out.old) (W.seen out.new) first (F.seen store.new) (result_err result) }
     ensures out_later { SinkLater (W.seen out.old) (W.seen out.new) }
     ensures store_later { IsLater (F.seen store.old) (F.seen store.new) }
 {
@@ -134,10 +147,15 @@ fn follow_with_table<W: Sink, F: FileStore>(
     requires start { 1 ≤ start }
     ensures followed { (from : Option ℕ) (first : StoreView)
         → HasTrace (Starts schema.now from start) first (F.seen store.old)
-        → IsFollowed from true (W.seen out.old) (W.seen out.new) first (F.seen store.new) (result_err result) }
+        → HasEnded from true (W.seen out.old) (W.seen out.new) first (F.seen store.new) (result_err result) }
+    ensures beside { (from : Option ℕ) (first : StoreView)
+        → HasTrace (Starts schema.now from start) first (F.seen store.old)
+        → LearnsTable schema.now first (F.seen store.old)
+        → FollowsBeside from true (W.seen out.old) (W.seen out.new) first (F.seen store.new) (result_err result) }
     ensures out_later { SinkLater (W.seen out.old) (W.seen out.new) }
     ensures store_later { IsLater (F.seen store.old) (F.seen store.new) }
 {
+    pieces_law();
     print_table(alloc, schema, start, out, store)?;
     follow_on(alloc, schema, start, out, store)
 }
@@ -155,10 +173,16 @@ fn follow_on<W: Sink, F: FileStore>(
     ensures followed { (from : Option ℕ) (full : Bool) (text : List ℕ) (out_first : SinkView) (first : StoreView)
         → HasTrace (Opens schema.now from full start text) first (F.seen store.old)
         → Took full 0 text out_first (W.seen out.old)
-        → IsFollowed from full out_first (W.seen out.new) first (F.seen store.new) (result_err result) }
+        → HasEnded from full out_first (W.seen out.new) first (F.seen store.new) (result_err result) }
+    ensures beside { (from : Option ℕ) (full : Bool) (text : List ℕ) (out_first : SinkView) (first : StoreView)
+        → HasTrace (Opens schema.now from full start text) first (F.seen store.old)
+        → HasBegun schema.now full start out_first (W.seen out.old) first (F.seen store.old)
+        → FollowsBeside from full out_first (W.seen out.new) first (F.seen store.new) (result_err result) }
     ensures out_later { SinkLater (W.seen out.old) (W.seen out.new) }
     ensures store_later { IsLater (F.seen store.old) (F.seen store.new) }
 {
+    pieces_law();
+    past_law();
     let latest = read_latest(alloc, store)?;
     print_frames(alloc, schema, start, latest, out, store)
 }

@@ -6,7 +6,7 @@
 //! a folder as it is. `replay_law` is for whoever reads its frames: their rows, replayed on the table that was followed
 //! before them, give the one that is followed at the last. `specs/Beside.antt` says what the pieces are where others
 //! act meanwhile, and `pieces_law` that they are a prefix of what is printed of the history, however far it has gone
-//! on.
+//! on; `FollowsBeside` says so of what the command printed.
 #![tactic(auto)]
 
 mod follow;

@@ -9,7 +9,11 @@ ghost use Rattle.pm_scan.specs.Asked.{passed_at};
 ghost use Rattle.pm_schema.specs.Again.{IsDeclared};
 ghost use Rattle.pm_snapshot.specs.Names.{greatest};
 ghost use Rattle.pm_store.specs.Store.{IsLater};
+ghost use Rattle.pm_model_history.specs.History.{IsTableOf};
+ghost use Rattle.pm_read_schema.specs.Beside.{Learns};
+ghost use Rattle.pm_scan.specs.Meaning.{IsPassed};
 ghost use Rattle.pm_command_follow.specs.Follow.{DidTable};
+ghost use Rattle.pm_command_follow.specs.Pieces.{AreReads, FramesBeside, LearnsFrame, LearnsStart, PieceBeside};
 ghost use Rattle.pm_command_follow.specs.Pieces.{PrintsFrame, PrintsFrames, PrintsStart};
 ghost use Rattle.pm_command_follow.specs.Printed.{table_head};
 
@@ -17,7 +21,8 @@ use itoa::Buffer;
 use pm_command::print;
 use pm_engines::declared_law;
 use pm_io::Sink;
-use pm_read_frame::read_frame;
+use pm_model_folder::past_law;
+use pm_read_frame::{frames_law, read_frame};
 use pm_scan::scan_passed;
 use pm_schema::TableSchema;
 use pm_store::FileStore;
@@ -36,6 +41,8 @@ pub(crate) fn print_table<W: Sink, F: FileStore>(
     requires start { 1 ≤ start }
     ensures prints { PrintsStart schema.now start (W.seen out.old) (W.seen out.new) (F.seen store.old)
         (F.seen store.new) (result_err result) }
+    ensures beside { PieceBeside (LearnsStart schema.now start) (λ own. Unit {0}) (W.seen out.old) (W.seen out.new)
+        (F.seen store.old) (F.seen store.new) (result_err result) }
     ensures out_later { SinkLater (W.seen out.old) (W.seen out.new) }
     ensures store_later { IsLater (F.seen store.old) (F.seen store.new) }
 {
@@ -53,6 +60,8 @@ fn read_table<F: FileStore>(
     requires declared { IsDeclared schema.now }
     requires start { 1 ≤ start }
     ensures trace { HasTrace (DidTable schema.now start (text_in result)) (F.seen store.old) (F.seen store.new) }
+    ensures beside { IfOk result (λ text. LearnsStart schema.now start text.items (F.seen store.old)
+        (F.seen store.new)) }
     ensures later { IsLater (F.seen store.old) (F.seen store.new) }
 {
     let below = start - 1;
@@ -73,6 +82,8 @@ fn read_passed<F: FileStore>(
     requires declared { IsDeclared schema.now }
     ensures trace { HasTrace (Ends (passed_at schema.now id) (text_in result)) (F.seen store.old)
         (F.seen store.new) }
+    ensures beside { IfOk result (λ text. Learns (λ f p. IsTableOf schema.now p.history)
+        (λ f p. IsPassed p id text.items) (F.seen store.old) (F.seen store.new)) }
     ensures later { IsLater (F.seen store.old) (F.seen store.new) }
 {
     declared_law();
@@ -112,9 +123,13 @@ pub(crate) fn print_frames<W: Sink, F: FileStore>(
     requires latest { latest ≤ greatest }
     ensures prints { PrintsFrames schema.now start latest (W.seen out.old) (W.seen out.new) (F.seen store.old)
         (F.seen store.new) (result_err result) }
+    ensures beside { FramesBeside schema.now start latest (W.seen out.old) (W.seen out.new) (F.seen store.old)
+        (F.seen store.new) (result_err result) }
     ensures out_later { SinkLater (W.seen out.old) (W.seen out.new) }
     ensures store_later { IsLater (F.seen store.old) (F.seen store.new) }
 {
+    frames_law();
+    past_law();
     let mut id = start;
     while id <= latest {
         print_frame(alloc, schema, id, out, store)?;
@@ -135,6 +150,8 @@ fn print_frame<W: Sink, F: FileStore>(
     requires after_origin { 1 ≤ id }
     ensures prints { PrintsFrame schema.now id (W.seen out.old) (W.seen out.new) (F.seen store.old) (F.seen store.new)
         (result_err result) }
+    ensures beside { PieceBeside (LearnsFrame schema.now id) AreReads (W.seen out.old) (W.seen out.new)
+        (F.seen store.old) (F.seen store.new) (result_err result) }
     ensures out_later { SinkLater (W.seen out.old) (W.seen out.new) }
     ensures store_later { IsLater (F.seen store.old) (F.seen store.new) }
 {

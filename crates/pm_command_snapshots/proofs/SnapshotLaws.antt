@@ -1,5 +1,5 @@
 -- Laws of `snapshots`: what is so of its calls, and of a history.
-use Rattle.std.proofs.Common.{◌≡◌, ◌≢◌, ◌⊎◌, inl, inr, ℕ, List, [], ◌∷◌, Option, None, Some, Result, Ok, Err, refl, sym, subst, ◌++◌, ap, append_assoc, ◌∙◌}
+use Rattle.std.proofs.Common.{◌≡◌, ◌≢◌, ◌⊎◌, inl, inr, ℕ, List, [], ◌∷◌, IfOk, Option, None, Some, Result, Ok, Err, refl, sym, subst, ◌++◌, ap, append_assoc, ◌∙◌}
 use Rattle.std.specs.Result.{result_err}
 use Rattle.pm_values.specs.declared.refusal.Refusal.{Refusal}
 use Rattle.pm_values.specs.declared.refusal.Refusal.TheVariants as refusals
@@ -11,10 +11,12 @@ use Rattle.pm_model_history.specs.History.{History, IsTableOf, no_table}
 use Rattle.pm_schema.specs.declared.schema.TableSchema.{TableSchema}
 use Rattle.pm_model_folder.specs.Folder.{Folder}
 use Rattle.pm_read_schema.specs.AllCalls.{DidRead, HasFiles, Stay, ReadsTables}
+use Rattle.pm_read_schema.specs.Beside.{AnyPast, Learns}
+use Rattle.pm_read_schema.proofs.BesideFacts.{learns-then}
 use Rattle.pm_read_schema.specs.Trace.{listed_snapshots}
 use Rattle.pm_draft.specs.Built.{IsBuilt, unbuilt}
 use Rattle.pm_snapshots.specs.AllCalls as lister
-use Rattle.pm_snapshots.specs.AllCalls.{AreLinesOf, GoesOnFrom}
+use Rattle.pm_snapshots.specs.AllCalls.{AreLinesIn, AreLinesOf, GoesOnFrom, ListsBeside}
 use Rattle.pm_snapshots.specs.Lister.{lines_of}
 use Rattle.pm_snapshots.specs.Trace.{HasListed}
 use Rattle.pm_snapshots.specs.declared.line.SnapshotLine.{SnapshotLine}
@@ -22,7 +24,7 @@ use Rattle.pm_snapshots.specs.declared.phase.Phase.{Phase}
 use Rattle.pm_command.specs.Outside.{Outside, Prints}
 use Rattle.pm_command.specs.Table.{MayRefuse}
 use Rattle.pm_command.proofs.TableLemmas.{trace_weaker, files_of, leaves_of, rests_of, images_rest, caused, judged_caused}
-use Rattle.pm_command_snapshots.specs.Snapshots.{DidSnapshots, text_of, ListsSnapshots, AnswersHistory, ListsTables, made_of, MakesLines, Keeps, KeepsHistories, IsListed}
+use Rattle.pm_command_snapshots.specs.Snapshots.{DidSnapshots, text_of, ListsSnapshots, AnswersHistory, ListsTables, MadeBeside, made_of, MakesLines, Keeps, KeepsHistories, IsListed}
 
 -- ---- its calls
 
@@ -55,7 +57,19 @@ memory_trace lines before after =
     (λ own (s, built, listed). inr (inr (s, built, listed_from s lines own listed, inr (inr (s, lines, listed)))))
     before after
 
--- and go on to stand for a history
+-- ---- what they make known
+
+-- calls that read the schema, and those of a listing after them
+pub listed_known : (s : TableSchema) (result : Result Phase Refusal) (before middle after : StoreView) → HasTrace (lister.DidList s result) before after
+    → Learns AnyPast (λ f p. IsTableOf s p.history) before middle → IfOk result (λ m. ListsBeside s (lines_of m) middle after)
+    → MadeBeside (made_of result) before after
+listed_known s (Err e) before middle after did learned lists = tt
+listed_known s (Ok m) before middle after did learned lists =
+    (s, did, learns-then AnyPast (λ f p. IsTableOf s p.history) (λ f p. AreLinesIn s (lines_of m) p) before middle after learned lists)
+
+-- ---- files that stay
+
+-- they go on to stand for a history
 keeps : (h : History) (f : Files) (first after : StoreView) (made : Result (List SnapshotLine) Refusal) → HasFiles f first → Folder f h → Stay f first after
     → MakesLines h first after made → Keeps h first after made
 keeps h f first after made has folder stay makes = record {
@@ -104,21 +118,21 @@ memory_keeps lines before after kept = λ alone h stands. let was = kept alone h
 
 pub refused_listed : (e : Refusal) (out : SinkView) (store after : StoreView) → HasTrace (DidSnapshots (made_of (Err e))) store after
     → KeepsHistories store after (made_of (Err e)) → IsListed out out store after (Some e)
-refused_listed e out store after trace kept = (Err e, trace, kept, (refl, refl))
+refused_listed e out store after trace kept = (Err e, trace, tt, kept, (refl, refl))
 
 pub memory_listed : (m : Phase) (out : SinkView) (store after : StoreView) → HasTrace (DidSnapshots (made_of (Ok m))) store after
     → KeepsHistories store after (made_of (Ok m)) → IsListed out out store after (Some refusals.Memory)
 memory_listed m out store after trace kept =
-    (Err refusals.Memory, memory_trace (lines_of m) store after trace, memory_keeps (lines_of m) store after kept, (refl, refl))
+    (Err refusals.Memory, memory_trace (lines_of m) store after trace, tt, memory_keeps (lines_of m) store after kept, (refl, refl))
 
 pub printed_listed : (m : Phase) (text : List ℕ) (out out_after : SinkView) (store after : StoreView) (answer : Option Refusal) → text ≡ text_of (made_of (Ok m))
-    → HasTrace (DidSnapshots (made_of (Ok m))) store after → KeepsHistories store after (made_of (Ok m)) → Prints text None None out out_after answer
+    → HasTrace (DidSnapshots (made_of (Ok m))) store after → MadeBeside (made_of (Ok m)) store after → KeepsHistories store after (made_of (Ok m)) → Prints text None None out out_after answer
     → IsListed out out_after store after answer
-printed_listed m text out out_after store after answer is trace kept prints =
-    (Ok (lines_of m), trace, kept, subst (λ (text : List ℕ). Prints text None None out out_after answer) is prints)
+printed_listed m text out out_after store after answer is trace beside kept prints =
+    (Ok (lines_of m), trace, beside, kept, subst (λ (text : List ℕ). Prints text None None out out_after answer) is prints)
 
 pub listed_answers : (before after : Outside) (answer : Option Refusal) → IsListed before.out after.out before.store after.store answer → ListsSnapshots before after answer
-listed_answers before after answer (made, trace, kept, prints) = (made, trace, prints)
+listed_answers before after answer (made, trace, beside, kept, prints) = (made, trace, beside, prints)
 
 refusal_answers : (h : History) (first : StoreView) (before after : Outside) (e : Refusal) → MayRefuse h first after.store e → AnswersHistory h first before after (Some e)
 refusal_answers h first before after (refusals.SinkFault snapshot) may = absurd may
@@ -133,7 +147,7 @@ made_answers h first before after (Err e) answer makes (is, untaken) =
     subst (AnswersHistory h first before after) (sym is) (refusal_answers h first before after e makes)
 
 pub listed_serves : (before after : Outside) (answer : Option Refusal) → IsListed before.out after.out before.store after.store answer → ListsTables before after answer
-listed_serves before after answer (made, trace, kept, prints) = λ alone h stands.
+listed_serves before after answer (made, trace, beside, kept, prints) = λ alone h stands.
     let first = at_first_own before.store after.store in
     let was = kept alone h stands in record {
       answers = made_answers h first before after made answer was.makes prints;

@@ -11,9 +11,10 @@ use Rattle.pm_model_history.specs.History.{History, no_table}
 use Rattle.pm_schema.specs.declared.schema.TableSchema.{TableSchema}
 use Rattle.pm_model_folder.specs.Folder.{Folder}
 use Rattle.pm_create.specs.Making.{LeavesFiles}
+use Rattle.pm_read_schema.specs.Beside.{AnyPast, Learns}
 use Rattle.pm_read_schema.specs.Trace as reader
 use Rattle.pm_draft.specs.Built.{IsBuilt}
-use Rattle.pm_snapshots.specs.AllCalls.{AreLinesOf, GoesOnFrom}
+use Rattle.pm_snapshots.specs.AllCalls.{AreLinesIn, AreLinesOf, GoesOnFrom}
 use Rattle.pm_snapshots.specs.Lines.{snapshots_text}
 use Rattle.pm_snapshots.specs.Lister.{lines_of}
 use Rattle.pm_snapshots.specs.Trace.{HasListed, Shows}
@@ -32,6 +33,14 @@ abbrev pub DidSnapshots : Result (List SnapshotLine) Refusal → List Event → 
 DidSnapshots (Ok lines) own = (s : TableSchema) × IsBuilt s × HasListed s lines own
 DidSnapshots (Err e) own = reader.Shows e own ⊎ (EndsAtSchema e own ⊎ EndsLater e own)
 
+-- Whatever others do before, between and after its calls, the lines are those of the table's snapshots that these
+-- listed, each as it stood when it was committed: in each history that the files stand for, once others changed them by
+-- the kinds of change alone.
+abbrev pub MadeBeside : Result (List SnapshotLine) Refusal → StoreView → StoreView → Type 0
+MadeBeside (Ok lines) before after = (s : TableSchema) × HasTrace (HasListed s lines) before after
+    × Learns AnyPast (λ f p. AreLinesIn s lines p) before after
+MadeBeside (Err e) before after = Unit {0}
+
 -- the text of what it made
 abbrev pub text_of : Result (List SnapshotLine) Refusal → List ℕ
 text_of (Ok lines) = snapshots_text lines
@@ -41,6 +50,7 @@ text_of (Err e) = []
 abbrev pub ListsSnapshots : Outside → Outside → Option Refusal → Type 0
 ListsSnapshots before after answer =
     (made : Result (List SnapshotLine) Refusal) × HasTrace (DidSnapshots made) before.store after.store
+    × MadeBeside made before.store after.store
     × Prints (text_of made) None (result_err made) before.out after.out answer
 
 -- ---- a history that stands at its first call, where nobody else acts from then on
@@ -95,8 +105,9 @@ KeepsHistories before after made =
     FromFirst (λ first after. (h : History) → LeavesFiles (λ f. Folder f h) first → Keeps h first after made)
     before after
 
--- the calls of `snapshots`, what they do to histories, and what was printed
+-- the calls of `snapshots`, what they make known and do to histories, and what was printed
 abbrev pub IsListed : SinkView → SinkView → StoreView → StoreView → Option Refusal → Type 0
 IsListed out out_after store store_after answer =
     (made : Result (List SnapshotLine) Refusal) × HasTrace (DidSnapshots made) store store_after
-    × KeepsHistories store store_after made × Prints (text_of made) None (result_err made) out out_after answer
+    × MadeBeside made store store_after × KeepsHistories store store_after made
+    × Prints (text_of made) None (result_err made) out out_after answer

@@ -6,7 +6,7 @@ ghost use Rattle.pm_io.specs.Sink.{SinkLater};
 ghost use Rattle.pm_machine.specs.Trace.{HasTrace};
 ghost use Rattle.pm_snapshots.specs.Lister.{IsDone};
 ghost use Rattle.pm_store.specs.Store.{IsLater};
-ghost use Rattle.pm_command_snapshots.specs.Snapshots.{made_of, DidSnapshots, IsListed, KeepsHistories};
+ghost use Rattle.pm_command_snapshots.specs.Snapshots.{made_of, DidSnapshots, IsListed, KeepsHistories, MadeBeside};
 
 use pm_command::{judge, print};
 use pm_io::Sink;
@@ -16,7 +16,8 @@ use pm_store::FileStore;
 use pm_values::Refusal;
 use std::alloc::Global;
 
-/// Lists the snapshots of a table, and prints a line for each.
+/// Lists the snapshots of a table, and prints a line for each. Whatever others do meanwhile, each line is that of the
+/// table's snapshot as it stood when it was committed.
 pub fn run_snapshots<W: Sink, F: FileStore>(
     alloc: Global,
     out: &mut W,
@@ -36,6 +37,7 @@ pub fn run_snapshots<W: Sink, F: FileStore>(
 fn list_built<F: FileStore>(alloc: Global, store: &mut F) -> Result<Lister, Refusal>
     ensures done { IfOk result IsDone }
     ensures trace { HasTrace (DidSnapshots (made_of result)) (F.seen store.old) (F.seen store.new) }
+    ensures beside { MadeBeside (made_of result) (F.seen store.old) (F.seen store.new) }
     ensures history { KeepsHistories (F.seen store.old) (F.seen store.new) (made_of result) }
     ensures later { IsLater (F.seen store.old) (F.seen store.new) }
 {

@@ -1,4 +1,7 @@
+use Rattle.std.proofs.Common.{refl}
 use Rattle.std.proofs.lemmas.Result.{err_from_is_err_and}
+use Rattle.pm_command_follow.specs.Follow.{refuses}
+use Rattle.pm_command_follow.proofs.KnownLemmas.{table_still}
 use Rattle.pm_command_follow.proofs.PieceLemmas.{listing_shown, start_shown, started}
 use Rattle.pm_command_follow.proofs.follow.follow_table.Goals as goal
 
@@ -21,3 +24,21 @@ returns-clause-followed g c = λ first has.
     c.follow_from.ensures.followed c.args.from first
     (started c.args.schema.now c.args.from c.in_ok-latest.latest c.in_ok-start.start first (g.F.FileStore.seen c.args.store.now) (g.F.FileStore.seen c.read_latest.new.store) has
     c.in_ok-latest.ensures.trace c.in_ok-start.ensures.start)
+
+pub returns-in_err-latest-clause-beside : goal.returns-in_err-latest-clause-beside
+returns-in_err-latest-clause-beside g c = λ first has learned.
+    let p = err_from_is_err_and c.from_residual.result c.from_residual.ensures.1 in
+    rw (p.1, p.2) (refuses c.in_err-latest.field-0.0 refl)
+
+pub returns-in_err-start-clause-beside : goal.returns-in_err-start-clause-beside
+returns-in_err-start-clause-beside g c = λ first has learned.
+    let p = err_from_is_err_and c.from_residual-in_err-start.result c.from_residual-in_err-start.ensures.1 in
+    rw (p.1, p.2) (refuses c.in_err-start.field-0.0 refl)
+
+pub returns-clause-beside : goal.returns-clause-beside
+returns-clause-beside g c = λ first has learned.
+    let store = g.F.FileStore.seen c.args.store.now in
+    let after = g.F.FileStore.seen c.read_latest.new.store in
+    c.follow_from.ensures.beside c.args.from first
+    (started c.args.schema.now c.args.from c.in_ok-latest.latest c.in_ok-start.start first store after has c.in_ok-latest.ensures.trace c.in_ok-start.ensures.start)
+    (table_still c.args.schema.now c.in_ok-latest.latest first store after learned c.in_ok-latest.ensures.beside)

@@ -1,4 +1,4 @@
-use Rattle.pm_command_follow.proofs.BesideLemmas.{Laws, are_all, are_first}
+use Rattle.pm_command_follow.proofs.BesideLemmas.{are_all, are_first}
 use Rattle.pm_command_follow.proofs.laws.pieces_law.Goals as goal
 
 pub returns-clause-first : goal.returns-clause-first

@@ -1,5 +1,5 @@
 use Rattle.std.proofs.lemmas.Result.{err_from_is_err_and}
-use Rattle.pm_command_snapshots.proofs.SnapshotLaws.{read_refused, judge_refused, listed_trace, read_keeps, judge_keeps, listed_keeps}
+use Rattle.pm_command_snapshots.proofs.SnapshotLaws.{read_refused, judge_refused, listed_known, listed_trace, read_keeps, judge_keeps, listed_keeps}
 use Rattle.pm_command_snapshots.proofs.snapshots.list_built.Goals as goal
 
 pub returns-in_err-schema-clause-trace : goal.returns-in_err-schema-clause-trace
@@ -41,3 +41,9 @@ returns-clause-history g c =
     listed_keeps c.in_ok-schema.schema c.list_snapshots.result (g.F.FileStore.seen c.args.store.now)
     (g.F.FileStore.seen c.list_snapshots.new.store)
     (c.list_snapshots.ensures.history (g.F.FileStore.seen c.args.store.now) c.in_ok-schema.ensures.trace)
+
+pub returns-clause-beside : goal.returns-clause-beside
+returns-clause-beside g c =
+    listed_known c.in_ok-schema.schema c.list_snapshots.result (g.F.FileStore.seen c.args.store.now) (g.F.FileStore.seen c.read_table_schema.new.store)
+    (g.F.FileStore.seen c.list_snapshots.new.store) (c.list_snapshots.ensures.trace (g.F.FileStore.seen c.args.store.now) c.in_ok-schema.ensures.trace)
+    c.in_ok-schema.ensures.beside c.list_snapshots.ensures.beside

@@ -22,5 +22,5 @@ pub returns-clause-listed : goal.returns-clause-listed
 returns-clause-listed g c =
     printed_listed c.in_ok-lister.lister c.deref.result.now (g.W.Sink.seen c.args.out.now) (g.W.Sink.seen c.print.new.out)
     (g.F.FileStore.seen c.args.store.now) (g.F.FileStore.seen c.list_built.new.store) (result_err c.print.result)
-    (c.deref.ensures.value ∙ c.in_ok-text.ensures) c.in_ok-lister.ensures.trace c.in_ok-lister.ensures.history
-    c.print.ensures.prints
+    (c.deref.ensures.value ∙ c.in_ok-text.ensures) c.in_ok-lister.ensures.trace c.in_ok-lister.ensures.beside
+    c.in_ok-lister.ensures.history c.print.ensures.prints

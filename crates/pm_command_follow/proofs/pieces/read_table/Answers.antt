@@ -1,0 +1,7 @@
+use Rattle.pm_command_follow.proofs.KnownLemmas.{start_learned}
+use Rattle.pm_command_follow.proofs.pieces.read_table.Goals as goal
+
+pub returns-in-Ok-clause-beside : goal.returns-in-Ok-clause-beside
+returns-in-Ok-clause-beside g c =
+    start_learned c.args.schema.now c.args.start c.in_ok-rows.rows.items c.in-Ok.text.items (g.F.FileStore.seen c.args.store.now)
+    (g.F.FileStore.seen c.read_passed.new.store) c.in-Ok.ensures c.in_ok-rows.ensures.beside
