@@ -1,5 +1,5 @@
 -- The pieces of a following, put together whatever others did meanwhile.
-use Rattle.std.proofs.Common.{◌≡◌, ◌≢◌, ◌⊎◌, inl, inr, ℕ, zero, suc, ◌+◌, ◌-◌, ◌≤◌, Bool, true, false, List, [], ◌++◌, length, take, Some, refl, sym, ap, subst, ◌∙◌, append_assoc, length-append, arith}
+use Rattle.std.proofs.Common.{◌≡◌, ◌⊎◌, inl, inr, ℕ, zero, suc, ◌+◌, ◌-◌, ◌≤◌, Bool, true, false, List, ◌++◌, length, Some, refl, sym, ap, subst, ◌∙◌, arith}
 use Rattle.std.specs.FinMap.{FinMap, values}
 use Rattle.std.specs.List.{flat_map, range_with_len}
 use Rattle.pm_base.specs.Newline.{line}
@@ -13,7 +13,7 @@ use Rattle.pm_model_history.specs.Merge.{HistoryRow}
 use Rattle.pm_model_history.specs.Merged.{scan_text}
 use Rattle.pm_model_following.specs.Following.{HaveBases, change, followed, frame, frame_head, passed_rows, table_text}
 use Rattle.pm_model_folder.specs.Folder.{Folder, HasTable}
-use Rattle.pm_model_folder.specs.Ledger.{IsKnown, Past, count_of}
+use Rattle.pm_model_folder.specs.Ledger.{IsKnown, count_of}
 use Rattle.pm_draft.specs.Built.{IsBuilt}
 use Rattle.pm_read_frame.specs.Frames.{AreFramesFrom, joined}
 use Rattle.pm_read_frame.specs.Meaning.{HasOneLog}

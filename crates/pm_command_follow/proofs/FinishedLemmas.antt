@@ -8,7 +8,7 @@ use Rattle.pm_options.specs.declared.kinds.Producer.{Producer}
 use Rattle.pm_options.specs.declared.kinds.Producer.TheVariants as producers
 use Rattle.pm_schema.specs.declared.schema.TableSchema.{TableSchema}
 use Rattle.pm_values.specs.declared.group.Group.{Group}
-use Rattle.pm_model_history.specs.History.{Entry, append, compaction, entry_rows, fence, rows_up_to}
+use Rattle.pm_model_history.specs.History.{Entry, append, compaction, entry_rows, fence}
 use Rattle.pm_model_history.specs.Merge.{HistoryRow}
 use Rattle.pm_model_history.specs.Merged.{merged}
 use Rattle.pm_model_following.specs.Following.{HaveBases, IsFinished, NumberedRow, base_of, followed, is_passed, numbered_from, numbered_rows, passed}

@@ -3,7 +3,6 @@ use Rattle.std.proofs.Common.{◌≡◌, ◌⊎◌, inl, inr, ℕ, suc, ◌+◌,
 use Rattle.std.specs.Global.{Global}
 use Rattle.pm_base.specs.Known.{and_then}
 use Rattle.pm_values.specs.declared.refusal.Refusal.{Refusal}
-use Rattle.pm_values.specs.declared.refusal.Refusal.TheVariants as refusals
 use Rattle.pm_io.specs.Sink.{SinkView, TookPrefix}
 use Rattle.pm_store.specs.Files.{Files}
 use Rattle.pm_store.specs.Store.{StoreView}
@@ -30,8 +29,8 @@ use Rattle.pm_read_frame.specs.Frames.{AreFramesFrom, IsFrameOf, joined}
 use Rattle.pm_read_frame.specs.Meaning.{IsFrame}
 use Rattle.pm_command.specs.Outside as outside
 use Rattle.pm_command_follow.specs.Beside.{ArePieces, IsFirstOf, IsStartOf}
-use Rattle.pm_command_follow.specs.Follow.{DidTable, FollowsBeside, HasSchema, HasStarted, LearnsFirst, Lists, Opens, ReadsFrames, ReadsTo, Starts, TellsChanges, Then, breaks_off, prints, refuses, stops}
-use Rattle.pm_command_follow.specs.Pieces.{AreReads, FramesBeside, HasBegun, HasLearned, HasPrinted, IsListed, IsStarting, LearnsFrame, LearnsFrames, LearnsStart, LearnsTable, PieceBeside, PrintsFrames, PrintsPiece, PrintsStart}
+use Rattle.pm_command_follow.specs.Follow.{DidTable, FollowsBeside, HasStarted, LearnsFirst, Lists, Opens, ReadsFrames, Starts, TellsChanges, Then, breaks_off, prints, refuses, stops}
+use Rattle.pm_command_follow.specs.Pieces.{AreReads, FramesBeside, HasBegun, HasLearned, IsListed, IsStarting, LearnsFrame, LearnsFrames, LearnsStart, LearnsTable, PieceBeside, PrintsFrames, PrintsPiece, PrintsStart}
 use Rattle.pm_command_follow.specs.Printed.{count_from, table_head}
 use Rattle.pm_command_follow.proofs.JoinLemmas.{in_a_row}
 use Rattle.pm_command_follow.proofs.LearnLemmas.{count_on, goes_itself, learns_with, start_on, table_on}

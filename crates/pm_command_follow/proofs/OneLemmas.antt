@@ -1,5 +1,5 @@
 -- The calls of `follow` show one answer: each of its machines has one end, where the next one begins.
-use Rattle.std.proofs.Common.{◌≡◌, ◌≢◌, ◌⊎◌, inl, inr, ℕ, zero, suc, ◌+◌, ◌-◌, ◌<◌, ◌≤◌, Bool, true, false, List, [], ◌∷◌, ◌++◌, Option, None, Some, Result, Ok, Err, refl, sym, ap, subst, ◌∙◌, append-nil, append_assoc, arith}
+use Rattle.std.proofs.Common.{◌≡◌, ◌⊎◌, inl, inr, ℕ, zero, suc, ◌+◌, ◌-◌, ◌<◌, ◌≤◌, Bool, true, false, List, [], ◌∷◌, ◌++◌, Option, None, Some, Result, Ok, Err, refl, sym, ap, subst, ◌∙◌, append-nil, append_assoc, arith}
 use Rattle.std.specs.List.{AllByRecursion}
 use Rattle.pm_values.specs.declared.refusal.Refusal.{Refusal}
 use Rattle.pm_values.specs.declared.refusal.Refusal.TheVariants as refusals
@@ -13,7 +13,6 @@ use Rattle.pm_schema.specs.declared.schema.TableSchema.{TableSchema}
 use Rattle.pm_draft.specs.Built.{IsBuilt, unbuilt}
 use Rattle.pm_draft.proofs.BuiltLemmas.{built-none}
 use Rattle.pm_read_schema.specs.Trace.{listed_snapshots}
-use Rattle.pm_read_schema.specs.declared.phase.Phase.TheVariants as readers
 use Rattle.pm_read_schema.proofs.LeadLemmas.{Fails, IsAnswered, Leads, Stays, failed, failed_not, head_same, one_end, one_failed, one_lead, tail_same}
 use Rattle.pm_read_schema.proofs.OneLemmas as schema
 use Rattle.pm_paths.specs.Ids.{IsLatest}
@@ -27,7 +26,6 @@ use Rattle.pm_group_files.specs.Collected.{Collected, with_groups}
 use Rattle.pm_group_files.specs.Trace as files_trace
 use Rattle.pm_group_files.proofs.FaultLemmas.{IsOfFiles, damaged, expired, unsupported}
 use Rattle.pm_group_files.proofs.OneLemmas as group
-use Rattle.pm_scan.specs.AllCalls as scanner
 use Rattle.pm_scan.specs.Asked.{passed_at}
 use Rattle.pm_scan.specs.Meaning.{all_of}
 use Rattle.pm_scan.specs.Scanner as scanner_machine

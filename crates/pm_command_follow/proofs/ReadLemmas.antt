@@ -1,12 +1,12 @@
 -- The calls of readers change nothing, also where they are refused. So what is known of a history stays through them,
 -- whatever others do.
-use Rattle.std.proofs.Common.{◌≡◌, ◌⊎◌, inl, inr, ℕ, List, [], ◌∷◌, ◌++◌, codes, true, Option, None, Some, Err, refl, sym, ap, subst}
+use Rattle.std.proofs.Common.{◌≡◌, inl, inr, ℕ, List, [], ◌∷◌, ◌++◌, codes, true, Option, None, Some, Err, refl, sym, ap, subst}
 use Rattle.std.specs.FinMap as map
 use Rattle.pm_values.specs.declared.refusal.Refusal.{Refusal}
 use Rattle.pm_values.specs.declared.refusal.Refusal.TheVariants as refusals
 use Rattle.pm_store.specs.Answers.{Answers, MayHave}
-use Rattle.pm_store.specs.Files.{Files, after_effect, files_after}
-use Rattle.pm_store.specs.Store.{Came, EndsWith, StoreView, Steps, own_op, whole}
+use Rattle.pm_store.specs.Files.{Files, files_after}
+use Rattle.pm_store.specs.Store.{EndsWith, StoreView, Steps, own_op, whole}
 use Rattle.pm_store.specs.declared.answer.Answer.{Answer}
 use Rattle.pm_store.specs.declared.call.Call.{Call}
 use Rattle.pm_store.specs.declared.call.Call.TheVariants as calls
@@ -20,7 +20,7 @@ use Rattle.pm_manifest.specs.declared.entry.Entry.{Entry}
 use Rattle.pm_manifest.specs.declared.entry.ManifestMeta.{ManifestMeta}
 use Rattle.pm_model_history.specs.History.{History}
 use Rattle.pm_model_contents.specs.Lists.{manifest_path}
-use Rattle.pm_model_folder.specs.Ledger.{Past, Stands}
+use Rattle.pm_model_folder.specs.Ledger.{Stands}
 use Rattle.pm_model_folder.specs.Paths.{snapshot_path}
 use Rattle.pm_model_folder.proofs.Facts.{goes_on}
 use Rattle.pm_read_schema.specs.Beside.{Learns}
