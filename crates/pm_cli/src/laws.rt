@@ -215,7 +215,8 @@ pub fn same_scan_law()
 /// it. Their rows, replayed in order on the table that was followed at the one below the start, give the table that is
 /// followed at the newest; and those of the first frames, at each before that. Where a snapshot is finished, the table
 /// that is followed at it is the merged one, which a scan of that snapshot prints; and so are the starting table's rows
-/// printed. It is where all rows up to it are passed on; with the producer of inputs they always are.
+/// printed. It is where all rows up to it are passed on; with the producer of inputs they always are, and each
+/// snapshot is finished.
 pub fn frames_law()
     ensures replayed { (start : Start) (bytes : List ℕ) (found : StoreView) (from : Option ℕ) (full : Bool)
         (s : TableSchema) (es : List Entry) (later : History) (text : List ℕ) (f : Files)
@@ -224,6 +225,7 @@ pub fn frames_law()
     ensures finished { (f : Files) (s : TableSchema) (es : List Entry) (id : ℕ) → Folder f (table s es)
         → id ≤ length es → HasPassedAll s es id → IsFinished s es id }
     ensures input { (s : TableSchema) (es : List Entry) (id : ℕ) → s.options.producer ≡ Input → HasPassedAll s es id }
+    ensures scanned { (s : TableSchema) (es : List Entry) (id : ℕ) → s.options.producer ≡ Input → IsFinished s es id }
     ensures starting { (s : TableSchema) (es : List Entry) (id : ℕ) → IsFinished s es id
         → table_text s es id ≡ table_head id ++ scan_text s (rows_up_to es id) }
 {

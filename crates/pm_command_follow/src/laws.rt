@@ -30,7 +30,7 @@ use pm_avro_file::one_opening_law;
 use pm_draft::built_law;
 use pm_manifest::{Entry, ManifestMeta, joined_law};
 use pm_model_contents::one_runs_law;
-use pm_model_following::{frames_law, kept_law};
+use pm_model_following::{finished_law, frames_law, kept_law};
 use pm_record::one_reading_law;
 use pm_rows::{line_law, round_trip_law};
 use pm_run::one_list_law;
@@ -54,7 +54,7 @@ pub fn follow_law()
 /// them has the table that is followed at the last. All that is printed is the starting table, if it is asked for, and
 /// such frames. Where a snapshot is finished, the table that is followed at it is the merged one, which a scan of that
 /// snapshot prints; and so are the starting table's rows printed. It is where all rows up to it are passed on; with the
-/// producer of inputs they always are.
+/// producer of inputs they always are, and each snapshot is finished.
 pub fn replay_law()
     ensures replayed { (f : Files) (s : TableSchema) (entries : List Commit) (start last : ℕ) → HasTable f s entries
         → TellsChanges s → 1 ≤ start → start ≤ suc last
@@ -66,12 +66,15 @@ pub fn replay_law()
         → last ≤ length entries → HasPassedAll s entries last → IsFinished s entries last }
     ensures input { (s : TableSchema) (entries : List Commit) (last : ℕ) → s.options.producer ≡ Input
         → HasPassedAll s entries last }
+    ensures scanned { (s : TableSchema) (entries : List Commit) (last : ℕ) → s.options.producer ≡ Input
+        → IsFinished s entries last }
     ensures starting { (s : TableSchema) (entries : List Commit) (id : ℕ) → IsFinished s entries id
         → table_text s entries id ≡ table_head id ++ scan_text s (rows_up_to entries id) }
 {
     round_trip_law();
     line_law();
     frames_law();
+    finished_law();
     kept_law();
     schema_law();
     declared_law();

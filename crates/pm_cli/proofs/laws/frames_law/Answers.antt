@@ -10,5 +10,8 @@ returns-clause-finished c = c.replay_law.ensures.finished
 pub returns-clause-input : goal.returns-clause-input
 returns-clause-input c = c.replay_law.ensures.input
 
+pub returns-clause-scanned : goal.returns-clause-scanned
+returns-clause-scanned c = c.replay_law.ensures.scanned
+
 pub returns-clause-starting : goal.returns-clause-starting
 returns-clause-starting c = c.replay_law.ensures.starting

@@ -15,5 +15,8 @@ returns-clause-finished c = λ f s es last stands within all. finished-all c.kep
 pub returns-clause-input : goal.returns-clause-input
 returns-clause-input c = input-all
 
+pub returns-clause-scanned : goal.returns-clause-scanned
+returns-clause-scanned c = c.finished_law.ensures
+
 pub returns-clause-starting : goal.returns-clause-starting
 returns-clause-starting c = table_is
