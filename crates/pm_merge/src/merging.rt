@@ -157,6 +157,7 @@ impl<P: RowPlace, S: RowSource<P>> Merging<P, S> {
 }
 
 /// Lets a side go of which nothing is left, as no row stands first, so that it costs nothing from then on.
+#[inline(always)]
 fn let_go<P: RowPlace, S: RowSource<P>>(side: &mut Box<Merging<P, S>>, first: &Box<P>)
     ensures left { (m : Meaning) (rests : List Rest) → (P.held first.now.value ≡ None → HaveNoRow rests
         × (first_refusal rests ≡ None)) → HasLeft m P.held S.rest side.old.value rests

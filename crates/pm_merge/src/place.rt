@@ -76,7 +76,7 @@ impl<'b> RowPlace for RowSlot<'b> {
         self.is_none()
     }
 
-    #[inline]
+    #[inline(always)]
     fn order(&self, other: &RowSlot<'b>) -> Option<Ordering> {
         RowSlot::order(self, other)
     }

@@ -8,13 +8,25 @@ use crate::seen::{Seen, seen_of};
 use pm_values::Value;
 use std::cmp::Ordering;
 
-/// How keys compare, value by value.
+/// How keys compare. Most begin with integers that differ, which decide at once.
+#[inline(always)]
 pub fn order_of(a: &[Seen], b: &[Seen]) -> Ordering
+    ensures { result ≡ key_cmp (map seen_value a.now) (map seen_value b.now) }
+{
+    match (a.first(), b.first()) {
+        (Some(Seen::Int(first)), Some(Seen::Int(second))) if first != second => first.cmp(second),
+        _ => order_by_value(a, b),
+    }
+}
+
+/// How keys compare, value by value.
+#[inline(never)]
+fn order_by_value(a: &[Seen], b: &[Seen]) -> Ordering
     ensures { result ≡ key_cmp (map seen_value a.now) (map seen_value b.now) }
 {
     match (a.split_first(), b.split_first()) {
         (Some((first, others)), Some((second, rest))) => match order_of_two(*first, *second) {
-            Ordering::Equal => order_of(others, rest),
+            Ordering::Equal => order_by_value(others, rest),
             order => order,
         },
         (None, None) => Ordering::Equal,

@@ -204,6 +204,7 @@ impl<'b> RowSlot<'b> {
 
     /// How the rows of two places compare by their keys, as if a place without one had one above all; none where both
     /// have none.
+    #[inline(always)]
     pub fn order(&self, other: &RowSlot<'b>) -> Option<Ordering>
         ensures { OrdersFirst self.now other.now result }
     {
@@ -219,6 +220,7 @@ impl<'b> RowSlot<'b> {
     }
 
     /// Whether no row stands in it.
+    #[inline(always)]
     pub fn is_none(&self) -> bool
         ensures { result ≡ is_none self.now }
     {
@@ -227,6 +229,7 @@ impl<'b> RowSlot<'b> {
 }
 
 /// How a row that lies in bytes compares with that of a place, by its key.
+#[inline(always)]
 fn order_of_lying(key: &[Seen], other: &RowSlot) -> Option<Ordering>
     ensures { (a : StampedView) → a.key ≡ map seen_value key.now → OrdersFirst (Some a) other.now result }
 {
@@ -240,6 +243,7 @@ fn order_of_lying(key: &[Seen], other: &RowSlot) -> Option<Ordering>
 }
 
 /// How a row of its own compares with that of a place.
+#[inline(never)]
 fn order_of_own(own: &Stamped, other: &RowSlot) -> Option<Ordering>
     ensures { OrdersFirst (Some own.now) other.now result }
 {

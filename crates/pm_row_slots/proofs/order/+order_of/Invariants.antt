@@ -1,5 +1,0 @@
-use Rattle.std.proofs.Common.{length}
-use Rattle.pm_row_slots.proofs.order.+order_of.Given as goal
-
-abbrev pub decreases-order_of : goal.decreases-order_of
-decreases-order_of l = length l.a.now
