@@ -23,6 +23,6 @@ mod source;
 
 pub use laws::{given_law, merged_law, oldest_law, one_run_law, replaces_law};
 pub use merge::merge_runs;
-pub use merging::Merging;
+pub use merging::{Merging, Stopped};
 pub use place::RowPlace;
 pub use source::{MemRows, RowSource};

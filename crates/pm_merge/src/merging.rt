@@ -24,7 +24,7 @@ use std::mem;
 
 /// No row was given: the cause stands beside the answer, which so fits into a register.
 #[derive(Clone, Copy)]
-struct Stopped;
+pub struct Stopped;
 
 impl From<AllocError> for Stopped {
     fn from(_e: AllocError) -> Stopped {
@@ -103,8 +103,8 @@ impl<P: RowPlace, S: RowSource<P>> Merging<P, S> {
         }
     }
 
-    /// The same, with a source's refusal beside the answer.
-    fn put_next<E: MergeEngine>(
+    /// The same, with a source's refusal beside the answer, so that none is made for a row that is given.
+    pub fn put_next<E: MergeEngine>(
         &mut self,
         alloc: Global,
         engine: &E,
