@@ -96,8 +96,12 @@ impl<'b, S: RowSource<WrittenPlace<'b>>> Rewriting<'b, S> {
         own_kind_law();
         files_law();
         let mut place = Box::new(alloc, WrittenPlace::empty(alloc))?;
+        let mut cause = Refusal::Memory;
         loop {
-            self.merging.fill(alloc, engine, &mut place)?;
+            match self.merging.put_next(alloc, engine, &mut place, &mut cause) {
+                Ok(()) => {}
+                Err(_) => return Err(cause),
+            }
             if place.slot.is_none() {
                 return Ok(self.writer.finish(alloc, names)?);
             }
