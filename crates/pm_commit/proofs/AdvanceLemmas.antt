@@ -12,13 +12,14 @@ use Rattle.pm_model_contents.specs.Named.{Contents, HasContents, IsNamed}
 use Rattle.pm_model_folder.specs.Changes.{Actor, Change, IsNamedBy, IsNoOrigin, IsOwn, NamesOwn, nothing, own_file}
 use Rattle.pm_model_folder.specs.Commits.{IsCommitted, Names, Needs}
 use Rattle.pm_model_folder.specs.Folder.{HasTable}
-use Rattle.pm_model_folder.specs.Ledger.{Advances, HasNamedNone, IsKnown, IsOldOrUnnamed, IsUnnamed, KnowsTable, Past, RunsFollow, Stands, count_of}
+use Rattle.pm_model_folder.specs.Ledger.{Advances, HasNamedNone, IsKnown, IsOldOrUnnamed, IsUnnamed, KnowsTable, Past, RunsFollow, Stands, count_of, untouched}
 use Rattle.pm_model_folder.specs.Meaning.{HasSnapshotAt, SnapshotAt}
-use Rattle.pm_model_folder.specs.Paths.{snapshot_path}
+use Rattle.pm_model_folder.specs.Paths.{consumer_path, snapshot_path}
 use Rattle.pm_model_folder.specs.Runs.{AreInFiles}
 use Rattle.pm_model_folder.proofs.Facts.{same-or-other, some-none, split-last}
 use Rattle.pm_model_folder.proofs.HoldLemmas.{OneContents, SameContents, one-commit}
 use Rattle.pm_model_folder.proofs.LedgerFacts.{at-table, beside, count-is, is-table, one-entry}
+use Rattle.pm_model_folder.proofs.PathLemmas.{consumer-own, consumer-snapshot}
 use Rattle.pm_runs.specs.Succession.{Follows, KnownRun}
 use Rattle.pm_paths.proofs.ListLemmas.{cases, here, more, nowhere}
 use Rattle.pm_read_table.specs.Named.{named_paths, parts_of}
@@ -71,6 +72,7 @@ NamedPaths = (s : TableSchema) (x : Snapshot) (c : Contents) (path : List ℕ)
 pub same-advances : (me : Actor) (f after : Files) (p : Past) → ((path : List ℕ) → map.get after path ≡ map.get f path) → Advances me f p after p
 same-advances me f after p same =
     beside me f after p p.history (nothing same) refl (λ s path is none here. absurd (some-none (map.get after path) here (same path ∙ none)))
+    (λ name. same (consumer_path name))
 
 -- ---- a path that no known snapshot needs appears
 
@@ -109,6 +111,7 @@ pub own-advances : (me : Actor) (f after : Files) (p : Past) (s : TableSchema) (
 own-advances me f after p s path content is none own at by apart absent puts =
     beside me f after p p.history (own_file path content own apart absent puts) refl
     (fresh-at f after p s path (Some content) is (own-unnamed me p s path is none at by) puts)
+    (λ name. puts.others (consumer_path name) (consumer-own me path name own))
 
 -- ---- rows are appended
 
@@ -133,6 +136,7 @@ later_past p s entries e after new = record {
   stood = λ id. if id == suc (length entries) then after else p.stood id;
   since = p.since;
   runs = λ id g. if id == suc (length entries) then new g else p.runs id g;
+  claims = p.claims;
 }
 
 at-other : {A : Type 0} (f g : A) (id n : ℕ) → id ≢ n → (if id == n then f else g) ≡ g
@@ -242,4 +246,5 @@ module _ (one : OneContents) (same : SameContents) (paths : NamedPaths) (me : Ac
     runs = λ id g within. at-other (new g) (p.runs id g) id (suc n) (λ last. omega (arith, within, many, last));
     follows = λ t es d g before now.
         one-entry (λ (t : TableSchema) (es : List Entry) (d : Entry). RunsFollow after t es d g p q) s t entries es e d (sym was ∙ before) now (runs-follow g);
+    consumers = untouched (λ name. puts.others (consumer_path name) (consumer-snapshot name (snapshot_name (suc n))));
   }

@@ -1,5 +1,5 @@
 -- A creator keeps the laws of machines.
-use Rattle.std.proofs.Common.{◌≡◌, ◌≢◌, inl, inr, ℕ, suc, ◌<◌, ◌≤◌, List, [], ◌∷◌, ◌++◌, codes, length, if◌then◌else◌, Option, None, Some, is_none, IsSome, IsSomeAnd, IfSome, Result, Ok, Err, OnOk, OnErr, refl, sym, ap, ◌∙◌, subst, arith}
+use Rattle.std.proofs.Common.{◌≡◌, ◌≢◌, inl, inr, ℕ, ◌<◌, ◌≤◌, List, [], ◌∷◌, ◌++◌, codes, if◌then◌else◌, Option, None, Some, is_none, IsSome, IsSomeAnd, IfSome, Result, Ok, Err, OnOk, OnErr, refl, sym, ap, ◌∙◌, subst, arith}
 use Rattle.std.specs.FinMap as map
 use Rattle.std.proofs.lemmas.List.{append_cancel_left}
 use Rattle.std.proofs.lemmas.Option.{IfSome_then}
@@ -26,15 +26,16 @@ use Rattle.pm_machine.specs.Trace.{Event, IsFailed, MayEnd, Recounts, after_answ
 use Rattle.pm_machine.proofs.Facts.{image_changed}
 use Rattle.pm_machine.proofs.PhaseFacts.{recounts_of}
 use Rattle.pm_model_history.specs.History.{History, IsTableOf, no_table, table, GoesOn}
-use Rattle.pm_model_folder.specs.Changes.{Actor, Change, IsNoOrigin, committed, its_origin, nothing, origin_name, own_file, schema}
+use Rattle.pm_model_folder.specs.Changes.{Actor, Change, IsNoOrigin, beside as changes_beside, committed, its_origin, nothing, origin_name, own_file, schema}
 use Rattle.pm_model_folder.specs.Commits.{Needs}
 use Rattle.pm_model_folder.specs.Folder.{Folder}
 use Rattle.pm_model_folder.specs.Ledger.{Advances, IsUnnamed, Past, Stands, count_of}
 use Rattle.pm_model_folder.specs.Meaning.{HasSnapshotAt}
-use Rattle.pm_model_folder.specs.Paths.{schema_path, snapshot_file}
-use Rattle.pm_model_folder.proofs.Facts.{goes_on, some-none, still_there, there-absent}
+use Rattle.pm_model_folder.specs.Paths.{consumer_path, schema_path, snapshot_file}
+use Rattle.pm_model_folder.proofs.Facts.{goes_on, some-none, still_there}
+use Rattle.pm_model_folder.proofs.KindFacts.{origin-stays}
 use Rattle.pm_model_folder.proofs.LedgerFacts.{beside}
-use Rattle.pm_model_folder.proofs.PathLemmas.{snapshot-own, snapshot-schema}
+use Rattle.pm_model_folder.proofs.PathLemmas.{consumer-schema, consumer-snapshot}
 use Rattle.pm_schema.specs.declared.schema.TableSchema.{TableSchema}
 use Rattle.pm_create.specs.declared.phase.Phase.{Phase}
 use Rattle.pm_create.specs.declared.phase.Phase.TheVariants as phases
@@ -126,9 +127,9 @@ count-begins s h later (inr (none, is)) = ap count_of is ∙ sym (ap count_of no
 
 -- a change of a creator keeps what is known, where what appears is fresh
 makes_past : (t : NewTable) (f after : Files) (p : Past) (later : History) → MakesOf t f p.history after later → IsFresh f p after
-    → Makes t f p after (at_history later p)
-makes_past t f after p later makes fresh = record {
-  advances = beside t.me f after p later makes.kind (count-begins t.schema p.history later makes.begins) fresh;
+    → ((name : List ℕ) → map.get after (consumer_path name) ≡ map.get f (consumer_path name)) → Makes t f p after (at_history later p)
+makes_past t f after p later makes fresh consumers = record {
+  advances = beside t.me f after p later makes.kind (count-begins t.schema p.history later makes.begins) fresh consumers;
   begins = makes.begins;
 }
 
@@ -136,7 +137,7 @@ same-fresh : (f : Files) (p : Past) → IsFresh f p f
 same-fresh f p s path is none here = absurd (some-none (map.get f path) here none)
 
 past_same : (t : NewTable) (f : Files) (p : Past) → Makes t f p f (at_history p.history p)
-past_same t f p = makes_past t f f p p.history (makes-same t f p.history) (same-fresh f p)
+past_same t f p = makes_past t f f p p.history (makes-same t f p.history) (same-fresh f p) (λ name. refl)
 
 -- its origin is one
 own-fresh : AreDeclared → (t : NewTable) (path : List ℕ) (content : Option (List ℕ)) (f after : Files) (p : Past) → Stands f p → path ≡ own_origin t.me
@@ -151,6 +152,7 @@ past_own : AreDeclared → (t : NewTable) (path content : List ℕ) (f after : F
 past_own law t path content f after p stands own other absent puts =
     makes_past t f after p p.history (makes-own t path content f after p.history own (λ none. other) absent puts)
     (own-fresh law t path (Some content) f after p stands own puts)
+    (λ name. puts.others (consumer_path name) (λ same. consumer-snapshot name (origin_name t.me) (same ∙ own)))
 
 -- so is the schema of a new table
 past_table : (t : NewTable) (f after : Files) (p : Past) → IsNewTable t → HasSnapshotAt f t.schema 0 → p.history ≡ no_table
@@ -159,6 +161,7 @@ past_table t f after p is there none puts =
     makes_past t f after p (table t.schema [])
     (subst (λ (h : History). MakesOf t f h after (table t.schema [])) (sym none) (makes-table t f after is there puts))
     (λ s path one absent here. absurd (subst (λ (h : History). IsTableOf s h) none one))
+    (λ name. puts.others (consumer_path name) (consumer-schema name 0))
 
 changes_at : AreDeclared → (t : NewTable) (m : Phase) (f : Files) (p : Past) → Stands f p → IsNewTable t → IsOf t m → KnowsAt t m f p
     → IfSome (next_call m) (λ call. Changes (Makes t) call f p)
@@ -447,36 +450,26 @@ other_still me other f after h later (schema s bytes there named puts reads) apa
     let its : origin_name other ≡ name = same-name (origin_name other) name (sym named ∙ is) in
     apart (its ∙ append_cancel_left (codes "snapshot/") name (origin_name me) at)
 other_still me other f after h later (committed s entries e bytes newest bound none puts fit commit own) apart free = free
+other_still me other f after h later (changes_beside s entries plain change) apart free = free
 
--- and where its file is there it stays
-own_stays : (me other : Actor) (f after : Files) (h later : History) → Change other f h after later → IsSome (map.get f (own_origin me))
-    → map.get after (own_origin me) ≡ map.get f (own_origin me)
-own_stays me other f after h later (nothing same) there = same (own_origin me)
-own_stays me other f after h later (own_file path content own other_origin absent puts) there =
-    puts.others (own_origin me) (there-absent f (own_origin me) path there absent)
-own_stays me other f after h later (schema s bytes origin named puts reads) there =
-    puts.others (own_origin me) (snapshot-schema (origin_name me) 0)
-own_stays me other f after h later (committed s entries e bytes newest bound none puts fit commit own) there =
-    puts.others (own_origin me) (λ same. snapshot-own me (own_origin me) (suc (length entries)) (its_origin refl) (sym same))
-
-known_at : (t : NewTable) (m : Phase) (other : Actor) (f after : Files) (p q : Past) → Change other f p.history after q.history
+known_at : (t : NewTable) (m : Phase) (other : Actor) (f after : Files) (p q : Past) → Folder f p.history → Change other f p.history after q.history
     → origin_name other ≢ origin_name t.me → IsNewTable t → IsOf t m → KnowsAt t m f p → KnowsAt t m after q
-known_at t (phases.Origin path bytes) other f after p q change apart is own known =
+known_at t (phases.Origin path bytes) other f after p q folder change apart is own known =
     subst (IsNoOrigin q.history) (sym own.0)
     (other_still t.me other f after p.history q.history change apart (subst (IsNoOrigin p.history) own.0 known))
-known_at t (phases.Schema bytes) other f after p q change apart is own known =
+known_at t (phases.Schema bytes) other f after p q folder change apart is own known =
     let there = own_there t f is known.0 in (
-      own_stands t after is (still_there f after (own_origin t.me) (own_stays t.me other f after p.history q.history change there) there),
+      own_stands t after is (still_there f after (own_origin t.me) (origin-stays t.me other f after p.history q.history folder change known.1 there) there),
       other_still t.me other f after p.history q.history change apart known.1,
     )
-known_at t phases.Created other f after p q change apart is own known =
+known_at t phases.Created other f after p q folder change apart is own known =
     still_table t.schema p.history q.history (goes_on other f after p.history q.history change) known
-known_at t phases.Over other f after p q change apart is own known = tt
+known_at t phases.Over other f after p q folder change apart is own known = tt
 
 pub knows_still : (t : NewTable) (m : Phase) (other : Actor) (f after : Files) (p q : Past) → Stands f p → Advances other f p after q
     → origin_name other ≢ origin_name t.me → Knows t m f p → Knows t m after q
 knows_still t m other f after p q stands advances apart known =
-    (known.0, known_at t m other f after p q advances.change apart known.0.0 known.0.1 known.1)
+    (known.0, known_at t m other f after p q stands.folder advances.change apart known.0.0 known.0.1 known.1)
 
 pub images : AreDeclared → PastKept → (t : NewTable) (m : Phase) (call : Call) (f image : Files) (p : Past) → next_call m ≡ Some call → Stands f p
     → Knows t m f p → MayLeave call f image → (later : Past) × Makes t f p image later × Stands image later

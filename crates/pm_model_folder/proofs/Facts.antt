@@ -12,7 +12,7 @@ use Rattle.pm_model_following.specs.Following.{HaveBases}
 use Rattle.pm_schema.specs.declared.schema.TableSchema.{TableSchema}
 use Rattle.pm_snapshot.specs.Names.{floor_name, greatest, snapshot_name}
 use Rattle.pm_snapshot.specs.declared.snapshot.Snapshot.{Snapshot}
-use Rattle.pm_model_folder.specs.Changes.{Actor, IsNoOrigin, IsOwn, Change, nothing, own_file, schema, committed}
+use Rattle.pm_model_folder.specs.Changes.{Actor, IsNoOrigin, IsOwn, Change, beside, nothing, own_file, schema, committed}
 use Rattle.pm_model_folder.specs.Commits.{BeginsOn, FollowsOn, IsCommit, IsCommitted, Names, Needs, NeverReturn}
 use Rattle.pm_model_folder.specs.Folder.{AreEntriesOf, Folder, HasCommits, HasFloor, HaveFiles, HasNoTable, HasTable, IsEntryAfter, IsFrom, IsRowOf, NamesGroups}
 use Rattle.pm_model_folder.specs.Meaning.{SchemaAt, SnapshotAt, HasSnapshotAt, LeadsTo}
@@ -184,7 +184,7 @@ same-or-other a b = at (a == b) refl
     at true is = inl (grind (arith, nat_tests))
     at false is = inr (λ e. grind (arith, nat_tests))
 
-same-path : (a b : List ℕ) → (a ≡ b) ⊎ (a ≢ b)
+pub same-path : (a b : List ℕ) → (a ≡ b) ⊎ (a ≢ b)
 same-path [] [] = inl refl
 same-path [] (y ∷ b) = inr (λ e. cc)
 same-path (x ∷ a) [] = inr (λ e. cc)
@@ -231,7 +231,7 @@ all-same f after same = record {
 same-holds : (f after : Files) → ((path : List ℕ) → map.get after path ≡ map.get f path) → Holds f after
 same-holds f after same path there = same path
 
-kept-same : OneContents → ContentsStay → (f after : Files) (h : History) → ((path : List ℕ) → map.get after path ≡ map.get f path) → Folder f h → Folder after h
+pub kept-same : OneContents → ContentsStay → (f after : Files) (h : History) → ((path : List ℕ) → map.get after path ≡ map.get f path) → Folder f h → Folder after h
 kept-same one stay f after no_table same folder = same-no_table f after (all-same f after same) (names-same f after same folder.names) folder
 kept-same one stay f after (table s entries) same folder = same-table one stay f after (same-holds f after same) s entries (all-same f after same) (
   λ there. snapshot_stays f after s 0 (λ q. still_there f after q (same q)) there,
@@ -262,7 +262,7 @@ origin-iff f after (Some name) same = (
   λ there. still_there after f (snapshot_file name) (sym (same name refl)) there,
 )
 
-kept-own : OneContents → ContentsStay → (me : Actor) (f after : Files) (h : History) (path content : List ℕ) → IsOwn me path → IsNoOrigin h path
+pub kept-own : OneContents → ContentsStay → (me : Actor) (f after : Files) (h : History) (path content : List ℕ) → IsOwn me path → IsNoOrigin h path
     → map.get f path ≡ None → Puts f path (Some content) after → Folder f h → Folder after h
 kept-own one stay me f after no_table path content own other absent puts folder =
     same-no_table f after (own-same me f after path content own puts) (names-own me f after path content own puts folder.names) folder
@@ -328,7 +328,7 @@ new-origin f (Some name) folder there id within e =
 none-from : (P : ℕ → Type 0) (id : ℕ) → IsFrom 0 0 id → P id
 none-from P id from = absurd (let low = from.after_origin in let high = from.to in omega (arith, low, high))
 
-kept-schema : (f after : Files) (s : TableSchema) (bytes : List ℕ) → HasNoTable f → HasSnapshotAt f s 0
+pub kept-schema : (f after : Files) (s : TableSchema) (bytes : List ℕ) → HasNoTable f → HasSnapshotAt f s 0
     → Puts f (schema_path 0) (Some bytes) after → SchemaAt after 0 s → HasTable after s []
 kept-schema f after s bytes folder there puts reads = record {
   names = new-names f after bytes folder puts;
@@ -531,7 +531,7 @@ module _ (one : OneContents) (stay : ContentsStay) (f after : Files) (s : TableS
     commits-after : HasCommits after s (entries ++ e ∷ []) folder.snapshots.least
     commits-after = record { committed = committed-after; begins = begins-after; next = next-after; gone = gone-after }
 
-    table-after : AreEntriesOf s (entries ++ e ∷ []) → HasTable after s (entries ++ e ∷ [])
+    pub table-after : AreEntriesOf s (entries ++ e ∷ []) → HasTable after s (entries ++ e ∷ [])
     table-after are =
         let first = folder.schema.first in record {
           names = names-after;
@@ -559,7 +559,7 @@ module _ (one : OneContents) (stay : ContentsStay) (f after : Files) (s : TableS
               (was.0, (was.1.0, same ∙ was.1.1, was.1.2));
         }
 
--- ---- all kinds
+-- ---- entries that come
 
 entry-below : (s : TableSchema) (entries : List Entry) (e : Entry) → IsEntryAfter s entries e → BaseBelow (1 + length entries) e
 entry-below s entries (append user identifier rows) is = tt
@@ -600,13 +600,6 @@ rows-append s entries e are is = record {
   fences = λ n x at. at-number (0 + n) n x (omega arith) (fences-more s entries e are is n x at);
 }
 
-pub kept : OneContents → ContentsStay → (me : Actor) (f after : Files) (h later : History) → Folder f h → Change me f h after later → Folder after later
-kept one stay me f after h later folder (nothing same) = kept-same one stay f after h same folder
-kept one stay me f after h later folder (own_file path content own other absent puts) = kept-own one stay me f after h path content own other absent puts folder
-kept one stay me f after h later folder (schema s bytes there named puts reads) = kept-schema f after s bytes folder there puts reads
-kept one stay me f after h later folder (committed s entries e bytes there within absent puts fit commit own) =
-    table-after one stay f after s entries _ bytes folder within absent puts commit (rows-append s entries e folder.history fit)
-
 goes-itself : (h : History) → GoesOn h h
 goes-itself no_table = tt
 goes-itself (table s entries) = (refl, [], sym (append-nil entries))
@@ -616,26 +609,7 @@ goes_on me f after h later (nothing same) = goes-itself h
 goes_on me f after h later (own_file path content own other absent puts) = goes-itself h
 goes_on me f after h later (schema s bytes there named puts reads) = tt
 goes_on me f after h later (committed s entries e bytes there within absent puts fit commit own) = (refl, _, refl)
-
--- of the kinds so far none writes a file twice, or takes one away
-pub stays : (me : Actor) (f after : Files) (h later : History) (q : List ℕ) → Folder f h → Change me f h after later → IsSome (map.get f q)
-    → map.get after q ≡ map.get f q
-stays me f after h later q folder (nothing same) there = same q
-stays me f after h later q folder (own_file path content own other absent puts) there = puts.others q (there-absent f q path there absent)
-stays me f after h later q folder (schema s bytes origin named puts reads) there =
-    puts.others q (there-absent f q (schema_path 0) there (folder.schemas 0 (omega arith)))
-stays me f after h later q folder (committed s entries e bytes newest within absent puts fit commit own) there =
-    puts.others q (there-absent f q (snapshot_path (suc (length entries))) there absent)
-
--- what a snapshot needs stays while that is there
-pub needed-stays : (me : Actor) (f after : Files) (s : TableSchema) (entries : List Entry) (later : History) (id : ℕ) (q : List ℕ) → Folder f (table s entries)
-    → Change me f (table s entries) after later → HasSnapshotAt after s id → Needs f s id q → IsSome (map.get f q) → map.get after q ≡ map.get f q
-needed-stays me f after s entries later id q folder change _ needs there = stays me f after (table s entries) later q folder change there
-
--- What a snapshot needed when it was committed stays, also once that has gone.
-pub stood-stays : (me : Actor) (f after : Files) (h later : History) (s : TableSchema) (stood : Files) (id : ℕ) (q : List ℕ) → Folder f h → Change me f h after later
-    → Needs stood s id q → IsSome (map.get f q) → map.get after q ≡ map.get f q
-stood-stays me f after h later s stood id q folder change needs there = stays me f after h later q folder change there
+goes_on me f after h later (beside s entries plain change) = goes-itself (table s entries)
 
 -- ---- what listings say
 

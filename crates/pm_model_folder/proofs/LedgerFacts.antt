@@ -1,28 +1,35 @@
 -- What is known of snapshots: that a folder which is found has a past, that each change keeps it, and what reading shows.
-use Rattle.std.proofs.Common.{◌≡◌, ◌⊎◌, inl, inr, ℕ, zero, suc, ◌+◌, ◌-◌, ◌<◌, ◌≤◌, List, [], ◌∷◌, ◌++◌, take, length, length-append, slice_get, Contains, Option, Some, None, IsSome, Ok, refl, sym, ap, subst, ◌∙◌, arith}
+use Rattle.std.proofs.Common.{◌≡◌, ◌⊎◌, inl, inr, ℕ, zero, suc, ◌+◌, ◌-◌, ◌<◌, ◌≤◌, List, [], ◌∷◌, ◌++◌, map as each_of, take, length, length-append, slice_get, Contains, Option, Some, None, IsSome, false, Ok, refl, sym, ap, subst, ◌∙◌, arith}
 use Rattle.std.specs.FinMap as map
+use Rattle.std.specs.List.{range_with_len}
 use Rattle.std.proofs.lemmas.List.{append-nil, take_all, take-append-le}
 use Rattle.pm_store.specs.Files.{Files}
 use Rattle.pm_values.specs.declared.group.Group.{Group}
+use Rattle.pm_model_consumers.specs.Claims.{Claim, Counts, Holds, free, settled}
 use Rattle.pm_model_history.specs.History.{Entry, History, IsTableOf, GoesOn, no_table, table}
-use Rattle.pm_model_following.specs.Following.{HaveBases}
+use Rattle.pm_model_following.specs.Following.{HaveBases, frame}
 use Rattle.pm_schema.specs.Reading.{schema_of}
 use Rattle.pm_schema.specs.declared.schema.TableSchema.{TableSchema}
 use Rattle.pm_snapshot.specs.Names.{greatest}
 use Rattle.pm_snapshot.specs.Snapshot.{snapshot_in}
+use Rattle.pm_snapshot.specs.declared.consumer.Consumer.{Consumer}
 use Rattle.pm_snapshot.specs.declared.snapshot.Snapshot.{Snapshot}
 use Rattle.pm_model_contents.specs.Named.{Contents, HasContents}
-use Rattle.pm_model_folder.specs.Changes.{Actor, Change, IsOwnFile, nothing, own_file, schema, committed}
+use Rattle.pm_model_folder.specs.Changes.{Actor, Change, IsOwnFile, beside as changes_beside, nothing, own_file, schema, committed}
 use Rattle.pm_model_folder.specs.Commits.{CountsAppends, HasCommit, IsCommit, IsCommitted, Names, Needs, live_in}
 use Rattle.pm_model_folder.specs.Entries.{IsFenced, appends_in}
-use Rattle.pm_model_folder.specs.Folder.{Folder, HasTable, IsEntryAfter, IsFrom}
-use Rattle.pm_model_folder.specs.Ledger.{Past, Advances, HasNamedNone, IsKnown, IsOldOrUnnamed, IsUnnamed, KeepsFiles, KnowsAppends, KnowsNone, KnowsPast, KnowsRuns, KnowsTable, Stands, count_of}
-use Rattle.pm_model_folder.specs.Meaning.{HasSnapshotAt, SnapshotAt}
-use Rattle.pm_model_folder.specs.Paths.{schema_path, snapshot_path}
+use Rattle.pm_model_folder.specs.Consumers.{IsLeast, IsMoved, KnowsConsumers, follower_of, moment_of}
+use Rattle.pm_model_folder.specs.Folder.{Folder, HasTable, HaveSettled, IsEntryAfter, IsFrom}
+use Rattle.pm_model_folder.specs.Ledger.{Past, Advances, HasNamedNone, IsKnown, IsOldOrUnnamed, IsUnnamed, KeepsFiles, KnowsAppends, KnowsNone, KnowsPast, KnowsRuns, KnowsTable, MovesConsumers, Stands, count_of, untouched}
+use Rattle.pm_model_folder.specs.Meaning.{ConsumerAt, HasSnapshotAt, SnapshotAt}
+use Rattle.pm_model_folder.specs.Paths.{consumer_path, schema_path, snapshot_path}
 use Rattle.pm_model_folder.specs.Runs.{AreInFiles, HaveLiveFiles}
-use Rattle.pm_model_folder.proofs.Facts.{kept, goes_on, rows-append, stays, stood-stays, same-or-other, some-none, split-last}
-use Rattle.pm_model_folder.proofs.HoldLemmas.{ContentsStay, OneContents, one-snapshot}
-use Rattle.pm_model_folder.proofs.PathLemmas.{other-snapshot, snapshot-own}
+use Rattle.pm_model_folder.proofs.BesideLemmas.{gone-beside}
+use Rattle.pm_model_folder.proofs.ConsumerLemmas.{ChangesStay, ClaimsKept, LeastKept, Moving, MovesOn, counted-file, found_claims, found-from, free-consumers, moved-on, moving, names-found, none-claims, settled-file, settled-frames, settled-free}
+use Rattle.pm_model_folder.proofs.Facts.{goes_on, kept-schema, rows-append, same-or-other, some-none, split-last}
+use Rattle.pm_model_folder.proofs.HoldLemmas.{ContentsStay, OneContents, SameContents, one-snapshot}
+use Rattle.pm_model_folder.proofs.KindFacts.{kept, own-file-stays, stood-stays}
+use Rattle.pm_model_folder.proofs.PathLemmas.{consumer-own, consumer-schema, other-snapshot, snapshot-own}
 use Rattle.pm_model_folder.proofs.RunFacts.{found-runs, live-shows, none-known, origin-none, origin-runs}
 use Rattle.pm_runs.specs.Stand.{top_of}
 use Rattle.pm_runs.specs.Succession.{AreKnownAt, Follows, HaveFilesIn, IsSuccession, IsTaken, KnownRun, StillStands, Taking}
@@ -47,8 +54,8 @@ pub record RunLaws : Type 0 where
 -- ---- a folder that is found
 
 -- from its least snapshot on, each stands as it is; at the newest it has these runs
-abbrev found_past : Files → History → ℕ → (Group → List KnownRun) → Past
-found_past f h first runs = record { history = h; first = first; stood = λ id. f; since = count_of h; runs = λ id g. runs g }
+abbrev found_past : Files → History → ℕ → (Group → List KnownRun) → (List ℕ → Claim) → Past
+found_past f h first runs claims = record { history = h; first = first; stood = λ id. f; since = count_of h; runs = λ id g. runs g; claims = claims }
 
 was-from : (least n id : ℕ) → 1 ≤ id → least ≤ id → id ≤ n → IsFrom least n id
 was-from least n id after low high = record { after_origin = after; from = low; to = high }
@@ -59,9 +66,10 @@ found-kept f s id = record { same = λ path needs. inr refl; there = λ here pat
 one-number : (n k : ℕ) → n ≤ k → k ≤ n → n ≡ k
 one-number n k low high = omega (arith, low, high)
 
-module _ (law : RunsFound) (f : Files) (s : TableSchema) (entries : List Entry) (folder : HasTable f s entries) where
+module _ (law : RunsFound) (f : Files) (s : TableSchema) (entries : List Entry) (folder : HasTable f s entries) (claims : List ℕ → Claim)
+    (known : KnowsConsumers f s entries claims) where
   abbrev newest_past : Past
-  newest_past = found_past f (table s entries) folder.snapshots.least (λ g. (found-runs f s entries folder g).runs)
+  newest_past = found_past f (table s entries) folder.snapshots.least (λ g. (found-runs f s entries folder g).runs) claims
 
   known-runs : KnowsRuns s entries newest_past
   known-runs = record {
@@ -93,19 +101,45 @@ module _ (law : RunsFound) (f : Files) (s : TableSchema) (entries : List Entry) 
             last.to here there;
         runs = known-runs;
         appends = known-appends;
+        consumers = known;
       }
+
+-- with what is known of consumers
+found-with : RunsFound → (f : Files) (s : TableSchema) (entries : List Entry) → HasTable f s entries → (claims : List ℕ → Claim) → KnowsConsumers f s entries claims
+    → (p : Past) × (p.history ≡ table s entries) × Stands f p × ((id : ℕ) → p.stood id ≡ f) × (p.since ≡ length entries) × ((name : List ℕ) → p.claims name ≡ claims name)
+found-with law f s entries folder claims known = (
+  newest_past law f s entries folder claims known,
+  refl,
+  record { folder = folder; past = found-table law f s entries folder claims known },
+  λ id. refl,
+  refl,
+  λ name. refl,
+)
 
 pub found : RunsFound → (f : Files) (h : History) → Folder f h
     → (p : Past) × (p.history ≡ h) × Stands f p × ((id : ℕ) → p.stood id ≡ f) × (p.since ≡ count_of h)
 found law f no_table folder = (
-  found_past f no_table 1 (λ g. []),
+  found_past f no_table 1 (λ g. []) (λ name. free),
   refl,
-  record { folder = folder; past = record { first = omega arith; since = refl; runs = λ g. refl } },
+  record { folder = folder; past = record { first = omega arith; since = refl; runs = λ g. refl; claims = λ name. refl } },
   λ id. refl,
   refl,
 )
 found law f (table s entries) folder =
-    (newest_past law f s entries folder, refl, record { folder = folder; past = found-table law f s entries folder }, λ id. refl, refl)
+    let (p, is, stands, stood, since, claims) = found-with law f s entries folder (λ name. free) (free-consumers f s entries (λ name. free) folder (λ name. refl)) in
+    (p, is, stands, stood, since)
+
+-- with settled consumers of these names
+abbrev pub AreFoundSettled : Past → List (List ℕ) → Type 0
+AreFoundSettled p names = (name : List ℕ) → Contains names name → (from : ℕ) × (p.claims name ≡ settled from [])
+
+pub found-names : RunsFound → (f : Files) (h : History) (names : List (List ℕ)) → Folder f h → HaveSettled f h names
+    → (p : Past) × (p.history ≡ h) × Stands f p × AreFoundSettled p names
+found-names law f no_table names folder have =
+    let (p, is, stands, stood, since) = found law f no_table folder in (p, is, stands, λ name there. absurd (have name there))
+found-names law f (table s entries) names folder have =
+    let (p, is, stands, stood, since, claims) = found-with law f s entries folder (found_claims f names) (names-found f s entries names folder have) in
+    (p, is, stands, λ name there. (let (from, own) = found-from f names name there in (from, claims name ∙ own)))
 
 -- ---- the table of a past
 
@@ -189,6 +223,7 @@ gone-change me f after h later s id folder (own_file path content own other none
 gone-change me f after h later s id folder (schema t bytes origin named puts reads) is least within absent = absurd is
 gone-change me f after h later s id folder (committed t entries e bytes newest bound none puts fit commit own) is least within absent =
     puts.others (snapshot_path id) (other-snapshot id (suc (length entries)) (omega (arith, within, bound)) bound (λ e. omega (arith, within, e))) ∙ absent
+gone-change me f after h later s id folder (changes_beside t entries plain change) is least within absent = gone-beside f t entries after id change absent
 
 count-grows : (h later : History) → GoesOn h later → count_of h ≤ count_of later
 count-grows no_table later goes = omega arith
@@ -216,7 +251,7 @@ needed-same me f after p q s id path stands advances is known needs = elim (abse
     | inl absent ↦ absent ∙ sym none
     | inr here ↦ absurd (advances.fresh s path is none here id known needs)
   ]
-  | inr there ↦ stood-stays me f after p.history q.history s (p.stood id) id path stands.folder advances.change needs there
+  | inr there ↦ stood-stays me f after p.history q.history s (p.stood id) id path stands.folder advances.change is needs there
 ]
 
 back-there : (me : Actor) (f after : Files) (p q : Past) (s : TableSchema) (id : ℕ) → Stands f p → Advances me f p after q → IsTableOf s p.history
@@ -266,11 +301,11 @@ module _ (me : Actor) (f after : Files) (p q : Past) (s : TableSchema) (entries 
       (subst (λ (g : Files). Names g s late path) (advances.same late last) there))
 
 -- what an actor made stays, whoever acts, while no known snapshot names a file of the actor, or its base is fenced:
--- no kind of change removes a file
+-- no kind of change takes such a file away
 pub own-stays : (me other : Actor) (base : ℕ) (f after : Files) (p q : Past) (path : List ℕ) → Stands f p → Advances other f p after q
     → IsOwnFile me base path → HasNamedNone me p → IsSome (map.get f path) → IsFenced base q.history ⊎ (map.get after path ≡ map.get f path)
 own-stays me other base f after p q path stands advances own none there =
-    inr (stays other f after p.history q.history path stands.folder advances.change there)
+    inr (own-file-stays me other base f after p.history q.history path stands.folder advances.change own there)
 
 pub is-table : (p : Past) (s : TableSchema) (entries : List Entry) → p.history ≡ table s entries → IsTableOf s p.history
 is-table p s entries same = subst (λ (h : History). IsTableOf s h) (sym same) refl
@@ -372,11 +407,27 @@ runs-begin laws p q s none since first same = record {
     at-zero g zero within = empty g
     at-zero g (suc n) within = absurd (omega (arith, within))
 
+-- ---- what is known of consumers moves on
+
+pub steps-on : ChangesStay → (me : Actor) (f after : Files) (p q : Past) (s : TableSchema) (entries grown : List Entry) → Stands f p → Advances me f p after q
+    → p.history ≡ table s entries → q.history ≡ table s grown → (known : KnowsConsumers f s entries p.claims)
+    → MovesOn me f after s entries grown known.least p.claims q.claims
+steps-on changes me f after p q s entries grown stands advances was now known =
+    subst (λ (g : History). Moving me f after p.claims q.claims (table s entries) g) now
+    (subst (λ (h : History). Moving me f after p.claims q.claims h q.history) was
+    (moving changes me f after p.claims q.claims p.history q.history stands.folder advances.change))
+    known (subst (λ (g : History). MovesConsumers me f after g p.claims q.claims) now advances.consumers)
+
+consumers-on : ClaimsKept → ChangesStay → (me : Actor) (f after : Files) (p q : Past) (s : TableSchema) (entries grown : List Entry) → Stands f p
+    → Advances me f p after q → p.history ≡ table s entries → q.history ≡ table s grown → KnowsConsumers f s entries p.claims → KnowsConsumers after s grown q.claims
+consumers-on law changes me f after p q s entries grown stands advances was now known =
+    moved-on law me f after s entries grown p.claims q.claims known (steps-on changes me f after p q s entries grown stands advances was now known)
+
 -- the history stays
 module _ (laws : RunLaws) (me : Actor) (f after : Files) (p q : Past) (stands : Stands f p) (advances : Advances me f p after q) where
   same-past : (s : TableSchema) (entries : List Entry) → p.history ≡ table s entries → q.history ≡ table s entries → KnowsTable f s entries p
-      → KnowsTable after s entries q
-  same-past s entries was stays past =
+      → KnowsConsumers after s entries q.claims → KnowsTable after s entries q
+  same-past s entries was stays past consumers =
       let is : IsTableOf s p.history = is-table p s entries was in
       let before : (id : ℕ) → IsKnown q id → IsKnown p id = λ id known. record {
         after_origin = known.after_origin;
@@ -395,6 +446,7 @@ module _ (laws : RunLaws) (me : Actor) (f after : Files) (p q : Past) (stands : 
             old-gone me f after p q s entries entries stands advances is past [] whole early middle late path (before early first) low high (before late last) here there;
         runs = runs-same laws me f after p q advances s entries was past.runs;
         appends = old-appends me f after p q advances s entries past.runs past.appends (λ n within. (let many = count-is p s entries was in omega (arith, within, many)));
+        consumers = consumers;
       }
     where
       there-before : (s : TableSchema) (entries : List Entry) → p.history ≡ table s entries → (id : ℕ) → 1 ≤ id → id ≤ length entries
@@ -407,9 +459,14 @@ module _ (laws : RunLaws) (me : Actor) (f after : Files) (p q : Past) (stands : 
         | inr here ↦ here
       ]
 
+  -- where nothing is known of any consumer, and there is no table, nothing is
+  still-free : KnowsNone p → ((name : List ℕ) → map.get after (consumer_path name) ≡ None) → (name : List ℕ) → q.claims name ≡ free
+  still-free past none = none-claims me f after q.history p.claims q.claims past.claims none advances.consumers
+
   -- a new table has no snapshot after its origin
-  new-past : (s : TableSchema) → q.history ≡ table s [] → KnowsNone p → KnowsTable after s [] q
-  new-past s is past =
+  new-past : (s : TableSchema) → q.history ≡ table s [] → KnowsNone p → HasTable after s []
+      → ((name : List ℕ) → map.get after (consumer_path name) ≡ None) → KnowsTable after s [] q
+  new-past s is past folder absent =
       let none : (P : Type 0) (id : ℕ) → IsKnown q id → P = λ P id known.
       absurd (let low = known.after_origin in let high = known.to in let many = count-is q s [] is in omega (arith, low, high, many)) in record {
         start = (let first = past.first in let same = advances.first in omega (arith, first, same));
@@ -419,12 +476,13 @@ module _ (laws : RunLaws) (me : Actor) (f after : Files) (p q : Past) (stands : 
         gone = λ early middle late path first low high last here there. none (Names (q.stood middle) s middle path) early first;
         runs = runs-begin laws p q s past advances.since advances.first (λ g. advances.runs 0 g (omega arith));
         appends = λ early late x y low least le high at there. absurd (omega (arith, least, le, high));
+        consumers = free-consumers after s [] q.claims folder (still-free past absent);
       }
 
   -- an entry comes
   module _ (s : TableSchema) (entries : List Entry) (e : Entry) (was : p.history ≡ table s entries) (now : q.history ≡ table s (entries ++ e ∷ []))
       (past : KnowsTable f s entries p) (commit : IsCommit f after s entries e) (folder : HasTable f s entries) (newest : HasSnapshotAt f s (length entries))
-      (fit : IsEntryAfter s entries e) where
+      (fit : IsEntryAfter s entries e) (consumers : KnowsConsumers after s (entries ++ e ∷ []) q.claims) where
     longer : length (entries ++ e ∷ []) ≡ suc (length entries)
     longer = length-append entries (e ∷ []) ∙ (let more : length entries + 1 ≡ suc (length entries) = omega arith in more)
 
@@ -574,30 +632,42 @@ module _ (laws : RunLaws) (me : Actor) (f after : Files) (p q : Past) (stands : 
       kept = kept-now;
       gone = gone-now;
       appends = appends-now;
+      consumers = consumers;
       runs = runs-more laws me f after p q advances s entries was past.runs e now (laws.high (schema_path 0) folder.schema.first.0 s folder.schema.first.2)
           (rows-append s entries e folder.history fit).bases (stood-now (suc (length entries)) newest-known refl);
     }
 
-  none-past : p.history ≡ no_table → KnowsNone p → KnowsNone q
-  none-past was past = record {
+  none-past : p.history ≡ no_table → KnowsNone p → ((name : List ℕ) → map.get after (consumer_path name) ≡ None) → KnowsNone q
+  none-past was past absent = record {
     first = (let first = advances.first in let low = past.first in omega (arith, first, low));
     since = advances.since ∙ past.since;
     runs = λ g. advances.runs 0 g (omega arith) ∙ past.runs g;
+    claims = still-free past absent;
   }
 
-  past-kept : (h later : History) → p.history ≡ h → q.history ≡ later → Folder f h → Change me f h after later → KnowsPast f h p → KnowsPast after later q
-  past-kept no_table later was now folder (nothing same) past = none-past was past
-  past-kept (table s entries) later was now folder (nothing same) past = same-past s entries was now past
-  past-kept no_table later was now folder (own_file path content own other none puts) past = none-past was past
-  past-kept (table s entries) later was now folder (own_file path content own other none puts) past = same-past s entries was now past
-  past-kept h later was now folder (schema s bytes origin named puts reads) past = new-past s now past
-  past-kept h later was now folder (committed s entries e bytes newest bound none puts fit commit own) past =
+  past-kept : ClaimsKept → ChangesStay → (h later : History) → p.history ≡ h → q.history ≡ later → Folder f h → Change me f h after later → KnowsPast f h p
+      → KnowsPast after later q
+  past-kept law changes no_table later was now folder (nothing same) past = none-past was past (λ name. same (consumer_path name) ∙ folder.consumers name)
+  past-kept law changes (table s entries) later was now folder (nothing same) past =
+      same-past s entries was now past (consumers-on law changes me f after p q s entries entries stands advances was now past.consumers)
+  past-kept law changes no_table later was now folder (own_file path content own other none puts) past =
+      none-past was past (λ name. puts.others (consumer_path name) (consumer-own me path name own) ∙ folder.consumers name)
+  past-kept law changes (table s entries) later was now folder (own_file path content own other none puts) past =
+      same-past s entries was now past (consumers-on law changes me f after p q s entries entries stands advances was now past.consumers)
+  past-kept law changes h later was now folder (schema s bytes origin named puts reads) past =
+      new-past s now past (kept-schema f after s bytes folder origin puts reads)
+      (λ name. puts.others (consumer_path name) (consumer-schema name 0) ∙ folder.consumers name)
+  past-kept law changes h later was now folder (committed s entries e bytes newest bound none puts fit commit own) past =
       longer-past s entries _ was now past commit folder newest fit
+      (consumers-on law changes me f after p q s entries (entries ++ e ∷ []) stands advances was now past.consumers)
+  past-kept law changes h later was now folder (changes_beside s entries plain change) past =
+      same-past s entries was now past (consumers-on law changes me f after p q s entries entries stands advances was now past.consumers)
 
-pub stands-kept : OneContents → ContentsStay → RunLaws → (me : Actor) (f after : Files) (p q : Past) → Stands f p → Advances me f p after q → Stands after q
-stands-kept one stay laws me f after p q stands advances = record {
-  folder = kept one stay me f after p.history q.history stands.folder advances.change;
-  past = past-kept laws me f after p q stands advances p.history q.history refl refl stands.folder advances.change stands.past;
+pub stands-kept : OneContents → ContentsStay → SameContents → RunLaws → ClaimsKept → ChangesStay → (me : Actor) (f after : Files) (p q : Past) → Stands f p
+    → Advances me f p after q → Stands after q
+stands-kept one stay same laws claims changes me f after p q stands advances = record {
+  folder = kept one stay same me f after p.history q.history stands.folder advances.change;
+  past = past-kept laws me f after p q stands advances claims changes p.history q.history refl refl stands.folder advances.change stands.past;
 }
 
 -- ---- a change that adds no entry
@@ -614,11 +684,12 @@ no-entry-came h later s entries e same was now =
     let more = length-append entries (e ∷ []) in
     omega (arith, same, before, after, more)
 
--- it is a step of the past
-pub beside : (me : Actor) (f after : Files) (p : Past) (later : History) → Change me f p.history after later → count_of later ≡ count_of p.history
+-- it is a step of the past, with what it makes of what is known of consumers
+pub beside-moving : (me : Actor) (f after : Files) (p : Past) (later : History) (claims : List ℕ → Claim) → Change me f p.history after later
+    → count_of later ≡ count_of p.history
     → ((s : TableSchema) (path : List ℕ) → IsTableOf s p.history → map.get f path ≡ None → IsSome (map.get after path) → IsUnnamed p s path)
-    → Advances me f p after (record p { history = later })
-beside me f after p later change same fresh = record {
+    → MovesConsumers me f after later p.claims claims → Advances me f p after (record p { history = later; claims = claims })
+beside-moving me f after p later claims change same fresh consumers = record {
   change = change;
   fresh = fresh;
   first = refl;
@@ -628,14 +699,21 @@ beside me f after p later change same fresh = record {
   since = refl;
   runs = λ id g within. refl;
   follows = λ s entries e g was now. absurd (no-entry-came p.history later s entries e same was now);
+  consumers = consumers;
 }
   where
-    was-known : (id : ℕ) → IsKnown (record p { history = later }) id → IsKnown p id
+    was-known : (id : ℕ) → IsKnown (record p { history = later; claims = claims }) id → IsKnown p id
     was-known id known = record {
       after_origin = known.after_origin;
       from = known.from;
       to = (let to = known.to in omega (arith, to, same));
     }
+
+-- where consumers' files stay nothing
+pub beside : (me : Actor) (f after : Files) (p : Past) (later : History) → Change me f p.history after later → count_of later ≡ count_of p.history
+    → ((s : TableSchema) (path : List ℕ) → IsTableOf s p.history → map.get f path ≡ None → IsSome (map.get after path) → IsUnnamed p s path)
+    → ((name : List ℕ) → map.get after (consumer_path name) ≡ map.get f (consumer_path name)) → Advances me f p after (record p { history = later })
+beside me f after p later change same fresh consumers = beside-moving me f after p later p.claims change same fresh (untouched consumers)
 
 -- ---- an entry that comes is one
 
@@ -690,3 +768,43 @@ pub never-falls : (f : Files) (p : Past) (s : TableSchema) (entries : List Entry
     → x.appends ≤ y.appends
 never-falls f p s entries early late x y stands was =
     (subst (λ (h : History). KnowsPast f h p) was stands.past).appends early late x y
+
+-- ---- consumers
+
+pub known-consumers : (f : Files) (p : Past) (s : TableSchema) (entries : List Entry) → Stands f p → p.history ≡ table s entries → KnowsConsumers f s entries p.claims
+known-consumers f p s entries stands was = (subst (λ (h : History). KnowsPast f h p) was stands.past).consumers
+
+-- no snapshot has gone that a consumer which counts needs
+pub counts-needs : LeastKept → (f : Files) (p : Past) (s : TableSchema) (entries : List Entry) (name : List ℕ) → Stands f p → p.history ≡ table s entries → Counts (p.claims name)
+    → (least : ℕ) × IsLeast f s least × ((c : Consumer) × ConsumerAt f name c × (least ≤ c.next))
+counts-needs law f p s entries name stands was counts =
+    counted-file law f s entries p.claims name (known-consumers f p s entries stands was) counts
+
+-- the frames that a settled one was moved past
+pub moved-frames : (f : Files) (p : Past) (s : TableSchema) (entries : List Entry) (name : List ℕ) (from : ℕ) (moved : List (List ℕ)) → Stands f p
+    → p.history ≡ table s entries → p.claims name ≡ settled from moved
+    → (c : Consumer) × ConsumerAt f name c × (c.fresh ≡ false) × (c.next ≡ from + length moved)
+    × (moved ≡ each_of (λ (id : ℕ). frame s entries id) (range_with_len from (length moved)))
+moved-frames f p s entries name from moved stands was is =
+    settled-frames f s entries p.claims name from moved (known-consumers f p s entries stands was) is
+
+-- a step is two changes
+pub step-moves : ChangesStay → (me : Actor) (f after : Files) (p q : Past) (s : TableSchema) (entries grown : List Entry) → Stands f p → Advances me f p after q
+    → p.history ≡ table s entries → q.history ≡ table s grown
+    → (least later : ℕ) × IsLeast f s least × IsLeast after s later × Holds (moment_of f s entries least p.claims)
+    × IsMoved (follower_of me) (moment_of f s entries least p.claims) (moment_of after s grown later q.claims)
+step-moves changes me f after p q s entries grown stands advances was now =
+    let known = known-consumers f p s entries stands was in
+    let step = steps-on changes me f after p q s entries grown stands advances was now known in
+    (known.least, step.now, known.is, step.is, known.holds, step.moved)
+
+-- the consumers of these names are settled, where their claims are
+abbrev pub AreClaimed : Past → List (List ℕ) → Type 0
+AreClaimed p names = (name : List ℕ) → Contains names name → (from : ℕ) × (moved : List (List ℕ)) × (p.claims name ≡ settled from moved)
+
+pub have-settled : (f : Files) (p : Past) (names : List (List ℕ)) → Stands f p → AreClaimed p names → HaveSettled f p.history names
+have-settled f p names stands are = at p.history stands.past
+  where
+    at : (h : History) → KnowsPast f h p → HaveSettled f h names
+    at no_table past = λ name there. (let (from, moved, is) = are name there in settled-free from moved (sym is ∙ past.claims name))
+    at (table s entries) past = λ name there. (let (from, moved, is) = are name there in settled-file f s entries p.claims name from moved past.consumers is)

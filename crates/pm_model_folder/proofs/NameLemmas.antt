@@ -13,9 +13,9 @@ use Rattle.std.proofs.lemmas.Str.Parse.{digit_from_value}
 use Rattle.uuid.specs.Text.{hyphenated_text, hyphen, lower}
 use Rattle.pm_store.specs.Files.{slash, some_name, name_after, name_in}
 use Rattle.pm_snapshot.specs.Names.{floor_name, greatest, snapshot_name}
-use Rattle.pm_model_folder.specs.Changes.{Actor, IsOwn, its_file, its_origin, origin_name}
+use Rattle.pm_model_folder.specs.Changes.{Actor, IsOwn, IsPlain, its_file, its_origin, origin_name}
 use Rattle.pm_model_folder.proofs.PathLemmas.{named-apart, other-consumers, other-floors, other-schemas, other-snapshots}
-use Rattle.pm_model_folder.specs.Paths.{consumer_file, consumer_folder, floor_folder, schema_folder, schema_name, schema_path, snapshot_file, snapshot_folder, snapshot_path}
+use Rattle.pm_model_folder.specs.Paths.{consumer_file, consumer_folder, consumer_path, floor_folder, floor_path, schema_folder, schema_name, schema_path, snapshot_file, snapshot_folder, snapshot_path}
 
 -- ---- what stands before a slash
 
@@ -57,6 +57,25 @@ schema-leads id within =
 pub snapshot-leads : (id : ℕ) → id ≤ greatest → name_in snapshot_folder (snapshot_path id) ≡ Some (snapshot_name id)
 snapshot-leads id within =
     ap some_name (before-all (snapshot_name id) (refl, (refl, (refl, (refl, (refl, (refl, (refl, (refl, (refl, number-other id within))))))))))
+
+pub floor-leads : (n : ℕ) → n ≤ greatest → name_in floor_folder (floor_path n) ≡ Some (floor_name n)
+floor-leads n within = ap some_name (before-all (floor_name n) (refl, (refl, (refl, (refl, (refl, (refl, number-other n within)))))))
+
+-- a byte that is no slash, by the test
+no-slash : (b : ℕ) → b ≢ 47 → (b == slash) ≡ false
+no-slash b other = by_test (b == slash) refl
+  where
+    by_test : (t : Bool) → (b == slash) ≡ t → (b == slash) ≡ false
+    by_test true same = absurd (other (eqb-true b slash same))
+    by_test false is = is
+
+plain-other : (name : List ℕ) → IsPlain name → AllByRecursion (λ b. (b == slash) ≡ false) name
+plain-other [] plain = tt
+plain-other (b ∷ name) plain = (no-slash b plain.0, plain-other name plain.1)
+
+pub consumer-leads : (name : List ℕ) → IsPlain name → name_in consumer_folder (consumer_path name) ≡ Some (consumer_file name)
+consumer-leads name plain = ap some_name
+    (before-all (consumer_file name) (refl, (refl, (refl, (refl, (refl, (refl, (refl, (refl, (refl, plain-other name plain))))))))))
 
 -- and to none in the other folder
 pub schema-none : (id : ℕ) → name_in snapshot_folder (schema_path id) ≡ None

@@ -9,7 +9,7 @@ use Rattle.pm_snapshot.specs.Names.{greatest}
 use Rattle.pm_snapshot.specs.Snapshot.{IsConsistent, snapshot_in}
 use Rattle.pm_snapshot.specs.declared.snapshot.Snapshot.{Snapshot}
 use Rattle.pm_model_contents.specs.Named.{Contents, HasContents, IsNamed}
-use Rattle.pm_model_folder.specs.Changes.{Actor, Change, IsNamedBy, NamesOwn, committed, nothing, own_file, schema}
+use Rattle.pm_model_folder.specs.Changes.{Actor, Change, IsNamedBy, NamesOwn, beside, committed, nothing, own_file, schema}
 use Rattle.pm_model_folder.specs.Commits.{Names}
 use Rattle.pm_model_folder.specs.Folder.{HasTable}
 use Rattle.pm_model_folder.specs.Ledger.{Advances, HasNamedNone, IsKnown, IsOldOrUnnamed, KnowsTable, Past, Stands, count_of}
@@ -181,6 +181,7 @@ module _ (one : OneContents) (same : SameContents) (namer : OneNamer) (bears : B
           (let low = known.after_origin in let high = known.to in let many = count-is q s [] now in absurd (omega (arith, low, high, many)))
       at h later was now (committed s entries e bytes newest bound absent puts fit commit own) =
           appended-none s entries e apart was now newest bound own
+      at h later was now (beside s entries plain change) = same-none (table s entries) was now
 
   -- a step that commits nothing
   pub own-none : count_of q.history ≡ count_of p.history → HasNamedNone me q
@@ -196,3 +197,4 @@ module _ (one : OneContents) (same : SameContents) (namer : OneNamer) (bears : B
           let longer = count-is q s (entries ++ e ∷ []) now in
           let size = length-append entries (e ∷ []) in
           absurd (omega (arith, many, before, longer, size))
+      at h later was now (beside s entries plain change) = same-none (table s entries) was now

@@ -1,6 +1,6 @@
 -- The kinds of change that commands make, whoever makes them.
-use Rattle.std.specs.Prelude.{◌≡◌, ◌≢◌, ℕ, suc, ◌<◌, ◌≤◌, ◌^◌, List, [], ◌∷◌, ◌++◌, All, length, codes, Some, None}
-use Rattle.std.specs.Prelude.{decimal}
+use Rattle.std.specs.Prelude.{◌≡◌, ◌≢◌, ℕ, suc, ◌<◌, ◌≤◌, ◌^◌, List, [], ◌∷◌, ◌++◌, All, length, codes, decimal}
+use Rattle.std.specs.Prelude.{Option, Some, None, IfSome, Ok}
 use Rattle.std.specs.FinMap as map
 use Rattle.std.specs.List.{AllByRecursion}
 use Rattle.uuid.specs.Text.{hyphenated_text, hyphen, lower}
@@ -8,11 +8,13 @@ use Rattle.pm_values.specs.Names.{Naming, name_of}
 use Rattle.pm_values.specs.declared.group.Group.{Group}
 use Rattle.pm_store.specs.Files.{Files, Puts}
 use Rattle.pm_model_history.specs.History.{Entry, History, no_table, table}
+use Rattle.pm_snapshot.specs.Consumer.{consumer_in}
+use Rattle.pm_snapshot.specs.declared.consumer.Consumer.{Consumer}
 use Rattle.pm_snapshot.specs.Names.{BasedFile, MayName, greatest, prefix_of, suffix_of}
 use Rattle.pm_model_folder.specs.Commits.{IsCommit, Names}
 use Rattle.pm_model_folder.specs.Folder.{IsEntryAfter}
 use Rattle.pm_model_folder.specs.Meaning.{SchemaAt, HasSnapshotAt}
-use Rattle.pm_model_folder.specs.Paths.{schema_path, snapshot_file, snapshot_path}
+use Rattle.pm_model_folder.specs.Paths.{consumer_path, floor_path, schema_path, snapshot_file, snapshot_path}
 use Rattle.pm_schema.specs.Folder.{folder_text}
 use Rattle.pm_schema.specs.declared.schema.TableSchema.{TableSchema}
 
@@ -42,9 +44,13 @@ pub record IsNamedBy (me : Actor) (path : List ℕ) : Type 0 where
   pub actor : names.actor ≡ me.number
   pub is : path ≡ folder ++ 47 ∷ name_of (prefix_of file) (suffix_of file) names
 
--- the names of the partition columns have no slash
+-- the name has no slash
+abbrev pub IsPlain : List ℕ → Type 0
+IsPlain name = AllByRecursion (λ b. b ≢ 47) name
+
+-- the names of the partition columns have none
 abbrev pub HavePlainNames : TableSchema → Type 0
-HavePlainNames s = AllByRecursion (AllByRecursion (λ b. b ≢ 47)) s.partition
+HavePlainNames s = AllByRecursion IsPlain s.partition
 
 -- a folder of files that snapshots name: that of manifests, and those of buckets
 pub data IsTableFolder : List ℕ → Type 0 where
@@ -73,6 +79,18 @@ abbrev pub IsNoOrigin : History → List ℕ → Type 0
 IsNoOrigin no_table path = Unit {0}
 IsNoOrigin (table s entries) path = (name : List ℕ) → s.origin ≡ Some name → snapshot_file name ≢ path
 
+-- there is no file, or it is a consumer's
+abbrev pub IsConsumerFile : Option (List ℕ) → Type 0
+IsConsumerFile content = IfSome content (λ bytes. (c : Consumer) × (consumer_in bytes ≡ Ok c))
+
+-- What is changed beside the history of a table: a consumer's file is written, or goes; or a floor appears where there
+-- was none, whole or in part, no higher than the newest snapshot.
+pub data Beside (f : Files) (s : TableSchema) (entries : List Entry) (after : Files) : Type 0 where
+  consumer : (name : List ℕ) (content : Option (List ℕ)) → IsPlain name → IsConsumerFile content
+      → Puts f (consumer_path name) content after → Beside f s entries after
+  floor : (n : ℕ) (found : List ℕ) → n ≤ length entries → map.get f (floor_path n) ≡ None
+      → Puts f (floor_path n) (Some found) after → Beside f s entries after
+
 -- What an actor may change of a folder that stands for a history, and the history that it stands for then.
 pub data Change (me : Actor) (f : Files) : History → Files → History → Type 0 where
   -- no path has another content
@@ -93,3 +111,6 @@ pub data Change (me : Actor) (f : Files) : History → Files → History → Typ
       → Puts f (snapshot_path (suc (length entries))) (Some bytes) after → IsEntryAfter s entries e
       → IsCommit f after s entries e → NamesOwn me f after s (length entries)
       → Change me f (table s entries) after (table s (entries ++ e ∷ []))
+  -- the history stays, and what is beside it changes
+  beside : {after : Files} (s : TableSchema) (entries : List Entry) → HavePlainNames s → Beside f s entries after
+      → Change me f (table s entries) after (table s entries)

@@ -1,5 +1,6 @@
 pub mod Changes
 pub mod Commits
+pub mod Consumers
 pub mod Entries
 pub mod Folder
 pub mod Ledger

@@ -1,21 +1,28 @@
 //! Laws of folders. Each holds with no call.
 
-ghost use Rattle.std.specs.Prelude.{◌≡◌, ◌≢◌, ◌↔◌, ◌⊎◌, ℕ, ◌+◌, ◌≤◌, List, length, Contains, None, IsSome};
+ghost use Rattle.std.specs.Prelude.{◌≡◌, ◌≢◌, ◌↔◌, ◌⊎◌, ℕ, ◌+◌, ◌≤◌, List, [], length, map as each_of, Contains};
+ghost use Rattle.std.specs.Prelude.{false, None, IsSome};
 ghost use Rattle.std.specs.FinMap as map;
+ghost use Rattle.std.specs.List.{range_with_len};
 ghost use Rattle.pm_store.specs.Files.{Files, IsListing};
 ghost use Rattle.pm_values.specs.declared.group.Group.{Group};
+ghost use Rattle.pm_model_consumers.specs.Claims.{Claim, Counts, Holds, settled};
 ghost use Rattle.pm_model_history.specs.History.{Entry, History, GoesOn, IsTableOf, no_table, table};
+ghost use Rattle.pm_model_following.specs.Following.{frame};
 ghost use Rattle.pm_schema.specs.declared.schema.TableSchema.{TableSchema};
 ghost use Rattle.pm_snapshot.specs.Names.{greatest};
+ghost use Rattle.pm_snapshot.specs.declared.consumer.Consumer.{Consumer};
 ghost use Rattle.pm_snapshot.specs.declared.snapshot.Snapshot.{Snapshot};
 ghost use Rattle.pm_model_contents.specs.Named.{Contents};
 ghost use Rattle.pm_model_folder.specs.Changes.{Actor, Change, IsActor, IsNamedBy, IsNoOrigin, IsOwn, IsOwnFile};
 ghost use Rattle.pm_model_folder.specs.Changes.{origin_name};
 ghost use Rattle.pm_model_folder.specs.Commits.{HasCommit, Names, Needs, live_in};
 ghost use Rattle.pm_model_folder.specs.Entries.{IsFenced};
-ghost use Rattle.pm_model_folder.specs.Folder.{Folder};
-ghost use Rattle.pm_model_folder.specs.Ledger.{Advances, HasNamedNone, IsUnnamed, Past, Stands, count_of};
-ghost use Rattle.pm_model_folder.specs.Meaning.{HasSnapshotAt, SnapshotAt};
+ghost use Rattle.pm_model_folder.specs.Consumers.{IsLeast, IsMoved, follower_of, moment_of};
+ghost use Rattle.pm_model_folder.specs.Folder.{Folder, HaveSettled};
+ghost use Rattle.pm_model_folder.specs.Ledger.{Advances, HasNamedNone, IsUnnamed, MovesConsumers, Past, Stands};
+ghost use Rattle.pm_model_folder.specs.Ledger.{count_of};
+ghost use Rattle.pm_model_folder.specs.Meaning.{ConsumerAt, HasSnapshotAt, SnapshotAt};
 ghost use Rattle.pm_model_folder.specs.Paths.{schema_folder, schema_name, snapshot_file, snapshot_path};
 ghost use Rattle.pm_model_folder.specs.Runs.{HaveLiveFiles};
 ghost use Rattle.pm_runs.specs.Succession.{IsTaken, StillStands, Taking};
@@ -33,6 +40,7 @@ pub fn kept_law()
 {
     pm_model_contents::kept_law();
     one_contents_law();
+    same_law();
 }
 
 /// And the history goes on as that one.
@@ -97,15 +105,20 @@ pub fn past_law()
     pm_runs::found_law();
     pm_runs::goes_on_law();
     pm_runs::same_law();
+    same_law();
+    pm_model_consumers::kept_law();
+    pm_model_following::kept_law();
 }
 
-/// A change that adds no entry, and makes files only at paths that no known snapshot needs, leaves what is known.
+/// A change that adds no entry, and makes files only at paths that no known snapshot needs, leaves what is known, but for
+/// what it makes of consumers.
 pub fn beside_law()
-    ensures { (me : Actor) (f after : Files) (p : Past) (later : History) → Change me f p.history after later
-        → count_of later ≡ count_of p.history
+    ensures { (me : Actor) (f after : Files) (p : Past) (later : History) (claims : List ℕ → Claim)
+        → Change me f p.history after later → count_of later ≡ count_of p.history
         → ((s : TableSchema) (path : List ℕ) → IsTableOf s p.history → map.get f path ≡ None
         → IsSome (map.get after path) → IsUnnamed p s path)
-        → Advances me f p after (record p { history = later }) }
+        → MovesConsumers me f after later p.claims claims
+        → Advances me f p after (record p { history = later; claims = claims }) }
 {}
 
 /// Where of each run of a group that a compaction took a file is live at the newest snapshot as it stood, they stand
@@ -153,3 +166,36 @@ pub fn appends_law()
         → late ≤ length entries → SnapshotAt (p.stood early) early x → SnapshotAt (p.stood late) late y
         → x.appends ≤ y.appends }
 {}
+
+/// What a past has of consumers.
+pub fn consumers_law()
+    // no snapshot has gone that a consumer needs which counts: its file is there, and its number is at least the least
+    ensures counts { (f : Files) (p : Past) (s : TableSchema) (entries : List Entry) (name : List ℕ) → Stands f p
+        → p.history ≡ table s entries → Counts (p.claims name)
+        → (least : ℕ) × IsLeast f s least × ((c : Consumer) × ConsumerAt f name c × (least ≤ c.next)) }
+    // the frames that a settled one was moved past are those from where it came to be, each once and in order
+    ensures frames { (f : Files) (p : Past) (s : TableSchema) (entries : List Entry) (name : List ℕ) (from : ℕ)
+        (moved : List (List ℕ)) → Stands f p → p.history ≡ table s entries → p.claims name ≡ settled from moved
+        → (c : Consumer) × ConsumerAt f name c × (c.fresh ≡ false) × (c.next ≡ from + length moved)
+        × (moved ≡ each_of (λ (id : ℕ). frame s entries id) (range_with_len from (length moved))) }
+    // an actor's step is two changes of what is there of consumers, floors and snapshots
+    ensures moved { (me : Actor) (f after : Files) (p q : Past) (s : TableSchema) (entries grown : List Entry)
+        → Stands f p → Advances me f p after q → p.history ≡ table s entries → q.history ≡ table s grown
+        → (least later : ℕ) × IsLeast f s least × IsLeast after s later × Holds (moment_of f s entries least p.claims)
+        × IsMoved (follower_of me) (moment_of f s entries least p.claims) (moment_of after s grown later q.claims) }
+{
+    pm_model_consumers::least_law();
+    pm_model_following::kept_law();
+}
+
+/// A folder that is found with settled consumers has a past that knows of them, and those of which a past knows are
+/// settled.
+pub fn settled_law()
+    ensures found { (f : Files) (h : History) (names : List (List ℕ)) → Folder f h → HaveSettled f h names
+        → (p : Past) × (p.history ≡ h) × Stands f p × ((name : List ℕ) → Contains names name
+        → (from : ℕ) × (p.claims name ≡ settled from [])) }
+    ensures known { (f : Files) (p : Past) (names : List (List ℕ)) → Stands f p → ((name : List ℕ) → Contains names name
+        → (from : ℕ) × (moved : List (List ℕ)) × (p.claims name ≡ settled from moved)) → HaveSettled f p.history names }
+{
+    pm_runs::found_law();
+}

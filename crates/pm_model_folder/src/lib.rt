@@ -18,11 +18,17 @@
 //! that each change keeps it. `beside_law` says that each change which adds no entry, and makes no file that a known
 //! snapshot needs, is a step of it, and `still_law` where those runs stand that a compaction took at a snapshot of it.
 //! `appends_law` says that from that snapshot on the count of appends which a snapshot bears never falls.
+//!
+//! And it has what is known of each consumer beside its file, as `pm_model_consumers` has it; `specs/Consumers.antt`
+//! says what of the files that crate speaks of. `consumers_law` says that no snapshot has gone that a consumer needs
+//! which counts, that the frames which a settled one was moved past are those of the history, and that each step is two
+//! changes of `pm_model_consumers`, so that all laws of that crate hold of the files. `settled_law` leads from the
+//! settled consumers of a folder to those of a past, and back.
 #![tactic(auto)]
 
 mod laws;
 
 pub use laws::{
-    appends_law, beside_law, found_law, goes_on_law, kept_law, listed_law, newest_law, own_law,
-    past_law, stays_law, still_law, unnamed_law,
+    appends_law, beside_law, consumers_law, found_law, goes_on_law, kept_law, listed_law,
+    newest_law, own_law, past_law, settled_law, stays_law, still_law, unnamed_law,
 };

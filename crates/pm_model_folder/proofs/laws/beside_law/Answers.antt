@@ -1,5 +1,5 @@
-use Rattle.pm_model_folder.proofs.LedgerFacts.{beside}
+use Rattle.pm_model_folder.proofs.LedgerFacts.{beside-moving}
 use Rattle.pm_model_folder.proofs.laws.beside_law.Goals as goal
 
 pub returns : goal.returns
-returns c = beside
+returns c = beside-moving

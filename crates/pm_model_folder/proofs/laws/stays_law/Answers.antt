@@ -1,6 +1,4 @@
-use Rattle.pm_model_folder.specs.Changes.{origin_name}
-use Rattle.pm_model_folder.specs.Paths.{snapshot_file}
-use Rattle.pm_model_folder.proofs.Facts.{needed-stays, stays}
+use Rattle.pm_model_folder.proofs.KindFacts.{needed-stays, origin-stays}
 use Rattle.pm_model_folder.proofs.LedgerFacts.{own-stays}
 use Rattle.pm_model_folder.proofs.laws.stays_law.Goals as goal
 
@@ -11,5 +9,4 @@ pub returns-clause-own : goal.returns-clause-own
 returns-clause-own c = own-stays
 
 pub returns-clause-origin : goal.returns-clause-origin
-returns-clause-origin c = λ me other f after h later folder change none there.
-    stays other f after h later (snapshot_file (origin_name me)) folder change there
+returns-clause-origin c = origin-stays

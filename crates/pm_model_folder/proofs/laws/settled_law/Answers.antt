@@ -1,0 +1,8 @@
+use Rattle.pm_model_folder.proofs.LedgerFacts.{found-names, have-settled}
+use Rattle.pm_model_folder.proofs.laws.settled_law.Goals as goal
+
+pub returns-clause-found : goal.returns-clause-found
+returns-clause-found c = found-names c.found_law.ensures
+
+pub returns-clause-known : goal.returns-clause-known
+returns-clause-known c = have-settled
