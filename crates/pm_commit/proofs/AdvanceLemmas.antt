@@ -16,9 +16,9 @@ use Rattle.pm_model_folder.specs.Ledger.{Advances, HasNamedNone, IsKnown, IsOldO
 use Rattle.pm_model_folder.specs.Meaning.{HasSnapshotAt, SnapshotAt}
 use Rattle.pm_model_folder.specs.Paths.{consumer_path, snapshot_path}
 use Rattle.pm_model_folder.specs.Runs.{AreInFiles}
-use Rattle.pm_model_folder.proofs.Facts.{same-or-other, some-none, split-last}
+use Rattle.pm_model_folder.proofs.Facts.{same-or-other, some-none, split-last, still_there}
 use Rattle.pm_model_folder.proofs.HoldLemmas.{OneContents, SameContents, one-commit}
-use Rattle.pm_model_folder.proofs.LedgerFacts.{at-table, beside, count-is, is-table, one-entry}
+use Rattle.pm_model_folder.proofs.LedgerFacts.{NoneGoes, at-table, beside, count-is, is-table, none-gone, none-puts, none-spared, one-entry}
 use Rattle.pm_model_folder.proofs.PathLemmas.{consumer-own, consumer-snapshot}
 use Rattle.pm_runs.specs.Succession.{Follows, KnownRun}
 use Rattle.pm_paths.proofs.ListLemmas.{cases, here, more, nowhere}
@@ -72,7 +72,7 @@ NamedPaths = (s : TableSchema) (x : Snapshot) (c : Contents) (path : List ℕ)
 pub same-advances : (me : Actor) (f after : Files) (p : Past) → ((path : List ℕ) → map.get after path ≡ map.get f path) → Advances me f p after p
 same-advances me f after p same =
     beside me f after p p.history (nothing same) refl (λ s path is none here. absurd (some-none (map.get after path) here (same path ∙ none)))
-    (λ name. same (consumer_path name))
+    (λ path there. still_there f after path (same path) there) (λ name. same (consumer_path name))
 
 -- ---- a path that no known snapshot needs appears
 
@@ -110,7 +110,7 @@ pub own-advances : (me : Actor) (f after : Files) (p : Past) (s : TableSchema) (
     → Advances me f p after p
 own-advances me f after p s path content is none own at by apart absent puts =
     beside me f after p p.history (own_file path content own apart absent puts) refl
-    (fresh-at f after p s path (Some content) is (own-unnamed me p s path is none at by) puts)
+    (fresh-at f after p s path (Some content) is (own-unnamed me p s path is none at by) puts) (none-puts f after path content puts)
     (λ name. puts.others (consumer_path name) (consumer-own me path name own))
 
 -- ---- rows are appended
@@ -159,8 +159,8 @@ GoesWith after p s entries e g new =
     AreInFiles after s (suc (length entries)) g new × Follows s g p.since (λ n. p.runs n g) (length entries) e new
 
 module _ (one : OneContents) (same : SameContents) (paths : NamedPaths) (me : Actor) (f after : Files) (p : Past) (s : TableSchema) (entries : List Entry) (e : Entry)
-    (content : Option (List ℕ)) (stands : Stands f p) (flat : s.partition ≡ []) (was : p.history ≡ table s entries) (none : HasNamedNone me p)
-    (newest : HasSnapshotAt f s (length entries)) (bound : suc (length entries) ≤ greatest) (puts : Puts f (snapshot_path (suc (length entries))) content after)
+    (content : List ℕ) (stands : Stands f p) (flat : s.partition ≡ []) (was : p.history ≡ table s entries) (none : HasNamedNone me p)
+    (newest : HasSnapshotAt f s (length entries)) (bound : suc (length entries) ≤ greatest) (puts : Puts f (snapshot_path (suc (length entries))) (Some content) after)
     (own : NamesOwn me f after s (length entries)) (new : Group → List KnownRun) (goes : (g : Group) → GoesWith after p s entries e g (new g)) where
   abbrev n : ℕ
   n = length entries
@@ -234,10 +234,13 @@ module _ (one : OneContents) (same : SameContents) (paths : NamedPaths) (me : Ac
         follow = subst (Follows s g p.since (λ k. p.runs k g) n e) (sym is) (goes g).1;
       }
 
+  none-goes : NoneGoes f after
+  none-goes = none-puts f after (snapshot_path (suc n)) content puts
+
   pub append-advances : Change me f (table s entries) after q.history → Advances me f p after q
   append-advances change = record {
     change = subst (λ (h : History). Change me f h after q.history) (sym was) change;
-    fresh = fresh-at f after p s (snapshot_path (suc n)) content is (next-unnamed p s entries flat was bound) puts;
+    fresh = fresh-at f after p s (snapshot_path (suc n)) (Some content) is (next-unnamed p s entries flat was bound) puts;
     first = refl;
     same = λ id known. at-other after (p.stood id) id (suc n) (old-known id known);
     stood = λ id known unknown. at-same after (p.stood id) id (suc n) (last-known id known unknown);
@@ -247,4 +250,6 @@ module _ (one : OneContents) (same : SameContents) (paths : NamedPaths) (me : Ac
     follows = λ t es d g before now.
         one-entry (λ (t : TableSchema) (es : List Entry) (d : Entry). RunsFollow after t es d g p q) s t entries es e d (sym was ∙ before) now (runs-follow g);
     consumers = untouched (λ name. puts.others (consumer_path name) (consumer-snapshot name (snapshot_name (suc n))));
+    gone = λ t path is_t in_table there absent. none-gone f after p t path none-goes there absent;
+    spared = λ t least is_t first gone. none-spared f after p.claims t least none-goes first gone;
   }

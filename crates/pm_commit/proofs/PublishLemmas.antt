@@ -394,7 +394,7 @@ module _ (one : OneContents) (same : SameContents) (paths : NamedPaths) (live_la
         let q = later_past p s entries e after adds.runs in
         let change = commits s entries e t.made.text newest-there bound absent-next puts adds.follows adds.commit adds.names in
         let advances : Advances (actor_of own) f p after q =
-        append-advances one same paths (actor_of own) f after p s entries e (Some t.made.text) stands tried.built.no_partition own-table.1 known.unnamed newest-there bound
+        append-advances one same paths (actor_of own) f after p s entries e t.made.text stands tried.built.no_partition own-table.1 known.unnamed newest-there bound
         puts adds.names adds.runs adds.goes change in (
           q,
           record { advances = advances; appends = inr (s, entries, own-table.1, refl) },

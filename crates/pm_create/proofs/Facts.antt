@@ -34,7 +34,7 @@ use Rattle.pm_model_folder.specs.Meaning.{HasSnapshotAt}
 use Rattle.pm_model_folder.specs.Paths.{consumer_path, schema_path, snapshot_file}
 use Rattle.pm_model_folder.proofs.Facts.{goes_on, some-none, still_there}
 use Rattle.pm_model_folder.proofs.KindFacts.{origin-stays}
-use Rattle.pm_model_folder.proofs.LedgerFacts.{beside}
+use Rattle.pm_model_folder.proofs.LedgerFacts.{NoneGoes, beside, none-puts}
 use Rattle.pm_model_folder.proofs.PathLemmas.{consumer-schema, consumer-snapshot}
 use Rattle.pm_schema.specs.declared.schema.TableSchema.{TableSchema}
 use Rattle.pm_create.specs.declared.phase.Phase.{Phase}
@@ -126,10 +126,10 @@ count-begins s h later (inl same) = ap count_of same
 count-begins s h later (inr (none, is)) = ap count_of is ∙ sym (ap count_of none)
 
 -- a change of a creator keeps what is known, where what appears is fresh
-makes_past : (t : NewTable) (f after : Files) (p : Past) (later : History) → MakesOf t f p.history after later → IsFresh f p after
+makes_past : (t : NewTable) (f after : Files) (p : Past) (later : History) → MakesOf t f p.history after later → IsFresh f p after → NoneGoes f after
     → ((name : List ℕ) → map.get after (consumer_path name) ≡ map.get f (consumer_path name)) → Makes t f p after (at_history later p)
-makes_past t f after p later makes fresh consumers = record {
-  advances = beside t.me f after p later makes.kind (count-begins t.schema p.history later makes.begins) fresh consumers;
+makes_past t f after p later makes fresh none consumers = record {
+  advances = beside t.me f after p later makes.kind (count-begins t.schema p.history later makes.begins) fresh none consumers;
   begins = makes.begins;
 }
 
@@ -137,7 +137,7 @@ same-fresh : (f : Files) (p : Past) → IsFresh f p f
 same-fresh f p s path is none here = absurd (some-none (map.get f path) here none)
 
 past_same : (t : NewTable) (f : Files) (p : Past) → Makes t f p f (at_history p.history p)
-past_same t f p = makes_past t f f p p.history (makes-same t f p.history) (same-fresh f p) (λ name. refl)
+past_same t f p = makes_past t f f p p.history (makes-same t f p.history) (same-fresh f p) (λ path there. there) (λ name. refl)
 
 -- its origin is one
 own-fresh : AreDeclared → (t : NewTable) (path : List ℕ) (content : Option (List ℕ)) (f after : Files) (p : Past) → Stands f p → path ≡ own_origin t.me
@@ -151,7 +151,7 @@ past_own : AreDeclared → (t : NewTable) (path content : List ℕ) (f after : F
     → IsNoOrigin p.history path → map.get f path ≡ None → Puts f path (Some content) after → Makes t f p after (at_history p.history p)
 past_own law t path content f after p stands own other absent puts =
     makes_past t f after p p.history (makes-own t path content f after p.history own (λ none. other) absent puts)
-    (own-fresh law t path (Some content) f after p stands own puts)
+    (own-fresh law t path (Some content) f after p stands own puts) (none-puts f after path content puts)
     (λ name. puts.others (consumer_path name) (λ same. consumer-snapshot name (origin_name t.me) (same ∙ own)))
 
 -- so is the schema of a new table
@@ -161,6 +161,7 @@ past_table t f after p is there none puts =
     makes_past t f after p (table t.schema [])
     (subst (λ (h : History). MakesOf t f h after (table t.schema [])) (sym none) (makes-table t f after is there puts))
     (λ s path one absent here. absurd (subst (λ (h : History). IsTableOf s h) none one))
+    (none-puts f after (schema_path 0) t.bytes puts)
     (λ name. puts.others (consumer_path name) (consumer-schema name 0))
 
 changes_at : AreDeclared → (t : NewTable) (m : Phase) (f : Files) (p : Past) → Stands f p → IsNewTable t → IsOf t m → KnowsAt t m f p

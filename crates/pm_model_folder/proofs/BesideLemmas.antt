@@ -1,8 +1,10 @@
 -- What a change beside the history leaves of a table.
-use Rattle.std.proofs.Common.{◌≡◌, ◌≢◌, ◌↔◌, ◌⊎◌, inl, inr, ℕ, zero, suc, ◌+◌, ◌<◌, ◌≤◌, List, [], ◌∷◌, ◌++◌, take, drop, length, codes, Bool, true, false, Option, Some, None, IsSome, IsSomeAnd, Ok, refl, sym, ap, subst, ◌∙◌, arith}
+use Rattle.std.proofs.Common.{◌≡◌, ◌≢◌, ◌↔◌, inl, inr, ℕ, zero, suc, ◌+◌, ◌<◌, ◌≤◌, List, ◌∷◌, ◌++◌, take, length, codes, true, Option, Some, None, IsSome, IsSomeAnd, refl, sym, ap, subst, ◌∙◌, arith}
 use Rattle.std.specs.FinMap as map
 use Rattle.std.specs.Ordering.{eq_by_cmp, is_eq}
 use Rattle.std.specs.declared.cmp.Ordering.TheVariants.{Less, Equal, Greater}
+use Rattle.std.specs.Fmt.{decimal}
+use Rattle.std.proofs.lemmas.Fmt.{decimal_injective}
 use Rattle.std.proofs.lemmas.List.{append_cancel_left}
 use Rattle.pm_store.specs.Files.{Files, Puts, name_in}
 use Rattle.pm_values.specs.GroupOrder.{group_cmp}
@@ -15,15 +17,15 @@ use Rattle.pm_snapshot.specs.Names.{floor_name, greatest, snapshot_name}
 use Rattle.pm_snapshot.specs.declared.consumer.Consumer.{Consumer}
 use Rattle.pm_snapshot.specs.declared.snapshot.Snapshot.{Snapshot}
 use Rattle.pm_model_contents.specs.Named.{Contents, IsNamed, base_list, delta_list, changelog_list, changes_file, data_file, manifest}
-use Rattle.pm_model_folder.specs.Changes.{Beside, HavePlainNames, IsConsumerFile, IsPlain, IsTableFolder, bucket, consumer, floor, manifests}
-use Rattle.pm_model_folder.specs.Commits.{BeginsOn, FollowsOn, IsCommitted, Names, Needs, NeverReturn}
+use Rattle.pm_model_folder.specs.Changes.{HavePlainNames, IsConsumerFile, IsPlain, IsTablePath, IsUnneeded, bucket, manifests}
+use Rattle.pm_model_folder.specs.Commits.{Needs}
 use Rattle.pm_model_folder.specs.Folder.{HasCommits, HasFloor, HasTable, HaveFiles, IsFrom}
 use Rattle.pm_model_folder.specs.Meaning.{ConsumerAt, HasSnapshotAt}
 use Rattle.pm_model_folder.specs.Paths.{consumer_file, consumer_folder, consumer_path, floor_folder, floor_path, schema_folder, schema_name, schema_path, snapshot_file, snapshot_folder, snapshot_path}
 use Rattle.pm_model_folder.proofs.Facts.{same-path, some-none, still_there, there-absent}
 use Rattle.pm_model_folder.proofs.HoldLemmas.{OneContents, SameContents}
 use Rattle.pm_model_folder.proofs.NameLemmas.{consumer-leads, floor-leads}
-use Rattle.pm_model_folder.proofs.PathLemmas.{IsOther, apart, consumer-schema, consumer-snapshot, folder-apart, other-consumers, other-floors}
+use Rattle.pm_model_folder.proofs.PathLemmas.{IsOther, apart, consumer-schema, consumer-snapshot, folder-apart, other-consumers, other-floors, other-schemas, other-snapshots}
 use Rattle.pm_model_folder.proofs.SameLemmas.{commit-back, committed-same, names-back, names-on}
 
 tied-groups : (a b : Group) → eq_by_cmp group_cmp a b ≡ true → a ≡ b
@@ -45,14 +47,7 @@ floor-snapshot n other = apart 0 (floor_path n) (snapshot_file other) (λ (e : 1
 pub floor-consumer : (n : ℕ) (name : List ℕ) → floor_path n ≢ consumer_path name
 floor-consumer n name = apart 0 (floor_path n) (consumer_path name) (λ (e : 102 ≡ 99). omega (arith, e))
 
--- a file of a folder of files that snapshots name
-record IsTablePath (path : List ℕ) : Type 0 where
-  folder : List ℕ
-  name : List ℕ
-  own : IsTableFolder folder
-  is : path ≡ folder ++ 47 ∷ name
-
-table-other : (path other rest : List ℕ) → IsTablePath path → IsOther other → path ≢ other ++ 47 ∷ rest
+pub table-other : (path other rest : List ℕ) → IsTablePath path → IsOther other → path ≢ other ++ 47 ∷ rest
 table-other path other rest is_table is e = folder-apart is_table.folder is_table.name other rest is_table.own is (sym is_table.is ∙ e)
 
 -- what a snapshot names is one
@@ -64,8 +59,29 @@ named-table s x c path plain (manifest meta listed) = record { folder = codes "m
 named-table s x c path plain (data_file e live) = record { folder = folder_text s e.group; name = e.file.name; own = bucket s e.group plain; is = refl }
 named-table s x c path plain (changes_file e there) = record { folder = folder_text s e.group; name = e.file.name; own = bucket s e.group plain; is = refl }
 
+-- two floors
+pub floor-number : (a b : ℕ) → a ≤ greatest → b ≤ greatest → floor_path a ≡ floor_path b → a ≡ b
+floor-number a b within bound e =
+    decimal_injective a b (omega (arith, within)) (omega (arith, bound)) (append_cancel_left (codes "floor/floor-") (decimal a) (decimal b) e)
+
+pub other-floor : (a b : ℕ) → a ≤ greatest → b ≤ greatest → a ≢ b → floor_path a ≢ floor_path b
+other-floor a b within bound other e = other (floor-number a b within bound e)
+
+-- a file of such a folder is no consumer's, no floor, and no snapshot
+consumer-table : (name : List ℕ) → IsTablePath (consumer_path name) → ⊥
+consumer-table name is_table = table-other (consumer_path name) (codes "consumer") (codes "consumer-" ++ name) is_table other-consumers refl
+
+pub floor-table : (n : ℕ) → IsTablePath (floor_path n) → ⊥
+floor-table n is_table = table-other (floor_path n) (codes "floor") (floor_name n) is_table other-floors refl
+
+pub snapshot-table : (name : List ℕ) → IsTablePath (snapshot_file name) → ⊥
+snapshot-table name is_table = table-other (snapshot_file name) (codes "snapshot") name is_table other-snapshots refl
+
+pub schema-table : (id : ℕ) → IsTablePath (schema_path id) → ⊥
+schema-table id is_table = table-other (schema_path id) (codes "schema") (schema_name id) is_table other-schemas refl
+
 -- what a snapshot needs is elsewhere than a file that is no snapshot, no schema and none of these
-needs-other : (f : Files) (s : TableSchema) (id : ℕ) (path q : List ℕ) → HavePlainNames s → q ≢ snapshot_path id → ((k : ℕ) → q ≢ schema_path k)
+pub needs-other : (f : Files) (s : TableSchema) (id : ℕ) (path q : List ℕ) → HavePlainNames s → q ≢ snapshot_path id → ((k : ℕ) → q ≢ schema_path k)
     → (IsTablePath q → ⊥) → Needs f s id path → path ≢ q
 needs-other f s id path q plain no_snapshot no_schema no_table (inl is) e = no_snapshot (sym e ∙ is)
 needs-other f s id path q plain no_snapshot no_schema no_table (inr (inl (x, there, is))) e = no_schema x.schema_id (sym e ∙ is)
@@ -75,14 +91,12 @@ needs-other f s id path q plain no_snapshot no_schema no_table (inr (inr (x, c, 
 -- so it is no consumer's file
 pub needs-no_consumer : (f : Files) (s : TableSchema) (id : ℕ) (path name : List ℕ) → HavePlainNames s → Needs f s id path → path ≢ consumer_path name
 needs-no_consumer f s id path name plain needs =
-    needs-other f s id path (consumer_path name) plain (consumer-snapshot name (snapshot_name id)) (consumer-schema name)
-    (λ is_table. table-other (consumer_path name) (codes "consumer") (codes "consumer-" ++ name) is_table other-consumers refl) needs
+    needs-other f s id path (consumer_path name) plain (consumer-snapshot name (snapshot_name id)) (consumer-schema name) (consumer-table name) needs
 
 -- and no floor
-needs-no_floor : (f : Files) (s : TableSchema) (id : ℕ) (path : List ℕ) (n : ℕ) → HavePlainNames s → Needs f s id path → path ≢ floor_path n
+pub needs-no_floor : (f : Files) (s : TableSchema) (id : ℕ) (path : List ℕ) (n : ℕ) → HavePlainNames s → Needs f s id path → path ≢ floor_path n
 needs-no_floor f s id path n plain needs =
-    needs-other f s id path (floor_path n) plain (floor-snapshot n (snapshot_name id)) (floor-schema n)
-    (λ is_table. table-other (floor_path n) (codes "floor") (floor_name n) is_table other-floors refl) needs
+    needs-other f s id path (floor_path n) plain (floor-snapshot n (snapshot_name id)) (floor-schema n) (floor-table n) needs
 
 -- ---- names
 
@@ -110,6 +124,21 @@ names-puts f after path content puts names no_schema no_snapshot own_floor own_c
   ];
 }
 
+-- so they do where a file goes
+pub names-less : (f after : Files) (path : List ℕ) → Puts f path None after → HaveFiles f → HaveFiles after
+names-less f after path puts names = record {
+  schemas = λ id q within there leads. names.schemas id q within (was q there) leads;
+  snapshots = λ id q within there leads. names.snapshots id q within (was q there) leads;
+  floors = λ n q within there leads. names.floors n q within (was q there) leads;
+  consumers = λ name q there leads. names.consumers name q (was q there) leads;
+}
+  where
+    was : (q : List ℕ) → IsSome (map.get after q) → IsSome (map.get f q)
+    was q there = elim (same-path q path) as (λ _. IsSome (map.get f q)) [
+      | inl same ↦ absurd (some-none (map.get after q) there (ap (map.get after) same ∙ puts.here))
+      | inr other ↦ still_there after f q (sym (puts.others q other)) there
+    ]
+
 leads-none : {P : Type 0} (name : List ℕ) → None ≡ Some name → P
 leads-none name e = cc
 
@@ -119,7 +148,7 @@ one-name a b e = cc
 -- ---- commits
 
 module _ (one : OneContents) (law : SameContents) (f after : Files) (s : TableSchema) (entries : List Entry) where
-  commits-same : (least least2 : ℕ) → least ≤ least2
+  pub commits-same : (least least2 : ℕ) → least ≤ least2
       → ((id : ℕ) → IsFrom least2 (length entries) id → (path : List ℕ) → Needs f s id path → map.get after path ≡ map.get f path)
       → HasCommits f s entries least → HasCommits after s entries least2
   commits-same least least2 low same commits = record {
@@ -241,7 +270,7 @@ module _ (one : OneContents) (law : SameContents) (f after : Files) (s : TableSc
 
   -- ---- the kinds
 
-  consumer-kept : (name : List ℕ) (content : Option (List ℕ)) → IsPlain name → IsConsumerFile content → Puts f (consumer_path name) content after → HasTable after s entries
+  pub consumer-kept : (name : List ℕ) (content : Option (List ℕ)) → IsPlain name → IsConsumerFile content → Puts f (consumer_path name) content after → HasTable after s entries
   consumer-kept name content is_plain reads puts =
       table-beside (consumer_path name) content puts (consumer-schema name) (consumer-snapshot name)
       (λ id from q needs. needs-no_consumer f s id q name plain needs)
@@ -251,7 +280,7 @@ module _ (one : OneContents) (law : SameContents) (f after : Files) (s : TableSc
       (floor-held (consumer_path name) content puts (λ k. floor-consumer k name) table.floor)
       (λ other same. reads)
 
-  floor-kept : (k : ℕ) (found : List ℕ) → k ≤ length entries → map.get f (floor_path k) ≡ None → Puts f (floor_path k) (Some found) after → HasTable after s entries
+  pub floor-kept : (k : ℕ) (found : List ℕ) → k ≤ length entries → map.get f (floor_path k) ≡ None → Puts f (floor_path k) (Some found) after → HasTable after s entries
   floor-kept k found below absent puts =
       table-beside (floor_path k) (Some found) puts (floor-schema k) (floor-snapshot k)
       (λ id from q needs. needs-no_floor f s id q k plain needs)
@@ -269,22 +298,32 @@ module _ (one : OneContents) (law : SameContents) (f after : Files) (s : TableSc
       floors (inr (j, bound, above, there)) =
           inr (j, bound, above, still_there f after (floor_path j) (puts.others (floor_path j) (there-absent f (floor_path j) (floor_path k) there absent)) there)
 
-  pub table-kept : Beside f s entries after → HasTable after s entries
-  table-kept (consumer name content is_plain reads puts) = consumer-kept name content is_plain reads puts
-  table-kept (floor k found below absent puts) = floor-kept k found below absent puts
+  -- a floor goes that is below another
+  pub forgotten-kept : (k above : ℕ) → k < above → above ≤ greatest → IsSome (map.get f (floor_path above)) → Puts f (floor_path k) None after → HasTable after s entries
+  forgotten-kept k above less high there puts =
+      table-beside (floor_path k) None puts (floor-schema k) (floor-snapshot k)
+      (λ id from q needs. needs-no_floor f s id q k plain needs)
+      (names-less f after (floor_path k) puts table.names)
+      (floors table.floor)
+      (λ other same. absurd (floor-consumer k other (sym same)))
+    where
+      still : IsSome (map.get after (floor_path above))
+      still = still_there f after (floor_path above) (puts.others (floor_path above) (λ same. other-floor above k high (omega (arith, less, high)) (λ e. omega (arith, e, less)) same)) there
 
--- ---- what stays
+      floors : HasFloor f least → HasFloor after least
+      floors (inl low) = inl low
+      floors (inr (j, bound, over, is)) = elim (same-path (floor_path j) (floor_path k)) as (λ _. HasFloor after least) [
+        | inl same ↦ inr (above, high, (let one = floor-number j k bound (omega (arith, less, high)) same in omega (arith, over, one, less)), still)
+        | inr other ↦ inr (j, bound, over, still_there f after (floor_path j) (puts.others (floor_path j) other) is)
+      ]
 
--- what is there stays, but for consumers' files
-pub stays-beside : (f : Files) (s : TableSchema) (entries : List Entry) (after : Files) (q : List ℕ) → Beside f s entries after
-    → ((name : List ℕ) → q ≢ consumer_path name) → IsSome (map.get f q) → map.get after q ≡ map.get f q
-stays-beside f s entries after q (consumer name content is_plain reads puts) other there = puts.others q (other name)
-stays-beside f s entries after q (floor k found below absent puts) other there = puts.others q (there-absent f q (floor_path k) there absent)
-
--- and a snapshot that is absent stays so
-pub gone-beside : (f : Files) (s : TableSchema) (entries : List Entry) (after : Files) (id : ℕ) → Beside f s entries after
-    → map.get f (snapshot_path id) ≡ None → map.get after (snapshot_path id) ≡ None
-gone-beside f s entries after id (consumer name content is_plain reads puts) absent =
-    puts.others (snapshot_path id) (λ e. consumer-snapshot name (snapshot_name id) (sym e)) ∙ absent
-gone-beside f s entries after id (floor k found below none puts) absent =
-    puts.others (snapshot_path id) (λ e. floor-snapshot k (snapshot_name id) (sym e)) ∙ absent
+  -- a file goes that no snapshot needs which is there
+  pub removed-kept : (path : List ℕ) → IsTablePath path → IsUnneeded f s path → Puts f path None after → HasTable after s entries
+  removed-kept path is_table unneeded puts =
+      table-beside path None puts
+      (λ id e. schema-table id (subst IsTablePath e is_table))
+      (λ name e. snapshot-table name (subst IsTablePath e is_table))
+      (λ id from q needs e. unneeded id from.after_origin (live-there id from) (subst (Needs f s id) e needs))
+      (names-less f after path puts table.names)
+      (floor-held path None puts (λ k e. floor-table k (subst IsTablePath (sym e) is_table)) table.floor)
+      (λ other same. absurd (consumer-table other (subst IsTablePath (sym same) is_table)))

@@ -1,5 +1,5 @@
 -- What is known of consumers: that a folder which is found has some, that each change keeps it, and what it says of files.
-use Rattle.std.proofs.Common.{◌≡◌, ◌≢◌, ◌↔◌, ◌⊎◌, inl, inr, ℕ, zero, suc, ◌+◌, ◌<◌, ◌≤◌, ◌==◌, ◌&&◌, nat_le, List, [], ◌∷◌, ◌++◌, map as each_of, length, length-append, codes, Contains, Bool, true, false, cond, if◌then◌else◌, Option, Some, None, IsSome, is_some, Result, Ok, Err, refl, sym, ap, subst, ◌∙◌, arith, true≢false}
+use Rattle.std.proofs.Common.{◌≡◌, ◌≢◌, ◌↔◌, ◌⊎◌, inl, inr, ℕ, zero, suc, ◌+◌, ◌<◌, ◌≤◌, ◌&&◌, nat_le, List, [], ◌∷◌, ◌++◌, map as each_of, length, length-append, codes, Contains, Bool, true, false, cond, if◌then◌else◌, Option, Some, None, IsSome, is_some, Result, Ok, Err, refl, sym, ap, subst, ◌∙◌, arith, true≢false}
 use Rattle.std.specs.FinMap as map
 use Rattle.std.specs.Str.{bytes_eq}
 use Rattle.std.proofs.lemmas.Bool.Decides.{nat_tests}
@@ -12,7 +12,7 @@ use Rattle.pm_base.specs.Newline.{line}
 use Rattle.pm_rows.specs.RowText.{row_text}
 use Rattle.pm_store.specs.Files.{Files, Puts}
 use Rattle.pm_model_consumers.specs.Changes as kinds
-use Rattle.pm_model_consumers.specs.Claims.{AreMoved, Claim, Counts, Follower, HasFloorFrom, Holds, IsClaimed, IsFloor, Moment, Said, free, known_at, moved_past, new_at, settled, waits, with_claim}
+use Rattle.pm_model_consumers.specs.Claims.{AreMoved, Claim, Counts, Follower, HasFloorFrom, Holds, IsClaimed, Moment, Said, free, known_at, new_at, settled, waits}
 use Rattle.pm_model_history.specs.History.{Entry, History, no_table, table}
 use Rattle.pm_model_history.specs.Merge.{HistoryRow}
 use Rattle.pm_model_following.specs.Following.{HaveBases, change as change_of, frame, frame_head}
@@ -21,14 +21,16 @@ use Rattle.pm_snapshot.specs.Consumer.{consumer_in}
 use Rattle.pm_snapshot.specs.Names.{floor_name, greatest, snapshot_name}
 use Rattle.pm_snapshot.specs.declared.consumer.Consumer.{Consumer}
 use Rattle.pm_snapshot.specs.declared.fault.SnapFault.{SnapFault}
-use Rattle.pm_model_folder.specs.Changes.{Actor, Beside, Change, IsOwn, beside as changes_beside, committed, consumer, floor, its_file, its_origin, nothing, own_file, schema}
-use Rattle.pm_model_folder.specs.Consumers.{IsLeast, IsMoved, KnowsConsumers, floor_at, follower_of, moment_of, said_at, said_in, said_of}
-use Rattle.pm_model_folder.specs.Folder.{Folder, HasFloor, HasTable, HaveSettled, IsSettled}
-use Rattle.pm_model_folder.specs.Ledger.{MovesConsumers, OthersStay, goes, lists, moves, registers, settles, untouched, usurps}
-use Rattle.pm_model_folder.specs.Meaning.{ConsumerAt, HasSnapshotAt}
+use Rattle.pm_model_folder.specs.Changes.{Actor, Beside, Change, HavePlainNames, IsOwn, IsTablePath, beside as changes_beside, committed, consumer, expired, floor, forgotten, its_file, its_origin, nothing, own_file, removed, schema}
+use Rattle.pm_model_folder.specs.Consumers.{IsMoved, KnowsConsumers, floor_at, follower_of, moment_of, said_at, said_in, said_of}
+use Rattle.pm_model_folder.specs.Folder.{Folder, HasFloor, HasTable, HaveSettled, IsAnnounced, IsSettled}
+use Rattle.pm_model_folder.specs.Ledger.{AreAbove, MovesConsumers, OthersStay, goes, lists, moves, registers, settles, untouched, usurps}
+use Rattle.pm_model_folder.specs.Meaning.{ConsumerAt, HasSnapshotAt, IsLeast}
 use Rattle.pm_model_folder.specs.Paths.{consumer_path, floor_path, snapshot_file, snapshot_path}
-use Rattle.pm_model_folder.proofs.BesideLemmas.{floor-consumer, floor-snapshot, snapshot-same}
+use Rattle.pm_model_folder.proofs.BesideLemmas.{floor-consumer, floor-snapshot, floor-table, snapshot-same, snapshot-table}
+use Rattle.pm_model_folder.proofs.ExpiryLemmas.{least-at-most, next-least, not-there, one-least, path-file, table-least}
 use Rattle.pm_model_folder.proofs.Facts.{some-none as found-none}
+use Rattle.pm_model_folder.proofs.HoldLemmas.{OneContents, SameContents}
 use Rattle.pm_model_folder.proofs.PathLemmas.{consumer-snapshot, named-apart, origin-other, other-floors, other-snapshot, snapshot-own}
 
 -- what the law of claims says
@@ -158,10 +160,9 @@ moved-on law me f after s entries grown claims later known step = record {
       (law (follower_of me) (moment_of f s entries known.least claims) step.moved.0 known.holds step.moved.1) step.moved.2;
 }
 
-module _ (me : Actor) (f after : Files) (s : TableSchema) (entries : List Entry) (claims later : List ℕ → Claim) (known : KnowsConsumers f s entries claims)
-    (same : (id : ℕ) → id ≤ length entries → HasSnapshotAt f s id ↔ HasSnapshotAt after s id) where
-  abbrev least : ℕ
-  least = known.least
+module _ (me : Actor) (f after : Files) (s : TableSchema) (entries : List Entry) (claims later : List ℕ → Claim) (known : KnowsConsumers f s entries claims) where
+  abbrev SnapshotsStay : Type 0
+  SnapshotsStay = (id : ℕ) → id ≤ length entries → HasSnapshotAt f s id ↔ HasSnapshotAt after s id
 
   abbrev FloorsStay : Type 0
   FloorsStay = (k : ℕ) → map.get after (floor_path k) ≡ map.get f (floor_path k)
@@ -169,57 +170,103 @@ module _ (me : Actor) (f after : Files) (s : TableSchema) (entries : List Entry)
   floors-stay : FloorsStay → (k : ℕ) → floor_at after k ≡ floor_at f k
   floors-stay stay k = ap (λ (o : Option (List ℕ)). nat_le k greatest && is_some o) (stay k)
 
-  consumers-same : (grown : List Entry) → kinds.SameConsumers (moment_of f s entries least claims) (between f after s grown least claims)
-  consumers-same grown = record { file = λ name. refl; claim = λ name. refl }
+  consumers-same : (grown : List Entry) (least : ℕ) → kinds.SameConsumers (moment_of f s entries known.least claims) (between f after s grown least claims)
+  consumers-same grown least = record { file = λ name. refl; claim = λ name. refl }
 
-  snapshots-same : kinds.SameSnapshots (moment_of f s entries least claims) (between f after s entries least claims)
+  snapshots-same : kinds.SameSnapshots (moment_of f s entries known.least claims) (between f after s entries known.least claims)
   snapshots-same = record { least = refl; newest = refl; frames = λ id within. refl }
 
+  least-now : SnapshotsStay → IsLeast after s known.least
+  least-now same = least-stays f after s known.least (length entries) known.holds.within same known.is
+
   -- by what is made of snapshots and floors
-  step-by : (grown : List Entry) → kinds.Change (follower_of me) (moment_of f s entries least claims) (between f after s grown least claims)
-      → MovesConsumers me f after (table s grown) claims later → MovesOn me f after s entries grown least claims later
-  step-by grown first move = record {
+  step-by : (grown : List Entry) (least : ℕ) → IsLeast after s least
+      → kinds.Change (follower_of me) (moment_of f s entries known.least claims) (between f after s grown least claims)
+      → MovesConsumers me f after (table s grown) claims later → MovesOn me f after s entries grown known.least claims later
+  step-by grown least is first move = record {
     now = least;
-    is = least-stays f after s least (length entries) known.holds.within same known.is;
+    is = is;
     moved = (between f after s grown least claims, first, consumers-moved me f after s grown least claims later move);
   }
 
   -- neither changes
-  pub step-same : FloorsStay → MovesConsumers me f after (table s entries) claims later → MovesOn me f after s entries entries least claims later
-  step-same stay = step-by entries (kinds.nothing (record { snapshots = snapshots-same; floors = floors-stay stay }) (consumers-same entries))
+  pub step-same : SnapshotsStay → FloorsStay → MovesConsumers me f after (table s entries) claims later → MovesOn me f after s entries entries known.least claims later
+  step-same same stay = step-by entries known.least (least-now same)
+      (kinds.nothing (record { snapshots = snapshots-same; floors = floors-stay stay }) (consumers-same entries known.least))
 
   -- a snapshot comes
-  pub step-commits : ChangesStay → HaveBases 1 entries → (e : Entry) → FloorsStay → MovesConsumers me f after (table s (entries ++ e ∷ [])) claims later
-      → MovesOn me f after s entries (entries ++ e ∷ []) least claims later
-  step-commits law bases e stay = step-by (entries ++ e ∷ []) (kinds.commits (consumers-same (entries ++ e ∷ [])) (floors-stay stay)
-      (λ id within. frame-stays law s entries (e ∷ []) id bases within) refl longer)
+  pub step-commits : SnapshotsStay → ChangesStay → HaveBases 1 entries → (e : Entry) → FloorsStay
+      → MovesConsumers me f after (table s (entries ++ e ∷ [])) claims later → MovesOn me f after s entries (entries ++ e ∷ []) known.least claims later
+  step-commits same law bases e stay = step-by (entries ++ e ∷ []) known.least (least-now same)
+      (kinds.commits (consumers-same (entries ++ e ∷ []) known.least) (floors-stay stay) (λ id within. frame-stays law s entries (e ∷ []) id bases within) refl longer)
     where
       longer : length (entries ++ e ∷ []) ≡ suc (length entries)
       longer = length-append entries (e ∷ []) ∙ (let more : length entries + 1 ≡ suc (length entries) = omega arith in more)
 
   -- a floor appears
-  pub step-announces : (n : ℕ) (found : List ℕ) → length entries ≤ greatest → n ≤ length entries → Puts f (floor_path n) (Some found) after
-      → MovesConsumers me f after (table s entries) claims later → MovesOn me f after s entries entries least claims later
-  step-announces n found most below puts = step-by entries (kinds.announces n below (consumers-same entries) snapshots-same
+  pub step-announces : SnapshotsStay → (n : ℕ) (found : List ℕ) → length entries ≤ greatest → n ≤ length entries → Puts f (floor_path n) (Some found) after
+      → MovesConsumers me f after (table s entries) claims later → MovesOn me f after s entries entries known.least claims later
+  step-announces same n found most below puts = step-by entries known.least (least-now same)
+      (kinds.announces n below (consumers-same entries known.least) snapshots-same
       (floor-is after n within (subst (λ (o : Option (List ℕ)). IsSome o) (sym puts.here) refl)) (λ k other. floor-other f after k n within puts.others other))
     where
       within : n ≤ greatest
       within = omega (arith, below, most)
 
-  pub step-beside : length entries ≤ greatest → Beside f s entries after → MovesConsumers me f after (table s entries) claims later
-      → MovesOn me f after s entries entries least claims later
-  step-beside most (consumer name content plain reads puts) = step-same (λ k. puts.others (floor_path k) (floor-consumer k name))
-  step-beside most (floor n found below absent puts) = step-announces n found most below puts
+  -- or goes
+  pub step-forgets : SnapshotsStay → (n above : ℕ) → n < above → above ≤ greatest → IsSome (map.get f (floor_path above)) → Puts f (floor_path n) None after
+      → MovesConsumers me f after (table s entries) claims later → MovesOn me f after s entries entries known.least claims later
+  step-forgets same n above less high there puts = step-by entries known.least (least-now same)
+      (kinds.forgets n above (consumers-same entries known.least) snapshots-same (floor-is f above high there) less
+      (λ k other. floor-other f after k n within puts.others other) (λ is. absurd (found-none (map.get after (floor_path n)) (floor-shows after n is).1 puts.here)))
+    where
+      within : n ≤ greatest
+      within = omega (arith, less, high)
 
--- the snapshots that stay beside the history
-pub snapshots-beside : (f : Files) (s : TableSchema) (entries : List Entry) (after : Files) (id : ℕ) → Beside f s entries after
-    → HasSnapshotAt f s id ↔ HasSnapshotAt after s id
-snapshots-beside f s entries after id (consumer name content plain reads puts) =
-    snapshot-same f after s id (λ zero_is origin is. puts.others (snapshot_file origin) (λ e. consumer-snapshot name origin (sym e)))
-    (λ k is. puts.others (snapshot_path (suc k)) (λ e. consumer-snapshot name (snapshot_name (suc k)) (sym e)))
-snapshots-beside f s entries after id (floor n found below absent puts) =
-    snapshot-same f after s id (λ zero_is origin is. puts.others (snapshot_file origin) (λ e. floor-snapshot n origin (sym e)))
-    (λ k is. puts.others (snapshot_path (suc k)) (λ e. floor-snapshot n (snapshot_name (suc k)) (sym e)))
+  -- the least snapshot goes
+  pub step-expires : (gone : ℕ) → IsLeast f s gone → IsLeast after s (suc gone) → gone < length entries → IsAnnounced f (suc gone) → FloorsStay → AreAbove f claims known.least
+      → MovesConsumers me f after (table s entries) claims later → MovesOn me f after s entries entries known.least claims later
+  step-expires gone is_least next below announced stay above = step-by entries (suc known.least) (subst (λ (n : ℕ). IsLeast after s (suc n)) one next)
+      (kinds.expires (consumers-same entries (suc known.least)) (floors-stay stay) (λ id within. refl) refl refl
+      (omega (arith, below, one)) (announced.0, floor-is f announced.0 announced.1 announced.3, (let over = announced.2 in omega (arith, over, one))) above)
+    where
+      one : gone ≡ known.least
+      one = one-least f s gone known.least is_least known.is
+
+-- the snapshots that stay where a floor or a consumer's file changes, or a file goes that is no snapshot's
+beside-snapshots : (f after : Files) (s : TableSchema) (path : List ℕ) (content : Option (List ℕ)) → Puts f path content after → ((name : List ℕ) → path ≢ snapshot_file name)
+    → (id : ℕ) → HasSnapshotAt f s id ↔ HasSnapshotAt after s id
+beside-snapshots f after s path content puts other id =
+    snapshot-same f after s id (λ zero_is origin is. puts.others (snapshot_file origin) (λ e. other origin (sym e)))
+    (λ k is. puts.others (snapshot_path (suc k)) (λ e. other (snapshot_name (suc k)) (sym e)))
+
+step-beside : OneContents → SameContents → (me : Actor) (f after : Files) (s : TableSchema) (entries : List Entry) (claims later : List ℕ → Claim)
+    → (known : KnowsConsumers f s entries claims) → HavePlainNames s → HasTable f s entries → Beside f s entries after
+    → ((HasSnapshotAt after s known.least → ⊥) → AreAbove f claims known.least)
+    → MovesConsumers me f after (table s entries) claims later → MovesOn me f after s entries entries known.least claims later
+step-beside one law me f after s entries claims later known plain folder (consumer name content is_plain reads puts) spared =
+    step-same me f after s entries claims later known
+    (λ id within. beside-snapshots f after s (consumer_path name) content puts (consumer-snapshot name) id) (λ k. puts.others (floor_path k) (floor-consumer k name))
+step-beside one law me f after s entries claims later known plain folder (floor n found below absent puts) spared =
+    step-announces me f after s entries claims later known
+    (λ id within. beside-snapshots f after s (floor_path n) (Some found) puts (floor-snapshot n) id) n found folder.snapshots.within below puts
+step-beside one law me f after s entries claims later known plain folder (forgotten n above less high there puts) spared =
+    step-forgets me f after s entries claims later known
+    (λ id within. beside-snapshots f after s (floor_path n) None puts (floor-snapshot n) id) n above less high there puts
+step-beside one law me f after s entries claims later known plain folder (expired least path is_least is below announced puts) spared =
+    step-expires me f after s entries claims later known least is_least
+    (next-least one law f after s entries plain folder least path is_least is below announced puts) below announced
+    (λ k. puts.others (floor_path k) (λ e. floor-snapshot k file.0 (e ∙ file.1))) (spared gone)
+  where
+    file : (name : List ℕ) × (path ≡ snapshot_file name)
+    file = path-file s least path is
+
+    gone : HasSnapshotAt after s known.least → ⊥
+    gone there = not-there after s least path is puts.here (subst (HasSnapshotAt after s) (sym (one-least f s least known.least is_least known.is)) there)
+step-beside one law me f after s entries claims later known plain folder (removed path is_table unneeded puts) spared =
+    step-same me f after s entries claims later known
+    (λ id within. beside-snapshots f after s path None puts (λ name e. snapshot-table name (subst IsTablePath e is_table)) id)
+    (λ k. puts.others (floor_path k) (λ e. floor-table k (subst IsTablePath (sym e) is_table)))
 
 -- an actor's own file is no floor
 floor-own : (me : Actor) (path : List ℕ) (n : ℕ) → IsOwn me path → floor_path n ≢ path
@@ -233,31 +280,32 @@ abbrev pub Moving : Actor → Files → Files → (List ℕ → Claim) → (List
 Moving me f after claims later no_table g = Unit {0}
 Moving me f after claims later (table s entries) no_table = Unit {0}
 Moving me f after claims later (table s entries) (table t grown) = (known : KnowsConsumers f s entries claims)
+    → ((HasSnapshotAt after s known.least → ⊥) → AreAbove f claims known.least)
     → MovesConsumers me f after (table s grown) claims later → MovesOn me f after s entries grown known.least claims later
 
-pub moving : ChangesStay → (me : Actor) (f after : Files) (claims later : List ℕ → Claim) (h g : History) → Folder f h → Change me f h after g
+pub moving : OneContents → SameContents → ChangesStay → (me : Actor) (f after : Files) (claims later : List ℕ → Claim) (h g : History) → Folder f h → Change me f h after g
     → Moving me f after claims later h g
-moving law me f after claims later no_table g folder (nothing same) = tt
-moving law me f after claims later (table s entries) g folder (nothing same) = λ known.
+moving one same law me f after claims later no_table g folder (nothing all) = tt
+moving one same law me f after claims later (table s entries) g folder (nothing all) = λ known spared.
     step-same me f after s entries claims later known
-    (λ id within. snapshot-same f after s id (λ zero_is name is. same (snapshot_file name)) (λ k is. same (snapshot_path (suc k))))
-    (λ k. same (floor_path k))
-moving law me f after claims later no_table g folder (own_file path content own other none puts) = tt
-moving law me f after claims later (table s entries) g folder (own_file path content own other none puts) = λ known.
+    (λ id within. snapshot-same f after s id (λ zero_is name is. all (snapshot_file name)) (λ k is. all (snapshot_path (suc k))))
+    (λ k. all (floor_path k))
+moving one same law me f after claims later no_table g folder (own_file path content own other none puts) = tt
+moving one same law me f after claims later (table s entries) g folder (own_file path content own other none puts) = λ known spared.
     step-same me f after s entries claims later known
     (λ id within. snapshot-same f after s id (λ zero_is name is. puts.others (snapshot_file name) (other name is))
     (λ k is. puts.others (snapshot_path (suc k)) (snapshot-own me path (suc k) own)))
     (λ k. puts.others (floor_path k) (floor-own me path k own))
-moving law me f after claims later h g folder (schema s bytes origin named puts reads) = tt
-moving law me f after claims later h g folder (committed s entries e bytes newest bound none puts fit commit own) = λ known.
+moving one same law me f after claims later h g folder (schema s bytes origin named puts reads) = tt
+moving one same law me f after claims later h g folder (committed s entries e bytes newest bound none puts fit commit own) = λ known spared.
     step-commits me f after s entries claims later known
     (λ id within. snapshot-same f after s id
     (λ zero_is name is. puts.others (snapshot_file name)
     (origin-other name (suc (length entries)) (λ same. folder.schema.origin (suc (length entries)) bound (is ∙ ap (λ (n : List ℕ). Some n) same))))
     (λ k is. puts.others (snapshot_path (suc k)) (other-snapshot (suc k) (suc (length entries)) (omega (arith, within, bound, is)) bound (λ e. omega (arith, within, is, e)))))
     law folder.history.bases e (λ k. puts.others (floor_path k) (floor-snapshot k (snapshot_name (suc (length entries)))))
-moving law me f after claims later h g folder (changes_beside s entries plain change) = λ known.
-    step-beside me f after s entries claims later known (λ id within. snapshots-beside f s entries after id change) folder.snapshots.within change
+moving one same law me f after claims later h g folder (changes_beside s entries plain change) = λ known spared.
+    step-beside one same me f after s entries claims later known plain folder change spared
 
 -- ---- without a table
 
@@ -288,20 +336,6 @@ none-claims me f after h claims later all none (moves other next text was within
     absurd (said-none (known_at (suc next)) (said_at after other) here (ap said_in (none other)))
 
 -- ---- a folder that is found
-
-table-least : (f : Files) (s : TableSchema) (entries : List Entry) → (folder : HasTable f s entries) → IsLeast f s folder.snapshots.least
-table-least f s entries folder = record {
-  there = (folder.snapshots.exact folder.snapshots.least (omega (arith, some, within))).1 (omega arith, some);
-  none = λ other below there.
-      let bounds = (folder.snapshots.exact other (omega (arith, below, some, within))).0 there in
-      let low = bounds.0 in omega (arith, low, below);
-}
-  where
-    some : folder.snapshots.least ≤ length entries
-    some = folder.snapshots.some
-
-    within : length entries ≤ greatest
-    within = folder.snapshots.within
 
 floor-found : (f : Files) (s : TableSchema) (entries : List Entry) (id : ℕ) (claims : List ℕ → Claim) → HasFloor f id
     → (id ≤ 1) ⊎ HasFloorFrom (moment_of f s entries id claims) id
@@ -451,13 +485,6 @@ found-among f (other ∷ names) name = at (bytes_eq other name) refl (found-amon
     at false is (inl none) = inl (ap (λ t. cond t (from_file f name) (found_claims f names name)) is ∙ none)
     at false is (inr (k, within, here)) = inr (suc k, omega (arith, within), here)
 
-one-least : (f : Files) (s : TableSchema) (a b : ℕ) → IsLeast f s a → HasSnapshotAt f s b → ((id : ℕ) → id < b → ¬ HasSnapshotAt f s id) → a ≤ b
-one-least f s a b first there none = at (nat_le a b) refl
-  where
-    at : (t : Bool) → nat_le a b ≡ t → a ≤ b
-    at true is = grind (arith, nat_tests)
-    at false is = absurd (first.none b (grind (arith, nat_tests)) there)
-
 module _ (f : Files) (s : TableSchema) (entries : List Entry) (names : List (List ℕ)) (folder : HasTable f s entries) (have : HaveSettled f (table s entries) names) where
   abbrev IsFound : List ℕ → Claim → Type 0
   IsFound name claim = IsClaimed (moment_of f s entries folder.snapshots.least (found_claims f names)) name claim
@@ -466,7 +493,7 @@ module _ (f : Files) (s : TableSchema) (entries : List Entry) (names : List (Lis
   claimed name there =
       let (least, here, none, is) = have name there in
       let said = consumer-said f name is.consumer is.at in
-      let low = one-least f s folder.snapshots.least least (table-least f s entries folder) here none in
+      let low = least-at-most f s folder.snapshots.least least (table-least f s entries folder) here in
       let under = is.next in
       let bound : folder.snapshots.least ≤ is.consumer.next = omega (arith, low, under) in
       let number : number_in (said_at f name) ≡ is.consumer.next = ap number_in said in

@@ -13,7 +13,7 @@ use Rattle.pm_schema.specs.declared.schema.TableSchema.{TableSchema}
 use Rattle.pm_snapshot.specs.Names.{floor_name, greatest, snapshot_name}
 use Rattle.pm_snapshot.specs.declared.snapshot.Snapshot.{Snapshot}
 use Rattle.pm_model_folder.specs.Changes.{Actor, IsNoOrigin, IsOwn, Change, beside, nothing, own_file, schema, committed}
-use Rattle.pm_model_folder.specs.Commits.{BeginsOn, FollowsOn, IsCommit, IsCommitted, Names, Needs, NeverReturn}
+use Rattle.pm_model_folder.specs.Commits.{BeginsOn, FollowsOn, IsCommit, IsCommitted, Names, NeverReturn}
 use Rattle.pm_model_folder.specs.Folder.{AreEntriesOf, Folder, HasCommits, HasFloor, HaveFiles, HasNoTable, HasTable, IsEntryAfter, IsFrom, IsRowOf, NamesGroups}
 use Rattle.pm_model_folder.specs.Meaning.{SchemaAt, SnapshotAt, HasSnapshotAt, LeadsTo}
 use Rattle.pm_model_folder.specs.Paths.{consumer_file, consumer_folder, floor_folder, schema_folder, schema_name, schema_path, snapshot_folder, snapshot_file, snapshot_path, consumer_path, tag_path, changelog_path, floor_path}

@@ -1,11 +1,11 @@
 -- What is known of snapshots: that a folder which is found has a past, that each change keeps it, and what reading shows.
-use Rattle.std.proofs.Common.{◌≡◌, ◌⊎◌, inl, inr, ℕ, zero, suc, ◌+◌, ◌-◌, ◌<◌, ◌≤◌, List, [], ◌∷◌, ◌++◌, map as each_of, take, length, length-append, slice_get, Contains, Option, Some, None, IsSome, false, Ok, refl, sym, ap, subst, ◌∙◌, arith}
+use Rattle.std.proofs.Common.{◌≡◌, ◌≢◌, ◌⊎◌, inl, inr, ℕ, zero, suc, ◌+◌, ◌-◌, ◌<◌, ◌≤◌, List, [], ◌∷◌, ◌++◌, map as each_of, take, length, length-append, slice_get, Contains, codes, Option, Some, None, IsSome, false, Ok, refl, sym, ap, subst, ◌∙◌, arith}
 use Rattle.std.specs.FinMap as map
 use Rattle.std.specs.List.{range_with_len}
 use Rattle.std.proofs.lemmas.List.{append-nil, take_all, take-append-le}
-use Rattle.pm_store.specs.Files.{Files}
+use Rattle.pm_store.specs.Files.{Files, Puts}
 use Rattle.pm_values.specs.declared.group.Group.{Group}
-use Rattle.pm_model_consumers.specs.Claims.{Claim, Counts, Holds, free, settled}
+use Rattle.pm_model_consumers.specs.Claims.{Claim, Counts, Holds as HoldsAt, free, settled}
 use Rattle.pm_model_history.specs.History.{Entry, History, IsTableOf, GoesOn, no_table, table}
 use Rattle.pm_model_following.specs.Following.{HaveBases, frame}
 use Rattle.pm_schema.specs.Reading.{schema_of}
@@ -15,21 +15,21 @@ use Rattle.pm_snapshot.specs.Snapshot.{snapshot_in}
 use Rattle.pm_snapshot.specs.declared.consumer.Consumer.{Consumer}
 use Rattle.pm_snapshot.specs.declared.snapshot.Snapshot.{Snapshot}
 use Rattle.pm_model_contents.specs.Named.{Contents, HasContents}
-use Rattle.pm_model_folder.specs.Changes.{Actor, Change, IsOwnFile, beside as changes_beside, nothing, own_file, schema, committed}
+use Rattle.pm_model_folder.specs.Changes.{Actor, Change, IsOwnFile, IsTablePath, beside as changes_beside, nothing, own_file, schema, committed}
 use Rattle.pm_model_folder.specs.Commits.{CountsAppends, HasCommit, IsCommit, IsCommitted, Names, Needs, live_in}
 use Rattle.pm_model_folder.specs.Entries.{IsFenced, appends_in}
-use Rattle.pm_model_folder.specs.Consumers.{IsLeast, IsMoved, KnowsConsumers, follower_of, moment_of}
+use Rattle.pm_model_folder.specs.Consumers.{IsMoved, KnowsConsumers, follower_of, moment_of}
 use Rattle.pm_model_folder.specs.Folder.{Folder, HasTable, HaveSettled, IsEntryAfter, IsFrom}
-use Rattle.pm_model_folder.specs.Ledger.{Past, Advances, HasNamedNone, IsKnown, IsOldOrUnnamed, IsUnnamed, KeepsFiles, KnowsAppends, KnowsNone, KnowsPast, KnowsRuns, KnowsTable, MovesConsumers, Stands, count_of, untouched}
-use Rattle.pm_model_folder.specs.Meaning.{ConsumerAt, HasSnapshotAt, SnapshotAt}
+use Rattle.pm_model_folder.specs.Ledger.{Past, Advances, HasNamedNone, IsKnown, IsOldOrUnnamed, IsUnnamed, KeepsFiles, KnowsAppends, KnowsNone, KnowsPast, KnowsRuns, KnowsTable, MovesConsumers, Stands, WasNamed, AreAbove, count_of, untouched}
+use Rattle.pm_model_folder.specs.Meaning.{ConsumerAt, HasSnapshotAt, IsLeast, SnapshotAt}
 use Rattle.pm_model_folder.specs.Paths.{consumer_path, schema_path, snapshot_path}
 use Rattle.pm_model_folder.specs.Runs.{AreInFiles, HaveLiveFiles}
-use Rattle.pm_model_folder.proofs.BesideLemmas.{gone-beside}
 use Rattle.pm_model_folder.proofs.ConsumerLemmas.{ChangesStay, ClaimsKept, LeastKept, Moving, MovesOn, counted-file, found_claims, found-from, free-consumers, moved-on, moving, names-found, none-claims, settled-file, settled-frames, settled-free}
-use Rattle.pm_model_folder.proofs.Facts.{goes_on, kept-schema, rows-append, same-or-other, some-none, split-last}
-use Rattle.pm_model_folder.proofs.HoldLemmas.{ContentsStay, OneContents, SameContents, one-snapshot}
-use Rattle.pm_model_folder.proofs.KindFacts.{kept, own-file-stays, stood-stays}
-use Rattle.pm_model_folder.proofs.PathLemmas.{consumer-own, consumer-schema, other-snapshot, snapshot-own}
+use Rattle.pm_model_folder.proofs.Facts.{goes_on, kept-schema, rows-append, same-or-other, same-path, snapshot_stays, some-none, split-last, still_there, there-absent}
+use Rattle.pm_model_folder.proofs.HoldLemmas.{ContentsStay, Holds, OneContents, SameContents, one-snapshot}
+use Rattle.pm_model_folder.proofs.GoneLemmas.{gone-beside, keeps-beside, rests-or-goes}
+use Rattle.pm_model_folder.proofs.KindFacts.{kept, stays-or-beside}
+use Rattle.pm_model_folder.proofs.PathLemmas.{consumer-own, consumer-schema, named-apart, other-consumers, other-snapshot, own-in_table, snapshot-own}
 use Rattle.pm_model_folder.proofs.RunFacts.{found-runs, live-shows, none-known, origin-none, origin-runs}
 use Rattle.pm_runs.specs.Stand.{top_of}
 use Rattle.pm_runs.specs.Succession.{AreKnownAt, Follows, HaveFilesIn, IsSuccession, IsTaken, KnownRun, StillStands, Taking}
@@ -245,13 +245,13 @@ gone-still me f after p q s id stands advances is known absent =
 
 -- a path that a known snapshot needs has what it had
 needed-same : (me : Actor) (f after : Files) (p q : Past) (s : TableSchema) (id : ℕ) (path : List ℕ) → Stands f p → Advances me f p after q
-    → IsTableOf s p.history → IsKnown p id → Needs (p.stood id) s id path → map.get after path ≡ map.get f path
-needed-same me f after p q s id path stands advances is known needs = elim (absent-or (map.get f path)) as (λ _. map.get after path ≡ map.get f path) [
+    → IsTableOf s p.history → IsKnown p id → Holds f after → Needs (p.stood id) s id path → map.get after path ≡ map.get f path
+needed-same me f after p q s id path stands advances is known holds needs = elim (absent-or (map.get f path)) as (λ _. map.get after path ≡ map.get f path) [
   | inl none ↦ elim (absent-or (map.get after path)) as (λ _. map.get after path ≡ map.get f path) [
     | inl absent ↦ absent ∙ sym none
     | inr here ↦ absurd (advances.fresh s path is none here id known needs)
   ]
-  | inr there ↦ stood-stays me f after p.history q.history s (p.stood id) id path stands.folder advances.change is needs there
+  | inr there ↦ holds path there
 ]
 
 back-there : (me : Actor) (f after : Files) (p q : Past) (s : TableSchema) (id : ℕ) → Stands f p → Advances me f p after q → IsTableOf s p.history
@@ -263,16 +263,16 @@ back-there me f after p q s (suc k) stands advances is known there = elim (absen
 ]
 
 kept-files : (me : Actor) (f after : Files) (p q : Past) (s : TableSchema) (id : ℕ) → Stands f p → Advances me f p after q → IsTableOf s p.history
-    → IsKnown p id → KeepsFiles f s (p.stood id) id → KeepsFiles after s (p.stood id) id
-kept-files me f after p q s id stands advances is known keeps = record {
+    → IsKnown p id → Holds f after → KeepsFiles f s (p.stood id) id → KeepsFiles after s (p.stood id) id
+kept-files me f after p q s id stands advances is known holds keeps = record {
   same = λ path needs.
-      let same = needed-same me f after p q s id path stands advances is known needs in
+      let same = needed-same me f after p q s id path stands advances is known holds needs in
       elim (keeps.same path needs) as (λ _. (map.get after path ≡ None) ⊎ (map.get after path ≡ map.get (p.stood id) path)) [
         | inl none ↦ inl (same ∙ none)
         | inr was ↦ inr (same ∙ was)
       ];
   there = λ here path needs.
-      needed-same me f after p q s id path stands advances is known needs ∙ keeps.there (back-there me f after p q s id stands advances is known here) path needs;
+      needed-same me f after p q s id path stands advances is known holds needs ∙ keeps.there (back-there me f after p q s id stands advances is known here) path needs;
 }
 
 -- the known snapshots of a table stay as they were
@@ -284,9 +284,9 @@ module _ (me : Actor) (f after : Files) (p q : Past) (s : TableSchema) (entries 
       subst (λ (g : Files). IsCommitted g s (take id later) id) (sym (advances.same id known))
       (subst (λ (es : List Entry). IsCommitted (p.stood id) s es id) first (past.committed id known))
 
-  old-kept : (id : ℕ) → IsKnown p id → KeepsFiles after s (q.stood id) id
-  old-kept id known = subst (λ (g : Files). KeepsFiles after s g id) (sym (advances.same id known))
-      (kept-files me f after p q s id stands advances is known (past.kept id known))
+  old-kept : Holds f after → (id : ℕ) → IsKnown p id → KeepsFiles after s (q.stood id) id
+  old-kept holds id known = subst (λ (g : Files). KeepsFiles after s g id) (sym (advances.same id known))
+      (kept-files me f after p q s id stands advances is known holds (past.kept id known))
 
   old-gone : (early middle late : ℕ) (path : List ℕ) → IsKnown p early → early < middle → middle < late → IsKnown p late
       → Names (q.stood early) s early path → Names (q.stood late) s late path → Names (q.stood middle) s middle path
@@ -300,15 +300,30 @@ module _ (me : Actor) (f after : Files) (p q : Past) (s : TableSchema) (entries 
       (past.gone early middle late path first low high last (subst (λ (g : Files). Names g s early path) (advances.same early first) here)
       (subst (λ (g : Files). Names g s late path) (advances.same late last) there))
 
--- what an actor made stays, whoever acts, while no known snapshot names a file of the actor, or its base is fenced:
--- no kind of change takes such a file away
+pub is-table : (p : Past) (s : TableSchema) (entries : List Entry) → p.history ≡ table s entries → IsTableOf s p.history
+is-table p s entries same = subst (λ (h : History). IsTableOf s h) (sym same) refl
+
+-- what an actor made stays, whoever acts, while no known snapshot names a file of the actor, or its base is fenced: of
+-- such files only those go that a known one named
 pub own-stays : (me other : Actor) (base : ℕ) (f after : Files) (p q : Past) (path : List ℕ) → Stands f p → Advances other f p after q
     → IsOwnFile me base path → HasNamedNone me p → IsSome (map.get f path) → IsFenced base q.history ⊎ (map.get after path ≡ map.get f path)
 own-stays me other base f after p q path stands advances own none there =
-    inr (own-file-stays me other base f after p.history q.history path stands.folder advances.change own there)
+    elim (stays-or-beside other f after p.history q.history stands.folder advances.change) as (λ _. IsFenced base q.history ⊎ (map.get after path ≡ map.get f path)) [
+      | inl holds ↦ inr (holds path there)
+      | inr (s, entries, is, plain, change) ↦
+          elim (rests-or-goes f s entries after path change no_consumer there) as (λ _. IsFenced base q.history ⊎ (map.get after path ≡ map.get f path)) [
+            | inl absent ↦ absurd (unnamed s (is-table p s entries is) absent)
+            | inr rests ↦ inr rests
+          ]
+    ]
+  where
+    no_consumer : (name : List ℕ) → path ≢ consumer_path name
+    no_consumer name = named-apart me path (codes "consumer") (codes "consumer-" ++ name) own.by own.in_table other-consumers
 
-pub is-table : (p : Past) (s : TableSchema) (entries : List Entry) → p.history ≡ table s entries → IsTableOf s p.history
-is-table p s entries same = subst (λ (h : History). IsTableOf s h) (sym same) refl
+    unnamed : (s : TableSchema) → IsTableOf s p.history → map.get after path ≡ None → ⊥
+    unnamed s is absent =
+        let was = advances.gone s path is (own-in_table me base path own) there absent in
+        none s was.0 path is was.1 was.2 own.by
 
 -- ---- what is known of runs stays
 
@@ -409,25 +424,26 @@ runs-begin laws p q s none since first same = record {
 
 -- ---- what is known of consumers moves on
 
-pub steps-on : ChangesStay → (me : Actor) (f after : Files) (p q : Past) (s : TableSchema) (entries grown : List Entry) → Stands f p → Advances me f p after q
+pub steps-on : OneContents → SameContents → ChangesStay → (me : Actor) (f after : Files) (p q : Past) (s : TableSchema) (entries grown : List Entry) → Stands f p → Advances me f p after q
     → p.history ≡ table s entries → q.history ≡ table s grown → (known : KnowsConsumers f s entries p.claims)
     → MovesOn me f after s entries grown known.least p.claims q.claims
-steps-on changes me f after p q s entries grown stands advances was now known =
+steps-on one same changes me f after p q s entries grown stands advances was now known =
     subst (λ (g : History). Moving me f after p.claims q.claims (table s entries) g) now
     (subst (λ (h : History). Moving me f after p.claims q.claims h q.history) was
-    (moving changes me f after p.claims q.claims p.history q.history stands.folder advances.change))
-    known (subst (λ (g : History). MovesConsumers me f after g p.claims q.claims) now advances.consumers)
+    (moving one same changes me f after p.claims q.claims p.history q.history stands.folder advances.change))
+    known (λ gone. advances.spared s known.least (is-table p s entries was) known.is gone)
+    (subst (λ (g : History). MovesConsumers me f after g p.claims q.claims) now advances.consumers)
 
-consumers-on : ClaimsKept → ChangesStay → (me : Actor) (f after : Files) (p q : Past) (s : TableSchema) (entries grown : List Entry) → Stands f p
+consumers-on : OneContents → SameContents → ClaimsKept → ChangesStay → (me : Actor) (f after : Files) (p q : Past) (s : TableSchema) (entries grown : List Entry) → Stands f p
     → Advances me f p after q → p.history ≡ table s entries → q.history ≡ table s grown → KnowsConsumers f s entries p.claims → KnowsConsumers after s grown q.claims
-consumers-on law changes me f after p q s entries grown stands advances was now known =
-    moved-on law me f after s entries grown p.claims q.claims known (steps-on changes me f after p q s entries grown stands advances was now known)
+consumers-on one same law changes me f after p q s entries grown stands advances was now known =
+    moved-on law me f after s entries grown p.claims q.claims known (steps-on one same changes me f after p q s entries grown stands advances was now known)
 
 -- the history stays
 module _ (laws : RunLaws) (me : Actor) (f after : Files) (p q : Past) (stands : Stands f p) (advances : Advances me f p after q) where
   same-past : (s : TableSchema) (entries : List Entry) → p.history ≡ table s entries → q.history ≡ table s entries → KnowsTable f s entries p
-      → KnowsConsumers after s entries q.claims → KnowsTable after s entries q
-  same-past s entries was stays past consumers =
+      → ((id : ℕ) → IsKnown p id → KeepsFiles after s (p.stood id) id) → KnowsConsumers after s entries q.claims → KnowsTable after s entries q
+  same-past s entries was stays past kept consumers =
       let is : IsTableOf s p.history = is-table p s entries was in
       let before : (id : ℕ) → IsKnown q id → IsKnown p id = λ id known. record {
         after_origin = known.after_origin;
@@ -441,7 +457,7 @@ module _ (laws : RunLaws) (me : Actor) (f after : Files) (p q : Past) (stands : 
             let first = past.reaches id least high (there-before s entries was id least high there) in
             let same = advances.first in omega (arith, first, same);
         committed = λ id known. old-committed me f after p q s entries entries stands advances is past [] whole id (before id known) (within id known);
-        kept = λ id known. old-kept me f after p q s entries entries stands advances is past [] whole id (before id known);
+        kept = λ id known. subst (λ (g : Files). KeepsFiles after s g id) (sym (advances.same id (before id known))) (kept id (before id known));
         gone = λ early middle late path first low high last here there.
             old-gone me f after p q s entries entries stands advances is past [] whole early middle late path (before early first) low high (before late last) here there;
         runs = runs-same laws me f after p q advances s entries was past.runs;
@@ -482,7 +498,7 @@ module _ (laws : RunLaws) (me : Actor) (f after : Files) (p q : Past) (stands : 
   -- an entry comes
   module _ (s : TableSchema) (entries : List Entry) (e : Entry) (was : p.history ≡ table s entries) (now : q.history ≡ table s (entries ++ e ∷ []))
       (past : KnowsTable f s entries p) (commit : IsCommit f after s entries e) (folder : HasTable f s entries) (newest : HasSnapshotAt f s (length entries))
-      (fit : IsEntryAfter s entries e) (consumers : KnowsConsumers after s (entries ++ e ∷ []) q.claims) where
+      (fit : IsEntryAfter s entries e) (holds : Holds f after) (consumers : KnowsConsumers after s (entries ++ e ∷ []) q.claims) where
     longer : length (entries ++ e ∷ []) ≡ suc (length entries)
     longer = length-append entries (e ∷ []) ∙ (let more : length entries + 1 ≡ suc (length entries) = omega arith in more)
 
@@ -517,7 +533,7 @@ module _ (laws : RunLaws) (me : Actor) (f after : Files) (p q : Past) (stands : 
 
     kept-now : (id : ℕ) → IsKnown q id → KeepsFiles after s (q.stood id) id
     kept-now id known = elim (split-last (length entries) id (within id known)) as (λ _. KeepsFiles after s (q.stood id) id) [
-      | inl low ↦ old-kept me f after p q s entries (entries ++ e ∷ []) stands advances was-table past (e ∷ []) refl id (known-before id known low)
+      | inl low ↦ old-kept me f after p q s entries (entries ++ e ∷ []) stands advances was-table past (e ∷ []) refl holds id (known-before id known low)
       | inr is ↦ subst (λ (g : Files). KeepsFiles after s g id) (sym (stood-now id known is)) (found-kept after s id)
     ]
 
@@ -645,29 +661,37 @@ module _ (laws : RunLaws) (me : Actor) (f after : Files) (p q : Past) (stands : 
     claims = still-free past absent;
   }
 
-  past-kept : ClaimsKept → ChangesStay → (h later : History) → p.history ≡ h → q.history ≡ later → Folder f h → Change me f h after later → KnowsPast f h p
-      → KnowsPast after later q
-  past-kept law changes no_table later was now folder (nothing same) past = none-past was past (λ name. same (consumer_path name) ∙ folder.consumers name)
-  past-kept law changes (table s entries) later was now folder (nothing same) past =
-      same-past s entries was now past (consumers-on law changes me f after p q s entries entries stands advances was now past.consumers)
-  past-kept law changes no_table later was now folder (own_file path content own other none puts) past =
+  -- where what is there stays
+  held-past : Holds f after → OneContents → SameContents → ClaimsKept → ChangesStay → (s : TableSchema) (entries : List Entry) → p.history ≡ table s entries → q.history ≡ table s entries
+      → KnowsTable f s entries p → KnowsTable after s entries q
+  held-past holds one same law changes s entries was now past = same-past s entries was now past
+      (λ id known. kept-files me f after p q s id stands advances (is-table p s entries was) known holds (past.kept id known))
+      (consumers-on one same law changes me f after p q s entries entries stands advances was now past.consumers)
+
+  past-kept : OneContents → SameContents → ClaimsKept → ChangesStay → (h later : History) → p.history ≡ h → q.history ≡ later → Folder f h → Change me f h after later
+      → KnowsPast f h p → KnowsPast after later q
+  past-kept one same law changes no_table later was now folder (nothing all) past = none-past was past (λ name. all (consumer_path name) ∙ folder.consumers name)
+  past-kept one same law changes (table s entries) later was now folder (nothing all) past = held-past (λ path there. all path) one same law changes s entries was now past
+  past-kept one same law changes no_table later was now folder (own_file path content own other none puts) past =
       none-past was past (λ name. puts.others (consumer_path name) (consumer-own me path name own) ∙ folder.consumers name)
-  past-kept law changes (table s entries) later was now folder (own_file path content own other none puts) past =
-      same-past s entries was now past (consumers-on law changes me f after p q s entries entries stands advances was now past.consumers)
-  past-kept law changes h later was now folder (schema s bytes origin named puts reads) past =
+  past-kept one same law changes (table s entries) later was now folder (own_file path content own other none puts) past =
+      held-past (λ q there. puts.others q (there-absent f q path there none)) one same law changes s entries was now past
+  past-kept one same law changes h later was now folder (schema s bytes origin named puts reads) past =
       new-past s now past (kept-schema f after s bytes folder origin puts reads)
       (λ name. puts.others (consumer_path name) (consumer-schema name 0) ∙ folder.consumers name)
-  past-kept law changes h later was now folder (committed s entries e bytes newest bound none puts fit commit own) past =
+  past-kept one same law changes h later was now folder (committed s entries e bytes newest bound none puts fit commit own) past =
       longer-past s entries _ was now past commit folder newest fit
-      (consumers-on law changes me f after p q s entries (entries ++ e ∷ []) stands advances was now past.consumers)
-  past-kept law changes h later was now folder (changes_beside s entries plain change) past =
-      same-past s entries was now past (consumers-on law changes me f after p q s entries entries stands advances was now past.consumers)
+      (λ q there. puts.others q (there-absent f q (snapshot_path (suc (length entries))) there none))
+      (consumers-on one same law changes me f after p q s entries (entries ++ e ∷ []) stands advances was now past.consumers)
+  past-kept one same law changes h later was now folder (changes_beside s entries plain change) past = same-past s entries was now past
+      (λ id known. keeps-beside same (p.stood id) f s entries after id plain change known.after_origin (past.kept id known))
+      (consumers-on one same law changes me f after p q s entries entries stands advances was now past.consumers)
 
 pub stands-kept : OneContents → ContentsStay → SameContents → RunLaws → ClaimsKept → ChangesStay → (me : Actor) (f after : Files) (p q : Past) → Stands f p
     → Advances me f p after q → Stands after q
 stands-kept one stay same laws claims changes me f after p q stands advances = record {
   folder = kept one stay same me f after p.history q.history stands.folder advances.change;
-  past = past-kept laws me f after p q stands advances claims changes p.history q.history refl refl stands.folder advances.change stands.past;
+  past = past-kept laws me f after p q stands advances one same claims changes p.history q.history refl refl stands.folder advances.change stands.past;
 }
 
 -- ---- a change that adds no entry
@@ -688,8 +712,10 @@ no-entry-came h later s entries e same was now =
 pub beside-moving : (me : Actor) (f after : Files) (p : Past) (later : History) (claims : List ℕ → Claim) → Change me f p.history after later
     → count_of later ≡ count_of p.history
     → ((s : TableSchema) (path : List ℕ) → IsTableOf s p.history → map.get f path ≡ None → IsSome (map.get after path) → IsUnnamed p s path)
+    → ((s : TableSchema) (path : List ℕ) → IsTableOf s p.history → IsTablePath path → IsSome (map.get f path) → map.get after path ≡ None → WasNamed p s path)
+    → ((s : TableSchema) (least : ℕ) → IsTableOf s p.history → IsLeast f s least → (HasSnapshotAt after s least → ⊥) → AreAbove f p.claims least)
     → MovesConsumers me f after later p.claims claims → Advances me f p after (record p { history = later; claims = claims })
-beside-moving me f after p later claims change same fresh consumers = record {
+beside-moving me f after p later claims change same fresh gone spared consumers = record {
   change = change;
   fresh = fresh;
   first = refl;
@@ -700,6 +726,8 @@ beside-moving me f after p later claims change same fresh consumers = record {
   runs = λ id g within. refl;
   follows = λ s entries e g was now. absurd (no-entry-came p.history later s entries e same was now);
   consumers = consumers;
+  gone = gone;
+  spared = spared;
 }
   where
     was-known : (id : ℕ) → IsKnown (record p { history = later; claims = claims }) id → IsKnown p id
@@ -709,11 +737,30 @@ beside-moving me f after p later claims change same fresh consumers = record {
       to = (let to = known.to in omega (arith, to, same));
     }
 
--- where consumers' files stay nothing
+-- nothing goes
+abbrev pub NoneGoes : Files → Files → Type 0
+NoneGoes f after = (path : List ℕ) → IsSome (map.get f path) → IsSome (map.get after path)
+
+pub none-puts : (f after : Files) (path content : List ℕ) → Puts f path (Some content) after → NoneGoes f after
+none-puts f after path content puts q there = elim (same-path q path) as (λ _. IsSome (map.get after q)) [
+  | inl same ↦ subst (λ (o : Option (List ℕ)). IsSome o) (sym (ap (map.get after) same ∙ puts.here)) refl
+  | inr other ↦ still_there f after q (puts.others q other) there
+]
+
+pub none-gone : (f after : Files) (p : Past) (s : TableSchema) (path : List ℕ) → NoneGoes f after → IsSome (map.get f path) → map.get after path ≡ None → WasNamed p s path
+none-gone f after p s path none there absent = absurd (some-none (map.get after path) (none path there) absent)
+
+pub none-spared : (f after : Files) (claims : List ℕ → Claim) (s : TableSchema) (least : ℕ) → NoneGoes f after → IsLeast f s least → (HasSnapshotAt after s least → ⊥)
+    → AreAbove f claims least
+none-spared f after claims s least none is gone name said counts at = absurd (gone (snapshot_stays f after s least none is.there))
+
+-- where nothing goes, and consumers' files stay, it leaves what is known
 pub beside : (me : Actor) (f after : Files) (p : Past) (later : History) → Change me f p.history after later → count_of later ≡ count_of p.history
     → ((s : TableSchema) (path : List ℕ) → IsTableOf s p.history → map.get f path ≡ None → IsSome (map.get after path) → IsUnnamed p s path)
-    → ((name : List ℕ) → map.get after (consumer_path name) ≡ map.get f (consumer_path name)) → Advances me f p after (record p { history = later })
-beside me f after p later change same fresh consumers = beside-moving me f after p later p.claims change same fresh (untouched consumers)
+    → NoneGoes f after → ((name : List ℕ) → map.get after (consumer_path name) ≡ map.get f (consumer_path name)) → Advances me f p after (record p { history = later })
+beside me f after p later change same fresh none consumers =
+    beside-moving me f after p later p.claims change same fresh (λ s path is in_table there absent. none-gone f after p s path none there absent)
+    (λ s least is first gone. none-spared f after p.claims s least none first gone) (untouched consumers)
 
 -- ---- an entry that comes is one
 
@@ -789,13 +836,13 @@ moved-frames f p s entries name from moved stands was is =
     settled-frames f s entries p.claims name from moved (known-consumers f p s entries stands was) is
 
 -- a step is two changes
-pub step-moves : ChangesStay → (me : Actor) (f after : Files) (p q : Past) (s : TableSchema) (entries grown : List Entry) → Stands f p → Advances me f p after q
+pub step-moves : OneContents → SameContents → ChangesStay → (me : Actor) (f after : Files) (p q : Past) (s : TableSchema) (entries grown : List Entry) → Stands f p → Advances me f p after q
     → p.history ≡ table s entries → q.history ≡ table s grown
-    → (least later : ℕ) × IsLeast f s least × IsLeast after s later × Holds (moment_of f s entries least p.claims)
+    → (least later : ℕ) × IsLeast f s least × IsLeast after s later × HoldsAt (moment_of f s entries least p.claims)
     × IsMoved (follower_of me) (moment_of f s entries least p.claims) (moment_of after s grown later q.claims)
-step-moves changes me f after p q s entries grown stands advances was now =
+step-moves one same changes me f after p q s entries grown stands advances was now =
     let known = known-consumers f p s entries stands was in
-    let step = steps-on changes me f after p q s entries grown stands advances was now known in
+    let step = steps-on one same changes me f after p q s entries grown stands advances was now known in
     (known.least, step.now, known.is, step.is, known.holds, step.moved)
 
 -- the consumers of these names are settled, where their claims are

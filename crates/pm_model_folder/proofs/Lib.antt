@@ -1,6 +1,8 @@
 mod BesideLemmas
 mod ConsumerLemmas
+mod ExpiryLemmas
 pub mod Facts
+mod GoneLemmas
 pub mod HoldLemmas
 pub mod KindFacts
 pub mod LedgerFacts

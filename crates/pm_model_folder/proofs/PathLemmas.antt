@@ -8,7 +8,7 @@ use Rattle.pm_values.specs.Order.{Values}
 use Rattle.pm_schema.specs.Folder.{escaped, parts_text, value_text}
 use Rattle.pm_values.specs.Names.{Naming, name_of}
 use Rattle.pm_snapshot.specs.Names.{BasedFile, MayName, greatest, prefix_of, snapshot_name, suffix_of}
-use Rattle.pm_model_folder.specs.Changes.{Actor, IsNamedBy, IsOwn, IsTableFolder, bucket, its_file, its_origin, manifests}
+use Rattle.pm_model_folder.specs.Changes.{Actor, IsNamedBy, IsOwn, IsOwnFile, IsTableFolder, IsTablePath, bucket, its_file, its_origin, manifests}
 use Rattle.pm_model_folder.specs.Paths.{schema_path, snapshot_file, snapshot_path, consumer_path, tag_path, changelog_path}
 
 -- two texts with another byte at the same index
@@ -110,6 +110,15 @@ pub named-apart : (me : Actor) (path other rest : List ℕ) (by : IsNamedBy me p
 named-apart me path other rest by in_table is e = folder-apart by.folder _ other rest in_table is (sym by.is ∙ e)
 
 -- ---- a file that an actor named
+
+-- among those that snapshots name it is in such a folder
+pub own-in_table : (me : Actor) (base : ℕ) (path : List ℕ) → IsOwnFile me base path → IsTablePath path
+own-in_table me base path own = record {
+  folder = own.by.folder;
+  name = name_of (prefix_of own.by.file) (suffix_of own.by.file) own.by.names;
+  own = own.in_table;
+  is = own.by.is;
+}
 
 -- the path of a file that a maker of names names tells its parts
 abbrev pub PathParts : Type 0

@@ -1,5 +1,5 @@
 -- What a snapshot is stays where what it needs stays.
-use Rattle.std.proofs.Common.{◌≡◌, ◌⊎◌, inl, inr, ℕ, zero, suc, ◌<◌, List, [], ◌∷◌, ◌++◌, filter, Bool, true, false, cond, Option, Some, IsSome, Contains, refl, sym, ap, subst, ◌∙◌, Result, Ok, arith}
+use Rattle.std.proofs.Common.{◌≡◌, inl, inr, ℕ, List, [], ◌∷◌, ◌++◌, filter, Bool, true, false, cond, Contains, refl, sym, ap, subst, ◌∙◌, arith}
 use Rattle.std.specs.FinMap as map
 use Rattle.std.specs.List.{AllByRecursion, AllZip}
 use Rattle.std.specs.Ordering.{eq_by_cmp}
@@ -14,12 +14,12 @@ use Rattle.pm_model_history.specs.History.{Entry}
 use Rattle.pm_model_history.specs.Merge.{HistoryRow}
 use Rattle.pm_schema.specs.declared.schema.TableSchema.{TableSchema}
 use Rattle.pm_snapshot.specs.declared.snapshot.Snapshot.{Snapshot}
-use Rattle.pm_levels.specs.Runs.{AreRuns, RunView, files_of}
+use Rattle.pm_levels.specs.Runs.{RunView, files_of}
 use Rattle.pm_manifest.specs.declared.entry.Entry as files
 use Rattle.pm_manifest.specs.declared.entry.ManifestMeta.{ManifestMeta}
-use Rattle.pm_model_contents.specs.Lists.{HaveEntries, IsManifest, manifest_path}
+use Rattle.pm_model_contents.specs.Lists.{HaveEntries, manifest_path}
 use Rattle.pm_model_contents.specs.Named.{Contents, HasContents, IsNamed, changes_file, data_file, manifest}
-use Rattle.pm_model_contents.specs.Runs.{AreFilesOf, AreRunsOf, IsLive, data_path}
+use Rattle.pm_model_contents.specs.Runs.{AreRunsOf, data_path}
 use Rattle.pm_model_folder.specs.Commits.{HasCommit, IsCommitted, Names, Needs, live_in}
 use Rattle.pm_model_folder.specs.Entries.{BearsCounts}
 use Rattle.pm_model_folder.specs.Meaning.{SnapshotAt}

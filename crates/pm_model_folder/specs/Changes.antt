@@ -1,6 +1,6 @@
 -- The kinds of change that commands make, whoever makes them.
-use Rattle.std.specs.Prelude.{◌≡◌, ◌≢◌, ℕ, suc, ◌<◌, ◌≤◌, ◌^◌, List, [], ◌∷◌, ◌++◌, All, length, codes, decimal}
-use Rattle.std.specs.Prelude.{Option, Some, None, IfSome, Ok}
+use Rattle.std.specs.Prelude.{◌≡◌, ◌≢◌, ℕ, zero, suc, ◌<◌, ◌≤◌, ◌^◌, List, [], ◌∷◌, ◌++◌, All, length, codes, decimal}
+use Rattle.std.specs.Prelude.{Option, Some, None, IsSome, IfSome, Ok}
 use Rattle.std.specs.FinMap as map
 use Rattle.std.specs.List.{AllByRecursion}
 use Rattle.uuid.specs.Text.{hyphenated_text, hyphen, lower}
@@ -11,9 +11,9 @@ use Rattle.pm_model_history.specs.History.{Entry, History, no_table, table}
 use Rattle.pm_snapshot.specs.Consumer.{consumer_in}
 use Rattle.pm_snapshot.specs.declared.consumer.Consumer.{Consumer}
 use Rattle.pm_snapshot.specs.Names.{BasedFile, MayName, greatest, prefix_of, suffix_of}
-use Rattle.pm_model_folder.specs.Commits.{IsCommit, Names}
-use Rattle.pm_model_folder.specs.Folder.{IsEntryAfter}
-use Rattle.pm_model_folder.specs.Meaning.{SchemaAt, HasSnapshotAt}
+use Rattle.pm_model_folder.specs.Commits.{IsCommit, Names, Needs}
+use Rattle.pm_model_folder.specs.Folder.{IsAnnounced, IsEntryAfter}
+use Rattle.pm_model_folder.specs.Meaning.{SchemaAt, HasSnapshotAt, IsLeast}
 use Rattle.pm_model_folder.specs.Paths.{consumer_path, floor_path, schema_path, snapshot_file, snapshot_path}
 use Rattle.pm_schema.specs.Folder.{folder_text}
 use Rattle.pm_schema.specs.declared.schema.TableSchema.{TableSchema}
@@ -57,6 +57,13 @@ pub data IsTableFolder : List ℕ → Type 0 where
   manifests : IsTableFolder (codes "manifest")
   bucket : (s : TableSchema) (g : Group) → HavePlainNames s → IsTableFolder (folder_text s g)
 
+-- a file in such a folder
+pub record IsTablePath (path : List ℕ) : Type 0 where
+  pub folder : List ℕ
+  pub name : List ℕ
+  pub own : IsTableFolder folder
+  pub is : path ≡ folder ++ 47 ∷ name
+
 -- The file bears the actor's name: only this actor makes a file there. It is the origin that the actor makes, or one
 -- among those that snapshots name.
 pub data IsOwn (me : Actor) (path : List ℕ) : Type 0 where
@@ -83,13 +90,31 @@ IsNoOrigin (table s entries) path = (name : List ℕ) → s.origin ≡ Some name
 abbrev pub IsConsumerFile : Option (List ℕ) → Type 0
 IsConsumerFile content = IfSome content (λ bytes. (c : Consumer) × (consumer_in bytes ≡ Ok c))
 
--- What is changed beside the history of a table: a consumer's file is written, or goes; or a floor appears where there
--- was none, whole or in part, no higher than the newest snapshot.
+-- the path is that of a snapshot, or of the origin where the id is 0
+abbrev pub IsSnapshotPath : TableSchema → ℕ → List ℕ → Type 0
+IsSnapshotPath s zero path = (name : List ℕ) × (s.origin ≡ Some name) × (path ≡ snapshot_file name)
+IsSnapshotPath s (suc id) path = path ≡ snapshot_path (suc id)
+
+-- no snapshot that is there needs the path
+abbrev pub IsUnneeded : Files → TableSchema → List ℕ → Type 0
+IsUnneeded f s path = (id : ℕ) → 1 ≤ id → HasSnapshotAt f s id → Needs f s id path → ⊥
+
+-- What is changed beside the history of a table.
 pub data Beside (f : Files) (s : TableSchema) (entries : List Entry) (after : Files) : Type 0 where
+  -- a consumer's file is written, or goes
   consumer : (name : List ℕ) (content : Option (List ℕ)) → IsPlain name → IsConsumerFile content
       → Puts f (consumer_path name) content after → Beside f s entries after
+  -- a floor appears where there was none, whole or in part, no higher than the newest snapshot
   floor : (n : ℕ) (found : List ℕ) → n ≤ length entries → map.get f (floor_path n) ≡ None
       → Puts f (floor_path n) (Some found) after → Beside f s entries after
+  -- a floor goes that is below another
+  forgotten : (n above : ℕ) → n < above → above ≤ greatest → IsSome (map.get f (floor_path above))
+      → Puts f (floor_path n) None after → Beside f s entries after
+  -- the least snapshot goes, which isn't the newest, below a floor
+  expired : (least : ℕ) (path : List ℕ) → IsLeast f s least → IsSnapshotPath s least path → least < length entries
+      → IsAnnounced f (suc least) → Puts f path None after → Beside f s entries after
+  -- a file goes among those that snapshots name, which none that is there needs
+  removed : (path : List ℕ) → IsTablePath path → IsUnneeded f s path → Puts f path None after → Beside f s entries after
 
 -- What an actor may change of a folder that stands for a history, and the history that it stands for then.
 pub data Change (me : Actor) (f : Files) : History → Files → History → Type 0 where

@@ -1,5 +1,5 @@
 -- Consumers, floors and snapshots as a table's files have them, and what is known of each consumer beside its file.
-use Rattle.std.specs.Prelude.{◌≡◌, ℕ, ◌<◌, List, [], length, Bool, true, false, Option, Some, None, is_some}
+use Rattle.std.specs.Prelude.{ℕ, List, [], length, Bool, Option, Some, None, is_some}
 use Rattle.std.specs.Prelude.{Result, Ok, Err, nat_le, ◌&&◌}
 use Rattle.std.specs.FinMap as map
 use Rattle.pm_store.specs.Files.{Files}
@@ -13,7 +13,7 @@ use Rattle.pm_snapshot.specs.declared.fault.SnapFault.{SnapFault}
 use Rattle.pm_model_consumers.specs.Changes as kinds
 use Rattle.pm_model_consumers.specs.Claims.{Claim, Follower, Holds, Moment, Said}
 use Rattle.pm_model_folder.specs.Changes.{Actor}
-use Rattle.pm_model_folder.specs.Meaning.{HasSnapshotAt}
+use Rattle.pm_model_folder.specs.Meaning.{IsLeast}
 use Rattle.pm_model_folder.specs.Paths.{consumer_path, floor_path}
 
 -- who registers consumers as an actor
@@ -52,11 +52,6 @@ moment_of f s entries least claims = record {
   file = λ name. said_at f name;
   claim = claims;
 }
-
--- the snapshot with the id is the least that is there, the origin counted as 0
-pub record IsLeast (f : Files) (s : TableSchema) (id : ℕ) : Type 0 where
-  pub there : HasSnapshotAt f s id
-  pub none : (other : ℕ) → other < id → HasSnapshotAt f s other → ⊥
 
 -- what holds of the consumers of a table with these entries
 pub record KnowsConsumers (f : Files) (s : TableSchema) (entries : List Entry) (claims : List ℕ → Claim) : Type 0 where

@@ -112,9 +112,13 @@ pub record HasCommits (f : Files) (s : TableSchema) (entries : List Entry) (leas
   pub next : (id : ℕ) → IsFrom least (length entries) id → id < length entries → FollowsOn f s id
   pub gone : (first : ℕ) → IsFrom least (length entries) first → NeverReturn f s first (length entries)
 
+-- a floor is there whose number is at least this one: that the snapshots below go was announced
+abbrev pub IsAnnounced : Files → ℕ → Type 0
+IsAnnounced f end = (n : ℕ) × (n ≤ greatest) × (end ≤ n) × IsSome (map.get f (floor_path n))
+
 -- where a snapshot after the origin is the least, a floor announced that those below it go
 abbrev pub HasFloor : Files → ℕ → Type 0
-HasFloor f least = (least ≤ 1) ⊎ ((n : ℕ) × (n ≤ greatest) × (least ≤ n) × IsSome (map.get f (floor_path n)))
+HasFloor f least = (least ≤ 1) ⊎ IsAnnounced f least
 
 -- each file of a consumer reads
 abbrev pub HaveConsumers : Files → Type 0

@@ -6,16 +6,17 @@ use Rattle.std.specs.FinMap as map
 use Rattle.pm_store.specs.Files.{Files}
 use Rattle.pm_values.specs.declared.group.Group.{Group}
 use Rattle.pm_model_consumers.specs.Changes.{HasLost, IsUnsettled}
-use Rattle.pm_model_consumers.specs.Claims.{Claim, free, known_at, moved_past, new_at, settled, waits, with_claim}
+use Rattle.pm_model_consumers.specs.Claims.{Claim, Counts, Said, free, known_at, moved_past, new_at, settled}
+use Rattle.pm_model_consumers.specs.Claims.{waits, with_claim}
 use Rattle.pm_model_history.specs.History.{Entry, History, IsTableOf, no_table, table}
 use Rattle.pm_schema.specs.declared.schema.TableSchema.{TableSchema}
 use Rattle.pm_snapshot.specs.Names.{greatest}
 use Rattle.pm_snapshot.specs.declared.snapshot.Snapshot.{Snapshot}
-use Rattle.pm_model_folder.specs.Changes.{Actor, Change, IsNamedBy}
+use Rattle.pm_model_folder.specs.Changes.{Actor, Change, IsNamedBy, IsTablePath}
 use Rattle.pm_model_folder.specs.Commits.{IsCommitted, Names, Needs}
 use Rattle.pm_model_folder.specs.Consumers.{KnowsConsumers, follower_of, frame_in, said_at}
 use Rattle.pm_model_folder.specs.Folder.{Folder}
-use Rattle.pm_model_folder.specs.Meaning.{HasSnapshotAt, SnapshotAt}
+use Rattle.pm_model_folder.specs.Meaning.{HasSnapshotAt, IsLeast, SnapshotAt}
 use Rattle.pm_model_folder.specs.Paths.{consumer_path, floor_path}
 use Rattle.pm_model_folder.specs.Runs.{AreInFiles}
 use Rattle.pm_runs.specs.Succession.{Follows, IsSuccession, KnownRun}
@@ -148,10 +149,20 @@ pub data MovesConsumers (me : Actor) (f after : Files) (h : History) (claims : L
       → text ≡ frame_in h next → said_at after name ≡ Some (known_at (suc next)) → OthersStay f name after
       → MovesConsumers me f after h claims (with_claim name (moved_past text (claims name)) claims)
 
+-- a known snapshot names the path
+abbrev pub WasNamed : Past → TableSchema → List ℕ → Type 0
+WasNamed p s path = (id : ℕ) × IsKnown p id × Names (p.stood id) s id path
+
+-- the number of each consumer that counts is above that of a snapshot
+abbrev pub AreAbove : Files → (List ℕ → Claim) → ℕ → Type 0
+AreAbove f claims id = (name : List ℕ) (said : Said) → Counts (claims name) → said_at f name ≡ Some said
+    → id < said.next
+
 -- What an actor's step does to the files and to what they stand for, with what is known: a change of some kind. A file
 -- appears only at a path that no known snapshot needs. What is known stays. Of a new snapshot the files are known as
 -- they are then; what it names and the one before it didn't is needed by no other; and each group's runs go on with its
--- entry. What is known of consumers moves on with their files.
+-- entry. What is known of consumers moves on with their files. Of the files that snapshots name only such go as a known
+-- one named, and no snapshot goes that a consumer needs which counts.
 pub record Advances (me : Actor) (f : Files) (p : Past) (after : Files) (q : Past) : Type 0 where
   pub change : Change me f p.history after q.history
   pub fresh : (s : TableSchema) (path : List ℕ) → IsTableOf s p.history → map.get f path ≡ None
@@ -166,6 +177,10 @@ pub record Advances (me : Actor) (f : Files) (p : Past) (after : Files) (q : Pas
   pub follows : (s : TableSchema) (entries : List Entry) (e : Entry) (g : Group) → p.history ≡ table s entries
       → q.history ≡ table s (entries ++ e ∷ []) → RunsFollow after s entries e g p q
   pub consumers : MovesConsumers me f after q.history p.claims q.claims
+  pub gone : (s : TableSchema) (path : List ℕ) → IsTableOf s p.history → IsTablePath path → IsSome (map.get f path)
+      → map.get after path ≡ None → WasNamed p s path
+  pub spared : (s : TableSchema) (least : ℕ) → IsTableOf s p.history → IsLeast f s least
+      → (HasSnapshotAt after s least → ⊥) → AreAbove f p.claims least
 
 -- ---- an actor's names
 

@@ -1,5 +1,5 @@
 -- What the files of a table mean, each by its path.
-use Rattle.std.specs.Prelude.{◌≡◌, ℕ, zero, suc, List, Some, IsSome, IsSomeAnd, Ok}
+use Rattle.std.specs.Prelude.{◌≡◌, ℕ, zero, suc, ◌<◌, List, Some, IsSome, IsSomeAnd, Ok}
 use Rattle.std.specs.FinMap as map
 use Rattle.pm_store.specs.Files.{Files, name_in}
 use Rattle.pm_schema.specs.Reading.{schema_of}
@@ -27,6 +27,11 @@ ConsumerAt f name c = (bytes : List ℕ) × (map.get f (consumer_path name) ≡ 
 abbrev pub HasSnapshotAt : Files → TableSchema → ℕ → Type 0
 HasSnapshotAt f s zero = IsSomeAnd s.origin (λ origin. IsSome (map.get f (snapshot_file origin)))
 HasSnapshotAt f s (suc id) = IsSome (map.get f (snapshot_path (suc id)))
+
+-- the snapshot with the id is the least that is there, the origin counted as 0
+pub record IsLeast (f : Files) (s : TableSchema) (id : ℕ) : Type 0 where
+  pub there : HasSnapshotAt f s id
+  pub none : (other : ℕ) → other < id → HasSnapshotAt f s other → ⊥
 
 -- a file leads to the name in the folder, so that a listing has it
 abbrev pub LeadsTo : Files → List ℕ → List ℕ → Type 0

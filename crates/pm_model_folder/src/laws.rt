@@ -15,14 +15,14 @@ ghost use Rattle.pm_snapshot.specs.declared.consumer.Consumer.{Consumer};
 ghost use Rattle.pm_snapshot.specs.declared.snapshot.Snapshot.{Snapshot};
 ghost use Rattle.pm_model_contents.specs.Named.{Contents};
 ghost use Rattle.pm_model_folder.specs.Changes.{Actor, Change, IsActor, IsNamedBy, IsNoOrigin, IsOwn, IsOwnFile};
-ghost use Rattle.pm_model_folder.specs.Changes.{origin_name};
+ghost use Rattle.pm_model_folder.specs.Changes.{IsTablePath, origin_name};
 ghost use Rattle.pm_model_folder.specs.Commits.{HasCommit, Names, Needs, live_in};
 ghost use Rattle.pm_model_folder.specs.Entries.{IsFenced};
-ghost use Rattle.pm_model_folder.specs.Consumers.{IsLeast, IsMoved, follower_of, moment_of};
+ghost use Rattle.pm_model_folder.specs.Consumers.{IsMoved, follower_of, moment_of};
 ghost use Rattle.pm_model_folder.specs.Folder.{Folder, HaveSettled};
-ghost use Rattle.pm_model_folder.specs.Ledger.{Advances, HasNamedNone, IsUnnamed, MovesConsumers, Past, Stands};
-ghost use Rattle.pm_model_folder.specs.Ledger.{count_of};
-ghost use Rattle.pm_model_folder.specs.Meaning.{ConsumerAt, HasSnapshotAt, SnapshotAt};
+ghost use Rattle.pm_model_folder.specs.Ledger.{Advances, AreAbove, HasNamedNone, IsUnnamed, MovesConsumers, Past};
+ghost use Rattle.pm_model_folder.specs.Ledger.{Stands, WasNamed, count_of};
+ghost use Rattle.pm_model_folder.specs.Meaning.{ConsumerAt, HasSnapshotAt, IsLeast, SnapshotAt};
 ghost use Rattle.pm_model_folder.specs.Paths.{schema_folder, schema_name, snapshot_file, snapshot_path};
 ghost use Rattle.pm_model_folder.specs.Runs.{HaveLiveFiles};
 ghost use Rattle.pm_runs.specs.Succession.{IsTaken, StillStands, Taking};
@@ -54,7 +54,7 @@ pub fn goes_on_law()
 pub fn stays_law()
     ensures needed { (me : Actor) (f after : Files) (s : TableSchema) (entries : List Entry) (later : History) (id : ℕ)
         (path : List ℕ) → Folder f (table s entries) → Change me f (table s entries) after later
-        → HasSnapshotAt after s id → Needs f s id path → IsSome (map.get f path)
+        → 1 ≤ id → HasSnapshotAt after s id → Needs f s id path → IsSome (map.get f path)
         → map.get after path ≡ map.get f path }
     ensures own { (me other : Actor) (base : ℕ) (f after : Files) (p q : Past) (path : List ℕ) → Stands f p
         → Advances other f p after q → IsOwnFile me base path → HasNamedNone me p → IsSome (map.get f path)
@@ -110,13 +110,18 @@ pub fn past_law()
     pm_model_following::kept_law();
 }
 
-/// A change that adds no entry, and makes files only at paths that no known snapshot needs, leaves what is known, but for
-/// what it makes of consumers.
+/// A change that adds no entry leaves what is known, but for what it makes of consumers, where it makes files only at
+/// paths that no known snapshot needs, of the files that snapshots name takes away such alone as a known one named, and
+/// spares each snapshot that a consumer needs which counts.
 pub fn beside_law()
     ensures { (me : Actor) (f after : Files) (p : Past) (later : History) (claims : List ℕ → Claim)
         → Change me f p.history after later → count_of later ≡ count_of p.history
         → ((s : TableSchema) (path : List ℕ) → IsTableOf s p.history → map.get f path ≡ None
         → IsSome (map.get after path) → IsUnnamed p s path)
+        → ((s : TableSchema) (path : List ℕ) → IsTableOf s p.history → IsTablePath path → IsSome (map.get f path)
+        → map.get after path ≡ None → WasNamed p s path)
+        → ((s : TableSchema) (least : ℕ) → IsTableOf s p.history → IsLeast f s least
+        → (HasSnapshotAt after s least → ⊥) → AreAbove f p.claims least)
         → MovesConsumers me f after later p.claims claims
         → Advances me f p after (record p { history = later; claims = claims }) }
 {}
@@ -186,6 +191,8 @@ pub fn consumers_law()
 {
     pm_model_consumers::least_law();
     pm_model_following::kept_law();
+    one_contents_law();
+    same_law();
 }
 
 /// A folder that is found with settled consumers has a past that knows of them, and those of which a past knows are

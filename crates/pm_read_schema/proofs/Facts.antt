@@ -24,7 +24,7 @@ use Rattle.pm_model_folder.specs.Folder.{Folder}
 use Rattle.pm_model_folder.specs.Ledger.{Advances, Past, Stands}
 use Rattle.pm_model_folder.specs.Meaning.{LeadsTo, SchemaAt}
 use Rattle.pm_model_folder.specs.Paths.{consumer_path, schema_folder, schema_name, schema_path, snapshot_folder}
-use Rattle.pm_model_folder.proofs.Facts.{goes_on, no-schema, only-schema, listed-none, snapshot-led, some-none, unnamed-origin}
+use Rattle.pm_model_folder.proofs.Facts.{goes_on, no-schema, only-schema, listed-none, snapshot-led, some-none, still_there, unnamed-origin}
 use Rattle.pm_model_folder.proofs.LedgerFacts.{beside}
 use Rattle.pm_schema.proofs.Facts.{file_faults}
 use Rattle.pm_snapshot.specs.Names.{greatest, snapshot_name}
@@ -246,7 +246,7 @@ knows_still m other f after p q stands advances known =
 same_advances : (me : Actor) (f after : Files) (p : Past) → ((path : List ℕ) → map.get after path ≡ map.get f path) → Advances me f p after p
 same_advances me f after p same =
     beside me f after p p.history (nothing same) refl (λ s path is none here. absurd (some-none (map.get after path) here (same path ∙ none)))
-    (λ name. same (consumer_path name))
+    (λ path there. still_there f after path (same path) there) (λ name. same (consumer_path name))
 
 pub kept_nothing : (me : Actor) (f after : Files) (p later : Past) → IsKept f p after later → Advances me f p after later
 kept_nothing me f after p later kept = subst (λ (later : Past). Advances me f p after later) (sym kept.past) (same_advances me f after p kept.files)

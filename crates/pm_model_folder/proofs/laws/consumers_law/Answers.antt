@@ -8,4 +8,4 @@ pub returns-clause-frames : goal.returns-clause-frames
 returns-clause-frames c = moved-frames
 
 pub returns-clause-moved : goal.returns-clause-moved
-returns-clause-moved c = step-moves c.kept_law.ensures.change
+returns-clause-moved c = step-moves c.one_contents_law.ensures c.same_law.ensures c.kept_law.ensures.change
