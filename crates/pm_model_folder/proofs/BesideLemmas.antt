@@ -68,7 +68,7 @@ pub other-floor : (a b : ℕ) → a ≤ greatest → b ≤ greatest → a ≢ b 
 other-floor a b within bound other e = other (floor-number a b within bound e)
 
 -- a file of such a folder is no consumer's, no floor, and no snapshot
-consumer-table : (name : List ℕ) → IsTablePath (consumer_path name) → ⊥
+pub consumer-table : (name : List ℕ) → IsTablePath (consumer_path name) → ⊥
 consumer-table name is_table = table-other (consumer_path name) (codes "consumer") (codes "consumer-" ++ name) is_table other-consumers refl
 
 pub floor-table : (n : ℕ) → IsTablePath (floor_path n) → ⊥

@@ -234,7 +234,7 @@ module _ (me : Actor) (f after : Files) (s : TableSchema) (entries : List Entry)
       one = one-least f s gone known.least is_least known.is
 
 -- the snapshots that stay where a floor or a consumer's file changes, or a file goes that is no snapshot's
-beside-snapshots : (f after : Files) (s : TableSchema) (path : List ℕ) (content : Option (List ℕ)) → Puts f path content after → ((name : List ℕ) → path ≢ snapshot_file name)
+pub beside-snapshots : (f after : Files) (s : TableSchema) (path : List ℕ) (content : Option (List ℕ)) → Puts f path content after → ((name : List ℕ) → path ≢ snapshot_file name)
     → (id : ℕ) → HasSnapshotAt f s id ↔ HasSnapshotAt after s id
 beside-snapshots f after s path content puts other id =
     snapshot-same f after s id (λ zero_is origin is. puts.others (snapshot_file origin) (λ e. other origin (sym e)))

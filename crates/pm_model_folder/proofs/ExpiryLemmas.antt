@@ -61,7 +61,7 @@ path-file s (suc id) path is = (snapshot_name (suc id), is)
 no-schema : (s : TableSchema) (least : ℕ) (path : List ℕ) → IsSnapshotPath s least path → (id : ℕ) → schema_path id ≢ path
 no-schema s least path is id e = let file = path-file s least path is in snapshot-schema file.0 id (sym file.1 ∙ sym e)
 
-no-table : (s : TableSchema) (least : ℕ) (path : List ℕ) → IsSnapshotPath s least path → IsTablePath path → ⊥
+pub no-table : (s : TableSchema) (least : ℕ) (path : List ℕ) → IsSnapshotPath s least path → IsTablePath path → ⊥
 no-table s least path is is_table = let file = path-file s least path is in snapshot-table file.0 (subst IsTablePath file.1 is_table)
 
 -- what a snapshot needs that is another is elsewhere

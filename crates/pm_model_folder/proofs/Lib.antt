@@ -11,3 +11,4 @@ mod OwnFacts
 pub mod PathLemmas
 pub mod RunFacts
 mod SameLemmas
+mod StepFacts

@@ -1,10 +1,10 @@
 //! Laws of folders. Each holds with no call.
 
 ghost use Rattle.std.specs.Prelude.{◌≡◌, ◌≢◌, ◌↔◌, ◌⊎◌, ℕ, ◌+◌, ◌≤◌, List, [], length, map as each_of, Contains};
-ghost use Rattle.std.specs.Prelude.{false, None, IsSome};
+ghost use Rattle.std.specs.Prelude.{suc, ◌<◌, false, Option, Some, None, IsSome};
 ghost use Rattle.std.specs.FinMap as map;
 ghost use Rattle.std.specs.List.{range_with_len};
-ghost use Rattle.pm_store.specs.Files.{Files, IsListing};
+ghost use Rattle.pm_store.specs.Files.{Files, IsListing, Puts};
 ghost use Rattle.pm_values.specs.declared.group.Group.{Group};
 ghost use Rattle.pm_model_consumers.specs.Claims.{Claim, Counts, Holds, settled};
 ghost use Rattle.pm_model_history.specs.History.{Entry, History, GoesOn, IsTableOf, no_table, table};
@@ -15,15 +15,17 @@ ghost use Rattle.pm_snapshot.specs.declared.consumer.Consumer.{Consumer};
 ghost use Rattle.pm_snapshot.specs.declared.snapshot.Snapshot.{Snapshot};
 ghost use Rattle.pm_model_contents.specs.Named.{Contents};
 ghost use Rattle.pm_model_folder.specs.Changes.{Actor, Change, IsActor, IsNamedBy, IsNoOrigin, IsOwn, IsOwnFile};
-ghost use Rattle.pm_model_folder.specs.Changes.{IsTablePath, origin_name};
+ghost use Rattle.pm_model_folder.specs.Changes.{HavePlainNames, IsConsumerFile, IsPlain, IsSnapshotPath, IsTablePath};
+ghost use Rattle.pm_model_folder.specs.Changes.{IsUnneeded, origin_name};
 ghost use Rattle.pm_model_folder.specs.Commits.{HasCommit, Names, Needs, live_in};
 ghost use Rattle.pm_model_folder.specs.Entries.{IsFenced};
 ghost use Rattle.pm_model_folder.specs.Consumers.{IsMoved, follower_of, moment_of};
-ghost use Rattle.pm_model_folder.specs.Folder.{Folder, HaveSettled};
+ghost use Rattle.pm_model_folder.specs.Folder.{Folder, HaveSettled, IsAnnounced};
 ghost use Rattle.pm_model_folder.specs.Ledger.{Advances, AreAbove, HasNamedNone, IsUnnamed, MovesConsumers, Past};
 ghost use Rattle.pm_model_folder.specs.Ledger.{Stands, WasNamed, count_of};
 ghost use Rattle.pm_model_folder.specs.Meaning.{ConsumerAt, HasSnapshotAt, IsLeast, SnapshotAt};
-ghost use Rattle.pm_model_folder.specs.Paths.{schema_folder, schema_name, snapshot_file, snapshot_path};
+ghost use Rattle.pm_model_folder.specs.Paths.{consumer_path, floor_path, schema_folder, schema_name};
+ghost use Rattle.pm_model_folder.specs.Paths.{snapshot_file, snapshot_path};
 ghost use Rattle.pm_model_folder.specs.Runs.{HaveLiveFiles};
 ghost use Rattle.pm_runs.specs.Succession.{IsTaken, StillStands, Taking};
 
@@ -124,6 +126,32 @@ pub fn beside_law()
         → (HasSnapshotAt after s least → ⊥) → AreAbove f p.claims least)
         → MovesConsumers me f after later p.claims claims
         → Advances me f p after (record p { history = later; claims = claims }) }
+{}
+
+/// Each change beside the history of a table is a step of its past.
+pub fn steps_law()
+    // a consumer's file is written, or goes, with what that makes of consumers
+    ensures consumer { (me : Actor) (f after : Files) (p : Past) (s : TableSchema) (entries : List Entry)
+        (name : List ℕ) (content : Option (List ℕ)) (claims : List ℕ → Claim) → p.history ≡ table s entries
+        → HavePlainNames s → IsPlain name → IsConsumerFile content → Puts f (consumer_path name) content after
+        → MovesConsumers me f after p.history p.claims claims → Advances me f p after (record p { claims = claims }) }
+    // a floor appears, no higher than the newest snapshot
+    ensures announces { (me : Actor) (f after : Files) (p : Past) (s : TableSchema) (entries : List Entry) (n : ℕ)
+        (found : List ℕ) → p.history ≡ table s entries → HavePlainNames s → n ≤ length entries
+        → map.get f (floor_path n) ≡ None → Puts f (floor_path n) (Some found) after → Advances me f p after p }
+    // or goes, below another
+    ensures forgets { (me : Actor) (f after : Files) (p : Past) (s : TableSchema) (entries : List Entry)
+        (n above : ℕ) → p.history ≡ table s entries → HavePlainNames s → n < above → above ≤ greatest
+        → IsSome (map.get f (floor_path above)) → Puts f (floor_path n) None after → Advances me f p after p }
+    // the least snapshot goes, which isn't the newest, below a floor, where each consumer that counts needs a later one
+    ensures expires { (me : Actor) (f after : Files) (p : Past) (s : TableSchema) (entries : List Entry) (least : ℕ)
+        (path : List ℕ) → p.history ≡ table s entries → HavePlainNames s → IsLeast f s least
+        → IsSnapshotPath s least path → least < length entries → IsAnnounced f (suc least) → Puts f path None after
+        → AreAbove f p.claims least → Advances me f p after p }
+    // a file goes that a known snapshot named, and none needs which is there
+    ensures removes { (me : Actor) (f after : Files) (p : Past) (s : TableSchema) (entries : List Entry)
+        (path : List ℕ) → p.history ≡ table s entries → HavePlainNames s → IsTablePath path → IsUnneeded f s path
+        → WasNamed p s path → Puts f path None after → Advances me f p after p }
 {}
 
 /// Where of each run of a group that a compaction took a file is live at the newest snapshot as it stood, they stand

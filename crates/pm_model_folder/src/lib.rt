@@ -15,8 +15,8 @@
 //! each snapshot was committed. What a snapshot needs is absent or has those bytes, also once the snapshot has gone.
 //! It has the groups' runs too, from the snapshot on that was the newest when the folder was found, and how those of
 //! each next one follow. `found_law` leads from a folder that is found to one with such a past, and `past_law` says
-//! that each change keeps it. `beside_law` says that each change which adds no entry, and makes no file that a known
-//! snapshot needs, is a step of it, and `still_law` where those runs stand that a compaction took at a snapshot of it.
+//! that each change keeps it. `beside_law` says which changes that add no entry are steps of it, `steps_law` so of each
+//! change beside the history, and `still_law` where those runs stand that a compaction took at a snapshot of it.
 //! `appends_law` says that from that snapshot on the count of appends which a snapshot bears never falls.
 //!
 //! And it has what is known of each consumer beside its file, as `pm_model_consumers` has it; `specs/Consumers.antt`
@@ -30,5 +30,5 @@ mod laws;
 
 pub use laws::{
     appends_law, beside_law, consumers_law, found_law, goes_on_law, kept_law, listed_law,
-    newest_law, own_law, past_law, settled_law, stays_law, still_law, unnamed_law,
+    newest_law, own_law, past_law, settled_law, stays_law, steps_law, still_law, unnamed_law,
 };
