@@ -30,7 +30,8 @@ use Rattle.pm_model_following.specs.Following.{NumberedRow, by_key, change, chan
 use Rattle.pm_model_following.specs.Groups.{group_of, rows_in}
 use Rattle.pm_model_changelog.specs.Log.{Compares, IsKeyOf, Passing, PassesNothing, PassesOn, log_of, rising_keys, shown_of, told_by}
 use Rattle.pm_model_changelog.proofs.GroupLemmas.{same_group}
-use Rattle.pm_model_changelog.proofs.LogLemmas.{HiddenLaw, WorthLaw, not_leb, rows_by, rows_by-cons, rows_by-none, shown-covered}
+use Rattle.pm_model_following.proofs.FollowingLemmas.{not_leb, rows_by, rows_by-cons, rows_by-none}
+use Rattle.pm_model_changelog.proofs.LogLemmas.{HiddenLaw, WorthLaw, shown-covered}
 use Rattle.pm_model_changelog.proofs.PassingLemmas.{after-same, before-is, covers-joined, now-is, stays}
 use Rattle.pm_model_changelog.proofs.OrderLemmas.{all-any, each-later, first_of, flat-same, given-groups, has-row, in-group, is_in, keyed, table_of, told-groups}
 

@@ -1,66 +1,29 @@
 -- What is told of a key.
-use Rattle.std.proofs.Common.{◌≡◌, ◌≢◌, inl, inr, ℕ, zero, suc, ◌+◌, ◌-◌, ◌<◌, ◌≤◌, leb, List, [], ◌∷◌, ◌++◌, map, filter, take, length, Bool, true, false, cond, Some, None, refl, sym, ap, subst, ◌∙◌, arith, le_refl, lt_irrefl, lt_of_lt_of_le}
+use Rattle.std.proofs.Common.{◌≡◌, ◌≢◌, ℕ, suc, ◌+◌, ◌-◌, ◌≤◌, leb, List, [], ◌∷◌, ◌++◌, map, filter, length, Bool, true, false, cond, Some, None, refl, sym, ap, subst, ◌∙◌, arith}
 use Rattle.std.specs.FinMap.{get}
-use Rattle.std.specs.List.{flat_map, range_with_len}
+use Rattle.std.specs.List.{range_with_len}
 use Rattle.std.specs.Cmp.{Equal-is, tied_itself}
 use Rattle.std.specs.Ordering.{eq_by_cmp, is_eq}
 use Rattle.std.specs.declared.cmp.Ordering.TheVariants.{Less, Equal, Greater}
-use Rattle.std.proofs.lemmas.Bool.{leb-true, le-leb, cases_lt}
-use Rattle.std.proofs.lemmas.List.{map-append}
-use Rattle.std.proofs.lemmas.List.Elements.{filter-append}
 use Rattle.pm_options.specs.declared.kinds.EngineKind.{EngineKind}
 use Rattle.pm_options.specs.declared.kinds.EngineKind.TheVariants as engines
 use Rattle.pm_values.specs.GroupOrder.{group_cmp, group_total}
 use Rattle.pm_values.specs.Order.{Values, key_cmp}
 use Rattle.pm_values.specs.declared.group.Group.{Group}
 use Rattle.pm_values.proofs.Lemmas.{group_cmp-IsAntisymmetric, key_cmp-IsAntisymmetric}
-use Rattle.pm_model_history.specs.History.{Entry, entry_rows, rows_up_to}
+use Rattle.pm_model_history.specs.History.{Entry, rows_up_to}
 use Rattle.pm_model_history.specs.Merge.{HistoryRow, key_of, rows_of}
 use Rattle.pm_model_history.specs.Merged.{primary_of, shows, shows_by, values_of}
 use Rattle.pm_schema.specs.declared.schema.TableSchema.{TableSchema}
 use Rattle.pm_engine.specs.Covers.{Covers, Run, stored_rows}
 use Rattle.pm_engine.specs.Meaning.{Meaning, SameWorth}
 use Rattle.pm_engine.specs.OfSchema.{meaning_of}
-use Rattle.pm_model_following.specs.Following.{NumberedRow, compacted, followed, is_passed, leaves_out_equal, numbered_from, numbered_rows, passed, passed_rows, told, told_at}
+use Rattle.pm_model_following.specs.Following.{NumberedRow, compacted, followed, is_passed, leaves_out_equal, numbered_rows, passed, passed_rows, told, told_at}
 use Rattle.pm_model_following.specs.Groups.{group_of, rows_in}
+use Rattle.pm_model_following.proofs.FollowingLemmas.{rows_by-up_to}
 use Rattle.pm_model_changelog.specs.Log.{Compares, IsKeyOf, Passing, PassesOn, shown_of, told_by}
 use Rattle.pm_model_changelog.proofs.KeyLemmas.{TableLaw}
 use Rattle.pm_model_changelog.proofs.PassingLemmas.{before-is, first-rows, joined-cover, now-is}
-
--- the rows of entries whose numbers pass a test
-abbrev pub rows_by : (ℕ → Bool) → ℕ → List Entry → List HistoryRow
-rows_by test k entries = map (λ (r : NumberedRow). r.1) (filter (λ (r : NumberedRow). test r.0) (numbered_from k entries))
-
-pub rows_of_one : (test : ℕ → Bool) (k : ℕ) (rows : List HistoryRow)
-    → map (λ (r : NumberedRow). r.1) (filter (λ (r : NumberedRow). test r.0) (map (λ (r : HistoryRow). (k, r)) rows)) ≡ cond (test k) rows []
-rows_of_one test k [] = elim (test k) as (λ b. ◌≡◌ {A = List HistoryRow} [] (cond b [] [])) [ true ↦ refl | false ↦ refl ]
-rows_of_one test k (r ∷ rows) =
-    let rest = rows_of_one test k rows in
-    let kept : List NumberedRow = filter (λ (r : NumberedRow). test r.0) (map (λ (r : HistoryRow). (k, r)) rows) in
-    elim (test k) as (λ b. map (λ (r : NumberedRow). r.1) kept ≡ cond b rows [] → map (λ (r : NumberedRow). r.1) (cond b ((k, r) ∷ kept) kept) ≡ cond b (r ∷ rows) []) [
-      | true ↦ λ is. ap (λ xs. r ∷ xs) is
-      | false ↦ λ is. is
-    ] rest
-
-pub rows_by-cons : (test : ℕ → Bool) (k : ℕ) (entry : Entry) (entries : List Entry)
-    → rows_by test k (entry ∷ entries) ≡ cond (test k) (entry_rows entry) [] ++ rows_by test (k + 1) entries
-rows_by-cons test k entry entries =
-    let first : List NumberedRow = map (λ (r : HistoryRow). (k, r)) (entry_rows entry) in
-    ap (map (λ (r : NumberedRow). r.1)) (filter-append (λ (r : NumberedRow). test r.0) first (numbered_from (k + 1) entries))
-    ∙ map-append (λ (r : NumberedRow). r.1) (filter (λ (r : NumberedRow). test r.0) first) (filter (λ (r : NumberedRow). test r.0) (numbered_from (k + 1) entries))
-    ∙ ap (λ xs. xs ++ rows_by test (k + 1) entries) (rows_of_one test k (entry_rows entry))
-
--- a number above another isn't at most that
-pub not_leb : (a b : ℕ) → b < a → leb a b ≡ false
-not_leb a b above = elim (leb a b) as (λ t. leb a b ≡ t → t ≡ false) [ true ↦ λ e. absurd (lt_irrefl b (lt_of_lt_of_le above (leb-true a b e))) | false ↦ λ e. refl ] refl
-
--- no rows where no number passes
-pub rows_by-none : (test : ℕ → Bool) (k : ℕ) (entries : List Entry) → ((j : ℕ) → k ≤ j → test j ≡ false) → rows_by test k entries ≡ []
-rows_by-none test k [] none = refl
-rows_by-none test k (entry ∷ entries) none =
-    rows_by-cons test k entry entries
-    ∙ ap (λ b. cond b (entry_rows entry) [] ++ rows_by test (k + 1) entries) (none k (le_refl k))
-    ∙ rows_by-none test (k + 1) entries (λ j above. none j (omega arith))
 
 -- ---- what runs show of a key
 
@@ -102,19 +65,6 @@ shown-covered worth hidden s runs rows key covers = at (stored_rows key runs) re
 
 -- ---- the rows of a group
 
-up-to : (n k : ℕ) (entries : List Entry) → rows_by (λ j. leb j n) k entries ≡ flat_map entry_rows (take ((n + 1) - k) entries)
-up-to n k [] = elim ((n + 1) - k) as (λ m. [] ≡ flat_map entry_rows (take m [])) [ zero ↦ refl | suc m ↦ refl ]
-up-to n k (entry ∷ entries) = elim (cases_lt n k) [
-  | inl past ↦
-      rows_by-none (λ j. leb j n) k (entry ∷ entries) (λ j above. not_leb j n (omega arith))
-      ∙ let gone : 0 ≡ (n + 1) - k = omega arith in ap (λ m. flat_map entry_rows (take m (entry ∷ entries))) gone
-  | inr within ↦
-      rows_by-cons (λ j. leb j n) k entry entries
-      ∙ ap (λ b. cond b (entry_rows entry) [] ++ rows_by (λ j. leb j n) (k + 1) entries) (le-leb k n within)
-      ∙ ap (λ xs. entry_rows entry ++ xs) (up-to n (k + 1) entries)
-      ∙ let one : suc ((n + 1) - (k + 1)) ≡ (n + 1) - k = omega arith in ap (λ m. flat_map entry_rows (take m (entry ∷ entries))) one
-]
-
 module _ (s : TableSchema) (g : Group) where
   abbrev of_list : List NumberedRow → List HistoryRow
   of_list xs = rows_in s g (map (λ (r : NumberedRow). r.1) xs)
@@ -147,7 +97,7 @@ module _ (s : TableSchema) (g : Group) where
   passed-group entries n =
       let p : ℕ = passed s.options.producer entries n g in
       let last : (p + 1) - 1 ≡ p = omega arith in
-      passed-some entries n (numbered_rows entries) ∙ ap (rows_in s g) (up-to p 1 entries ∙ ap (rows_up_to entries) last)
+      passed-some entries n (numbered_rows entries) ∙ ap (rows_in s g) (rows_by-up_to p 1 entries ∙ ap (rows_up_to entries) last)
 
 -- ---- the rows of a key
 

@@ -84,7 +84,7 @@ rows_by-none test k (entry ∷ entries) none =
     ∙ rows_by-none test (k + 1) entries (λ j above. none j (omega arith))
 
 -- the rows up to a number are those of the first entries
-rows_by-up_to : (n k : ℕ) (entries : List Entry) → rows_by (λ j. leb j n) k entries ≡ flat_map entry_rows (take ((n + 1) - k) entries)
+pub rows_by-up_to : (n k : ℕ) (entries : List Entry) → rows_by (λ j. leb j n) k entries ≡ flat_map entry_rows (take ((n + 1) - k) entries)
 rows_by-up_to n k [] = elim ((n + 1) - k) as (λ m. [] ≡ flat_map entry_rows (take m [])) [ zero ↦ refl | suc m ↦ refl ]
 rows_by-up_to n k (entry ∷ entries) = elim (cases_lt n k) [
   | inl past ↦

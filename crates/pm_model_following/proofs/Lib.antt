@@ -1,3 +1,4 @@
-mod FollowingLemmas
+pub mod FollowingLemmas
 mod GrowthLemmas
+pub mod KeyLemmas
 mod ReplayLemmas
