@@ -1,7 +1,6 @@
 -- What the files of groups lead to, each by its bytes, but that memory may run out: so the same calls lead to one place.
-use Rattle.std.proofs.Common.{◌≡◌, ◌≢◌, ◌⊎◌, inl, inr, ℕ, List, [], ◌∷◌, ◌++◌, Bool, true, false, true≢false, Option, None, Some, IsSome, Result, Ok, Err, refl, sym, ap, subst, ◌∙◌}
+use Rattle.std.proofs.Common.{◌≡◌, ◌≢◌, inl, inr, ℕ, List, [], ◌∷◌, ◌++◌, Bool, true, false, Option, None, Some, IsSome, Ok, refl, sym, ap, subst, ◌∙◌}
 use Rattle.std.specs.List.{AllByRecursion}
-use Rattle.pm_values.specs.Order.{Values}
 use Rattle.pm_values.specs.declared.record.Stamped.{Stamped}
 use Rattle.pm_values.specs.declared.refusal.Refusal.{Refusal}
 use Rattle.pm_values.specs.declared.refusal.Refusal.TheVariants as refusals
@@ -9,16 +8,12 @@ use Rattle.pm_store.specs.declared.answer.Answer.{Answer}
 use Rattle.pm_store.specs.declared.answer.Answer.TheVariants as answers
 use Rattle.pm_machine.specs.Trace.{Event}
 use Rattle.pm_schema.specs.declared.schema.TableSchema.{TableSchema}
-use Rattle.pm_avro_schema.specs.declared.fault.AvroFault.{AvroFault}
-use Rattle.pm_avro_schema.specs.declared.fault.AvroFault.TheVariants as faults
-use Rattle.pm_avro_file.specs.Reader.{Opens, Reader}
-use Rattle.pm_record.specs.File.{OpensFile, refusal_of}
 use Rattle.pm_engine.specs.Covers.{Run}
-use Rattle.pm_run.specs.Form.{form_of}
-use Rattle.pm_run.specs.Kinds.{has_row_fields}
 use Rattle.pm_run.specs.Order.{last_key}
-use Rattle.pm_run.specs.Reader.{IsOfOther, LacksField, OpensRun, RefusesRun, RunView as ReaderView, before_first}
-use Rattle.pm_run.specs.Rows.{Follow, Opened, opened_with}
+use Rattle.pm_run.specs.Reader.{OpensRun, RunView as ReaderView}
+use Rattle.pm_run.specs.Rows.{Follow}
+use Rattle.pm_run.proofs.OneLemmas.{OneOpening}
+use Rattle.pm_run.proofs.OpenedLemmas.{OneFollow, one_opened, one_unopened, opened_not, refused_of}
 use Rattle.pm_read_schema.proofs.LeadLemmas.{AreOne, Leads, IsAnswered, all_answered, lead_step, led, one_lead}
 use Rattle.pm_read_table.specs.Trace.{read_file}
 use Rattle.pm_model_folder.specs.Paths.{snapshot_path}
@@ -34,9 +29,8 @@ use Rattle.pm_group_files.proofs.FaultLemmas.{IsOfFiles, damaged, expired, unsup
 -- ---- the laws of the crates below
 
 pub record FileLaws : Type 0 where
-  pub opening : (bytes : List ℕ) (r s : Result Reader AvroFault) → Opens bytes r → Opens bytes s → r ≢ Err faults.Memory → s ≢ Err faults.Memory → r ≡ s
-  pub rows : (o : Opened) (offset : ℕ) (before : Option Values) (rows others : List Stamped) (end other : Option Refusal) → Follow o offset before rows end
-      → Follow o offset before others other → (rows ≡ others) × (end ≡ other)
+  pub opening : OneOpening
+  pub rows : OneFollow
 
 -- ---- where files lead
 
@@ -74,63 +68,12 @@ given_answered id m new (Some answer) goes = refl
 -- ---- they lead to one place
 
 module _ (laws : FileLaws) where
-  ok_reader : (r s : Reader) → ◌≡◌ {A = Result Reader AvroFault} (Ok r) (Ok s) → r ≡ s
-  ok_reader r s is = cc
-
-  ok_or : (r : Reader) (fault : AvroFault) → ◌≢◌ {A = Result Reader AvroFault} (Ok r) (Err fault)
-  ok_or r fault is = cc
-
-  same_fault : (one other : AvroFault) → ◌≡◌ {A = Result Reader AvroFault} (Err one) (Err other) → one ≡ other
-  same_fault one other is = cc
-
-  -- a fault that is no want of memory
-  fault_not : (path : List ℕ) (fault : AvroFault) (e : Refusal) → e ≢ refusals.Memory → e ≡ refusal_of path fault → ◌≢◌ {A = Result Reader AvroFault} (Err fault) (Err faults.Memory)
-  fault_not path fault e other is same = other (is ∙ ap (refusal_of path) (same_fault fault faults.Memory same))
-
-  one_opened : (bytes : List ℕ) (r s : Reader) → Opens bytes (Ok r) → Opens bytes (Ok s) → r ≡ s
-  one_opened bytes r s opens opened = ok_reader r s (laws.opening bytes (Ok r) (Ok s) opens opened (ok_or r faults.Memory) (ok_or s faults.Memory))
-
-  one_reader : (s : TableSchema) (id : ℕ) (path bytes : List ℕ) (v w : ReaderView) → OpensRun s false id path bytes (Ok v) → OpensRun s false id path bytes (Ok w) → v ≡ w
-  one_reader s id path bytes v w (of_it, r, opens, has, is) (also, t, opened, had, was) =
-      is ∙ ap (λ (r : Reader). before_first (opened_with s false path r)) (one_opened bytes r t opens opened) ∙ sym was
-
-  -- why it isn't opened, but for want of memory
-  abbrev Refused : TableSchema → ℕ → List ℕ → List ℕ → Refusal → Type 0
-  Refused s id path bytes e = IsOfOther s id e ⊎ ((id ≡ s.id) × (OpensFile path bytes (Err e) ⊎ LacksField s path bytes e))
-
-  refused_of : (s : TableSchema) (id : ℕ) (path bytes : List ℕ) (e : Refusal) → e ≢ refusals.Memory → RefusesRun s id path bytes e → Refused s id path bytes e
-  refused_of s id path bytes refusals.Memory other refuses = absurd (other refl)
-  refused_of s id path bytes e other refuses = refuses
-
-  opened_not : (s : TableSchema) (id : ℕ) (path bytes : List ℕ) (v : ReaderView) (e : Refusal) → e ≢ refusals.Memory → OpensRun s false id path bytes (Ok v)
-      → Refused s id path bytes e → ⊥
-  opened_not s id path bytes v e other (of_it, r, opens, has, is) (inl (foreign, at)) = foreign of_it
-  opened_not s id path bytes v e other (of_it, r, opens, has, is) (inr (own, inl (fault, fails, at))) =
-      ok_or r fault (laws.opening bytes (Ok r) (Err fault) opens fails (ok_or r faults.Memory) (fault_not path fault e other at))
-  opened_not s id path bytes v e other (of_it, r, opens, has, is) (inr (own, inr (t, opened, lacks, at))) =
-      true≢false (sym has ∙ ap (λ (r : Reader). has_row_fields (form_of s) r.kind) (one_opened bytes r t opens opened) ∙ lacks)
-
-  one_unopened : (s : TableSchema) (id : ℕ) (path bytes : List ℕ) (e d : Refusal) → e ≢ refusals.Memory → d ≢ refusals.Memory → Refused s id path bytes e
-      → Refused s id path bytes d → e ≡ d
-  one_unopened s id path bytes e d other more (inl (foreign, is)) (inl (also, was)) = is ∙ sym was
-  one_unopened s id path bytes e d other more (inl (foreign, is)) (inr (own, why)) = absurd (foreign own)
-  one_unopened s id path bytes e d other more (inr (own, why)) (inl (foreign, was)) = absurd (foreign own)
-  one_unopened s id path bytes e d other more (inr (own, inl (fault, fails, is))) (inr (also, inl (cause, failed, was))) =
-      is ∙ ap (refusal_of path) (same_fault fault cause (laws.opening bytes (Err fault) (Err cause) fails failed (fault_not path fault e other is) (fault_not path cause d more was))) ∙ sym was
-  one_unopened s id path bytes e d other more (inr (own, inl (fault, fails, is))) (inr (also, inr (r, opens, lacks, was))) =
-      absurd (ok_or r fault (laws.opening bytes (Ok r) (Err fault) opens fails (ok_or r faults.Memory) (fault_not path fault e other is)))
-  one_unopened s id path bytes e d other more (inr (own, inr (r, opens, lacks, is))) (inr (also, inl (cause, failed, was))) =
-      absurd (ok_or r cause (laws.opening bytes (Ok r) (Err cause) opens failed (ok_or r faults.Memory) (fault_not path cause d more was)))
-  one_unopened s id path bytes e d other more (inr (own, inr (r, opens, lacks, is))) (inr (also, inr (t, opened, lacked, was))) = is ∙ sym was
-
   -- the rows of a file after those before it, and its end, are one
   one_follow : (s : TableSchema) (job : Job) (bytes : List ℕ) (before : Run) (v w : ReaderView) (rows others : List Stamped) (end other : Option Refusal)
       → OpensRun s false job.schema_id job.path bytes (Ok v) → OpensRun s false job.schema_id job.path bytes (Ok w)
       → Follow v.opened v.opened.file.first (last_key None before) rows end → Follow w.opened w.opened.file.first (last_key None before) others other → (rows ≡ others) × (end ≡ other)
   one_follow s job bytes before v w rows others end other opens opened follow followed =
-      let same = one_reader s job.schema_id job.path bytes w v opened opens in
-      laws.rows v.opened v.opened.file.first (last_key None before) rows others end other follow
-      (subst (λ (v : ReaderView). Follow v.opened v.opened.file.first (last_key None before) others other) same followed)
+      one_opened laws.opening laws.rows s false job.schema_id job.path bytes (last_key None before) v w rows others end other opens opened follow followed
 
   one_closed : (end : JobEnds) (c one other : Collected) → Closes end c one → Closes end c other → one ≡ other
   one_closed ends.File c one other is was = is ∙ sym was
@@ -163,7 +106,7 @@ module _ (laws : FileLaws) where
 
   rows_not : (job : Job) (bytes : List ℕ) (c new : Collected) (e : Refusal) → e ≢ refusals.Memory → TakesRows job bytes c new → RefusesFile c.schema job bytes c.rows e → ⊥
   rows_not job bytes c new e other (rows, (v, opens, follow), closes) (unopened refuses) =
-      opened_not c.schema job.schema_id job.path bytes v e other opens (refused_of c.schema job.schema_id job.path bytes e other refuses)
+      opened_not laws.opening c.schema false job.schema_id job.path bytes v e other opens (refused_of c.schema job.schema_id job.path bytes e other refuses)
   rows_not job bytes c new e other (rows, (v, opens, follow), closes) (misread w others opened followed) =
       end_not e (one_follow c.schema job bytes c.rows v w rows others None (Some e) opens opened follow followed).1
 
@@ -177,11 +120,11 @@ module _ (laws : FileLaws) where
   one_file_refused : (s : TableSchema) (job : Job) (bytes : List ℕ) (before : Run) (e d : Refusal) → e ≢ refusals.Memory → d ≢ refusals.Memory → RefusesFile s job bytes before e
       → RefusesFile s job bytes before d → e ≡ d
   one_file_refused s job bytes before e d other more (unopened refuses) (unopened refused) =
-      one_unopened s job.schema_id job.path bytes e d other more (refused_of s job.schema_id job.path bytes e other refuses) (refused_of s job.schema_id job.path bytes d more refused)
+      one_unopened laws.opening s job.schema_id job.path bytes e d other more (refused_of s job.schema_id job.path bytes e other refuses) (refused_of s job.schema_id job.path bytes d more refused)
   one_file_refused s job bytes before e d other more (unopened refuses) (misread w others opened followed) =
-      absurd (opened_not s job.schema_id job.path bytes w e other opened (refused_of s job.schema_id job.path bytes e other refuses))
+      absurd (opened_not laws.opening s false job.schema_id job.path bytes w e other opened (refused_of s job.schema_id job.path bytes e other refuses))
   one_file_refused s job bytes before e d other more (misread v rows opens follow) (unopened refused) =
-      absurd (opened_not s job.schema_id job.path bytes v d more opens (refused_of s job.schema_id job.path bytes d more refused))
+      absurd (opened_not laws.opening s false job.schema_id job.path bytes v d more opens (refused_of s job.schema_id job.path bytes d more refused))
   one_file_refused s job bytes before e d other more (misread v rows opens follow) (misread w others opened followed) =
       one_end_refusal e d (one_follow s job bytes before v w rows others (Some e) (Some d) opens opened follow followed).1
 

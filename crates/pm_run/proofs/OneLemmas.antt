@@ -206,13 +206,13 @@ module _ (o : Opened) where
 
 -- ---- one file
 
-abbrev OneOpening : Type 0
+abbrev pub OneOpening : Type 0
 OneOpening = (bytes : List ℕ) (r s : Result Reader AvroFault) → Opens bytes r → Opens bytes s → r ≢ Err Memory → s ≢ Err Memory → r ≡ s
 
 abbrev pub OneBlock : Type 0
 OneBlock = (t : Avro) (ds es : List Data) (marker source rest other : List ℕ) → IsBlock t marker ds source rest → IsBlock t marker es source other → (ds ≡ es) × (rest ≡ other)
 
-opened_same : OneOpening → (bytes : List ℕ) (r s : Reader) → Opens bytes (Ok r) → Opens bytes (Ok s) → r ≡ s
+pub opened_same : OneOpening → (bytes : List ℕ) (r s : Reader) → Opens bytes (Ok r) → Opens bytes (Ok s) → r ≡ s
 opened_same one bytes r s a b =
     let same = one bytes (Ok r) (Ok s) a b (λ e. cc) (λ e. cc) in
     cc

@@ -3,7 +3,7 @@ use Rattle.std.proofs.lemmas.Result.{err_from_is_err_and}
 use Rattle.pm_values.specs.declared.refusal.Refusal.TheVariants as refusals
 use Rattle.pm_engine.specs.Covers.{IsRising}
 use Rattle.pm_group_files.specs.Collected.{RefusesFile, misread}
-use Rattle.pm_group_files.proofs.FaultLemmas.{unless_memory}
+use Rattle.pm_run.proofs.FaultLemmas.{memory_or}
 use Rattle.pm_group_files.proofs.RowLemmas.{rising_joined}
 use Rattle.pm_group_files.proofs.collected.with_rows.Goals as goal
 
@@ -19,7 +19,7 @@ pub returns-in_err-append-clause-refuses : goal.returns-in_err-append-clause-ref
 returns-in_err-append-clause-refuses c =
     let p = err_from_is_err_and c.from_residual-in_err-append.result c.from_residual-in_err-append.ensures.1 in
     let may = c.in_err-append.ensures.refuses in
-    rw (p.1, p.2) (elim (unless_memory c.in_err-append.field-0.0 _ may.1)
+    rw (p.1, p.2) (elim (memory_or c.in_err-append.field-0.0 _ may.1)
     as (λ _. (c.in_err-append.field-0.0 ≡ refusals.Memory) ⊎ RefusesFile c.args.schema.now c.args.job.now c.args.bytes c.args.before c.in_err-append.field-0.0) [
       | inl is ↦ inl is
       | inr why ↦ inr (misread c.in_ok-reader.reader may.0 (rw c.as_str.ensures at c.in_ok-reader.ensures.opens) why)
