@@ -8,8 +8,8 @@ use Rattle.pm_scan.specs.Meaning.{IsPassed}
 use Rattle.pm_read_frame.specs.Frames.{AreFramesFrom}
 use Rattle.pm_command_follow.specs.Printed.{count_from, follow_text, table_head, text_so_far}
 
--- The rows were known to be those of the table that is passed on at the snapshot while files stood, and the history that
--- they had goes on as this one.
+-- The rows were known to be those of the table that is passed on at the snapshot while files stood, and the history
+-- that they had goes on as this one.
 pub record IsPassedOf (h : History) (id : ℕ) (rows : List ℕ) : Type 0 where
   pub files : Files
   pub past : Past

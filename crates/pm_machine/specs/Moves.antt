@@ -31,12 +31,13 @@ abbrev pub Keeps : {H : Type 0} → (Files → H → Type 0) → (Files → H �
 Keeps {H} Folder Change knew knows op f =
     (h : H) → Folder f h → knew f h → Changes Change op.call f h × Leads Change knows f h (after_op op f)
 
--- One operation came by this handle, its own, and keeps that on the files as they were up to it, whatever others did. Or
--- none came, and what was known of any files is known of them now.
+-- One operation came by this handle, its own, and keeps that on the files as they were up to it, whatever others did.
+-- Or none came, and what was known of any files is known of them now.
 abbrev pub Moves : {H : Type 0} → (Files → H → Type 0) → (Files → H → Files → H → Type 0) → (Files → H → Type 0) →
     (Files → H → Type 0) → StoreView → StoreView → Type 0
 Moves {H} Folder Change knew knows before after =
-    ((op : Op) × (op.is_own ≡ true) × Steps op (λ ops. Keeps Folder Change knew knows op (files_after ops)) before after)
+    ((op : Op) × (op.is_own ≡ true)
+    × Steps op (λ ops. Keeps Folder Change knew knows op (files_after ops)) before after)
     ⊎ (Meanwhile before after × ((f : Files) (h : H) → Folder f h → knew f h → knows f h))
 
 -- What a machine proves once: that each effect of its next call is a change of some kind, on any files of which what

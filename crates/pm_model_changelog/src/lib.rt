@@ -5,8 +5,8 @@
 //! later snapshot the compaction is published, that is the group's part of the snapshot's change, as long as no more
 //! rows of the group were passed on meanwhile (`log_law`). Where an entry passes nothing of a group on, nothing is told
 //! of it (`quiet_law`), and with the producer of inputs the group's rows of the entry are (`input_law`). The parts of
-//! all groups, merged by key, are the change (`parts_law`). What is passed on of a group at a snapshot are its rows up to
-//! one entry (`passed_law`).
+//! all groups, merged by key, are the change (`parts_law`). What is passed on of a group at a snapshot are its rows up
+//! to one entry (`passed_law`).
 //!
 //! What a compaction tells of a group by the table's producer is `compaction_log`. Which runs these are for each
 //! producer, and that nothing which may come after the base changes the log, follows from what `pm_runs` says of a

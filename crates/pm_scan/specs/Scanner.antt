@@ -63,7 +63,8 @@ IsReady other = ⊥
 -- with this reader of files: it reads on, or all were read, and the text is what their groups print
 abbrev pub AfterFiles : Rows → ℕ → files_phase.Phase → Phase → Type 0
 AfterFiles rows id (readers.Ready c) later =
-    (text : Vec ℕ Global) × PrintsGroups (meaning_of c.schema) (runs_read c.groups) text.items × (later ≡ phases.Ready rows id text)
+    (text : Vec ℕ Global) × PrintsGroups (meaning_of c.schema) (runs_read c.groups) text.items
+    × (later ≡ phases.Ready rows id text)
 AfterFiles rows id m later = later ≡ phases.Files rows id m
 
 -- the files of a view that have the rows

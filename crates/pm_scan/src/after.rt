@@ -140,7 +140,8 @@ fn with_files(alloc: Global, rows: Rows, id: u64, files: GroupReader) -> Result<
 /// The text that the groups print which were read whole.
 fn text_of(alloc: Global, collected: Collected) -> Result<Vec<u8>, Refusal>
     requires { HasEngine collected.schema }
-    ensures prints { IfOk result (λ text. PrintsGroups (meaning_of collected.schema) (runs_read collected.groups) text.items) }
+    ensures prints { IfOk result
+        (λ text. PrintsGroups (meaning_of collected.schema) (runs_read collected.groups) text.items) }
     ensures memory { IfErr result (λ e. e ≡ refusals.Memory) }
 {
     shows_by_kind_law();

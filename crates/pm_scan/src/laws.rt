@@ -110,8 +110,8 @@ pub(crate) fn files_law()
     start_law();
 }
 
-/// What all calls of a scan show of a history that stands at the first of them, where nobody else acts from then on; and
-/// what those after the schema show of a history of its table, whatever was read before.
+/// What all calls of a scan show of a history that stands at the first of them, where nobody else acts from then on;
+/// and what those after the schema show of a history of its table, whatever was read before.
 pub fn all_calls_law()
     ensures scan { (s : TableSchema) (at : Option ℕ) (result : Result (List ℕ) Refusal) (before after : StoreView)
         → IsDeclared s → HasTrace (DidScan s at result) before after → ScansTables s at before after result }

@@ -1,5 +1,5 @@
-//! The command `scan` as a machine: it reads a table at a snapshot, and has the text of its scan, or of that of the rows
-//! which are passed on there (`Rows`).
+//! The command `scan` as a machine: it reads a table at a snapshot, and has the text of its scan, or of that of the
+//! rows which are passed on there (`Rows`).
 //!
 //! A `Scanner` reads the view of a table whose schema was read, by the reader of `pm_read_table`, and then the view's
 //! data files, by the reader of `pm_group_files`, which it holds in its phase. It changes nothing. It takes the runs of
