@@ -13,7 +13,6 @@ use Rattle.pm_values.specs.declared.record.Stamped.{Stamped}
 use Rattle.pm_values.specs.declared.refusal.Refusal.{Refusal}
 use Rattle.pm_values.specs.declared.refusal.Refusal.TheVariants.{Memory}
 use Rattle.pm_schema.specs.declared.schema.TableSchema.{TableSchema}
-use Rattle.pm_engine.specs.Covers.{Run}
 use Rattle.pm_levels.specs.Runs.{IsRun, RunView}
 use Rattle.pm_run.specs.Order.{keys_of}
 use Rattle.pm_run.specs.Writing.{AreRising}

@@ -3,7 +3,7 @@ use Rattle.std.proofs.Common.{◌≡◌, sym, subst}
 use Rattle.pm_store.specs.Store.{StoreView}
 use Rattle.pm_machine.specs.Moves.{IsKept, Moves}
 use Rattle.pm_model_history.specs.History.{IsTableOf}
-use Rattle.pm_model_folder.specs.Ledger.{Past, Stands}
+use Rattle.pm_model_folder.specs.Ledger.{Stands}
 use Rattle.pm_schema.specs.declared.schema.TableSchema.{TableSchema}
 use Rattle.pm_read_schema.specs.Beside.{AnyPast, Learns}
 use Rattle.pm_read_schema.specs.Meaning.{Knows}

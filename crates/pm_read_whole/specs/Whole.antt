@@ -1,7 +1,6 @@
 -- A reader of a whole view: its phases, its calls, and what each answer leads to.
 use Rattle.std.specs.Prelude.{◌≡◌, ◌⊎◌, ℕ, ◌+◌, ◌<◌, ◌≤◌, List, [], Option, None, Some}
 use Rattle.pm_values.specs.declared.refusal.Refusal.{Refusal}
-use Rattle.pm_values.specs.declared.refusal.Refusal.TheVariants as refusals
 use Rattle.pm_store.specs.declared.answer.Answer.{Answer}
 use Rattle.pm_store.specs.declared.call.Call.{Call}
 use Rattle.pm_snapshot.specs.declared.snapshot.Snapshot.{Snapshot}

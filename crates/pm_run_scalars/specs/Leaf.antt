@@ -1,7 +1,6 @@
 -- Values of columns that are read where they lie.
 use Rattle.std.specs.Prelude.{ℕ, List}
 use Rattle.pm_values.specs.Fits.{IsInType}
-use Rattle.pm_values.specs.Order.{Values}
 use Rattle.pm_values.specs.declared.column.ColType.{ColType}
 use Rattle.pm_values.specs.declared.value.Value.{Value}
 use Rattle.pm_avro_data.specs.IsDatum.{IsDatum}

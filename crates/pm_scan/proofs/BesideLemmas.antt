@@ -2,13 +2,12 @@
 use Rattle.std.proofs.Common.{◌≡◌, ℕ, IfOk, Option, Result, Ok, Err, Vec, sym, subst}
 use Rattle.std.specs.Global.{Global}
 use Rattle.pm_values.specs.declared.refusal.Refusal.{Refusal}
-use Rattle.pm_store.specs.Files.{Files}
 use Rattle.pm_store.specs.Store.{StoreView}
 use Rattle.pm_machine.specs.Moves.{IsKept, Moves}
 use Rattle.pm_machine.specs.Trace.{HasTrace}
 use Rattle.pm_schema.specs.declared.schema.TableSchema.{TableSchema}
 use Rattle.pm_model_history.specs.History.{IsTableOf}
-use Rattle.pm_model_folder.specs.Ledger.{Past, Stands}
+use Rattle.pm_model_folder.specs.Ledger.{Stands}
 use Rattle.pm_read_schema.specs.Beside.{Learns}
 use Rattle.pm_read_schema.proofs.BesideFacts.{PastStays, learns-moves, learns-none, learns-weaker}
 use Rattle.pm_read_table.specs.declared.phase.Phase.TheVariants as readers

@@ -22,7 +22,7 @@ use Rattle.pm_model_folder.specs.Paths.{origin_path, snapshot_path}
 use Rattle.pm_read_schema.specs.AllCalls.{HasFiles, Stay}
 use Rattle.pm_read_schema.specs.Trace as schema
 use Rattle.pm_read_schema.specs.declared.phase.Phase.TheVariants as readers
-use Rattle.pm_scan.specs.Asked.{AskedRows, asked_at, passed_at}
+use Rattle.pm_scan.specs.Asked.{AskedRows, asked_at}
 use Rattle.pm_scan.specs.Rows.{rows_at}
 use Rattle.pm_scan.specs.Trace.{HasScan, Shows}
 use Rattle.pm_scan.specs.declared.rows.Rows.{Rows}

@@ -1,4 +1,4 @@
-use Rattle.std.proofs.Common.{List, ℤ, rules, arith, subst, sym, ap, ◌∙◌, SFits, w32, w64, to_z, of_z}
+use Rattle.std.proofs.Common.{ℤ, rules, arith, subst, sym, ap, ◌∙◌, SFits, w32, w64, to_z, of_z}
 use Rattle.std.proofs.lemmas.Int.{to_z-of_z}
 use Rattle.pm_avro_data.specs.Datum.{int}
 use Rattle.pm_run_scalars.specs.Spelled.{IsSpelled}

@@ -1,4 +1,4 @@
-use Rattle.std.proofs.Common.{List, ℤ, rules, arith, subst, sym, SFits, w64}
+use Rattle.std.proofs.Common.{ℤ, rules, arith, subst, sym, SFits, w64}
 use Rattle.std.proofs.lemmas.Int.{to_z-of_z}
 use Rattle.pm_avro_data.specs.Datum.{long}
 use Rattle.pm_run_scalars.specs.Spelled.{IsSpelled}
