@@ -2,14 +2,13 @@
 use Rattle.std.proofs.Common.{◌≡◌, ℕ, ◌≤◌, IfOk, Result, Ok, Err, Vec, sym, subst}
 use Rattle.pm_values.specs.declared.refusal.Refusal.{Refusal}
 use Rattle.std.specs.Global.{Global}
-use Rattle.pm_store.specs.Files.{Files}
 use Rattle.pm_store.specs.Store.{StoreView}
 use Rattle.pm_machine.specs.Moves.{IsKept, Moves}
 use Rattle.pm_machine.specs.Trace.{HasTrace}
 use Rattle.pm_schema.specs.declared.schema.TableSchema.{TableSchema}
 use Rattle.pm_snapshot.specs.Names.{greatest}
 use Rattle.pm_model_history.specs.History.{IsTableOf}
-use Rattle.pm_model_folder.specs.Ledger.{Past, Stands, count_of}
+use Rattle.pm_model_folder.specs.Ledger.{Stands, count_of}
 use Rattle.pm_read_log.specs.Log.{LogAskedView, log_asked_of}
 use Rattle.pm_read_log.specs.declared.log_phase.LogPhase.TheVariants as logs
 use Rattle.pm_read_schema.specs.Beside.{Learns}
