@@ -1,9 +1,8 @@
 -- What each answer to a reader of a frame leads to, but that memory may run out: so the same calls lead to one place, and
 -- show one answer.
-use Rattle.std.proofs.Common.{◌≡◌, ◌≢◌, ◌⊎◌, inl, inr, ℕ, List, [], ◌∷◌, ◌++◌, true, true≢false, Option, None, Some, IsSome, Result, Ok, Err, refl, sym, ap, subst, ◌∙◌, append_assoc, append-nil}
+use Rattle.std.proofs.Common.{◌≡◌, ◌≢◌, ◌⊎◌, inl, inr, ℕ, List, [], ◌∷◌, ◌++◌, true, Option, None, Some, IsSome, Result, Ok, Err, refl, sym, ap, subst, ◌∙◌, append_assoc, append-nil}
 use Rattle.std.specs.List.{AllByRecursion}
 use Rattle.pm_base.proofs.Laws.{AllByRecursion-parts}
-use Rattle.pm_values.specs.Order.{Values}
 use Rattle.pm_values.specs.declared.record.Stamped.{Stamped}
 use Rattle.pm_values.specs.declared.refusal.Refusal.{Refusal}
 use Rattle.pm_values.specs.declared.refusal.Refusal.TheVariants as refusals
@@ -13,14 +12,11 @@ use Rattle.pm_store.specs.declared.call.Call.{Call}
 use Rattle.pm_store.specs.declared.call.Call.TheVariants as calls
 use Rattle.pm_machine.specs.Step.{path_of}
 use Rattle.pm_machine.specs.Trace.{Event, faulted}
-use Rattle.pm_avro_schema.specs.declared.fault.AvroFault.{AvroFault}
-use Rattle.pm_avro_schema.specs.declared.fault.AvroFault.TheVariants as avro_faults
-use Rattle.pm_avro_file.specs.Reader.{Opens, Reader}
-use Rattle.pm_record.specs.File.{OpensFile, ReadsFile, refusal_of}
-use Rattle.pm_run.specs.Form.{form_of}
-use Rattle.pm_run.specs.Kinds.{has_row_fields}
-use Rattle.pm_run.specs.Reader.{IsOfOther, LacksField, OpensRun, RefusesRun, RunView, before_first}
-use Rattle.pm_run.specs.Rows.{Follow, Opened, opened_with}
+use Rattle.pm_record.specs.File.{ReadsFile}
+use Rattle.pm_run.specs.Reader.{OpensRun, RunView}
+use Rattle.pm_run.specs.Rows.{Follow}
+use Rattle.pm_run.proofs.OneLemmas.{OneOpening}
+use Rattle.pm_run.proofs.OpenedLemmas.{OneFollow, one_opened, one_unopened, opened_not, refused_of}
 use Rattle.pm_schema.specs.declared.schema.TableSchema.{TableSchema}
 use Rattle.pm_snapshot.specs.Snapshot.{snapshot_in}
 use Rattle.pm_snapshot.specs.declared.fault.SnapFault.{SnapFault}
@@ -54,9 +50,8 @@ use Rattle.pm_read_frame.proofs.Facts.{log_id}
 pub record OneLaws : Type 0 where
   pub lists : OneList
   pub manifests : OneManifest
-  pub opening : (bytes : List ℕ) (r s : Result Reader AvroFault) → Opens bytes r → Opens bytes s → r ≢ Err avro_faults.Memory → s ≢ Err avro_faults.Memory → r ≡ s
-  pub rows : (o : Opened) (offset : ℕ) (before : Option Values) (rows others : List Stamped) (end other : Option Refusal) → Follow o offset before rows end
-      → Follow o offset before others other → (rows ≡ others) × (end ≡ other)
+  pub opening : OneOpening
+  pub rows : OneFollow
 
 -- ---- where calls lead
 
@@ -154,62 +149,11 @@ module _ (a : LogAskedView) where
 -- ---- they lead to one place
 
 module _ (laws : OneLaws) where
-  ok_reader : (r s : Reader) → ◌≡◌ {A = Result Reader AvroFault} (Ok r) (Ok s) → r ≡ s
-  ok_reader r s is = cc
-
-  ok_or : (r : Reader) (fault : AvroFault) → ◌≢◌ {A = Result Reader AvroFault} (Ok r) (Err fault)
-  ok_or r fault is = cc
-
-  same_fault : (one other : AvroFault) → ◌≡◌ {A = Result Reader AvroFault} (Err one) (Err other) → one ≡ other
-  same_fault one other is = cc
-
-  -- a fault that is no want of memory
-  fault_not : (path : List ℕ) (fault : AvroFault) (e : Refusal) → e ≢ refusals.Memory → e ≡ refusal_of path fault → ◌≢◌ {A = Result Reader AvroFault} (Err fault) (Err avro_faults.Memory)
-  fault_not path fault e other is same = other (is ∙ ap (refusal_of path) (same_fault fault avro_faults.Memory same))
-
-  one_opened : (bytes : List ℕ) (r s : Reader) → Opens bytes (Ok r) → Opens bytes (Ok s) → r ≡ s
-  one_opened bytes r s opens opened = ok_reader r s (laws.opening bytes (Ok r) (Ok s) opens opened (ok_or r avro_faults.Memory) (ok_or s avro_faults.Memory))
-
-  one_reader : (s : TableSchema) (id : ℕ) (path bytes : List ℕ) (v w : RunView) → OpensRun s true id path bytes (Ok v) → OpensRun s true id path bytes (Ok w) → v ≡ w
-  one_reader s id path bytes v w (of_it, r, opens, has, is) (also, t, opened, had, was) =
-      is ∙ ap (λ (r : Reader). before_first (opened_with s true path r)) (one_opened bytes r t opens opened) ∙ sym was
-
-  -- why it isn't opened, but for want of memory
-  abbrev Refused : TableSchema → ℕ → List ℕ → List ℕ → Refusal → Type 0
-  Refused s id path bytes e = IsOfOther s id e ⊎ ((id ≡ s.id) × (OpensFile path bytes (Err e) ⊎ LacksField s path bytes e))
-
-  refused_of : (s : TableSchema) (id : ℕ) (path bytes : List ℕ) (e : Refusal) → e ≢ refusals.Memory → RefusesRun s id path bytes e → Refused s id path bytes e
-  refused_of s id path bytes refusals.Memory other refuses = absurd (other refl)
-  refused_of s id path bytes e other refuses = refuses
-
-  opened_not : (s : TableSchema) (id : ℕ) (path bytes : List ℕ) (v : RunView) (e : Refusal) → e ≢ refusals.Memory → OpensRun s true id path bytes (Ok v)
-      → Refused s id path bytes e → ⊥
-  opened_not s id path bytes v e other (of_it, r, opens, has, is) (inl (foreign, at)) = foreign of_it
-  opened_not s id path bytes v e other (of_it, r, opens, has, is) (inr (own, inl (fault, fails, at))) =
-      ok_or r fault (laws.opening bytes (Ok r) (Err fault) opens fails (ok_or r avro_faults.Memory) (fault_not path fault e other at))
-  opened_not s id path bytes v e other (of_it, r, opens, has, is) (inr (own, inr (t, opened, lacks, at))) =
-      true≢false (sym has ∙ ap (λ (r : Reader). has_row_fields (form_of s) r.kind) (one_opened bytes r t opens opened) ∙ lacks)
-
-  one_unopened : (s : TableSchema) (id : ℕ) (path bytes : List ℕ) (e d : Refusal) → e ≢ refusals.Memory → d ≢ refusals.Memory → Refused s id path bytes e
-      → Refused s id path bytes d → e ≡ d
-  one_unopened s id path bytes e d other more (inl (foreign, is)) (inl (also, was)) = is ∙ sym was
-  one_unopened s id path bytes e d other more (inl (foreign, is)) (inr (own, why)) = absurd (foreign own)
-  one_unopened s id path bytes e d other more (inr (own, why)) (inl (foreign, was)) = absurd (foreign own)
-  one_unopened s id path bytes e d other more (inr (own, inl (fault, fails, is))) (inr (also, inl (cause, failed, was))) =
-      is ∙ ap (refusal_of path) (same_fault fault cause (laws.opening bytes (Err fault) (Err cause) fails failed (fault_not path fault e other is) (fault_not path cause d more was))) ∙ sym was
-  one_unopened s id path bytes e d other more (inr (own, inl (fault, fails, is))) (inr (also, inr (r, opens, lacks, was))) =
-      absurd (ok_or r fault (laws.opening bytes (Ok r) (Err fault) opens fails (ok_or r avro_faults.Memory) (fault_not path fault e other is)))
-  one_unopened s id path bytes e d other more (inr (own, inr (r, opens, lacks, is))) (inr (also, inl (cause, failed, was))) =
-      absurd (ok_or r cause (laws.opening bytes (Ok r) (Err cause) opens failed (ok_or r avro_faults.Memory) (fault_not path cause d more was)))
-  one_unopened s id path bytes e d other more (inr (own, inr (r, opens, lacks, is))) (inr (also, inr (t, opened, lacked, was))) = is ∙ sym was
-
   one_follow : (s : TableSchema) (file : ChangesFile) (bytes : List ℕ) (v w : RunView) (rows others : List Stamped) (end other : Option Refusal)
       → OpensRun s true file.schema_id file.path bytes (Ok v) → OpensRun s true file.schema_id file.path bytes (Ok w)
       → Follow v.opened v.opened.file.first None rows end → Follow w.opened w.opened.file.first None others other → (rows ≡ others) × (end ≡ other)
   one_follow s file bytes v w rows others end other opens opened follow followed =
-      let same = one_reader s file.schema_id file.path bytes w v opened opens in
-      laws.rows v.opened v.opened.file.first None rows others end other follow
-      (subst (λ (v : RunView). Follow v.opened v.opened.file.first None others other) same followed)
+      one_opened laws.opening laws.rows s true file.schema_id file.path bytes None v w rows others end other opens opened follow followed
 
   one_taken : (s : TableSchema) (file : ChangesFile) (bytes text one other : List ℕ) → Takes s file bytes text one → Takes s file bytes text other → one ≡ other
   one_taken s file bytes text one other (rows, (v, opens, follow), is) (others, (w, opened, followed), was) =
@@ -223,18 +167,18 @@ module _ (laws : OneLaws) where
 
   taken_not : (s : TableSchema) (file : ChangesFile) (bytes text new : List ℕ) (e : Refusal) → e ≢ refusals.Memory → Takes s file bytes text new → RefusesFile s file bytes e → ⊥
   taken_not s file bytes text new e other (rows, (v, opens, follow), is) (unopened refuses) =
-      opened_not s file.schema_id file.path bytes v e other opens (refused_of s file.schema_id file.path bytes e other refuses)
+      opened_not laws.opening s true file.schema_id file.path bytes v e other opens (refused_of s file.schema_id file.path bytes e other refuses)
   taken_not s file bytes text new e other (rows, (v, opens, follow), is) (misread w others opened followed) =
       end_not e (one_follow s file bytes v w rows others None (Some e) opens opened follow followed).1
 
   one_refused : (s : TableSchema) (file : ChangesFile) (bytes : List ℕ) (e d : Refusal) → e ≢ refusals.Memory → d ≢ refusals.Memory → RefusesFile s file bytes e
       → RefusesFile s file bytes d → e ≡ d
   one_refused s file bytes e d other more (unopened refuses) (unopened refused) =
-      one_unopened s file.schema_id file.path bytes e d other more (refused_of s file.schema_id file.path bytes e other refuses) (refused_of s file.schema_id file.path bytes d more refused)
+      one_unopened laws.opening s file.schema_id file.path bytes e d other more (refused_of s file.schema_id file.path bytes e other refuses) (refused_of s file.schema_id file.path bytes d more refused)
   one_refused s file bytes e d other more (unopened refuses) (misread w others opened followed) =
-      absurd (opened_not s file.schema_id file.path bytes w e other opened (refused_of s file.schema_id file.path bytes e other refuses))
+      absurd (opened_not laws.opening s true file.schema_id file.path bytes w e other opened (refused_of s file.schema_id file.path bytes e other refuses))
   one_refused s file bytes e d other more (misread v rows opens follow) (unopened refused) =
-      absurd (opened_not s file.schema_id file.path bytes v d more opens (refused_of s file.schema_id file.path bytes d more refused))
+      absurd (opened_not laws.opening s true file.schema_id file.path bytes v d more opens (refused_of s file.schema_id file.path bytes d more refused))
   one_refused s file bytes e d other more (misread v rows opens follow) (misread w others opened followed) =
       one_end_refusal e d (one_follow s file bytes v w rows others (Some e) (Some d) opens opened follow followed).1
 
