@@ -1,23 +1,12 @@
 -- What is known after calls one after another, whatever others do between them.
-use Rattle.std.proofs.Common.{◌≡◌, inl, inr, List, [], ◌∷◌, ◌++◌, true, Option, None, Some, ap, refl, sym, subst, ◌∙◌, append_assoc, append-nil}
+use Rattle.std.proofs.Common.{◌≡◌, inl, inr, List, [], ◌∷◌, ◌++◌, ap, refl, sym, subst, ◌∙◌, append_assoc, append-nil}
 use Rattle.pm_store.specs.declared.call.Op.{Op}
 use Rattle.pm_store.specs.Files.{Files, after_op, files_after}
-use Rattle.pm_store.specs.Store.{AreOthers, Came, EndsWith, StoreView}
+use Rattle.pm_store.specs.Store.{AreOthers, EndsWith, StoreView}
 use Rattle.pm_store.proofs.FileLaws.{files_after-push}
-use Rattle.pm_store.proofs.StepLaws.{Came-joined}
-use Rattle.pm_machine.specs.Beside.{Carries, OneLeads, OthersLead}
+use Rattle.pm_store.proofs.StepLaws.{Came-joined, Came-none, Came-weaker}
+use Rattle.pm_machine.specs.Beside.{Carries, OthersLead}
 use Rattle.pm_machine.specs.Moves.{IsKept, Keeps, Moves}
-
--- where no call came
-came-none : (P : List Op → List Op → Type 0) (known : Option (List Op)) → ((ops : List Op) → P ops []) → Came P known known
-came-none P None none = refl
-came-none P (Some ops) none = ([], ap Some (sym (append-nil ops)), none ops)
-
--- less that is so of what came
-came-weaker : (P Q : List Op → List Op → Type 0) (before after : Option (List Op)) → ((ops more : List Op) → P ops more → Q ops more) → Came P before after
-    → Came Q before after
-came-weaker P Q None after weaker none = none
-came-weaker P Q (Some ops) after weaker (more, is, here) = (more, is, weaker ops more here)
 
 -- What is known of files and of what they stand for, and is known of what others' operations lead to.
 module _ {H : Type 0} (Folder : Files → H → Type 0) (Others : Files → H → Files → H → Type 0) where
@@ -39,7 +28,7 @@ module _ {H : Type 0} (Folder : Files → H → Type 0) (Others : Files → H �
 
   -- no calls
   pub carries-none : (knows : Files → H → Type 0) (store : StoreView) → Carries Folder Others knows knows store store
-  carries-none knows store = came-none (Knowing knows knows) store.ops (λ ops h later folder known leads. (
+  carries-none knows store = Came-none (Knowing knows knows) store.ops (λ ops h later folder known leads. (
       let same : files_after ops ≡ files_after (ops ++ []) = ap files_after (sym (append-nil ops)) in (
         subst (λ (f : Files). Folder f later) same (subst (Folder (files_after ops)) (sym leads) folder),
         subst (λ (f : Files). knows f later) same (subst (knows (files_after ops)) (sym leads) known),
@@ -49,7 +38,7 @@ module _ {H : Type 0} (Folder : Files → H → Type 0) (Others : Files → H �
   pub carries-weaker : (knew had has knows : Files → H → Type 0) (before after : StoreView) → ((f : Files) (h : H) → knew f h → had f h)
       → ((f : Files) (h : H) → Folder f h → has f h → knows f h) → Carries Folder Others had has before after
       → Carries Folder Others knew knows before after
-  carries-weaker knew had has knows before after first last = came-weaker (Knowing had has) (Knowing knew knows) before.ops after.ops (λ ops more here h later folder known leads. (
+  carries-weaker knew had has knows before after first last = Came-weaker (Knowing had has) (Knowing knew knows) before.ops after.ops (λ ops more here h later folder known leads. (
       let found = here h later folder (first (files_after ops) h known) leads in
       (found.0, last (files_after (ops ++ more)) later found.0 found.1)))
 
@@ -86,7 +75,7 @@ module _ {H : Type 0} (Folder : Files → H → Type 0) (Others : Files → H �
     pub carries-moves : (knows : Files → H → Type 0) (before after : StoreView)
         → ((f after : Files) (h later : H) → Folder f h → IsKept f h after later → Folder after later)
         → Moves Folder IsKept knew knows before after → Carries Folder Others knew knows before after
-    carries-moves knows before after stays (inl (op, own, steps)) = came-weaker (EndsWith op (λ ops. Keeps Folder IsKept knew knows op (files_after ops))) (Knowing knew knows) before.ops after.ops
+    carries-moves knows before after stays (inl (op, own, steps)) = Came-weaker (EndsWith op (λ ops. Keeps Folder IsKept knew knows op (files_after ops))) (Knowing knew knows) before.ops after.ops
         (λ ops more ends h later folder known leads. end-of ops more ends h later folder known leads) steps
       where
         end-of : (ops more : List Op) → EndsWith op (λ ops. Keeps Folder IsKept knew knows op (files_after ops)) ops more
@@ -105,7 +94,7 @@ module _ {H : Type 0} (Folder : Files → H → Type 0) (Others : Files → H �
               subst (λ (f : Files). Folder f later) files (subst (Folder (after_op op (files_after (ops ++ others)))) at now),
               subst (λ (f : Files). knows f later) files (subst (knows (after_op op (files_after (ops ++ others)))) at has),
             )
-    carries-moves knows before after stays (inr (meanwhile, same)) = came-weaker (λ ops more. AreOthers more) (Knowing knew knows) before.ops after.ops
+    carries-moves knows before after stays (inr (meanwhile, same)) = Came-weaker (λ ops more. AreOthers more) (Knowing knew knows) before.ops after.ops
         (λ ops more theirs h later folder known leads. (
         let now = others-keep more ops h later theirs leads folder known in
         (now.0, same (files_after (ops ++ more)) later now.0 now.1))) meanwhile

@@ -72,18 +72,18 @@ all_joined P (x ∷ xs) ys (one, all) more = (one, all_joined P xs ys all more)
 -- ---- what came
 
 -- where no call came, nothing need have come
-came_none : (P : List Op → List Op → Type 0) (known : Option (List Op)) → ((ops : List Op) → P ops []) → Came P known known
-came_none P None none = refl
-came_none P (Some ops) none = ([], ap Some (sym (append-nil ops)), none ops)
+pub Came-none : (P : List Op → List Op → Type 0) (known : Option (List Op)) → ((ops : List Op) → P ops []) → Came P known known
+Came-none P None none = refl
+Came-none P (Some ops) none = ([], ap Some (sym (append-nil ops)), none ops)
 
 pub Meanwhile-refl : (store : StoreView) → Meanwhile store store
-Meanwhile-refl store = came_none (λ ops more. AreOthers more) store.ops (λ ops. tt)
+Meanwhile-refl store = Came-none (λ ops more. AreOthers more) store.ops (λ ops. tt)
 
 pub IsLater-refl : (store : StoreView) → IsLater store store
 IsLater-refl store = record { others = omega arith; faults = omega arith }
 
 pub GoesOn-refl : (store : StoreView) → GoesOn store store
-GoesOn-refl store = came_none (λ ops more. Unit {0}) store.ops (λ ops. tt)
+GoesOn-refl store = Came-none (λ ops more. Unit {0}) store.ops (λ ops. tt)
 
 -- what came, where the operations before are known
 pub Came-known : (P : List Op → List Op → Type 0) (before after : StoreView) (ops : List Op) → before.ops ≡ Some ops → Came P before.ops after.ops
@@ -98,13 +98,13 @@ Came-joined P Q R (Some ops) middle after (more, is, here) late joins =
     let rest : Came Q (Some (ops ++ more)) after = subst (λ (known : Option (List Op)). Came Q known after) is late in
     (more ++ rest.0, rest.1 ∙ ap Some (append_assoc ops more rest.0), joins ops more rest.0 here rest.2)
 
-came_weaker : (P Q : List Op → List Op → Type 0) (before after : Option (List Op)) → ((ops more : List Op) → P ops more → Q ops more) → Came P before after
+pub Came-weaker : (P Q : List Op → List Op → Type 0) (before after : Option (List Op)) → ((ops more : List Op) → P ops more → Q ops more) → Came P before after
     → Came Q before after
-came_weaker P Q None after weaker none = none
-came_weaker P Q (Some ops) after weaker (more, is, here) = (more, is, weaker ops more here)
+Came-weaker P Q None after weaker none = none
+Came-weaker P Q (Some ops) after weaker (more, is, here) = (more, is, weaker ops more here)
 
 pub Came-goes_on : (P : List Op → List Op → Type 0) (before after : StoreView) → Came P before.ops after.ops → GoesOn before after
-Came-goes_on P before after = came_weaker P (λ ops more. Unit {0}) before.ops after.ops (λ ops more here. tt)
+Came-goes_on P before after = Came-weaker P (λ ops more. Unit {0}) before.ops after.ops (λ ops more here. tt)
 
 pub GoesOn-trans : (first before after : StoreView) → GoesOn first before → GoesOn before after → GoesOn first after
 GoesOn-trans first before after early late =
@@ -124,7 +124,7 @@ IsLater-trans first before after early late =
 pub Steps-weaker : (op : Op) (P Q : List Op → Type 0) (before after : StoreView) → ((ops : List Op) → P ops → Q ops) →
     Steps op P before after → Steps op Q before after
 Steps-weaker op P Q before after weaker =
-    came_weaker (EndsWith op P) (EndsWith op Q) before.ops after.ops (λ ops more ends. (ends.0, ends.1, ends.2, weaker (ops ++ ends.0) ends.3))
+    Came-weaker (EndsWith op P) (EndsWith op Q) before.ops after.ops (λ ops more ends. (ends.0, ends.1, ends.2, weaker (ops ++ ends.0) ends.3))
 
 -- others' operations, and then what a step says
 pub Steps-after : (op : Op) (P : List Op → Type 0) (first before after : StoreView) → Meanwhile first before → Steps op P before after → Steps op P first after
