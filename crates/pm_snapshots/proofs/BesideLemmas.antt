@@ -1,5 +1,5 @@
 -- What the listing of snapshots makes known, whatever others do.
-use Rattle.std.proofs.Common.{◌≡◌, IfOk, Option, Some, Result, Ok, Err, ap, sym, subst}
+use Rattle.std.proofs.Common.{◌≡◌, IfOk, Some, Result, Ok, Err, ap, sym, subst}
 use Rattle.pm_values.specs.declared.refusal.Refusal.{Refusal}
 use Rattle.pm_store.specs.Files.{Files}
 use Rattle.pm_store.specs.Store.{StoreView}

@@ -35,7 +35,7 @@ use Rattle.pm_read_schema.specs.Meaning as reader_meaning
 use Rattle.pm_read_schema.specs.Reader as reader
 use Rattle.pm_read_schema.specs.Reader.{snapshots_call}
 use Rattle.pm_read_schema.specs.Trace as reader_trace
-use Rattle.pm_read_schema.specs.Trace.{Names, listed_snapshots}
+use Rattle.pm_read_schema.specs.Trace.{listed_snapshots}
 use Rattle.pm_read_schema.specs.declared.phase.Phase as schema_phase
 use Rattle.pm_read_schema.specs.declared.phase.Phase.TheVariants as readers
 use Rattle.pm_read_schema.proofs.Facts as reader_facts
