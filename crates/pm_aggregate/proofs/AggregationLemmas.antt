@@ -1,10 +1,10 @@
 -- Aggregation, column by column: the rows of a key in one column are cells, and a column is worth what its function
 -- makes of them.
 use Rattle.std.proofs.Common.{All, arith, get_or, nat_lt, ◌+◌, ◌≡◌, ◌≢◌, ℕ, zero, suc, List, [], ◌∷◌, ◌++◌, map, Bool, true, false, not, ◌||◌, ◌&&◌, cond, Option, Some, None, IsTrue, refl, sym, ap, subst, ◌∙◌, slice_get, is_some, length}
-use Rattle.std.specs.List.{cons_option, filter_map, find, last_or, list_all, position, position_or_len}
-use Rattle.std.specs.Option.{option_map, option_map_or, unwrap_or}
+use Rattle.std.specs.List.{filter_map, find, last_or, position, position_or_len}
+use Rattle.std.specs.Option.{option_map, unwrap_or}
 use Rattle.std.specs.Ordering.{is_le, is_ge}
-use Rattle.std.proofs.lemmas.List.{length-map, map-append}
+use Rattle.std.proofs.lemmas.List.{length-map}
 use Rattle.std.proofs.lemmas.Bool.Decides.{nat_tests}
 use Rattle.std.proofs.lemmas.Option.{get_or_from_slice_get, slice_get-get_or, slice_get-map}
 use Rattle.std.proofs.lemmas.Slice.Eq.{bytes_eq-Decides}
@@ -14,18 +14,14 @@ use Rattle.pm_options.specs.Pairs.{is_taker}
 use Rattle.pm_options.specs.declared.kinds.EngineKind.TheVariants.{Aggregation}
 use Rattle.pm_options.specs.declared.kinds.Function.{Function}
 use Rattle.pm_options.specs.declared.kinds.Function.TheVariants as names
-use Rattle.pm_schema.specs.Rules.{is_among}
 use Rattle.pm_schema.specs.declared.schema.TableSchema.{TableSchema}
-use Rattle.pm_values.specs.Fits.{Fits, FitsColumn}
+use Rattle.pm_values.specs.Fits.{Fits}
 use Rattle.pm_values.specs.Kind.{retracts}
 use Rattle.pm_values.specs.Order.{Values}
 use Rattle.pm_values.specs.declared.column.Column.{Column}
 use Rattle.pm_values.specs.declared.kind.Kind.{Kind}
 use Rattle.pm_values.specs.declared.kind.Kind.TheVariants.{Insert}
-use Rattle.pm_values.specs.declared.value.Value.{Value}
-use Rattle.pm_values.specs.declared.value.Value.TheVariants.{Null}
-use Rattle.pm_model_history.specs.ColumnValue as worth
-use Rattle.pm_model_history.specs.ColumnValue.{adding, column_value, value_in, aggregate_by, all_value, any_value, counted, delimiter_of, extreme_value, first_value, joined_value, last_left, last_value, non_null, sum_value, summand, text_in, truth_in, value_by, values_at, width_of}
+use Rattle.pm_model_history.specs.ColumnValue.{adding, aggregate_by, all_value, any_value, counted, delimiter_of, extreme_value, first_value, joined_value, last_left, last_value, non_null, sum_value, summand, text_in, truth_in, value_by, values_at, width_of}
 use Rattle.pm_model_history.specs.Merge.{HistoryRow, key_of, value_at}
 use Rattle.pm_model_history.specs.Merged.{shows, shows_by}
 use Rattle.pm_model_history.specs.Taken.{function_of, is_key, refuses_retractions, refused_at, skips_retractions, stores, stores_by, takes_retractions, verdict, verdict_by}
@@ -33,11 +29,11 @@ use Rattle.pm_model_history.specs.declared.verdict.Verdict.TheVariants.{Take, Ig
 use Rattle.pm_engine.specs.Meaning.{AreTaken, IsTaken, SpeaksFor}
 use Rattle.pm_engine.specs.OfSchema as engine
 use Rattle.pm_aggregate.specs.Aggregation.{AreCombined, AreLifted, CanAggregate, Takes}
-use Rattle.pm_aggregate.specs.Column.{AreTakenCells, Cell, IsOfType, IsTakenCell, SpeaksForCells, rows_of}
+use Rattle.pm_aggregate.specs.Column.{AreTakenCells, IsOfType, SpeaksForCells}
 use Rattle.pm_aggregate.specs.ColumnFunction.{function_by, function_on, meaning_of}
 use Rattle.pm_aggregate.specs.Functions.{counting}
 use Rattle.pm_aggregate.specs.declared.column_function.ColumnFunction.{ColumnFunction}
-use Rattle.pm_aggregate.proofs.CellLemmas.{cells-alone, cells-own, cells-worth, cells_at, fits-type, narrow-adding, narrow-counting, narrow-last, narrow-summands, narrow-values, nullable-at, type-fits}
+use Rattle.pm_aggregate.proofs.CellLemmas.{cells-alone, cells-own, cells-worth, cells_at, fits-type, narrow-counting, narrow-last, narrow-summands, narrow-values, nullable-at, type-fits}
 use Rattle.pm_aggregate.proofs.StoredLemmas.{Made, Fits-column, made-speaks, some_last, speaks_both}
 
 -- ---- what a schema's function means
