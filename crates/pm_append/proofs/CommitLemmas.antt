@@ -46,6 +46,7 @@ use Rattle.pm_made.specs.declared.newest.Author.{Author}
 use Rattle.pm_made.specs.declared.newest.Newest.{Newest}
 use Rattle.pm_made.specs.declared.snapshot.ListNames.{ListNames}
 use Rattle.pm_made.proofs.AllowedLemmas.{allowed-of}
+use Rattle.pm_made.proofs.CommitLaws.{CommitLaw}
 use Rattle.pm_made.proofs.CountLemmas.{left-none}
 use Rattle.pm_made.proofs.ListLemmas.{all-weaker, each-of, in-either, in-left, in-map, in-right, map-in, pairs-to}
 use Rattle.pm_made.proofs.ListedLemmas.{changes-within, entries-within, unlisted}
@@ -72,13 +73,6 @@ MadeLaw = (me : Actor) (f after : Files) (s : TableSchema) (entries : List Entry
     → finite.get f (snapshot_path (suc (length entries))) ≡ None → Puts f (snapshot_path (suc (length entries))) (Some t.made.text) after
     → tried.IsAsMade after s (suc (length entries)) t ready.made × NamesOwn me f after s (length entries)
     × (int_lt (fence_at entries (length entries)) (pos t.author.base) ≡ true)
-
-abbrev pub CommitLaw : Type 0
-CommitLaw = (me : Actor) (f after : Files) (s : TableSchema) (entries : List Entry) (e : Entry) (t : tried.Attempt) → (ready : tried.IsReady me f s entries e t)
-    → finite.get f (snapshot_path (suc (length entries))) ≡ None → Puts f (snapshot_path (suc (length entries))) (Some t.made.text) after
-    → (made : tried.IsAsMade after s (suc (length entries)) t ready.made)
-    → ((g : Group) → HasGroup after s (entries ++ e ∷ []) (suc (length entries)) (live_in made.contents) g)
-    → HoldsChange after s (entries ++ e ∷ []) (suc (length entries)) made.contents.changes → IsCommit f after s entries e
 
 pub record Facts : Type 0 where
   pub snapshots : SnapshotFacts

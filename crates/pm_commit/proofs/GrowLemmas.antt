@@ -1,21 +1,21 @@
 -- A group's runs at the snapshot of an append are those of its files, and follow those before.
-use Rattle.std.proofs.Common.{◌≡◌, ℕ, ℤ, zero, suc, List, ◌∷◌, map, length, refl, sym, subst, arith}
+use Rattle.std.proofs.Common.{◌≡◌, ℕ, ℤ, List, ◌∷◌, map, length, refl, subst}
 use Rattle.pm_store.specs.Files.{Files}
 use Rattle.pm_values.specs.declared.group.Group.{Group}
 use Rattle.pm_model_history.specs.History.{Entry, History, append, table}
 use Rattle.pm_model_history.specs.Merge.{HistoryRow}
 use Rattle.pm_schema.specs.declared.schema.TableSchema.{TableSchema}
 use Rattle.pm_model_folder.specs.Changes.{Actor}
-use Rattle.pm_model_folder.specs.Ledger.{HasNamedNone, IsKnown, KnowsPast, KnowsTable, Past, Stands}
+use Rattle.pm_model_folder.specs.Ledger.{HasNamedNone, KnowsPast, KnowsTable, Past, Stands}
 use Rattle.pm_model_folder.specs.Meaning.{HasSnapshotAt}
-use Rattle.pm_model_folder.specs.Runs.{AreInFiles, view_of}
+use Rattle.pm_model_folder.specs.Runs.{view_of}
 use Rattle.pm_model_folder.proofs.HoldLemmas.{Holds, SameContents}
 use Rattle.pm_model_folder.proofs.LedgerFacts.{is-table}
-use Rattle.pm_model_folder.proofs.RunFacts.{hold-held, in-files-same, origin-none, origin-runs}
+use Rattle.pm_model_folder.proofs.RunFacts.{hold-held}
 use Rattle.pm_runs.specs.Succession.{KnownRun, grown, unchanged}
 use Rattle.pm_append.specs.Commit.{Grows, grows, stays}
 use Rattle.pm_commit.proofs.AdvanceLemmas.{GoesWith}
-use Rattle.pm_made.proofs.StandLemmas.{is-known, new-run}
+use Rattle.pm_made.proofs.StandLemmas.{new-run, newest-runs}
 
 module _ (same : SameContents) (me : Actor) (f after : Files) (p : Past) (s : TableSchema) (entries : List Entry) (user : List ℕ) (identifier : ℤ)
     (rows : List HistoryRow) (stands : Stands f p) (was : p.history ≡ table s entries) (none : HasNamedNone me p) (newest : HasSnapshotAt f s (length entries))
@@ -26,33 +26,18 @@ module _ (same : SameContents) (me : Actor) (f after : Files) (p : Past) (s : Ta
   known : KnowsTable f s entries p
   known = subst (λ (h : History). KnowsPast f h p) was stands.past
 
-  -- the runs at the newest snapshot are those of its files
-  old-runs : (g : Group) → AreInFiles f s n g (p.runs n g)
-  old-runs g = at n refl
-    where
-      at : (k : ℕ) → n ≡ k → AreInFiles f s n g (p.runs n g)
-      at zero first =
-          subst (λ (k : ℕ). AreInFiles f s k g (p.runs k g)) (sym first)
-          (origin-runs f s g (p.runs 0 g) (origin-none (p.runs 0 g) (known.runs.stood 0 g
-          (let low = known.runs.since in omega (arith, low, first)) (omega arith)).are))
-      at (suc k) last =
-          let known_n : IsKnown p n = subst (IsKnown p) (sym last)
-          (is-known f p s entries known was k (let low = known.runs.since in omega (arith, low, last)) (omega (arith, last))) in
-          in-files-same same (p.stood n) f s n g (p.runs n g) (λ path needs. (known.kept n known_n).there newest path needs)
-          (known.runs.stood n g known.runs.since (omega arith))
-
   abbrev pub new_runs : (g : Group) → Grows me f after s (length entries) g rows → List KnownRun
   new_runs g (stays none keeps) = p.runs n g
   new_runs g (grows run low last some by has any covers more) = run ∷ p.runs n g
 
   pub goes-with : (g : Group) → (x : Grows me f after s (length entries) g rows) → GoesWith after p s entries (append user identifier rows) g (new_runs g x)
   goes-with g (stays none keeps) =
-      let old = old-runs g in (
+      let old = newest-runs f p s entries known was same newest g in (
         record { are = keeps (map view_of (p.runs n g)) old.are; hold = hold-held f after holds s g (p.runs n g) old.hold },
         unchanged refl refl none,
       )
   goes-with g (grows run low last some by has any covers more) =
-      let old = old-runs g in (
+      let old = newest-runs f p s entries known was same newest g in (
         record { are = more (map view_of (p.runs n g)) old.are; hold = (has, hold-held f after holds s g (p.runs n g) old.hold) },
         grown run refl low last (new-run f p s entries known was me (λ id path. none s id path (is-table p s entries was)) g run some by) any covers,
       )

@@ -32,7 +32,7 @@ use Rattle.pm_model_folder.specs.Folder.{IsEntryAfter, IsRowOf}
 use Rattle.pm_model_folder.specs.Ledger.{HasNamedNone, KnowsTable, Past, Stands, count_of}
 use Rattle.pm_model_folder.specs.Paths.{snapshot_path}
 use Rattle.pm_model_folder.specs.Runs.{view_of}
-use Rattle.pm_model_folder.specs.Stored.{HasFile, HasGroup, HoldChanges, HoldsChange, entries_in}
+use Rattle.pm_model_folder.specs.Stored.{HasFile, HoldChanges, HoldsChange, entries_in}
 use Rattle.pm_model_folder.proofs.Facts.{rows-append}
 use Rattle.pm_model_folder.proofs.HoldLemmas.{Holds, OneContents, SameContents}
 use Rattle.pm_model_folder.proofs.LedgerFacts.{count-is, is-table}
@@ -54,6 +54,7 @@ use Rattle.pm_made.specs.declared.intent.Intent.TheVariants as intents
 use Rattle.pm_made.specs.declared.intent.Plan.{Plan}
 use Rattle.pm_made.specs.declared.newest.Newest.{Newest}
 use Rattle.pm_made.proofs.AllowedLemmas.{allowed-of}
+use Rattle.pm_made.proofs.CommitLaws.{CommitLaw}
 use Rattle.pm_made.proofs.ListLemmas.{all-of, all-weaker, each-of, in-map, map-in, none-found}
 use Rattle.pm_made.proofs.ListedLemmas.{unlisted}
 use Rattle.pm_made.proofs.OldLemmas.{puts-holds}
@@ -81,11 +82,7 @@ pub record Facts : Type 0 where
   pub goes_on : SuccessionGoesOn
   pub change : ChangeFacts
   pub log : LogFacts
-  pub commit : (me : Actor) (f after : Files) (s : TableSchema) (entries : List Entry) (e : Entry) (t : Attempt) → (ready : IsReady me f s entries e t)
-      → finite.get f (snapshot_path (suc (length entries))) ≡ None → Puts f (snapshot_path (suc (length entries))) (Some t.made.text) after
-      → (made : IsAsMade after s (suc (length entries)) t ready.made)
-      → ((g : Group) → HasGroup after s (entries ++ e ∷ []) (suc (length entries)) (live_in made.contents) g)
-      → HoldsChange after s (entries ++ e ∷ []) (suc (length entries)) made.contents.changes → IsCommit f after s entries e
+  pub commit : CommitLaw
 
 -- ---- the base list
 

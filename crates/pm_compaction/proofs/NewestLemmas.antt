@@ -20,11 +20,10 @@ use Rattle.pm_model_folder.specs.Runs.{AreInFiles, view_of}
 use Rattle.pm_model_folder.specs.Stored.{AreNumberedApart, HasGroup}
 use Rattle.pm_model_folder.proofs.HoldLemmas.{OneContents, SameContents, one-commit}
 use Rattle.pm_model_folder.proofs.LedgerFacts.{count-is}
-use Rattle.pm_model_folder.proofs.RunFacts.{in-files-same}
 use Rattle.pm_made.specs.Commit.{IsFoundAs, IsNewestOf}
 use Rattle.pm_made.specs.Snapshot.{appends_of}
 use Rattle.pm_made.specs.declared.newest.Newest.{Newest}
-use Rattle.pm_made.proofs.StandLemmas.{OneRuns, numbered-too}
+use Rattle.pm_made.proofs.StandLemmas.{OneRuns, newest-runs, numbered-too}
 use Rattle.pm_compaction.proofs.BaseLemmas.{RunsThere, runs-there}
 
 module _ (one : OneContents) (same : SameContents) (one_runs : OneRuns) (f : Files) (p : Past) (s : TableSchema) (entries : List Entry) (newest : Newest)
@@ -82,8 +81,7 @@ module _ (one : OneContents) (same : SameContents) (one_runs : OneRuns) (f : Fil
 
   -- the runs there are those of its files
   pub old-runs : (g : Group) → AreInFiles f s (length entries) g (p.runs (length entries) g)
-  old-runs g = in-files-same same (p.stood k) f s k g (p.runs k g) (λ path needs. (known.kept k known-newest).there there path needs)
-      (known.runs.stood k g known.runs.since (omega arith))
+  old-runs = newest-runs f p s entries known was same there
 
   pub own-runs : (g : Group) → AreRunsOf (live_in found.contents) g (map view_of (p.runs (length entries) g))
   own-runs g =

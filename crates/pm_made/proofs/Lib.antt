@@ -1,5 +1,6 @@
 pub mod AllowedLemmas
 mod AsMadeLemmas
+pub mod CommitLaws
 mod CommitLemmas
 pub mod CountLemmas
 pub mod CountedLemmas

@@ -19,10 +19,12 @@ use Rattle.pm_runs.specs.Succession.{AreKnownAt, Follows, IsNew, IsSuccession, K
 use Rattle.pm_model_folder.specs.Changes.{Actor, IsNamedBy}
 use Rattle.pm_model_folder.specs.Commits.{Names}
 use Rattle.pm_model_folder.specs.Ledger.{IsKnown, KnowsTable, Past}
-use Rattle.pm_model_folder.specs.Runs.{view_of}
+use Rattle.pm_model_folder.specs.Meaning.{HasSnapshotAt}
+use Rattle.pm_model_folder.specs.Runs.{AreInFiles, view_of}
 use Rattle.pm_model_folder.specs.Stored.{AreNumberedApart, HasGroup, HasRun}
+use Rattle.pm_model_folder.proofs.HoldLemmas.{SameContents}
 use Rattle.pm_model_folder.proofs.LedgerFacts.{count-is}
-use Rattle.pm_model_folder.proofs.RunFacts.{file-named, in-none, origin-none}
+use Rattle.pm_model_folder.proofs.RunFacts.{file-named, in-files-same, in-none, origin-none, origin-runs}
 
 -- a succession goes on by what follows
 abbrev pub SuccessionGoesOn : Type 0
@@ -97,15 +99,30 @@ same-runs live after g runs same are = record {
   disjoint = are.disjoint;
 }
 
--- ---- a new run
+-- ---- the newest runs, and a new one
 
 module _ (f : Files) (p : Past) (s : TableSchema) (entries : List Entry) (known : KnowsTable f s entries p) (was : p.history ≡ table s entries) where
-  pub is-known : (k : ℕ) → p.since ≤ suc k → suc k ≤ length entries → IsKnown p (suc k)
+  is-known : (k : ℕ) → p.since ≤ suc k → suc k ≤ length entries → IsKnown p (suc k)
   is-known k low high = record {
     after_origin = omega arith;
     from = known.runs.from (suc k) (omega arith) low;
     to = (let many = count-is p s entries was in omega (arith, high, many));
   }
+
+  -- the runs at the newest snapshot are those of its files
+  pub newest-runs : SameContents → HasSnapshotAt f s (length entries) → (g : Group) → AreInFiles f s (length entries) g (p.runs (length entries) g)
+  newest-runs same newest g = at (length entries) refl
+    where
+      at : (k : ℕ) → length entries ≡ k → AreInFiles f s (length entries) g (p.runs (length entries) g)
+      at zero first =
+          subst (λ (k : ℕ). AreInFiles f s k g (p.runs k g)) (sym first)
+          (origin-runs f s g (p.runs 0 g) (origin-none (p.runs 0 g) (known.runs.stood 0 g
+          (let low = known.runs.since in omega (arith, low, first)) (omega arith)).are))
+      at (suc k) last =
+          let known_n : IsKnown p (length entries) = subst (IsKnown p) (sym last)
+          (is-known k (let low = known.runs.since in omega (arith, low, last)) (omega (arith, last))) in
+          in-files-same same (p.stood (length entries)) f s (length entries) g (p.runs (length entries) g)
+          (λ path needs. (known.kept (length entries) known_n).there newest path needs) (known.runs.stood (length entries) g known.runs.since (omega arith))
 
   -- a run of files that an actor named, of which no snapshot names one, is new
   pub new-run : (me : Actor) → ((id : ℕ) (path : List ℕ) → IsKnown p id → Names (p.stood id) s id path → IsNamedBy me path → ⊥) → (g : Group) (run : KnownRun)
