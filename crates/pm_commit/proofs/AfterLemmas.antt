@@ -1,5 +1,5 @@
 -- What follows the answers to a committer's calls.
-use Rattle.std.proofs.Common.{◌≡◌, inl, inr, ◌+◌, length, None, Ok, Err, IfOk, IfErr, ap, ◌∙◌, subst}
+use Rattle.std.proofs.Common.{◌≡◌, inl, ◌+◌, length, None, Ok, Err, IfOk, IfErr, ap, ◌∙◌, subst}
 use Rattle.pm_values.specs.declared.refusal.Refusal.TheVariants as refusals
 use Rattle.pm_store.specs.declared.answer.Answer.{Answer}
 use Rattle.pm_schema.specs.declared.schema.TableSchema.{TableSchema}
@@ -8,7 +8,7 @@ use Rattle.pm_read_table.specs.declared.phase.Phase as view_phase
 use Rattle.pm_made.specs.Files.{IsMadeOf}
 use Rattle.pm_made.specs.Refusals.{refusal_of}
 use Rattle.pm_made.specs.declared.newest.Made.{Made}
-use Rattle.pm_commit.specs.Committer.{After, AfterReader, AfterView, Goes, IsCommitter, IsViewing, Makes, Outcome, Reads, publishing_of}
+use Rattle.pm_commit.specs.Committer.{After, Goes, IsCommitter, IsViewing, Makes, Outcome, Reads, publishing_of}
 use Rattle.pm_commit.specs.Own.{IsOwn, OwnView, with_named}
 use Rattle.pm_commit.specs.declared.found.Found.{Found}
 use Rattle.pm_put.specs.Putter.{create_next as put_next}
@@ -31,11 +31,6 @@ makes-put own next found made (Err refusal) is_made allowed named is memory = in
 pub still-reads : EntriesRead → (own : OwnView) (m : view_phase.Phase) (answer : Answer) (new : view_phase.Phase) → IsViewing own m → reader.Goes m answer new
     → (s : TableSchema) × Reads new s × IsOwn s own
 still-reads law own m answer new (left, (s, reads, own_of), may) goes = (s, (reads-on law s m answer new reads goes).reads, own_of)
-
-pub view-on : (own : OwnView) (m new : view_phase.Phase) (answer : Answer) (outcome : Outcome) → reader.Goes m answer new → AfterReader own new outcome
-    → AfterView own m answer outcome
-view-on own m new answer (Ok later) goes after = (new, goes, after)
-view-on own m new answer (Err refusal) goes after = inr (new, goes, after)
 
 -- a phase that it goes on with is a committer's
 pub ok-committer : ((m : Phase) (answer : Answer) (later : Phase) → IsCommitter m → Goes m answer later → IsCommitter later) → (m own : Phase) (answer : Answer) (outcome : Outcome)

@@ -1,5 +1,5 @@
 -- The snapshot that a committer has committed where nobody else acts, as the files have it.
-use Rattle.std.proofs.Common.{◌≡◌, inl, inr, ℕ, zero, suc, ◌+◌, ◌≤◌, Bool, true, false, List, [], ◌∷◌, ◌++◌, length, length-append, Contains, IsSome}
+use Rattle.std.proofs.Common.{◌≡◌, inl, inr, ℕ, ◌+◌, Bool, true, false, List, [], ◌∷◌, ◌++◌, length, length-append, Contains}
 use Rattle.std.proofs.Common.{refl, sym, ap, ◌∙◌, subst, arith}
 use Rattle.std.specs.FinMap as map
 use Rattle.std.proofs.lemmas.List.Elements.{Contains-append_left, Contains-append_right}
@@ -147,10 +147,6 @@ table-before s e (table t es) is = is
 count-more : (s : TableSchema) (e : Entry) (h : History) → IsTableOf s h → count_of (with_entry e h) ≡ count_of h + 1
 count-more s e no_table is = absurd is
 count-more s e (table t es) is = length-append es (e ∷ [])
-
-snapshot-there : (f : Files) (s : TableSchema) (id : ℕ) → 1 ≤ id → HasSnapshotAt f s id → IsSome (map.get f (snapshot_path id))
-snapshot-there f s zero least there = absurd (omega (arith, least))
-snapshot-there f s (suc k) least there = there
 
 module _ (same : SameContents) (live_law : LiveEntries) (b : Beginning) (f : Files) (p : Past) (stands : Stands f p) (so : StoodSo b p)
     (now : p.history ≡ with_entry b.entry b.history) (id : ℕ) (next : id ≡ newest_id b + 1) (has : HasCommitted (begun_at b).author b.entry id p) where
