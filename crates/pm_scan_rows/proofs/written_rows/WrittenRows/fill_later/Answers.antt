@@ -1,5 +1,4 @@
 use Rattle.std.proofs.Common.{◌≡◌, ◌∷◌, ◌++◌, None, refl, sym, ap, subst, ◌∙◌, rules}
-use Rattle.pm_run.specs.Form.{Form}
 use Rattle.pm_run_bytes.specs.Lying.{GivesFirst}
 use Rattle.pm_run_bytes.proofs.PlaceLemmas.{none_has_content}
 use Rattle.pm_scan_rows.specs.Stored.{all_of, left_in}
