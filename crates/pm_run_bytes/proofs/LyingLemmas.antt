@@ -18,7 +18,6 @@ use Rattle.pm_run.specs.Form.{Form}
 use Rattle.pm_run.specs.Kinds.{run_type}
 use Rattle.pm_run.specs.Row.{row_data, row_in}
 use Rattle.pm_run_bytes.specs.declared.direct.Direct.{Direct}
-use Rattle.pm_avro_data.specs.Adding.{Adds}
 use Rattle.pm_avro_data.specs.Writing.{encoding}
 use Rattle.pm_run_bytes.specs.Direct.{HasContent, IsRow, IsWritten, IsWrittenRow}
 use Rattle.pm_run_bytes.specs.Lying.{IsContentOf}

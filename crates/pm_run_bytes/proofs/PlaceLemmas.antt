@@ -1,5 +1,5 @@
 -- Places for rows whose bytes may be known.
-use Rattle.std.proofs.Common.{◌≡◌, ◌≤◌, ℕ, List, Option, None, Some, option_map, max, refl, sym, subst, arith}
+use Rattle.std.proofs.Common.{◌≡◌, ◌≤◌, ℕ, List, Option, None, Some, option_map, max, sym, subst, arith}
 use Rattle.std.specs.Borrow.{Bor}
 use Rattle.pm_values.specs.declared.record.Stamped.{Stamped}
 use Rattle.pm_row_slots.specs.Slot.{number_of}
