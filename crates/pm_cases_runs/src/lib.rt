@@ -1,5 +1,5 @@
-//! Cases of files of rows, of changelogs, and of runs that are merged, rewritten or looked in, which `pm_cases_codecs` answers: what
-//! a line of it says of them stands in the head of that program.
+//! Cases of files of rows, of changelogs, and of runs that are merged, rewritten or looked in, which `pm_cases_codecs`
+//! answers: what a line of it says of them stands in the head of that program.
 #![tactic(auto)]
 
 mod long_merge;

@@ -204,12 +204,13 @@ pub fn rewrite_runs(
 }
 
 /// The same of a table that keeps last rows.
-#[tactic(auto, using(crate::proofs::RunLemmas::given_for, crate::proofs::RunLemmas::rising_sources, crate::proofs::RunLemmas::serves_last))]
+#[tactic(auto, using(crate::proofs::RunLemmas::given_for, crate::proofs::RunLemmas::rising_sources))]
 fn rewrite_by_last(alloc: Global, table: Table, runs: &[StoredRun]) -> Result<Vec<RunFile>, Refusal>
     requires rising { All IsRising runs.now }
     requires engine { table.schema.now.options.engine ≡ engines.Deduplicate }
 {
     drops_by_kind_law();
+    #[tactic(auto, using(crate::proofs::RunLemmas::serves_last))]
     let engine = TableEngine::of_schema(alloc, table.schema)?;
     let form = TableForm::of(alloc, table.schema)?;
     let older_first = written_sources(alloc, runs, &form)?;

@@ -27,7 +27,8 @@ pub struct FileRows<'b> {
     left: usize,
     /// The offset of the next block.
     next: usize,
-    ghost known: { KnownRows direct.now bytes.now form.now changes rest.now left next } by { one_known (Prim.hlevel codes) direct.now bytes.now form.now changes rest.now left next },
+    ghost known: { KnownRows direct.now bytes.now form.now changes rest.now left next } by { one_known
+        (Prim.hlevel codes) direct.now bytes.now form.now changes rest.now left next },
 }
 
 impl<'b> FileRows<'b> {
