@@ -1,6 +1,7 @@
 mod BesideLemmas
 mod CompleteLemmas
 mod FinishedLemmas
+mod FitLemmas
 mod HistoryLemmas
 pub mod JoinLemmas
 mod KnownLemmas

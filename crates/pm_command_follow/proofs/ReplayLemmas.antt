@@ -1,5 +1,6 @@
 -- The rows of printed frames, replayed.
-use Rattle.std.proofs.Common.{◌≡◌, ◌≢◌, ◌↔◌, ℕ, zero, suc, ◌+◌, ◌-◌, ◌≤◌, ◌&&◌, not, Bool, true, false, List, [], ◌∷◌, ◌++◌, length, map, codes, Option, None, Some, option_map, Ok, refl, sym, ap, subst, cond, eqb, ◌∙◌, append_assoc, arith}
+use Rattle.std.proofs.Common.{◌≡◌, ◌≢◌, ◌↔◌, ℕ, zero, suc, ◌+◌, ◌-◌, ◌≤◌, ◌&&◌, not, Bool, true, false, List, [], ◌∷◌, ◌++◌, length, map, codes, Option, None, Some, option_map, Ok, IsTrue, IsUtf8, refl, sym, ap, subst, cond, eqb, ◌∙◌, append_assoc, arith}
+use Rattle.std.specs.FinMap.{get}
 use Rattle.std.specs.List.{AllByRecursion, filter, flat_map, range_with_len}
 use Rattle.std.specs.Ordering.{eq_by_cmp}
 use Rattle.std.proofs.lemmas.List.{append_cancel_left}
@@ -10,13 +11,15 @@ use Rattle.pm_values.specs.Fits.{Fits}
 use Rattle.pm_values.specs.Order.{Values, key_cmp}
 use Rattle.pm_values.specs.declared.column.Column.{Column}
 use Rattle.pm_values.specs.declared.kind.Kind.{Kind}
-use Rattle.pm_model_history.specs.Merged.{primary_of}
+use Rattle.pm_model_history.specs.ColumnValue.{delimiter_of}
+use Rattle.pm_model_history.specs.Merged.{merged, merged_row, primary_of}
 use Rattle.std.specs.Option.{option_or}
 use Rattle.pm_options.specs.Faults.{refused}
 use Rattle.pm_options.specs.Kinds.{producer_text}
 use Rattle.pm_options.specs.Pairs.{is_engine, is_producer, pair_fault, where_true}
 use Rattle.pm_options.specs.declared.kinds.EngineKind.{EngineKind}
 use Rattle.pm_options.specs.declared.kinds.EngineKind.TheVariants as engines
+use Rattle.pm_options.specs.declared.kinds.Function.TheVariants as functions
 use Rattle.pm_options.specs.declared.kinds.Producer.{Producer}
 use Rattle.pm_options.specs.declared.kinds.Producer.TheVariants as producers
 use Rattle.pm_options.specs.declared.options.Options.{Options}
@@ -24,15 +27,18 @@ use Rattle.pm_values.specs.declared.refusal.Refusal.{Refusal}
 use Rattle.pm_schema.specs.Again.{IsDeclared}
 use Rattle.pm_schema.specs.Meaning.{SchemaOf}
 use Rattle.pm_schema.specs.Reading.{schema_of}
+use Rattle.pm_schema.specs.Rules.{nulls_hold_by}
 use Rattle.pm_schema.specs.declared.schema.TableSchema.{TableSchema}
 use Rattle.pm_store.specs.Files.{Files}
 use Rattle.pm_model_history.specs.History.{Entry, entry_rows}
 use Rattle.pm_model_history.specs.Merge.{AllFit, HistoryRow, key_of, rows_of}
-use Rattle.pm_model_following.specs.Following.{NumberedRow, change, change_by, followed, frame, frame_head, keys_in, numbered_from, replay, rows_at}
+use Rattle.pm_model_history.specs.Taken.{function_of}
+use Rattle.pm_model_following.specs.Following.{NumberedRow, change, change_by, followed, frame, frame_head, is_passed, keys_in, leaves_out_equal, newly_passed, numbered_from, passed_rows, replay, rows_at, told_at}
 use Rattle.pm_model_folder.specs.Folder.{HasTable, IsRowOf}
 use Rattle.pm_model_folder.specs.Paths.{schema_path}
 use Rattle.pm_command_follow.specs.Follow.{MayStartAt, TellsChanges}
-use Rattle.pm_command_follow.specs.Printed.{LeadFrom, LeadOn, count_from, follow_text, frames_of, frames_text, rows_in, start_of, starting_text, text_so_far}
+use Rattle.pm_command_follow.specs.Printed.{DelimitersAreTexts, LeadFrom, LeadOn, count_from, follow_text, frames_of, frames_text, rows_in, start_of, starting_text, text_so_far}
+use Rattle.pm_command_follow.proofs.FitLemmas.{MayFit, changes_fit, merged_fits}
 use Rattle.pm_command_follow.proofs.TextLemmas.{frames_split}
 
 -- ---- the engine of a table that tells its inputs
@@ -109,18 +115,30 @@ fit_numbered columns p k (entry ∷ es) all =
     let parts = AllByRecursion-parts (λ (r : HistoryRow). Fits columns r.1) (entry_rows entry) (flat_map entry_rows es) all in
     fit_one_numbered columns p k (entry_rows entry) (numbered_from (k + 1) es) parts.0 (fit_numbered columns p (k + 1) es parts.1)
 
-fit_change : (s : TableSchema) (es : List Entry) (n : ℕ) → s.options.producer ≡ producers.Input → AllFit s.columns (flat_map entry_rows es)
-    → AllFit s.columns (change s es n)
-fit_change s es n input all =
-    subst (λ (p : Producer). AllFit s.columns (change_by p s es n)) (sym input)
-    (fit_by_key s (rows_at es n) (keys_in s (rows_at es n)) (fit_numbered s.columns (λ (r : NumberedRow). eqb r.0 n) 1 es all))
+-- what the law of merged tables says
+abbrev MergedLaw : Type 0
+MergedLaw = (s : TableSchema) (rows : List HistoryRow) (key : Values) → get (merged s rows) key ≡ merged_row s rows key
 
-fit_changes : (s : TableSchema) (es : List Entry) (ids : List ℕ) → s.options.producer ≡ producers.Input → AllFit s.columns (flat_map entry_rows es)
-    → AllFit s.columns (rows_in (map (change s es) ids))
-fit_changes s es [] input all = tt
-fit_changes s es (id ∷ ids) input all =
-    AllByRecursion-append (λ (r : HistoryRow). Fits s.columns r.1) (change s es id) (rows_in (map (change s es) ids)) (fit_change s es id input all)
-    (fit_changes s es ids input all)
+module _ (merges : MergedLaw) (s : TableSchema) (can : IsTrue (nulls_hold_by s.options.engine s)) (es : List Entry) (all : AllFit s.columns (flat_map entry_rows es)) where
+  fit_followed : (s.options.engine ≡ engines.Aggregation → (c : Column) → function_of s c ≡ functions.ListAgg → IsUtf8 (delimiter_of s c)) → (n : ℕ) (key : Values) → MayFit s.columns (get (followed s es n) key)
+  fit_followed fine n key = merged_fits s can fine (merges s) (passed_rows s es n) key (fit_numbered s.columns (is_passed s es n) 1 es all)
+
+  fit_told : (s.options.engine ≡ engines.Aggregation → (c : Column) → function_of s c ≡ functions.ListAgg → IsUtf8 (delimiter_of s c)) → (n : ℕ)
+      → AllFit s.columns (flat_map (told_at s es n) (keys_in s (newly_passed s es n)))
+  fit_told fine n =
+      changes_fit s (leaves_out_equal s s.options.engine) (λ key. get (followed s es (n - 1)) key) (λ key. get (followed s es n) key)
+      (λ key. fit_followed fine (n - 1) key) (λ key. fit_followed fine n key) (keys_in s (newly_passed s es n))
+
+  fit_by : (p : Producer) (n : ℕ) → (p ≢ producers.Input → s.options.engine ≡ engines.Aggregation → (c : Column) → function_of s c ≡ functions.ListAgg → IsUtf8 (delimiter_of s c)) → AllFit s.columns (change_by p s es n)
+  fit_by producers.None n fine = tt
+  fit_by producers.Input n fine = fit_by_key s (rows_at es n) (keys_in s (rows_at es n)) (fit_numbered s.columns (λ (r : NumberedRow). eqb r.0 n) 1 es all)
+  fit_by producers.Lookup n fine = fit_told (fine (λ is. cc)) n
+  fit_by producers.FullCompaction n fine = fit_told (fine (λ is. cc)) n
+
+  fit_changes : DelimitersAreTexts s → (ids : List ℕ) → AllFit s.columns (rows_in (map (change s es) ids))
+  fit_changes fine [] = tt
+  fit_changes fine (id ∷ ids) =
+      AllByRecursion-append (λ (r : HistoryRow). Fits s.columns r.1) (change s es id) (rows_in (map (change s es) ids)) (fit_by s.options.producer id fine) (fit_changes fine ids)
 
 -- ---- frames that are read by the schema
 
@@ -214,9 +232,9 @@ ReadLaw = (path text : List ℕ) (s : TableSchema) → (schema_of path text ≡ 
 abbrev DeclaredLaw : Type 0
 DeclaredLaw = (path text : List ℕ) (s : TableSchema) → SchemaOf path text s → IsDeclared s
 
-pub leads_on : RowLaws → FramesLaw → ReadLaw → DeclaredLaw → (f : Files) (s : TableSchema) (es : List Entry) (start last : ℕ) → HasTable f s es → TellsChanges s → 1 ≤ start → start ≤ suc last
+pub leads_on : RowLaws → MergedLaw → FramesLaw → ReadLaw → DeclaredLaw → (f : Files) (s : TableSchema) (es : List Entry) (start last : ℕ) → HasTable f s es → TellsChanges s → 1 ≤ start → start ≤ suc last
     → LeadOn s es start last (frames_text s es start (count_from start last))
-leads_on lines law read declares f s es start last stands tells low high =
+leads_on lines merges law read declares f s es start last stands tells low high =
     let first = stands.schema.first in
     let declared = declares (schema_path 0) first.0 s ((read (schema_path 0) first.0 s).0 first.2) in
     let count = count_from start last in
@@ -224,8 +242,9 @@ leads_on lines law read declares f s es start last stands tells low high =
     let end : (start - 1) + (suc last - start) ≡ last = omega (arith, low, high) in
     let all : AllFit s.columns (flat_map entry_rows es) = rows_fit s (flat_map entry_rows es) stands.history.rows in
     let replayed = law s es (start - 1) count tells (engine_is s.options declared.options.pairs) all in
-    let fits : s.options.producer ≡ producers.Input → AllFit s.columns (rows_in (changes_in s es start count)) =
-    λ input. fit_changes s es (range_with_len start count) input all in
+    let can : IsTrue (nulls_hold_by s.options.engine s) = declared.rules.1.1.1.1.1.1.1.0 in
+    let fits : DelimitersAreTexts s → AllFit s.columns (rows_in (changes_in s es start count)) =
+    λ fine. fit_changes merges s can es all fine (range_with_len start count) in
     record {
       changes = changes_in s es start count;
       frames = frames_are s es start count;
@@ -250,19 +269,19 @@ first_frames s es start last newest within =
     let more : (suc last - start) + ((suc newest - start) - (suc last - start)) ≡ suc newest - start = omega (arith, within) in
     ap (frames_text s es start) (sym more) ∙ frames_split s es start (count_from start last) (count_from start newest - count_from start last)
 
-pub leads_from : RowLaws → FramesLaw → ReadLaw → DeclaredLaw → (f : Files) (s : TableSchema) (es : List Entry) (from : Option ℕ) (full : Bool) → HasTable f s es
+pub leads_from : RowLaws → MergedLaw → FramesLaw → ReadLaw → DeclaredLaw → (f : Files) (s : TableSchema) (es : List Entry) (from : Option ℕ) (full : Bool) → HasTable f s es
     → MayStartAt s es from → 1 ≤ start_of from (length es) → LeadFrom s es from full (follow_text s es from full)
-leads_from lines law read declares f s es from full stands (tells, high) low =
+leads_from lines merges law read declares f s es from full stands (tells, high) low =
     let start = start_of from (length es) in
     let newest = length es in
     record {
       frames = frames_text s es start (count_from start newest);
       parts = in_parts s es full start (count_from start newest);
-      lead = leads_on lines law read declares f s es start newest stands tells low high;
+      lead = leads_on lines merges law read declares f s es start newest stands tells low high;
       each = λ last after within. (
         frames_text s es start (count_from start last),
         frames_text s es (start + count_from start last) (count_from start newest - count_from start last),
         first_frames s es start last newest within,
-        leads_on lines law read declares f s es start last stands tells low after,
+        leads_on lines merges law read declares f s es start last stands tells low after,
       );
     }

@@ -1,15 +1,20 @@
 -- What `follow` prints of a table.
-use Rattle.std.specs.Prelude.{◌≡◌, ℕ, suc, ◌+◌, ◌-◌, ◌≤◌, List, [], ◌∷◌, ◌++◌, codes, length, Bool, true, false}
-use Rattle.std.specs.Prelude.{Option, None, Some}
+use Rattle.std.specs.Prelude.{◌≡◌, ◌≢◌, ℕ, suc, ◌+◌, ◌-◌, ◌≤◌, List, [], ◌∷◌, ◌++◌, codes, length, Bool, true, false}
+use Rattle.std.specs.Prelude.{Option, None, Some, IsUtf8}
 use Rattle.std.specs.Fmt.{decimal}
 use Rattle.std.specs.List.{flat_map, range_with_len}
 use Rattle.pm_base.specs.Newline.{line}
+use Rattle.pm_options.specs.declared.kinds.EngineKind.TheVariants.{Aggregation}
+use Rattle.pm_options.specs.declared.kinds.Function.TheVariants.{ListAgg}
 use Rattle.pm_options.specs.declared.kinds.Producer.TheVariants.{Input}
 use Rattle.pm_rows.specs.RowText.{row_text}
 use Rattle.pm_model_following.specs.Following.{followed, frame, frame_head, replay, table_text}
+use Rattle.pm_model_history.specs.ColumnValue.{delimiter_of}
 use Rattle.pm_model_history.specs.History.{Entry}
 use Rattle.pm_model_history.specs.Merge.{AllFit, HistoryRow}
+use Rattle.pm_model_history.specs.Taken.{function_of}
 use Rattle.pm_schema.specs.declared.schema.TableSchema.{TableSchema}
+use Rattle.pm_values.specs.declared.column.Column.{Column}
 
 -- the snapshot of the first frame: the one that is asked for, or the one after the latest
 abbrev pub start_of : Option ℕ → ℕ → ℕ
@@ -57,14 +62,21 @@ frames_of id (rows ∷ more) = frame_of id rows ++ frames_of (id + 1) more
 abbrev pub rows_in : List (List HistoryRow) → List HistoryRow
 rows_in changes = flat_map (λ rows. rows) changes
 
+-- Where rows are told that aggregation made, the delimiter of each column that joins texts is UTF-8; nothing is asked
+-- of other engines, of other functions and of the producer of inputs.
+abbrev pub DelimitersAreTexts : TableSchema → Type 0
+DelimitersAreTexts s =
+    s.options.producer ≢ Input → s.options.engine ≡ Aggregation
+    → (c : Column) → function_of s c ≡ ListAgg → IsUtf8 (delimiter_of s c)
+
 -- What was printed of frames is these, and their rows, replayed in order on the table that was followed before them,
--- give the one that is followed at the last. Where the rows fit the schema, as they do with the producer of inputs, no
+-- give the one that is followed at the last. With delimiters that are texts the rows fit the schema. Where they do, no
 -- others that fit it have this text; so whoever reads its lines by the schema has these rows.
 pub record LeadOn (s : TableSchema) (entries : List Entry) (start last : ℕ) (text : List ℕ) : Type 0 where
   pub changes : List (List HistoryRow)
   pub frames : text ≡ frames_of start changes
   pub replayed : replay s (followed s entries (start - 1)) (rows_in changes) ≡ followed s entries last
-  pub fits : s.options.producer ≡ Input → AllFit s.columns (rows_in changes)
+  pub fits : DelimitersAreTexts s → AllFit s.columns (rows_in changes)
   pub only : AllFit s.columns (rows_in changes) → (others : List (List HistoryRow))
       → AllFit s.columns (rows_in others) → text ≡ frames_of start others → changes ≡ others
 

@@ -31,6 +31,7 @@ use pm_draft::built_law;
 use pm_manifest::{Entry, ManifestMeta, joined_law};
 use pm_model_contents::one_runs_law;
 use pm_model_following::{finished_law, frames_law, kept_law};
+use pm_model_history::merged_table_law;
 use pm_record::one_reading_law;
 use pm_rows::{line_law, round_trip_law};
 use pm_run::one_list_law;
@@ -73,6 +74,7 @@ pub fn replay_law()
 {
     round_trip_law();
     line_law();
+    merged_table_law();
     frames_law();
     finished_law();
     kept_law();
