@@ -1,7 +1,8 @@
 //! The command `snapshots`: list the snapshots of a table.
 //!
-//! `specs/Snapshots.antt` says what it answers, what it prints, and that it leaves a folder as it is. Its calls show
-//! one answer at most, but that memory may have run out.
+//! `specs/Snapshots.antt` says what it answers, what it prints, and that it leaves a folder as it is; and of which
+//! snapshots it printed the lines where others act beside it. Its calls show one answer at most, but that memory may
+//! have run out.
 #![tactic(auto)]
 
 mod laws;
