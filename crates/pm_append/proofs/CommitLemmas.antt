@@ -203,7 +203,7 @@ module _ (facts : Facts) (made_law : MadeLaw) (commit_law : CommitLaw) (me : Act
   adds = are-adds s xs (apart-files t.batch xs (data-of-groups s own.numbered.next t.names t.batch xs new_files.runs) ready.batch.ordered)
 
   can-come : AllByRecursion (IsEntry (shape_of s)) added
-  can-come = entries-can-be s t.rows t.batch own.numbered.next t.names xs ready.built.declared ready.built.no_partition ready.built.one_bucket
+  can-come = entries-can-be s t.rows t.batch own.numbered.next t.names xs ready.single.declared ready.single.no_partition ready.single.one_bucket
       ready.batch new_files.runs held
       (subst (λ (d : Delta). AllByRecursion (IsWithin (shape_of s)) (entries_of d)) own.delta
       (entries-within s t.newest ready.made.left (entries_of ready.made.delta) ready.made.delta.changes ready.made.lists ready.made.list_files ready.made.are_manifests))
@@ -228,7 +228,7 @@ module _ (facts : Facts) (made_law : MadeLaw) (commit_law : CommitLaw) (me : Act
   can-tell : AllByRecursion (IsEntry (shape_of s)) changes
   can-tell = elim by-producer as (λ _. AllByRecursion (IsEntry (shape_of s)) changes) [
     | inr other ↦ subst (λ (ys : List NewFile). AllByRecursion (IsEntry (shape_of s)) (map (added_entry s) ys)) (sym (none-told other)) tt
-    | inl input ↦ changes-can-be s t.rows t.batch (after_names (length xs) t.names) zs ready.built.declared ready.built.no_partition ready.built.one_bucket
+    | inl input ↦ changes-can-be s t.rows t.batch (after_names (length xs) t.names) zs ready.single.declared ready.single.no_partition ready.single.one_bucket
         input ready.batch (logged input) held within-told
   ]
 
@@ -358,7 +358,7 @@ module _ (facts : Facts) (made_law : MadeLaw) (commit_law : CommitLaw) (me : Act
 
   has-group : (g : Group) → HasGroup after s (entries ++ entry_of t ∷ []) (suc k) (live_in seen.contents) g
   has-group g = stands facts.groups me t.author.base after s t.rows t.batch xs live0 (live_in seen.contents) new_runs f entries t.author.user t.author.identifier
-      holds ready.built.declared ready.folder ready.unnamed old.runs_at old.groups g
+      holds ready.single.declared ready.folder ready.unnamed old.runs_at old.groups g
 
   same-changes : seen.contents.changes ≡ changes
   same-changes = seen.changes ∙ ap (λ (d : Delta). d.changes) own.delta
@@ -386,8 +386,8 @@ module _ (facts : Facts) (made_law : MadeLaw) (commit_law : CommitLaw) (me : Act
   holds-change = subst (HoldsChange after s (entries ++ entry_of t ∷ []) (suc k)) (sym same-changes)
       (elim by-producer as (λ _. HoldsChange after s (entries ++ entry_of t ∷ []) (suc k) changes) [
         | inr other ↦ subst (λ (ys : List NewFile). HoldsChange after s (entries ++ entry_of t ∷ []) (suc k) (map (added_entry s) ys)) (sym (none-told other))
-            (holds-none facts.change after s entries t.author.user t.author.identifier t.rows ready.built.declared fits other)
-        | inl input ↦ holds-input facts.change after s t.rows t.batch zs (logs input) entries t.author.user t.author.identifier ready.built.declared input
+            (holds-none facts.change after s entries t.author.user t.author.identifier t.rows ready.single.declared fits other)
+        | inl input ↦ holds-input facts.change after s t.rows t.batch zs (logs input) entries t.author.user t.author.identifier ready.single.declared input
       ])
 
   commits : IsCommit f after s entries (entry_of t)
@@ -424,7 +424,7 @@ module _ (facts : Facts) (made_law : MadeLaw) (commit_law : CommitLaw) (me : Act
   tells = elim by-producer as (λ _. rows_in_files changes ≡ told_rows) [
     | inr other ↦ ap (λ (ys : List NewFile). rows_in_files (map (added_entry s) ys)) (none-told other)
         ∙ sym (none-count s.options.producer (length t.rows) other)
-    | inl input ↦ told-once facts.change s t.rows t.batch ready.built.no_partition ready.built.one_bucket ready.batch zs held (logs input).written
+    | inl input ↦ told-once facts.change s t.rows t.batch ready.single.no_partition ready.single.one_bucket ready.batch zs held (logs input).written
         (facts.empty s t.rows t.batch ready.batch).0
         ∙ sym (ap (λ (p : Producer). told_count p (length t.rows)) input)
   ]
@@ -454,7 +454,7 @@ module _ (facts : Facts) (made_law : MadeLaw) (commit_law : CommitLaw) (me : Act
         (λ enough. subst (λ (metas : List ManifestMeta). HaveEntries after s metas live_items) seen.base (seen.merged enough)));
     delta = subst (λ (d : Delta). HaveEntries after s seen.contents.delta (entries_of d)) own.delta seen.entries;
     adds = adds-at-zero s own.numbered.next t.names t.batch xs new_files.runs;
-    few = files-few s t.rows t.batch ready.built.no_partition ready.built.one_bucket ready.batch own.numbered.next t.names xs held new_files.runs;
+    few = files-few s t.rows t.batch ready.single.no_partition ready.single.one_bucket ready.batch own.numbered.next t.names xs held new_files.runs;
     tells = ap (λ (es : List files.Entry). rows_in_files es) same-changes ∙ tells;
     quiet = quiet;
   }

@@ -74,7 +74,7 @@ entry_of t = append t.author.user t.author.identifier t.rows
 -- a file that the actor named.
 pub record IsReady (me : Actor) (f : Files) (s : TableSchema) (entries : List Entry) (t : Try) : Type 0 where
   pub folder : HasTable f s entries
-  pub built : HasOneGroup s
+  pub single : HasOneGroup s
   pub newest : IsNewestOf f s entries t.newest
   pub batch : IsBatchOf s t.rows t.batch
   pub made : IsMadeOf s t.newest t.author (intents.Append t.batch) t.names t.made

@@ -49,7 +49,7 @@ count-one (e ∷ d ∷ es) some (first, rest) (one, (two, others)) =
 pub new-is-own : BatchLaw → (s : TableSchema) (rows : List HistoryRow) (batch : Groups) (author : Author) (check : Bool) (names : Naming) → HasOneGroup s
     → IsBatchOf s rows batch → batch ≢ [] → author.base ≡ 0 → names.count ≤ 2 ^ 61 → IsOwn s (new_own batch author check names)
 new-is-own law s rows batch author check names built is some first count = record {
-  built = built;
+  single = built;
   made_for = tt;
   fits = law.folders s rows batch built.no_partition is;
   one_group = count-one batch some is.ordered (each-only s rows batch built is batch (law.held s rows batch is));

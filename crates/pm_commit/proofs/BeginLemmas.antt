@@ -41,7 +41,7 @@ use Rattle.pm_commit.proofs.StillLemmas.{IsHeld, IsMadeBy, OwnFiles, OwnGiven, W
 pub plan-own : (s : TableSchema) (author : Author) (plan : Plan) (names : Naming) → HasOneGroup s → names.base ≡ author.base → names.count ≤ 2 ^ 61
     → IsOwn s (own_for_plan plan author names)
 plan-own s author plan names built based count = record {
-  built = built;
+  single = built;
   made_for = tt;
   fits = tt;
   one_group = tt;

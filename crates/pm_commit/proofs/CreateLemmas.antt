@@ -38,14 +38,14 @@ module _ (own_files : OwnFiles) (own : OwnView) (e : Entry) (s : TableSchema) (i
   is-file : IsOwnFile (actor_of own) t.author.base making.next.path
   is-file = all-at (λ (file : CommitFile). IsOwnFile (actor_of own) t.author.base file.path) has.done making.rest making.next
       (subst (AllByRecursion (λ (file : CommitFile). IsOwnFile (actor_of own) t.author.base file.path)) has.files
-      (own_files (actor_of own) s t tried.built is_try.names is_try.made))
+      (own_files (actor_of own) s t tried.single is_try.names is_try.made))
 
   is-own : IsOwn (actor_of own) making.next.path
   is-own = its_file is-file.by is-file.in_table
 
   is-in : InTable making.next.path
   is-in = all-at IsInTable has.done making.rest making.next
-      (subst (AllByRecursion IsInTable) has.files (made-in s t.newest t.author t.intent t.names t.made is_try.made tried.built.no_partition))
+      (subst (AllByRecursion IsInTable) has.files (made-in s t.newest t.author t.intent t.names t.made is_try.made tried.single.no_partition))
 
   -- it bears the actor's name
   pub create-named : IsNamedBy (actor_of own) making.next.path

@@ -250,7 +250,7 @@ module _ (one : OneContents) (same : SameContents) (paths : NamedPaths) (live_la
       ready : IsReady (actor_of own) f s entries appended
       ready = record {
         folder = own-table.2;
-        built = tried.built;
+        single = tried.single;
         newest = record { id = newest-is; found = found-here };
         batch = means.groups;
         made = subst (λ (intent : Intent). IsMadeOf s t.newest t.author intent t.names t.made) intent-is is_try.made;
@@ -331,7 +331,7 @@ module _ (one : OneContents) (same : SameContents) (paths : NamedPaths) (live_la
         full = subst (IsFullWithin t.newest.snapshot) (sym compacts-by)
             (compact.full (actor_of own) f p s entries t.newest t.author.base plan given stands own-table.1 (record { id = newest-is; found = found-here }) knows);
         maker = is_try.names;
-        own = compact.own (actor_of own) p s t plan given (plain-names s tried.built) knows compacts-by;
+        own = compact.own (actor_of own) p s t plan given (plain-names s tried.single) knows compacts-by;
         there = all-there;
         unnamed = names-none;
       }
@@ -394,7 +394,7 @@ module _ (one : OneContents) (same : SameContents) (paths : NamedPaths) (live_la
         let q = later_past p s entries e after adds.runs in
         let change = commits s entries e t.made.text newest-there bound absent-next puts adds.follows adds.commit adds.names in
         let advances : Advances (actor_of own) f p after q =
-        append-advances one same paths (actor_of own) f after p s entries e t.made.text stands tried.built.no_partition own-table.1 known.unnamed newest-there bound
+        append-advances one same paths (actor_of own) f after p s entries e t.made.text stands tried.single.no_partition own-table.1 known.unnamed newest-there bound
         puts adds.names adds.runs adds.goes change in (
           q,
           record { advances = advances; appends = inr (s, entries, own-table.1, refl) },

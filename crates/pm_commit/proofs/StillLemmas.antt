@@ -152,7 +152,7 @@ module _ (own_files : OwnFiles) (e : Entry) (other : Actor) (f after : Files) (p
     put = at_weaker (put_of s is_try.attempt.made) (AreThere own f p) (AreThere own after q) m
         (λ done left files. there-still own done known.unnamed (first-of (IsMadeBy (actor_of own) own.author.base) done left
         (subst (AllByRecursion (IsMadeBy (actor_of own) own.author.base)) files
-        (tried-made own_files own s is_try.attempt is_try.same_author tried.built is_try.names is_try.made))))
+        (tried-made own_files own s is_try.attempt is_try.same_author tried.single is_try.names is_try.made))))
         is_try.put;
   }
 
@@ -233,12 +233,12 @@ abbrev pub IsHeld : Entry → Past → OwnView → Type 0
 IsHeld e p own = (s : TableSchema) × HasOneGroup s × KnowsOwn own e s p
 
 pub held-in : (e : Entry) (m : Phase) (f : Files) (p : Past) → IsCommitter m → KnowsIn e m f p → IfSome (own_in m) (IsHeld e p)
-held-in e (phases.Names own s) f p (own_of, appends) known = (s, own_of.built, known)
+held-in e (phases.Names own s) f p (own_of, appends) known = (s, own_of.single, known)
 held-in e (phases.View own m) f p (left, (t, reads_t, own_of), may) (s, reads, known, reading, origin) =
     let same : t ≡ s = ap (λ (a : Asked). a.schema) (asked-same (newest_of t) (newest_of s) (sym reads_t.asked ∙ reads.asked)) in
-    (s, subst HasOneGroup same own_of.built, known)
-held-in e (phases.Search own q) f p (may, few, ids) (known, is_found) = (q.found.schema, may.own_of.built, known)
-held-in e (phases.Put own s id m) f p (tried, some, few) (known, is_try) = (s, tried.built, known)
+    (s, subst HasOneGroup same own_of.single, known)
+held-in e (phases.Search own q) f p (may, few, ids) (known, is_found) = (q.found.schema, may.own_of.single, known)
+held-in e (phases.Put own s id m) f p (tried, some, few) (known, is_try) = (s, tried.single, known)
 held-in e (phases.Committed author id) f p is known = tt
 held-in e (phases.Already author) f p is known = tt
 held-in e phases.Over f p is known = tt

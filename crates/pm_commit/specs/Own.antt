@@ -101,10 +101,10 @@ AppendsOneGroup other = Unit {0}
 abbrev pub file_limit : ℕ
 file_limit = 2 ^ 40
 
--- A commit of a table that is built, after so many tries that took names: it appends or compacts, its groups fit the
+-- A commit of a table of one group, after so many tries that took names: it appends or compacts, its groups fit the
 -- table, an append has one of them, its base is that of its names, and there are names and tries enough.
 pub record IsOwnAfter (tried : ℕ) (s : TableSchema) (own : OwnView) : Type 0 where
-  pub built : HasOneGroup s
+  pub single : HasOneGroup s
   pub made_for : IsMadeFor own.intent
   pub fits : FitsGroups s own.intent
   pub one_group : AppendsOneGroup own.intent

@@ -54,7 +54,7 @@ pub fn new_committer(
     names: Names,
     now_millis: i64,
 ) -> Committer
-    requires built { HasOneGroup schema }
+    requires single { HasOneGroup schema }
     requires read { (rows : List HistoryRow) × IsBatchOf schema rows batch }
     requires some { batch ≢ [] }
     requires count { names.count ≤ 2 ^ 61 }
@@ -78,7 +78,7 @@ pub fn new_compaction(
     plan: Plan,
     names: Names,
 ) -> Result<Committer, Refusal>
-    requires built { HasOneGroup schema }
+    requires single { HasOneGroup schema }
     requires numbers { AreNumbered newest.live.items }
     requires based { (author.base ≡ newest.id) × (names.base ≡ newest.id) }
     requires count { names.count ≤ 2 ^ 61 }

@@ -93,7 +93,7 @@ module _ (asking : Asking) (s : TableSchema) (count : asking.names.count ≤ 2 ^
         room = room;
       } in
       let can : CanCommit p = record {
-        built = subst HasOneGroup (sym same) built;
+        single = subst HasOneGroup (sym same) built;
         base = ap (λ a. a.base) is.author_is ∙ sym (ap (λ (x : Newest). x.id) is.newest_is);
         based = ap (λ (x : Naming). x.base) is.names_are ∙ sym (ap (λ (x : Newest). x.id) is.newest_is);
         numbers = subst (λ (x : Newest). commit.AreNumbered x.live.items) (sym is.newest_is) reads.numbers;

@@ -128,7 +128,7 @@ had-room n old new became room few = record {
 
 pub still-commits : (n : ℕ) (old new : Planned) → BecameFiles n old new → CanCommit old → HasRoom new → CanCommit new
 still-commits n old new became can room = record {
-  built = subst HasOneGroup (sym became.schema) can.built;
+  single = subst HasOneGroup (sym became.schema) can.single;
   base = ap (λ (a : Author). a.base) became.author ∙ can.base ∙ sym (ap (λ (x : Newest). x.id) became.newest);
   based = became.base ∙ can.based ∙ sym (ap (λ (x : Newest). x.id) became.newest);
   numbers = subst (λ (x : Newest). AreNumbered x.live.items) (sym became.newest) can.numbers;
@@ -167,7 +167,7 @@ told-same old new has =
 pub told-commits : (old new : Planned) → HasTold old new → CanCommit old → HasRoom new → CanCommit new
 told-commits old new has can room =
     let same = all-same old.logs.items (record old { logs = new.logs }) new has.told in record {
-      built = subst HasOneGroup (sym same.schema) can.built;
+      single = subst HasOneGroup (sym same.schema) can.single;
       base = ap (λ (a : Author). a.base) same.author ∙ can.base ∙ sym (ap (λ (x : Newest). x.id) same.newest);
       based = same.base ∙ can.based ∙ sym (ap (λ (x : Newest). x.id) same.newest);
       numbers = subst (λ (x : Newest). AreNumbered x.live.items) (sym same.newest) can.numbers;

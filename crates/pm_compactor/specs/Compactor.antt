@@ -212,7 +212,7 @@ Shown phase other refusal = ⊥
 -- a commit can be made of the plan: its table has one group, its view is the base of its names, no file of the view has
 -- too great a number, and it has names
 pub record CanCommit (p : Planned) : Type 0 where
-  pub built : HasOneGroup p.schema
+  pub single : HasOneGroup p.schema
   pub base : p.author.base ≡ p.newest.id
   pub based : p.names.base ≡ p.newest.id
   pub numbers : commit.AreNumbered p.newest.live.items

@@ -39,7 +39,7 @@ pub fn compact_table<F: FileStore>(
     now_millis: i64,
     store: &mut F,
 ) -> Result<Compacted, Refusal>
-    requires built { HasOneGroup schema }
+    requires single { HasOneGroup schema }
     requires engine { HasEngine schema }
     requires count { names.count ≤ 2 ^ 60 }
     ensures trace { (first : StoreView) → HasTrace (Has schema) first (F.seen store.old)

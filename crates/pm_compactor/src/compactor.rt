@@ -44,7 +44,7 @@ pub fn new_compactor(
     names: Names,
     now_millis: i64,
 ) -> Compactor
-    requires built { HasOneGroup schema }
+    requires single { HasOneGroup schema }
     requires engine { HasEngine schema }
     requires count { names.count ≤ 2 ^ 60 }
     ensures { result ≡ phases.View (asking_of full user names now_millis) (readers.List (newest_of schema)) }

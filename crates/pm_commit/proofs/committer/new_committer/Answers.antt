@@ -10,6 +10,6 @@ new-requires-2 c =
     subst (λ (own : OwnView). IsOwn c.args.schema own × IsAppend own.intent) (sym c.new.ensures)
     (rw (to_z-of_z c.ranges.identifier, to_z-of_z c.ranges.now_millis) (
       new-is-own law c.args.schema c.requires.read.0 c.args.batch (new_author c.args.user c.args.identifier c.args.now_millis) c.args.check c.args.names
-          c.requires.built c.requires.read.1 c.requires.some refl c.requires.count,
+          c.requires.single c.requires.read.1 c.requires.some refl c.requires.count,
       tt,
     ))
