@@ -323,7 +323,7 @@ module _ (one : OneContents) (law : SameContents) (f after : Files) (s : TableSc
       table-beside path None puts
       (λ id e. schema-table id (subst IsTablePath e is_table))
       (λ name e. snapshot-table name (subst IsTablePath e is_table))
-      (λ id from q needs e. unneeded id from.after_origin (live-there id from) (subst (Needs f s id) e needs))
+      (λ id from q needs e. unneeded id from.after_origin (let high = from.to in let most = table.snapshots.within in omega (arith, high, most)) (live-there id from) (subst (Needs f s id) e needs))
       (names-less f after path puts table.names)
       (floor-held path None puts (λ k e. floor-table k (subst IsTablePath (sym e) is_table)) table.floor)
       (λ other same. absurd (consumer-table other (subst IsTablePath (sym same) is_table)))

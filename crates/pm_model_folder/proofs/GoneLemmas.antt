@@ -4,7 +4,7 @@ use Rattle.std.specs.FinMap as map
 use Rattle.pm_store.specs.Files.{Files, Puts}
 use Rattle.pm_model_history.specs.History.{Entry, table}
 use Rattle.pm_schema.specs.declared.schema.TableSchema.{TableSchema}
-use Rattle.pm_snapshot.specs.Names.{snapshot_name}
+use Rattle.pm_snapshot.specs.Names.{greatest, snapshot_name}
 use Rattle.pm_model_folder.specs.Changes.{Actor, Beside, HavePlainNames, IsNoOrigin, IsSnapshotPath, IsTablePath, consumer, expired, floor, forgotten, its_origin, origin_name, removed}
 use Rattle.pm_model_folder.specs.Commits.{Needs}
 use Rattle.pm_model_folder.specs.Ledger.{KeepsFiles}
@@ -85,21 +85,21 @@ origin-beside me f s entries after (removed path is_table unneeded puts) free =
 
 -- what a snapshot needs that is there stays, where it needed that before
 pub live-stays : (g f : Files) (s : TableSchema) (entries : List Entry) (after : Files) (id : ℕ) (q : List ℕ) → HavePlainNames s → Beside f s entries after
-    → 1 ≤ id → HasSnapshotAt after s id → (Needs g s id q → Needs f s id q) → Needs g s id q → map.get after q ≡ map.get f q
-live-stays g f s entries after id q plain (consumer name content is_plain reads puts) some there before needs =
+    → 1 ≤ id → id ≤ greatest → HasSnapshotAt after s id → (Needs g s id q → Needs f s id q) → Needs g s id q → map.get after q ≡ map.get f q
+live-stays g f s entries after id q plain (consumer name content is_plain reads puts) some within there before needs =
     puts.others q (needs-no_consumer g s id q name plain needs)
-live-stays g f s entries after id q plain (floor k found below absent puts) some there before needs =
+live-stays g f s entries after id q plain (floor k found below absent puts) some within there before needs =
     puts.others q (needs-no_floor g s id q k plain needs)
-live-stays g f s entries after id q plain (forgotten k above less high is puts) some there before needs =
+live-stays g f s entries after id q plain (forgotten k above less high is puts) some within there before needs =
     puts.others q (needs-no_floor g s id q k plain needs)
-live-stays g f s entries after id q plain (expired least path is_least is below announced puts) some there before needs =
+live-stays g f s entries after id q plain (expired least path is_least is below announced puts) some within there before needs =
     puts.others q (needs-apart g s least id path q is plain (own id some there) needs)
   where
     own : (id : ℕ) → 1 ≤ id → HasSnapshotAt after s id → snapshot_path id ≢ path
     own zero some there e = absurd (omega (arith, some))
     own (suc k) some there e = some-none (map.get after (snapshot_path (suc k))) there (ap (map.get after) e ∙ puts.here)
-live-stays g f s entries after id q plain (removed path is_table unneeded puts) some there before needs =
-    puts.others q (λ e. unneeded id some (was-there f s entries after id (removed path is_table unneeded puts) some there) (subst (Needs f s id) e (before needs)))
+live-stays g f s entries after id q plain (removed path is_table unneeded puts) some within there before needs =
+    puts.others q (λ e. unneeded id some within (was-there f s entries after id (removed path is_table unneeded puts) some there) (subst (Needs f s id) e (before needs)))
 
 -- what a snapshot needed when it was committed stays or goes
 needed-or-gone : (stood f : Files) (s : TableSchema) (entries : List Entry) (after : Files) (id : ℕ) (q : List ℕ) → HavePlainNames s → Beside f s entries after
@@ -128,8 +128,8 @@ needs-now law stood f s id keeps q (inr (inr (x, c, ((bytes, at, reads), has), n
 
 -- so its files are kept
 pub keeps-beside : SameContents → (stood f : Files) (s : TableSchema) (entries : List Entry) (after : Files) (id : ℕ) → HavePlainNames s → Beside f s entries after
-    → 1 ≤ id → KeepsFiles f s stood id → KeepsFiles after s stood id
-keeps-beside law stood f s entries after id plain change some keeps = record {
+    → 1 ≤ id → id ≤ greatest → KeepsFiles f s stood id → KeepsFiles after s stood id
+keeps-beside law stood f s entries after id plain change some within keeps = record {
   same = λ path needs. elim (needed-or-gone stood f s entries after id path plain change needs) as (λ _. (map.get after path ≡ None) ⊎ (map.get after path ≡ map.get stood path)) [
     | inl none ↦ inl none
     | inr same ↦ elim (keeps.same path needs) as (λ _. (map.get after path ≡ None) ⊎ (map.get after path ≡ map.get stood path)) [
@@ -139,5 +139,5 @@ keeps-beside law stood f s entries after id plain change some keeps = record {
   ];
   there = λ here path needs.
       let before = keeps.there (was-there f s entries after id change some here) in
-      live-stays stood f s entries after id path plain change some here (needs-now law stood f s id before path) needs ∙ before path needs;
+      live-stays stood f s entries after id path plain change some within here (needs-now law stood f s id before path) needs ∙ before path needs;
 }

@@ -4,6 +4,7 @@ use Rattle.std.specs.FinMap as map
 use Rattle.pm_store.specs.Files.{Files}
 use Rattle.pm_model_history.specs.History.{Entry, History, IsTableOf, table}
 use Rattle.pm_schema.specs.declared.schema.TableSchema.{TableSchema}
+use Rattle.pm_snapshot.specs.Names.{greatest}
 use Rattle.pm_model_folder.specs.Changes.{Actor, Beside, Change, HavePlainNames, IsNoOrigin, beside, committed, nothing, origin_name, own_file, schema}
 use Rattle.pm_model_folder.specs.Commits.{Needs}
 use Rattle.pm_model_folder.specs.Folder.{Folder}
@@ -40,13 +41,13 @@ stays-or-beside me f after h later folder (beside s entries plain change) = inr 
 
 -- what a snapshot needs stays while that is there
 pub needed-stays : (me : Actor) (f after : Files) (s : TableSchema) (entries : List Entry) (later : History) (id : ℕ) (q : List ℕ) → Folder f (table s entries)
-    → Change me f (table s entries) after later → 1 ≤ id → HasSnapshotAt after s id → Needs f s id q → IsSome (map.get f q) → map.get after q ≡ map.get f q
-needed-stays me f after s entries later id q folder change some here needs there =
+    → Change me f (table s entries) after later → 1 ≤ id → id ≤ greatest → HasSnapshotAt after s id → Needs f s id q → IsSome (map.get f q) → map.get after q ≡ map.get f q
+needed-stays me f after s entries later id q folder change some within here needs there =
     elim (stays-or-beside me f after (table s entries) later folder change) as (λ _. map.get after q ≡ map.get f q) [
       | inl holds ↦ holds q there
       | inr (t, es, is, plain, change) ↦
           let same : t ≡ s = subst (λ (h : History). IsTableOf s h) is refl in
-          live-stays f f s es after id q (subst HavePlainNames same plain) (subst (λ (t : TableSchema). Beside f t es after) same change) some here (λ n. n) needs
+          live-stays f f s es after id q (subst HavePlainNames same plain) (subst (λ (t : TableSchema). Beside f t es after) same change) some within here (λ n. n) needs
     ]
 
 -- so does an actor's origin that isn't the table's

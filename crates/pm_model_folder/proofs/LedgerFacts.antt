@@ -684,7 +684,8 @@ module _ (laws : RunLaws) (me : Actor) (f after : Files) (p q : Past) (stands : 
       (λ q there. puts.others q (there-absent f q (snapshot_path (suc (length entries))) there none))
       (consumers-on one same law changes me f after p q s entries (entries ++ e ∷ []) stands advances was now past.consumers)
   past-kept one same law changes h later was now folder (changes_beside s entries plain change) past = same-past s entries was now past
-      (λ id known. keeps-beside same (p.stood id) f s entries after id plain change known.after_origin (past.kept id known))
+      (λ id known. keeps-beside same (p.stood id) f s entries after id plain change known.after_origin
+      (let high = known.to in let many = count-is p s entries was in let most = folder.snapshots.within in omega (arith, high, many, most)) (past.kept id known))
       (consumers-on one same law changes me f after p q s entries entries stands advances was now past.consumers)
 
 pub stands-kept : OneContents → ContentsStay → SameContents → RunLaws → ClaimsKept → ChangesStay → (me : Actor) (f after : Files) (p q : Past) → Stands f p

@@ -95,9 +95,9 @@ abbrev pub IsSnapshotPath : TableSchema → ℕ → List ℕ → Type 0
 IsSnapshotPath s zero path = (name : List ℕ) × (s.origin ≡ Some name) × (path ≡ snapshot_file name)
 IsSnapshotPath s (suc id) path = path ≡ snapshot_path (suc id)
 
--- no snapshot that is there needs the path
+-- no snapshot that is there needs the path, among those whose ids a listing shows
 abbrev pub IsUnneeded : Files → TableSchema → List ℕ → Type 0
-IsUnneeded f s path = (id : ℕ) → 1 ≤ id → HasSnapshotAt f s id → Needs f s id path → ⊥
+IsUnneeded f s path = (id : ℕ) → 1 ≤ id → id ≤ greatest → HasSnapshotAt f s id → Needs f s id path → ⊥
 
 -- What is changed beside the history of a table.
 pub data Beside (f : Files) (s : TableSchema) (entries : List Entry) (after : Files) : Type 0 where

@@ -56,8 +56,8 @@ pub fn goes_on_law()
 pub fn stays_law()
     ensures needed { (me : Actor) (f after : Files) (s : TableSchema) (entries : List Entry) (later : History) (id : ℕ)
         (path : List ℕ) → Folder f (table s entries) → Change me f (table s entries) after later
-        → 1 ≤ id → HasSnapshotAt after s id → Needs f s id path → IsSome (map.get f path)
-        → map.get after path ≡ map.get f path }
+        → 1 ≤ id → id ≤ greatest → HasSnapshotAt after s id → Needs f s id path
+        → IsSome (map.get f path) → map.get after path ≡ map.get f path }
     ensures own { (me other : Actor) (base : ℕ) (f after : Files) (p q : Past) (path : List ℕ) → Stands f p
         → Advances other f p after q → IsOwnFile me base path → HasNamedNone me p → IsSome (map.get f path)
         → IsFenced base q.history ⊎ (map.get after path ≡ map.get f path) }
