@@ -1,0 +1,3 @@
+mod Eight
+mod Hashes
+mod Parts
