@@ -32,7 +32,8 @@ encodes-bytes : (cs : List ℕ) → scalars cs ≡ true → AreBytes (encodes cs
 encodes-bytes [] all = tt
 encodes-bytes (c ∷ cs) all =
     let p = both (scalar c) (scalars cs) all in
-    AllByRecursion-append (λ b. b < 256) (encode c) (encodes cs) (encode-bytes c (scalar_below c p.0)) (encodes-bytes cs p.1)
+    AllByRecursion-append (λ b. b < 256) (encode c) (encodes cs)
+    (encode-bytes c (scalar_below c p.0)) (encodes-bytes cs p.1)
 
 pub utf8-bytes : (text : List ℕ) → IsUtf8 text → AreBytes text
 utf8-bytes text h = subst AreBytes h.1.1 (encodes-bytes h.0 h.1.0)

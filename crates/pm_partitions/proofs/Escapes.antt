@@ -20,7 +20,7 @@ one_digit m n e = elim (cases_lt m 10) [
 ]
 
 -- a byte, that stands for itself or not
-abbrev coded : Bool → ℕ → List ℕ
+abbrev pub coded : Bool → ℕ → List ℕ
 coded itself b = if itself then b ∷ [] else 37 ∷ upper_digit (b / 16) ∷ upper_digit (b % 16) ∷ []
 
 one_code : (p q : Bool) (a b : ℕ) (r s : List ℕ) → (p ≡ true → a ≢ 37) → (q ≡ true → b ≢ 37)
@@ -31,9 +31,13 @@ one_code true false a b r s f g e =
 one_code false true a b r s f g e =
     absurd (g refl (sym (same_heads 37 b (upper_digit (a / 16) ∷ upper_digit (a % 16) ∷ r) s e).0))
 one_code false false a b r s f g e =
-    let rest = (same_heads 37 37 (upper_digit (a / 16) ∷ upper_digit (a % 16) ∷ r) (upper_digit (b / 16) ∷ upper_digit (b % 16) ∷ s) e).1 in
-    let high = same_heads (upper_digit (a / 16)) (upper_digit (b / 16)) (upper_digit (a % 16) ∷ r) (upper_digit (b % 16) ∷ s) rest in
-    let low = same_heads (upper_digit (a % 16)) (upper_digit (b % 16)) r s high.1 in
+    let x = upper_digit (a / 16) in
+    let y = upper_digit (a % 16) in
+    let z = upper_digit (b / 16) in
+    let w = upper_digit (b % 16) in
+    let rest = (same_heads 37 37 (x ∷ y ∷ r) (z ∷ w ∷ s) e).1 in
+    let high = same_heads x z (y ∷ r) (w ∷ s) rest in
+    let low = same_heads y w r s high.1 in
     let highs : a / 16 ≡ b / 16 = one_digit (a / 16) (b / 16) high.0 in
     let lows : a % 16 ≡ b % 16 = one_digit (a % 16) (b % 16) low.0 in
     (omega (arith, highs, lows), low.1)
@@ -44,7 +48,7 @@ no_slash false b r s f e =
     let is : 37 ≡ 47 = (same_heads 37 47 (upper_digit (b / 16) ∷ upper_digit (b % 16) ∷ r) s e).0 in
     omega (arith, is)
 
-pub plain_apart : (b n : ℕ) → is_plain n ≡ false → is_plain b ≡ true → b ≢ n
+plain_apart : (b n : ℕ) → is_plain n ≡ false → is_plain b ≡ true → b ≢ n
 plain_apart b n other plain is = false≢true (sym other ∙ sym (ap is_plain is) ∙ plain)
 
 -- a text with a slash after it is escaped as no other is

@@ -46,7 +46,8 @@ module _ (columns : List Column) where
       let same : n ++ 61 ∷ (t ++ 47 ∷ (parts_text names vs ++ x)) ≡ n ++ 61 ∷ (u ++ 47 ∷ (parts_text names ws ++ y)) =
       sym (regrouped n t (parts_text names vs) x) ∙ e ∙ regrouped n u (parts_text names ws) y in
       let after = (same_heads 61 61 (t ++ 47 ∷ (parts_text names vs ++ x)) (u ++ 47 ∷ (parts_text names ws ++ y))
-      (append_cancel_left n (61 ∷ (t ++ 47 ∷ (parts_text names vs ++ x))) (61 ∷ (u ++ 47 ∷ (parts_text names ws ++ y))) same)).1 in
+      (append_cancel_left n (61 ∷ (t ++ 47 ∷ (parts_text names vs ++ x)))
+      (61 ∷ (u ++ 47 ∷ (parts_text names ws ++ y))) same)).1 in
       let here = one_text (value_text v) (value_text w) (parts_text names vs ++ x) (parts_text names ws ++ y) after in
       let first : v ≡ w = one_value (find (λ c. bytes_eq c.name n) columns) v w fits.0 also.0 here.0 in
       let later = one_partition names vs ws x y fits.1 also.1 here.1 in
@@ -55,7 +56,8 @@ module _ (columns : List Column) where
 pub one_group : (s : TableSchema) (g h : Group) → FitsPartition s g → FitsPartition s h → g.bucket < 2 ^ 32
     → h.bucket < 2 ^ 32 → folder_text s g ≡ folder_text s h → g ≡ h
 one_group s g h fits also low high e =
-    let parts = one_partition s.columns s.partition g.partition h.partition (bucket_name g.bucket) (bucket_name h.bucket) fits also e in
+    let parts = one_partition s.columns s.partition g.partition h.partition
+    (bucket_name g.bucket) (bucket_name h.bucket) fits also e in
     let digits : decimal g.bucket ≡ decimal h.bucket =
     append_cancel_left (codes "bucket-") (decimal g.bucket) (decimal h.bucket) parts.1 in
     let bucket : g.bucket ≡ h.bucket = decimal_injective g.bucket h.bucket (omega arith) (omega arith) digits in
@@ -72,11 +74,13 @@ module _ (columns : List Column) (named : list_all is_name (names_of columns) �
   parts_plain (n ∷ names) [] fits is = absurd fits
   parts_plain (n ∷ names) (v ∷ vs) fits is =
       let found = find (λ c. bytes_eq c.name n) columns in (
-        part_plain n (value_text v) (column_named columns n (λ c. IsInType c.kind v) named fits.0) (text_bytes found v fits.0),
+        part_plain n (value_text v) (column_named columns n (λ c. IsInType c.kind v) named fits.0)
+            (text_bytes found v fits.0),
         parts_plain names vs fits.1 is,
       )
 
-  parts_short : (names : List (List ℕ)) (vs : Values) → AllZip (FitsPart columns) names vs → list_any is_too_long vs ≡ false
+  parts_short : (names : List (List ℕ)) (vs : Values) → AllZip (FitsPart columns) names vs
+      → list_any is_too_long vs ≡ false
       → length last ≤ 255 → AllByRecursion (λ name. length name ≤ 255) (part_names names vs ++ last ∷ [])
   parts_short [] [] fits few is = (is, tt)
   parts_short [] (v ∷ vs) fits few is = absurd fits
@@ -96,7 +100,8 @@ module _ (columns : List Column) (named : list_all is_name (names_of columns) �
   parts_cut (n ∷ names) (v ∷ vs) fits is =
       let t = escaped (value_text v) in
       let found = find (λ c. bytes_eq c.name n) columns in
-      let plain = part_plain n (value_text v) (column_named columns n (λ c. IsInType c.kind v) named fits.0) (text_bytes found v fits.0) in
+      let plain = part_plain n (value_text v) (column_named columns n (λ c. IsInType c.kind v) named fits.0)
+      (text_bytes found v fits.0) in
       let whole_text : parts_text (n ∷ names) (v ∷ vs) ++ last ≡ (n ++ 61 ∷ t) ++ 47 ∷ (parts_text names vs ++ last) =
       regrouped n t (parts_text names vs) last ∙ sym (append_assoc n (61 ∷ t) (47 ∷ (parts_text names vs ++ last))) in
       ap (slice_split (λ b. b == 47)) whole_text
@@ -111,17 +116,21 @@ parts_count R (n ∷ names) [] last fits = absurd fits
 parts_count R (n ∷ names) (v ∷ vs) last fits = omega (arith, parts_count R names vs last fits.1)
 
 module _ (s : TableSchema) (g : Group) where
-  pub names : IsDeclared s → FitsPartition s g → g.bucket < 2 ^ 32 → slice_split (λ b. b == 47) (folder_text s g) ≡ folder_names s g
-  names is fits lt = parts_cut s.columns is.rules.0 (bucket_name g.bucket) s.partition g.partition fits (bucket_plain g.bucket lt)
+  pub names : IsDeclared s → FitsPartition s g → g.bucket < 2 ^ 32
+      → slice_split (λ b. b == 47) (folder_text s g) ≡ folder_names s g
+  names is fits lt =
+      parts_cut s.columns is.rules.0 (bucket_name g.bucket) s.partition g.partition fits (bucket_plain g.bucket lt)
 
   pub count : FitsPartition s g → length (folder_names s g) ≡ length s.partition + 1
   count fits = parts_count (FitsPart s.columns) s.partition g.partition (bucket_name g.bucket) fits
 
   pub plain : IsDeclared s → FitsPartition s g → g.bucket < 2 ^ 32
       → AllByRecursion (λ name. IsTrue (is_folder_name name)) (folder_names s g)
-  plain is fits lt = parts_plain s.columns is.rules.0 (bucket_name g.bucket) s.partition g.partition fits (bucket_plain g.bucket lt)
+  plain is fits lt =
+      parts_plain s.columns is.rules.0 (bucket_name g.bucket) s.partition g.partition fits (bucket_plain g.bucket lt)
 
   pub short : IsDeclared s → FitsPartition s g → g.bucket < 2 ^ 32 → list_any is_too_long g.partition ≡ false
       → AllByRecursion (λ name. length name ≤ 255) (folder_names s g)
   short is fits lt few =
-      parts_short s.columns is.rules.0 (bucket_name g.bucket) s.partition g.partition fits few (bucket_short g.bucket lt)
+      parts_short s.columns is.rules.0 (bucket_name g.bucket) s.partition g.partition fits few
+      (bucket_short g.bucket lt)

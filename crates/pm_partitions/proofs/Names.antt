@@ -14,6 +14,7 @@ use Rattle.pm_schema.specs.Folder.{escaped, escaped_byte, is_plain, upper_digit}
 use Rattle.pm_schema.specs.Rules.{begins_name, continues_name, is_name, is_reserved, is_spelled}
 use Rattle.pm_partitions.specs.Names.{bucket_name, is_folder_byte, is_folder_name}
 use Rattle.pm_partitions.proofs.Bytes.{AreBytes}
+use Rattle.pm_partitions.proofs.Escapes.{coded}
 use Rattle.pm_partitions.proofs.Tests.{both, together}
 
 -- ---- bytes
@@ -24,7 +25,8 @@ later false x e = refl
 
 digit_byte : (c : ℕ) → 48 ≤ c → c ≤ 57 → is_folder_byte c ≡ true
 digit_byte c low high =
-    rw (le-leb 48 c low, le-leb c 57 high) (later (is_ascii_alphabetic c) (c == 46 || (c == 95 || c == 45)) (c == 37 || c == 61))
+    rw (le-leb 48 c low, le-leb c 57 high)
+    (later (is_ascii_alphabetic c) (c == 46 || (c == 95 || c == 45)) (c == 37 || c == 61))
 
 upper_byte : (c : ℕ) → 65 ≤ c → c ≤ 90 → is_folder_byte c ≡ true
 upper_byte c low high = rw (le-leb 65 c low, le-leb c 90 high) refl
@@ -67,13 +69,15 @@ continued_bytes (b ∷ bs) all =
 
 coded_bytes : (itself : Bool) (b : ℕ) (rest : List ℕ) → b < 256 → (itself ≡ true → is_plain b ≡ true)
     → list_all is_folder_byte rest ≡ true
-    → list_all is_folder_byte ((cond itself (b ∷ []) (37 ∷ upper_digit (b / 16) ∷ upper_digit (b % 16) ∷ [])) ++ rest) ≡ true
+    → list_all is_folder_byte (coded itself b ++ rest) ≡ true
 coded_bytes true b rest below plain all =
-    together (is_folder_byte b) (list_all is_folder_byte rest) (begun (is_plain b) (b == 37 || b == 61) (plain refl)) all
+    together (is_folder_byte b) (list_all is_folder_byte rest)
+    (begun (is_plain b) (b == 37 || b == 61) (plain refl)) all
 coded_bytes false b rest below plain all =
     together (is_folder_byte (upper_digit (b / 16))) (list_all is_folder_byte (upper_digit (b % 16) ∷ rest))
     (upper_digit_byte (b / 16) (omega arith))
-    (together (is_folder_byte (upper_digit (b % 16))) (list_all is_folder_byte rest) (upper_digit_byte (b % 16) (omega arith)) all)
+    (together (is_folder_byte (upper_digit (b % 16))) (list_all is_folder_byte rest)
+    (upper_digit_byte (b % 16) (omega arith)) all)
 
 escaped_bytes : (text : List ℕ) → AreBytes text → list_all is_folder_byte (escaped text) ≡ true
 escaped_bytes [] all = refl
@@ -89,7 +93,8 @@ part_plain (b ∷ bs) text named all =
     let p = both (begins_name b) (list_all continues_name bs) spelled in
     let bytes : list_all is_folder_byte (bs ++ 61 ∷ escaped text) ≡ true =
     list_all-append is_folder_byte bs (61 ∷ escaped text)
-    ∙ together (list_all is_folder_byte bs) (list_all is_folder_byte (escaped text)) (continued_bytes bs p.1) (escaped_bytes text all) in
+    ∙ together (list_all is_folder_byte bs) (list_all is_folder_byte (escaped text))
+    (continued_bytes bs p.1) (escaped_bytes text all) in
     together (begins_name b) (list_all is_folder_byte (bs ++ 61 ∷ escaped text)) p.0 bytes
 
 decimal_bytes : (n : ℕ) → n < 2 ^ 64 → list_all is_folder_byte (decimal n) ≡ true
@@ -134,7 +139,7 @@ whole name named = whole_bytes name (name_bytes name named)
 -- ---- lengths
 
 coded_length : (itself : Bool) (b : ℕ)
-    → length (cond itself (b ∷ []) (37 ∷ upper_digit (b / 16) ∷ upper_digit (b % 16) ∷ [])) ≤ 3
+    → length (coded itself b) ≤ 3
 coded_length true b = omega arith
 coded_length false b = omega arith
 
@@ -147,7 +152,8 @@ pub part_short : (column text : List ℕ) → is_name column ≡ true → length
     → length (column ++ 61 ∷ escaped text) ≤ 255
 part_short column text named le =
     let p = (both (is_spelled column) (nat_le (length column) 64 && not (is_reserved column)) named).1 in
-    let few : length column ≤ 64 = leb-true (length column) 64 (both (nat_le (length column) 64) (not (is_reserved column)) p).0 in
+    let few : length column ≤ 64 = leb-true (length column) 64
+    (both (nat_le (length column) 64) (not (is_reserved column)) p).0 in
     omega (arith, few, escaped_length text, length-append column (61 ∷ escaped text))
 
 pub bucket_short : (n : ℕ) → n < 2 ^ 32 → length (bucket_name n) ≤ 255

@@ -136,7 +136,8 @@ module _ (v w : Value) (e : value_text v ≡ value_text w) where
       sym (day_in-date_text p.0 p.2) ∙ ap day_in same ∙ day_in-date_text q.0 q.2 in
       p.1 ∙ ap (λ (o : Option ℤ). values.Day (unwrap_or o p.0)) again ∙ sym q.1
   one_shape types.Timestamp p q =
-      let n = signed_decimal_injective p.0 q.0 p.2.sfits q.2.sfits (texts (values.Millis p.0) (values.Millis q.0) p.1 q.1) in
+      let n = signed_decimal_injective p.0 q.0 p.2.sfits q.2.sfits
+      (texts (values.Millis p.0) (values.Millis q.0) p.1 q.1) in
       p.1 ∙ ap values.Millis n ∙ sym q.1
 
 pub one_value : (o : Option Column) (v w : Value) → IsSomeAnd o (λ c. IsInType c.kind v)
