@@ -1,0 +1,2 @@
+mod AloneLemmas
+pub mod Facts

@@ -1,0 +1,4 @@
+pub mod Meaning
+pub mod Removal
+pub mod Remover
+pub mod Trace
