@@ -1,0 +1,2 @@
+pub mod Expiry
+pub mod Removals
