@@ -1,0 +1,6 @@
+mod AllCallsLemmas
+mod AmongLemmas
+mod CallLemmas
+mod ChangeLemmas
+mod Facts
+mod OneLemmas
