@@ -1,0 +1,4 @@
+mod AllCallsLemmas
+pub mod BesideLemmas
+pub mod Facts
+pub mod OneLemmas

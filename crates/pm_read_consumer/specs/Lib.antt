@@ -1,0 +1,4 @@
+pub mod AllCalls
+pub mod Meaning
+pub mod Reader
+pub mod Trace
