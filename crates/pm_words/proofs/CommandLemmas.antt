@@ -1,32 +1,22 @@
 -- Words give one command at most.
-use Rattle.std.proofs.Common.{◌≡◌, ◌<◌, ◌≤◌, ◌^◌, ℕ, Bool, true, false, true≢false, List, [], ◌∷◌, codes, Option, None, Some, IfSome, IfNone, refl, sym, ap, ap₂, subst, ◌∙◌, arith}
+use Rattle.std.proofs.Common.{◌≡◌, inl, inr, ◌<◌, ◌≤◌, ◌^◌, ℕ, Bool, true, false, true≢false, ◌&&◌, ◌||◌, List, [], ◌∷◌, ◌++◌, append-nil, codes, Option, None, Some, IfSome, IfNone, option_map, refl, sym, ap, ap₂, subst, ◌∙◌, arith}
+use Rattle.std.specs.Borrow.{Bor}
 use Rattle.std.specs.Fmt.{decimal}
+use Rattle.std.specs.List.{list_all}
 use Rattle.std.specs.Str.{bytes_eq}
 use Rattle.std.proofs.lemmas.Fmt.{decimal_injective}
 use Rattle.std.proofs.lemmas.Slice.Eq.{bytes_eq-Decides}
-use Rattle.pm_words.specs.Reading.{AreOfCommand, Finds}
-use Rattle.pm_words.specs.Words.{AreOf, AreOptions, Give, GiveEach, GiveFlag, GiveName, GiveNoCommand, GiveNumber, names_of, word_of}
+use Rattle.pm_words.specs.Clap.{HasNoOptions, IsGiven, flag, has_bytes, may_stand, value}
+use Rattle.pm_words.specs.Reading.{AreOfCommand, Finds, GiveAfter, IsNameOf, IsNumberOf}
+use Rattle.pm_words.specs.Words.{AreOf, AreOptions, CommandOption, Give, GiveEach, GiveFlag, GiveName, GiveNoCommand, GiveNumber, after_equals, begins_with_hyphen, given, is_among, names_of, word_of}
 use Rattle.pm_words.specs.declared.command.Command.{Command}
 use Rattle.pm_words.specs.declared.command.Command.TheVariants as commands
-use Rattle.pm_words.specs.declared.options.CommandOption.{CommandOption}
 use Rattle.pm_words.proofs.OptionLemmas.{one_list}
+use Rattle.pm_words.proofs.ReadLemmas.{both}
 
 -- other texts are other words
 apart : (a b : List ℕ) → bytes_eq a b ≡ false → a ≡ b → ⊥
 apart a b differ same = true≢false (sym ((bytes_eq-Decides a b).1 same) ∙ differ)
-
--- options of no name are none
-no_names : (options : List CommandOption) → AreOf [] options → options ≡ []
-no_names [] are = refl
-no_names (option ∷ options) are = absurd (true≢false (sym are.known))
-
-pub only_create : (options : List CommandOption) (command : Command) → AreOfCommand (codes "create") options command → options ≡ []
-only_create options commands.Create are = no_names options are.names
-only_create options other are = absurd (apart (codes "create") (word_of other) refl are.first)
-
-pub only_snapshots : (options : List CommandOption) (command : Command) → AreOfCommand (codes "snapshots") options command → options ≡ []
-only_snapshots options commands.Snapshots are = no_names options are.names
-only_snapshots options other are = absurd (apart (codes "snapshots") (word_of other) refl are.first)
 
 one_flag : (options : List CommandOption) (option : List ℕ) (a b : Bool) → GiveFlag options option a → GiveFlag options option b → a ≡ b
 one_flag options option true true one other = refl
@@ -49,15 +39,6 @@ one_number options option (Some a) (Some b) one other =
     ap Some (decimal_injective a b first second texts)
 one_number options option None (Some b) one other = absurd cc
 one_number options option (Some a) None one other = absurd cc
-
--- no command begins at 0
-pub from_zero : (options : List CommandOption) (command : Command) (n : ℕ) → n ≡ 0 → AreOfCommand (codes "follow") options command
-    → GiveNumber options (codes "from") (Some n) → ⊥
-from_zero options (commands.Follow from full) n zero are gives =
-    let same : from ≡ Some n = one_number options (codes "from") from (Some n) are.values.0 gives in
-    let low : 1 ≤ n = subst (λ (from : Option ℕ). IfSome from (λ id. 1 ≤ id)) same are.values.2 in
-    omega (arith, low, zero)
-from_zero options other n zero are gives = absurd (apart (codes "follow") (word_of other) refl are.first)
 
 -- a word and options are those of one command
 one_of : (word : List ℕ) (options : List CommandOption) (a b : Command) → AreOfCommand word options a → AreOfCommand word options b → a ≡ b
@@ -91,7 +72,185 @@ one_command words a b one other =
     let are_other : AreOfCommand (word_of a) one.options b = given_by (word_of a) one.later words one.options b one.first one.are other in
     one_of (word_of a) one.options a b are_one are_other
 
-pub none_given : (word : List ℕ) (later words : List (List ℕ)) (options : List CommandOption) → words ≡ word ∷ later → AreOptions options later
-    → (found : Option Command) → Finds (AreOfCommand word options) found → IfNone found (GiveNoCommand words)
-none_given word later words options is are None none = λ command give. none command (given_by word later words options command is are give)
-none_given word later words options is are (Some command) found = tt
+-- words give a command where the first and those after it do, and only there
+pub given_after : (word : List ℕ) (later words : List (List ℕ)) (command : Command) → words ≡ word ∷ later → Give words command → GiveAfter word later command
+given_after word later words command is give =
+    let both : word ∷ later ≡ word_of command ∷ give.later = sym is ∙ give.first in
+    let heads : word ≡ word_of command = cc in
+    let tails : give.later ≡ later = cc in
+    record {
+      options = give.options;
+      are = subst (AreOptions give.options) tails give.are;
+      of = record { first = heads; names = give.names; values = give.values };
+    }
+
+pub gives : (word : List ℕ) (later words : List (List ℕ)) (command : Command) → words ≡ word ∷ later → GiveAfter word later command → Give words command
+gives word later words command is after = record {
+  later = later;
+  options = after.options;
+  first = is ∙ ap (λ w. w ∷ later) after.of.first;
+  are = after.are;
+  names = after.of.names;
+  values = after.of.values;
+}
+
+pub found_given : (word : List ℕ) (later words : List (List ℕ)) → words ≡ word ∷ later → (found : Option Command) → Finds (GiveAfter word later) found
+    → IfSome found (Give words) × IfNone found (GiveNoCommand words)
+found_given word later words is None none = (tt, λ command give. none command (given_after word later words command is give))
+found_given word later words is (Some command) after = (gives word later words command is after, tt)
+
+-- ---- words after a command's own
+
+-- where the words are no options of the command, they don't give it
+module _ (words : List (List ℕ)) where
+  number_is : (options : List CommandOption) (name : List ℕ) (number : Option ℕ) → GiveNumber options name number → IsGiven (value name) (given name options)
+  number_is options name None gives e = absurd cc
+  number_is options name (Some n) gives e = absurd cc
+
+  name_is : (options : List CommandOption) (name : List ℕ) (text : Option (List ℕ)) → GiveName options name text → IsGiven (value name) (given name options)
+  name_is options name None gives e = absurd cc
+  name_is options name (Some n) gives e = absurd cc
+
+  flag_is_given : (options : List CommandOption) (name : List ℕ) (b : Bool) → GiveFlag options name b → IsGiven (flag name) (given name options)
+  flag_is_given options name true gives v e = absurd cc
+  flag_is_given options name false gives v e = absurd cc
+
+  pub no_create : HasNoOptions [] words → (command : Command) → GiveAfter (codes "create") words command → ⊥
+  no_create none commands.Create after = none after.options after.are after.of.names tt
+  no_create none other after = apart (codes "create") (word_of other) refl after.of.first
+
+  pub no_snapshots : HasNoOptions [] words → (command : Command) → GiveAfter (codes "snapshots") words command → ⊥
+  no_snapshots none commands.Snapshots after = none after.options after.are after.of.names tt
+  no_snapshots none other after = apart (codes "snapshots") (word_of other) refl after.of.first
+
+  pub no_compact : HasNoOptions (flag (codes "full") ∷ []) words → (command : Command) → GiveAfter (codes "compact") words command → ⊥
+  no_compact none (commands.Compact full) after = none after.options after.are after.of.names (flag_is_given after.options (codes "full") full after.of.values, tt)
+  no_compact none other after = apart (codes "compact") (word_of other) refl after.of.first
+
+  pub no_follow : HasNoOptions (value (codes "from") ∷ flag (codes "full") ∷ []) words → (command : Command) → GiveAfter (codes "follow") words command → ⊥
+  no_follow none (commands.Follow from full) after = none after.options after.are after.of.names
+      (number_is after.options (codes "from") from after.of.values.0, (flag_is_given after.options (codes "full") full after.of.values.1, tt))
+  no_follow none other after = apart (codes "follow") (word_of other) refl after.of.first
+
+  pub no_scan : HasNoOptions (value (codes "snapshot") ∷ []) words → (command : Command) → GiveAfter (codes "scan") words command → ⊥
+  no_scan none (commands.Scan snapshot) after = none after.options after.are after.of.names (number_is after.options (codes "snapshot") snapshot after.of.values, tt)
+  no_scan none other after = apart (codes "scan") (word_of other) refl after.of.first
+
+  pub no_write : HasNoOptions (value (codes "user") ∷ value (codes "ident") ∷ []) words → (command : Command) → GiveAfter (codes "write") words command → ⊥
+  no_write none (commands.Write user identifier) after = none after.options after.are after.of.names
+      (name_is after.options (codes "user") user after.of.values.0, (number_is after.options (codes "ident") identifier after.of.values.1, tt))
+  no_write none other after = apart (codes "write") (word_of other) refl after.of.first
+
+  -- where they are, they give it by what was found, and no other
+  same_options : (options : List CommandOption) → AreOptions options words → (word : List ℕ) (command : Command) (after : GiveAfter word words command) → after.options ≡ options
+  same_options options are word command after = one_list after.options options words after.are are
+
+  pub no_from : (options : List CommandOption) → AreOptions options words → Finds (GiveNumber options (codes "from")) None → (command : Command) → GiveAfter (codes "follow") words command → ⊥
+  no_from options are none (commands.Follow from full) after =
+      none from (subst (λ os. GiveNumber os (codes "from") from) (same_options options are (codes "follow") (commands.Follow from full) after) after.of.values.0)
+  no_from options are none other after = apart (codes "follow") (word_of other) refl after.of.first
+
+  pub from_zero : (options : List CommandOption) → AreOptions options words → (n : ℕ) → n ≡ 0 → GiveNumber options (codes "from") (Some n) → (command : Command)
+      → GiveAfter (codes "follow") words command → ⊥
+  from_zero options are n zero gives (commands.Follow from full) after =
+      let here = subst (λ os. GiveNumber os (codes "from") from) (same_options options are (codes "follow") (commands.Follow from full) after) after.of.values.0 in
+      let same : from ≡ Some n = one_number options (codes "from") from (Some n) here gives in
+      let low : 1 ≤ n = subst (λ (from : Option ℕ). IfSome from (λ id. 1 ≤ id)) same after.of.values.2 in
+      omega (arith, low, zero)
+  from_zero options are n zero gives other after = apart (codes "follow") (word_of other) refl after.of.first
+
+  pub no_snapshot : (options : List CommandOption) → AreOptions options words → Finds (GiveNumber options (codes "snapshot")) None → (command : Command) → GiveAfter (codes "scan") words command → ⊥
+  no_snapshot options are none (commands.Scan snapshot) after =
+      none snapshot (subst (λ os. GiveNumber os (codes "snapshot") snapshot) (same_options options are (codes "scan") (commands.Scan snapshot) after) after.of.values)
+  no_snapshot options are none other after = apart (codes "scan") (word_of other) refl after.of.first
+
+  pub no_user : (options : List CommandOption) → AreOptions options words → Finds (GiveName options (codes "user")) None → (command : Command) → GiveAfter (codes "write") words command → ⊥
+  no_user options are none (commands.Write user identifier) after =
+      none user (subst (λ os. GiveName os (codes "user") user) (same_options options are (codes "write") (commands.Write user identifier) after) after.of.values.0)
+  no_user options are none other after = apart (codes "write") (word_of other) refl after.of.first
+
+  pub no_identifier : (options : List CommandOption) → AreOptions options words → Finds (GiveNumber options (codes "ident")) None → (command : Command) → GiveAfter (codes "write") words command → ⊥
+  no_identifier options are none (commands.Write user identifier) after =
+      none identifier (subst (λ os. GiveNumber os (codes "ident") identifier) (same_options options are (codes "write") (commands.Write user identifier) after) after.of.values.1)
+  no_identifier options are none other after = apart (codes "write") (word_of other) refl after.of.first
+
+-- ---- values
+
+-- by the first value that was found, or none
+pub text_given : (options : List CommandOption) (name : List ℕ) (first : Option (List ℕ)) (r : Option (Bor (List ℕ))) (text : Option (List ℕ)) → given name options ≡ option_map Some first
+    → option_map (λ (s : Bor (List ℕ)). s.now) r ≡ first → option_map (λ (s : Bor (List ℕ)). s.now) r ≡ text → given name options ≡ option_map Some text
+text_given options name first r text gives is has = gives ∙ ap (option_map Some) (sym is ∙ has)
+
+pub name_found : (options : List CommandOption) (name text : List ℕ) (found : Option (List ℕ)) → given name options ≡ Some (Some text) → Finds (IsNameOf text) found
+    → Finds (GiveName options name) (option_map Some found)
+name_found options name text (Some t) gives (is, same) = (gives ∙ ap (λ x. Some (Some x)) same, is)
+name_found options name text None gives none = go
+  where
+    go : (x : Option (List ℕ)) → GiveName options name x → ⊥
+    go None gives_none = let bad = sym gives ∙ gives_none.0 in absurd cc
+    go (Some t) gives_one =
+        let both : Some (Some text) ≡ Some (Some t) = sym gives ∙ gives_one.0 in
+        let same : text ≡ t = cc in
+        none t (gives_one.1, same)
+
+pub number_found : (options : List CommandOption) (name text : List ℕ) (found : Option ℕ) → given name options ≡ Some (Some text) → Finds (IsNumberOf text) found
+    → Finds (GiveNumber options name) (option_map Some found)
+number_found options name text (Some n) gives (within, same) = (gives ∙ ap (λ x. Some (Some x)) same, within)
+number_found options name text None gives none = go
+  where
+    go : (x : Option ℕ) → GiveNumber options name x → ⊥
+    go None gives_none = let bad = sym gives ∙ gives_none.0 in absurd cc
+    go (Some n) gives_one =
+        let both : Some (Some text) ≡ Some (Some (decimal n)) = sym gives ∙ gives_one.0 in
+        let same : text ≡ decimal n = cc in
+        none n (gives_one.1, same)
+
+-- ---- words that may stand
+
+plain_stands : (word : List ℕ) → begins_with_hyphen word ≡ false → may_stand word ≡ true
+plain_stands [] plain = refl
+plain_stands (b ∷ word) plain = rw plain refl
+
+name_stands : (name rest : List ℕ) → has_bytes name ≡ true → may_stand (45 ∷ 45 ∷ (name ++ rest)) ≡ true
+name_stands [] rest has = absurd (true≢false (sym has))
+name_stands (b ∷ name) rest has = refl
+
+has_name : (names : List (List ℕ)) (name : List ℕ) → list_all has_bytes names ≡ true → is_among names name ≡ true → has_bytes name ≡ true
+has_name [] name all among = absurd (true≢false (sym among))
+has_name (x ∷ names) name all among =
+    let parts = both (has_bytes x) _ all in
+    go (bytes_eq x name) refl parts.0 among (has_name names name parts.1)
+  where
+    go : (b : Bool) → bytes_eq x name ≡ b → has_bytes x ≡ true → (b || is_among names name) ≡ true → (is_among names name ≡ true → has_bytes name ≡ true) → has_bytes name ≡ true
+    go true is has among rest = subst (λ n. has_bytes n ≡ true) ((bytes_eq-Decides x name).0 is) has
+    go false is has among rest = rest among
+
+-- each word of options that have names may
+options_stand : (names : List (List ℕ)) → list_all has_bytes names ≡ true → (options : List CommandOption) (words : List (List ℕ)) → AreOptions options words
+    → list_all (λ (o : CommandOption). is_among names o.name) options ≡ true → list_all may_stand words ≡ true
+options_stand names named [] words are known = subst (λ ws. list_all may_stand ws ≡ true) (sym are) refl
+options_stand names named (o ∷ options) words are known =
+    let parts = both (is_among names o.name) _ known in
+    let has = has_name names o.name named parts.0 in
+    let rest = options_stand names named options are.1 are.4 parts.1 in
+    elim are.3.1 as (λ _. list_all may_stand words ≡ true) [
+      | inl is ↦
+          subst (λ ws. list_all may_stand ws ≡ true) (sym (are.2 ∙ ap (λ own. own ++ are.1) is)) (ap₂ (λ a b. a && b) (name_stands o.name (after_equals o.value) has) rest)
+      | inr (given_one, one, plain, is) ↦
+          subst (λ ws. list_all may_stand ws ≡ true) (sym (are.2 ∙ ap (λ own. own ++ are.1) is))
+          (ap₂ (λ a b. a && b) (ap (λ n. may_stand (45 ∷ 45 ∷ n)) (sym (append-nil o.name)) ∙ name_stands o.name [] has)
+          (ap₂ (λ a b. a && b) (plain_stands given_one plain) rest))
+    ]
+
+names_have : (command : Command) → list_all has_bytes (names_of command) ≡ true
+names_have commands.Create = refl
+names_have (commands.Compact full) = refl
+names_have (commands.Follow from full) = refl
+names_have (commands.Scan snapshot) = refl
+names_have commands.Snapshots = refl
+names_have (commands.Write user identifier) = refl
+
+pub none_stands : (word : List ℕ) (later words : List (List ℕ)) → words ≡ word ∷ later → list_all may_stand later ≡ false → GiveNoCommand words
+none_stands word later words is none = λ command give.
+    let after = given_after word later words command is give in
+    true≢false (sym (options_stand (names_of command) (names_have command) after.options later after.are after.of.names.known) ∙ none)

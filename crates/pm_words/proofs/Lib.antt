@@ -1,2 +1,6 @@
-mod OptionLemmas
 mod CommandLemmas
+mod DeclareLemmas
+mod FindLemmas
+mod OptionLemmas
+mod ReadLemmas
+mod WalkLemmas

@@ -1,19 +1,14 @@
 -- Words are the options of one list at most.
-use Rattle.std.proofs.Common.{◌≡◌, ◌≢◌, ◌⊎◌, inl, inr, ℕ, ◌+◌, ◌<◌, ◌==◌, ◌||◌, false, true≢false, List, [], ◌∷◌, ◌++◌, length, get_or, codes, Option, None, Some, refl, sym, ap, ap₂, subst, ◌∙◌, append_assoc, append-nil, arith}
+use Rattle.std.proofs.Common.{◌≡◌, ◌⊎◌, inl, inr, ℕ, ◌==◌, ◌||◌, false, true≢false, List, [], ◌∷◌, ◌++◌, codes, Option, None, Some, refl, sym, ap, ap₂, subst, ◌∙◌, append-nil, arith}
 use Rattle.std.specs.List.{list_any}
-use Rattle.pm_words.specs.Reading.{BeginsPlain, IsFirstOption}
-use Rattle.pm_words.specs.Words.{AreOptions, AreWordsOf, HasNoEquals, after_equals, begins_with_hyphen}
-use Rattle.pm_words.specs.declared.options.CommandOption.{CommandOption}
+use Rattle.pm_words.specs.Words.{AreOptions, AreWordsOf, CommandOption, HasNoEquals, after_equals, begins_with_hyphen}
+
+-- the first word begins with no hyphen
+abbrev BeginsPlain : List (List ℕ) → Type 0
+BeginsPlain [] = ⊥
+BeginsPlain (word ∷ words) = begins_with_hyphen word ≡ false
 
 -- ---- one word
-
--- a text without `=`, byte by byte
-pub no_equals : (text : List ℕ) → ((i : ℕ) → i < length text → get_or text i 0 ≢ 61) → HasNoEquals text
-no_equals [] none = refl
-no_equals (byte ∷ text) none =
-    let here : byte ≢ 61 = none 0 (omega arith) in
-    let rest : HasNoEquals text = no_equals text (λ i within. let far : get_or (byte ∷ text) (i + 1) 0 ≢ 61 = none (i + 1) (omega arith) in grind (arith, far)) in
-    grind (arith, here, rest)
 
 -- a name and its value are told apart by the first `=`
 split_once : (n m : List ℕ) (v w : Option (List ℕ)) → HasNoEquals n → HasNoEquals m → n ++ after_equals v ≡ m ++ after_equals w → (n ≡ m) × (v ≡ w)
@@ -113,90 +108,3 @@ one_list (x ∷ a) (y ∷ b) words one other =
     let same = same_option x y first.0 first.1 one.1 other.1 first.3 moved (λ _. not_plain a one.1 one.4) (λ _. not_plain b other.1 other.4) in
     let rest : a ≡ b = one_list a b one.1 one.4 (subst (AreOptions b) (sym same.1) other.4) in
     cc
-
--- ---- reading them
-
--- the first of options is the one that the words begin with
-after_first : (word : List ℕ) (later rest : List (List ℕ)) (text : List ℕ) (option : CommandOption) → word ≡ codes "--" ++ text → IsFirstOption text later option rest
-    → (options : List CommandOption) → AreOptions options (word ∷ later) → (more : List CommandOption) × (options ≡ option ∷ more) × AreOptions more rest
-after_first word later rest text option is first [] are = absurd cc
-after_first word later rest text option is first (x ∷ options) are =
-    let one = opens x are.0 (word ∷ later) are.1 are.3 are.2 in
-    let other = opens option ((codes "--" ++ text) ∷ first.own) (word ∷ later) rest first.are (ap (λ w. w ∷ later) is ∙ ap (λ ws. (codes "--" ++ text) ∷ ws) first.words) in
-    let both : (codes "--" ++ one.0) ∷ one.1 ≡ (codes "--" ++ other.0) ∷ other.1 = sym one.2 ∙ other.2 in
-    let texts : one.0 ≡ other.0 = cc in
-    let laters : one.1 ≡ other.1 = cc in
-    let moved : Opens option one.0 one.1 rest = subst (λ t. Opens option t one.1 rest) (sym texts) (subst (λ ws. Opens option other.0 ws rest) (sym laters) other.3) in
-    let same = same_option x option one.0 one.1 are.1 rest one.3 moved (λ _. not_plain options are.1 are.4) first.greedy in
-    (options, ap (λ o. o ∷ options) same.0, subst (AreOptions options) same.1 are.4)
-
-opened : (options : List CommandOption) (word : List ℕ) (later : List (List ℕ)) → ((text : List ℕ) → word ≢ codes "--" ++ text) → AreOptions options (word ∷ later) → ⊥
-opened [] word later not are = absurd cc
-opened (x ∷ options) word later not are =
-    let one = opens x are.0 (word ∷ later) are.1 are.3 are.2 in
-    not one.0 cc
-
--- what is left after these options: they and its options are those of all words, and no others are
-pub record Continues (done : List CommandOption) (rest words : List (List ℕ)) : Type 0 where
-  pub whole : (options : List CommandOption) → AreOptions options rest → AreOptions (done ++ options) words
-  pub only : (options : List CommandOption) → AreOptions options words → (more : List CommandOption) × (options ≡ done ++ more) × AreOptions more rest
-
-pub begun : (words : List (List ℕ)) → Continues [] words words
-begun words = record { whole = λ options are. are; only = λ options are. (options, refl, are) }
-
-pub continued : (done : List CommandOption) (word : List ℕ) (later rest words : List (List ℕ)) (text : List ℕ) (option : CommandOption)
-    → Continues done (word ∷ later) words → word ≡ codes "--" ++ text → IsFirstOption text later option rest → Continues (done ++ option ∷ []) rest words
-continued done word later rest words text option before is first = record {
-  whole = λ options are. subst (λ os. AreOptions os words) (sym (append_assoc done (option ∷ []) options))
-      (before.whole (option ∷ options) (
-        word ∷ first.own,
-        rest,
-        ap (λ ws. word ∷ ws) first.words,
-        subst (λ w. AreWordsOf option (w ∷ first.own)) (sym is) first.are,
-        are,
-      ));
-  only = λ options are.
-      let found = before.only options are in
-      let split = after_first word later rest text option is first found.0 found.2 in
-      (split.0, found.1 ∙ ap (λ os. done ++ os) split.1 ∙ sym (append_assoc done (option ∷ []) split.0), split.2);
-}
-
--- no other word begins options
-pub no_option : (done : List CommandOption) (word : List ℕ) (later words : List (List ℕ)) → Continues done (word ∷ later) words → ((text : List ℕ) → word ≢ codes "--" ++ text)
-    → (options : List CommandOption) → AreOptions options words → ⊥
-no_option done word later words before not options are =
-    let found = before.only options are in
-    opened found.0 word later not found.2
-
-pub finished : (done : List CommandOption) (words : List (List ℕ)) → Continues done [] words → AreOptions done words
-finished done words before = subst (λ os. AreOptions os words) (append-nil done) (before.whole [] refl)
-
--- ---- the first option
-
--- its value stands after `=`
-pub first_joined : (text name value : List ℕ) (later : List (List ℕ)) → HasNoEquals name → text ≡ name ++ after_equals (Some value) → IsFirstOption text later (record { name = name; value = Some value }) later
-first_joined text name value later plain whole = record {
-  own = [];
-  words = refl;
-  are = (plain, inl (ap (λ t. (codes "--" ++ t) ∷ []) whole));
-  greedy = λ none. absurd cc;
-}
-
--- its value is a word of its own
-pub first_apart : (text name value : List ℕ) (later rest : List (List ℕ)) → HasNoEquals name → text ≡ name ++ after_equals None → later ≡ value ∷ rest → begins_with_hyphen value ≡ false
-    → IsFirstOption text later (record { name = name; value = Some value }) rest
-first_apart text name value later rest plain whole is begins = record {
-  own = value ∷ [];
-  words = is;
-  are = (plain, inr (value, refl, begins, ap (λ t. (codes "--" ++ t) ∷ value ∷ []) (whole ∙ append-nil name)));
-  greedy = λ none. absurd cc;
-}
-
--- it has none
-pub first_alone : (text name : List ℕ) (later : List (List ℕ)) → HasNoEquals name → text ≡ name ++ after_equals None → (BeginsPlain later → ⊥) → IsFirstOption text later (record { name = name; value = None }) later
-first_alone text name later plain whole not = record {
-  own = [];
-  words = refl;
-  are = (plain, inl (ap (λ t. (codes "--" ++ t) ∷ []) whole));
-  greedy = λ _. not;
-}

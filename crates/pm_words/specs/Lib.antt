@@ -1,2 +1,3 @@
+pub mod Clap
 pub mod Reading
 pub mod Words

@@ -8,9 +8,13 @@ use Rattle.pm_values.specs.declared.refusal.Refusal.{Refusal}
 use Rattle.pm_values.specs.declared.refusal.Refusal.TheVariants as refusals
 use Rattle.pm_words.specs.declared.command.Command.{Command}
 use Rattle.pm_words.specs.declared.command.Command.TheVariants as commands
-use Rattle.pm_words.specs.declared.options.CommandOption.{CommandOption}
 
 -- ---- options as words
+
+-- an option: its name, and its value where it has one
+pub record CommandOption : Type 0 where
+  pub name : List ℕ
+  pub value : Option (List ℕ)
 
 -- no `=` stands in the text
 abbrev pub HasNoEquals : List ℕ → Type 0

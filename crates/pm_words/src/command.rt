@@ -1,11 +1,13 @@
 //! The commands.
 
-ghost use Rattle.std.specs.Prelude.{◌≡◌, IfOk, IfSome, IfNone, codes};
+ghost use Rattle.std.specs.Prelude.{◌≡◌, IfOk, IfSome, IfNone, codes, map, true};
+ghost use Rattle.std.specs.List.{list_all};
 ghost use Rattle.pm_values.specs.declared.refusal.Refusal.TheVariants as refusals;
-ghost use Rattle.pm_words.specs.Reading.{AreOfCommand, Finds};
+ghost use Rattle.pm_words.specs.Clap.{may_stand};
+ghost use Rattle.pm_words.specs.Reading.{Finds, GiveAfter};
 ghost use Rattle.pm_words.specs.Words.{Give, GiveNoCommand, first_word};
 
-use crate::options::{CommandOption, are_of, options_in};
+use crate::options::{matches_in, texts_in, with_flag, with_value, without_options};
 use crate::values::{flag_given, name_given, number_given};
 use pm_values::{Refusal, Txt};
 use std::alloc::{AllocError, Global};
@@ -47,104 +49,119 @@ pub fn command_in(alloc: Global, words: &[Txt]) -> Result<Option<Command>, Alloc
     let Some((word, later)) = words.split_first() else {
         return Ok(None);
     };
-    match options_in(alloc, later)? {
-        Some(options) => command_of(alloc, word.as_str(), options.as_slice()),
+    match texts_in(alloc, later)? {
+        Some(texts) => command_of(alloc, word.as_str(), texts.as_slice()),
         None => Ok(None),
     }
 }
 
-/// The command of the word with these options.
-fn command_of(
+/// The command of the word with these words after it.
+fn command_of<'a>(
     alloc: Global,
     word: &str,
-    options: &[CommandOption],
+    words: &'a [&'a str],
 ) -> Result<Option<Command>, AllocError>
-    ensures { IfOk result (Finds (AreOfCommand word.now options.now)) }
+    requires { list_all may_stand (map (λ word. word.now) words.now) ≡ true }
+    ensures { IfOk result (Finds (GiveAfter word.now (map (λ word. word.now) words.entry.now))) }
 {
     match word {
-        "compact" => Ok(compact_of(options)),
-        "create" => Ok(create_of(options)),
-        "follow" => Ok(follow_of(options)),
-        "scan" => Ok(scan_of(options)),
-        "snapshots" => Ok(snapshots_of(options)),
-        "write" => write_of(alloc, options),
+        "compact" => compact_of(alloc, words),
+        "create" => create_of(alloc, words),
+        "follow" => follow_of(alloc, words),
+        "scan" => scan_of(alloc, words),
+        "snapshots" => snapshots_of(alloc, words),
+        "write" => write_of(alloc, words),
         _ => Ok(None),
     }
 }
 
-/// The command `compact` with these options.
-fn compact_of(options: &[CommandOption]) -> Option<Command>
-    ensures { Finds (AreOfCommand (codes "compact") options.now) result }
+/// The command `compact` with these words after it.
+fn compact_of<'a>(alloc: Global, words: &'a [&'a str]) -> Result<Option<Command>, AllocError>
+    requires { list_all may_stand (map (λ word. word.now) words.now) ≡ true }
+    ensures { IfOk result (Finds (GiveAfter (codes "compact") (map (λ word. word.now) words.entry.now))) }
 {
-    if !are_of(options, ["full"].as_slice()) {
-        return None;
-    }
-    let full = flag_given(options, "full")?;
-    Some(Command::Compact { full })
-}
-
-/// The command `create` with these options.
-fn create_of(options: &[CommandOption]) -> Option<Command>
-    ensures { Finds (AreOfCommand (codes "create") options.now) result }
-{
-    if options.is_empty() {
-        Some(Command::Create)
-    } else {
-        None
-    }
-}
-
-/// The command `follow` with these options.
-fn follow_of(options: &[CommandOption]) -> Option<Command>
-    ensures { Finds (AreOfCommand (codes "follow") options.now) result }
-{
-    if !are_of(options, ["from", "full"].as_slice()) {
-        return None;
-    }
-    let from = number_given(options, "from")?;
-    if let Some(0) = from {
-        return None;
-    }
-    let full = flag_given(options, "full")?;
-    Some(Command::Follow { from, full })
-}
-
-/// The command `scan` with these options.
-fn scan_of(options: &[CommandOption]) -> Option<Command>
-    ensures { Finds (AreOfCommand (codes "scan") options.now) result }
-{
-    if !are_of(options, ["snapshot"].as_slice()) {
-        return None;
-    }
-    let snapshot = number_given(options, "snapshot")?;
-    Some(Command::Scan { snapshot })
-}
-
-/// The command `snapshots` with these options.
-fn snapshots_of(options: &[CommandOption]) -> Option<Command>
-    ensures { Finds (AreOfCommand (codes "snapshots") options.now) result }
-{
-    if options.is_empty() {
-        Some(Command::Snapshots)
-    } else {
-        None
-    }
-}
-
-/// The command `write` with these options.
-fn write_of(alloc: Global, options: &[CommandOption]) -> Result<Option<Command>, AllocError>
-    ensures { IfOk result (Finds (AreOfCommand (codes "write") options.now)) }
-{
-    if !are_of(options, ["user", "ident"].as_slice()) {
-        return Ok(None);
-    }
-    let Some(user) = name_given(alloc, options, "user")? else {
+    let options = with_flag(alloc, without_options(alloc, "compact"), "full")?;
+    let Some(matches) = matches_in(options, words)? else {
         return Ok(None);
     };
-    match number_given(options, "ident") {
-        Some(identifier) => Ok(Some(Command::Write { user, identifier })),
-        None => Ok(None),
+    let full = flag_given(&matches, "full");
+    Ok(Some(Command::Compact { full }))
+}
+
+/// The command `create` with these words after it.
+fn create_of<'a>(alloc: Global, words: &'a [&'a str]) -> Result<Option<Command>, AllocError>
+    requires { list_all may_stand (map (λ word. word.now) words.now) ≡ true }
+    ensures { IfOk result (Finds (GiveAfter (codes "create") (map (λ word. word.now) words.entry.now))) }
+{
+    let Some(_) = matches_in(without_options(alloc, "create"), words)? else {
+        return Ok(None);
+    };
+    Ok(Some(Command::Create))
+}
+
+/// The command `follow` with these words after it.
+fn follow_of<'a>(alloc: Global, words: &'a [&'a str]) -> Result<Option<Command>, AllocError>
+    requires { list_all may_stand (map (λ word. word.now) words.now) ≡ true }
+    ensures { IfOk result (Finds (GiveAfter (codes "follow") (map (λ word. word.now) words.entry.now))) }
+{
+    let options = with_value(alloc, without_options(alloc, "follow"), "from")?;
+    let options = with_flag(alloc, options, "full")?;
+    let Some(matches) = matches_in(options, words)? else {
+        return Ok(None);
+    };
+    let Some(from) = number_given(&matches, "from") else {
+        return Ok(None);
+    };
+    if let Some(0) = from {
+        return Ok(None);
     }
+    let full = flag_given(&matches, "full");
+    Ok(Some(Command::Follow { from, full }))
+}
+
+/// The command `scan` with these words after it.
+fn scan_of<'a>(alloc: Global, words: &'a [&'a str]) -> Result<Option<Command>, AllocError>
+    requires { list_all may_stand (map (λ word. word.now) words.now) ≡ true }
+    ensures { IfOk result (Finds (GiveAfter (codes "scan") (map (λ word. word.now) words.entry.now))) }
+{
+    let options = with_value(alloc, without_options(alloc, "scan"), "snapshot")?;
+    let Some(matches) = matches_in(options, words)? else {
+        return Ok(None);
+    };
+    let Some(snapshot) = number_given(&matches, "snapshot") else {
+        return Ok(None);
+    };
+    Ok(Some(Command::Scan { snapshot }))
+}
+
+/// The command `snapshots` with these words after it.
+fn snapshots_of<'a>(alloc: Global, words: &'a [&'a str]) -> Result<Option<Command>, AllocError>
+    requires { list_all may_stand (map (λ word. word.now) words.now) ≡ true }
+    ensures { IfOk result (Finds (GiveAfter (codes "snapshots") (map (λ word. word.now) words.entry.now))) }
+{
+    let Some(_) = matches_in(without_options(alloc, "snapshots"), words)? else {
+        return Ok(None);
+    };
+    Ok(Some(Command::Snapshots))
+}
+
+/// The command `write` with these words after it.
+fn write_of<'a>(alloc: Global, words: &'a [&'a str]) -> Result<Option<Command>, AllocError>
+    requires { list_all may_stand (map (λ word. word.now) words.now) ≡ true }
+    ensures { IfOk result (Finds (GiveAfter (codes "write") (map (λ word. word.now) words.entry.now))) }
+{
+    let options = with_value(alloc, without_options(alloc, "write"), "user")?;
+    let options = with_value(alloc, options, "ident")?;
+    let Some(matches) = matches_in(options, words)? else {
+        return Ok(None);
+    };
+    let Some(user) = name_given(alloc, &matches, "user")? else {
+        return Ok(None);
+    };
+    let Some(identifier) = number_given(&matches, "ident") else {
+        return Ok(None);
+    };
+    Ok(Some(Command::Write { user, identifier }))
 }
 
 /// The refusal of words that give no command.

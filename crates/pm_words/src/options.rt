@@ -1,149 +1,96 @@
-//! The options of a command, as they stand in its words.
+//! The options of a command, as `clap` is told of them and finds them.
 
-ghost use Rattle.std.specs.Prelude.{◌≡◌, ◌≢◌, ◌↔◌, ℕ, List, ◌∷◌, ◌++◌, codes, false, map};
-ghost use Rattle.std.specs.Prelude.{IfOk, IfSome, IfNone, IsTrue, option_map};
+ghost use Rattle.std.specs.Prelude.{◌≡◌, ◌++◌, ◌∷◌, [], ℕ, List, IfOk, IfSome, IfNone, map, true, false};
 ghost use Rattle.std.specs.List.{list_all};
-ghost use Rattle.pm_words.specs.Reading.{AreNoOptions, BeginsPlain, IsFirstOption};
-ghost use Rattle.pm_words.specs.Words.{AreOf, AreOptions, HasNoEquals, after_equals, begins_with_hyphen, differ};
-ghost use Rattle.pm_words.specs.Words.{given, is_among};
+ghost use Rattle.clap.specs.Words.{app_of};
+ghost use Rattle.pm_words.specs.Clap.{Declared, HasDeclared, Reads, app_for, flag, may_stand, value};
 
+use clap::error::ErrorKind;
+use clap::{Arg, ArgAction, ArgMatches, Command};
 use pm_values::Txt;
 use std::alloc::{AllocError, Global};
 
-/// An option: its name, and its value where it has one.
-#[derive(Drop)]
-pub(crate) struct CommandOption {
-    pub(crate) name: Txt,
-    pub(crate) value: Option<Txt>,
+/// A command without options: its words follow no program's name, and none asks for help.
+pub(crate) fn without_options<'a>(alloc: Global, name: &'a str) -> Command<'a>
+    ensures { app_of result ≡ app_for name.entry.now [] }
+{
+    Command::new(alloc, name)
+        .no_binary_name(true)
+        .disable_help_flag(true)
 }
 
-/// The options that the words are, if they are options.
-pub(crate) fn options_in(
+/// The command with one more option, which has a value.
+pub(crate) fn with_value<'a>(
     alloc: Global,
-    words: &[Txt],
-) -> Result<Option<Vec<CommandOption>>, AllocError>
-    ensures some { IfOk result (λ found. IfSome found (λ options. AreOptions options.items words.now)) }
-    ensures none { IfOk result (λ found. IfNone found (AreNoOptions words.now)) }
+    command: Command<'a>,
+    name: &'a str,
+) -> Result<Command<'a>, AllocError>
+    ensures { (word : List ℕ) (declared : List Declared) → app_of command.entry ≡ app_for word declared
+        → IfOk result (λ new. app_of new ≡ app_for word (declared ++ value name.entry.now ∷ [])) }
 {
-    let mut options = Vec::new(alloc);
-    let mut rest = words;
-    while let Some((word, later)) = rest.split_first() {
-        let Some(text) = option_text(word.as_str()) else {
+    let option = Arg::new(alloc, name).long(name).action(ArgAction::Set);
+    command.arg(option)
+}
+
+/// The command with one more flag.
+pub(crate) fn with_flag<'a>(
+    alloc: Global,
+    command: Command<'a>,
+    name: &'a str,
+) -> Result<Command<'a>, AllocError>
+    ensures { (word : List ℕ) (declared : List Declared) → app_of command.entry ≡ app_for word declared
+        → IfOk result (λ new. app_of new ≡ app_for word (declared ++ flag name.entry.now ∷ [])) }
+{
+    let option = Arg::new(alloc, name).long(name).action(ArgAction::SetTrue);
+    command.arg(option)
+}
+
+/// The words as texts, where each may stand among options: `clap` would take `--` as the end of options, and a lone
+/// `-` as the value of the one before it.
+pub(crate) fn texts_in<'a>(
+    alloc: Global,
+    words: &'a [Txt],
+) -> Result<Option<Vec<&'a str>>, AllocError>
+    ensures some { IfOk result (λ found. IfSome found (λ texts. map (λ text. text.now) texts.items ≡ words.entry.now)) }
+    ensures stand { IfOk result (λ found. IfSome found (λ texts. list_all may_stand words.entry.now ≡ true)) }
+    ensures none { IfOk result (λ found. IfNone found (list_all may_stand words.entry.now ≡ false)) }
+{
+    let mut texts = Vec::new(alloc);
+    for word in words {
+        if !may_stand(word.as_str()) {
             return Ok(None);
-        };
-        let (option, after) = first_option(alloc, text, later)?;
-        options.push(option)?;
-        rest = after;
-    }
-    Ok(Some(options))
-}
-
-/// What stands after `--`, where the word begins with that.
-fn option_text(word: &str) -> Option<&str>
-    ensures some { IfSome result (λ text. word.now ≡ codes "--" ++ text.now) }
-    ensures none { IfNone result ((text : List ℕ) → word.now ≢ codes "--" ++ text) }
-{
-    word.strip_prefix("--")
-}
-
-/// The option whose first word has this text after `--`, and the words after it.
-fn first_option<'a>(
-    alloc: Global,
-    text: &str,
-    later: &'a [Txt],
-) -> Result<(CommandOption, &'a [Txt]), AllocError>
-    ensures { IfOk result (λ x. IsFirstOption text.now later.entry.now x.0 x.1.now) }
-{
-    let (name, value) = split_option(text);
-    let name = Txt::from_str(alloc, name)?;
-    if let Some(value) = value {
-        let value = Some(Txt::from_str(alloc, value)?);
-        return Ok((CommandOption { name, value }, later));
-    }
-    match plain_word(later) {
-        Some((value, after)) => {
-            let value = Some(value.copy(alloc)?);
-            Ok((CommandOption { name, value }, after))
         }
-        None => Ok((CommandOption { name, value: None }, later)),
+        texts.push(word.as_str())?;
+    }
+    Ok(Some(texts))
+}
+
+/// Whether a word may stand among options.
+fn may_stand(word: &str) -> bool
+    ensures { result ≡ may_stand word.now }
+{
+    match word.as_bytes() {
+        [b'-'] | [b'-', b'-'] => false,
+        [b'-', second, ..] => *second == b'-',
+        _ => true,
     }
 }
 
-/// A name, and the value after `=` where one stands there.
-fn split_option(text: &str) -> (&str, Option<&str>)
-    ensures name { HasNoEquals result.0.now }
-    ensures whole { text.now ≡ result.0.now ++ after_equals (option_map (λ value. value.now) result.1) }
+/// What `clap` finds of a command's options in words that may stand among them, or nothing where they are no options
+/// of the command.
+pub(crate) fn matches_in<'a>(
+    command: Command<'a>,
+    words: &'a [&'a str],
+) -> Result<Option<ArgMatches<'a>>, AllocError>
+    requires { list_all may_stand (map (λ word. word.now) words.now) ≡ true }
+    ensures { (declared : List Declared) → HasDeclared (app_of command.entry) declared
+        → IfOk result (Reads declared (map (λ word. word.now) words.entry.now)) }
 {
-    match text.split_once('=') {
-        Some((name, value)) => (name, Some(value)),
-        None => (text, None),
+    match command.try_get_matches_from(words) {
+        Ok(matches) => Ok(Some(matches)),
+        Err(error) => match error.kind() {
+            ErrorKind::OutOfMemory => Err(AllocError),
+            _ => Ok(None),
+        },
     }
-}
-
-/// The first word, where it begins with no hyphen, and the words after it.
-fn plain_word(words: &[Txt]) -> Option<(&Txt, &[Txt])>
-    ensures some { IfSome result (λ x. (words.now ≡ x.0.now ∷ x.1.now) × (begins_with_hyphen x.0.now ≡ false)) }
-    ensures none { IfNone result (BeginsPlain words.now → ⊥) }
-{
-    match words.split_first() {
-        Some((word, later)) if !word.as_str().starts_with('-') => Some((word, later)),
-        _ => None,
-    }
-}
-
-/// Whether the options have these names alone, each at most once.
-pub(crate) fn are_of(options: &[CommandOption], names: &[&str]) -> bool
-    ensures { IsTrue result ↔ AreOf (map (λ name. name.now) names.now) options.now }
-{
-    are_known(options, names) && differ(options)
-}
-
-/// Whether each option's name is one of these.
-fn are_known(options: &[CommandOption], names: &[&str]) -> bool
-    ensures { result ≡ list_all (λ option. is_among (map (λ name. name.now) names.now) option.name) options.now }
-{
-    for option in options {
-        if !is_among(names, option.name.as_str()) {
-            return false;
-        }
-    }
-    true
-}
-
-/// Whether the name is one of these.
-fn is_among(names: &[&str], name: &str) -> bool
-    ensures { result ≡ is_among (map (λ name. name.now) names.now) name.now }
-{
-    for other in names {
-        if *other == name {
-            return true;
-        }
-    }
-    false
-}
-
-/// Whether no two options have one name.
-fn differ(options: &[CommandOption]) -> bool
-    ensures { result ≡ differ options.now }
-{
-    let mut rest = options;
-    while let Some((option, later)) = rest.split_first() {
-        if given(later, option.name.as_str()).is_some() {
-            return false;
-        }
-        rest = later;
-    }
-    true
-}
-
-/// The option of this name, if one has it.
-pub(crate) fn given<'a>(options: &'a [CommandOption], name: &str) -> Option<&'a CommandOption>
-    ensures { option_map (λ option. option.now.value) result ≡ given name.now options.entry.now }
-{
-    for option in options {
-        if option.name.as_str() == name {
-            return Some(option);
-        }
-    }
-    None
 }

@@ -1,12 +1,13 @@
 //! The values of options.
 
-ghost use Rattle.std.specs.Prelude.{◌≡◌, ◌≤◌, ◌↔◌, ℕ, IfOk, IfSome, IfNone, IsTrue};
-ghost use Rattle.std.specs.List.{list_all};
+ghost use Rattle.std.specs.Prelude.{◌≡◌, ◌≤◌, ◌↔◌, ℕ, List, false, Some, IfOk, IfSome, IfNone, IsTrue};
+ghost use Rattle.std.specs.List.{list_all, list_any};
 ghost use Rattle.std.specs.Fmt.{decimal};
-ghost use Rattle.pm_words.specs.Reading.{Finds, IsNumberOf};
+ghost use Rattle.pm_words.specs.Clap.{Declared, HasFound, declared_as, flag, has_flag, value};
+ghost use Rattle.pm_words.specs.Reading.{Finds, IsNameOf, IsNumberOf};
 ghost use Rattle.pm_words.specs.Words.{GiveFlag, GiveName, GiveNumber, IsName, is_name_byte};
 
-use crate::options::{CommandOption, given};
+use clap::ArgMatches;
 use itoa::Buffer;
 use pm_values::Txt;
 use std::alloc::{AllocError, Global};
@@ -14,49 +15,45 @@ use std::alloc::{AllocError, Global};
 /// The greatest number that an option takes.
 const GREATEST_NUMBER: u64 = 9223372036854775807;
 
-/// Whether the options give the flag, an option without a value; nothing where it has one.
-pub(crate) fn flag_given(options: &[CommandOption], option: &str) -> Option<bool>
-    ensures { Finds (GiveFlag options.now option.now) result }
+/// Whether the flag is given.
+pub(crate) fn flag_given(matches: &ArgMatches, option: &str) -> bool
+    ensures { (declared : List Declared) (words : List (List ℕ)) (found : HasFound declared words matches.now)
+        → declared_as option.now declared ≡ Some (flag option.now) → GiveFlag found.options option.now result }
 {
-    match given(options, option) {
-        None => Some(false),
-        Some(found) => match &found.value {
-            None => Some(true),
-            Some(_) => None,
-        },
-    }
+    matches.get_flag(option)
 }
 
-/// The name that the options give here, if they give one or the option is absent.
+/// The name that is given here, if one is or the option is absent.
 pub(crate) fn name_given(
     alloc: Global,
-    options: &[CommandOption],
+    matches: &ArgMatches,
     option: &str,
 ) -> Result<Option<Option<Txt>>, AllocError>
-    ensures { IfOk result (Finds (GiveName options.now option.now)) }
+    ensures { IfOk result (λ name. (declared : List Declared) (words : List (List ℕ))
+        (found : HasFound declared words matches.now) → declared_as option.now declared ≡ Some (value option.now)
+        → list_any (has_flag option.now) declared ≡ false → Finds (GiveName found.options option.now) name) }
 {
-    let Some(found) = given(options, option) else {
+    let Some(text) = matches.get_str(option) else {
         return Ok(Some(None));
     };
-    match &found.value {
-        Some(name) if is_name(name.as_bytes()) => Ok(Some(Some(name.copy(alloc)?))),
-        _ => Ok(None),
+    match name_in(alloc, text)? {
+        Some(name) => Ok(Some(Some(name))),
+        None => Ok(None),
     }
 }
 
-/// The number that the options give here, if they give one or the option is absent.
-pub(crate) fn number_given(options: &[CommandOption], option: &str) -> Option<Option<u64>>
-    ensures { Finds (GiveNumber options.now option.now) result }
+/// The number that is given here, if one is or the option is absent.
+pub(crate) fn number_given(matches: &ArgMatches, option: &str) -> Option<Option<u64>>
+    ensures { (declared : List Declared) (words : List (List ℕ)) (found : HasFound declared words matches.now)
+        → declared_as option.now declared ≡ Some (value option.now)
+        → list_any (has_flag option.now) declared ≡ false → Finds (GiveNumber found.options option.now) result }
 {
-    let Some(found) = given(options, option) else {
-        return Some(None);
-    };
-    match &found.value {
+    match matches.get_str(option) {
         Some(text) => {
-            let number = number_in(text.as_str())?;
+            let number = number_in(text)?;
             Some(Some(number))
         }
-        None => None,
+        None => Some(None),
     }
 }
 
@@ -74,6 +71,17 @@ fn number_in(text: &str) -> Option<u64>
         Some(n)
     } else {
         None
+    }
+}
+
+/// The name that an option's text is, if it is one.
+fn name_in(alloc: Global, text: &str) -> Result<Option<Txt>, AllocError>
+    ensures { IfOk result (Finds (IsNameOf text.now)) }
+{
+    if is_name(text.as_bytes()) {
+        Ok(Some(Txt::from_str(alloc, text)?))
+    } else {
+        Ok(None)
     }
 }
 

@@ -1,6 +1,17 @@
-use Rattle.std.proofs.Common.{arith}
-use Rattle.pm_words.proofs.CommandLemmas.{only_snapshots}
+use Rattle.std.proofs.Common.{ℕ, List, map, refl, Bor, []}
+use Rattle.clap.specs.Words.{app_of}
+use Rattle.pm_words.proofs.CommandLemmas.{no_snapshots}
+use Rattle.pm_words.proofs.DeclareLemmas.{snapshots_has}
 use Rattle.pm_words.proofs.command.snapshots_of.Goals as goal
 
-pub returns-else-is_empty : goal.returns-else-is_empty
-returns-else-is_empty c = λ command are. let none = only_snapshots c.args.options.now command are in grind (arith, none)
+abbrev words_of : Bor (List (Bor (List ℕ))) → List (List ℕ)
+words_of words = map (λ (word : Bor (List ℕ)). word.now) words.now
+
+pub returns-in_default : goal.returns-in_default
+returns-in_default c =
+    no_snapshots (words_of c.args.words) (rw c.in_default.is at (c.in_ok-matches_in.ensures [] (snapshots_has (app_of c.without_options.result) c.without_options.ensures)))
+
+pub returns : goal.returns
+returns c =
+    let found = rw c.in-Some.is at (c.in_ok-matches_in.ensures [] (snapshots_has (app_of c.without_options.result) c.without_options.ensures)) in
+    record { options = found.options; are = found.are; of = record { first = refl; names = found.of; values = tt } }

@@ -1,6 +1,0 @@
-use Rattle.std.proofs.Common.{◌≡◌, drop, map}
-use Rattle.pm_words.specs.Words.{is_among}
-use Rattle.pm_words.proofs.options.is_among.Given as goal
-
-abbrev pub invariant-loop-other : goal.invariant-loop-other
-invariant-loop-other l = is_among (map (λ name. name.now) (drop l.other-index l.names)) l.name ≡ is_among (map (λ name. name.now) l.names) l.name
