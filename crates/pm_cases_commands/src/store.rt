@@ -117,7 +117,8 @@ impl CaseStore {
     /// Counts a call of a command, lets others act, and fails where that is planned, after the planned effect.
     fn begin(&mut self, alloc: Global, call: LentCall) -> Result<(), StoreFail>
         ensures ok { OnOk result (self.new.faults ≡ self.old.faults) }
-        ensures err { IfErr result (Refuses (lent_call call.entry) (case_seen self.old.faults) (case_seen self.new.faults)) }
+        ensures err { IfErr result (Refuses (lent_call call.entry) (case_seen self.old.faults)
+            (case_seen self.new.faults)) }
         ensures later { IsLater (case_seen self.old.faults) (case_seen self.new.faults) }
     {
         self.calls = self.calls.saturating_add(1);

@@ -2,8 +2,8 @@
 //! printed of consumers.
 //!
 //! `specs/Floors.antt` says which floors names list, and whether one exceeds a number: whoever registers a consumer
-//! refuses then, with the greatest. `specs/Lines.antt` says what is printed of consumers. Each call of `src/paths.rt` is
-//! equal to the definition of its name in `pm_model_folder`. The file of a consumer itself is read and written by
+//! refuses then, with the greatest. `specs/Lines.antt` says what is printed of consumers. Each call of `src/paths.rt`
+//! is equal to the definition of its name in `pm_model_folder`. The file of a consumer itself is read and written by
 //! `pm_snapshot`.
 #![tactic(auto)]
 
