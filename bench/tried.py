@@ -5,9 +5,11 @@ A line has an edit of crates/NAME/wrong or crates/NAME/must-fail, the digest of 
 tried, and where the prover refused it: at a `goal` that stays open, at a `limit` of `search`, or at an `answer` that
 is written by hand and no longer fits, which shows least. A change of a crate below isn't seen.
 
-usage: bench/tried.py                 prints how many are tried as their crates are now, and each that isn't
+usage: bench/tried.py                 prints how many are tried as their crates are now, how many of these were refused
+                                      where, how many were recorded ever, and each that isn't tried so
        bench/tried.py record FILE     takes the lines that rt must-fail printed to FILE; bench/wrong_bodies.sh does so
 """
+import collections
 import glob
 import hashlib
 import os
@@ -16,6 +18,7 @@ import sys
 
 TOP = os.path.dirname(os.path.dirname(os.path.realpath(__file__)))
 RECORD = f"{TOP}/bench/tried.txt"
+PLACES = (("goal", "a goal"), ("limit", "a limit"), ("answer", "an answer"))
 
 
 def digest(crate):
@@ -72,13 +75,18 @@ def main(words):
         print(__doc__, end="", file=sys.stderr)
         return 2
     known, there, digests = read(), sorted(edits()), {}
-    left = []
+    left, where = [], collections.Counter()
     for edit in there:
         crate = edit.split("/")[0]
         digests.setdefault(crate, digest(crate))
-        if known.get(edit, [""])[0] != digests[crate]:
+        tried_at, at = known.get(edit, ("", ""))
+        if tried_at == digests[crate]:
+            where[at] += 1
+        else:
             left.append(edit)
-    print(f"{len(there) - len(left)} of {len(there)} are tried as their crates are now; these aren't:")
+    print(f"{len(there) - len(left)} of {len(there)} are tried as their crates are now", end=": ")
+    print(", ".join(f"{where[at]} refused at {words}" for at, words in PLACES))
+    print(f"{sum(edit in known for edit in there)} were recorded ever; these aren't tried as their crates are:")
     for edit in left:
         print(f"{edit}{'' if edit in known else ', never recorded'}")
     return 0
