@@ -79,7 +79,8 @@ class Session:
 def create(folder, data, session, time):
     schema, comment = read_draft(data)
     Session(folder, session, time).create(f"snapshot/ORIGIN-{session}-0", b"")
-    if not folder.swap_in("schema/schema-0", schema_file(schema, session, time, comment)):
+    is_done, _ = folder.swap("schema/schema-0", None, schema_file(schema, session, time, comment))
+    if not is_done:
         raise Refused("E8 table exists")
     return "created\n"
 

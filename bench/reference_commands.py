@@ -1,37 +1,43 @@
 """What the commands answer, by docs/FORMATS.md and docs/BEHAVIOUR.md: of words alone, of a folder, and of a table that
 nobody else writes. What a table is worth is in reference_table.py, what its files hold in reference_files.py, and what
-the commands do to them in reference_changes.py.
+the commands do to them in reference_changes.py and reference_following.py.
 """
 
 import re
 
 import reference_changes
 import reference_files
+import reference_following
 from reference_compact import told_of
 from reference_table import Refused, by_key, printable, read_batch, read_draft, scanned, worth
 
 GREATEST = 2**63 - 1
 OPTIONS = {
     "compact": ("--full",),
+    "consumers": ("--drop",),
     "create": (),
-    "follow": ("--from", "--full"),
+    "follow": ("--from", "--consumer", "--full"),
     "scan": ("--snapshot",),
     "snapshots": (),
     "write": ("--user", "--ident"),
 }
 FLAGS = ("--full",)  # the options that take no text
+NAMES = ("--user", "--consumer", "--drop")  # those that take a name
 
 
-def leave_out(command):
-    """Has the words of a command give none, for a program that hasn't it yet."""
-    OPTIONS.pop(command, None)
+def leave_out(command, option=None):
+    """Has the words of a command give none, or those with an option, for a program that hasn't it yet."""
+    if option is None:
+        OPTIONS.pop(command, None)
+    else:
+        OPTIONS[command] = tuple(known for known in OPTIONS[command] if known != option)
 
 
 def is_value(option, text):
     """Whether an option takes a text, or none."""
     if option in FLAGS:
         return text is None
-    if option == "--user":
+    if option in NAMES:
         return re.fullmatch("[A-Za-z0-9._-]{1,64}", text) is not None
     least = 1 if option == "--from" else 0
     return re.fullmatch("0|[1-9][0-9]*", text) is not None and least <= int(text) <= GREATEST
@@ -58,7 +64,9 @@ def read_words(words):
 
 
 def judge_limits(data):
-    """Refuses an input at the first byte that exceeds a limit."""
+    """Refuses an input that isn't there, and one at the first byte that exceeds a limit."""
+    if data is None:
+        raise Refused("E3 source")
     exceeded, rows, at = [(268435456, 2, "batch-bytes 268435456")] if len(data) > 268435456 else [], 0, 0
     for line in data.split(b"\n"):
         blanks = len(line) - len(line.lstrip(b" \t\r"))
@@ -85,7 +93,8 @@ def execute(folder, words, data, session, time, show):
     if words[:1] == ["follow"]:
         _, options = read_words(words)
         asked = options.get("--from")
-        reference_files.follow(folder, None if asked is None else int(asked), "--full" in options, show)
+        number = None if asked is None else int(asked)
+        reference_following.follow(folder, number, "--full" in options, show, options.get("--consumer"))
     else:
         show(answer_at_once(folder, words, data, session, time))
 
@@ -106,7 +115,11 @@ def answer_at_once(folder, words, data, session, time):
     if command == "scan":
         asked = options.get("--snapshot")
         return reference_files.scan(folder, None if asked is None else int(asked))
-    return reference_files.list_snapshots(folder)
+    if command == "snapshots":
+        return reference_files.list_snapshots(folder)
+    if "--drop" in options:
+        return reference_following.drop_consumer(folder, options["--drop"])
+    return reference_following.list_consumers(folder)
 
 
 class Table:
@@ -180,7 +193,7 @@ class Table:
         passed = self.rows_to(self.passed[start - 1])
         shown = f'{{"table":{start - 1}}}\n{scanned(self.schema, passed)}' if is_full else ""
         for number in range(start, len(self.commits) + 1):
-            shown += reference_files.framed(number, self.change(number))
+            shown += reference_following.framed(number, self.change(number))
         return shown
 
     def change(self, number):

@@ -1,6 +1,7 @@
 """The files of a table, by docs/FORMATS.md: read as `scan`, `follow` and `snapshots` read them, and written as
 `create`, `write` and `compact` do. A program that knows no line of the crates; what a table's rows are worth is in
-reference_table.py, and the calls of the commands that change a table are in reference_changes.py.
+reference_table.py, the calls of the commands that change a table are in reference_changes.py, and those of following it
+in reference_following.py.
 """
 
 import datetime
@@ -9,7 +10,7 @@ import re
 import stat
 
 from reference_avro import FIRST_DAY, LAST_DAY, Bad, Blocks, binary, read_binary, written
-from reference_compact import first_told, stored_row
+from reference_compact import stored_row
 from reference_table import (
     ADDING,
     BITS,
@@ -94,21 +95,23 @@ class Folder:
 
 
 class Memory:
-    """A folder in memory, over one that is read alone, if any: what is put comes beside its files."""
+    """A folder in memory, over one that is read alone, if any: what is put comes beside its files, or in the place of
+    one, and of what is taken away is known that it is gone."""
 
     def __init__(self, below=None):
-        self.files, self.below = {}, below
+        self.files, self.below, self.gone = {}, below, set()
 
     def read(self, path):
         found = self.files.get(path)
-        return self.below.read(path) if found is None and self.below else found
+        return self.below.read(path) if found is None and self.below and path not in self.gone else found
 
     def list(self, folder):
         names = {path[len(folder) + 1 :].split("/")[0] for path in self.files if path.startswith(f"{folder}/")}
-        return sorted(names | set(self.below.list(folder) if self.below else []))
+        below = self.below.list(folder) if self.below else []
+        return sorted(names | {name for name in below if f"{folder}/{name}" not in self.gone})
 
     def is_there(self, path):
-        return path in self.files or self.below is not None and self.below.read(path) is not None
+        return Memory.read(self, path) is not None
 
     def create(self, path, data):
         """Puts a file where nothing is; tells whether it did."""
@@ -117,12 +120,24 @@ class Memory:
             self.files[path] = data
         return is_free
 
-    def swap_in(self, path, data):
-        return self.create(path, data)
+    def swap(self, path, expected, data):
+        """Puts a file in the place of what is expected, perhaps nothing; tells whether it did, and what it found."""
+        found = Memory.read(self, path)
+        if found == expected:
+            self.files[path] = data
+        return found == expected, found
 
     def publish(self, path, after, data):
         """Puts a file where nothing is, and the one before it stands; tells whether it did."""
         return self.is_there(after) and self.create(path, data)
+
+    def remove(self, path):
+        """Takes a file away; tells whether it was there."""
+        was_there = self.is_there(path)
+        self.files.pop(path, None)
+        if self.below:
+            self.gone.add(path)
+        return was_there
 
 
 def is_utf8(name):
@@ -500,28 +515,6 @@ def table_at(folder, schema, asked, least=0):
     return scanned(schema, rows)
 
 
-def follow(folder, asked, is_full, show):
-    """Shows what `follow` prints, the table and each frame at once: with the calls for the one before the next."""
-    schema = found_schema(folder)
-    if schema.producer == "none":
-        raise Refused("E19 no changelog none")
-    schema.judge_built()
-    newest = newest_of(folder)
-    start = newest + 1 if asked is None else asked
-    if start > newest + 1:
-        raise Refused(f"E12 snapshot {start} latest {newest}")
-    if is_full:
-        show(f'{{"table":{start - 1}}}\n' + table_at(folder, schema, start - 1, first_told(schema)))
-    for number in range(start, newest_of(folder) + 1):
-        rows = View(folder, schema, number).changes()
-        show(framed(number, rows))
-
-
-def framed(number, rows):
-    """The frame of a snapshot, whose changelog has these rows."""
-    return f'{{"snapshot":{number}}}\n' + "".join(print_json([kind, *row]) + "\n" for kind, row in rows)
-
-
 class View:
     """A snapshot, and the reading of what it names."""
 
@@ -537,7 +530,7 @@ class View:
         if number and self.found["schemaId"] != schema.id:
             raise damaged(f"schema/schema-{self.found['schemaId']}")
         self.properties = {"fence": "-1", "appends": "0", "full": "0"} | ((self.found or {}).get("properties") or {})
-        self.metas = []
+        self.metas, self.told = [], []
 
     def read(self, path):
         """The bytes at a path that the snapshot names."""
@@ -584,15 +577,19 @@ class View:
 
     def changes(self):
         """The rows of the snapshot's changelog, each with its kind."""
+        found = [self.rows_of([file], RunReader(self.schema, True)) for file in self.changelog_files()]
+        return [(kind, row) for rows in found for _, kind, row in rows]
+
+    def changelog_files(self):
+        """The files of the snapshot's changelog, in the order of their entries."""
         name, files = self.found.get("changelogManifestList"), []
-        metas = [] if name is None else read_list(f"manifest/{name}", self.read(f"manifest/{name}"))
-        for path in [f"manifest/{meta['_FILE_NAME']}" for meta in metas]:
+        self.told = [] if name is None else read_list(f"manifest/{name}", self.read(f"manifest/{name}"))
+        for path in [f"manifest/{meta['_FILE_NAME']}" for meta in self.told]:
             for adds, file in read_manifest(path, self.schema, self.read(path)):
                 if not adds or file["level"]:
                     raise damaged(path)
                 files.append(file)
-        found = [self.rows_of([file], RunReader(self.schema, True)) for file in files]
-        return [(kind, row) for rows in found for _, kind, row in rows]
+        return files
 
 
 class Lookup:
