@@ -20,7 +20,7 @@ from reference_table import Refused
 from trials import TOP, Tally
 
 CASES = TOP / "crates/pm_cases_commands"
-NOT_BUILT = (("consumers",), ("follow", "--consumer"))  # what the program whose cases these are doesn't know yet
+NOT_BUILT = (("consumers",), ("expire",), ("follow", "--consumer"))  # what the program whose cases these are doesn't know yet
 WITH_INPUT = ("create", "write")
 
 

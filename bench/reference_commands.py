@@ -1,11 +1,12 @@
 """What the commands answer, by docs/FORMATS.md and docs/BEHAVIOUR.md: of words alone, of a folder, and of a table that
 nobody else writes. What a table is worth is in reference_table.py, what its files hold in reference_files.py, and what
-the commands do to them in reference_changes.py and reference_following.py.
+the commands do to them in reference_changes.py, reference_following.py and reference_expire.py.
 """
 
 import re
 
 import reference_changes
+import reference_expire
 import reference_files
 import reference_following
 from reference_compact import told_of
@@ -16,6 +17,7 @@ OPTIONS = {
     "compact": ("--full",),
     "consumers": ("--drop",),
     "create": (),
+    "expire": ("--min", "--max", "--millis"),
     "follow": ("--from", "--consumer", "--full"),
     "scan": ("--snapshot",),
     "snapshots": (),
@@ -23,6 +25,7 @@ OPTIONS = {
 }
 FLAGS = ("--full",)  # the options that take no text
 NAMES = ("--user", "--consumer", "--drop")  # those that take a name
+NUMBERS = {"--from": (1, GREATEST), "--min": (1, 2**31 - 1), "--max": (1, 2**31 - 1)}  # others take any from 0 on
 
 
 def leave_out(command, option=None):
@@ -39,8 +42,8 @@ def is_value(option, text):
         return text is None
     if option in NAMES:
         return re.fullmatch("[A-Za-z0-9._-]{1,64}", text) is not None
-    least = 1 if option == "--from" else 0
-    return re.fullmatch("0|[1-9][0-9]*", text) is not None and least <= int(text) <= GREATEST
+    least, greatest = NUMBERS.get(option, (0, GREATEST))
+    return re.fullmatch("0|[1-9][0-9]*", text) is not None and least <= int(text) <= greatest
 
 
 def read_words(words):
@@ -60,6 +63,8 @@ def read_words(words):
         if option not in OPTIONS[words[0]] or option in found or not is_value(option, value):
             raise refused
         found[option] = value
+    if int(found.get("--min", 1)) > int(found.get("--max", GREATEST)):
+        raise refused
     return words[0], found
 
 
@@ -115,6 +120,9 @@ def answer_at_once(folder, words, data, session, time):
     if command == "scan":
         asked = options.get("--snapshot")
         return reference_files.scan(folder, None if asked is None else int(asked))
+    if command == "expire":
+        asked = [int(options[word]) if word in options else None for word in ("--min", "--max", "--millis")]
+        return reference_expire.expire(folder, asked, time)
     if command == "snapshots":
         return reference_files.list_snapshots(folder)
     if "--drop" in options:
