@@ -1,9 +1,9 @@
 #!/usr/bin/env python3
 """Random drafts, words, rows and options, and what the program answers to them, beside what a second program does that
-was written from the documents (reference_*.py). Compactions come where the program knows that command, and tables of
-each producer that it makes. It promises, of each command on a table that nobody else writes:
+was written from the documents (reference_*.py). Compactions, consumers and expiries come where the program knows their
+commands, and tables of each producer that it makes. It promises, of each command on a table that nobody else writes:
   - its status, what it prints and what it says are those of the second program;
-  - the files that it makes are byte by byte those that the second program writes, and no other file changes;
+  - the files that it makes, changes and takes away are those that the second program does, byte by byte, and no others;
   - the second program reads of the files what the commands' rows are worth.
 It ends with 1 where a promise broke. The gate never runs it. docs/DEVELOPING.md has what it printed.
 
@@ -15,7 +15,7 @@ import re
 import time
 
 import reference_files
-from reference_commands import Table, leave_out
+from reference_commands import Table, changes, leave_out
 from reference_table import BUILT_PRODUCERS, KINDS, TYPES, Refused
 from trials import DRAFT, Tally, fault_of, knows, random_of, read_arguments, run, tree, work_folder
 
@@ -63,8 +63,10 @@ SIZES = {
     "compaction.size-ratio": ["0", "1", "100", "1000000"],
     "full-compaction.delta-commits": ["1", "2", "3"],
 }
+OFTEN = {"write": 9, "follow": 6, "scan": 4, "compact": 4, "expire": 4, "consumers": 3, "snapshots": 2, "create": 1}
 ODD_WORDS = ["create", "scan", "--snapshot", "--snapshot=1", "-1", "", "é", "a\nb", "write", "--user=", "--ident"]
-ODD_WORDS += ["01", "compact", "--full", "--full=", "--full=1", "follow", "--from", "--from=0", "0"]
+ODD_WORDS += ["01", "compact", "--full", "--full=", "--full=1", "follow", "--from", "--from=0", "0", "consumers"]
+ODD_WORDS += ["--drop", "--consumer", "--consumer=", "--drop=a/b", "expire", "--min=2", "--max", "--max=1"]
 
 
 def maybe(random, chance):
@@ -203,13 +205,18 @@ def draw_words(random):
     """Words of a command, mostly good ones."""
     if maybe(random, 0.1):
         return random.choices(ODD_WORDS, k=random.randrange(4))
-    often = {"write": 6, "scan": 4, "compact": 4, "follow": 4, "snapshots": 2, "create": 1}
-    word = random.choices(list(often), often.values())[0]
+    word = random.choices(list(OFTEN), OFTEN.values())[0]
     words = [word]
     if word in ("compact", "follow") and maybe(random, 0.4):
         words.append("--full")
     if word == "follow" and maybe(random, 0.8):
         words += random.choice([["--from", str(random.randrange(1, 9))], [f"--from={random.randrange(4)}"]])
+    if word == "follow" and maybe(random, 0.6):
+        words += random.choice([["--consumer", "c"], ["--consumer=d"], ["--consumer", "-"], ["--consumer=-"]])
+    if word == "consumers" and maybe(random, 0.4):
+        words += random.choice([["--drop", "c"], ["--drop=d"], ["--drop=-"]])
+    if word == "expire":
+        words += draw_expiry(random)
     if word == "scan" and maybe(random, 0.5):
         words += random.choice([["--snapshot", str(random.randrange(6))], [f"--snapshot={random.randrange(6)}"]])
     if word == "write" and maybe(random, 0.4):
@@ -219,8 +226,16 @@ def draw_words(random):
     return words
 
 
+def draw_expiry(random):
+    """What an expiry is asked to keep. Whatever is asked, no snapshot is as old as to the millisecond."""
+    words = ["--min", str(random.choice([1, 1, 1, 2, 3, 2**31 - 1]))] if maybe(random, 0.9) else []
+    words += [f"--max={random.choice([1, 1, 2, 3, 2**31 - 1])}"] if maybe(random, 0.8) else []
+    return words + (["--millis", str(random.choice([0, 3600000, 2**63 - 1]))] if maybe(random, 0.5) else [])
+
+
 def found_in(files):
     """The session that made these files, and the time in them."""
+    files = {path: data for path, data in files.items() if data is not None}
     texts = [data.decode() for path, data in files.items() if path.startswith(("schema/", "snapshot/"))]
     session = re.search(f"(?:ORIGIN|data|manifest)-({SESSION})-0", " ".join(files))
     millis = re.search('"timeMillis":(-?[0-9]+)', " ".join(texts))
@@ -235,37 +250,36 @@ class Trial:
         self.table = Table()
         self.files = {}
 
-    def new_files(self):
-        """The files that came since this was asked before; others may not change."""
+    def changes(self):
+        """What came, changed and went of the files since this was asked before."""
         found = tree(self.folder) if self.folder.exists() else {}
         shown = {path.decode(): data for path, (_, data) in found.items() if not path.startswith(b".")}
-        files = {path: data for path, data in shown.items() if data is not None}
-        changed = [path for path, data in self.files.items() if files.get(path) != data]
-        if changed:
-            self.tally.breaks(self.folder, f"files changed: {changed}")
-        new = {path: data for path, data in files.items() if path not in self.files}
-        self.files = files
-        return new
+        before, self.files = self.files, {path: data for path, data in shown.items() if data is not None}
+        return changes(before, self.files)
 
     def command(self, words, data):
         """Runs a command with both programs, and compares their answers."""
         begun = int(time.time() * 1000)
         ended = run([self.program, self.folder, *words], data)
-        files = self.new_files()
+        files = self.changes()
         session, millis = found_in(files)
         try:
-            printed, expected = self.table.answer(words, data, session, millis)
-            wanted, files_are = (0, printed.encode(), b""), files == expected
+            printed = self.table.answer(words, data, session, millis or begun)
+            wanted = (0, printed.encode(), b"")
         except Refused as refused:
             wanted = (refused.status, b"", f"{refused}\n".encode())
-            files_are = all(path.startswith("snapshot/ORIGIN-") and refused.status == 8 for path in files)
+        files_are = files == self.table.changes
+        if wanted[0] == 8:
+            files_are = all(path.startswith("snapshot/ORIGIN-") for path in files)
         self.tally.add("commands")
         self.tally.add("refusals", int(ended.status != 0))
         where = f"table {self.folder.name}, {words}, {data[:200]!r}"
         if fault_of(ended, words) or tuple(ended) != wanted:
             self.tally.breaks(where, f"{ended} in the place of {wanted}")
         elif not files_are:
-            self.tally.breaks(where, f"other files than the second program's: {sorted(files)}")
+            wanted = sorted(self.table.changes)
+            self.tally.breaks(where, f"it changed {sorted(files)}, and the second program {wanted}")
+            return False
         elif millis and not begun <= millis <= time.time() * 1000:
             self.tally.breaks(where, f"the time {millis} isn't now")
         return ended.status == tuple(wanted)[0]
@@ -281,7 +295,7 @@ class Trial:
             data = DRAFT if maybe(self.random, 0.05) else draft_input(self.random)
             if not self.command(["create"], data):
                 return
-        for _ in range(self.random.randint(3, 24)):
+        for _ in range(self.random.randint(3, 48)):
             words = draw_words(self.random)
             if not self.command(words, self.input_of(words)):
                 return
@@ -305,9 +319,9 @@ def main():
     found = read_arguments(__doc__, 1000)
     tally = Tally()
     with work_folder() as work:
-        for word in ("compact", "follow"):
-            if not knows(found.program, work, word):
-                leave_out(word)
+        for words in (("compact",), ("consumers",), ("expire",), ("follow", "--consumer"), ("follow",)):
+            if not knows(found.program, work, *words, *["c"][: len(words) - 1]):
+                leave_out(*words)
         for producer in [known for known in BUILT_PRODUCERS if not makes(found.program, work / known, known)]:
             BUILT_PRODUCERS.remove(producer)
         for number in range(found.count):

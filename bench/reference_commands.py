@@ -138,48 +138,79 @@ class Table:
         self.commits = []  # of each its user and its identifier
         self.rows = []  # of each commit the rows that it took
         self.passed = [0]  # of each snapshot, from 0 on, how many commits had their rows passed on
+        self.times = {}  # of each snapshot that is there
+        self.consumers = {}  # of each its number, and whether it is new
+        self.floor = 0  # the greatest one that was announced
         self.folder = reference_files.Memory()
+        self.changes = {}  # the files that the last command made or changed, and those that it took away
 
     def answer(self, words, data, session, time):
-        """What a command prints, and the files that it makes; it is refused else."""
+        """What a command prints; it is refused else. What it did to the files is in `changes`."""
+        self.changes = {}
         command, options = read_words(words)
         if command == "create" and self.schema is not None:
             judge_limits(data)
             read_draft(data)
             raise Refused("E8 table exists")
         before = dict(self.folder.files)
-        printed = answer(self.folder, words, data, session, time)
+        try:
+            printed = answer(self.folder, words, data, session, time)
+        except Refused as refused:
+            self.take_refusal(command, options, refused.status)
+            raise
+        finally:
+            self.changes = changes(before, self.folder.files)
+        return self.take(command, options, data, session, time, printed)
+
+    def take(self, command, options, data, session, time, printed):
+        """Does a command, and gives what it prints, by what was done; the files say that it prints this."""
         if command == "create":
             self.schema, _ = read_draft(data)
         elif command == "write":
-            self.write(data, session, options.get("--user"), int(options.get("--ident", GREATEST)), printed)
+            self.write(data, session, time, options.get("--user"), int(options.get("--ident", GREATEST)), printed)
         elif command == "compact" and printed.startswith("snapshot "):
             passed = len(self.commits) if self.passes_on() else self.passed[-1]
-            self.add(f"{session}-0", GREATEST, [], passed)
+            self.add(f"{session}-0", GREATEST, time, [], passed)
         elif command == "scan":
-            printed = self.scan(options.get("--snapshot"))
+            return self.scan(options.get("--snapshot"))
         elif command == "follow":
-            printed = self.follow(options.get("--from"), "--full" in options)
-        return printed, {path: held for path, held in self.folder.files.items() if path not in before}
+            return self.follow_as(options.get("--consumer"), options.get("--from"), "--full" in options)
+        elif command == "expire":
+            return self.expire(options, time)
+        elif command == "consumers":
+            return self.drop(options["--drop"]) if "--drop" in options else self.list_consumers()
+        return printed
 
-    def write(self, data, session, user, ident, printed):
+    def take_refusal(self, command, options, status):
+        """A consumer stays new below a floor, and is settled where its starting table is gone."""
+        name = options.get("--consumer")
+        if command != "follow" or name is None or status not in (13, 17):
+            return
+        start = self.start(options.get("--from"))
+        if self.is_settled(name) or (status == 17) != (start < self.floor):
+            raise AssertionError(f"{name} is refused with {status}, from {start} on, with the floor {self.floor}")
+        self.consumers[name] = start, status == 17
+
+    def write(self, data, session, time, user, ident, printed):
         """Takes the rows of a batch; that the files say the same is for it to see."""
         rows = read_batch(self.schema, data)
-        earlier = [known for of, known in self.commits if user is not None and of == user]
+        there = self.commits[min(self.times, default=1) - 1 :]
+        earlier = [known for of, known in there if user is not None and of == user]
         if not rows or earlier and earlier[-1] >= ident:
             wanted = "already\n" if rows else "nothing to commit\n"
         else:
             passed = len(self.commits) + 1 if self.schema.producer in ("none", "input") else self.passed[-1]
-            self.add(user or f"{session}-0", ident, rows, passed)
+            self.add(user or f"{session}-0", ident, time, rows, passed)
             wanted = f"snapshot {len(self.commits)}\n"
         if printed != wanted:
             raise AssertionError(f"the files say {printed!r} in the place of {wanted!r}")
 
-    def add(self, user, ident, rows, passed):
+    def add(self, user, ident, time, rows, passed):
         """Adds a commit, and how many of all have their rows passed on with it."""
         self.commits.append((user, ident))
         self.rows.append(rows)
         self.passed.append(passed)
+        self.times[len(self.commits)] = time
 
     def passes_on(self):
         """Whether the compaction that made the newest files passes on all rows before it: with look-ups each does, with
@@ -195,9 +226,23 @@ class Table:
     def rows_to(self, number):
         return [row for rows in self.rows[:number] for row in rows]
 
-    def follow(self, asked, is_full):
+    def start(self, asked):
+        return len(self.commits) + 1 if asked is None else int(asked)
+
+    def is_settled(self, name):
+        return name in self.consumers and not self.consumers[name][1]
+
+    def follow_as(self, name, asked, is_full):
+        """The frames that a consumer has not had, or those of nobody; a consumer that isn't settled begins."""
+        start = self.start(asked)
+        if self.is_settled(name):
+            start, is_full = self.consumers[name][0], False
+        if name is not None:
+            self.consumers[name] = max(start, len(self.commits) + 1), False
+        return self.follow(start, is_full)
+
+    def follow(self, start, is_full):
         """The frames from a number on; those that aren't there have no line, as in the files."""
-        start = len(self.commits) + 1 if asked is None else int(asked)
         passed = self.rows_to(self.passed[start - 1])
         shown = f'{{"table":{start - 1}}}\n{scanned(self.schema, passed)}' if is_full else ""
         for number in range(start, len(self.commits) + 1):
@@ -216,3 +261,28 @@ class Table:
             old = worth(self.schema, known) if known else None
             told += told_of(self.schema, old, worth(self.schema, known + of_key))
         return told
+
+    def list_consumers(self):
+        lines = (f"{name} {number}{' new' if is_new else ''}\n" for name, (number, is_new) in self.consumers.items())
+        return "".join(sorted(lines, key=lambda line: line.split(" ")[0]))
+
+    def drop(self, name):
+        return "no consumer\n" if self.consumers.pop(name, None) is None else "dropped\n"
+
+    def expire(self, options, time):
+        """All snapshots go below the end; a consumer keeps those from its number on."""
+        if not self.times:
+            return "kept 0 0\n"
+        asked = [int(options[word]) if word in options else None for word in ("--min", "--max", "--millis")]
+        least = min((number for number, _ in self.consumers.values()), default=None)
+        first, keep = min(self.times), reference_expire.keep_of(self.schema, asked)
+        end = reference_expire.end_of(first, self.times, keep, time, least)
+        self.floor = max(self.floor, end) if end > first else self.floor
+        self.times = {number: known for number, known in self.times.items() if number >= end}
+        return f"kept {end} {len(self.commits)}\n"
+
+
+def changes(before, after):
+    """The files that came or were changed, and nothing of each that went."""
+    new = {path: held for path, held in after.items() if before.get(path) != held}
+    return new | {path: None for path in before if path not in after}

@@ -43,9 +43,9 @@ def run(words, data=b"", seconds=SECONDS):
     return Ended(ended.returncode, ended.stdout, ended.stderr)
 
 
-def knows(program, work, word):
-    """Whether a word gives a command of the program: asked of a folder that isn't there it then finds no table."""
-    return run([program, work / "nothing", word]).status == 9
+def knows(program, work, *words):
+    """Whether words give a command of the program: asked of a folder that isn't there it then finds no table."""
+    return run([program, work / "nothing", *words]).status == 9
 
 
 def fault_of(ended, words=()):
