@@ -7,7 +7,10 @@ and from there on, by strace. It promises:
   - after a failed call the command is refused with one line, or it ends with 0 and its effect stands; after E5 at
     another path than the snapshot's the table is as before, and after E4 the batch, or the snapshot, stands;
   - then one more write succeeds, and leaves no file that is being written;
-  - a command that only reads changes nothing.
+  - a command that only reads changes nothing;
+  - where the program knows consumers, what one printed is a prefix of its frames; it is moved past frames alone that were
+    printed whole, past all where the command ended with 0, and the next command goes on from there;
+  - where it knows expiries, the newest snapshot keeps its rows, and the next expiry takes the others away.
 It ends with 1 where a promise broke. The gate never runs it. It wants strace. docs/DEVELOPING.md has what it printed.
 
 usage: bench/kills.py [--program PROGRAM] [--count AT_MOST_SO_MANY_RUNS] [--seed SEED]
@@ -26,10 +29,13 @@ LOOKS = ("chdir", "open", "read", "getdents64", "statx", "stat", "lstat", "fstat
 ERRORS = ("EIO", "ENOSPC")
 MERGING = DRAFT[:-1] + b',"options":{"manifest.merge-min-count":"2"}}'
 TOLD = DRAFT[:-1] + b',"options":{"changelog-producer":"input"}}'
+CONSUMER = b'{"nextSnapshot":1}'
+EXPIRE = ["expire", "--min", "1", "--max", "1"]
 
-# A folder, a command on it, the keys and the number of snapshots that the table has before and after it, none where there
-# is no table, and those keys that are written to a copy of the folder first: a copy's folders aren't sealed.
-Case = collections.namedtuple("Case", "name folder words data before after first", defaults=[()])
+# A folder, a command on it, the keys and the number of snapshots that the table has before and after it, none where
+# there is no table, those keys that are written to a copy of the folder first, since a copy's folders aren't sealed, and
+# whether the command changes the file of the consumer c.
+Case = collections.namedtuple("Case", "name folder words data before after first is_consumers", defaults=[(), False])
 Injected = collections.namedtuple("Injected", "call number how")
 
 
@@ -87,6 +93,8 @@ class Trials:
             Case("snapshots", many, ["snapshots"], b"", found, found),
             *self.compactions(many),
             *self.told(rows, found, then),
+            *self.consumed(),
+            *self.expired(),
         ]
 
     def told(self, rows, found, then):
@@ -98,6 +106,34 @@ class Trials:
             Case("a write that is told", told, ["write"], rows, found, then),
             Case("follow", told, follow, b"", found, found),
         ]
+
+    def consumed(self):
+        """Consumers of a table that tells its input, where the program knows them."""
+        if not knows(self.program, self.work, "consumers"):
+            return []
+        found, follow = ([1, 2, 3], 2), ["follow", "--consumer", "c"]
+        none = self.table("no consumer", [batch(1, 2), batch(3)], TOLD)
+        known, new = copy(none, self.work / "a consumer"), copy(none, self.work / "a new consumer")
+        for folder, text in ((known, CONSUMER), (new, CONSUMER[:-1] + b',"state":"new"}')):
+            (folder / "consumer").mkdir()
+            (folder / "consumer/consumer-c").write_bytes(text)
+            quiet(folder)
+        return [
+            Case("a consumer that begins", none, [*follow, "--from", "1", "--full"], b"", found, found, (), True),
+            Case("a new consumer that begins", new, [*follow, "--from", "1"], b"", found, found, (), True),
+            Case("a consumer that goes on", known, follow, b"", found, found, (), True),
+            Case("a consumer that is dropped", known, ["consumers", "--drop", "c"], b"", found, found, (), True),
+            Case("consumers", known, ["consumers"], b"", found, found),
+        ]
+
+    def expired(self):
+        """An expiry of a snapshot whose data file was replaced, where the program knows expiries."""
+        if not knows(self.program, self.work, "expire"):
+            return []
+        folder = self.table("expired", [batch(1, 2)])
+        self.command(folder, "compact", "--full")
+        quiet(folder)
+        return [Case("an expiry", folder, EXPIRE, b"", ([1, 2], 2), ([1, 2], 1))]
 
     def compactions(self, many):
         """Compactions, where the program knows them."""
@@ -140,7 +176,7 @@ class Trials:
 
     def injections(self, case):
         """What is done to a case."""
-        is_reading = case.before == case.after
+        is_reading = case.before == case.after and not case.is_consumers
         for call, number in self.calls(case):
             if call in CHANGES and not is_reading:
                 yield case, Injected(call, number, "signal=KILL")
@@ -163,9 +199,45 @@ class Trials:
             self.tally.breaks(where, f"it answered {ended} and the table is {found}")
         if "KILL" not in how:
             self.judge_refusal(case, injected, ended, found, where)
-        if case.before == case.after and self.stood != tree(folder):
+        if case.is_consumers:
+            self.judge_consumer(case, folder, ended, where)
+        elif case.before == case.after and self.stood != tree(folder):
             self.tally.breaks(where, "a command that only reads changed the folder")
+        if case.words == EXPIRE:
+            again = self.command(folder, *EXPIRE)
+            if again.out != b"kept 2 2\n" or self.state(folder) != case.after:
+                self.tally.breaks(where, f"one more expiry answered {again}, and the table is {self.state(folder)}")
+            found = case.after
         self.go_on(folder, found, where)
+
+    def judge_consumer(self, case, folder, ended, where):
+        """Judges where a consumer is, by what was printed, and goes on with it."""
+        listed = self.command(folder, "consumers").out
+        known = re.fullmatch(rb"(?:c (\d+)( new)?\n)?", listed)
+        if known is None:
+            self.tally.breaks(where, f"consumers printed {listed!r}")
+        elif case.words[0] == "consumers":
+            is_dropped = ended.out == b"dropped\n"
+            if is_dropped and listed or ended.status == 0 and not is_dropped:
+                self.tally.breaks(where, f"it answered {ended}, and then there is {listed!r}")
+        else:
+            self.judge_moved(case, folder, ended, known, where)
+
+    def judge_moved(self, case, folder, ended, known, where):
+        """What was printed are the first frames, and the consumer is moved past no other."""
+        frames = self.command(folder, "follow", "--from", "1").out
+        table = b'{"table":0}\n' if "--full" in case.words else b""
+        is_settled = known[1] is not None and known[2] is None
+        rest = self.command(folder, "follow", "--from", known[1].decode()).out if is_settled else frames
+        moved = frames[: len(frames) - len(rest)]
+        if not (table + frames).startswith(ended.out) or moved and not ended.out.startswith(table + moved):
+            self.tally.breaks(where, f"it printed {ended.out!r}, and the consumer is at {known[0]!r}")
+        if ended.status == 0 and (ended.out != table + frames or known[0] != b"c 3\n"):
+            self.tally.breaks(where, f"it ended with {ended}, and the consumer is at {known[0]!r}")
+        again = self.command(folder, "follow", "--consumer", "c", "--from", "1")
+        then = self.command(folder, "consumers").out
+        if again.out != rest or then != b"c 3\n":
+            self.tally.breaks(where, f"the next command printed {again}, and the consumer is at {then!r}")
 
     def judge_refusal(self, case, injected, ended, found, where):
         """Judges how a command ended of which a call failed."""
@@ -174,7 +246,8 @@ class Trials:
             self.tally.breaks(where, f"it ended with {ended}")
         self.tally.add("refusals", int(ended.status != 0))
         publishes = re.match(rb"E5 store (snapshot/snapshot-|schema/schema-0)", ended.err)
-        if ended.status == 5 and not is_silent and not publishes and found != case.before:
+        is_expiry = case.words == EXPIRE
+        if ended.status == 5 and not is_silent and not publishes and not is_expiry and found != case.before:
             self.tally.breaks(where, f"it said {ended.err!r}, and its rows stand")
         if ended.status == 4 and found != case.after:
             self.tally.breaks(where, f"it said {ended.err!r}, and the table is {found}")
