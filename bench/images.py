@@ -3,29 +3,34 @@
 also after one that was killed and beside one that is held up in the middle. After each change it takes the images that
 the file system may have then: of the names that came or went in a folder since its last sync, which ones are there, in
 every combination as far as they are few and else a choice of them; and of each file that isn't synced nothing, half or
-all of its bytes. Compactions, and writes to a table that is followed, are among the commands where the program knows
-them. It promises, of each image:
+all of its bytes. Compactions, writes to a table that is followed, consumers and expiries are among the commands where
+the program knows them. It promises, of each image:
   - `scan` prints the rows of whole batches, no others, and those of each command that had answered; and where a `scan`
     had answered, what it had printed;
   - `follow` prints a frame of each of these batches, where the table tells its input;
   - `snapshots` lists ids that rise by one from 1, and each that was printed;
+  - a consumer is moved past frames alone that were printed, and past each that was printed before another one by the
+    same command, or by one that had ended; it goes on from there;
+  - of an expiry each snapshot that is there reads, and the newest one is;
   - one more write succeeds, after a `create` where there is no table yet, and leaves no file that is being written.
 It ends with 1 where a promise broke. The gate never runs it. It wants strace. docs/DEVELOPING.md has what it printed.
+All images of a case are built before some are chosen, and a command is held up for three seconds: so with a small
+count, too, all cases take minutes. Each says on standard error how long it took.
 
 usage: bench/images.py [--program PROGRAM] [--count IMAGES_OF_EACH_CASE_AT_MOST] [--seed SEED]
 """
 
 import collections
-import hashlib
 import itertools
 import os
 import pathlib
 import re
 import shutil
 import subprocess
+import sys
 import time
 
-from kills import MERGING, TOLD, batch, quiet
+from kills import EXPIRE, MERGING, TOLD, batch, quiet
 from trials import DRAFT, Ended, Tally, knows, random_of, read_arguments, run, work_folder
 
 CALLS = "openat open creat write pwrite64 fsync fdatasync rename renameat renameat2 unlink unlinkat mkdir mkdirat rmdir"
@@ -196,9 +201,8 @@ def images(disk, random):
 
 
 def signature(names):
-    """A text that two images share exactly where they are the same."""
-    parts = ((name, signature(what) if isinstance(what, dict) else what) for name, what in sorted(names.items()))
-    return hashlib.sha256(repr(list(parts)).encode()).hexdigest()
+    """What two images share exactly where they are the same."""
+    return tuple((name, signature(what) if isinstance(what, dict) else what) for name, what in sorted(names.items()))
 
 
 def build(names, folder):
@@ -244,6 +248,30 @@ def told(syncs):
         yield Case(f"a write that is told, killed at sync {sync}, then another", TOLD, [(1, 2)], True, steps)
 
 
+def consumed(syncs):
+    """What is recorded where the program knows consumers: one that begins and goes on, is killed, and is dropped."""
+    follow, table = Step(["follow", "--consumer", "c", "--from", "1"]), [(1, 2), (3,)]
+    for is_quiet in (True, False):
+        how = "quiet" if is_quiet else "hot"
+        yield Case(f"a consumer begins, {how}", TOLD, table, is_quiet, [follow])
+        yield Case(f"a consumer begins, and goes on, {how}", TOLD, table, is_quiet, [follow, RIVAL, follow])
+    yield Case("a consumer is dropped", TOLD, table, True, [follow, Step(["consumers", "--drop", "c"])])
+    for sync in range(1, syncs + 1):
+        steps = [follow._replace(killed=sync), follow]
+        yield Case(f"a consumer is killed at sync {sync}, then goes on", TOLD, table, True, steps)
+
+
+def expired(syncs):
+    """What is recorded where the program knows expiries: one whose files were replaced, and one that is killed."""
+    full, expire = Step(["compact", "--full"]), Step(EXPIRE)
+    for is_quiet in (True, False):
+        name = f"an expiry, {'quiet' if is_quiet else 'hot'}"
+        yield Case(name, DRAFT, [(1, 2), (3,)], is_quiet, [full, expire])
+    for sync in range(1, syncs + 1):
+        steps = [full, expire._replace(killed=sync), expire]
+        yield Case(f"an expiry killed at sync {sync}, then another", DRAFT, [(1, 2), (3,)], True, steps)
+
+
 def cases(syncs):
     """What is recorded. A killed writer is killed at each of its last syncs, when its names aren't on the disk."""
     write = [Step(["write"], batch(8, 9))]
@@ -275,6 +303,7 @@ class Trial:
         self.batches = [set(keys) for keys in case.batches]
         self.is_made = case.draft is not None
         self.newest = 0  # the greatest snapshot's id that was printed
+        self.moved = 0, 0  # the consumer's least number, where it has one, and its greatest one
         self.seen = {}
 
     def command(self, folder, *words, data=b""):
@@ -327,18 +356,25 @@ class Trial:
         self.prepare()
         disk = Disk(self.folder)
         for step in self.case.steps:
+            if "--drop" in step.words:
+                self.moved = 0, self.moved[1]
             steps, ended, calls = self.record(step)
+            begun = set()
             self.batches += [set(keys_of(each.data)) for each in steps if each.words == ["write"]]
             for _, at, call, texts, rest, answer in calls:
                 if call in OTHERS.split():
                     self.tally.breaks(self.case.name, f"a call that this script doesn't know: {call}")
                 elif call == "write" and rest.startswith(("1,", "2,")):
                     self.take_answer(steps[at], ended[at])
+                    self.take_frame(steps[at], texts[0], at in begun)
+                    begun.add(at)
                     self.collect(disk)
                 elif disk.follow(at, call, texts, rest, answer):
                     self.collect(disk)
             for each in ended:
                 self.judge_end(step, each)
+            self.take_end(step, ended[0])
+            self.collect(disk)
         self.judge_all()
 
     def judge_end(self, step, ended):
@@ -355,18 +391,35 @@ class Trial:
             self.known = self.known | set(keys_of(step.data))
             self.newest = max(self.newest, int(ended.out.split()[1]))
 
+    def take_frame(self, step, text, is_later):
+        """A frame was printed: the consumer may be moved past it, and is past the one before it, if this one printed
+        that."""
+        found = re.match(r'{"snapshot":(\d+)}', text)
+        if "--consumer" in step.words and found:
+            least, most = self.moved
+            number = int(found[1])
+            self.moved = max(least, number) if is_later else least, max(most, number + 1)
+
+    def take_end(self, step, ended):
+        """A consumer that had its frames is past them; one that is dropped is gone."""
+        if "--consumer" in step.words and ended.status == 0:
+            self.moved = self.moved[1], self.moved[1]
+        elif ended.out == b"dropped\n":
+            self.moved = 0, 0
+
     def collect(self, disk):
         """Takes the images of now that weren't there yet; of the same image the last one has the most to hold."""
         for names in images(disk, self.random):
             names = names.get("table", {})
-            self.seen[signature(names)] = names, self.known, self.is_made, self.newest
+            self.seen[signature(names)] = names, self.known, self.is_made, self.newest, self.moved
 
     def judge_all(self):
         found = list(self.seen.values())
+        self.tally.add("images that were built", len(found))
         for image_known in found if len(found) <= self.most else self.random.sample(found, self.most):
             self.judge(*image_known)
 
-    def judge(self, names, known, is_made, newest):
+    def judge(self, names, known, is_made, newest, moved):
         """Judges an image."""
         self.tally.add("images")
         folder = self.work / "image"
@@ -382,20 +435,48 @@ class Trial:
         followed = self.command(folder, "follow", "--from", "1") if self.case.draft == TOLD else Ended(9, b"", b"")
         if followed.status not in (0, 9) or followed.status == 0 and set(keys_of(followed.out)) != found:
             return self.breaks(names, f"follow answered {followed}, and scan printed the keys {sorted(found)}")
-        listed = self.command(folder, "snapshots").out.count(b"\n")
-        if listed < newest:
-            return self.breaks(names, f"{listed} snapshots are there, and {newest} was printed")
-        return self.go_on(names, folder, found, scanned.status == 9)
+        listed = self.snapshots(folder)
+        if max(listed, default=0) < newest:
+            return self.breaks(names, f"the snapshots are {listed}, and {newest} was printed")
+        expires = any(step.words == EXPIRE for step in self.case.steps)
+        for number in listed if expires else []:
+            at = self.command(folder, "scan", "--snapshot", str(number))
+            if at.status != 0:
+                return self.breaks(names, f"scan of snapshot {number} answered {at}")
+        if any("--consumer" in step.words for step in self.case.steps):
+            self.judge_consumer(names, folder, moved)
+        return self.go_on(names, folder, found, scanned.status == 9, expires)
 
-    def go_on(self, names, folder, found, is_none):
+    def snapshots(self, folder):
+        """The ids of the snapshots that are listed."""
+        listed = re.findall(rb"(?m)^\[(\d+),", self.command(folder, "snapshots").out)
+        return [int(number) for number in listed]
+
+    def judge_consumer(self, names, folder, moved):
+        """Judges where the consumer is, and goes on with it."""
+        listed = self.command(folder, "consumers").out
+        known = re.fullmatch(rb"(?:c (\d+)( new)?\n)?", listed)
+        is_settled = known is not None and known[1] is not None and known[2] is None
+        number = int(known[1]) if is_settled else 0
+        if known is None or not moved[0] <= number <= max(moved[1], 1):
+            self.breaks(names, f"consumers printed {listed!r}, and its number is from {moved[0]} to {moved[1]}")
+        frames = self.command(folder, "follow", "--from", str(max(number, 1)))
+        again = self.command(folder, "follow", "--consumer", "c", "--from", "1")
+        then = self.command(folder, "consumers").out
+        newest = max(self.snapshots(folder), default=0)
+        if again != frames or then != b"c %d\n" % (newest + 1):
+            self.breaks(names, f"follow answered {again}, not {frames}, and the consumer is at {then!r}")
+
+    def go_on(self, names, folder, found, is_none, expires):
         if is_none and self.command(folder, "create", data=DRAFT).out != b"created\n":
             return self.breaks(names, "no table can be made")
         ended = self.command(folder, "write", data=batch(100))
         scanned = self.command(folder, "scan").out
-        listed = re.findall(rb"(?m)^\[(\d+),", self.command(folder, "snapshots").out)
+        listed = self.snapshots(folder)
         if ended.status != 0 or scanned != batch(*sorted(found), 100):
             return self.breaks(names, f"one more write answered {ended}, and scan printed {scanned!r}")
-        if [int(number) for number in listed] != list(range(1, len(listed) + 1)):
+        first = listed[0] if expires else 1
+        if listed != list(range(first, first + len(listed))):
             return self.breaks(names, f"the snapshots are {listed}")
         if os.listdir(folder / ".new"):
             return self.breaks(names, "files are left that were being written")
@@ -434,11 +515,14 @@ def main():
     found = read_arguments(__doc__, 400)
     tally = Tally()
     with work_folder() as work:
-        more = compactions(16) if knows(found.program, work, "compact") else []
-        followed = told(16) if knows(found.program, work, "follow") else []
-        for number, case in enumerate([*cases(16), *more, *followed]):
-            random = random_of(found.seed, number)
-            Trial(found.program, work, tally, case, random, found.count).run()
+        tried = list(cases(16))
+        for word, more in (("compact", compactions), ("follow", told), ("consumers", consumed), ("expire", expired)):
+            tried += more(16) if knows(found.program, work, word) else []
+        for number, case in enumerate(tried):
+            begun, before = time.time(), tally.counts["images"]
+            Trial(found.program, work, tally, case, random_of(found.seed, number), found.count).run()
+            took = f"{tally.counts['images'] - before} images in {time.time() - begun:.1f} s"
+            print(f"{number + 1} of {len(tried)} cases: {case.name}, {took}", file=sys.stderr, flush=True)
             tally.add("cases")
     tally.end()
 
