@@ -4,8 +4,10 @@ or other values, or replaced by another file, a link, a pipe or a folder; folder
 aren't the table's come into folders; FOLDER itself is spelt in several ways, and may be no folder. It promises, of each
 command on such a folder:
   - it ends within ten seconds, with 0 or a refusal's status, and a refusal is one line on standard error;
-  - `scan`, `snapshots` and, where the program knows that, `follow` print, and say, what a second program does that was
-    written from the documents (reference_files.py), and change nothing;
+  - `scan`, `snapshots` and, where the program knows them, `follow` and `consumers` print, and say, what a second
+    program does that was written from the documents (reference_files.py), and change nothing;
+  - `follow --consumer`, `consumers --drop` and `expire`, where the program knows them, print and say what the second
+    program does, and change, make and take away the files that it does and no others, but where the store fails;
   - a refused `create`, `write` or `compact` changes no file, but that files of its own may be left, which no snapshot
     names; `write` and `compact`, where the program knows that, print and say what the second program does, but where
     the store fails; a write that ends with 0 shows in the next `scan`, and a compaction leaves that as it was;
@@ -20,6 +22,7 @@ import os
 import re
 import shutil
 import stat
+import time
 
 import reference_avro
 import reference_commands
@@ -33,6 +36,7 @@ KNOWN = ("/dev/urandom", "/dev/random")
 OWN_FILE = rb"(data|manifest|manifest-list|ORIGIN)-[0-9a-f-]{36}-0[0-9a-z.-]*"
 SEAL = rb"\.sealed-(manifest|snapshot|schema)-[\d-]+"
 LEFT = re.compile(rb"\.new/(0|[1-9]\d*)|" + SEAL)
+INNER = re.compile(rb"\.lock|\.new(/\d+)?|" + SEAL)
 OWN = re.compile(rb"\.lock|\.new(/\d+)?|" + SEAL + rb"|(bucket-0|manifest|snapshot|schema)(/" + OWN_FILE + rb")?")
 TABLES = {
     "deduplicate": (
@@ -203,7 +207,7 @@ class Damage:
             return f"{path.relative_to(self.folder)}: {self.replace(path, False)}"
         data = path.read_bytes()
         parts = path.relative_to(self.folder).parts
-        own = change_json if parts[0] in ("snapshot", "schema") else change_record
+        own = change_json if parts[0] in ("snapshot", "schema", "consumer") else change_record
         way = self.random.choice([cut, grow, flip, flip, splice, own, own, own])
         path.write_bytes(way(self.random, data))
         return f"{path.relative_to(self.folder)}: {way.__name__}"
@@ -257,24 +261,23 @@ def expected(read):
     try:
         return 0, read().encode(errors="surrogatepass"), b""
     except Refused as refused:
-        return refused.status, b"", f"{refused}\n".encode(errors="replace")
+        return refused.status, b"", said_of(refused)
 
 
-def expected_frames(folder, words):
-    """What the second program prints and says where it follows a folder."""
-    shown = []
+def expected_of(folder, words, data=b"", time=0):
+    """What the second program prints, and says, of a command on a folder."""
+    shown, session = [], "00000000-0000-0000-0000-000000000000"
     try:
-        reference_commands.execute(folder, ["follow", *words], b"", "", 0, shown.append)
-        status, said = 0, ""
+        reference_commands.execute(folder, words, data, session, time, shown.append)
+        status, said = 0, b""
     except Refused as refused:
-        status, said = refused.status, f"{refused}\n"
-    return status, "".join(shown).encode(errors="surrogatepass"), said.encode(errors="replace")
+        status, said = refused.status, said_of(refused)
+    return status, "".join(shown).encode(errors="surrogatepass"), said
 
 
-def expected_change(folder, words, data):
-    """What the second program prints, or says, where it changes a folder; it changes a copy in memory."""
-    copied, session = reference_files.Memory(folder), "00000000-0000-0000-0000-000000000000"
-    return expected(lambda: reference_commands.answer(copied, words, data, session, 0))
+def said_of(refused):
+    """The line of a refusal. What of it is no UTF-8 is that of a consumer's file."""
+    return f"{refused}\n".encode(errors="surrogateescape" if refused.status == 18 else "replace")
 
 
 class Trial:
@@ -351,7 +354,12 @@ class Trial:
         self.read("snapshots", wanted=lambda: expected(lambda: reference_files.list_snapshots(folder)))
         for words in ([], ["--from", "1"], ["--from", "1", "--full"], ["--from", "4", "--full"], ["--from", "9"]):
             if "follow" in self.known:
-                self.read("follow", *words, wanted=lambda asked=words: expected_frames(folder, asked))
+                self.read("follow", *words, wanted=lambda asked=words: expected_of(folder, ["follow", *asked]))
+        if "consumers" in self.known:
+            self.read("consumers", wanted=lambda: expected_of(folder, ["consumers"]))
+            for words in (["--consumer", "c"], ["--consumer", "d", "--from", "2", "--full"], ["--consumer=e"]):
+                self.change_files(folder, ["follow", *words])
+            self.change_files(folder, ["consumers", "--drop", "c"])
         self.change("create", data=DRAFT)
         if self.change_beside(folder, ["write"], b'["+I",77,"new"]').status == 0:
             self.tally.add("writes")
@@ -362,10 +370,33 @@ class Trial:
                 self.tally.add("compactions")
                 if self.judge_scan(folder, b"") != before:
                     self.breaks("scan after a compaction", f"it isn't {before} any more")
+        if "expire" in self.known:
+            before = expected(lambda: reference_files.scan(folder))
+            self.change_files(folder, ["expire", "--min", "1", "--max", "2"])
+            if self.judge_scan(folder, b"") != before:
+                self.breaks("scan after an expiry", f"it isn't {before} any more")
+
+    def change_files(self, folder, words):
+        """A command that may change each file, beside the second program, which does so in memory."""
+        copied, before = reference_files.Memory(folder), tree(self.folder)
+        wanted = expected_of(copied, words, time=int(time.time() * 1000))
+        ended = self.command(*words)
+        after = tree(self.folder)
+        if ended.status == 5:
+            return
+        if tuple(ended) != wanted:
+            self.breaks(words, f"{ended} in the place of {wanted}")
+        files = {path.encode(): (stat.S_IFREG, data) for path, data in copied.files.items()}
+        files |= {path.encode(): None for path in copied.gone}
+        for path in sorted(before.keys() | after.keys() | files.keys()):
+            is_folder = after.get(path, before.get(path, (0, None)))[0] == stat.S_IFDIR
+            if not is_folder and not INNER.fullmatch(path) and after.get(path) != files.get(path, before.get(path)):
+                self.breaks(words, f"{path} has {after.get(path)}, not {files.get(path, before.get(path))}")
+        self.tally.add("changes of files compared", len(files))
 
     def change_beside(self, folder, words, data):
         """A command that changes the table, beside the second program."""
-        wanted = expected_change(folder, words, data)
+        wanted = expected_of(reference_files.Memory(folder), words, data)
         ended = self.change(*words, data=data)
         if ended.status != 5 and tuple(ended) != wanted:
             self.breaks(words, f"{ended} in the place of {wanted}")
@@ -389,6 +420,11 @@ def make_tables(program, work, known):
         for lines in batches:
             if run([program, work / name, "write"], lines.encode()).status:
                 raise SystemExit(f"no table {name} can be made")
+    if "consumers" in known:
+        run([program, work / "input", "follow", "--consumer", "c", "--from", "3"])
+        (work / "input/consumer/consumer-d").write_bytes(b'{"nextSnapshot":2,"state":"new"}')
+        (work / "input/floor").mkdir()
+        (work / "input/floor/floor-2").write_bytes(b"")
     if "compact" not in known:
         return list(tables)
     folder = copy(work / "deduplicate", work / "compacted")
@@ -428,7 +464,7 @@ def main():
     tally = Tally()
     with work_folder() as work:
         try_no_folders(tally, found.program, work)
-        known = [word for word in ("compact", "follow") if knows(found.program, work, word)]
+        known = [word for word in ("compact", "follow", "consumers", "expire") if knows(found.program, work, word)]
         tables = make_tables(found.program, work, known)
         (work / "link").symlink_to("damaged")
         for number in range(found.count):
