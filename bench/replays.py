@@ -8,7 +8,9 @@ away at `-U` and `-D`. It promises, of each table and each snapshot:
     that the last compaction of all its files had read;
   - where no row came after that one, these are also the rows of a `scan` of the snapshot;
   - with the two last producers `+I` comes of a key that isn't there, `-U` and `-D` have the row that is there, and `+U`
-    follows `-U`; keys rise in a frame, and no pair is equal where equal rows are left out.
+    follows `-U`; keys rise in a frame, and no pair is equal where equal rows are left out;
+  - where the program knows consumers, what one printed in commands between the others are together the frames of
+    `follow --from 1`, each once.
 It ends with 1 where a promise broke. The gate never runs it. docs/DEVELOPING.md has what it printed.
 
 usage: bench/replays.py [--program PROGRAM] [--count TABLES] [--seed SEED]
@@ -20,7 +22,7 @@ import subprocess
 import commands
 import reference_files
 from reference_table import ADDING, Refused, print_json, read_batch, read_draft
-from trials import Tally, random_of, read_arguments, run, work_folder
+from trials import Tally, knows, random_of, read_arguments, run, work_folder
 
 KINDS_OF_TABLE = [(engine, producer) for engine, known in commands.PRODUCERS.items() for producer in known]
 
@@ -49,6 +51,7 @@ class Trial:
         self.tally, self.program, self.folder, self.random = tally, program, folder, random
         self.draft, self.schema = draw_table(random, *KINDS_OF_TABLE[number % len(KINDS_OF_TABLE)])
         self.keys, self.reader = [], reference_files.Folder(folder)
+        self.consumed = None  # what a consumer printed so far, if the program knows consumers
 
     def command(self, words, data=b""):
         """What a command prints that has to succeed; nothing else."""
@@ -80,7 +83,9 @@ class Trial:
         return b"".join(lines)
 
     def change(self):
-        """Writes, compacts, or does both at once."""
+        """Writes, compacts, or does both at once. A consumer goes on meanwhile."""
+        if self.consumed is not None and commands.maybe(self.random, 0.3):
+            self.consume()
         what = self.random.random()
         compact = ["compact", "--full"] if commands.maybe(self.random, 0.4) else ["compact"]
         if what < 0.5:
@@ -96,6 +101,11 @@ class Trial:
             self.tally.add("writes beside a compaction")
             if beside.returncode != 0:
                 self.breaks(f"{compact} beside a write ended with {beside.returncode} and said {said[:200]!r}")
+
+    def consume(self):
+        """Has the consumer go on."""
+        self.consumed += self.command(["follow", "--consumer", "c", "--from", "1"])
+        self.tally.add("followings with a consumer")
 
     def told_up_to(self, number):
         """The snapshot whose rows were told up to a snapshot, by the files of those before it."""
@@ -178,6 +188,11 @@ class Trial:
         for _ in range(self.random.randint(4, 24)):
             self.change()
         self.follow()
+        if self.consumed is not None:
+            self.consume()
+            frames = self.command(["follow", "--from", "1"])
+            if self.consumed != frames:
+                self.breaks(f"a consumer printed {self.consumed[:300]!r}, not {frames[:300]!r}")
 
 
 def replay(schema, table, rows):
@@ -193,8 +208,11 @@ def main():
     found = read_arguments(__doc__, 200)
     tally = Tally()
     with work_folder() as work:
+        has_consumers = knows(found.program, work, "consumers")
         for number in range(found.count):
-            Trial(tally, found.program, work / str(number), random_of(found.seed, number), number).run()
+            trial = Trial(tally, found.program, work / str(number), random_of(found.seed, number), number)
+            trial.consumed = "" if has_consumers else None
+            trial.run()
             tally.add("tables of " + " and ".join(KINDS_OF_TABLE[number % len(KINDS_OF_TABLE)]))
     tally.end()
 
