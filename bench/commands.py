@@ -63,6 +63,7 @@ SIZES = {
     "compaction.size-ratio": ["0", "1", "100", "1000000"],
     "full-compaction.delta-commits": ["1", "2", "3"],
 }
+WORDS = (("compact",), ("expire",), ("consumers",), ("consumers", "--drop"), ("follow",), ("follow", "--consumer"))
 OFTEN = {"write": 9, "follow": 6, "scan": 4, "compact": 4, "expire": 4, "consumers": 3, "snapshots": 2, "create": 1}
 ODD_WORDS = ["create", "scan", "--snapshot", "--snapshot=1", "-1", "", "é", "a\nb", "write", "--user=", "--ident"]
 ODD_WORDS += ["01", "compact", "--full", "--full=", "--full=1", "follow", "--from", "--from=0", "0", "consumers"]
@@ -319,7 +320,7 @@ def main():
     found = read_arguments(__doc__, 1000)
     tally = Tally()
     with work_folder() as work:
-        for words in (("compact",), ("consumers",), ("expire",), ("follow", "--consumer"), ("follow",)):
+        for words in WORDS:
             if not knows(found.program, work, *words, *["c"][: len(words) - 1]):
                 leave_out(*words)
         for producer in [known for known in BUILT_PRODUCERS if not makes(found.program, work / known, known)]:

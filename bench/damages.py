@@ -28,7 +28,19 @@ import reference_avro
 import reference_commands
 import reference_files
 from reference_table import Refused
-from trials import DRAFT, Tally, copy, fault_of, knows, random_of, read_arguments, run, tree, work_folder
+from trials import (
+    DRAFT,
+    Tally,
+    copy,
+    fault_of,
+    knows,
+    knows_consumers,
+    random_of,
+    read_arguments,
+    run,
+    tree,
+    work_folder,
+)
 
 SAMPLE = 20  # each so many commands one runs under strace
 SECRET = b'["+I",666,"a secret of somebody else"]'
@@ -357,6 +369,7 @@ class Trial:
                 self.read("follow", *words, wanted=lambda asked=words: expected_of(folder, ["follow", *asked]))
         if "consumers" in self.known:
             self.read("consumers", wanted=lambda: expected_of(folder, ["consumers"]))
+        if "--consumer" in self.known:
             for words in (["--consumer", "c"], ["--consumer", "d", "--from", "2", "--full"], ["--consumer=e"]):
                 self.change_files(folder, ["follow", *words])
             self.change_files(folder, ["consumers", "--drop", "c"])
@@ -421,9 +434,10 @@ def make_tables(program, work, known):
             if run([program, work / name, "write"], lines.encode()).status:
                 raise SystemExit(f"no table {name} can be made")
     if "consumers" in known:
-        run([program, work / "input", "follow", "--consumer", "c", "--from", "3"])
+        for folder in ("consumer", "floor"):
+            (work / "input" / folder).mkdir()
+        (work / "input/consumer/consumer-c").write_bytes(b'{"nextSnapshot":3}')
         (work / "input/consumer/consumer-d").write_bytes(b'{"nextSnapshot":2,"state":"new"}')
-        (work / "input/floor").mkdir()
         (work / "input/floor/floor-2").write_bytes(b"")
     if "compact" not in known:
         return list(tables)
@@ -465,6 +479,7 @@ def main():
     with work_folder() as work:
         try_no_folders(tally, found.program, work)
         known = [word for word in ("compact", "follow", "consumers", "expire") if knows(found.program, work, word)]
+        known += ["--consumer"] if knows_consumers(found.program, work) else []
         tables = make_tables(found.program, work, known)
         (work / "link").symlink_to("damaged")
         for number in range(found.count):

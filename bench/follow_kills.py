@@ -1,6 +1,7 @@
 #!/usr/bin/env python3
-"""Follows a table with a consumer in a loop, and kills `follow --consumer` at random moments, while two processes write,
-one compacts, one lets snapshots expire where the program knows that, and a second consumer, a witness, is never killed.
+"""Follows a table with a consumer in a loop, and kills `follow --consumer` at random moments, while two processes
+write, one compacts, one lets snapshots expire where the program knows that, and a second consumer, a witness, is never
+killed.
 Half of the kills are made on a table that tells its input, and half on one that looks up what it tells. It promises:
   - what each command printed are frames of the witness, one after another, of which the last may be cut off;
   - it begins with the frame after the last one that was printed whole, or with that one once more;
@@ -19,7 +20,7 @@ import sys
 import threading
 import time
 
-from trials import DRAFT, Tally, knows, random_of, read_arguments, run, work_folder
+from trials import DRAFT, Tally, knows, knows_consumers, random_of, read_arguments, run, work_folder
 
 KEYS = 20
 FRAME = re.compile(rb'(?m)^{"snapshot":(\d+)}\n')
@@ -163,8 +164,8 @@ def main():
     found = read_arguments(__doc__, 500)
     tally = Tally()
     with work_folder() as work:
-        if not knows(found.program, work, "consumers"):
-            sys.exit("the program knows no consumers")
+        if not knows_consumers(found.program, work):
+            sys.exit("the program follows with no consumer")
         expires = knows(found.program, work, "expire")
         for number, producer in enumerate(("input", "lookup")):
             random = random_of(found.seed, number)

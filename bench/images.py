@@ -31,7 +31,7 @@ import sys
 import time
 
 from kills import EXPIRE, MERGING, TOLD, batch, quiet
-from trials import DRAFT, Ended, Tally, knows, random_of, read_arguments, run, work_folder
+from trials import DRAFT, Ended, Tally, knows, knows_consumers, random_of, read_arguments, run, work_folder
 
 CALLS = "openat open creat write pwrite64 fsync fdatasync rename renameat renameat2 unlink unlinkat mkdir mkdirat rmdir"
 CALLS += " ftruncate"
@@ -516,8 +516,9 @@ def main():
     tally = Tally()
     with work_folder() as work:
         tried = list(cases(16))
-        for word, more in (("compact", compactions), ("follow", told), ("consumers", consumed), ("expire", expired)):
+        for word, more in (("compact", compactions), ("follow", told), ("expire", expired)):
             tried += more(16) if knows(found.program, work, word) else []
+        tried += consumed(16) if knows_consumers(found.program, work) else []
         for number, case in enumerate(tried):
             begun, before = time.time(), tally.counts["images"]
             Trial(found.program, work, tally, case, random_of(found.seed, number), found.count).run()

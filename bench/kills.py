@@ -8,8 +8,8 @@ and from there on, by strace. It promises:
     another path than the snapshot's the table is as before, and after E4 the batch, or the snapshot, stands;
   - then one more write succeeds, and leaves no file that is being written;
   - a command that only reads changes nothing;
-  - where the program knows consumers, what one printed is a prefix of its frames; it is moved past frames alone that were
-    printed whole, past all where the command ended with 0, and the next command goes on from there;
+  - where the program knows consumers, what one printed is a prefix of its frames; it is moved past frames alone that
+    were printed whole, past all where the command ended with 0, and the next command goes on from there;
   - where it knows expiries, the newest snapshot keeps its rows, and the next expiry takes the others away.
 It ends with 1 where a promise broke. The gate never runs it. It wants strace. docs/DEVELOPING.md has what it printed.
 
@@ -21,7 +21,19 @@ import os
 import re
 import time
 
-from trials import DRAFT, Tally, copy, fault_of, knows, random_of, read_arguments, run, tree, work_folder
+from trials import (
+    DRAFT,
+    Tally,
+    copy,
+    fault_of,
+    knows,
+    knows_consumers,
+    random_of,
+    read_arguments,
+    run,
+    tree,
+    work_folder,
+)
 
 CHANGES = ("openat", "write", "fsync", "fdatasync", "rename", "renameat", "renameat2", "unlink", "unlinkat", "mkdir")
 CHANGES += ("mkdirat", "rmdir", "flock", "fchmod", "ftruncate", "utimensat")
@@ -33,8 +45,8 @@ CONSUMER = b'{"nextSnapshot":1}'
 EXPIRE = ["expire", "--min", "1", "--max", "1"]
 
 # A folder, a command on it, the keys and the number of snapshots that the table has before and after it, none where
-# there is no table, those keys that are written to a copy of the folder first, since a copy's folders aren't sealed, and
-# whether the command changes the file of the consumer c.
+# there is no table, those keys that are written to a copy of the folder first, since a copy's folders aren't sealed,
+# and whether the command changes the file of the consumer c.
 Case = collections.namedtuple("Case", "name folder words data before after first is_consumers", defaults=[(), False])
 Injected = collections.namedtuple("Injected", "call number how")
 
@@ -111,6 +123,7 @@ class Trials:
         """Consumers of a table that tells its input, where the program knows them."""
         if not knows(self.program, self.work, "consumers"):
             return []
+        has_more = knows_consumers(self.program, self.work)
         found, follow = ([1, 2, 3], 2), ["follow", "--consumer", "c"]
         none = self.table("no consumer", [batch(1, 2), batch(3)], TOLD)
         known, new = copy(none, self.work / "a consumer"), copy(none, self.work / "a new consumer")
@@ -118,13 +131,13 @@ class Trials:
             (folder / "consumer").mkdir()
             (folder / "consumer/consumer-c").write_bytes(text)
             quiet(folder)
-        return [
+        changes = [
             Case("a consumer that begins", none, [*follow, "--from", "1", "--full"], b"", found, found, (), True),
             Case("a new consumer that begins", new, [*follow, "--from", "1"], b"", found, found, (), True),
             Case("a consumer that goes on", known, follow, b"", found, found, (), True),
             Case("a consumer that is dropped", known, ["consumers", "--drop", "c"], b"", found, found, (), True),
-            Case("consumers", known, ["consumers"], b"", found, found),
         ]
+        return [Case("consumers", known, ["consumers"], b"", found, found), *(changes if has_more else [])]
 
     def expired(self):
         """An expiry of a snapshot whose data file was replaced, where the program knows expiries."""

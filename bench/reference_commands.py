@@ -32,7 +32,7 @@ def leave_out(command, option=None):
     """Has the words of a command give none, or those with an option, for a program that hasn't it yet."""
     if option is None:
         OPTIONS.pop(command, None)
-    else:
+    elif command in OPTIONS:
         OPTIONS[command] = tuple(known for known in OPTIONS[command] if known != option)
 
 

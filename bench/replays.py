@@ -22,7 +22,7 @@ import subprocess
 import commands
 import reference_files
 from reference_table import ADDING, Refused, print_json, read_batch, read_draft
-from trials import Tally, knows, random_of, read_arguments, run, work_folder
+from trials import Tally, knows_consumers, random_of, read_arguments, run, work_folder
 
 KINDS_OF_TABLE = [(engine, producer) for engine, known in commands.PRODUCERS.items() for producer in known]
 
@@ -208,7 +208,7 @@ def main():
     found = read_arguments(__doc__, 200)
     tally = Tally()
     with work_folder() as work:
-        has_consumers = knows(found.program, work, "consumers")
+        has_consumers = knows_consumers(found.program, work)
         for number in range(found.count):
             trial = Trial(tally, found.program, work / str(number), random_of(found.seed, number), number)
             trial.consumed = "" if has_consumers else None

@@ -48,6 +48,11 @@ def knows(program, work, *words):
     return run([program, work / "nothing", *words]).status == 9
 
 
+def knows_consumers(program, work):
+    """Whether the program follows with consumers, and drops them."""
+    return all(knows(program, work, *words, "c") for words in (("follow", "--consumer"), ("consumers", "--drop")))
+
+
 def fault_of(ended, words=()):
     """What is wrong with how a command ended, if anything: it prints, or is refused with one line. Where the output
     failed a part of what it printed may be there; and what `follow` prints before it is refused."""
