@@ -1,0 +1,6 @@
+mod AllCallsLemmas
+mod BesideLemmas
+pub mod Facts
+mod NameLemmas
+pub mod OneLemmas
+mod ReadingLemmas
