@@ -1,0 +1,4 @@
+mod AnswerLemmas
+mod JoinLemmas
+mod OneLemmas
+pub mod ConsumerLaws
