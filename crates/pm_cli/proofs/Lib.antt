@@ -1,4 +1,5 @@
 mod Common
+mod Consumers
 mod Compact
 mod Create
 mod First

@@ -5,6 +5,7 @@ use Rattle.pm_command_create.specs.Create.{AnswersCreate, ActsCreate, CreatesTab
 use Rattle.pm_command.specs.Outside.{Outside}
 use Rattle.pm_command.specs.declared.start.Start.{Start}
 use Rattle.pm_command_compact.specs.Compact.{Compacts, CompactsTables}
+use Rattle.pm_command_consumers.specs.Consumers as consumers
 use Rattle.pm_command_follow.specs.Follow.{Follows, FollowsTables}
 use Rattle.pm_command_scan.specs.Scan.{Scans, ScansTables}
 use Rattle.pm_command_snapshots.specs.Snapshots.{ListsSnapshots, ListsTables}
@@ -20,6 +21,8 @@ Answers (commands.Scan snapshot) start before after answer =
     (after.input ≡ before.input) × Scans snapshot before after answer
 Answers commands.Snapshots start before after answer =
     (after.input ≡ before.input) × ListsSnapshots before after answer
+Answers commands.Consumers start before after answer =
+    (after.input ≡ before.input) × consumers.ListsConsumers before after answer
 Answers (commands.Compact full) start before after answer =
     (after.input ≡ before.input) × Compacts start full before after answer
 Answers (commands.Follow from full) start before after answer =
@@ -33,6 +36,7 @@ abbrev pub Acts : Command → Start → Outside → Outside → Option Refusal �
 Acts commands.Create start before after answer = ActsCreate start before after answer
 Acts (commands.Scan snapshot) start before after answer = Scans snapshot before after answer
 Acts commands.Snapshots start before after answer = ListsSnapshots before after answer
+Acts commands.Consumers start before after answer = consumers.ListsConsumers before after answer
 Acts (commands.Compact full) start before after answer = Compacts start full before after answer
 Acts (commands.Follow from full) start before after answer = Follows from full before after answer
 Acts (commands.Write user identifier) start before after answer =
@@ -43,6 +47,7 @@ abbrev pub ServesHistories : Command → Start → Outside → Outside → Optio
 ServesHistories commands.Create start before after answer = CreatesTables start before after answer
 ServesHistories (commands.Scan snapshot) start before after answer = ScansTables snapshot before after answer
 ServesHistories commands.Snapshots start before after answer = ListsTables before after answer
+ServesHistories commands.Consumers start before after answer = consumers.ListsTables before after answer
 ServesHistories (commands.Compact full) start before after answer = CompactsTables start full before after answer
 ServesHistories (commands.Follow from full) start before after answer = FollowsTables from full before after answer
 ServesHistories (commands.Write user identifier) start before after answer =

@@ -17,8 +17,11 @@ use Rattle.pm_model_history.specs.Merge.{HistoryRow}
 use Rattle.pm_model_history.specs.Merged.{scan_text}
 use Rattle.pm_model_folder.specs.Changes.{Actor}
 use Rattle.pm_model_folder.specs.Folder.{Folder}
+use Rattle.pm_consumer_files.specs.Lines.{consumers_text}
+use Rattle.pm_consumer_files.specs.declared.lines.NamedConsumer.{NamedConsumer}
 use Rattle.pm_create.specs.Making.{LeavesFiles}
 use Rattle.pm_write.specs.Taken.{all_taken}
+use Rattle.pm_consumers.specs.AllCalls.{AreConsumersOf}
 use Rattle.pm_scan.specs.AllCalls.{id_of}
 use Rattle.pm_snapshots.specs.AllCalls.{AreLinesOf}
 use Rattle.pm_snapshots.specs.Lines.{snapshots_text}
@@ -47,6 +50,9 @@ pub data Does (start : Start) (bytes : List ℕ) (found : StoreView) : Command �
   lists : (s : TableSchema) (es : List Entry) (lines : List SnapshotLine) → AreLines es lines
       → LeavesFiles (λ f. AreLinesOf f lines) found
       → Does start bytes found commands.Snapshots (table s es) (table s es) (snapshots_text lines)
+  lists_consumers : (s : TableSchema) (es : List Entry) (consumers : List NamedConsumer)
+      → LeavesFiles (λ f. AreConsumersOf f consumers) found
+      → Does start bytes found commands.Consumers (table s es) (table s es) (consumers_text consumers)
   follows : (from : Option ℕ) (full : Bool) (s : TableSchema) (es : List Entry) → MayStartAt s es from
       → Does start bytes found (commands.Follow from full) (table s es) (table s es) (follow_text s es from full)
   rests : (full : Bool) (s : TableSchema) (es : List Entry) → LeavesFiles (HasChoice start full (table s es) []) found

@@ -9,6 +9,7 @@ ghost use Rattle.pm_cli.specs.Commands.{Acts, Answers, ServesHistories};
 
 use pm_command::Start;
 use pm_command_compact::run_compact;
+use pm_command_consumers::run_consumers;
 use pm_command_create::run_create;
 use pm_command_follow::{follow_law, run_follow};
 use pm_command_scan::run_scan;
@@ -82,6 +83,7 @@ fn execute_command<S: Source, W: Sink, F: FileStore>(
         Command::Create => run_create(alloc, input, out, store, start),
         Command::Scan { snapshot } => run_scan(alloc, snapshot, out, store),
         Command::Snapshots => run_snapshots(alloc, out, store),
+        Command::Consumers => run_consumers(alloc, out, store),
         Command::Compact { full } => run_compact(alloc, full, out, store, start),
         Command::Follow { from, full } => run_follow(alloc, from, full, out, store),
         Command::Write { user, identifier } => {

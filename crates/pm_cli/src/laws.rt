@@ -44,10 +44,10 @@ use pm_schema::draft_law;
 /// A store that has what a crash within `create` left stands for the history, or for the draft's table where there was
 /// none; one that has what a crash within `write` or `compact` left, for the history, or for it with the rows of the
 /// input, or with the compaction of its newest snapshot's choice, as once the next snapshot is there; and one that has
-/// what a crash within `scan`, `snapshots` or `follow` left, for the history, and no path has another content. Another
-/// actor that might have started before `write` or `compact` may start there, and wherever no path has another content.
-/// So what `run` promises of a history holds again of the next `write`, `compact`, `scan`, `snapshots` or `follow`, and
-/// after a crash within one of these.
+/// what a crash within `scan`, `snapshots`, `consumers` or `follow` left, for the history, and no path has another
+/// content. Another actor that might have started before `write` or `compact` may start there, and wherever no path has
+/// another content. So what `run` promises of a history holds again of the next `write`, `compact`, `scan`,
+/// `snapshots`, `consumers` or `follow`, and after a crash within one of these.
 pub fn next_command_law()
     ensures create { (start : Start) (bytes : List ℕ) (h : History) (old new : List Op) (i : ℕ)
         (image : Files) → Extends (StandsForEither start bytes h) (Some old) (Some new) → length old ≤ i
@@ -109,6 +109,14 @@ pub fn keeps_snapshots_law()
     next_command_law();
 }
 
+/// The promise of `consumers`.
+pub fn keeps_consumers_law()
+    ensures { (e : Execution) → IsExecuted (record e { command = commands.Consumers })
+        → Keeps (record e { command = commands.Consumers }) }
+{
+    next_command_law();
+}
+
 /// The promise of `compact`.
 pub fn keeps_compact_law()
     ensures { (full : Bool) (e : Execution) → IsExecuted (record e { command = commands.Compact full })
@@ -138,6 +146,7 @@ pub fn keeps_law()
     keeps_create_law();
     keeps_scan_law();
     keeps_snapshots_law();
+    keeps_consumers_law();
     keeps_compact_law();
     keeps_follow_law();
     keeps_write_law();

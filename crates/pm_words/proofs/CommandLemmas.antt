@@ -44,6 +44,7 @@ one_number options option (Some a) None one other = absurd cc
 one_of : (word : List ℕ) (options : List CommandOption) (a b : Command) → AreOfCommand word options a → AreOfCommand word options b → a ≡ b
 one_of word options commands.Create commands.Create one other = refl
 one_of word options (commands.Compact a) (commands.Compact b) one other = ap commands.Compact (one_flag options (codes "full") a b one.values other.values)
+one_of word options commands.Consumers commands.Consumers one other = refl
 one_of word options (commands.Follow m a) (commands.Follow n b) one other =
     ap₂ commands.Follow (one_number options (codes "from") m n one.values.0 other.values.0) (one_flag options (codes "full") a b one.values.1 other.values.1)
 one_of word options (commands.Scan a) (commands.Scan b) one other = ap commands.Scan (one_number options (codes "snapshot") a b one.values other.values)
@@ -122,6 +123,10 @@ module _ (words : List (List ℕ)) where
   pub no_snapshots : HasNoOptions [] words → (command : Command) → GiveAfter (codes "snapshots") words command → ⊥
   no_snapshots none commands.Snapshots after = none after.options after.are after.of.names tt
   no_snapshots none other after = apart (codes "snapshots") (word_of other) refl after.of.first
+
+  pub no_consumers : HasNoOptions [] words → (command : Command) → GiveAfter (codes "consumers") words command → ⊥
+  no_consumers none commands.Consumers after = none after.options after.are after.of.names tt
+  no_consumers none other after = apart (codes "consumers") (word_of other) refl after.of.first
 
   pub no_compact : HasNoOptions (flag (codes "full") ∷ []) words → (command : Command) → GiveAfter (codes "compact") words command → ⊥
   no_compact none (commands.Compact full) after = none after.options after.are after.of.names (flag_is_given after.options (codes "full") full after.of.values, tt)
@@ -248,6 +253,7 @@ names_have (commands.Compact full) = refl
 names_have (commands.Follow from full) = refl
 names_have (commands.Scan snapshot) = refl
 names_have commands.Snapshots = refl
+names_have commands.Consumers = refl
 names_have (commands.Write user identifier) = refl
 
 pub none_stands : (word : List ℕ) (later words : List (List ℕ)) → words ≡ word ∷ later → list_all may_stand later ≡ false → GiveNoCommand words

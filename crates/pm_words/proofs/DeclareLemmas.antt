@@ -25,6 +25,9 @@ create_has a is = subst (λ a. HasDeclared a []) (sym is) (record { named = refl
 pub snapshots_has : (a : App) → a ≡ app_for (codes "snapshots") [] → HasDeclared a []
 snapshots_has a is = subst (λ a. HasDeclared a []) (sym is) (record { named = refl; simple = refl; name = codes "snapshots"; built = refl; words = refl })
 
+pub consumers_has : (a : App) → a ≡ app_for (codes "consumers") [] → HasDeclared a []
+consumers_has a is = subst (λ a. HasDeclared a []) (sym is) (record { named = refl; simple = refl; name = codes "consumers"; built = refl; words = refl })
+
 abbrev pub compact_options : List Declared
 compact_options = flag (codes "full") ∷ []
 

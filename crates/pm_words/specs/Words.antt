@@ -99,6 +99,7 @@ pub record AreOf (names : List (List ℕ)) (options : List CommandOption) : Type
 abbrev pub word_of : Command → List ℕ
 word_of commands.Create = codes "create"
 word_of (commands.Compact full) = codes "compact"
+word_of commands.Consumers = codes "consumers"
 word_of (commands.Follow from full) = codes "follow"
 word_of (commands.Scan snapshot) = codes "scan"
 word_of commands.Snapshots = codes "snapshots"
@@ -108,6 +109,7 @@ word_of (commands.Write user identifier) = codes "write"
 abbrev pub names_of : Command → List (List ℕ)
 names_of commands.Create = []
 names_of (commands.Compact full) = codes "full" ∷ []
+names_of commands.Consumers = []
 names_of (commands.Follow from full) = codes "from" ∷ codes "full" ∷ []
 names_of (commands.Scan snapshot) = codes "snapshot" ∷ []
 names_of commands.Snapshots = []
@@ -122,6 +124,7 @@ IsInRange other = Unit {0}
 abbrev pub GiveEach : List CommandOption → Command → Type 0
 GiveEach options commands.Create = Unit {0}
 GiveEach options (commands.Compact full) = GiveFlag options (codes "full") full
+GiveEach options commands.Consumers = Unit {0}
 GiveEach options (commands.Follow from full) = GiveNumber options (codes "from") from
     × GiveFlag options (codes "full") full × IsInRange (commands.Follow from full)
 GiveEach options (commands.Scan snapshot) = GiveNumber options (codes "snapshot") snapshot

@@ -29,6 +29,8 @@ pub enum Command {
     },
     /// To list its snapshots.
     Snapshots,
+    /// To list its consumers.
+    Consumers,
     /// To compact it, where the word says so in full.
     Compact {
         full: bool,
@@ -66,6 +68,7 @@ fn command_of<'a>(
 {
     match word {
         "compact" => compact_of(alloc, words),
+        "consumers" => consumers_of(alloc, words),
         "create" => create_of(alloc, words),
         "follow" => follow_of(alloc, words),
         "scan" => scan_of(alloc, words),
@@ -86,6 +89,17 @@ fn compact_of<'a>(alloc: Global, words: &'a [&'a str]) -> Result<Option<Command>
     };
     let full = flag_given(&matches, "full");
     Ok(Some(Command::Compact { full }))
+}
+
+/// The command `consumers` with these words after it.
+fn consumers_of<'a>(alloc: Global, words: &'a [&'a str]) -> Result<Option<Command>, AllocError>
+    requires { list_all may_stand (map (λ word. word.now) words.now) ≡ true }
+    ensures { IfOk result (Finds (GiveAfter (codes "consumers") (map (λ word. word.now) words.entry.now))) }
+{
+    let Some(_) = matches_in(without_options(alloc, "consumers"), words)? else {
+        return Ok(None);
+    };
+    Ok(Some(Command::Consumers))
 }
 
 /// The command `create` with these words after it.

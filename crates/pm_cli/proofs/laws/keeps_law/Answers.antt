@@ -9,17 +9,18 @@ use Rattle.pm_cli.proofs.laws.keeps_law.Goals as goal
 abbrev KeepsAs : Command → Type 0
 KeepsAs command = (e : Execution) → IsExecuted (with_command command e) → Keeps (with_command command e)
 
-each : KeepsAs commands.Create → ((at : Option ℕ) → KeepsAs (commands.Scan at)) → KeepsAs commands.Snapshots
+each : KeepsAs commands.Create → ((at : Option ℕ) → KeepsAs (commands.Scan at)) → KeepsAs commands.Snapshots → KeepsAs commands.Consumers
     → ((full : Bool) → KeepsAs (commands.Compact full)) → ((from : Option ℕ) (full : Bool) → KeepsAs (commands.Follow from full))
     → ((user : Option (List ℕ)) (number : Option ℕ) → KeepsAs (commands.Write user number)) → (command : Command) → KeepsAs command
-each create scan snapshots compact follow write commands.Create = create
-each create scan snapshots compact follow write (commands.Scan at) = scan at
-each create scan snapshots compact follow write commands.Snapshots = snapshots
-each create scan snapshots compact follow write (commands.Compact full) = compact full
-each create scan snapshots compact follow write (commands.Follow from full) = follow from full
-each create scan snapshots compact follow write (commands.Write user number) = write user number
+each create scan snapshots consumers compact follow write commands.Create = create
+each create scan snapshots consumers compact follow write (commands.Scan at) = scan at
+each create scan snapshots consumers compact follow write commands.Snapshots = snapshots
+each create scan snapshots consumers compact follow write commands.Consumers = consumers
+each create scan snapshots consumers compact follow write (commands.Compact full) = compact full
+each create scan snapshots consumers compact follow write (commands.Follow from full) = follow from full
+each create scan snapshots consumers compact follow write (commands.Write user number) = write user number
 
 pub returns : goal.returns
 returns c = λ e is.
-    each c.keeps_create_law.ensures c.keeps_scan_law.ensures c.keeps_snapshots_law.ensures c.keeps_compact_law.ensures c.keeps_follow_law.ensures
+    each c.keeps_create_law.ensures c.keeps_scan_law.ensures c.keeps_snapshots_law.ensures c.keeps_consumers_law.ensures c.keeps_compact_law.ensures c.keeps_follow_law.ensures
     c.keeps_write_law.ensures e.command e is
