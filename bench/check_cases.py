@@ -20,7 +20,8 @@ from reference_table import Refused
 from trials import TOP, Tally
 
 CASES = TOP / "crates/pm_cases_commands"
-NOT_BUILT = (("consumers",), ("expire",), ("follow", "--consumer"))  # what the program whose cases these are doesn't know yet
+# What the program whose cases these are doesn't know yet, each as its words.
+NOT_BUILT = (("consumers", "--drop"), ("expire",), ("follow", "--consumer"))
 WITH_INPUT = ("create", "write")
 
 
