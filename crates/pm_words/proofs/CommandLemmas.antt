@@ -250,10 +250,10 @@ options_stand names named (o ∷ options) words are known =
 names_have : (command : Command) → list_all has_bytes (names_of command) ≡ true
 names_have commands.Create = refl
 names_have (commands.Compact full) = refl
+names_have commands.Consumers = refl
 names_have (commands.Follow from full) = refl
 names_have (commands.Scan snapshot) = refl
 names_have commands.Snapshots = refl
-names_have commands.Consumers = refl
 names_have (commands.Write user identifier) = refl
 
 pub none_stands : (word : List ℕ) (later words : List (List ℕ)) → words ≡ word ∷ later → list_all may_stand later ≡ false → GiveNoCommand words

@@ -6,7 +6,7 @@ use Rattle.clap.specs.Simple.{App, new_shape, with_rule}
 use Rattle.clap.specs.Walk.{Rule}
 use Rattle.clap.specs.declared.builder.arg.Arg.{Arg}
 use Rattle.clap.specs.declared.builder.command.Command.{Command}
-use Rattle.pm_words.specs.Clap.{Declared, HasDeclared, app_for, flag, told_of, value}
+use Rattle.pm_words.specs.Clap.{Declared, HasDeclared, app_for, compact_options, follow_options, scan_options, told_of, write_options}
 
 -- a command with these rules alone
 abbrev app_with : List ℕ → List Rule → App
@@ -17,7 +17,7 @@ pub adds_declared : (old new : Command) (a : Arg) (word : List ℕ) (declared : 
 adds_declared old new a word declared d adds rule local is =
     adds.shape local ∙ ap₂ with_rule is rule ∙ ap (app_with word) (sym (map-append told_of declared (d ∷ [])))
 
--- ---- the options of each command
+-- ---- each command
 
 pub create_has : (a : App) → a ≡ app_for (codes "create") [] → HasDeclared a []
 create_has a is = subst (λ a. HasDeclared a []) (sym is) (record { named = refl; simple = refl; name = codes "create"; built = refl; words = refl })
@@ -28,26 +28,14 @@ snapshots_has a is = subst (λ a. HasDeclared a []) (sym is) (record { named = r
 pub consumers_has : (a : App) → a ≡ app_for (codes "consumers") [] → HasDeclared a []
 consumers_has a is = subst (λ a. HasDeclared a []) (sym is) (record { named = refl; simple = refl; name = codes "consumers"; built = refl; words = refl })
 
-abbrev pub compact_options : List Declared
-compact_options = flag (codes "full") ∷ []
-
 pub compact_has : (a : App) → a ≡ app_for (codes "compact") compact_options → HasDeclared a compact_options
 compact_has a is = subst (λ a. HasDeclared a compact_options) (sym is) (record { named = refl; simple = refl; name = codes "compact"; built = refl; words = refl })
-
-abbrev pub follow_options : List Declared
-follow_options = value (codes "from") ∷ flag (codes "full") ∷ []
 
 pub follow_has : (a : App) → a ≡ app_for (codes "follow") follow_options → HasDeclared a follow_options
 follow_has a is = subst (λ a. HasDeclared a follow_options) (sym is) (record { named = refl; simple = refl; name = codes "follow"; built = refl; words = refl })
 
-abbrev pub scan_options : List Declared
-scan_options = value (codes "snapshot") ∷ []
-
 pub scan_has : (a : App) → a ≡ app_for (codes "scan") scan_options → HasDeclared a scan_options
 scan_has a is = subst (λ a. HasDeclared a scan_options) (sym is) (record { named = refl; simple = refl; name = codes "scan"; built = refl; words = refl })
-
-abbrev pub write_options : List Declared
-write_options = value (codes "user") ∷ value (codes "ident") ∷ []
 
 pub write_has : (a : App) → a ≡ app_for (codes "write") write_options → HasDeclared a write_options
 write_has a is = subst (λ a. HasDeclared a write_options) (sym is) (record { named = refl; simple = refl; name = codes "write"; built = refl; words = refl })

@@ -38,6 +38,19 @@ abbrev pub name_in : Declared → List ℕ
 name_in (value name) = name
 name_in (flag name) = name
 
+-- the options of each command
+abbrev pub compact_options : List Declared
+compact_options = flag (codes "full") ∷ []
+
+abbrev pub follow_options : List Declared
+follow_options = value (codes "from") ∷ flag (codes "full") ∷ []
+
+abbrev pub scan_options : List Declared
+scan_options = value (codes "snapshot") ∷ []
+
+abbrev pub write_options : List Declared
+write_options = value (codes "user") ∷ value (codes "ident") ∷ []
+
 -- the one of this name
 abbrev pub declared_as : List ℕ → List Declared → Option Declared
 declared_as name declared = find (λ d. bytes_eq (name_in d) name) declared
@@ -75,6 +88,7 @@ rule_for (value name) = record (new_rule name) {
   long = Some name;
   action = Some actions.Set;
   range = Some (record { start_inclusive = 1; end_inclusive = 1 });
+  value_names = 1;
   parser = Some parsers.String;
 }
 rule_for (flag name) = record (new_rule name) {
@@ -98,7 +112,7 @@ shape_for name declared = record (new_shape name) {
 
 -- what is told of an option
 abbrev pub told_of : Declared → Rule
-told_of (value name) = record (new_rule name) { long = Some name; action = Some actions.Set }
+told_of (value name) = record (new_rule name) { long = Some name; action = Some actions.Set; value_names = 1 }
 told_of (flag name) = record (new_rule name) { long = Some name; action = Some actions.SetTrue }
 
 -- what is told of a command with these options

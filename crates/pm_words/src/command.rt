@@ -7,7 +7,11 @@ ghost use Rattle.pm_words.specs.Clap.{may_stand};
 ghost use Rattle.pm_words.specs.Reading.{Finds, GiveAfter};
 ghost use Rattle.pm_words.specs.Words.{Give, GiveNoCommand, first_word};
 
-use crate::options::{matches_in, texts_in, with_flag, with_value, without_options};
+use crate::declared::{
+    compact_words, consumers_words, create_words, follow_words, scan_words, snapshots_words,
+    write_words,
+};
+use crate::options::{matches_in, texts_in};
 use crate::values::{flag_given, name_given, number_given};
 use pm_values::{Refusal, Txt};
 use std::alloc::{AllocError, Global};
@@ -83,8 +87,7 @@ fn compact_of<'a>(alloc: Global, words: &'a [&'a str]) -> Result<Option<Command>
     requires { list_all may_stand (map (λ word. word.now) words.now) ≡ true }
     ensures { IfOk result (Finds (GiveAfter (codes "compact") (map (λ word. word.now) words.entry.now))) }
 {
-    let options = with_flag(alloc, without_options(alloc, "compact"), "full")?;
-    let Some(matches) = matches_in(options, words)? else {
+    let Some(matches) = matches_in(compact_words(alloc)?, words)? else {
         return Ok(None);
     };
     let full = flag_given(&matches, "full");
@@ -96,7 +99,7 @@ fn consumers_of<'a>(alloc: Global, words: &'a [&'a str]) -> Result<Option<Comman
     requires { list_all may_stand (map (λ word. word.now) words.now) ≡ true }
     ensures { IfOk result (Finds (GiveAfter (codes "consumers") (map (λ word. word.now) words.entry.now))) }
 {
-    let Some(_) = matches_in(without_options(alloc, "consumers"), words)? else {
+    let Some(_) = matches_in(consumers_words(alloc), words)? else {
         return Ok(None);
     };
     Ok(Some(Command::Consumers))
@@ -107,7 +110,7 @@ fn create_of<'a>(alloc: Global, words: &'a [&'a str]) -> Result<Option<Command>,
     requires { list_all may_stand (map (λ word. word.now) words.now) ≡ true }
     ensures { IfOk result (Finds (GiveAfter (codes "create") (map (λ word. word.now) words.entry.now))) }
 {
-    let Some(_) = matches_in(without_options(alloc, "create"), words)? else {
+    let Some(_) = matches_in(create_words(alloc), words)? else {
         return Ok(None);
     };
     Ok(Some(Command::Create))
@@ -118,9 +121,7 @@ fn follow_of<'a>(alloc: Global, words: &'a [&'a str]) -> Result<Option<Command>,
     requires { list_all may_stand (map (λ word. word.now) words.now) ≡ true }
     ensures { IfOk result (Finds (GiveAfter (codes "follow") (map (λ word. word.now) words.entry.now))) }
 {
-    let options = with_value(alloc, without_options(alloc, "follow"), "from")?;
-    let options = with_flag(alloc, options, "full")?;
-    let Some(matches) = matches_in(options, words)? else {
+    let Some(matches) = matches_in(follow_words(alloc)?, words)? else {
         return Ok(None);
     };
     let Some(from) = number_given(&matches, "from") else {
@@ -138,8 +139,7 @@ fn scan_of<'a>(alloc: Global, words: &'a [&'a str]) -> Result<Option<Command>, A
     requires { list_all may_stand (map (λ word. word.now) words.now) ≡ true }
     ensures { IfOk result (Finds (GiveAfter (codes "scan") (map (λ word. word.now) words.entry.now))) }
 {
-    let options = with_value(alloc, without_options(alloc, "scan"), "snapshot")?;
-    let Some(matches) = matches_in(options, words)? else {
+    let Some(matches) = matches_in(scan_words(alloc)?, words)? else {
         return Ok(None);
     };
     let Some(snapshot) = number_given(&matches, "snapshot") else {
@@ -153,7 +153,7 @@ fn snapshots_of<'a>(alloc: Global, words: &'a [&'a str]) -> Result<Option<Comman
     requires { list_all may_stand (map (λ word. word.now) words.now) ≡ true }
     ensures { IfOk result (Finds (GiveAfter (codes "snapshots") (map (λ word. word.now) words.entry.now))) }
 {
-    let Some(_) = matches_in(without_options(alloc, "snapshots"), words)? else {
+    let Some(_) = matches_in(snapshots_words(alloc), words)? else {
         return Ok(None);
     };
     Ok(Some(Command::Snapshots))
@@ -164,9 +164,7 @@ fn write_of<'a>(alloc: Global, words: &'a [&'a str]) -> Result<Option<Command>, 
     requires { list_all may_stand (map (λ word. word.now) words.now) ≡ true }
     ensures { IfOk result (Finds (GiveAfter (codes "write") (map (λ word. word.now) words.entry.now))) }
 {
-    let options = with_value(alloc, without_options(alloc, "write"), "user")?;
-    let options = with_value(alloc, options, "ident")?;
-    let Some(matches) = matches_in(options, words)? else {
+    let Some(matches) = matches_in(write_words(alloc)?, words)? else {
         return Ok(None);
     };
     let Some(user) = name_given(alloc, &matches, "user")? else {

@@ -10,38 +10,49 @@ use clap::{Arg, ArgAction, ArgMatches, Command};
 use pm_values::Txt;
 use std::alloc::{AllocError, Global};
 
-/// A command without options: its words follow no program's name, and none asks for help.
-pub(crate) fn without_options<'a>(alloc: Global, name: &'a str) -> Command<'a>
+/// A command without options, of which help says this: its words follow no program's name, and none asks for help.
+pub(crate) fn without_options<'a>(alloc: Global, name: &'a str, about: &'a str) -> Command<'a>
     ensures { app_of result ≡ app_for name.entry.now [] }
 {
     Command::new(alloc, name)
         .no_binary_name(true)
         .disable_help_flag(true)
+        .about(about)
 }
 
-/// The command with one more option, which has a value.
+/// The command with one more option, which has a value that help calls so, and of which it says this.
 pub(crate) fn with_value<'a>(
     alloc: Global,
     command: Command<'a>,
     name: &'a str,
+    shown: &'a str,
+    help: &'a str,
 ) -> Result<Command<'a>, AllocError>
     ensures { (word : List ℕ) (declared : List Declared) → app_of command.entry ≡ app_for word declared
         → IfOk result (λ new. app_of new ≡ app_for word (declared ++ value name.entry.now ∷ [])) }
 {
-    let option = Arg::new(alloc, name).long(name).action(ArgAction::Set);
+    let option = Arg::new(alloc, name)
+        .long(name)
+        .action(ArgAction::Set)
+        .value_name(shown)
+        .help(help);
     command.arg(option)
 }
 
-/// The command with one more flag.
+/// The command with one more flag, of which help says this.
 pub(crate) fn with_flag<'a>(
     alloc: Global,
     command: Command<'a>,
     name: &'a str,
+    help: &'a str,
 ) -> Result<Command<'a>, AllocError>
     ensures { (word : List ℕ) (declared : List Declared) → app_of command.entry ≡ app_for word declared
         → IfOk result (λ new. app_of new ≡ app_for word (declared ++ flag name.entry.now ∷ [])) }
 {
-    let option = Arg::new(alloc, name).long(name).action(ArgAction::SetTrue);
+    let option = Arg::new(alloc, name)
+        .long(name)
+        .action(ArgAction::SetTrue)
+        .help(help);
     command.arg(option)
 }
 

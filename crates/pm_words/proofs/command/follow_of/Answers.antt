@@ -2,7 +2,8 @@ use Rattle.std.proofs.Common.{ℕ, ◌≤◌, List, [], ◌∷◌, map, codes, I
 use Rattle.clap.specs.Words.{app_of}
 use Rattle.pm_words.specs.Clap.{HasFound, value}
 use Rattle.pm_words.proofs.CommandLemmas.{from_zero, no_follow, no_from}
-use Rattle.pm_words.proofs.DeclareLemmas.{follow_has, follow_options}
+use Rattle.pm_words.specs.Clap.{follow_options}
+use Rattle.pm_words.proofs.DeclareLemmas.{follow_has}
 use Rattle.pm_words.proofs.command.follow_of.Goals as goal
 
 abbrev words_of : Bor (List (Bor (List ℕ))) → List (List ℕ)
@@ -10,29 +11,25 @@ words_of words = map (λ (word : Bor (List ℕ)). word.now) words.now
 
 pub returns-in_default : goal.returns-in_default
 returns-in_default c =
-    let app = c.in_ok-options-2.ensures (codes "follow") (value (codes "from") ∷ []) (c.in_ok-options.ensures (codes "follow") [] c.without_options.ensures) in
-    no_follow (words_of c.args.words) (rw c.in_default.is at (c.in_ok-matches.ensures follow_options (follow_has (app_of c.in_ok-options-2.options) app)))
+    no_follow (words_of c.args.words) (rw c.in_default.is at (c.in_ok-matches.ensures follow_options (follow_has (app_of c.in_ok-follow_words.field-0) c.in_ok-follow_words.ensures)))
 
 pub returns-in_default-number_given : goal.returns-in_default-number_given
 returns-in_default-number_given c =
-    let app = c.in_ok-options-2.ensures (codes "follow") (value (codes "from") ∷ []) (c.in_ok-options.ensures (codes "follow") [] c.without_options.ensures) in
     let found : HasFound follow_options (words_of c.args.words) c.in-Some.matches =
-    rw c.in-Some.is at (c.in_ok-matches.ensures follow_options (follow_has (app_of c.in_ok-options-2.options) app)) in
+    rw c.in-Some.is at (c.in_ok-matches.ensures follow_options (follow_has (app_of c.in_ok-follow_words.field-0) c.in_ok-follow_words.ensures)) in
     no_from (words_of c.args.words) found.options found.are (rw c.in_default-number_given.is at (c.number_given.ensures follow_options (words_of c.args.words) found refl refl))
 
 pub returns-in-Some-eq0 : goal.returns-in-Some-eq0
 returns-in-Some-eq0 c =
-    let app = c.in_ok-options-2.ensures (codes "follow") (value (codes "from") ∷ []) (c.in_ok-options.ensures (codes "follow") [] c.without_options.ensures) in
     let found : HasFound follow_options (words_of c.args.words) c.in-Some.matches =
-    rw c.in-Some.is at (c.in_ok-matches.ensures follow_options (follow_has (app_of c.in_ok-options-2.options) app)) in
+    rw c.in-Some.is at (c.in_ok-matches.ensures follow_options (follow_has (app_of c.in_ok-follow_words.field-0) c.in_ok-follow_words.ensures)) in
     from_zero (words_of c.args.words) found.options found.are c.in-Some-eq0.field-0 (let zero = c.in-Some-eq0.field-0-is in omega (arith, zero))
     (rw c.in-Some-eq0.is at (rw c.in-Some-number_given.is at (c.number_given.ensures follow_options (words_of c.args.words) found refl refl)))
 
 pub returns : goal.returns
 returns c =
-    let app = c.in_ok-options-2.ensures (codes "follow") (value (codes "from") ∷ []) (c.in_ok-options.ensures (codes "follow") [] c.without_options.ensures) in
     let found : HasFound follow_options (words_of c.args.words) c.in-Some.matches =
-    rw c.in-Some.is at (c.in_ok-matches.ensures follow_options (follow_has (app_of c.in_ok-options-2.options) app)) in
+    rw c.in-Some.is at (c.in_ok-matches.ensures follow_options (follow_has (app_of c.in_ok-follow_words.field-0) c.in_ok-follow_words.ensures)) in
     let range : IfSome c.in-Some-number_given.from (λ id. 1 ≤ id) = search rules in
     record {
       options = found.options;

@@ -9,9 +9,9 @@ words_of words = map (λ (word : Bor (List ℕ)). word.now) words.now
 
 pub returns-in_default : goal.returns-in_default
 returns-in_default c =
-    no_snapshots (words_of c.args.words) (rw c.in_default.is at (c.in_ok-matches_in.ensures [] (snapshots_has (app_of c.without_options.result) c.without_options.ensures)))
+    no_snapshots (words_of c.args.words) (rw c.in_default.is at (c.in_ok-matches_in.ensures [] (snapshots_has (app_of c.snapshots_words.result) c.snapshots_words.ensures)))
 
 pub returns : goal.returns
 returns c =
-    let found = rw c.in-Some.is at (c.in_ok-matches_in.ensures [] (snapshots_has (app_of c.without_options.result) c.without_options.ensures)) in
+    let found = rw c.in-Some.is at (c.in_ok-matches_in.ensures [] (snapshots_has (app_of c.snapshots_words.result) c.snapshots_words.ensures)) in
     record { options = found.options; are = found.are; of = record { first = refl; names = found.of; values = tt } }

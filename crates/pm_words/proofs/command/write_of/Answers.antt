@@ -2,7 +2,8 @@ use Rattle.std.proofs.Common.{ℕ, List, [], ◌∷◌, map, codes, Bor, refl}
 use Rattle.clap.specs.Words.{app_of}
 use Rattle.pm_words.specs.Clap.{HasFound, value}
 use Rattle.pm_words.proofs.CommandLemmas.{no_identifier, no_user, no_write}
-use Rattle.pm_words.proofs.DeclareLemmas.{write_has, write_options}
+use Rattle.pm_words.specs.Clap.{write_options}
+use Rattle.pm_words.proofs.DeclareLemmas.{write_has}
 use Rattle.pm_words.proofs.command.write_of.Goals as goal
 
 abbrev words_of : Bor (List (Bor (List ℕ))) → List (List ℕ)
@@ -10,28 +11,24 @@ words_of words = map (λ (word : Bor (List ℕ)). word.now) words.now
 
 pub returns-in_default : goal.returns-in_default
 returns-in_default c =
-    let app = c.in_ok-options-2.ensures (codes "write") (value (codes "user") ∷ []) (c.in_ok-options.ensures (codes "write") [] c.without_options.ensures) in
-    no_write (words_of c.args.words) (rw c.in_default.is at (c.in_ok-matches.ensures write_options (write_has (app_of c.in_ok-options-2.options) app)))
+    no_write (words_of c.args.words) (rw c.in_default.is at (c.in_ok-matches.ensures write_options (write_has (app_of c.in_ok-write_words.field-0) c.in_ok-write_words.ensures)))
 
 pub returns-in_default-2 : goal.returns-in_default-2
 returns-in_default-2 c =
-    let app = c.in_ok-options-2.ensures (codes "write") (value (codes "user") ∷ []) (c.in_ok-options.ensures (codes "write") [] c.without_options.ensures) in
     let found : HasFound write_options (words_of c.args.words) c.in-Some.matches =
-    rw c.in-Some.is at (c.in_ok-matches.ensures write_options (write_has (app_of c.in_ok-options-2.options) app)) in
+    rw c.in-Some.is at (c.in_ok-matches.ensures write_options (write_has (app_of c.in_ok-write_words.field-0) c.in_ok-write_words.ensures)) in
     no_user (words_of c.args.words) found.options found.are (rw c.in_default-2.is at (c.in_ok-user.ensures write_options (words_of c.args.words) found refl refl))
 
 pub returns-in_default-number_given : goal.returns-in_default-number_given
 returns-in_default-number_given c =
-    let app = c.in_ok-options-2.ensures (codes "write") (value (codes "user") ∷ []) (c.in_ok-options.ensures (codes "write") [] c.without_options.ensures) in
     let found : HasFound write_options (words_of c.args.words) c.in-Some.matches =
-    rw c.in-Some.is at (c.in_ok-matches.ensures write_options (write_has (app_of c.in_ok-options-2.options) app)) in
+    rw c.in-Some.is at (c.in_ok-matches.ensures write_options (write_has (app_of c.in_ok-write_words.field-0) c.in_ok-write_words.ensures)) in
     no_identifier (words_of c.args.words) found.options found.are (rw c.in_default-number_given.is at (c.number_given.ensures write_options (words_of c.args.words) found refl refl))
 
 pub returns : goal.returns
 returns c =
-    let app = c.in_ok-options-2.ensures (codes "write") (value (codes "user") ∷ []) (c.in_ok-options.ensures (codes "write") [] c.without_options.ensures) in
     let found : HasFound write_options (words_of c.args.words) c.in-Some.matches =
-    rw c.in-Some.is at (c.in_ok-matches.ensures write_options (write_has (app_of c.in_ok-options-2.options) app)) in
+    rw c.in-Some.is at (c.in_ok-matches.ensures write_options (write_has (app_of c.in_ok-write_words.field-0) c.in_ok-write_words.ensures)) in
     record {
       options = found.options;
       are = found.are;

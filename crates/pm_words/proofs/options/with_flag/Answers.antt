@@ -9,8 +9,9 @@ use Rattle.pm_words.proofs.options.with_flag.Goals as goal
 
 pub returns : goal.returns
 returns c = λ word declared is.
-    let told = c.action-option.ensures ∙ ap (λ (a : Arg). record a { action = Some SetTrue }) c.long.ensures in
+    let told = c.help-option.ensures
+    ∙ ap (λ (a : Arg). record a { help = Some c.args.help }) (c.action.ensures ∙ ap (λ (a : Arg). record a { action = Some SetTrue }) c.long.ensures) in
     IfOk-weaker c.arg.result _ _
-    (λ new adds. adds_declared c.args.command new c.action-option.result word declared (flag c.args.name.now) adds
+    (λ new adds. adds_declared c.args.command new c.help-option.result word declared (flag c.args.name.now) adds
     (ap rule_of told ∙ ap (λ (r : Rule). record r { long = Some c.args.name.now; action = Some SetTrue }) c.new.ensures.rule) (ap (λ (a : Arg). a.global) told ∙ c.new.ensures.optional.1) is)
     c.arg.ensures
