@@ -15,7 +15,7 @@ use Rattle.pm_store.specs.declared.call.Effect.TheVariants as effects
 use Rattle.pm_store.specs.Files.{Files, IsListing, Puts, after_effect, is_same, name_in, slash, some_name}
 use Rattle.pm_store.proofs.FileLaws.{is_same-equal, is_same-itself}
 use Rattle.pm_model_consumers.specs.Changes.{HasLost, IsUnsettled}
-use Rattle.pm_model_consumers.specs.Claims.{Claim, free, known_at, new_at, settled, waits, with_claim}
+use Rattle.pm_model_consumers.specs.Claims.{Claim, Said, free, known_at, new_at, settled, waits, with_claim}
 use Rattle.pm_model_history.specs.History.{Entry, History, IsTableOf, table}
 use Rattle.pm_schema.specs.declared.schema.TableSchema.{TableSchema}
 use Rattle.pm_snapshot.specs.Consumer.{consumer_in, consumer_text}
@@ -127,35 +127,51 @@ rests me r f after p same = record {
   history = refl;
   files = λ path apart. same path;
   claims = λ other apart. refl;
+  keeps = λ next says. same;
 }
 
 -- ---- its file is written
+
+fresh-of : Option Said → Bool
+fresh-of None = true
+fresh-of (Some said) = said.fresh
+
+-- a file that isn't settled, or that is new, isn't one that is known
+no-known : (said : Option Said) (next : ℕ) → IsUnsettled said → said ≡ Some (known_at next) → ⊥
+unfolding fresh-of
+no-known None next is same = absurd (let clash = same in cc)
+no-known (Some said) next is same = true≢false (sym is ∙ ap fresh-of same)
 
 module _ (laws : Laws) (me : Actor) (r : Registering) (f after : Files) (p : Past) (is : IsRegistering r) (stands : Stands f p) (within : IsWithin r p) where
   texts : AreTexts r
   texts = texts-of laws.reads r f p is stands within
 
-  puts-with : (bytes : List ℕ) (claim : Claim) → IsConsumerFile (Some bytes) → Puts f (consumer_path r.name) (Some bytes) after
+  puts-with : (bytes : List ℕ) (claim : Claim) → IsUnsettled (said_at f r.name) → IsConsumerFile (Some bytes) → Puts f (consumer_path r.name) (Some bytes) after
       → MovesConsumers me f after p.history p.claims (with_claim r.name claim p.claims)
       → Registers me r f p after (record p { claims = with_claim r.name claim p.claims })
-  puts-with bytes claim file puts step =
+  puts-with bytes claim unsettled file puts step =
       let (entries, was, folder, known) = at-table f p within.schema stands within.is in
       record {
         advances = laws.steps me f after p within.schema entries r.name (Some bytes) (with_claim r.name claim p.claims) was within.plain is.plain file puts step;
         history = refl;
         files = λ path apart. puts.others path apart;
         claims = λ other apart. claim-other r.name other claim p.claims apart;
+        keeps = λ next says path. absurd (no-known (said_at f r.name) next unsettled says);
       }
+
+  new-unsettled : said_at f r.name ≡ Some (new_at r.next) → IsUnsettled (said_at f r.name)
+  new-unsettled says = subst IsUnsettled (sym says) refl
 
   -- as new: its actor waits
   pub puts-new : map.get f (consumer_path r.name) ≡ r.found → Puts f (consumer_path r.name) (Some (new_text r.next)) after
       → (later : Past) × Registers me r f p after later × WaitsIn me r false after later
   puts-new found puts =
-      let said = new-said r after texts puts.here in (
+      let said = new-said r after texts puts.here in
+      let unsettled : IsUnsettled (said_at f r.name) =
+      subst (λ (content : Option (List ℕ)). IsUnsettled (said_in content)) (sym found) (found-unsettled r.found is.found) in (
         record p { claims = with_claim r.name (waits (follower_of me) false) p.claims },
-        puts-with (new_text r.next) (waits (follower_of me) false) (consumer_at r.next true, texts.fresh) puts
-            (registers r.name r.next is.next within.next
-            (subst (λ (content : Option (List ℕ)). IsUnsettled (said_in content)) (sym found) (found-unsettled r.found is.found)) said
+        puts-with (new_text r.next) (waits (follower_of me) false) unsettled (consumer_at r.next true, texts.fresh) puts
+            (registers r.name r.next is.next within.next unsettled said
             (others-stay f after r.name (Some (new_text r.next)) puts)),
         record { claim = claim-here r.name (waits (follower_of me) false) p.claims; file = said },
       )
@@ -166,7 +182,7 @@ module _ (laws : Laws) (me : Actor) (r : Registering) (f after : Files) (p : Pas
   settles-name wait puts =
       let said = known-said r after texts puts.here in (
         record p { claims = with_claim r.name (settled r.next []) p.claims },
-        puts-with (known_text r.next) (settled r.next []) (consumer_at r.next false, texts.known) puts
+        puts-with (known_text r.next) (settled r.next []) (new-unsettled wait.file) (consumer_at r.next false, texts.known) puts
             (settles r.name r.next wait.claim wait.file said (others-stay f after r.name (Some (known_text r.next)) puts)),
         said,
         claim-here r.name (settled r.next []) p.claims,
@@ -179,7 +195,7 @@ module _ (laws : Laws) (me : Actor) (r : Registering) (f after : Files) (p : Pas
   settles-other lost found puts =
       let said = known-said r after texts puts.here in (
         record p { claims = with_claim r.name free p.claims },
-        puts-with (known_text r.next) free (consumer_at r.next false, texts.known) puts
+        puts-with (known_text r.next) free (new-unsettled (new-said r f texts found)) (consumer_at r.next false, texts.known) puts
             (usurps r.name r.next lost (new-said r f texts found) said (others-stay f after r.name (Some (known_text r.next)) puts)),
         said,
         claim-here r.name free p.claims,
@@ -244,6 +260,7 @@ lists-floors me r f p none wait =
         history = refl;
         files = λ path apart. refl;
         claims = λ other apart. claim-other r.name other (waits (follower_of me) true) p.claims apart;
+        keeps = λ next says path. refl;
       },
       record { claim = claim-here r.name (waits (follower_of me) true) p.claims; file = wait.file },
     )

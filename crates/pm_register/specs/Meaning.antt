@@ -5,7 +5,7 @@ use Rattle.pm_store.specs.Files.{Files}
 use Rattle.pm_store.specs.Store.{StoreView}
 use Rattle.pm_machine.specs.Moves.{Moves}
 use Rattle.pm_model_consumers.specs.Changes.{HasLost}
-use Rattle.pm_model_consumers.specs.Claims.{new_at, waits}
+use Rattle.pm_model_consumers.specs.Claims.{known_at, new_at, waits}
 use Rattle.pm_model_history.specs.History.{IsTableOf}
 use Rattle.pm_schema.specs.declared.schema.TableSchema.{TableSchema}
 use Rattle.pm_model_folder.specs.Changes.{Actor, HavePlainNames}
@@ -16,13 +16,15 @@ use Rattle.pm_register.specs.Registrar.{IsOf, IsRegistering, Registering, new_te
 use Rattle.pm_register.specs.declared.phase.Phase.{Phase}
 use Rattle.pm_register.specs.declared.phase.Phase.TheVariants as phases
 
--- what the registrar of an actor may change: that actor's kinds of change, and of these only the file of its consumer
--- and what is known of that name
+-- What the registrar of an actor may change: that actor's kinds of change, and of these only the file of its consumer
+-- and what is known of that name. A file that is settled it leaves.
 pub record Registers (me : Actor) (r : Registering) (f : Files) (p : Past) (after : Files) (later : Past) : Type 0 where
   pub advances : Advances me f p after later
   pub history : later.history ≡ p.history
   pub files : (path : List ℕ) → path ≢ consumer_path r.name → map.get after path ≡ map.get f path
   pub claims : (other : List ℕ) → other ≢ r.name → later.claims other ≡ p.claims other
+  pub keeps : (next : ℕ) → said_at f r.name ≡ Some (known_at next)
+      → (path : List ℕ) → map.get after path ≡ map.get f path
 
 -- Its next call makes the consumer new. Where that leads from what was found to the consumer that is new, its actor
 -- waits from then on, also where these bytes were the same.
