@@ -47,7 +47,8 @@ pub data SnapshotsLeft (f : Files) (p : Past) (x : Expiry) (left : List (List �
   from_id : (id count : ℕ) → 1 ≤ id → id + count ≡ x.end → HaveGone f x.schema id → left ≡ snapshot_paths id count
       → SnapshotsLeft f p x left
 
--- What is left: those snapshots, and all that comes after them, or a part of that once no snapshot is left.
+-- What is left: those snapshots, and behind them some files that go with them and some floors below its own. Which of
+-- these files and floors it says of each alone, and not that they are all.
 pub record AreLeft (f : Files) (p : Past) (x : Expiry) (left : List (List ℕ)) : Type 0 where
   pub snapshots : List (List ℕ)
   pub dropped : List (List ℕ)
