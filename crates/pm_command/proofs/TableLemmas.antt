@@ -13,14 +13,15 @@ use Rattle.pm_machine.specs.Trace.{Event, HasTrace}
 use Rattle.pm_model_history.specs.History.{History, IsTableOf, no_table, table}
 use Rattle.pm_schema.specs.declared.schema.TableSchema.{TableSchema}
 use Rattle.pm_snapshot.specs.Names.{greatest}
-use Rattle.pm_model_folder.specs.Folder.{Folder}
+use Rattle.pm_model_folder.specs.Folder.{Folder, KeepsConsumers}
 use Rattle.pm_model_folder.specs.Ledger.{count_of}
 use Rattle.pm_model_folder.specs.Meaning.{HasSnapshotAt}
 use Rattle.pm_model_folder.specs.Paths.{snapshot_path}
+use Rattle.pm_model_folder.proofs.SettledLemmas.{same-keeps}
 use Rattle.pm_create.specs.Making.{LeavesFiles}
 use Rattle.pm_read_schema.specs.AllCalls.{HasFiles, IsCaused}
 use Rattle.pm_draft.specs.Built.{unbuilt, unbuilt_bucket, unbuilt_partition}
-use Rattle.pm_command.specs.Outside.{HaveSame, ImagesRest, Rests, next_path}
+use Rattle.pm_command.specs.Outside.{ConsumersRest, HaveSame, ImagesRest, Rests, next_path}
 use Rattle.pm_command.specs.Table.{MayRefuse}
 
 pub trace_weaker : (P Q : List Event → Type 0) → ((own : List Event) → P own → Q own) → (before after : StoreView) → HasTrace P before after → HasTrace Q before after
@@ -71,6 +72,13 @@ pub images_rest : (h : History) (f : Files) (first after : StoreView) → HasFil
 images_rest h f first after has folder images =
     leaves_of (λ f. Extends (λ g. Folder g h × HaveSame f g) first.ops after.ops) f first has
     (images_of (λ g. Folder g h × HaveSame f g) f first.ops after.ops images (folder, λ path. refl))
+
+-- and consumers with them
+pub consumers_stay : (h : History) (f : Files) (first after : StoreView) → HasFiles f first → Extends (λ image. image ≡ f) first.ops after.ops
+    → ConsumersRest h first after
+consumers_stay h f first after has images =
+    leaves_of (λ f. Extends (KeepsConsumers h f) first.ops after.ops) f first has
+    (images_of (KeepsConsumers h f) f first.ops after.ops images (same-keeps f f (λ path. refl) h))
 
 -- files that stand for a history don't have its next snapshot
 pub none_next : (h : History) (f : Files) → Folder f h → count_of h + 1 ≤ greatest → IsSome (map.get f (next_path h)) → ⊥

@@ -13,7 +13,7 @@ use Rattle.pm_store.specs.Images.{Extends}
 use Rattle.pm_store.specs.Store.{StoreView, IsLater}
 use Rattle.pm_model_history.specs.History.{History}
 use Rattle.pm_model_folder.specs.Changes.{Actor}
-use Rattle.pm_model_folder.specs.Folder.{Folder}
+use Rattle.pm_model_folder.specs.Folder.{Folder, KeepsConsumers}
 use Rattle.pm_model_folder.specs.Ledger.{count_of}
 use Rattle.pm_model_folder.specs.Paths.{snapshot_path}
 use Rattle.pm_create.specs.Making.{LeavesFiles}
@@ -100,3 +100,7 @@ pub record Rests (h : History) (first after : StoreView) : Type 0 where
 -- and so is it with each image of a crash
 abbrev pub ImagesRest : History → StoreView → StoreView → Type 0
 ImagesRest h first after = LeavesFiles (λ f. Extends (λ g. Folder g h × HaveSame f g) first.ops after.ops) first
+
+-- in each image each consumer's file is as it was at the first call, and those are settled that were
+abbrev pub ConsumersRest : History → StoreView → StoreView → Type 0
+ConsumersRest h first after = LeavesFiles (λ f. Extends (KeepsConsumers h f) first.ops after.ops) first

@@ -15,7 +15,7 @@ use Rattle.pm_model_history.specs.History.{History, compaction}
 use Rattle.pm_schema.specs.declared.schema.TableSchema.{TableSchema}
 use Rattle.pm_snapshot.specs.Names.{MayName, greatest}
 use Rattle.pm_model_folder.specs.Changes.{Actor}
-use Rattle.pm_model_folder.specs.Folder.{Folder}
+use Rattle.pm_model_folder.specs.Folder.{Folder, KeepsConsumers}
 use Rattle.pm_model_folder.specs.Ledger.{count_of}
 use Rattle.pm_choice.specs.Choice.{named_groups}
 use Rattle.pm_choice.specs.declared.choice.ChosenGroup.{ChosenGroup}
@@ -34,7 +34,7 @@ use Rattle.pm_command.specs.Outside.{HaveSame, Outside, actor, next_path, own_us
 use Rattle.pm_command.specs.Table as tables
 use Rattle.pm_command.specs.declared.start.Start.{Start}
 use Rattle.pm_command_compact.specs.Compact.{AnswersHistory, Becomes, Compacts, CompactsTables, DidCompact, GivesAgainst, HasChoice, HasCompaction, HasCompactionAs, IsCompacted, IsCompactedTo, IsImage, Keeps, KeepsHistories, MakesOf, MayStartAfter, Spoils, StandsAfterFault, StandsForEither, asked_of, beginning_of, snapshot_of, text_of, with_compaction}
-use Rattle.pm_command.proofs.TableLemmas.{trace_weaker, files_of, files_same, leaves_of, leaves_weaker, none_next, rests_of, images_of, caused, judged_caused}
+use Rattle.pm_command.proofs.TableLemmas.{consumers_stay, trace_weaker, files_of, files_same, leaves_of, leaves_weaker, none_next, rests_of, images_of, caused, judged_caused}
 
 -- ---- its calls
 
@@ -66,6 +66,7 @@ module _ (start : Start) (full : Bool) where
         images_of (MayStartAfter other start full h first) f first.ops after.ops stay.images
         (inl (subst (MayStart other h) (files_same at.0 f first at.1 has) at.2));
     images = images_of (StandsForEither start full h first) f first.ops after.ops stay.images (inl folder);
+    consumers = consumers_stay h f first after has stay.images;
   }
 
   fault_left : (h : History) (path : List ℕ) (first store : StoreView) → LeavesFiles (λ f. Folder f h) store
@@ -146,6 +147,10 @@ module _ (start : Start) (full : Bool) (h : History) (f : Files) (first : StoreV
   pub either_with : (g : Files) → compactor.StandsForEither b g → StandsForEither start full h first g
   either_with g (inl stands) = inl stands.folder
   either_with g (inr has) = inr (stands_with g has)
+
+  pub keeps_consumers : (g : Files) → compactor.StandsForEither b g → KeepsConsumers h f g
+  keeps_consumers g (inl stands) = stands.consumers
+  keeps_consumers g (inr (v, newest, some, stands)) = stands.consumers
 
   pub start_with : (other : Actor) → other ≢ actor start → NamesNone other h f → (g : Files) → compactor.StandsForEither b g
       → MayStartAfter other start full h first g
@@ -237,6 +242,9 @@ compacted_keeps start full s made before after may compacts = λ alone h begins.
           let none : NamesNone other h files.0 = subst (NamesNone other h) (files_same free.0 files.0 first free.1 files.1) free.2.1 in
           Extends-weaker (compactor.StandsForEither at) (MayStartAfter other start full h first) first.ops after.ops
           (start_with start full h files.0 first files.1 other apart none) does.images;
+      consumers = leaves_of (λ f. Extends (KeepsConsumers h f) first.ops after.ops) files.0 first files.1
+          (Extends-weaker (compactor.StandsForEither at) (KeepsConsumers h files.0) first.ops after.ops
+          (keeps_consumers start full h files.0 first files.1) does.images);
     }
 
 -- ---- what a crash may leave
@@ -287,4 +295,5 @@ module _ (start : Start) (full : Bool) where
         answers = made_answers h first before after made answer was.makes prints;
         images = Extends-weaker (StandsForEither start full h first) (IsImage start full h first) first.ops after.store.ops (image_of start full h first) was.images;
         free = was.free;
+        consumers = was.consumers;
       }

@@ -34,7 +34,7 @@ use Rattle.pm_compactor.specs.Compactor.{asking_of, chosen_in}
 use Rattle.pm_compactor.specs.declared.all_calls.Compacted.{Compacted}
 use Rattle.pm_compactor.specs.declared.all_calls.Compacted.TheVariants as compacts
 use Rattle.pm_draft.specs.Built.{IsBuilt, unbuilt}
-use Rattle.pm_command.specs.Outside.{Outside, actor, Prints, Rests, next_path, own_user}
+use Rattle.pm_command.specs.Outside.{ConsumersRest, Outside, actor, Prints, Rests, next_path, own_user}
 use Rattle.pm_command.specs.Table.{EndsAtSchema}
 use Rattle.pm_command.specs.declared.start.Start.{Start}
 
@@ -175,6 +175,7 @@ pub record CompactsTable (start : Start) (full : Bool) (h : History) (first : St
   pub images : Extends (IsImage start full h first) first.ops after.store.ops
   pub free : (other : Actor) → other ≢ actor start → LeavesFiles (MayStart other h) first
       → Extends (MayStartAfter other start full h first) first.ops after.store.ops
+  pub consumers : ConsumersRest h first after.store
 
 -- what it promises of histories, from its first call of the store on: where no snapshot names a file of an actor of its
 -- name
@@ -197,6 +198,7 @@ pub record Keeps (start : Start) (full : Bool) (h : History) (first after : Stor
   pub images : Extends (StandsForEither start full h first) first.ops after.ops
   pub free : (other : Actor) → other ≢ actor start → LeavesFiles (MayStart other h) first
       → Extends (MayStartAfter other start full h first) first.ops after.ops
+  pub consumers : ConsumersRest h first after
 
 -- Private: and to histories
 abbrev pub KeepsHistories : Start → Bool → StoreView → StoreView → Result Compacted Refusal → Type 0

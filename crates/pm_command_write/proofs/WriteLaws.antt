@@ -34,7 +34,7 @@ use Rattle.pm_engines.specs.Verdict.{named, verdict_on}
 use Rattle.pm_engines.specs.declared.verdict.Verdict.{Verdict}
 use Rattle.pm_engines.specs.declared.verdict.Verdict.TheVariants.{Take, Ignore, Refuse}
 use Rattle.pm_model_folder.specs.Changes.{Actor}
-use Rattle.pm_model_folder.specs.Folder.{Folder, IsRowOf}
+use Rattle.pm_model_folder.specs.Folder.{Folder, IsRowOf, KeepsConsumers}
 use Rattle.pm_model_folder.specs.Ledger.{count_of}
 use Rattle.pm_model_folder.specs.Paths.{snapshot_path}
 use Rattle.pm_create.specs.Making.{LeavesFiles}
@@ -55,7 +55,7 @@ use Rattle.pm_command_write.specs.Write.{ActsWrite, AnswersLines, AnswersWrite, 
 use Rattle.pm_command_write.specs.declared.writer.Writer.{Writer}
 use Rattle.pm_command_write.specs.declared.write.Written.{Written}
 use Rattle.pm_command_write.specs.declared.write.Written.TheVariants as written
-use Rattle.pm_command.proofs.TableLemmas.{trace_weaker, files_of, files_same, leaves_of, leaves_weaker, none_next, rests_of, images_of, caused, judged_caused}
+use Rattle.pm_command.proofs.TableLemmas.{consumers_stay, trace_weaker, files_of, files_same, leaves_of, leaves_weaker, none_next, rests_of, images_of, caused, judged_caused}
 use Rattle.pm_command.proofs.Uncalled.{at_known, uncalled}
 
 -- ---- the rows that are taken
@@ -174,6 +174,7 @@ stay_keeps start w lines h f first after made has folder stay makes = record {
       images_of (MayStartAfter other start w lines h) f first.ops after.ops stay.images
       (inl (subst (MayStart other h) (files_same at.0 f first at.1 has) at.2));
   images = images_of (StandsForEither start w lines h) f first.ops after.ops stay.images (inl folder);
+  consumers = consumers_stay h f first after has stay.images;
 }
 
 fault_left : (start : Start) (w : Writer) (lines : Lines) (h : History) (path : List ℕ) (store : StoreView) → LeavesFiles (λ f. Folder f h) store
@@ -298,6 +299,10 @@ module _ (start : Start) (w : Writer) (lines : Lines) (s : TableSchema) (batch :
   pub either-rows : (g : Files) → commit.StandsForEither b g → StandsForEither start w lines h g
   either-rows g (inl stands) = inl stands.folder
   either-rows g (inr stands) = inr (has-rows g stands.folder)
+
+  pub keeps-consumers : (g : Files) → commit.StandsForEither b g → KeepsConsumers h f g
+  keeps-consumers g (inl stands) = stands.consumers
+  keeps-consumers g (inr stands) = stands.consumers
 
   pub start-rows : (other : Actor) → other ≢ actor start → NamesNone other h f → (g : Files) → commit.StandsForEither b g
       → MayStartAfter other start w lines h g
@@ -469,6 +474,7 @@ refused_serves start w before after out store e refuses =
       free = λ other apart starts.
           let free = files_of (MayStart other h) store starts in
           images_left (MayStartAfter other start w (row_lines bytes) h) free.0 store free.1 (inl free.2);
+      consumers = consumers_stay h files.0 store store files.1 (images_left (λ g. g ≡ files.0) files.0 store files.1 refl);
     })
 
 refusal_answers : (start : Start) (w : Writer) (lines : Lines) (h : History) (first : StoreView) (before after : Outside) (e : Refusal)
@@ -498,6 +504,7 @@ lines_serve start w lines before after answer read (made, trace, kept, prints) =
           (images_are start w lines h first.ops after.store.ops was.images);
       free = λ other apart starts. subst (λ (lines : Lines). Extends (MayStartAfter other start w lines h) first.ops after.store.ops) has.are
           (was.free other apart starts);
+      consumers = was.consumers;
     }
 
 -- ---- what is done by the answer of the batch

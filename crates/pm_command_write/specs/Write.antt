@@ -35,7 +35,7 @@ use Rattle.pm_commit.specs.Own.{OwnView, new_author, new_own}
 use Rattle.pm_commit.specs.declared.all_calls.Appended.{Appended}
 use Rattle.pm_commit.specs.declared.all_calls.Appended.TheVariants as appends
 use Rattle.pm_command_write.specs.Input.{MayRefuseInput, RefusesInput}
-use Rattle.pm_command.specs.Outside.{Outside, actor, IsUntouched, Prints, Rests, next_path, own_user}
+use Rattle.pm_command.specs.Outside.{ConsumersRest, Outside, actor, IsUntouched, Prints, Rests, next_path, own_user}
 use Rattle.pm_command.specs.declared.start.Start.{Start}
 use Rattle.pm_command.specs.Table.{EndsAtSchema}
 use Rattle.pm_command_write.specs.declared.write.Written.{Written}
@@ -271,6 +271,7 @@ pub record WritesTable (start : Start) (w : Writer) (bytes : List ℕ) (h : Hist
   pub images : Extends (IsImage start w (row_lines bytes) h) first.ops after.store.ops
   pub free : (other : Actor) → other ≢ actor start → LeavesFiles (MayStart other h) first
       → Extends (MayStartAfter other start w (row_lines bytes) h) first.ops after.store.ops
+  pub consumers : ConsumersRest h first after.store
 
 -- what it promises of histories, from its first call of the store on: where no snapshot names a file of an actor of its
 -- name
@@ -293,6 +294,7 @@ pub record Keeps (start : Start) (w : Writer) (lines : Lines) (h : History) (fir
   pub images : Extends (StandsForEither start w lines h) first.ops after.ops
   pub free : (other : Actor) → other ≢ actor start → LeavesFiles (MayStart other h) first
       → Extends (MayStartAfter other start w lines h) first.ops after.ops
+  pub consumers : ConsumersRest h first after
 
 -- Private: and to histories
 abbrev pub KeepsHistories : Start → Writer → Lines → StoreView → StoreView → Result Written Refusal → Type 0

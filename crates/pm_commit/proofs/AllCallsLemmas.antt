@@ -1,5 +1,5 @@
 -- All calls of a committer, one after another.
-use Rattle.std.proofs.Common.{◌≡◌, ◌⊎◌, inl, inr, ℕ, ◌≤◌, List, [], ◌∷◌, ◌++◌, Option, None, Some, IsSomeAnd, IfErr, Result, Ok, Err, refl, sym, ap, ◌∙◌, subst, arith}
+use Rattle.std.proofs.Common.{◌≡◌, ◌⊎◌, inl, inr, ℕ, ◌≤◌, List, [], ◌∷◌, ◌++◌, Option, None, Some, IsSomeAnd, IfErr, Result, Ok, Err, append-nil, refl, sym, ap, ◌∙◌, subst, arith}
 use Rattle.std.specs.FinMap as map
 use Rattle.pm_values.specs.declared.refusal.Refusal.{Refusal}
 use Rattle.pm_values.specs.declared.refusal.Refusal.TheVariants as refusals
@@ -13,15 +13,17 @@ use Rattle.pm_machine.specs.Moves.{Keeps, Moves}
 use Rattle.pm_machine.specs.Trace.{Event, HasTrace, Traces}
 use Rattle.pm_machine.proofs.AloneLaws.{Follows, Follows-first, Follows-meanwhile, Follows-steps, Traces-first, Traces-later, Traces-same_first}
 use Rattle.pm_machine.proofs.Facts.{HasTrace-acts, Traces-faulted, Traces-join, Traces-none, image_changed}
-use Rattle.pm_model_history.specs.History.{History, IsTableOf}
+use Rattle.pm_model_history.specs.History.{Entry, GoesOn, History, IsTableOf, no_table, table}
 use Rattle.pm_schema.specs.declared.schema.TableSchema.{TableSchema}
 use Rattle.pm_snapshot.specs.declared.snapshot.Snapshot.{Snapshot}
 use Rattle.pm_model_folder.specs.Changes.{Actor}
 use Rattle.pm_model_folder.specs.Commits.{Names}
 use Rattle.pm_model_folder.specs.Folder.{Folder}
-use Rattle.pm_model_folder.specs.Ledger.{Advances, HasNamedNone, IsKnown, Past, Stands, count_of}
+use Rattle.pm_model_folder.specs.Ledger.{Advances, HasConsumersOf, HasNamedNone, IsKnown, LeavesConsumers, Past, Stands, count_of}
 use Rattle.pm_model_folder.specs.Meaning.{SnapshotAt}
 use Rattle.pm_model_folder.proofs.HoldLemmas.{SameContents}
+use Rattle.pm_model_folder.proofs.LedgerFacts.{known-keep}
+use Rattle.pm_model_folder.proofs.SettledLemmas.{consumers-stay, same-keeps}
 use Rattle.pm_read_schema.proofs.AllCallsLemmas as schema_calls
 use Rattle.pm_read_schema.proofs.StillLemmas.{stayed}
 use Rattle.pm_made.specs.declared.newest.Author.{Author}
@@ -108,6 +110,12 @@ either-at : (b : Beginning) (m : Phase) (f : Files) (now : History) → AloneAt 
 either-at b (phases.Committed author id) f now at = inr at.0
 either-at b m f now at = inl at.0
 
+-- it goes on as that
+pub goes-on : (e : Entry) (h now : History) → (now ≡ h) ⊎ (now ≡ with_entry e h) → GoesOn h now
+goes-on e no_table now either = tt
+goes-on e (table s es) now (inl same) = subst (GoesOn (table s es)) (sym same) (refl, [], sym (append-nil es))
+goes-on e (table s es) now (inr same) = subst (GoesOn (table s es)) (sym same) (refl, e ∷ [], refl)
+
 stands-either : (b : Beginning) (now : History) (f : Files) → StandsFreely b now f → (now ≡ b.history) ⊎ (now ≡ with_entry b.entry b.history) → StandsForEither b f
 stands-either b now f stands (inl same) = inl (subst (λ (h : History). StandsFreely b h f) same stands)
 stands-either b now f stands (inr same) = inr (subst (λ (h : History). StandsFreely b h f) same stands)
@@ -124,35 +132,38 @@ stood-on me f after b p q same stood advances = λ id known within.
 
 module _ (laws : CallLaws) (b : Beginning) where
   -- files that stand for what is known stand freely
-  freely : (f : Files) (p : Past) → Stands f p → IsPastOf b p → StandsFreely b p.history f
-  freely f p stands past = record {
+  freely : (f : Files) (p : Past) → Stands f p → IsPastOf b f p → (p.history ≡ b.history) ⊎ (p.history ≡ with_entry b.entry b.history)
+      → StandsFreely b p.history f
+  freely f p stands past either = record {
     folder = stands.folder;
+    consumers = known-keep b.history b.files f p stands (goes-on b.entry b.history p.history either) past.consumers;
     free = λ other apart none s id path table low high names by.
         let most = count-bound f p s stands table in
         laws.here other f p s id path stands table (omega (arith, high, most)) (past.others other apart none) names by;
   }
 
-  past-on : (own : OwnView) (f after : Files) (p q : Past) → Stands f p → p.history ≡ b.history → IsOwnOf b own → IsPastOf b p
-      → Advances (actor_of own) f p after q → IsPastOf b q
-  past-on own f after p q stands same is past advances = record {
+  past-on : (own : OwnView) (f after : Files) (p q : Past) → Stands f p → p.history ≡ b.history → IsOwnOf b own → IsPastOf b f p
+      → Advances (actor_of own) f p after q → LeavesConsumers f p after q → IsPastOf b after q
+  past-on own f after p q stands same is past advances leaves = record {
     stood = stood-on (actor_of own) f after b p q same past.stood advances;
+    consumers = consumers-stay b.history b.files f after p q past.consumers leaves;
     others = λ other apart none. laws.others other (actor_of own) f after p q stands advances (λ same. apart (same ∙ is)) (past.others other apart none);
   }
 
 module _ (laws : CallLaws) (b : Beginning) (known : Option (List Op)) where
   -- a change that a phase's commit makes, from files that stand for what is known
-  changed : (m : Phase) (f after : Files) (p q : Past) → Stands f p → IsPastOf b p → AloneAt b m f p.history → MakesEntry b.entry m f p after q
-      → Stands after q × IsPastOf b q × StandsForEither b after
+  changed : (m : Phase) (f after : Files) (p q : Past) → Stands f p → IsPastOf b f p → AloneAt b m f p.history → MakesEntry b.entry m f p after q
+      → Stands after q × IsPastOf b after q × StandsForEither b after
   changed m f after p q stands past at makes = by (own_in m) refl makes
     where
-      by : (o : Option OwnView) → own_in m ≡ o → MakesIn o b.entry f p after q → Stands after q × IsPastOf b q × StandsForEither b after
+      by : (o : Option OwnView) → own_in m ≡ o → MakesIn o b.entry f p after q → Stands after q × IsPastOf b after q × StandsForEither b after
       by None is makes = absurd makes
       by (Some own) is makes =
           let own_is = own-in b m own f p.history is at in
           let then = laws.past _ f after p q stands makes.advances in
-          let past_then = past-on laws b own f after p q stands own_is.0 own_is.1 past makes.advances in
-          let image = stands-either b q.history after (freely laws b after q then past_then)
-          (either-way b p.history q.history own_is.0 makes.appends) in
+          let past_then = past-on laws b own f after p q stands own_is.0 own_is.1 past makes.advances makes.consumers in
+          let either = either-way b p.history q.history own_is.0 makes.appends in
+          let image = stands-either b q.history after (freely laws b after q then past_then either) either in
           (then, past_then, image)
 
   pub followed : (old new : Phase) (before after : StoreView) (result : Result CommitStep Refusal) → IsAlone before after
@@ -196,11 +207,9 @@ module _ (laws : CallLaws) (b : Beginning) (known : Option (List Op)) where
 
       with-image : (known : Option (List Op)) → Has known → IsSomeAnd known (λ ops. StandsForEither b (files_after ops) × KnewFiles b m (files_after ops))
       with-image None none = none
-      with-image (Some ops) here = (
-        stands-either b here.0.history (files_after ops) (freely laws b (files_after ops) here.0 here.1 here.2)
-            (either-at b m (files_after ops) here.0.history here.3.1),
-        here,
-      )
+      with-image (Some ops) here =
+          let either = either-at b m (files_after ops) here.0.history here.3.1 in
+          (stands-either b here.0.history (files_after ops) (freely laws b (files_after ops) here.0 here.1 here.2 either) either, here)
 
 -- what was known of the files at the beginning, and is known before a step
 abbrev pub HasFollowed : Phase → Phase → StoreView → StoreView → Type 0
@@ -294,16 +303,16 @@ pub went_on : (s : TableSchema) (own : OwnView) (result : Result Appended Refusa
 went_on s own result first middle after (earlier, has, trace) (later, does, rest) =
     (earlier ++ later, (earlier, later, has, refl, does), Traces-join earlier later first middle after trace rest)
 
--- what the law of a folder that is found says
+-- what the law of settled consumers says of a folder that is found
 abbrev pub FoundPast : Type 0
 FoundPast = (f : Files) (h : History) → Folder f h
-    → (p : Past) × (p.history ≡ h) × Stands f p × ((id : ℕ) → p.stood id ≡ f) × (p.since ≡ count_of h)
+    → (p : Past) × (p.history ≡ h) × Stands f p × ((id : ℕ) → p.stood id ≡ f) × (p.since ≡ count_of h) × HasConsumersOf h f f p
 
 -- at first the committer knows its entry, and that no snapshot names a file of its actor
 first-known : FoundPast → (s : TableSchema) (b : Beginning) (f : Files) → f ≡ b.files → IsCommitter (phases.Names b.own s) → MayBegin s b
     → IsTableOf s b.history → KnewFiles b (phases.Names b.own s) f
 first-known found s b f same is begin table_is =
-    let (past, history, stands, stood, since) = found b.files b.history begin.start.0 in
+    let (past, history, stands, stood, since, consumers) = found b.files b.history begin.start.0 in
     let named : (who : Actor) → NamesNone who b.history b.files → HasNamedNone who past = λ who none t id path at known names by.
     none t id path (subst (IsTableOf t) history at) known.after_origin (subst (λ (h : History). id ≤ count_of h) history known.to)
     (subst (λ (f : Files). Names f t id path) (stood id) names) by in
@@ -316,7 +325,11 @@ first-known found s b f same is begin table_is =
     } in (
       past,
       subst (λ (f : Files). Stands f past) (sym same) stands,
-      record { stood = λ id known within. stood id; others = λ other apart none. named other none },
+      record {
+        stood = λ id known within. stood id;
+        consumers = subst (λ (f : Files). HasConsumersOf b.history b.files f past) (sym same) consumers;
+        others = λ other apart none. named other none;
+      },
       ((is, knows, ([], (append-planned b.own.intent (actor_of b.own) b.own.author.base [] past is.1 refl, inr tt))), (history, ((λ path. ap (λ (f : Files). map.get f path) same), refl))),
     )
 
@@ -365,7 +378,7 @@ appended-history found s own m result before middle after is committer (earlier,
           leaves = says.0;
           images = Extends-trans (StandsForEither b) first.ops middle.ops after.ops
               (Extends-weaker (λ f. f ≡ b.files) (StandsForEither b) first.ops middle.ops
-              (λ f same. inl (subst (StandsFreely b b.history) (sym same) (record { folder = begin.start.0; free = λ other apart none. none }))) stay.0.images)
+              (λ f same. inl (subst (StandsFreely b b.history) (sym same) (record { folder = begin.start.0; consumers = same-keeps b.files b.files (λ path. refl) b.history; free = λ other apart none. none }))) stay.0.images)
               left.1;
           says = says.1;
           counted = counted s own result (event ∷ events) later first middle after read rest ends;

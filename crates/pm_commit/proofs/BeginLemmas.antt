@@ -12,6 +12,8 @@ use Rattle.pm_schema.specs.declared.schema.TableSchema.{TableSchema}
 use Rattle.pm_snapshot.specs.Names.{MayName}
 use Rattle.pm_model_folder.specs.Changes.{Actor, IsOwnFile, its_file}
 use Rattle.pm_model_folder.specs.Ledger.{Advances, HasNamedNone, Past, Stands}
+use Rattle.pm_model_folder.specs.Paths.{consumer_path}
+use Rattle.pm_model_folder.proofs.PathLemmas.{consumer-own}
 use Rattle.pm_put.proofs.Facts.{next_left, put-more}
 use Rattle.pm_put.specs.declared.putting.CommitFile.{CommitFile}
 use Rattle.pm_append.specs.Commit.{HasOneGroup}
@@ -131,6 +133,10 @@ module _ (law : OwnGiven) (own_files : OwnFiles) (e : Entry) (given done left : 
         advances = own-advances me f after p s file.path content known.is_table known.unnamed (its_file is.by is.in_table) at is.by
             (no-origin p.history file.path at) absent puts;
         appends = inl refl;
+        consumers = record {
+            files = λ name. puts.others (consumer_path name) (consumer-own me file.path name (its_file is.by is.in_table));
+            claims = λ name. refl;
+          };
       }
 
   makes-in : (o : Option OwnView) → (o ≡ None → ⊥) → IfSome o (IsHeld e p) → IfSome o (WasGivenBy given done f p) → MakesFile file f after

@@ -7,6 +7,8 @@ use Rattle.pm_model_history.specs.History.{Entry}
 use Rattle.pm_schema.specs.declared.schema.TableSchema.{TableSchema}
 use Rattle.pm_model_folder.specs.Changes.{IsNamedBy, IsOwn, IsOwnFile, its_file}
 use Rattle.pm_model_folder.specs.Ledger.{Past}
+use Rattle.pm_model_folder.specs.Paths.{consumer_path}
+use Rattle.pm_model_folder.proofs.PathLemmas.{consumer-own}
 use Rattle.pm_made.specs.Commit.{Attempt}
 use Rattle.pm_put.proofs.Facts.{at_next, put-more}
 use Rattle.pm_put.specs.Making.{MakingView}
@@ -57,6 +59,10 @@ module _ (own_files : OwnFiles) (own : OwnView) (e : Entry) (s : TableSchema) (i
     advances = own-advances (actor_of own) f after p s making.next.path content known.is_table known.unnamed is-own is-in create-named
         (no-origin p.history making.next.path is-in) absent puts;
     appends = inl refl;
+    consumers = record {
+        files = λ name. puts.others (consumer_path name) (consumer-own (actor_of own) making.next.path name is-own);
+        claims = λ name. refl;
+      };
   }
 
   pub create-makes : (after : Files) → put.Makes (puts.Create making) f after → MakesOwn own e f p after p

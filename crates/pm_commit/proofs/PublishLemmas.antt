@@ -11,17 +11,18 @@ use Rattle.pm_store.proofs.ChangeLaws.{Answers-Changed}
 use Rattle.pm_values.specs.declared.group.Group.{Group}
 use Rattle.pm_model_history.specs.History.{Entry, History, IsTableOf, append, compaction, entry_rows, table}
 use Rattle.pm_schema.specs.declared.schema.TableSchema.{TableSchema}
-use Rattle.pm_snapshot.specs.Names.{greatest}
+use Rattle.pm_snapshot.specs.Names.{greatest, snapshot_name}
 use Rattle.pm_model_folder.specs.Changes.{Actor, HavePlainNames, IsNamedBy, NamesOwn, committed as commits}
 use Rattle.pm_model_folder.specs.Commits.{IsCommit, Names}
 use Rattle.pm_model_folder.specs.Entries.{IsFenced}
 use Rattle.pm_model_folder.specs.Folder.{Folder, HasTable, IsEntryAfter}
 use Rattle.pm_model_folder.specs.Ledger.{Advances, HasNamedNone, IsKnown, KnowsTable, Past, Stands, count_of}
 use Rattle.pm_model_folder.specs.Meaning.{HasSnapshotAt}
-use Rattle.pm_model_folder.specs.Paths.{named_origin, origin_path, snapshot_file, snapshot_path}
+use Rattle.pm_model_folder.specs.Paths.{consumer_path, named_origin, origin_path, snapshot_file, snapshot_path}
 use Rattle.pm_model_folder.proofs.Facts.{some-none}
 use Rattle.pm_model_folder.proofs.HoldLemmas.{Holds, OneContents, SameContents}
 use Rattle.pm_model_folder.proofs.LedgerFacts.{at-table, count-is}
+use Rattle.pm_model_folder.proofs.PathLemmas.{consumer-snapshot}
 use Rattle.pm_read_table.specs.declared.view.View.{View}
 use Rattle.pm_write.specs.Batch.{Groups}
 use Rattle.pm_runs.specs.Succession.{KnownRun}
@@ -103,7 +104,11 @@ pub record CompactLaws : Type 0 where
 
 pub own-same : (own : OwnView) (e : Entry) (f after : Files) (p : Past) → ((path : List ℕ) → map.get after path ≡ map.get f path)
     → MakesOwn own e f p after p
-own-same own e f after p same = record { advances = same-advances (actor_of own) f after p same; appends = inl refl }
+own-same own e f after p same = record {
+  advances = same-advances (actor_of own) f after p same;
+  appends = inl refl;
+  consumers = record { files = λ name. same (consumer_path name); claims = λ name. refl };
+}
 
 -- ---- the snapshot before the one that is published
 
@@ -397,7 +402,14 @@ module _ (one : OneContents) (same : SameContents) (paths : NamedPaths) (live_la
         append-advances one same paths (actor_of own) f after p s entries e t.made.text stands tried.single.no_partition own-table.1 known.unnamed newest-there bound
         puts adds.names adds.runs adds.goes change in (
           q,
-          record { advances = advances; appends = inr (s, entries, own-table.1, refl) },
+          record {
+            advances = advances;
+            appends = inr (s, entries, own-table.1, refl);
+            consumers = record {
+                files = λ name. puts.others (consumer_path name) (consumer-snapshot name (snapshot_name (suc (length entries))));
+                claims = λ name. refl;
+              };
+          },
           committed q advances refl (s, entries, [], refl, (let next = next-is in omega (arith, next))),
           (
             ap (with_entry e) (sym own-table.1),

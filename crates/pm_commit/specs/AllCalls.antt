@@ -15,8 +15,8 @@ use Rattle.pm_snapshot.specs.Names.{MayName}
 use Rattle.pm_snapshot.specs.declared.snapshot.Snapshot.{Snapshot}
 use Rattle.pm_model_folder.specs.Changes.{Actor, IsNamedBy}
 use Rattle.pm_model_folder.specs.Commits.{Names}
-use Rattle.pm_model_folder.specs.Folder.{Folder}
-use Rattle.pm_model_folder.specs.Ledger.{HasNamedNone, IsKnown, Past, Stands, count_of}
+use Rattle.pm_model_folder.specs.Folder.{Folder, KeepsConsumers}
+use Rattle.pm_model_folder.specs.Ledger.{HasConsumersOf, HasNamedNone, IsKnown, Past, Stands, count_of}
 use Rattle.pm_model_folder.specs.Meaning.{SnapshotAt}
 use Rattle.pm_model_folder.specs.Paths.{snapshot_path}
 use Rattle.pm_read_schema.specs.AllCalls.{HasFiles}
@@ -77,10 +77,11 @@ pub record MayBegin (s : TableSchema) (b : Beginning) : Type 0 where
 
 -- ---- what it is at the end
 
--- The files stand for a history; and whoever but the actor of the commit had made none of the files that snapshots name
--- at the beginning has made none of those that they name now.
+-- The files stand for a history; whoever but the actor of the commit had made none of the files that snapshots name at
+-- the beginning has made none of those that they name now; and each consumer's file stays, and who is settled.
 pub record StandsFreely (b : Beginning) (h : History) (f : Files) : Type 0 where
   pub folder : Folder f h
+  pub consumers : KeepsConsumers b.history b.files f
   pub free : (other : Actor) → other ≢ actor_of b.own → NamesNone other b.history b.files → NamesNone other h f
 
 -- files stand for the history, or for it with the entry
@@ -162,17 +163,19 @@ AppendsTables s own before after result =
 abbrev pub StoodSo : Beginning → Past → Type 0
 StoodSo b p = (id : ℕ) → IsKnown p id → id ≤ newest_id b → p.stood id ≡ b.files
 
--- Private: each such snapshot stood so, and others than its actor who had named none of their files have named none
-pub record IsPastOf (b : Beginning) (p : Past) : Type 0 where
+-- Private: each such snapshot stood so, others than its actor who had named none of their files have named none, and
+-- the consumers are those of the beginning
+pub record IsPastOf (b : Beginning) (f : Files) (p : Past) : Type 0 where
   pub stood : StoodSo b p
+  pub consumers : HasConsumersOf b.history b.files f p
   pub others : (other : Actor) → other ≢ actor_of b.own → NamesNone other b.history b.files → HasNamedNone other p
 
 -- Private: files stand for what is known in a phase of a committer; and after a step
 abbrev pub KnewFiles : Beginning → Phase → Files → Type 0
-KnewFiles b m f = (p : Past) × Stands f p × IsPastOf b p × KnewAlone b m f p
+KnewFiles b m f = (p : Past) × Stands f p × IsPastOf b f p × KnewAlone b m f p
 
 abbrev pub KnowsFiles : {X : Type 0} → Beginning → Phase → Result X Refusal → Files → Type 0
-KnowsFiles b m result f = (p : Past) × Stands f p × IsPastOf b p × KnowsAlone b m result f p
+KnowsFiles b m result f = (p : Past) × Stands f p × IsPastOf b f p × KnowsAlone b m result f p
 
 -- Private: what all calls that are left leave of what is known in a phase
 abbrev pub AppendsAlone : Beginning → Phase → StoreView → StoreView → Result Appended Refusal → Type 0

@@ -16,7 +16,7 @@ use Rattle.pm_snapshot.specs.Names.{MayName}
 use Rattle.pm_snapshot.specs.declared.snapshot.Snapshot.{Snapshot}
 use Rattle.pm_model_folder.specs.Changes.{Actor}
 use Rattle.pm_model_folder.specs.Entries.{IsFenced}
-use Rattle.pm_model_folder.specs.Ledger.{Advances, HasNamedNone, IsKnown, Past, Stands, count_of}
+use Rattle.pm_model_folder.specs.Ledger.{Advances, HasNamedNone, IsKnown, LeavesConsumers, Past, Stands, count_of}
 use Rattle.pm_model_folder.specs.Meaning.{SnapshotAt}
 use Rattle.pm_read_table.specs.Meaning as reader
 use Rattle.pm_read_table.specs.Meaning.{IsViewIn}
@@ -64,10 +64,11 @@ Appends e h later = (later ≡ h)
     ⊎ ((s : TableSchema) × (es : List Entry) × (h ≡ table s es) × (later ≡ table s (es ++ e ∷ [])))
 
 -- what a commit with this entry may change: one of its actor's kinds of change, and of these only that its entry is
--- added
+-- added, and nothing of consumers
 pub record MakesOwn (own : OwnView) (e : Entry) (f : Files) (p : Past) (after : Files) (later : Past) : Type 0 where
   pub advances : Advances (actor_of own) f p after later
   pub appends : Appends e p.history later.history
+  pub consumers : LeavesConsumers f p after later
 
 abbrev pub MakesIn : Option OwnView → Entry → Files → Past → Files → Past → Type 0
 MakesIn None e f p after later = ⊥

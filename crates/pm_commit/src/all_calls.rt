@@ -13,7 +13,7 @@ ghost use Rattle.pm_commit.specs.declared.phase.Phase.TheVariants as phases;
 
 use crate::committer::{CommitStep, Committer, commit_step};
 use pm_model_contents::same_law;
-use pm_model_folder::{found_law, past_law, unnamed_law};
+use pm_model_folder::{past_law, settled_law, unnamed_law};
 use pm_read_table::entries_law;
 use pm_store::FileStore;
 use pm_values::Refusal;
@@ -41,7 +41,7 @@ pub fn append_rows<F: FileStore>(
     ensures later { IsLater (F.seen store.old) (F.seen store.new) }
 {
     past_law();
-    found_law();
+    settled_law();
     committer.known();
     make_calls(alloc, committer, store)
 }

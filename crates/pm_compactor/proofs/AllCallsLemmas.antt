@@ -1,5 +1,5 @@
 -- All calls of a compactor, one after another.
-use Rattle.std.proofs.Common.{◌≡◌, inl, inr, ℕ, ℤ, ◌≤◌, Bool, List, [], ◌∷◌, ◌++◌, Option, None, Some, IsSomeAnd, IfErr, Result, Ok, Err, refl, sym, ap, ◌∙◌, subst, arith}
+use Rattle.std.proofs.Common.{◌≡◌, inl, inr, ℕ, ℤ, ◌≤◌, Bool, List, [], ◌∷◌, ◌++◌, Option, None, Some, IsSomeAnd, IfErr, Result, Ok, Err, refl, sym, ap, ◌∙◌, append-nil, subst, arith}
 use Rattle.std.specs.FinMap as map
 use Rattle.pm_values.specs.Names.{Naming}
 use Rattle.pm_values.specs.declared.refusal.Refusal.{Refusal}
@@ -14,25 +14,29 @@ use Rattle.pm_machine.specs.Moves.{Keeps, Moves}
 use Rattle.pm_machine.specs.Trace.{Event, HasTrace, Traces}
 use Rattle.pm_machine.proofs.AloneLaws.{Follows, Follows-first, Follows-meanwhile, Follows-steps, Traces-first, Traces-later, Traces-same_first}
 use Rattle.pm_machine.proofs.Facts.{HasTrace-acts, Traces-faulted, Traces-join, Traces-none, image_changed}
-use Rattle.pm_model_history.specs.History.{History, IsTableOf}
+use Rattle.pm_model_history.specs.History.{Entry, GoesOn, History, IsTableOf, no_table, table}
 use Rattle.pm_schema.specs.declared.schema.TableSchema.{TableSchema}
 use Rattle.pm_model_folder.specs.Changes.{Actor}
 use Rattle.pm_model_folder.specs.Commits.{Names}
 use Rattle.pm_model_folder.specs.Folder.{Folder}
-use Rattle.pm_model_folder.specs.Ledger.{Advances, HasNamedNone, IsKnown, Past, Stands, count_of}
+use Rattle.pm_model_folder.specs.Ledger.{Advances, HasConsumersOf, HasNamedNone, IsKnown, Past, Stands, count_of}
+use Rattle.pm_model_folder.proofs.LedgerFacts.{known-keep}
+use Rattle.pm_model_folder.proofs.SettledLemmas.{consumers-stay, same-keeps}
 use Rattle.pm_read_schema.proofs.AllCallsLemmas as schema_calls
 use Rattle.pm_read_schema.proofs.StillLemmas.{stayed}
 use Rattle.pm_read_table.specs.declared.phase.Phase.TheVariants as views
 use Rattle.pm_made.specs.declared.newest.Author.{Author}
 use Rattle.pm_plan.specs.declared.planned.Asking.{Asking}
 use Rattle.pm_commit.specs.AllCalls.{LeavesFiles, NamesNone}
+use Rattle.pm_commit.specs.Alone.{with_entry}
 use Rattle.pm_commit.specs.Committer.{newest_of}
 use Rattle.pm_commit.specs.declared.phase.Phase.TheVariants as commits
+use Rattle.pm_commit.proofs.AllCallsLemmas.{FoundPast, goes-on}
 use Rattle.pm_commit.proofs.FailLemmas.{FailsLast, after-failed}
 use Rattle.pm_commit.proofs.KnownLemmas.{count-bound}
 use Rattle.pm_commit.proofs.PublishLemmas as publish
 use Rattle.pm_commit.proofs.StillLemmas.{OthersNone}
-use Rattle.pm_compactor.specs.AllCalls.{Beginning, CompactsTables, DidCompact, Ends, Has, IsCounted, LeavesFolder, MayBegin, StandsForEither, StandsFreely, asked_by}
+use Rattle.pm_compactor.specs.AllCalls.{Beginning, CompactsTables, DidCompact, Ends, Has, IsCounted, LeavesFolder, MayBegin, StandsForEither, StandsFreely, asked_by, entry_of}
 use Rattle.pm_compactor.specs.Alone.{AloneRefused, CompactorAlone, CompactsAlone, IsEither, IsPastOf, KnewAlone, KnewFiles, KnowsAlone, KnowsFiles, MakesAlone}
 use Rattle.pm_compactor.specs.Compactor.{IsCompactor, actor_of, asking_of}
 use Rattle.pm_compactor.specs.Trace.{AskedOf, CompactorActed, Did, Shows}
@@ -67,6 +71,10 @@ was_nothing s asking m first after is (events, did, trace) = (events, subst (λ 
 
 -- ---- the history, where nobody else acts
 
+goes-on-same : (h : History) → GoesOn h h
+goes-on-same no_table = tt
+goes-on-same (table s es) = (refl, [], sym (append-nil es))
+
 -- what the laws of changes and of actors' names say
 pub record CallLaws : Type 0 where
   pub past : (me : Actor) (f after : Files) (p q : Past) → Stands f p → Advances me f p after q → Stands after q
@@ -75,18 +83,25 @@ pub record CallLaws : Type 0 where
 
 module _ (laws : CallLaws) (b : Beginning) where
   -- files that stand for what is known stand freely
-  freely : (f : Files) (p : Past) → Stands f p → IsPastOf b p → StandsFreely b p.history f
-  freely f p stands past = record {
+  freely : (f : Files) (p : Past) → Stands f p → HasConsumersOf b.history b.files f p → IsPastOf b p → GoesOn b.history p.history → StandsFreely b p.history f
+  freely f p stands has past on = record {
     folder = stands.folder;
+    consumers = known-keep b.history b.files f p stands on has;
     free = λ other apart none s id path table low high names by.
         let most = count-bound f p s stands table in
         laws.here other f p s id path stands table (omega (arith, high, most)) (past.others other apart none) names by;
   }
 
-  stands-either : (f : Files) (p : Past) → Stands f p → IsPastOf b p → IsEither b p.history → StandsForEither b f
-  stands-either f p stands past (inl same) = inl (subst (λ (h : History). StandsFreely b h f) same (freely f p stands past))
-  stands-either f p stands past (inr (v, newest, some, more)) =
-      inr (v, newest, some, subst (λ (h : History). StandsFreely b h f) more (freely f p stands past))
+  -- on the history with what the view chose
+  chosen : (f : Files) (p : Past) (e : Entry) → Stands f p → HasConsumersOf b.history b.files f p → IsPastOf b p → p.history ≡ with_entry e b.history
+      → StandsFreely b (with_entry e b.history) f
+  chosen f p e stands has past more =
+      subst (λ (h : History). StandsFreely b h f) more (freely f p stands has past (goes-on e b.history p.history (inr more)))
+
+  stands-either : (f : Files) (p : Past) → Stands f p → HasConsumersOf b.history b.files f p → IsPastOf b p → IsEither b p.history → StandsForEither b f
+  stands-either f p stands has past (inl same) =
+      inl (subst (λ (h : History). StandsFreely b h f) same (freely f p stands has past (subst (GoesOn b.history) (sym same) (goes-on-same b.history))))
+  stands-either f p stands has past (inr (v, newest, some, more)) = inr (v, newest, some, chosen f p (entry_of b.asking v) stands has past more)
 
   past-then : (f after : Files) (p q : Past) → Stands f p → IsPastOf b p → MakesAlone b f p after q → IsPastOf b q
   past-then f after p q stands past makes = record {
@@ -101,10 +116,12 @@ module _ (laws : CallLaws) (b : Beginning) where
   }
 
   -- a change from files that stand for what is known
-  changed : (f after : Files) (p q : Past) → Stands f p → IsPastOf b p → MakesAlone b f p after q → Stands after q × StandsForEither b after
-  changed f after p q stands past makes =
+  changed : (f after : Files) (p q : Past) → Stands f p → HasConsumersOf b.history b.files f p → IsPastOf b p → MakesAlone b f p after q
+      → Stands after q × HasConsumersOf b.history b.files after q × StandsForEither b after
+  changed f after p q stands has past makes =
       let then = laws.past (actor_of b.asking.names) f after p q stands makes.advances in
-      (then, stands-either after q then (past-then f after p q stands past makes) makes.either)
+      let has_then = consumers-stay b.history b.files f after p q has makes.consumers in
+      (then, has_then, stands-either after q then has_then (past-then f after p q stands past makes) makes.either)
 
 module _ (laws : CallLaws) (b : Beginning) (known : Option (List Op)) where
   pub followed : (old new : Phase) (before after : StoreView) (result : Result CompactStep Refusal) → IsAlone before after
@@ -121,20 +138,20 @@ module _ (laws : CallLaws) (b : Beginning) (known : Option (List Op)) where
           (λ ops here keeps.
           let f = files_after ops in
           let p = here.0 in
-          let got = keeps p here.1 here.2 in
+          let got = keeps p here.1 here.3 in
           let leads = got.1 in
-          let then = changed laws b f (after_op op f) p leads.0 here.1 here.2.0 leads.1 in (
-            (leads.0, then.0, leads.2),
+          let then = changed laws b f (after_op op f) p leads.0 here.1 here.2 here.3.0 leads.1 in (
+            (leads.0, then.0, then.1, leads.2),
             λ image left.
                 let made = image_changed (MakesAlone b) op.call f p got.0 image left in
-                (changed laws b f image p made.0 here.1 here.2.0 made.1).1,
+                (changed laws b f image p made.0 here.1 here.2 here.3.0 made.1).2,
           ))
       by (inr (meanwhile, stays)) =
           let same = Follows-meanwhile (StandsForEither b) (KnewFiles b old) known before after so meanwhile alone in
           let here = same.here in record {
             ops = same.ops;
             is = same.is;
-            here = (here.0, here.1, stays (files_after same.ops) here.0 here.1 here.2);
+            here = (here.0, here.1, here.2, stays (files_after same.ops) here.0 here.1 here.3);
             images = same.images;
           }
 
@@ -177,30 +194,31 @@ module _ (laws : CallLaws) (b : Beginning) (start after : StoreView) where
       → Follows (StandsForEither b) start.ops after (KnewFiles b m) → Leaves (Ok (compacts.Committed id))
   left-committed m author id is =
       at-end (Ok (compacts.Committed id)) (KnewFiles b m) (λ f here.
-      let (p, stands, known) = here in
+      let (p, stands, has, known) = here in
       let (past, (v, newest, some, (own, of, (history, next, bears)))) = subst (λ (m : Phase). KnewAlone b m f p) is known in
-      (next, (v, newest, some, (subst (λ (h : History). StandsFreely b h f) history (freely laws b f p stands past), bears))))
+      (next, (v, newest, some, (chosen laws b f p (entry_of b.asking v) stands has past history, bears))))
 
   pub left-nothing : (m : Phase) → m ≡ phases.Nothing → Follows (StandsForEither b) start.ops after (KnewFiles b m) → Leaves (Ok compacts.Nothing)
   left-nothing m is =
       at-end (Ok compacts.Nothing) (KnewFiles b m) (λ f here.
-      let (p, stands, known) = here in
+      let (p, stands, has, known) = here in
       let (past, (still, view)) = subst (λ (m : Phase). KnewAlone b m f p) is known in
       (view, subst (Folder f) still.same stands.folder, still.unchanged))
 
-  refused-leaves : (refusal : Refusal) (f : Files) (p : Past) → Stands f p → IsPastOf b p → AloneRefused b refusal f p → LeavesFolder b (Err refusal) f
-  refused-leaves refusals.Memory f p stands past same = subst (Folder f) same stands.folder
-  refused-leaves (refusals.StoreFault path) f p stands past (inl same) = inl (subst (Folder f) same stands.folder)
-  refused-leaves (refusals.StoreFault path) f p stands past (inr (at, (v, newest, some, history))) =
-      inr (at, (v, newest, some, subst (λ (h : History). StandsFreely b h f) history (freely laws b f p stands past)))
-  refused-leaves (refusals.SessionUsed path) f p stands past (same, used) = (subst (Folder f) same stands.folder, used)
-  refused-leaves (refusals.Limit which number) f p stands past (still, gives) = (subst (Folder f) still.same stands.folder, still.unchanged, gives)
-  refused-leaves other f p stands past none = absurd none
+  refused-leaves : (refusal : Refusal) (f : Files) (p : Past) → Stands f p → HasConsumersOf b.history b.files f p → IsPastOf b p → AloneRefused b refusal f p
+      → LeavesFolder b (Err refusal) f
+  refused-leaves refusals.Memory f p stands has past same = subst (Folder f) same stands.folder
+  refused-leaves (refusals.StoreFault path) f p stands has past (inl same) = inl (subst (Folder f) same stands.folder)
+  refused-leaves (refusals.StoreFault path) f p stands has past (inr (at, (v, newest, some, history))) =
+      inr (at, (v, newest, some, chosen laws b f p (entry_of b.asking v) stands has past history))
+  refused-leaves (refusals.SessionUsed path) f p stands has past (same, used) = (subst (Folder f) same stands.folder, used)
+  refused-leaves (refusals.Limit which number) f p stands has past (still, gives) = (subst (Folder f) still.same stands.folder, still.unchanged, gives)
+  refused-leaves other f p stands has past none = absurd none
 
   pub left-refused : (m : Phase) (refusal : Refusal) → Follows (StandsForEither b) start.ops after (KnowsFiles {X = CompactStep} b m (Err refusal))
       → Leaves (Err refusal)
   left-refused m refusal =
-      at-end (Err refusal) (KnowsFiles {X = CompactStep} b m (Err refusal)) (λ f here. refused-leaves refusal f here.0 here.1 here.2.0 here.2.1)
+      at-end (Err refusal) (KnowsFiles {X = CompactStep} b m (Err refusal)) (λ f here. refused-leaves refusal f here.0 here.1 here.2 here.3.0 here.3.1)
 
 -- ---- from the reading of the schema on
 
@@ -221,21 +239,17 @@ pub went_on : (s : TableSchema) (asking : Asking) (result : Result Compacted Ref
 went_on s asking result first middle after (earlier, has, trace) (later, does, rest) =
     (earlier ++ later, (earlier, later, has, refl, does), Traces-join earlier later first middle after trace rest)
 
--- what the law of a folder that is found says
-abbrev pub FoundPast : Type 0
-FoundPast = (f : Files) (h : History) → Folder f h
-    → (p : Past) × (p.history ≡ h) × Stands f p × ((id : ℕ) → p.stood id ≡ f) × (p.since ≡ count_of h)
-
 -- at first the compactor knows its table, and that no snapshot names a file of its actor
 first-known : FoundPast → (s : TableSchema) (b : Beginning) (f : Files) → f ≡ b.files → IsCompactor (phases.View b.asking (views.List (newest_of s))) → MayBegin b
     → IsTableOf s b.history → KnewFiles b (phases.View b.asking (views.List (newest_of s))) f
 first-known found s b f same is begin table_is =
-    let (past, history, stands, stood, since) = found b.files b.history begin.start.0 in
+    let (past, history, stands, stood, since, consumers) = found b.files b.history begin.start.0 in
     let named : (who : Actor) → NamesNone who b.history b.files → HasNamedNone who past = λ who none t id path at known names by.
     none t id path (subst (IsTableOf t) history at) known.after_origin (subst (λ (h : History). id ≤ count_of h) history known.to)
     (subst (λ (f : Files). Names f t id path) (stood id) names) by in (
       past,
       subst (λ (f : Files). Stands f past) (sym same) stands,
+      subst (λ (f : Files). HasConsumersOf b.history b.files f past) (sym same) consumers,
       (
         record { stood = λ id known within. stood id; others = λ other apart none. named other none },
         (
@@ -283,7 +297,7 @@ compacted-history found s asking m result before middle after is compactor (earl
         let table_is = schema_calls.ready_at b.files b.history begin.start.0 s (event ∷ events) has stay.1 in
         let at_view : m ≡ phases.View b.asking (views.List (newest_of s)) =
         is ∙ ap (λ (asking : Asking). phases.View asking (views.List (newest_of s))) (sym is_asking) in
-        let free : StandsForEither b b.files = inl (record { folder = begin.start.0; free = λ other apart none. none }) in
+        let free : StandsForEither b b.files = inl (record { folder = begin.start.0; consumers = same-keeps b.files b.files (λ path. refl) b.history; free = λ other apart none. none }) in
         let knew = files-known (KnewFiles b m) b.files middle.ops (λ f same. subst (λ (m : Phase). KnewFiles b m f) (sym at_view)
         (first-known found s b f same (subst IsCompactor at_view compactor) begin table_is)) stay.0.here in
         let either = files-known (StandsForEither b) b.files middle.ops (λ f same. subst (StandsForEither b) (sym same) free) stay.0.here in

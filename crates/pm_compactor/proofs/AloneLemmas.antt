@@ -23,7 +23,7 @@ use Rattle.pm_scan_rows.specs.Group.{GroupRead}
 use Rattle.pm_model_folder.specs.Changes.{Actor}
 use Rattle.pm_model_folder.specs.Ledger.{Advances, Past, Stands, count_of}
 use Rattle.pm_model_folder.specs.Meaning.{HasSnapshotAt}
-use Rattle.pm_model_folder.specs.Paths.{snapshot_path}
+use Rattle.pm_model_folder.specs.Paths.{consumer_path, snapshot_path}
 use Rattle.pm_model_folder.proofs.Facts.{some-none}
 use Rattle.pm_put.proofs.Facts.{created_absent}
 use Rattle.pm_put.specs.declared.phase.Phase as put_phase
@@ -212,7 +212,12 @@ try-actor b v own o id of ((count, is), next, reason) = ap owns.actor_of is ∙ 
 
 module _ (laws : AloneLaws) (b : Beginning) where
   still-makes : (f after : Files) (p : Past) → ((path : List ℕ) → map.get after path ≡ map.get f path) → p.history ≡ b.history → MakesAlone b f p after p
-  still-makes f after p same is = record { same = is; advances = same-advances (actor_of b.asking.names) f after p same; either = inl is }
+  still-makes f after p same is = record {
+    same = is;
+    advances = same-advances (actor_of b.asking.names) f after p same;
+    either = inl is;
+    consumers = record { files = λ name. same (consumer_path name); claims = λ name. refl };
+  }
 
   pub spares-makes : (f : Files) (p : Past) (call : Call) → Spares f call → p.history ≡ b.history → (effect : Effect) → MakesAlone b f p (after_effect call effect f) p
   spares-makes f p call spares is effect = still-makes f (after_effect call effect f) p (λ path. ap (λ (g : Files). map.get g path) (spares effect)) is
@@ -437,6 +442,7 @@ module _ (laws : AloneLaws) (b : Beginning) where
         same = same;
         advances = subst (λ (me : Actor). Advances me f p after p) (try-actor b v c.own putter.tried putter.id c.of putter.is_try) own.advances;
         either = inl same;
+        consumers = own.consumers;
       }
 
   pub went-create : (m : commit_phase.Phase) (next : CommitFile) (rest : List CommitFile) (new : Phase) (f : Files) (p : Past) (v : View) → Stands f p

@@ -127,6 +127,7 @@ module _ (laws : AloneLaws) (b : Beginning) where
         | inl stays ↦ inl stays
         | inr more ↦ inr (v, newest, some, more)
       ];
+      consumers = makes.consumers;
     }
 
     -- ---- its snapshot

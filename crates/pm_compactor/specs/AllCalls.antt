@@ -17,7 +17,7 @@ use Rattle.pm_model_history.specs.History.{Entry, History, IsTableOf, compaction
 use Rattle.pm_schema.specs.declared.schema.TableSchema.{TableSchema}
 use Rattle.pm_snapshot.specs.Names.{MayName}
 use Rattle.pm_model_folder.specs.Changes.{Actor, IsNamedBy}
-use Rattle.pm_model_folder.specs.Folder.{Folder}
+use Rattle.pm_model_folder.specs.Folder.{Folder, KeepsConsumers}
 use Rattle.pm_model_folder.specs.Ledger.{count_of}
 use Rattle.pm_model_folder.specs.Paths.{snapshot_path}
 use Rattle.pm_read_schema.specs.AllCalls.{HasFiles}
@@ -167,10 +167,11 @@ WasUsed b path =
     ((names : List (List ℕ)) × IsListing (codes "manifest") names b.files × FindsUsed b.asking.names names (Some path))
     ⊎ (IsNamedBy (actor_of b.asking.names) path × IsSome (paths.get b.files path))
 
--- The files stand for a history; and whoever but the actor had made none of the files that snapshots name at the
--- beginning has made none of those that they name now.
+-- The files stand for a history; whoever but the actor had made none of the files that snapshots name at the beginning
+-- has made none of those that they name now; and each consumer's file stays, and who is settled.
 pub record StandsFreely (b : Beginning) (h : History) (f : Files) : Type 0 where
   pub folder : Folder f h
+  pub consumers : KeepsConsumers b.history b.files f
   pub free : (other : Actor) → other ≢ actor_of b.asking.names → NamesNone other b.history b.files → NamesNone other h f
 
 -- they stand for the history with the entry of what the newest view chooses

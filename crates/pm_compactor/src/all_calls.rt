@@ -14,7 +14,7 @@ ghost use Rattle.pm_plan.specs.declared.planned.Asking.{Asking as AskingView};
 
 use crate::compactor::{CompactStep, Compactor, compact_step, new_compactor};
 use pm_base::Txt;
-use pm_model_folder::{found_law, past_law, unnamed_law};
+use pm_model_folder::{past_law, settled_law, unnamed_law};
 use pm_schema::TableSchema;
 use pm_store::FileStore;
 use pm_values::{Names, Refusal};
@@ -49,7 +49,7 @@ pub fn compact_table<F: FileStore>(
     ensures later { IsLater (F.seen store.old) (F.seen store.new) }
 {
     past_law();
-    found_law();
+    settled_law();
     let compactor = new_compactor(schema, full, user, names, now_millis);
     compactor.known();
     make_calls(alloc, compactor, store)

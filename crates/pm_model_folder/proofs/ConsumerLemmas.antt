@@ -390,7 +390,7 @@ said-consumer f name said = at (map.get f (consumer_path name)) refl
         let (c, reads, next, fresh) = said-result bytes said (consumer_in bytes) refl e in (c, (bytes, is, reads), next, fresh)
 
 -- and what a consumer's file is, is what it says
-consumer-said : (f : Files) (name : List ℕ) (c : Consumer) → ConsumerAt f name c → said_at f name ≡ Some (record { next = c.next; fresh = c.fresh })
+pub consumer-said : (f : Files) (name : List ℕ) (c : Consumer) → ConsumerAt f name c → said_at f name ≡ Some (record { next = c.next; fresh = c.fresh })
 consumer-said f name c (bytes, is, reads) = ap said_in is ∙ ap said_of reads
 
 -- what the law of the least snapshot says

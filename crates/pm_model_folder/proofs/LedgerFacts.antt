@@ -19,8 +19,8 @@ use Rattle.pm_model_folder.specs.Changes.{Actor, Change, IsOwnFile, IsTablePath,
 use Rattle.pm_model_folder.specs.Commits.{CountsAppends, HasCommit, IsCommit, IsCommitted, Names, Needs, live_in}
 use Rattle.pm_model_folder.specs.Entries.{IsFenced, appends_in}
 use Rattle.pm_model_folder.specs.Consumers.{IsMoved, KnowsConsumers, follower_of, moment_of}
-use Rattle.pm_model_folder.specs.Folder.{Folder, HasTable, HaveSettled, IsEntryAfter, IsFrom}
-use Rattle.pm_model_folder.specs.Ledger.{Past, Advances, HasNamedNone, IsKnown, IsOldOrUnnamed, IsUnnamed, KeepsFiles, KnowsAppends, KnowsNone, KnowsPast, KnowsRuns, KnowsTable, MovesConsumers, Stands, WasNamed, AreAbove, count_of, untouched}
+use Rattle.pm_model_folder.specs.Folder.{Folder, HasTable, HaveSettled, IsEntryAfter, IsFrom, KeepsConsumers}
+use Rattle.pm_model_folder.specs.Ledger.{Past, Advances, HasConsumersOf, HasNamedNone, IsKnown, IsOldOrUnnamed, IsUnnamed, KeepsFiles, KnowsAppends, KnowsNone, KnowsPast, KnowsRuns, KnowsTable, MovesConsumers, Stands, WasNamed, AreAbove, count_of, untouched}
 use Rattle.pm_model_folder.specs.Meaning.{ConsumerAt, HasSnapshotAt, IsLeast, SnapshotAt}
 use Rattle.pm_model_folder.specs.Paths.{consumer_path, schema_path, snapshot_path}
 use Rattle.pm_model_folder.specs.Runs.{AreInFiles, HaveLiveFiles}
@@ -31,6 +31,7 @@ use Rattle.pm_model_folder.proofs.GoneLemmas.{gone-beside, keeps-beside, rests-o
 use Rattle.pm_model_folder.proofs.KindFacts.{kept, stays-or-beside}
 use Rattle.pm_model_folder.proofs.PathLemmas.{consumer-own, consumer-schema, named-apart, other-consumers, other-snapshot, own-in_table, snapshot-own}
 use Rattle.pm_model_folder.proofs.RunFacts.{found-runs, live-shows, none-known, origin-none, origin-runs}
+use Rattle.pm_model_folder.proofs.SettledLemmas.{all_claims, all-known, all-settled, on-earlier}
 use Rattle.pm_runs.specs.Stand.{top_of}
 use Rattle.pm_runs.specs.Succession.{AreKnownAt, Follows, HaveFilesIn, IsSuccession, IsTaken, KnownRun, StillStands, Taking}
 
@@ -140,6 +141,25 @@ found-names law f no_table names folder have =
 found-names law f (table s entries) names folder have =
     let (p, is, stands, stood, since, claims) = found-with law f s entries folder (found_claims f names) (names-found f s entries names folder have) in
     (p, is, stands, λ name there. (let (from, own) = found-from f names name there in (from, claims name ∙ own)))
+
+-- with all that are
+pub found-all : RunsFound → (f : Files) (h : History) → Folder f h
+    → (p : Past) × (p.history ≡ h) × Stands f p × ((id : ℕ) → p.stood id ≡ f) × (p.since ≡ count_of h) × HasConsumersOf h f f p
+found-all law f no_table folder =
+    let (p, is, stands, stood, since) = found law f no_table folder in
+    (p, is, stands, stood, since, record { files = λ name. refl; known = λ names name have there. absurd (have name there) })
+found-all law f (table s entries) folder =
+    let (p, is, stands, stood, since, claims) = found-with law f s entries folder (all_claims f folder.snapshots.least) (all-known f s entries folder) in (
+      p,
+      is,
+      stands,
+      stood,
+      since,
+      record {
+        files = λ name. refl;
+        known = λ names name have there. (let (from, own) = all-settled f s entries folder names name have there in (from, claims name ∙ own));
+      },
+    )
 
 -- ---- the table of a past
 
@@ -856,3 +876,15 @@ have-settled f p names stands are = at p.history stands.past
     at : (h : History) → KnowsPast f h p → HaveSettled f h names
     at no_table past = λ name there. (let (from, moved, is) = are name there in settled-free from moved (sym is ∙ past.claims name))
     at (table s entries) past = λ name there. (let (from, moved, is) = are name there in settled-file f s entries p.claims name from moved past.consumers is)
+
+-- where each consumer's file stays and what is known of it does, those are settled that were
+pub known-keep : (h : History) (was f : Files) (p : Past) → Stands f p → GoesOn h p.history → HasConsumersOf h was f p → KeepsConsumers h was f
+known-keep h was f p stands on has = record { files = has.files; settled = λ names have. at h on names have (have-settled f p names stands (λ name there. claimed names have name there)) }
+  where
+    claimed : (names : List (List ℕ)) → HaveSettled was h names → (name : List ℕ) → Contains names name
+        → (from : ℕ) × (moved : List (List ℕ)) × (p.claims name ≡ settled from moved)
+    claimed names have name there = let (from, is) = has.known names name have there in (from, [], is)
+
+    at : (h : History) → GoesOn h p.history → (names : List (List ℕ)) → HaveSettled was h names → HaveSettled f p.history names → HaveSettled f h names
+    at no_table on names have now = have
+    at (table s entries) on names have now = on-earlier f names s entries p.history on now

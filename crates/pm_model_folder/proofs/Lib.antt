@@ -11,4 +11,5 @@ mod OwnFacts
 pub mod PathLemmas
 pub mod RunFacts
 mod SameLemmas
+pub mod SettledLemmas
 mod StepFacts

@@ -153,3 +153,8 @@ abbrev pub HaveSettled : Files → History → List (List ℕ) → Type 0
 HaveSettled f no_table names = (name : List ℕ) → ¬ Contains names name
 HaveSettled f (table s entries) names = (name : List ℕ) → Contains names name
     → (least : ℕ) × HasSnapshotAt f s least × ((id : ℕ) → id < least → ¬ HasSnapshotAt f s id) × IsSettled f least name
+
+-- The file of each consumer is as it was, and those are settled that were.
+pub record KeepsConsumers (h : History) (f after : Files) : Type 0 where
+  pub files : (name : List ℕ) → map.get after (consumer_path name) ≡ map.get f (consumer_path name)
+  pub settled : (names : List (List ℕ)) → HaveSettled f h names → HaveSettled after h names

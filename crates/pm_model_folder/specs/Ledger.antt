@@ -1,7 +1,7 @@
 -- What readers, compactions and consumers rely on while others act: which bytes each snapshot's files had when it was
 -- committed, which runs each group had, and what is known of each consumer beside its file.
 use Rattle.std.specs.Prelude.{◌≡◌, ◌≢◌, ◌⊎◌, ℕ, suc, ◌+◌, ◌-◌, ◌<◌, ◌≤◌, List, [], ◌∷◌, ◌++◌, length, take}
-use Rattle.std.specs.Prelude.{true, false, Some, None, IsSome}
+use Rattle.std.specs.Prelude.{Contains, true, false, Some, None, IsSome}
 use Rattle.std.specs.FinMap as map
 use Rattle.pm_store.specs.Files.{Files}
 use Rattle.pm_values.specs.declared.group.Group.{Group}
@@ -15,7 +15,7 @@ use Rattle.pm_snapshot.specs.declared.snapshot.Snapshot.{Snapshot}
 use Rattle.pm_model_folder.specs.Changes.{Actor, Change, IsNamedBy, IsTablePath}
 use Rattle.pm_model_folder.specs.Commits.{IsCommitted, Names, Needs}
 use Rattle.pm_model_folder.specs.Consumers.{KnowsConsumers, follower_of, frame_in, said_at}
-use Rattle.pm_model_folder.specs.Folder.{Folder}
+use Rattle.pm_model_folder.specs.Folder.{Folder, HaveSettled}
 use Rattle.pm_model_folder.specs.Meaning.{HasSnapshotAt, IsLeast, SnapshotAt}
 use Rattle.pm_model_folder.specs.Paths.{consumer_path, floor_path}
 use Rattle.pm_model_folder.specs.Runs.{AreInFiles}
@@ -148,6 +148,17 @@ pub data MovesConsumers (me : Actor) (f after : Files) (h : History) (claims : L
   moves : (name : List ℕ) (next : ℕ) (text : List ℕ) → said_at f name ≡ Some (known_at next) → next ≤ count_of h
       → text ≡ frame_in h next → said_at after name ≡ Some (known_at (suc next)) → OthersStay f name after
       → MovesConsumers me f after h claims (with_claim name (moved_past text (claims name)) claims)
+
+-- What a step leaves of consumers, where it is none of these: each one's file, and what is known of it.
+pub record LeavesConsumers (f : Files) (p : Past) (after : Files) (q : Past) : Type 0 where
+  pub files : (name : List ℕ) → map.get after (consumer_path name) ≡ map.get f (consumer_path name)
+  pub claims : (name : List ℕ) → q.claims name ≡ p.claims name
+
+-- The file of each consumer is as other files have it, and each that is settled there is known to be.
+pub record HasConsumersOf (h : History) (was f : Files) (p : Past) : Type 0 where
+  pub files : (name : List ℕ) → map.get f (consumer_path name) ≡ map.get was (consumer_path name)
+  pub known : (names : List (List ℕ)) (name : List ℕ) → HaveSettled was h names → Contains names name
+      → (from : ℕ) × (p.claims name ≡ settled from [])
 
 -- a known snapshot names the path
 abbrev pub WasNamed : Past → TableSchema → List ℕ → Type 0

@@ -21,8 +21,8 @@ ghost use Rattle.pm_model_folder.specs.Commits.{HasCommit, Names, Needs, live_in
 ghost use Rattle.pm_model_folder.specs.Entries.{IsFenced};
 ghost use Rattle.pm_model_folder.specs.Consumers.{IsMoved, follower_of, moment_of};
 ghost use Rattle.pm_model_folder.specs.Folder.{Folder, HaveSettled, IsAnnounced};
-ghost use Rattle.pm_model_folder.specs.Ledger.{Advances, AreAbove, HasNamedNone, IsUnnamed, MovesConsumers, Past};
-ghost use Rattle.pm_model_folder.specs.Ledger.{Stands, WasNamed, count_of};
+ghost use Rattle.pm_model_folder.specs.Ledger.{Advances, AreAbove, HasConsumersOf, HasNamedNone, IsUnnamed};
+ghost use Rattle.pm_model_folder.specs.Ledger.{MovesConsumers, Past, Stands, WasNamed, count_of};
 ghost use Rattle.pm_model_folder.specs.Meaning.{ConsumerAt, HasSnapshotAt, IsLeast, SnapshotAt};
 ghost use Rattle.pm_model_folder.specs.Paths.{consumer_path, floor_path, schema_folder, schema_name};
 ghost use Rattle.pm_model_folder.specs.Paths.{snapshot_file, snapshot_path};
@@ -224,13 +224,16 @@ pub fn consumers_law()
 }
 
 /// A folder that is found with settled consumers has a past that knows of them, and those of which a past knows are
-/// settled.
+/// settled. One past knows of all that are.
 pub fn settled_law()
     ensures found { (f : Files) (h : History) (names : List (List ℕ)) → Folder f h → HaveSettled f h names
         → (p : Past) × (p.history ≡ h) × Stands f p × ((name : List ℕ) → Contains names name
         → (from : ℕ) × (p.claims name ≡ settled from [])) }
     ensures known { (f : Files) (p : Past) (names : List (List ℕ)) → Stands f p → ((name : List ℕ) → Contains names name
         → (from : ℕ) × (moved : List (List ℕ)) × (p.claims name ≡ settled from moved)) → HaveSettled f p.history names }
+    ensures all { (f : Files) (h : History) → Folder f h
+        → (p : Past) × (p.history ≡ h) × Stands f p × ((id : ℕ) → p.stood id ≡ f) × (p.since ≡ count_of h)
+        × HasConsumersOf h f f p }
 {
     pm_runs::found_law();
 }

@@ -20,7 +20,7 @@ returns-clause-history g c = λ first has.
     let asking = asking_of c.args.full c.args.user c.args.names c.args.now_millis in
     let begun = begun-now c.args.schema c.args.full c.args.user c.args.names c.args.now_millis _ c.new_compactor-compactor.result c.new_compactor-compactor.ensures
     (to_z-of_z c.ranges.now_millis) in
-    compacted-history c.found_law.ensures s asking c.new_compactor-compactor.result c.make_calls.result first (seen c.args.store.now) (seen c.make_calls.new.store)
+    compacted-history c.settled_law.ensures.all s asking c.new_compactor-compactor.result c.make_calls.result first (seen c.args.store.now) (seen c.make_calls.new.store)
     begun c.known.ensures has
     (c.make_calls.ensures.trace s asking (seen c.args.store.now) (first-traced s asking c.new_compactor-compactor.result (seen c.args.store.now) begun))
     c.make_calls.ensures.later c.make_calls.ensures.alone
