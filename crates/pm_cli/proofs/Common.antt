@@ -1,5 +1,6 @@
 -- Of files that a store leaves, and of what is known of an execution.
 use Rattle.std.proofs.Common.{◌≡◌, ◌≢◌, ◌≤◌, ◌+◌, ℕ, suc, nat_lt, Bool, true, false, if◌then◌else◌, List, [], ◌∷◌, ◌++◌, length, Option, None, Some, IsSomeAnd, ◌==◌, ◌⊎◌, codes, decimal, inl, inr, refl, sym, subst, ap, ◌∙◌, length-append, take_all, arith}
+use Rattle.std.specs.FinMap as map
 use Rattle.std.specs.Option.{option_or}
 use Rattle.std.proofs.lemmas.Bool.Decides.{nat_tests}
 use Rattle.pm_values.specs.declared.refusal.Refusal.{Refusal}
@@ -8,16 +9,19 @@ use Rattle.pm_store.specs.declared.call.Op.{Op}
 use Rattle.pm_store.specs.Files.{Files, files_after}
 use Rattle.pm_store.specs.Images.{AllImages, Extends}
 use Rattle.pm_store.specs.Store.{StoreView}
+use Rattle.pm_store.proofs.ImageLaws.{Extends-weaker}
 use Rattle.pm_model_history.specs.History.{Entry, History, no_table, table}
 use Rattle.pm_schema.specs.declared.schema.TableSchema.{TableSchema}
 use Rattle.pm_snapshot.specs.Names.{greatest}
 use Rattle.pm_model_folder.specs.Changes.{Actor, origin_name}
-use Rattle.pm_model_folder.specs.Folder.{HasTable}
+use Rattle.pm_model_folder.specs.Folder.{HasTable, HaveSettled, KeepsConsumers}
+use Rattle.pm_model_folder.specs.Paths.{consumer_path}
 use Rattle.pm_create.specs.Making.{LeavesFiles}
 use Rattle.pm_draft.specs.Built.{unbuilt, unbuilt_bucket, unbuilt_partition}
 use Rattle.pm_words.specs.declared.command.Command.{Command}
 use Rattle.pm_command.specs.Outside.{actor}
-use Rattle.pm_cli.specs.Promise.{Execution, HasMade, MayMake, StandsForOthers}
+use Rattle.pm_command.specs.declared.start.Start.{Start}
+use Rattle.pm_cli.specs.Promise.{Does, Execution, HasMade, MayMake, SparesConsumers, StandsForOthers, commits, compacts, creates, drops, follows, found_by, has_already, lists, lists_consumers, rests, scans, takes_none}
 use Rattle.pm_cli.specs.Start.{HaveOtherNames, IsNew, LeavesOut, snapshot_made}
 
 -- the execution with this command in its place
@@ -102,6 +106,11 @@ leaves_each {X} P C Q store = at_ops store.ops
     at_ops None is each = is
     at_ops (Some ops) is each = (is, each)
 
+pub extends_both : (P Q : Files → Type 0) (first now : Option (List Op)) → Extends P first now → Extends Q first now → Extends (λ f. P f × Q f) first now
+extends_both P Q first now one other =
+    Extends-weaker (λ f. P f × ((x : Unit {0}) → Unit {0} → Q f)) (λ f. P f × Q f) first now (λ f is. (is.0, is.1 tt tt))
+    (extends_each {X = Unit {0}} P (λ x. Unit {0}) (λ x. Q) first now one (λ x c. other))
+
 -- what is so of the files of two stores
 pub leaves_turned : (R : Files → Files → Type 0) (one other : StoreView) → LeavesFiles (λ f. LeavesFiles (R f) other) one
     → LeavesFiles (λ g. LeavesFiles (λ f. R f g) one) other
@@ -123,6 +132,45 @@ any_here P R store join = by store.ops refl
     by (Some ops) same is =
         join (files_after ops) (subst (λ (ops : Option (List Op)). IsSomeAnd ops (λ ops. P (files_after ops))) same is)
         (λ T here. subst (λ (ops : Option (List Op)). IsSomeAnd ops (λ ops. T (files_after ops))) (sym same) here)
+
+-- what each image has of the files at first
+pub images_turned : (R : Files → Files → Type 0) (first : StoreView) (now : Option (List Op)) → LeavesFiles (λ f. Extends (R f) first.ops now) first
+    → Extends (λ g. LeavesFiles (λ f. R f g) first) first.ops now
+images_turned R first now =
+    any_here (λ f. Extends (R f) first.ops now) (Extends (λ g. LeavesFiles (λ f. R f g) first) first.ops now) first
+    (λ f images here. Extends-weaker (R f) (λ g. LeavesFiles (λ f. R f g) first) first.ops now (λ g is. here (λ f. R f g) is) images)
+
+-- ---- consumers
+
+-- a table's schema stays, and so who is settled
+later_settled : (start : Start) (bytes : List ℕ) (found : StoreView) (command : Command) (h later : History) (text : List ℕ) (f : Files) (names : List (List ℕ))
+    → Does start bytes found command h later text → HaveSettled f h names → HaveSettled f later names
+later_settled start bytes found command h later text f names (creates s draft) have = λ name there. absurd (have name there)
+later_settled start bytes found command h later text f names (scans at s es within) have = have
+later_settled start bytes found command h later text f names (lists s es lines are there) have = have
+later_settled start bytes found command h later text f names (lists_consumers s es consumers are) have = have
+later_settled start bytes found command h later text f names (drops name s es was_there at) have = have
+later_settled start bytes found command h later text f names (follows from full s es may) have = have
+later_settled start bytes found command h later text f names (rests full s es chosen) have = have
+later_settled start bytes found command h later text f names (compacts full s es groups some chosen) have = have
+later_settled start bytes found command h later text f names (takes_none user number s es took) have = have
+later_settled start bytes found command h later text f names (has_already user number s es rows i e took some at reached there) have = have
+later_settled start bytes found command h later text f names (commits user number s es rows took some) have = have
+
+pub made_settled : (e : Execution) (h later : History) → MayMake e h later → (f : Files) (names : List (List ℕ)) → HaveSettled f h names → HaveSettled f later names
+made_settled e h later (inl same) f names have = subst (λ (later : History). HaveSettled f later names) (sym same) have
+made_settled e h later (inr (text, does)) f names have = later_settled e.start e.input (found_by e) e.command h later text f names does have
+
+-- where all consumers are kept
+pub spared : (e : Execution) (h : History) (first : StoreView) (later : History) (f : Files) → MayMake e h later → LeavesFiles (λ g. KeepsConsumers h g f) first
+    → SparesConsumers e h first later f
+spared e h first later f make keeps = record {
+  files = λ name other.
+      leaves_weaker (λ g. KeepsConsumers h g f) (λ g. map.get f (consumer_path name) ≡ map.get g (consumer_path name)) first (λ g is. is.files name) keeps;
+  settled = λ names same was.
+      any_both (λ g. KeepsConsumers h g f) (λ g. HaveSettled g h names) (HaveSettled f later names) first
+      (λ g is have. made_settled e h later make f names (is.settled names have)) keeps was;
+}
 
 -- files stand so for what it may make
 abbrev pub StandsForSome : (History → Files → Type 0) → Execution → History → Files → Type 0

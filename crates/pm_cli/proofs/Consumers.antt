@@ -20,7 +20,7 @@ use Rattle.pm_cli.proofs.Common.{makes_nothing, none_made, schema_not, sink_same
 use Rattle.pm_cli.proofs.Resting.{SameStarts, resting, unprinted}
 
 does : (e : Execution) (h : History) (consumers : List NamedConsumer) → h ≢ no_table → LeavesFiles (λ f. AreConsumersOf f consumers) (found_by e)
-    → Does e.start e.input (found_by e) commands.Consumers h h (consumers_text consumers)
+    → Does e.start e.input (found_by e) (commands.Consumers None) h h (consumers_text consumers)
 does e no_table consumers some are = absurd (some refl)
 does e (table s es) consumers some are = lists_consumers s es consumers are
 
@@ -38,15 +38,15 @@ none_named (Err e) own before after snapshot did says =
     absurd (not_shown own snapshot (subst (λ (e : Refusal). DidConsumers (Err e) own) (let same : e ≡ refusals.SinkFault snapshot = cc in same) did))
 
 makes : (e : Execution) (h : History) (answer : Option Refusal) → ListsConsumers e.before e.after answer → AnswersHistory h (found_by e) e.before e.after answer
-    → HasMade (with_command commands.Consumers e) h answer h
+    → HasMade (with_command (commands.Consumers None) e) h answer h
 makes e h None acts (some, (consumers, are, taken)) = (consumers_text consumers, does e h consumers some are, taken)
 makes e h (Some (refusals.SinkFault snapshot)) (made, (own, did, traces), beside, says) (failed, some, (consumers, are, taken)) =
     let none = none_named made own e.before.out e.after.out snapshot did says in
     (consumers_text consumers, does e h consumers some are, taken, none ∙ none_made h)
 makes e h (Some refusal) (made, trace, beside, prints) may =
-    makes_nothing (with_command commands.Consumers e) h refusal tt (unprinted (text_of made) (result_err made) e.before.out e.after.out refusal tt prints)
+    makes_nothing (with_command (commands.Consumers None) e) h refusal tt (unprinted (text_of made) (result_err made) e.before.out e.after.out refusal tt prints)
 
-pub keeps : SameStarts → (e : Execution) → IsExecuted (with_command commands.Consumers e) → Keeps (with_command commands.Consumers e)
+pub keeps : SameStarts → (e : Execution) → IsExecuted (with_command (commands.Consumers None) e) → Keeps (with_command (commands.Consumers None) e)
 keeps law e is = λ alone h stands input.
     let was = is.history alone h stands in
-    resting law (with_command commands.Consumers e) h (found_by e) (makes e h e.refusal is.acts was.answers) was.rests was.images
+    resting law (with_command (commands.Consumers None) e) h (found_by e) (makes e h e.refusal is.acts was.answers) was.rests was.images (λ f. tt)

@@ -19,7 +19,7 @@ use Rattle.pm_schema.specs.Meaning.{DraftOf}
 use Rattle.pm_schema.specs.Reading.{draft_of}
 use Rattle.pm_schema.specs.declared.schema.TableSchema.{TableSchema}
 use Rattle.pm_model_folder.specs.Changes.{Actor, IsNoOrigin, origin_name}
-use Rattle.pm_model_folder.specs.Folder.{Folder}
+use Rattle.pm_model_folder.specs.Folder.{Folder, KeepsConsumers}
 use Rattle.pm_model_folder.proofs.HoldLemmas.{ContentsStay, OneContents}
 use Rattle.pm_create.specs.Creator.{NewTable, own_origin}
 use Rattle.pm_create.specs.Making as making
@@ -37,8 +37,8 @@ use Rattle.pm_command_create.specs.Create.{ActsCreate, CreatesTable, IsDraftOf, 
 use Rattle.pm_cli.specs.InTurn.{IsExecuted}
 use Rattle.pm_cli.specs.Promise.{Does, Execution, HasMade, Keeps, KeepsIt, MayMake, StandsForOthers, creates, found_by}
 use Rattle.pm_cli.specs.Start.{HaveOtherNames, IsNew, changed_path, snapshot_made}
-use Rattle.pm_cli.proofs.Common.{NotSink, StandsForSomeFreely, WasNew, any_files, extends_each, leaves_both, leaves_each, leaves_some, leaves_weaker, makes_nothing, sink_same, with_command}
-use Rattle.pm_cli.proofs.Origin.{FolderKept, IsKept, all_kept, create_calls}
+use Rattle.pm_cli.proofs.Common.{NotSink, StandsForSomeFreely, WasNew, any_files, any_here, extends_both, extends_each, extends_end, images_turned, leaves_both, leaves_each, leaves_some, leaves_weaker, makes_nothing, sink_same, spared, with_command}
+use Rattle.pm_cli.proofs.Origin.{FolderKept, IsKept, StandsBeside, all_kept, all_left, beside_keeps, create_calls, left_beside}
 use Rattle.pm_cli.proofs.Resting.{unprinted}
 
 -- ---- what is printed
@@ -197,18 +197,29 @@ module _ (kept : FolderKept) (stay : ContentsStay) (one : OneContents) (law : Dr
   abbrev it_is : Execution
   it_is = with_command commands.Create e
 
+  -- consumers are kept
+  abbrev Spares : History → Files → Type 0
+  Spares h f = LeavesFiles (λ g. KeepsConsumers h g f) first
+
   -- where there was no table
-  of_none : (f : Files) (later : History) → MayMake it_is no_table later → Folder f later → StandsForOthers it_is no_table first later f
-  of_none f later make folder = record { folder = folder; free = λ other names new. new_made law e other later f names make folder }
+  of_none : (f : Files) (later : History) → MayMake it_is no_table later → Folder f later → Spares no_table f → StandsForOthers it_is no_table first later f
+  of_none f later make folder spares = record {
+    folder = folder;
+    free = λ other names new. new_made law e other later f names make folder;
+    consumers = spared it_is no_table first later f make spares;
+    own = tt;
+  }
 
   -- where there was one
   abbrev AllKept : TableSchema → List Entry → Files → Type 0
   AllKept s es f = (other : Actor) → WasNew it_is (table s es) first other → IsKept kept stay one (actor e.start) other s es f
 
   of_table : (s : TableSchema) (es : List Entry) (f : Files) (later : History) → MayMake it_is (table s es) later → Folder f later → AllKept s es f
-      → StandsForOthers it_is (table s es) first later f
-  of_table s es f later make folder all = record {
+      → Spares (table s es) f → StandsForOthers it_is (table s es) first later f
+  of_table s es f later make folder all spares = record {
     folder = folder;
+    consumers = spared it_is (table s es) first later f make spares;
+    own = tt;
     free = λ other names new.
         let so = all other (names, new) in
         let origin : IsNoOrigin (table s es) (own_origin other) =
@@ -226,26 +237,47 @@ module _ (kept : FolderKept) (stay : ContentsStay) (one : OneContents) (law : Dr
       (leaves_both (making.MayStart (actor e.start) (table s es)) (IsNew other (table s es)) (IsKept kept stay one (actor e.start) other s es) first
       (λ f may is. (may.0, is.names, may.1)) may new)
 
+  -- each image is beside the files at first
+  spares_at : (h : History) → IsAlone first after → LeavesFiles (making.MayStart (actor e.start) h) first → Extends (Spares h) first.ops after.ops
+  spares_at h alone may =
+      let calls = create_calls e.start e.before e.after e.refusal acts in
+      images_turned (KeepsConsumers h) first after.ops
+      (any_here (making.MayStart (actor e.start) h) (LeavesFiles (λ f. Extends (KeepsConsumers h f) first.ops after.ops) first) first
+      (λ f start here. here (λ f. Extends (KeepsConsumers h f) first.ops after.ops)
+      (Extends-weaker (StandsBeside (actor e.start) f) (KeepsConsumers h f) first.ops after.ops
+      (λ g beside. beside_keeps (actor e.start) f g beside h start.1)
+      (all_left (actor e.start) (StandsBeside (actor e.start) f) (left_beside (actor e.start) f) calls.0 first after calls.1 calls.2 alone
+      (here (StandsBeside (actor e.start) f) (record { held = λ path there. refl; fresh = λ path none origin schema. none }))).1)) may)
+
+  known_first : (h : History) → LeavesFiles (making.MayStart (actor e.start) h) first → LeavesFiles (λ f. Unit {0}) first
+  known_first h = leaves_weaker (making.MayStart (actor e.start) h) (λ f. Unit {0}) first (λ f may. tt)
+
   ends_freely : (h later : History) → IsAlone first after → LeavesFiles (making.MayStart (actor e.start) h) first → MayMake it_is h later
       → LeavesFiles (λ f. Folder f later) after → LeavesFiles (StandsForOthers it_is h first later) after
   ends_freely no_table later alone may make ends =
-      leaves_weaker (λ f. Folder f later) (StandsForOthers it_is no_table first later) after (λ f folder. of_none f later make folder) ends
+      leaves_both (λ f. Folder f later) (Spares no_table) (StandsForOthers it_is no_table first later) after (λ f folder spares. of_none f later make folder spares) ends
+      (extends_end (Spares no_table) first after (known_first no_table may) (spares_at no_table alone may))
   ends_freely (table s es) later alone may make ends =
-      leaves_weaker (λ f. Folder f later × AllKept s es f) (StandsForOthers it_is (table s es) first later) after
-      (λ f both. of_table s es f later make both.0 both.1)
+      leaves_both (λ f. Folder f later × AllKept s es f) (Spares (table s es)) (StandsForOthers it_is (table s es) first later) after
+      (λ f both spares. of_table s es f later make both.0 both.1 spares)
       (leaves_each (λ f. Folder f later) (WasNew it_is (table s es) first) (λ other f. IsKept kept stay one (actor e.start) other s es f) after ends
       (λ other was. (kept_at s es alone may other was).0))
+      (extends_end (Spares (table s es)) first after (known_first (table s es) may) (spares_at (table s es) alone may))
 
   images_freely : (h : History) → IsAlone first after → LeavesFiles (making.MayStart (actor e.start) h) first
       → Extends (StandsForEither e.start e.input h) first.ops after.ops → Extends (StandsForSomeFreely it_is h first) first.ops after.ops
   images_freely no_table alone may images =
-      Extends-weaker (StandsForEither e.start e.input no_table) (StandsForSomeFreely it_is no_table first) first.ops after.ops
-      (λ f is. let stands = may_stand e no_table f is in (stands.0, stands.1, of_none f stands.0 stands.1 stands.2)) images
+      Extends-weaker (λ f. StandsForEither e.start e.input no_table f × Spares no_table f) (StandsForSomeFreely it_is no_table first) first.ops after.ops
+      (λ f both. let stands = may_stand e no_table f both.0 in (stands.0, stands.1, of_none f stands.0 stands.1 stands.2 both.1))
+      (extends_both (StandsForEither e.start e.input no_table) (Spares no_table) first.ops after.ops images (spares_at no_table alone may))
   images_freely (table s es) alone may images =
-      Extends-weaker (λ f. StandsForEither e.start e.input (table s es) f × AllKept s es f) (StandsForSomeFreely it_is (table s es) first) first.ops after.ops
-      (λ f both. let stands = may_stand e (table s es) f both.0 in (stands.0, stands.1, of_table s es f stands.0 stands.1 stands.2 both.1))
+      Extends-weaker (λ f. (StandsForEither e.start e.input (table s es) f × AllKept s es f) × Spares (table s es) f)
+      (StandsForSomeFreely it_is (table s es) first) first.ops after.ops
+      (λ f all. let stands = may_stand e (table s es) f all.0.0 in (stands.0, stands.1, of_table s es f stands.0 stands.1 stands.2 all.0.1 all.1))
+      (extends_both (λ f. StandsForEither e.start e.input (table s es) f × AllKept s es f) (Spares (table s es)) first.ops after.ops
       (extends_each (StandsForEither e.start e.input (table s es)) (WasNew it_is (table s es) first)
       (λ other f. IsKept kept stay one (actor e.start) other s es f) first.ops after.ops images (λ other was. (kept_at s es alone may other was).1))
+      (spares_at (table s es) alone may))
 
   keeps_it : (h : History) → IsAlone first after → LeavesFiles (making.MayStart (actor e.start) h) first
       → CreatesTable e.start h e.input first e.before e.after e.refusal → KeepsIt it_is h first
@@ -255,6 +287,7 @@ module _ (kept : FolderKept) (stay : ContentsStay) (one : OneContents) (law : Dr
         later = end.0;
         makes = end.1.0;
         ends = ends_freely h end.0 alone may end.1.1 end.2;
+        dropped = leaves_weaker (λ f. Folder f end.0) (λ f. Unit {0}) after (λ f folder. tt) end.2;
         images = images_freely h alone may
             (Extends-weaker (IsImage e.start e.input h) (StandsForEither e.start e.input h) first.ops after.ops (λ f is. is.either) was.images);
       }

@@ -55,7 +55,9 @@ acts_goes_on commands.Create start before after answer (inl (e, is, refuses, res
 acts_goes_on commands.Create start before after answer (inr (s, is, (made, (own, did, traces), prints))) =
     Traces-goes_on own before.store after.store traces
 acts_goes_on (commands.Scan at) start before after answer (made, (own, did, traces), beside, prints) = Traces-goes_on own before.store after.store traces
-acts_goes_on commands.Consumers start before after answer (made, (own, did, traces), beside, prints) = Traces-goes_on own before.store after.store traces
+acts_goes_on (commands.Consumers None) start before after answer (made, (own, did, traces), beside, prints) = Traces-goes_on own before.store after.store traces
+acts_goes_on (commands.Consumers (Some name)) start before after answer (made, (own, did, traces), beside, prints) =
+    Traces-goes_on own before.store after.store traces
 acts_goes_on commands.Snapshots start before after answer (made, (own, did, traces), beside, prints) = Traces-goes_on own before.store after.store traces
 acts_goes_on (commands.Compact full) start before after answer (made, (own, did, traces), prints) = Traces-goes_on own before.store after.store traces
 acts_goes_on (commands.Follow from full) start before after answer ((own, ends, traces), beside) = Traces-goes_on own before.store after.store traces

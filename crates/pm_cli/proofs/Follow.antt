@@ -49,7 +49,7 @@ pub keeps : SameStarts → (from : Option ℕ) (full : Bool) (e : Execution) →
 keeps law from full e is = λ alone h stands input.
     let first = at_first_own e.before.store e.after.store in
     let was = is.history alone h stands in
-    resting law (with_command (commands.Follow from full) e) h first (makes from full e h first e.refusal was.answers) was.rests was.images
+    resting law (with_command (commands.Follow from full) e) h first (makes from full e h first e.refusal was.answers) was.rests was.images (λ f. tt)
 
 -- ---- what was printed, replayed
 

@@ -1,5 +1,5 @@
 -- Commands that are executed one after another.
-use Rattle.std.proofs.Common.{◌≡◌, ◌≤◌, ℕ, List, [], ◌∷◌, length, map as each_of, slice_get, append-nil, Option, None, Some, IsSomeAnd, Ok, refl, sym, subst, ap, ◌∙◌}
+use Rattle.std.proofs.Common.{◌≡◌, ◌≢◌, ◌≤◌, ℕ, List, [], ◌∷◌, length, map as each_of, slice_get, append-nil, Contains, Option, None, Some, IsSomeAnd, Ok, refl, sym, subst, ap, ◌∙◌, arith}
 use Rattle.std.specs.FinMap as map
 use Rattle.std.specs.List.{AllByRecursion}
 use Rattle.pm_base.specs.Known.{and_then}
@@ -14,7 +14,7 @@ use Rattle.pm_model_history.specs.History.{Entry, History, no_table, rows_up_to,
 use Rattle.pm_model_history.specs.Merge.{HistoryRow}
 use Rattle.pm_model_history.specs.Merged.{scan_text}
 use Rattle.pm_model_folder.specs.Changes.{Actor}
-use Rattle.pm_model_folder.specs.Folder.{Folder}
+use Rattle.pm_model_folder.specs.Folder.{Folder, HaveSettled}
 use Rattle.pm_create.specs.Making.{LeavesFiles}
 use Rattle.pm_write.specs.Taken.{all_taken}
 use Rattle.pm_words.specs.declared.command.Command.{Command}
@@ -24,9 +24,9 @@ use Rattle.pm_command.specs.declared.start.Start.{Start}
 use Rattle.pm_command.proofs.Uncalled.{next_stands}
 use Rattle.pm_command_create.specs.Create.{IsDraftOf}
 use Rattle.pm_command_write.specs.Write.{entry_by, writer_of}
-use Rattle.pm_cli.specs.InTurn.{AreInTurn, Ending, HaveOwnNames, IsExecuted, HandsOn, MakeInTurn, MakesBy, Turn, ended, others_op, seen_by_another, stopped, to_its_end}
+use Rattle.pm_cli.specs.InTurn.{AreInTurn, DropNone, Ending, HaveOwnNames, IsExecuted, HandsOn, MakeInTurn, MakesBy, Turn, ended, others_op, seen_by_another, stopped, to_its_end}
 use Rattle.pm_cli.specs.Promise.{Does, Execution, Keeps, KeepsIt, HasMade, MayMake, StandsForOthers, commits, creates, found_by, has_already, scans, takes_none}
-use Rattle.pm_cli.specs.Start.{HaveOtherNames, IsNew, MayStart}
+use Rattle.pm_cli.specs.Start.{HaveOtherNames, IsNew, MayStart, own_consumer}
 use Rattle.pm_cli.proofs.Common.{StandsForSomeFreely, leaves_some, leaves_weaker}
 use Rattle.pm_cli.proofs.First.{acts_goes_on, first_same, from_before}
 
@@ -43,8 +43,8 @@ AreNew turns h f = AllByRecursion (λ (t : Turn). IsNew (actor t.execution.start
 abbrev HaveOthers : Execution → List Turn → Type 0
 HaveOthers e turns = AllByRecursion (λ (next : Turn). HaveOtherNames (actor e.start) (actor next.execution.start)) turns
 
-abbrev StandsWith : List Turn → History → Files → Type 0
-StandsWith turns h f = Folder f h × AreNew turns h f
+abbrev StandsWith : List (List ℕ) → List Turn → History → Files → Type 0
+StandsWith names turns h f = Folder f h × HaveSettled f h names × AreNew turns h f
 
 -- the actors of those that follow are new to what a command made
 still_new : (e : Execution) (h : History) (first : StoreView) (later : History) (f : Files) → StandsForOthers e h first later f → (turns : List Turn)
@@ -83,26 +83,51 @@ next_store stopped e h first next same kept has =
     (image_stands (StandsForSomeFreely e h first) e.before.store.ops e.after.store.ops next.ops
     (subst (λ (known : Option (List Op)). Extends (StandsForSomeFreely e h first) known e.after.store.ops) same kept.images) has)
 
-pub in_turn : KeepsEach → NewMayStart → (turns : List Turn) (store last : StoreView) (h : History) → AreInTurn store turns last → HaveOwnNames turns
-    → LeavesFiles (StandsWith turns h) store → (later : History) × MakeInTurn turns h later × LeavesFiles (λ f. Folder f later) last
-in_turn keeps starts [] store last h is names stands =
-    (h, refl, subst (λ (store : StoreView). LeavesFiles (λ f. Folder f h) store) (sym is) (leaves_weaker (StandsWith [] h) (λ f. Folder f h) store (λ f both. both.0) stands))
-in_turn keeps starts (t ∷ turns) store last h (same, is, alone, input, (next, leaves, rest)) (names, others) stands =
+-- who was settled is, but for whom it drops
+still_settled : (names : List (List ℕ)) (e : Execution) (h : History) (first : StoreView) (later : History) (f : Files) → StandsForOthers e h first later f
+    → ((name : List ℕ) → Contains names name → own_consumer e.command ≢ Some name) → LeavesFiles (λ g. HaveSettled g h names) first → HaveSettled f later names
+still_settled names e h first later f stands others was =
+    stands.consumers.settled names (λ name there. stands.consumers.files name (others name there)) was
+
+pub in_turn : KeepsEach → NewMayStart → (names : List (List ℕ)) (turns : List Turn) (store last : StoreView) (h : History) → AreInTurn store turns last → HaveOwnNames turns
+    → DropNone turns names → LeavesFiles (StandsWith names turns h) store
+    → (later : History) × MakeInTurn turns h later × LeavesFiles (λ f. Folder f later × HaveSettled f later names) last
+in_turn keeps starts names [] store last h is own others stands =
+    (h, refl, subst (λ (store : StoreView). LeavesFiles (λ f. Folder f h × HaveSettled f h names) store) (sym is)
+    (leaves_weaker (StandsWith names [] h) (λ f. Folder f h × HaveSettled f h names) store (λ f all. (all.0, all.1)) stands))
+in_turn keeps starts names (t ∷ turns) store last h (same, is, alone, input, (next, leaves, rest)) (own, later_own) (others, later_others) stands =
     let e = t.execution in
     let first = at_first_own e.before.store e.after.store in
+    let Has : Files → Type 0 = StandsWith names (t ∷ turns) h in
     let goes = acts_goes_on e.command e.start e.before e.after e.refusal is.acts in
     let only : IsAlone e.before.store e.after.store = subst (λ (store : StoreView). IsAlone store e.after.store) (sym same) alone in
-    let here : LeavesFiles (StandsWith (t ∷ turns) h) e.before.store = subst (λ (store : StoreView). LeavesFiles (StandsWith (t ∷ turns) h) store) (sym same) stands in
-    let found = from_before (StandsWith (t ∷ turns) h) e.before.store e.after.store goes only here in
-    let may = leaves_weaker (StandsWith (t ∷ turns) h) (MayStart e.command (actor e.start) h) first
-    (λ f both. starts e.command (actor e.start) h f both.1.0) found.0 in
+    let here : LeavesFiles Has e.before.store = subst (λ (store : StoreView). LeavesFiles Has store) (sym same) stands in
+    let found = from_before Has e.before.store e.after.store goes only here in
+    let may = leaves_weaker Has (MayStart e.command (actor e.start) h) first (λ f all. starts e.command (actor e.start) h f all.2.0) found.0 in
     let kept : KeepsIt e h first = keeps e is found.1 h may input in
-    let new : LeavesFiles (AreNew turns h) first = leaves_weaker (StandsWith (t ∷ turns) h) (AreNew turns h) first (λ f both. both.1.1) found.0 in
-    let left = next_store t.ending e h first next (first_same (StandsWith (t ∷ turns) h) e.before.store e.after.store goes only here) kept leaves in
-    let made = in_turn keeps starts turns next last left.0 rest others
-    (leaves_weaker (StandsForOthers e h first left.0) (StandsWith turns left.0) next
-    (λ f free. (free.folder, still_new e h first left.0 f free turns names new)) left.2) in
+    let new : LeavesFiles (AreNew turns h) first = leaves_weaker Has (AreNew turns h) first (λ f all. all.2.1) found.0 in
+    let settled : LeavesFiles (λ f. HaveSettled f h names) first = leaves_weaker Has (λ f. HaveSettled f h names) first (λ f all. all.1) found.0 in
+    let left = next_store t.ending e h first next (first_same Has e.before.store e.after.store goes only here) kept leaves in
+    let made = in_turn keeps starts names turns next last left.0 rest later_own later_others
+    (leaves_weaker (StandsForOthers e h first left.0) (StandsWith names turns left.0) next
+    (λ f free. (free.folder, still_settled names e h first left.0 f free others settled, still_new e h first left.0 f free turns own new)) left.2) in
     (made.0, (left.0, left.1, made.1), made.2)
+
+-- of no consumers
+settled_none : (h : History) (f : Files) → HaveSettled f h []
+settled_none no_table f = λ name (k, within, at). omega (arith, within)
+settled_none (table s es) f = λ name (k, within, at). absurd (omega (arith, within))
+
+drop_none : (turns : List Turn) → DropNone turns []
+drop_none [] = tt
+drop_none (t ∷ turns) = (λ name (k, within, at). absurd (omega (arith, within)), drop_none turns)
+
+pub in_turn_from : KeepsEach → NewMayStart → (turns : List Turn) (store last : StoreView) (h : History) → AreInTurn store turns last → HaveOwnNames turns
+    → LeavesFiles (λ f. Folder f h × AreNew turns h f) store → (later : History) × MakeInTurn turns h later × LeavesFiles (λ f. Folder f later) last
+in_turn_from keeps starts turns store last h is own stands =
+    let made = in_turn keeps starts [] turns store last h is own (drop_none turns)
+    (leaves_weaker (λ f. Folder f h × AreNew turns h f) (StandsWith [] turns h) store (λ f both. (both.0, settled_none h f, both.1)) stands) in
+    (made.0, made.1, leaves_weaker (λ f. Folder f made.0 × HaveSettled f made.0 []) (λ f. Folder f made.0) last (λ f both. both.0) made.2)
 
 -- ---- another handle
 

@@ -2,9 +2,11 @@ mod Common
 mod Consumers
 mod Compact
 mod Create
+mod Drop
 mod First
 mod Follow
 mod InTurn
+mod ListOrDrop
 mod NothingLaws
 mod Origin
 mod Resting

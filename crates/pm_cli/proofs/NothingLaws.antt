@@ -17,6 +17,7 @@ use Rattle.pm_command.specs.declared.start.Start.{Start}
 use Rattle.pm_cli.specs.Commands.{Acts, Answers, ServesHistories}
 use Rattle.pm_command_compact.specs.Compact as compact
 use Rattle.pm_command_consumers.specs.Consumers as consumers
+use Rattle.pm_command_consumers.specs.Drop as drops
 use Rattle.pm_command_follow.specs.Follow as follow
 use Rattle.pm_command_scan.specs.Scan as scan
 use Rattle.pm_command_snapshots.specs.Snapshots as snapshots
@@ -24,6 +25,7 @@ use Rattle.pm_command_write.specs.Write.{writer_of}
 use Rattle.pm_command_create.proofs.CreateLaws.{nothing_made}
 use Rattle.pm_command_compact.proofs.CompactLaws as compacts
 use Rattle.pm_command_consumers.proofs.ConsumerLaws as reads
+use Rattle.pm_command_consumers.proofs.DropLaws as removes
 use Rattle.pm_command_scan.proofs.ScanLaws as scans
 use Rattle.pm_command_snapshots.proofs.SnapshotLaws as lists
 use Rattle.pm_command_write.proofs.WriteLaws.{input_acts, input_refused, refused_serves}
@@ -49,6 +51,11 @@ read_of_none : (out : SinkView) (store : StoreView) → consumers.IsListed out o
 read_of_none out store =
     reads.refused_listed refusals.Memory out store store (reads.read_refused refusals.Memory store store (read_none store)) tt
     (reads.read_keeps refusals.Memory store store (reads_none store))
+
+removed_none : (name : List ℕ) (out : SinkView) (store : StoreView) → drops.IsRemoved name out out store store (Some refusals.Memory)
+removed_none name out store =
+    removes.refused_removed name refusals.Memory out store store (removes.read_refused name refusals.Memory store store (read_none store))
+    (removes.read_beside name refusals.Memory store store (read_none store)) (removes.read_keeps name refusals.Memory store store (reads_none store))
 
 compacted_none : (start : Start) (full : Bool) (out : SinkView) (store : StoreView)
     → compact.IsCompacted start full out out store store (Some refusals.Memory)
@@ -79,7 +86,9 @@ module _ (start : Start) (input : SourceView) (out : SinkView) (store : StoreVie
       (refl, scans.scanned_answers at (outside input out store) (outside input out store) (Some refusals.Memory) (scanned_none at out store))
   nothing_answers commands.Snapshots =
       (refl, lists.listed_answers (outside input out store) (outside input out store) (Some refusals.Memory) (listed_none out store))
-  nothing_answers commands.Consumers =
+  nothing_answers (commands.Consumers (Some name)) =
+      (refl, removes.removed_answers name (outside input out store) (outside input out store) (Some refusals.Memory) (removed_none name out store))
+  nothing_answers (commands.Consumers None) =
       (refl, reads.listed_answers (outside input out store) (outside input out store) (Some refusals.Memory) (read_of_none out store))
   nothing_answers (commands.Follow from full) = (refl, followed_none from full out store)
   nothing_answers (commands.Compact full) =
@@ -91,7 +100,9 @@ module _ (start : Start) (input : SourceView) (out : SinkView) (store : StoreVie
   nothing_acts (commands.Scan at) =
       scans.scanned_answers at (outside input out store) (outside input out store) (Some refusals.Memory) (scanned_none at out store)
   nothing_acts commands.Snapshots = lists.listed_answers (outside input out store) (outside input out store) (Some refusals.Memory) (listed_none out store)
-  nothing_acts commands.Consumers = reads.listed_answers (outside input out store) (outside input out store) (Some refusals.Memory) (read_of_none out store)
+  nothing_acts (commands.Consumers (Some name)) =
+      removes.removed_answers name (outside input out store) (outside input out store) (Some refusals.Memory) (removed_none name out store)
+  nothing_acts (commands.Consumers None) = reads.listed_answers (outside input out store) (outside input out store) (Some refusals.Memory) (read_of_none out store)
   nothing_acts (commands.Follow from full) = followed_none from full out store
   nothing_acts (commands.Compact full) =
       compacts.compacted_answers start full (outside input out store) (outside input out store) (Some refusals.Memory) (compacted_none start full out store)
@@ -103,7 +114,9 @@ module _ (start : Start) (input : SourceView) (out : SinkView) (store : StoreVie
   nothing_serves law (commands.Scan at) =
       scans.scanned_serves at (outside input out store) (outside input out store) (Some refusals.Memory) (scanned_none at out store)
   nothing_serves law commands.Snapshots = lists.listed_serves (outside input out store) (outside input out store) (Some refusals.Memory) (listed_none out store)
-  nothing_serves law commands.Consumers = reads.listed_serves (outside input out store) (outside input out store) (Some refusals.Memory) (read_of_none out store)
+  nothing_serves law (commands.Consumers (Some name)) =
+      removes.removed_serves name (outside input out store) (outside input out store) (Some refusals.Memory) (removed_none name out store)
+  nothing_serves law (commands.Consumers None) = reads.listed_serves (outside input out store) (outside input out store) (Some refusals.Memory) (read_of_none out store)
   nothing_serves law (commands.Follow from full) =
       law from full out out store store (Some refusals.Memory) (followed_none from full out store)
   nothing_serves law (commands.Compact full) =

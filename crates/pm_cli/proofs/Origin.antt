@@ -1,5 +1,5 @@
 -- A `create` that finds a table: its calls make a file of its own at most, and no snapshot names another's file then.
-use Rattle.std.proofs.Common.{◌≡◌, ◌≢◌, ◌≤◌, ◌⊎◌, inl, inr, ℕ, List, [], ◌∷◌, length, take, get_or, if◌then◌else◌, Option, None, Some, IsSome, IsSomeAnd, Result, Ok, Err, refl, sym, subst, ap, ◌∙◌, arith}
+use Rattle.std.proofs.Common.{◌≡◌, ◌≢◌, ◌≤◌, ◌⊎◌, inl, inr, ℕ, suc, List, [], ◌∷◌, length, take, get_or, if◌then◌else◌, Option, None, Some, IsSome, IsSomeAnd, Result, Ok, Err, refl, sym, subst, ap, ◌∙◌, arith}
 use Rattle.std.specs.FinMap as map
 use Rattle.std.specs.List.{AllByRecursion}
 use Rattle.pm_values.specs.declared.refusal.Refusal.{Refusal}
@@ -16,13 +16,17 @@ use Rattle.pm_store.proofs.FileLaws.{MayLeave-after_effect}
 use Rattle.pm_store.proofs.StepLaws.{IsLater-refl, Meanwhile-refl, alone_parts}
 use Rattle.pm_machine.specs.Trace.{Ended, Event, Traces}
 use Rattle.pm_machine.proofs.AloneLaws.{Follows, Follows-first, Follows-meanwhile, Follows-steps, Traces-first, Traces-later}
-use Rattle.pm_model_history.specs.History.{Entry, History, table}
+use Rattle.pm_model_history.specs.History.{Entry, History, IsTableOf, no_table, table}
 use Rattle.pm_schema.specs.declared.schema.TableSchema.{TableSchema}
-use Rattle.pm_model_folder.specs.Changes.{Actor, Change, its_origin, own_file}
+use Rattle.pm_snapshot.specs.Names.{snapshot_name}
+use Rattle.pm_model_folder.specs.Changes.{Actor, Change, IsNoOrigin, its_origin, origin_name, own_file}
 use Rattle.pm_model_folder.specs.Commits.{Names}
-use Rattle.pm_model_folder.specs.Folder.{Folder, HasTable}
-use Rattle.pm_model_folder.specs.Paths.{schema_path, snapshot_path}
+use Rattle.pm_model_folder.specs.Folder.{Folder, HasTable, KeepsConsumers}
+use Rattle.pm_model_folder.specs.Paths.{consumer_path, schema_path, snapshot_file, snapshot_path}
+use Rattle.pm_model_folder.proofs.BesideLemmas.{snapshot-same}
 use Rattle.pm_model_folder.proofs.HoldLemmas.{ContentsStay, Holds, OneContents, names-were}
+use Rattle.pm_model_folder.proofs.PathLemmas.{consumer-schema, consumer-snapshot, snapshot-schema}
+use Rattle.pm_model_folder.proofs.SettledLemmas.{kept-consumers}
 use Rattle.pm_create.specs.Creator.{NewTable, origin_call, own_origin, schema_call}
 use Rattle.pm_create.specs.Making.{DidMake, IsFreeOrigin, LeavesFiles}
 use Rattle.pm_create.specs.Trace.{failed_origin, failed_table, made_origin, made_table, met_origin, met_table, Shows}
@@ -104,10 +108,14 @@ module _ (kept : FolderKept) (stay : ContentsStay) (one : OneContents) (me other
       ap (λ (o : Option (List ℕ)). if is_same o None then map.insert f (schema_path 0) bytes else f) first.1 in
       subst (λ (g : Files). IsKept g) (sym (same ∙ still)) is
 
-  left : (call : Call) → IsMaking me call → (f image : Files) → IsKept f → MayLeave call f image → IsKept image
+  pub left : (call : Call) → IsMaking me call → (f image : Files) → IsKept f → MayLeave call f image → IsKept image
   left call (inl is) f image was may = origin_left f image was (subst (λ (call : Call). MayLeave call f image) is may)
   left call (inr (bytes, is)) f image was may = schema_left bytes f image was (subst (λ (call : Call). MayLeave call f image) is may)
 
+-- ---- what each of its calls keeps
+
+module _ (me : Actor) (IsKept : Files → Type 0) (left : (call : Call) → IsMaking me call → (f image : Files) → IsKept f → MayLeave call f image → IsKept image)
+    where
   one_event : (known : Option (List Op)) (call : Call) (answer : Option Answer) (before middle : StoreView) → IsMaking me call
       → Ended call answer before middle → IsAlone before middle → Follows IsKept known before IsKept → Follows IsKept known middle IsKept
   one_event known call (Some answer) before middle is (steps, may) alone so =
@@ -135,13 +143,96 @@ module _ (kept : FolderKept) (stay : ContentsStay) (one : OneContents) (me other
   twice None has = has
   twice (Some ops) has = (has, has)
 
-  pub all_kept : (own : List Event) (first after : StoreView) → AreMaking me own → Traces own first after → IsAlone first after
+  pub all_left : (own : List Event) (first after : StoreView) → AreMaking me own → Traces own first after → IsAlone first after
       → LeavesFiles IsKept first → LeavesFiles IsKept after × Extends IsKept first.ops after.ops
-  all_kept own first after are traces alone has =
+  all_left own first after are traces alone has =
       let so = all_events first.ops own first after are traces alone (Follows-first IsKept IsKept first first.ops refl (twice first.ops has)) in (
         subst (λ (known : Option (List Op)). IsSomeAnd known (λ ops. IsKept (files_after ops))) (sym so.is) so.here,
         subst (λ (known : Option (List Op)). Extends IsKept first.ops known) (sym so.is) so.images,
       )
+
+pub all_kept : (kept : FolderKept) (stay : ContentsStay) (one : OneContents) (me other : Actor) (s : TableSchema) (es : List Entry) (own : List Event)
+    (first after : StoreView) → AreMaking me own → Traces own first after → IsAlone first after → LeavesFiles (IsKept kept stay one me other s es) first
+    → LeavesFiles (IsKept kept stay one me other s es) after × Extends (IsKept kept stay one me other s es) first.ops after.ops
+all_kept kept stay one me other s es = all_left me (IsKept kept stay one me other s es) (left kept stay one me other s es)
+
+-- ---- consumers
+
+-- what was there is, and nothing else but the origin and the schema
+pub record StandsBeside (me : Actor) (f g : Files) : Type 0 where
+  pub held : Holds f g
+  pub fresh : (path : List ℕ) → map.get f path ≡ None → path ≢ own_origin me → path ≢ schema_path 0 → map.get g path ≡ None
+
+module _ (me : Actor) (f : Files) where
+  one_more : (path found : List ℕ) (g after : Files) → (path ≡ own_origin me) ⊎ (path ≡ schema_path 0) → map.get g path ≡ None → Puts g path (Some found) after
+      → StandsBeside me f g → StandsBeside me f after
+  one_more path found g after own absent puts beside = record {
+    held = λ other there.
+        puts.others other (λ same. is_some_none (map.get f other) there (sym (beside.held other there) ∙ ap (map.get g) same ∙ absent)) ∙ beside.held other there;
+    fresh = λ other none origin schema.
+        puts.others other (λ same. elim own as (λ _. ⊥) [
+          | inl is ↦ origin (same ∙ is)
+          | inr is ↦ schema (same ∙ is)
+        ]) ∙ beside.fresh other none origin schema;
+  }
+
+  schema_beside : (bytes : List ℕ) (g image : Files) → StandsBeside me f g
+      → image ≡ (if is_same (map.get g (schema_path 0)) None then map.insert g (schema_path 0) bytes else g) → StandsBeside me f image
+  schema_beside bytes g image beside is = at (map.get g (schema_path 0)) refl
+    where
+      at : (o : Option (List ℕ)) → map.get g (schema_path 0) ≡ o → StandsBeside me f image
+      at None absent =
+          let made : (if is_same (map.get g (schema_path 0)) None then map.insert g (schema_path 0) bytes else g) ≡ map.insert g (schema_path 0) bytes =
+          ap (λ (o : Option (List ℕ)). if is_same o None then map.insert g (schema_path 0) bytes else g) absent in
+          subst (λ (g : Files). StandsBeside me f g) (sym (is ∙ made))
+          (one_more (schema_path 0) bytes g (map.insert g (schema_path 0) bytes) (inr refl) absent (Puts-insert g (schema_path 0) bytes) beside)
+      at (Some found) there =
+          let still : (if is_same (map.get g (schema_path 0)) None then map.insert g (schema_path 0) bytes else g) ≡ g =
+          ap (λ (o : Option (List ℕ)). if is_same o None then map.insert g (schema_path 0) bytes else g) there in
+          subst (λ (g : Files). StandsBeside me f g) (sym (is ∙ still)) beside
+
+  pub left_beside : (call : Call) → IsMaking me call → (g image : Files) → StandsBeside me f g → MayLeave call g image → StandsBeside me f image
+  left_beside call (inl is) g image beside may = by (subst (λ (call : Call). MayLeave call g image) is may)
+    where
+      by : MayLeave (origin_call (own_origin me)) g image → StandsBeside me f image
+      by (inl same) = subst (λ (g : Files). StandsBeside me f g) (sym same) beside
+      by (inr (absent, (found, is))) =
+          subst (λ (g : Files). StandsBeside me f g) (sym is)
+          (one_more (own_origin me) found g (map.insert g (own_origin me) found) (inl refl) absent (Puts-insert g (own_origin me) found) beside)
+  left_beside call (inr (bytes, is)) g image beside may = by (subst (λ (call : Call). MayLeave call g image) is may)
+    where
+      by : MayLeave (schema_call bytes) g image → StandsBeside me f image
+      by (inl same) = subst (λ (g : Files). StandsBeside me f g) (sym same) beside
+      by (inr is) = schema_beside bytes g image beside is
+
+  -- so consumers are kept, where the origin isn't one that went with an old snapshot
+  module _ (g : Files) (beside : StandsBeside me f g) where
+    stays : (path : List ℕ) → path ≢ own_origin me → path ≢ schema_path 0 → map.get g path ≡ map.get f path
+    stays path origin schema = at (map.get f path) refl
+      where
+        at : (o : Option (List ℕ)) → map.get f path ≡ o → map.get g path ≡ map.get f path
+        at None none = beside.fresh path none origin schema ∙ sym none
+        at (Some bytes) there = beside.held path (subst (λ (o : Option (List ℕ)). IsSome o) (sym there) refl)
+
+    origin_is : (h : History) (s : TableSchema) (name path : List ℕ) → IsTableOf s h → s.origin ≡ Some name → IsNoOrigin h path → snapshot_file name ≢ path
+    origin_is no_table s name path is named none = absurd is
+    origin_is (table t es) s name path is named none = none name (ap (λ (t : TableSchema). t.origin) is ∙ named)
+
+    origin_stays : (h : History) (s : TableSchema) (name : List ℕ) → IsFreeOrigin (own_origin me) f h → IsTableOf s h → s.origin ≡ Some name
+        → map.get g (snapshot_file name) ≡ map.get f (snapshot_file name)
+    origin_stays h s name free is named = at (map.get f (snapshot_file name)) refl
+      where
+        at : (o : Option (List ℕ)) → map.get f (snapshot_file name) ≡ o → map.get g (snapshot_file name) ≡ map.get f (snapshot_file name)
+        at (Some bytes) there = beside.held (snapshot_file name) (subst (λ (o : Option (List ℕ)). IsSome o) (sym there) refl)
+        at None none =
+            beside.fresh (snapshot_file name) none
+            (λ same. origin_is h s name (own_origin me) is named (free (ap (map.get f) (sym same) ∙ none)) same) (snapshot-schema name 0) ∙ sym none
+
+    pub beside_keeps : (h : History) → IsFreeOrigin (own_origin me) f h → KeepsConsumers h f g
+    beside_keeps h free =
+        kept-consumers f g (λ name. stays (consumer_path name) (consumer-snapshot name (origin_name me)) (consumer-schema name 0)) h
+        (λ s is id. snapshot-same f g s id (λ zero_is name named. origin_stays h s name free is named)
+        (λ k at. stays (snapshot_path (suc k)) (apart me (suc k)) (snapshot-schema (snapshot_name (suc k)) 0)))
 
 -- ---- the calls of `create`
 

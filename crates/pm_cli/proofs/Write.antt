@@ -15,7 +15,7 @@ use Rattle.pm_snapshot.specs.declared.snapshot.Snapshot.{Snapshot}
 use Rattle.pm_snapshot.specs.Names.{greatest}
 use Rattle.pm_model_folder.specs.Changes.{Actor, IsNoOrigin}
 use Rattle.pm_model_folder.specs.Entries.{BearsEntry}
-use Rattle.pm_model_folder.specs.Folder.{Folder, HasTable, IsFrom}
+use Rattle.pm_model_folder.specs.Folder.{Folder, HasTable, IsFrom, KeepsConsumers}
 use Rattle.pm_model_folder.specs.Ledger.{count_of}
 use Rattle.pm_model_folder.specs.Meaning.{SnapshotAt}
 use Rattle.pm_create.specs.Creator.{own_origin}
@@ -39,7 +39,7 @@ use Rattle.pm_cli.specs.InTurn.{IsExecuted}
 use Rattle.pm_cli.specs.Promise.{Does, Execution, Keeps, KeepsIt, HasMade, MayMake, StandsForOthers, commits, found_by, has_already, takes_none}
 use Rattle.pm_cli.specs.Snapshots.{HasReached, IsReachedAt}
 use Rattle.pm_cli.specs.Start.{IsNew, snapshot_made}
-use Rattle.pm_cli.proofs.Common.{NotSink, StandsForSome, StandsForSomeFreely, WasNew, any_files, any_here, extends_each, extends_end, leaves_both, leaves_each, leaves_some, leaves_weaker, makes_nothing, none_made, one_made, one_more, other_than, with_command}
+use Rattle.pm_cli.proofs.Common.{NotSink, StandsForSome, StandsForSomeFreely, WasNew, any_files, any_here, extends_both, extends_each, extends_end, images_turned, leaves_both, leaves_each, leaves_some, leaves_weaker, makes_nothing, none_made, one_made, one_more, other_than, spared, with_command}
 use Rattle.pm_cli.proofs.Snapshots.{bears_entry, from_there}
 
 -- ---- an earlier commit of the user
@@ -309,26 +309,35 @@ keeps_it user number e h stands was =
     let starts : (other : Actor) → WasNew own h first other → Extends (AfterIt other) first.ops after.ops = λ other (names, new).
     was.free other (other_than (actor e.start) other names)
     (leaves_weaker (IsNew other h) (commit.MayStart other h) first (λ f is. (is.folder, is.names)) new) in
-    let freely : (later : History) (f : Files) → MayMake own h later → Folder f later → ((other : Actor) → WasNew own h first other → AfterIt other f)
-    → StandsForOthers own h first later f = λ later f make folder others. record {
+    let Spares : Files → Type 0 = λ f. LeavesFiles (λ g. KeepsConsumers h g f) first in
+    let spares : Extends Spares first.ops after.ops = images_turned (KeepsConsumers h) first after.ops was.consumers in
+    let freely : (later : History) (f : Files) → MayMake own h later → Folder f later → ((other : Actor) → WasNew own h first other → AfterIt other f) → Spares f
+    → StandsForOthers own h first later f = λ later f make folder others spare. record {
       folder = folder;
+      consumers = spared own h first later f make spare;
+      own = tt;
       free = λ other names new.
           let origin : IsNoOrigin h (own_origin other) = any_files (IsNew other h) (IsNoOrigin h (own_origin other)) first (λ f is. is.origin) new in
           new_end user number e h later other f origin make folder (others other (names, new));
     } in record {
       later = end.0;
       makes = end.1.0;
-      ends = leaves_weaker (λ f. Folder f end.0 × ((other : Actor) → WasNew own h first other → AfterIt other f)) (StandsForOthers own h first end.0) after
-          (λ f both. freely end.0 f end.1.1 both.0 both.1)
+      ends = leaves_both (λ f. Folder f end.0 × ((other : Actor) → WasNew own h first other → AfterIt other f)) Spares (StandsForOthers own h first end.0) after
+          (λ f both spare. freely end.0 f end.1.1 both.0 both.1 spare)
           (leaves_each (λ f. Folder f end.0) (WasNew own h first) AfterIt after end.2
-          (λ other was. extends_end (AfterIt other) first after known (starts other was)));
+          (λ other was. extends_end (AfterIt other) first after known (starts other was)))
+          (extends_end Spares first after known spares);
+      dropped = leaves_weaker (λ f. Folder f end.0) (λ f. Unit {0}) after (λ f folder. tt) end.2;
       images = Extends-weaker
-          (λ f. IsImage e.start (writer_of user number) (row_lines e.input) h f × ((other : Actor) → WasNew own h first other → AfterIt other f))
+          (λ f. (IsImage e.start (writer_of user number) (row_lines e.input) h f × ((other : Actor) → WasNew own h first other → AfterIt other f)) × Spares f)
           (StandsForSomeFreely own h first) first.ops after.ops
-          (λ f both.
-          let stands = either user number e (λ h f. Folder f h) h f both.0.either in
-          (stands.0, stands.1, freely stands.0 f stands.1 stands.2 both.1))
-          (extends_each (IsImage e.start (writer_of user number) (row_lines e.input) h) (WasNew own h first) AfterIt first.ops after.ops was.images starts);
+          (λ f all.
+          let stands = either user number e (λ h f. Folder f h) h f all.0.0.either in
+          (stands.0, stands.1, freely stands.0 f stands.1 stands.2 all.0.1 all.1))
+          (extends_both (λ f. IsImage e.start (writer_of user number) (row_lines e.input) h f × ((other : Actor) → WasNew own h first other → AfterIt other f))
+          Spares first.ops after.ops
+          (extends_each (IsImage e.start (writer_of user number) (row_lines e.input) h) (WasNew own h first) AfterIt first.ops after.ops was.images starts)
+          spares);
     }
 
 pub keeps : (user : Option (List ℕ)) (number : Option ℕ) (e : Execution) → IsExecuted (with_command (commands.Write user number) e)

@@ -1,17 +1,35 @@
 -- What each command answers, and what it does to what the store stands for.
-use Rattle.std.specs.Prelude.{◌≡◌, ℕ, List, Option, Some}
+use Rattle.std.specs.Prelude.{◌≡◌, ℕ, List, Option, None, Some}
 use Rattle.pm_values.specs.declared.refusal.Refusal.{Refusal}
+use Rattle.pm_io.specs.Sink.{SinkView}
+use Rattle.pm_store.specs.Store.{StoreView}
 use Rattle.pm_command_create.specs.Create.{AnswersCreate, ActsCreate, CreatesTables}
 use Rattle.pm_command.specs.Outside.{Outside}
 use Rattle.pm_command.specs.declared.start.Start.{Start}
 use Rattle.pm_command_compact.specs.Compact.{Compacts, CompactsTables}
 use Rattle.pm_command_consumers.specs.Consumers as consumers
+use Rattle.pm_command_consumers.specs.Drop as drops
 use Rattle.pm_command_follow.specs.Follow.{Follows, FollowsTables}
 use Rattle.pm_command_scan.specs.Scan.{Scans, ScansTables}
 use Rattle.pm_command_snapshots.specs.Snapshots.{ListsSnapshots, ListsTables}
 use Rattle.pm_command_write.specs.Write.{AnswersWrite, ActsWrite, WritesTables, writer_of}
 use Rattle.pm_words.specs.declared.command.Command.{Command}
 use Rattle.pm_words.specs.declared.command.Command.TheVariants as commands
+
+-- what `consumers` answers, where it lists consumers and where it drops one; and what it promises of histories
+abbrev pub ListsOrDrops : Option (List ℕ) → Outside → Outside → Option Refusal → Type 0
+ListsOrDrops None before after answer = consumers.ListsConsumers before after answer
+ListsOrDrops (Some name) before after answer = drops.Drops name before after answer
+
+abbrev pub ListsOrDropsTables : Option (List ℕ) → Outside → Outside → Option Refusal → Type 0
+ListsOrDropsTables None before after answer = consumers.ListsTables before after answer
+ListsOrDropsTables (Some name) before after answer = drops.DropsTables name before after answer
+
+-- Private: its calls, what they do to histories, and what was printed
+abbrev pub IsListedOrRemoved : Option (List ℕ) → SinkView → SinkView → StoreView → StoreView → Option Refusal → Type 0
+IsListedOrRemoved None out out_after store store_after answer = consumers.IsListed out out_after store store_after answer
+IsListedOrRemoved (Some name) out out_after store store_after answer =
+    drops.IsRemoved name out out_after store store_after answer
 
 -- what a command answers to an input that is known
 abbrev pub Answers : Command → Start → Outside → Outside → Option Refusal → Type 0
@@ -21,8 +39,8 @@ Answers (commands.Scan snapshot) start before after answer =
     (after.input ≡ before.input) × Scans snapshot before after answer
 Answers commands.Snapshots start before after answer =
     (after.input ≡ before.input) × ListsSnapshots before after answer
-Answers commands.Consumers start before after answer =
-    (after.input ≡ before.input) × consumers.ListsConsumers before after answer
+Answers (commands.Consumers dropped) start before after answer =
+    (after.input ≡ before.input) × ListsOrDrops dropped before after answer
 Answers (commands.Compact full) start before after answer =
     (after.input ≡ before.input) × Compacts start full before after answer
 Answers (commands.Follow from full) start before after answer =
@@ -36,7 +54,7 @@ abbrev pub Acts : Command → Start → Outside → Outside → Option Refusal �
 Acts commands.Create start before after answer = ActsCreate start before after answer
 Acts (commands.Scan snapshot) start before after answer = Scans snapshot before after answer
 Acts commands.Snapshots start before after answer = ListsSnapshots before after answer
-Acts commands.Consumers start before after answer = consumers.ListsConsumers before after answer
+Acts (commands.Consumers dropped) start before after answer = ListsOrDrops dropped before after answer
 Acts (commands.Compact full) start before after answer = Compacts start full before after answer
 Acts (commands.Follow from full) start before after answer = Follows from full before after answer
 Acts (commands.Write user identifier) start before after answer =
@@ -47,7 +65,8 @@ abbrev pub ServesHistories : Command → Start → Outside → Outside → Optio
 ServesHistories commands.Create start before after answer = CreatesTables start before after answer
 ServesHistories (commands.Scan snapshot) start before after answer = ScansTables snapshot before after answer
 ServesHistories commands.Snapshots start before after answer = ListsTables before after answer
-ServesHistories commands.Consumers start before after answer = consumers.ListsTables before after answer
+ServesHistories (commands.Consumers dropped) start before after answer =
+    ListsOrDropsTables dropped before after answer
 ServesHistories (commands.Compact full) start before after answer = CompactsTables start full before after answer
 ServesHistories (commands.Follow from full) start before after answer = FollowsTables from full before after answer
 ServesHistories (commands.Write user identifier) start before after answer =

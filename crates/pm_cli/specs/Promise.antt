@@ -1,6 +1,7 @@
 -- The promise: what each command does, in the words of histories, and what is so of all of them.
 use Rattle.std.specs.Prelude.{◌≡◌, ◌≢◌, ◌⊎◌, ℕ, suc, ◌≤◌, List, [], ◌∷◌, ◌++◌, codes, length}
-use Rattle.std.specs.Prelude.{Bool, Option, None, Some, Ok, slice_get}
+use Rattle.std.specs.Prelude.{Bool, Contains, Option, None, Some, Ok, slice_get}
+use Rattle.std.specs.FinMap as map
 use Rattle.pm_base.specs.Known.{and_then}
 use Rattle.pm_base.specs.Newline.{line}
 use Rattle.pm_values.specs.declared.group.Group.{Group}
@@ -16,12 +17,14 @@ use Rattle.pm_model_history.specs.History.{Entry, compaction, History, no_table,
 use Rattle.pm_model_history.specs.Merge.{HistoryRow}
 use Rattle.pm_model_history.specs.Merged.{scan_text}
 use Rattle.pm_model_folder.specs.Changes.{Actor}
-use Rattle.pm_model_folder.specs.Folder.{Folder}
+use Rattle.pm_model_folder.specs.Folder.{Folder, HaveSettled}
+use Rattle.pm_model_folder.specs.Paths.{consumer_path}
 use Rattle.pm_consumer_files.specs.Lines.{consumers_text}
 use Rattle.pm_consumer_files.specs.declared.lines.NamedConsumer.{NamedConsumer}
 use Rattle.pm_create.specs.Making.{LeavesFiles}
 use Rattle.pm_write.specs.Taken.{all_taken}
 use Rattle.pm_consumers.specs.AllCalls.{AreConsumersOf}
+use Rattle.pm_move_consumer.specs.DropperAllCalls.{ItGoes, ItRests}
 use Rattle.pm_scan.specs.AllCalls.{id_of}
 use Rattle.pm_snapshots.specs.AllCalls.{AreLinesOf}
 use Rattle.pm_snapshots.specs.Lines.{snapshots_text}
@@ -31,13 +34,14 @@ use Rattle.pm_words.specs.declared.command.Command.TheVariants as commands
 use Rattle.pm_command.specs.Outside.{actor, Outside}
 use Rattle.pm_command.specs.declared.start.Start.{Start}
 use Rattle.pm_command_compact.specs.Compact.{HasChoice}
+use Rattle.pm_command_consumers.specs.Drop.{ItEnds, WasThere, told_text}
 use Rattle.pm_command_create.specs.Create.{IsDraftOf}
 use Rattle.pm_command_follow.specs.Follow.{MayStartAt}
 use Rattle.pm_command_follow.specs.Printed.{follow_text}
 use Rattle.pm_command_write.specs.Write.{entry_by, identifier_of, writer_of}
 use Rattle.pm_cli.specs.Snapshots.{AreLines, HasReached, IsReachedAt}
 use Rattle.pm_cli.specs.Start.{HasInput, HaveOtherNames, IsNew, LeavesOut, MayStart, changed_path}
-use Rattle.pm_cli.specs.Start.{committed_text, snapshot_made}
+use Rattle.pm_cli.specs.Start.{committed_text, own_consumer, snapshot_made}
 
 -- What a command does, by its start, the bytes of its input and the store that it finds: of a history it makes a later
 -- one, and prints the text.
@@ -52,7 +56,10 @@ pub data Does (start : Start) (bytes : List ℕ) (found : StoreView) : Command �
       → Does start bytes found commands.Snapshots (table s es) (table s es) (snapshots_text lines)
   lists_consumers : (s : TableSchema) (es : List Entry) (consumers : List NamedConsumer)
       → LeavesFiles (λ f. AreConsumersOf f consumers) found
-      → Does start bytes found commands.Consumers (table s es) (table s es) (consumers_text consumers)
+      → Does start bytes found (commands.Consumers None) (table s es) (table s es) (consumers_text consumers)
+  drops : (name : List ℕ) (s : TableSchema) (es : List Entry) (was_there : Bool)
+      → LeavesFiles (WasThere name was_there) found
+      → Does start bytes found (commands.Consumers (Some name)) (table s es) (table s es) (told_text was_there)
   follows : (from : Option ℕ) (full : Bool) (s : TableSchema) (es : List Entry) → MayStartAt s es from
       → Does start bytes found (commands.Follow from full) (table s es) (table s es) (follow_text s es from full)
   rests : (full : Bool) (s : TableSchema) (es : List Entry) → LeavesFiles (HasChoice start full (table s es) []) found
@@ -103,12 +110,38 @@ HasMade e h (Some (refusals.StoreFault path)) later =
     × LeavesOut e.command h e.before.out e.after.out
 HasMade e h (Some other) later = (later ≡ h) × LeavesOut e.command h e.before.out e.after.out
 
--- Files stand for the history, and each other actor that was new to the one at first is new to it.
+-- a consumer's file is as it was at first
+abbrev pub IsAsAtFirst : StoreView → List ℕ → Files → Type 0
+IsAsAtFirst first name f = LeavesFiles (λ g. map.get f (consumer_path name) ≡ map.get g (consumer_path name)) first
+
+-- The file of each consumer but the command's own is as it was at first; and all of those are settled whose files are
+-- as they were and who were settled.
+pub record SparesConsumers (e : Execution) (h : History) (first : StoreView) (later : History) (f : Files)
+    : Type 0 where
+  pub files : (name : List ℕ) → own_consumer e.command ≢ Some name → IsAsAtFirst first name f
+  pub settled : (names : List (List ℕ)) → ((name : List ℕ) → Contains names name → IsAsAtFirst first name f)
+      → LeavesFiles (λ g. HaveSettled g h names) first → HaveSettled f later names
+
+-- Its own is as it was, or has gone.
+abbrev pub MayDrop : Command → StoreView → Files → Type 0
+MayDrop (commands.Consumers (Some name)) first f = LeavesFiles (λ g. ItRests name g f ⊎ ItGoes name g f) first
+MayDrop other first f = Unit {0}
+
+-- And once a drop is over: it has gone, and after a refusal it is as it was, but that a fault of the store leaves it so
+-- or so.
+abbrev pub HasDropped : Command → Option Refusal → StoreView → Files → Type 0
+HasDropped (commands.Consumers (Some name)) answer first f = LeavesFiles (λ g. ItEnds name answer g f) first
+HasDropped other answer first f = Unit {0}
+
+-- Files stand for the history, each other actor that was new to the one at first is new to it, and consumers are
+-- spared.
 pub record StandsForOthers (e : Execution) (h : History) (first : StoreView) (later : History) (f : Files)
     : Type 0 where
   pub folder : Folder f later
   pub free : (other : Actor) → HaveOtherNames (actor e.start) other → LeavesFiles (IsNew other h) first
       → IsNew other later f
+  pub consumers : SparesConsumers e h first later f
+  pub own : MayDrop e.command first f
 
 -- Of a history that stands at its first call: what it made stands at the end, and in each image of a crash what it may
 -- make; and others are free to go on there.
@@ -116,6 +149,7 @@ pub record KeepsIt (e : Execution) (h : History) (first : StoreView) : Type 0 wh
   pub later : History
   pub makes : HasMade e h e.refusal later
   pub ends : LeavesFiles (StandsForOthers e h first later) e.after.store
+  pub dropped : LeavesFiles (HasDropped e.command e.refusal first) e.after.store
   pub images : Extends (λ f. (later : History) × MayMake e h later × StandsForOthers e h first later f)
       first.ops e.after.store.ops
 

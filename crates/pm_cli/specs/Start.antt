@@ -22,7 +22,7 @@ abbrev pub MayStart : Command → Actor → History → Files → Type 0
 MayStart commands.Create me h f = making.MayStart me h f
 MayStart (commands.Scan at) me h f = Folder f h
 MayStart commands.Snapshots me h f = Folder f h
-MayStart commands.Consumers me h f = Folder f h
+MayStart (commands.Consumers dropped) me h f = Folder f h
 MayStart (commands.Compact full) me h f = commit.MayStart me h f
 MayStart (commands.Follow from full) me h f = Folder f h
 MayStart (commands.Write user identifier) me h f = commit.MayStart me h f
@@ -32,10 +32,15 @@ abbrev pub HasInput : Command → List ℕ → Option (List ℕ) → Type 0
 HasInput commands.Create bytes left = left ≡ Some bytes
 HasInput (commands.Scan at) bytes left = Unit {0}
 HasInput commands.Snapshots bytes left = Unit {0}
-HasInput commands.Consumers bytes left = Unit {0}
+HasInput (commands.Consumers dropped) bytes left = Unit {0}
 HasInput (commands.Compact full) bytes left = Unit {0}
 HasInput (commands.Follow from full) bytes left = Unit {0}
 HasInput (commands.Write user identifier) bytes left = left ≡ Some bytes
+
+-- the consumer whose file a command may change, where there is one
+abbrev pub own_consumer : Command → Option (List ℕ)
+own_consumer (commands.Consumers dropped) = dropped
+own_consumer other = None
 
 -- the path of the call by which it makes what it makes of a history, where it makes another one
 abbrev pub changed_path : Command → History → List ℕ

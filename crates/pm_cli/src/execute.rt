@@ -1,15 +1,17 @@
 //! A command, from its words to its answer.
 
-ghost use Rattle.std.specs.Prelude.{◌≡◌, IfOk};
+ghost use Rattle.std.specs.Prelude.{◌≡◌, IfOk, IfSome};
 ghost use Rattle.std.specs.Result.{result_err};
+ghost use Rattle.pm_io.specs.Sink.{SinkLater};
+ghost use Rattle.pm_store.specs.Store.{IsLater};
 ghost use Rattle.pm_command.specs.Outside.{outside, AllLater, IsUntouched};
-ghost use Rattle.pm_words.specs.Words.{Give, GiveNoCommand, IsInRange, IsNoCommand};
+ghost use Rattle.pm_words.specs.Words.{Give, GiveNoCommand, IsInRange, IsName, IsNoCommand};
 ghost use Rattle.pm_words.specs.declared.command.Command.{Command};
-ghost use Rattle.pm_cli.specs.Commands.{Acts, Answers, ServesHistories};
+ghost use Rattle.pm_cli.specs.Commands.{Acts, Answers, IsListedOrRemoved, ServesHistories};
 
 use pm_command::Start;
 use pm_command_compact::run_compact;
-use pm_command_consumers::run_consumers;
+use pm_command_consumers::{run_consumers, run_drop};
 use pm_command_create::run_create;
 use pm_command_follow::{follow_law, run_follow};
 use pm_command_scan::run_scan;
@@ -83,11 +85,30 @@ fn execute_command<S: Source, W: Sink, F: FileStore>(
         Command::Create => run_create(alloc, input, out, store, start),
         Command::Scan { snapshot } => run_scan(alloc, snapshot, out, store),
         Command::Snapshots => run_snapshots(alloc, out, store),
-        Command::Consumers => run_consumers(alloc, out, store),
+        Command::Consumers { dropped } => list_or_drop(alloc, dropped, out, store),
         Command::Compact { full } => run_compact(alloc, full, out, store, start),
         Command::Follow { from, full } => run_follow(alloc, from, full, out, store),
         Command::Write { user, identifier } => {
             run_write(alloc, Writer { user, identifier }, input, out, store, start)
         }
+    }
+}
+
+/// Lists a table's consumers, or drops one.
+fn list_or_drop<W: Sink, F: FileStore>(
+    alloc: Global,
+    dropped: Option<Txt>,
+    out: &mut W,
+    store: &mut F,
+) -> Result<(), Refusal>
+    requires { IfSome dropped IsName }
+    ensures done { IsListedOrRemoved dropped (W.seen out.old) (W.seen out.new) (F.seen store.old) (F.seen store.new)
+        (result_err result) }
+    ensures out_later { SinkLater (W.seen out.old) (W.seen out.new) }
+    ensures store_later { IsLater (F.seen store.old) (F.seen store.new) }
+{
+    match dropped {
+        None => run_consumers(alloc, out, store),
+        Some(name) => run_drop(alloc, &name, out, store),
     }
 }

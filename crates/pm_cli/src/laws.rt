@@ -1,6 +1,6 @@
 //! The promise follows from what commands are proved to do; and histories have a beginning, from which commands go on.
 
-ghost use Rattle.std.specs.Prelude.{◌≡◌, ◌≤◌, ℕ, List, [], ◌∷◌, ◌++◌, length, Bool, Option, None, Some, Ok};
+ghost use Rattle.std.specs.Prelude.{◌≡◌, ◌⊎◌, ◌≤◌, ℕ, List, [], ◌∷◌, ◌++◌, length, Bool, Option, None, Some, Ok};
 ghost use Rattle.std.specs.FinMap as map;
 ghost use Rattle.std.specs.List.{AllByRecursion};
 ghost use Rattle.pm_base.specs.Known.{and_then};
@@ -16,21 +16,23 @@ ghost use Rattle.pm_model_history.specs.Merge.{HistoryRow};
 ghost use Rattle.pm_model_history.specs.Merged.{scan_text};
 ghost use Rattle.pm_model_following.specs.Following.{IsFinished, table_text};
 ghost use Rattle.pm_model_folder.specs.Changes.{Actor};
-ghost use Rattle.pm_model_folder.specs.Folder.{Folder};
+ghost use Rattle.pm_model_folder.specs.Folder.{Folder, HaveSettled};
 ghost use Rattle.pm_create.specs.Making.{LeavesFiles};
 ghost use Rattle.pm_write.specs.Taken.{all_taken};
+ghost use Rattle.pm_move_consumer.specs.DropperAllCalls.{ItGoes, ItRests};
 ghost use Rattle.pm_commit.specs.AllCalls as commit;
 ghost use Rattle.pm_words.specs.declared.command.Command.{Command};
 ghost use Rattle.pm_words.specs.declared.command.Command.TheVariants as commands;
 ghost use Rattle.pm_command.specs.Outside.{HaveSame, actor};
 ghost use Rattle.pm_command.specs.declared.start.Start.{Start};
 ghost use Rattle.pm_command_compact.specs.Compact as compact;
+ghost use Rattle.pm_command_consumers.specs.Drop.{StandsWithout};
 ghost use Rattle.pm_command_create.specs.Create.{IsDraftOf, StandsForEither};
 ghost use Rattle.pm_command_follow.specs.Finished.{HasPassedAll};
 ghost use Rattle.pm_command_follow.specs.Printed.{LeadFrom, start_of, table_head};
 ghost use Rattle.pm_command_write.specs.Write.{IsImage, Lines, MayStartAfter};
 ghost use Rattle.pm_command_write.specs.declared.writer.Writer.{Writer};
-ghost use Rattle.pm_cli.specs.InTurn.{AreInTurn, HandsOn, HaveOwnNames, IsExecuted, MakeInTurn, Turn, ended};
+ghost use Rattle.pm_cli.specs.InTurn.{AreInTurn, DropNone, HandsOn, HaveOwnNames, IsExecuted, MakeInTurn, Turn, ended};
 ghost use Rattle.pm_cli.specs.InTurn.{seen_by_another, to_its_end};
 ghost use Rattle.pm_cli.specs.Promise.{Does, Execution, Keeps, KeepsIt, MayMake};
 ghost use Rattle.pm_cli.specs.Start.{HaveOtherNames, IsNew, MayStart};
@@ -45,7 +47,7 @@ use pm_schema::draft_law;
 /// none; one that has what a crash within `write` or `compact` left, for the history, or for it with the rows of the
 /// input, or with the compaction of its newest snapshot's choice, as once the next snapshot is there; and one that has
 /// what a crash within `scan`, `snapshots`, `consumers` or `follow` left, for the history, and no path has another
-/// content. Another actor that might have started before `write` or `compact` may start there, and wherever no path has
+/// content, but that a drop may have taken its consumer's file away. Another actor that might have started before `write` or `compact` may start there, and wherever no path has
 /// another content. So what `run` promises of a history holds again of the next `write`, `compact`, `scan`,
 /// `snapshots`, `consumers` or `follow`, and after a crash within one of these.
 pub fn next_command_law()
@@ -76,6 +78,12 @@ pub fn next_command_law()
         → Extends (λ g. Folder g h × HaveSame f g) (Some old) (Some new) → length old ≤ i → CrashImage new i image
         → (ops : List Op) (store : StoreView) → store.ops ≡ Some ops → files_after ops ≡ image
         → LeavesFiles (λ g. Folder g h × HaveSame f g) store }
+    ensures drops { (name : List ℕ) (h : History) (names : List (List ℕ)) (f : Files) (old new : List Op) (i : ℕ)
+        (image : Files)
+        → Extends (λ g. StandsWithout name h names f g × (ItRests name f g ⊎ ItGoes name f g)) (Some old) (Some new)
+        → length old ≤ i → CrashImage new i image
+        → (ops : List Op) (store : StoreView) → store.ops ≡ Some ops → files_after ops ≡ image
+        → LeavesFiles (λ g. StandsWithout name h names f g × (ItRests name f g ⊎ ItGoes name f g)) store }
 {
     same_law();
 }
@@ -111,10 +119,18 @@ pub fn keeps_snapshots_law()
 
 /// The promise of `consumers`.
 pub fn keeps_consumers_law()
-    ensures { (e : Execution) → IsExecuted (record e { command = commands.Consumers })
-        → Keeps (record e { command = commands.Consumers }) }
+    ensures { (e : Execution) → IsExecuted (record e { command = commands.Consumers None })
+        → Keeps (record e { command = commands.Consumers None }) }
 {
     next_command_law();
+}
+
+/// The promise of `consumers --drop`.
+pub fn keeps_drop_law()
+    ensures { (name : List ℕ) (e : Execution) → IsExecuted (record e { command = commands.Consumers (Some name) })
+        → Keeps (record e { command = commands.Consumers (Some name) }) }
+{
+    pm_model_contents::kept_law();
 }
 
 /// The promise of `compact`.
@@ -147,6 +163,7 @@ pub fn keeps_law()
     keeps_scan_law();
     keeps_snapshots_law();
     keeps_consumers_law();
+    keeps_drop_law();
     keeps_compact_law();
     keeps_follow_law();
     keeps_write_law();
@@ -202,6 +219,13 @@ pub fn in_turn_law()
         → HaveOwnNames turns
         → LeavesFiles (λ f. Folder f h × AllByRecursion (λ (t : Turn). IsNew (actor t.execution.start) h f) turns) store
         → (later : History) × MakeInTurn turns h later × LeavesFiles (λ f. Folder f later) last }
+    // who was settled is, but for whom they drop
+    ensures settled { (names : List (List ℕ)) (turns : List Turn) (store last : StoreView) (h : History)
+        → AreInTurn store turns last → HaveOwnNames turns → DropNone turns names
+        → LeavesFiles (λ f. Folder f h × HaveSettled f h names
+        × AllByRecursion (λ (t : Turn). IsNew (actor t.execution.start) h f) turns) store
+        → (later : History) × MakeInTurn turns h later
+        × LeavesFiles (λ f. Folder f later × HaveSettled f later names) last }
     ensures empty { (turns : List Turn) (store last : StoreView) → store.ops ≡ Some [] → AreInTurn store turns last
         → HaveOwnNames turns
         → (later : History) × MakeInTurn turns no_table later × LeavesFiles (λ f. Folder f later) last }

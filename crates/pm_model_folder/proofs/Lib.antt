@@ -1,4 +1,4 @@
-mod BesideLemmas
+pub mod BesideLemmas
 mod ConsumerLemmas
 mod ExpiryLemmas
 pub mod Facts

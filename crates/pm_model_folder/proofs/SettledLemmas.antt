@@ -4,7 +4,7 @@ use Rattle.std.specs.FinMap as map
 use Rattle.std.proofs.lemmas.Bool.Decides.{nat_tests}
 use Rattle.pm_store.specs.Files.{Files}
 use Rattle.pm_model_consumers.specs.Claims.{Claim, IsClaimed, Moment, Said, free, known_at, settled}
-use Rattle.pm_model_history.specs.History.{Entry, GoesOn, History, no_table, table}
+use Rattle.pm_model_history.specs.History.{Entry, GoesOn, History, IsTableOf, no_table, table}
 use Rattle.pm_schema.specs.declared.schema.TableSchema.{TableSchema}
 use Rattle.pm_model_folder.specs.Consumers.{KnowsConsumers, moment_of, said_at}
 use Rattle.pm_model_folder.specs.Folder.{HasTable, HaveSettled, IsSettled, KeepsConsumers}
@@ -85,26 +85,30 @@ pub on-earlier : (f : Files) (names : List (List ℕ)) (s : TableSchema) (entrie
 on-earlier f names s entries no_table on have = absurd on
 on-earlier f names s entries (table t grown) (same, more) have = subst (λ (s : TableSchema). HaveSettled f (table s entries) names) same have
 
--- ---- files that are the same
+-- ---- files in which snapshots and consumers stay
 
-module _ (f after : Files) (same : (path : List ℕ) → map.get after path ≡ map.get f path) where
-  snapshots-same : (s : TableSchema) (id : ℕ) → HasSnapshotAt f s id ↔ HasSnapshotAt after s id
-  snapshots-same s id = snapshot-same f after s id (λ zero_is name is. same (snapshot_file name)) (λ k is. same (snapshot_path (suc k)))
-
+module _ (f after : Files) (consumers : (name : List ℕ) → map.get after (consumer_path name) ≡ map.get f (consumer_path name)) where
   settled-same : (name : List ℕ) (lowest : ℕ) → IsSettled f lowest name → IsSettled after lowest name
   settled-same name lowest is =
       let (bytes, there, reads) = is.at in
-      record { consumer = is.consumer; at = (bytes, same (consumer_path name) ∙ there, reads); known = is.known; next = is.next }
+      record { consumer = is.consumer; at = (bytes, consumers name ∙ there, reads); known = is.known; next = is.next }
 
-  have-same : (h : History) (names : List (List ℕ)) → HaveSettled f h names → HaveSettled after h names
-  have-same no_table names have = have
-  have-same (table s entries) names have = λ name there.
+  have-same : (h : History) → ((s : TableSchema) → IsTableOf s h → (id : ℕ) → HasSnapshotAt f s id ↔ HasSnapshotAt after s id) → (names : List (List ℕ))
+      → HaveSettled f h names → HaveSettled after h names
+  have-same no_table snapshots names have = have
+  have-same (table s entries) snapshots names have = λ name there.
       let (lowest, here, none, is) = have name there in (
         lowest,
-        (snapshots-same s lowest).0 here,
-        (λ id below there. none id below ((snapshots-same s id).1 there)),
+        (snapshots s refl lowest).0 here,
+        (λ id below there. none id below ((snapshots s refl id).1 there)),
         settled-same name lowest is,
       )
 
-  pub same-keeps : (h : History) → KeepsConsumers h f after
-  same-keeps h = record { files = λ name. same (consumer_path name); settled = λ names have. have-same h names have }
+  pub kept-consumers : (h : History) → ((s : TableSchema) → IsTableOf s h → (id : ℕ) → HasSnapshotAt f s id ↔ HasSnapshotAt after s id) → KeepsConsumers h f after
+  kept-consumers h snapshots = record { files = consumers; settled = λ names have. have-same h snapshots names have }
+
+-- where no path has another content
+pub same-keeps : (f after : Files) → ((path : List ℕ) → map.get after path ≡ map.get f path) → (h : History) → KeepsConsumers h f after
+same-keeps f after same h =
+    kept-consumers f after (λ name. same (consumer_path name)) h
+    (λ s is id. snapshot-same f after s id (λ zero_is name named. same (snapshot_file name)) (λ k at. same (snapshot_path (suc k))))

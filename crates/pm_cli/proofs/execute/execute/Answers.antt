@@ -11,7 +11,7 @@ in_range : (words : List (List ℕ)) (command : Command) → Give words command 
 in_range words (commands.Follow from full) give = give.values.2
 in_range words commands.Create give = tt
 in_range words (commands.Scan at) give = tt
-in_range words commands.Consumers give = tt
+in_range words (commands.Consumers dropped) give = give.values.1
 in_range words commands.Snapshots give = tt
 in_range words (commands.Compact full) give = tt
 in_range words (commands.Write user identifier) give = tt

@@ -2,9 +2,9 @@ use Rattle.std.proofs.Common.{refl}
 use Rattle.std.specs.Result.{result_err}
 use Rattle.pm_command.specs.Outside.{outside}
 use Rattle.pm_command_compact.proofs.CompactLaws.{compacted_answers, compacted_serves}
-use Rattle.pm_command_consumers.proofs.ConsumerLaws as consumers
 use Rattle.pm_command_scan.proofs.ScanLaws.{scanned_serves}
 use Rattle.pm_command_snapshots.proofs.SnapshotLaws.{listed_answers, listed_serves}
+use Rattle.pm_cli.proofs.ListOrDrop.{answers_of, serves_of}
 use Rattle.pm_cli.proofs.execute.execute_command.Goals as goal
 
 pub returns-in-Create-clause-command : goal.returns-in-Create-clause-command
@@ -46,28 +46,31 @@ returns-in-Snapshots-clause-history g c =
     (outside (g.S.Source.seen c.args.input.now) (g.W.Sink.seen c.run_snapshots.new.out) (g.F.FileStore.seen c.run_snapshots.new.store))
     (result_err c.run_snapshots.result) c.run_snapshots.ensures.listed)
 
+pub list_or_drop-requires-in-Consumers : goal.list_or_drop-requires-in-Consumers
+list_or_drop-requires-in-Consumers g c = rw c.in-Consumers.is at c.requires
+
 pub returns-in-Consumers-clause-command : goal.returns-in-Consumers-clause-command
 returns-in-Consumers-clause-command g c =
     rw c.in-Consumers.is (
       refl,
-      consumers.listed_answers (outside (g.S.Source.seen c.args.input.now) (g.W.Sink.seen c.args.out.now) (g.F.FileStore.seen c.args.store.now))
-          (outside (g.S.Source.seen c.args.input.now) (g.W.Sink.seen c.run_consumers.new.out) (g.F.FileStore.seen c.run_consumers.new.store))
-          (result_err c.run_consumers.result) c.run_consumers.ensures.listed,
+      answers_of c.in-Consumers.dropped (outside (g.S.Source.seen c.args.input.now) (g.W.Sink.seen c.args.out.now) (g.F.FileStore.seen c.args.store.now))
+          (outside (g.S.Source.seen c.args.input.now) (g.W.Sink.seen c.list_or_drop.new.out) (g.F.FileStore.seen c.list_or_drop.new.store))
+          (result_err c.list_or_drop.result) c.list_or_drop.ensures.done,
     )
 
 pub returns-in-Consumers-clause-acts : goal.returns-in-Consumers-clause-acts
 returns-in-Consumers-clause-acts g c =
     rw c.in-Consumers.is
-    (consumers.listed_answers (outside (g.S.Source.seen c.args.input.now) (g.W.Sink.seen c.args.out.now) (g.F.FileStore.seen c.args.store.now))
-    (outside (g.S.Source.seen c.args.input.now) (g.W.Sink.seen c.run_consumers.new.out) (g.F.FileStore.seen c.run_consumers.new.store))
-    (result_err c.run_consumers.result) c.run_consumers.ensures.listed)
+    (answers_of c.in-Consumers.dropped (outside (g.S.Source.seen c.args.input.now) (g.W.Sink.seen c.args.out.now) (g.F.FileStore.seen c.args.store.now))
+    (outside (g.S.Source.seen c.args.input.now) (g.W.Sink.seen c.list_or_drop.new.out) (g.F.FileStore.seen c.list_or_drop.new.store))
+    (result_err c.list_or_drop.result) c.list_or_drop.ensures.done)
 
 pub returns-in-Consumers-clause-history : goal.returns-in-Consumers-clause-history
 returns-in-Consumers-clause-history g c =
     rw c.in-Consumers.is
-    (consumers.listed_serves (outside (g.S.Source.seen c.args.input.now) (g.W.Sink.seen c.args.out.now) (g.F.FileStore.seen c.args.store.now))
-    (outside (g.S.Source.seen c.args.input.now) (g.W.Sink.seen c.run_consumers.new.out) (g.F.FileStore.seen c.run_consumers.new.store))
-    (result_err c.run_consumers.result) c.run_consumers.ensures.listed)
+    (serves_of c.in-Consumers.dropped (outside (g.S.Source.seen c.args.input.now) (g.W.Sink.seen c.args.out.now) (g.F.FileStore.seen c.args.store.now))
+    (outside (g.S.Source.seen c.args.input.now) (g.W.Sink.seen c.list_or_drop.new.out) (g.F.FileStore.seen c.list_or_drop.new.store))
+    (result_err c.list_or_drop.result) c.list_or_drop.ensures.done)
 
 pub returns-in-Compact-clause-command : goal.returns-in-Compact-clause-command
 returns-in-Compact-clause-command g c =

@@ -1,4 +1,4 @@
-use Rattle.std.proofs.Common.{ℕ, Bool, List, Option}
+use Rattle.std.proofs.Common.{ℕ, Bool, List, Option, None, Some}
 use Rattle.pm_words.specs.declared.command.Command.{Command}
 use Rattle.pm_words.specs.declared.command.Command.TheVariants as commands
 use Rattle.pm_cli.specs.InTurn.{IsExecuted}
@@ -9,18 +9,25 @@ use Rattle.pm_cli.proofs.laws.keeps_law.Goals as goal
 abbrev KeepsAs : Command → Type 0
 KeepsAs command = (e : Execution) → IsExecuted (with_command command e) → Keeps (with_command command e)
 
-each : KeepsAs commands.Create → ((at : Option ℕ) → KeepsAs (commands.Scan at)) → KeepsAs commands.Snapshots → KeepsAs commands.Consumers
+each : KeepsAs commands.Create → ((at : Option ℕ) → KeepsAs (commands.Scan at)) → KeepsAs commands.Snapshots → ((dropped : Option (List ℕ)) → KeepsAs (commands.Consumers dropped))
     → ((full : Bool) → KeepsAs (commands.Compact full)) → ((from : Option ℕ) (full : Bool) → KeepsAs (commands.Follow from full))
     → ((user : Option (List ℕ)) (number : Option ℕ) → KeepsAs (commands.Write user number)) → (command : Command) → KeepsAs command
 each create scan snapshots consumers compact follow write commands.Create = create
 each create scan snapshots consumers compact follow write (commands.Scan at) = scan at
 each create scan snapshots consumers compact follow write commands.Snapshots = snapshots
-each create scan snapshots consumers compact follow write commands.Consumers = consumers
+each create scan snapshots consumers compact follow write (commands.Consumers dropped) = consumers dropped
 each create scan snapshots consumers compact follow write (commands.Compact full) = compact full
 each create scan snapshots consumers compact follow write (commands.Follow from full) = follow from full
 each create scan snapshots consumers compact follow write (commands.Write user number) = write user number
 
+-- one is listed or dropped
+listed_or_dropped : KeepsAs (commands.Consumers None) → ((name : List ℕ) → KeepsAs (commands.Consumers (Some name))) → (dropped : Option (List ℕ))
+    → KeepsAs (commands.Consumers dropped)
+listed_or_dropped listed drops None = listed
+listed_or_dropped listed drops (Some name) = drops name
+
 pub returns : goal.returns
 returns c = λ e is.
-    each c.keeps_create_law.ensures c.keeps_scan_law.ensures c.keeps_snapshots_law.ensures c.keeps_consumers_law.ensures c.keeps_compact_law.ensures c.keeps_follow_law.ensures
+    each c.keeps_create_law.ensures c.keeps_scan_law.ensures c.keeps_snapshots_law.ensures
+    (listed_or_dropped c.keeps_consumers_law.ensures c.keeps_drop_law.ensures) c.keeps_compact_law.ensures c.keeps_follow_law.ensures
     c.keeps_write_law.ensures e.command e is
