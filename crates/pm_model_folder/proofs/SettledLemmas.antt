@@ -83,7 +83,7 @@ consumers-stay h was f after p q has leaves = record {
 pub on-earlier : (f : Files) (names : List (List ℕ)) (s : TableSchema) (entries : List Entry) (later : History) → GoesOn (table s entries) later → HaveSettled f later names
     → HaveSettled f (table s entries) names
 on-earlier f names s entries no_table on have = absurd on
-on-earlier f names s entries (table t grown) (same, more) have = subst (λ (s : TableSchema). HaveSettled f (table s entries) names) same have
+on-earlier f names s entries (table t grown) (same, more, is) have = subst (λ (s : TableSchema). HaveSettled f (table s entries) names) same have
 
 -- ---- files in which snapshots and consumers stay
 
