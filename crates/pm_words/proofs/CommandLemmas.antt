@@ -44,7 +44,7 @@ one_number options option (Some a) None one other = absurd cc
 one_of : (word : List ℕ) (options : List CommandOption) (a b : Command) → AreOfCommand word options a → AreOfCommand word options b → a ≡ b
 one_of word options commands.Create commands.Create one other = refl
 one_of word options (commands.Compact a) (commands.Compact b) one other = ap commands.Compact (one_flag options (codes "full") a b one.values other.values)
-one_of word options commands.Consumers commands.Consumers one other = refl
+one_of word options (commands.Consumers a) (commands.Consumers b) one other = ap commands.Consumers (one_name options (codes "drop") a b one.values other.values)
 one_of word options (commands.Follow m a) (commands.Follow n b) one other =
     ap₂ commands.Follow (one_number options (codes "from") m n one.values.0 other.values.0) (one_flag options (codes "full") a b one.values.1 other.values.1)
 one_of word options (commands.Scan a) (commands.Scan b) one other = ap commands.Scan (one_number options (codes "snapshot") a b one.values other.values)
@@ -124,8 +124,8 @@ module _ (words : List (List ℕ)) where
   no_snapshots none commands.Snapshots after = none after.options after.are after.of.names tt
   no_snapshots none other after = apart (codes "snapshots") (word_of other) refl after.of.first
 
-  pub no_consumers : HasNoOptions [] words → (command : Command) → GiveAfter (codes "consumers") words command → ⊥
-  no_consumers none commands.Consumers after = none after.options after.are after.of.names tt
+  pub no_consumers : HasNoOptions (value (codes "drop") ∷ []) words → (command : Command) → GiveAfter (codes "consumers") words command → ⊥
+  no_consumers none (commands.Consumers dropped) after = none after.options after.are after.of.names (name_is after.options (codes "drop") dropped after.of.values, tt)
   no_consumers none other after = apart (codes "consumers") (word_of other) refl after.of.first
 
   pub no_compact : HasNoOptions (flag (codes "full") ∷ []) words → (command : Command) → GiveAfter (codes "compact") words command → ⊥
@@ -149,6 +149,11 @@ module _ (words : List (List ℕ)) where
   -- where they are, they give it by what was found, and no other
   same_options : (options : List CommandOption) → AreOptions options words → (word : List ℕ) (command : Command) (after : GiveAfter word words command) → after.options ≡ options
   same_options options are word command after = one_list after.options options words after.are are
+
+  pub no_dropped : (options : List CommandOption) → AreOptions options words → Finds (GiveName options (codes "drop")) None → (command : Command) → GiveAfter (codes "consumers") words command → ⊥
+  no_dropped options are none (commands.Consumers dropped) after =
+      none dropped (subst (λ os. GiveName os (codes "drop") dropped) (same_options options are (codes "consumers") (commands.Consumers dropped) after) after.of.values)
+  no_dropped options are none other after = apart (codes "consumers") (word_of other) refl after.of.first
 
   pub no_from : (options : List CommandOption) → AreOptions options words → Finds (GiveNumber options (codes "from")) None → (command : Command) → GiveAfter (codes "follow") words command → ⊥
   no_from options are none (commands.Follow from full) after =
@@ -250,7 +255,7 @@ options_stand names named (o ∷ options) words are known =
 names_have : (command : Command) → list_all has_bytes (names_of command) ≡ true
 names_have commands.Create = refl
 names_have (commands.Compact full) = refl
-names_have commands.Consumers = refl
+names_have (commands.Consumers dropped) = refl
 names_have (commands.Follow from full) = refl
 names_have (commands.Scan snapshot) = refl
 names_have commands.Snapshots = refl

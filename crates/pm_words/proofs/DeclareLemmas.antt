@@ -6,7 +6,7 @@ use Rattle.clap.specs.Simple.{App, new_shape, with_rule}
 use Rattle.clap.specs.Walk.{Rule}
 use Rattle.clap.specs.declared.builder.arg.Arg.{Arg}
 use Rattle.clap.specs.declared.builder.command.Command.{Command}
-use Rattle.pm_words.specs.Clap.{Declared, HasDeclared, app_for, compact_options, follow_options, scan_options, told_of, write_options}
+use Rattle.pm_words.specs.Clap.{Declared, HasDeclared, app_for, compact_options, consumers_options, follow_options, scan_options, told_of, write_options}
 
 -- a command with these rules alone
 abbrev app_with : List ℕ → List Rule → App
@@ -25,8 +25,8 @@ create_has a is = subst (λ a. HasDeclared a []) (sym is) (record { named = refl
 pub snapshots_has : (a : App) → a ≡ app_for (codes "snapshots") [] → HasDeclared a []
 snapshots_has a is = subst (λ a. HasDeclared a []) (sym is) (record { named = refl; simple = refl; name = codes "snapshots"; built = refl; words = refl })
 
-pub consumers_has : (a : App) → a ≡ app_for (codes "consumers") [] → HasDeclared a []
-consumers_has a is = subst (λ a. HasDeclared a []) (sym is) (record { named = refl; simple = refl; name = codes "consumers"; built = refl; words = refl })
+pub consumers_has : (a : App) → a ≡ app_for (codes "consumers") consumers_options → HasDeclared a consumers_options
+consumers_has a is = subst (λ a. HasDeclared a consumers_options) (sym is) (record { named = refl; simple = refl; name = codes "consumers"; built = refl; words = refl })
 
 pub compact_has : (a : App) → a ≡ app_for (codes "compact") compact_options → HasDeclared a compact_options
 compact_has a is = subst (λ a. HasDeclared a compact_options) (sym is) (record { named = refl; simple = refl; name = codes "compact"; built = refl; words = refl })

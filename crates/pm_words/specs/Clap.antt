@@ -42,6 +42,9 @@ name_in (flag name) = name
 abbrev pub compact_options : List Declared
 compact_options = flag (codes "full") ∷ []
 
+abbrev pub consumers_options : List Declared
+consumers_options = value (codes "drop") ∷ []
+
 abbrev pub follow_options : List Declared
 follow_options = value (codes "from") ∷ flag (codes "full") ∷ []
 

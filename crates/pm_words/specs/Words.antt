@@ -99,7 +99,7 @@ pub record AreOf (names : List (List ℕ)) (options : List CommandOption) : Type
 abbrev pub word_of : Command → List ℕ
 word_of commands.Create = codes "create"
 word_of (commands.Compact full) = codes "compact"
-word_of commands.Consumers = codes "consumers"
+word_of (commands.Consumers dropped) = codes "consumers"
 word_of (commands.Follow from full) = codes "follow"
 word_of (commands.Scan snapshot) = codes "scan"
 word_of commands.Snapshots = codes "snapshots"
@@ -109,14 +109,15 @@ word_of (commands.Write user identifier) = codes "write"
 abbrev pub names_of : Command → List (List ℕ)
 names_of commands.Create = []
 names_of (commands.Compact full) = codes "full" ∷ []
-names_of commands.Consumers = []
+names_of (commands.Consumers dropped) = codes "drop" ∷ []
 names_of (commands.Follow from full) = codes "from" ∷ codes "full" ∷ []
 names_of (commands.Scan snapshot) = codes "snapshot" ∷ []
 names_of commands.Snapshots = []
 names_of (commands.Write user identifier) = codes "user" ∷ codes "ident" ∷ []
 
--- its numbers are those that it takes: a first snapshot from 1 on
+-- its names and numbers are those that it takes: a consumer's name, and a first snapshot from 1 on
 abbrev pub IsInRange : Command → Type 0
+IsInRange (commands.Consumers dropped) = IfSome dropped IsName
 IsInRange (commands.Follow from full) = IfSome from (λ id. 1 ≤ id)
 IsInRange other = Unit {0}
 
@@ -124,7 +125,7 @@ IsInRange other = Unit {0}
 abbrev pub GiveEach : List CommandOption → Command → Type 0
 GiveEach options commands.Create = Unit {0}
 GiveEach options (commands.Compact full) = GiveFlag options (codes "full") full
-GiveEach options commands.Consumers = Unit {0}
+GiveEach options (commands.Consumers dropped) = GiveName options (codes "drop") dropped
 GiveEach options (commands.Follow from full) = GiveNumber options (codes "from") from
     × GiveFlag options (codes "full") full × IsInRange (commands.Follow from full)
 GiveEach options (commands.Scan snapshot) = GiveNumber options (codes "snapshot") snapshot

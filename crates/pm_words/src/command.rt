@@ -33,8 +33,10 @@ pub enum Command {
     },
     /// To list its snapshots.
     Snapshots,
-    /// To list its consumers.
-    Consumers,
+    /// To list its consumers, or to drop the one of this name.
+    Consumers {
+        dropped: Option<Txt>,
+    },
     /// To compact it, where the word says so in full.
     Compact {
         full: bool,
@@ -99,10 +101,13 @@ fn consumers_of<'a>(alloc: Global, words: &'a [&'a str]) -> Result<Option<Comman
     requires { list_all may_stand (map (λ word. word.now) words.now) ≡ true }
     ensures { IfOk result (Finds (GiveAfter (codes "consumers") (map (λ word. word.now) words.entry.now))) }
 {
-    let Some(_) = matches_in(consumers_words(alloc), words)? else {
+    let Some(matches) = matches_in(consumers_words(alloc)?, words)? else {
         return Ok(None);
     };
-    Ok(Some(Command::Consumers))
+    let Some(dropped) = name_given(alloc, &matches, "drop")? else {
+        return Ok(None);
+    };
+    Ok(Some(Command::Consumers { dropped }))
 }
 
 /// The command `create` with these words after it.

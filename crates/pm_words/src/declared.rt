@@ -2,7 +2,8 @@
 
 ghost use Rattle.std.specs.Prelude.{◌≡◌, [], IfOk, codes};
 ghost use Rattle.clap.specs.Words.{app_of};
-ghost use Rattle.pm_words.specs.Clap.{app_for, compact_options, follow_options, scan_options, write_options};
+ghost use Rattle.pm_words.specs.Clap.{app_for, compact_options, consumers_options, follow_options, scan_options};
+ghost use Rattle.pm_words.specs.Clap.{write_options};
 
 use crate::options::{with_flag, with_value, without_options};
 use clap::Command;
@@ -16,14 +17,21 @@ pub(crate) fn compact_words<'a>(alloc: Global) -> Result<Command<'a>, AllocError
     with_flag(alloc, command, "full", "Merges all that there are")
 }
 
-/// The command `consumers`.
-pub(crate) fn consumers_words<'a>(alloc: Global) -> Command<'a>
-    ensures { app_of result ≡ app_for (codes "consumers") [] }
+/// The command `consumers` and its options.
+pub(crate) fn consumers_words<'a>(alloc: Global) -> Result<Command<'a>, AllocError>
+    ensures { IfOk result (λ command. app_of command ≡ app_for (codes "consumers") consumers_options) }
 {
-    without_options(
+    let command = without_options(
         alloc,
         "consumers",
         "Lists who follows the table under a name, and the snapshot that each reads next",
+    );
+    with_value(
+        alloc,
+        command,
+        "drop",
+        "NAME",
+        "Drops the one of this name instead",
     )
 }
 

@@ -42,7 +42,7 @@ fn all_commands<'a>(alloc: Global) -> Result<Command<'a>, AllocError> {
         .subcommand(scan_words(alloc)?)?
         .subcommand(follow_words(alloc)?)?
         .subcommand(snapshots_words(alloc))?
-        .subcommand(consumers_words(alloc))?
+        .subcommand(consumers_words(alloc)?)?
         .subcommand(compact_words(alloc)?)
 }
 
@@ -73,12 +73,12 @@ fn push_readers(alloc: Global, text: &mut String) -> Result<(), AllocError> {
         "Example: ./paimon my_table snapshots",
     )?;
     text.push_str("\n## consumers\n\n")?;
-    let usage = "./paimon FOLDER consumers";
+    let usage = "./paimon FOLDER consumers [--drop NAME]";
     push_help(
         text,
-        consumers_words(alloc),
+        consumers_words(alloc)?,
         usage,
-        "Example: ./paimon my_table consumers",
+        "Example: ./paimon my_table consumers --drop me",
     )
 }
 
