@@ -56,28 +56,28 @@ pub record Laws : Type 0 where
   pub declared : (path text : List ℕ) (s : TableSchema) → SchemaOf path text s → IsDeclared s
 
 -- the entries of a history
-abbrev entries_of : History → List Entry
+abbrev pub entries_of : History → List Entry
 entries_of no_table = []
 entries_of (table s es) = es
 
-has_table : (f : Files) (h : History) (s : TableSchema) → Folder f h → IsTableOf s h → HasTable f s (entries_of h)
+pub has_table : (f : Files) (h : History) (s : TableSchema) → Folder f h → IsTableOf s h → HasTable f s (entries_of h)
 has_table f no_table s folder is = absurd is
 has_table f (table t es) s folder is = subst (λ (t : TableSchema). HasTable f t es) is folder
 
-count_is : (h : History) → count_of h ≡ length (entries_of h)
+pub count_is : (h : History) → count_of h ≡ length (entries_of h)
 count_is no_table = refl
 count_is (table s es) = refl
 
 -- a snapshot after the origin has a file of its own
-path_is : (s : TableSchema) (id : ℕ) → 1 ≤ id → path_of s id ≡ snapshot_path id
+pub path_is : (s : TableSchema) (id : ℕ) → 1 ≤ id → path_of s id ≡ snapshot_path id
 path_is s zero low = absurd (omega (arith, low))
 path_is s (suc id) low = refl
 
 -- a table that is followed
-record IsOf (h : History) (t : TableSchema) : Type 0 where
-  is : IsTableOf t h
-  tells : TellsChanges t
-  built : IsBuilt t
+pub record IsOf (h : History) (t : TableSchema) : Type 0 where
+  pub is : IsTableOf t h
+  pub tells : TellsChanges t
+  pub built : IsBuilt t
 
 module _ (laws : Laws) (f : Files) (h : History) (folder : Folder f h) where
   abbrev es : List Entry
@@ -90,30 +90,30 @@ module _ (laws : Laws) (f : Files) (h : History) (folder : Folder f h) where
 
   -- ---- each piece
 
-  schema_at : (t : TableSchema) (own : List Event) (first after : StoreView) → reader.Did (readers.Ready t) own → IsRun f own first after
+  pub schema_at : (t : TableSchema) (own : List Event) (first after : StoreView) → reader.Did (readers.Ready t) own → IsRun f own first after
       → Stay f first after × IsTableOf t h
   schema_at t own first after did run =
       let stay = stayed f own first after (ready_calls t own did) run.trace run.alone run.has in
       (stay.0, ready_at f h folder t own did stay.1)
 
-  has_at : (t : TableSchema) (own : List Event) (first after : StoreView) → HasSchema t own → IsRun f own first after → Stay f first after × IsOf h t
+  pub has_at : (t : TableSchema) (own : List Event) (first after : StoreView) → HasSchema t own → IsRun f own first after → Stay f first after × IsOf h t
   has_at t own first after (tells, built, did) run =
       let so = schema_at t own first after did run in
       (so.0, record { is = so.1; tells = tells; built = built })
 
-  latest_at : (result : Result ℕ Refusal) (own : List Event) (first after : StoreView) → DidLatest result own → IsRun f own first after
+  pub latest_at : (result : Result ℕ Refusal) (own : List Event) (first after : StoreView) → DidLatest result own → IsRun f own first after
       → FindsLatest f h first after result
   latest_at result own first after did run =
       at_first (λ first after. (f : Files) (h : History) → HasFiles f first → Folder f h → FindsLatest f h first after result) f own first after run
       (laws.latest result first after (own, did, run.trace)) f h run.has folder
 
-  scan_at : (t : TableSchema) (id : ℕ) (result : Result (List ℕ) Refusal) (own : List Event) (first after : StoreView) → IsOf h t
+  pub scan_at : (t : TableSchema) (id : ℕ) (result : Result (List ℕ) Refusal) (own : List Event) (first after : StoreView) → IsOf h t
       → scanner.Ends (passed_at t id) result own → IsRun f own first after → ScansRows shown.Passed f h t (Some id) first after result
   scan_at t id result own first after of did run =
       at_first (λ first after. (f : Files) (h : History) → HasFiles f first → Folder f h → IsTableOf t h → ScansRows shown.Passed f h t (Some id) first after result) f own first after run
       (laws.passed t id result first after (declared_of t of.is) (own, did, run.trace)) f h run.has folder of.is
 
-  frame_at : (t : TableSchema) (id : ℕ) (result : Result (List ℕ) Refusal) (own : List Event) (first after : StoreView) → IsOf h t → 1 ≤ id → id ≤ length es
+  pub frame_at : (t : TableSchema) (id : ℕ) (result : Result (List ℕ) Refusal) (own : List Event) (first after : StoreView) → IsOf h t → 1 ≤ id → id ≤ length es
       → DidFrame t id result own → IsRun f own first after → ReadsFrame f t es id first after result
   frame_at t id result own first after of low high did run =
       let stands = has_table f h t folder of.is in
@@ -155,7 +155,7 @@ module _ (laws : Laws) (f : Files) (h : History) (folder : Folder f h) where
     text_is : text ≡ text_so_far t es full start 0
     base : full ≡ true → IsSome (map.get f (path_of t (start - 1)))
 
-  prints_start : (t : TableSchema) (start : ℕ) (rows : List ℕ) (h : History) → IsTableOf t h
+  pub prints_start : (t : TableSchema) (start : ℕ) (rows : List ℕ) (h : History) → IsTableOf t h
       → scanner.PrintsRows shown.Passed h (Some (start - 1)) rows → table_head (start - 1) ++ rows ≡ text_so_far t (entries_of h) true start 0
   prints_start t start rows no_table is prints = absurd prints
   prints_start t start rows (table u es) is prints =
@@ -207,7 +207,7 @@ module _ (laws : Laws) (f : Files) (h : History) (folder : Folder f h) where
 
   -- ---- the frames
 
-  one_log : (t : TableSchema) → IsOf h t → HasOneLog t
+  pub one_log : (t : TableSchema) → IsOf h t → HasOneLog t
   one_log t of = record { producer = of.tells; bucket = of.built.bucket; partition = of.built.partition }
 
   record HasFrames (t : TableSchema) (start count : ℕ) (text : List ℕ) : Type 0 where

@@ -22,7 +22,7 @@ in_a_row First Next first middle after (earlier, did, trace) (later, does, rest)
 
 -- ---- apart
 
-Traces-split : (own more : List Event) (first after : StoreView) → Traces (own ++ more) first after
+pub Traces-split : (own more : List Event) (first after : StoreView) → Traces (own ++ more) first after
     → (middle : StoreView) × Traces own first middle × Traces more middle after
 Traces-split [] more first after trace = (first, Traces-none first, trace)
 Traces-split (event ∷ own) more first after (next, ended, early, rest) =

@@ -1,4 +1,4 @@
--- Private: how the pieces of what `follow` prints are read and printed, each in turn; and what is known of them.
+-- How the pieces of what `follow` prints are read and printed, each in turn; and what is known of them.
 use Rattle.std.specs.Prelude.{◌≡◌, ◌⊎◌, ℕ, ◌+◌, ◌<◌, ◌≤◌, List, [], ◌∷◌, length, Bool, true, false}
 use Rattle.std.specs.Prelude.{Option, None, Some, Result, Ok, Err}
 use Rattle.pm_base.specs.Known.{and_then}
@@ -44,12 +44,12 @@ PrintsStart s start = PrintsPiece (DidTable s start)
 abbrev pub PrintsFrame : TableSchema → ℕ → SinkView → SinkView → StoreView → StoreView → Option Refusal → Type 0
 PrintsFrame s id = PrintsPiece (DidFrame s id)
 
--- so many frames were read and printed
+-- Private: so many frames were read and printed
 abbrev pub HasPrinted : TableSchema → ℕ → ℕ → SinkView → SinkView → StoreView → StoreView → Type 0
 HasPrinted s start count out out_after store store_after = (text : List ℕ)
     × HasTrace (ReadsFrames s start count text) store store_after × Took false count text out out_after
 
--- the frames from the start to the latest snapshot, or up to one at which the sink failed or a refusal came
+-- Private: the frames from the start to the latest snapshot, or up to one at which the sink failed or a refusal came
 abbrev pub PrintsFrames : TableSchema → ℕ → ℕ → SinkView → SinkView → StoreView → StoreView → Option Refusal → Type 0
 PrintsFrames s start latest out out_after store store_after None =
     HasPrinted s start (count_from start latest) out out_after store store_after
@@ -94,21 +94,21 @@ PieceBeside learns refused out out_after store store_after (Some e) =
     ((text : List ℕ) × learns text store store_after × FailsIn text out out_after e)
     ⊎ ((out_after ≡ out) × HasTrace refused store store_after)
 
--- the table has this schema, and the snapshots up to one that was listed as the latest
+-- Private: the table has this schema, and the snapshots up to one that was listed as the latest
 abbrev pub IsListed : TableSchema → ℕ → Past → Type 0
 IsListed s latest p = IsTableOf s p.history × (latest ≤ count_of p.history)
 
--- then these texts, one after another, are frames of the history from the start on
+-- Private: then these texts, one after another, are frames of the history from the start on
 abbrev pub LearnsFrames : TableSchema → ℕ → ℕ → List (List ℕ) → StoreView → StoreView → Type 0
 LearnsFrames s start latest frames = Learns (λ f p. IsListed s latest p)
     (λ f p. IsListed s latest p × AreFramesFrom p.history start frames)
 
--- so many were printed, of which this is known
+-- Private: so many were printed, of which this is known
 abbrev pub HasLearned : TableSchema → ℕ → ℕ → ℕ → SinkView → SinkView → StoreView → StoreView → Type 0
 HasLearned s start latest count out out_after store store_after = (frames : List (List ℕ)) × (length frames ≡ count)
     × LearnsFrames s start latest frames store store_after × (out_after.taken ≡ and_then out.taken (joined frames))
 
--- all up to the latest were; or the sink failed; or those were that had been read before a refusal
+-- Private: all up to the latest were; or the sink failed; or those were that had been read before a refusal
 abbrev pub FramesBeside : TableSchema → ℕ → ℕ → SinkView → SinkView → StoreView → StoreView → Option Refusal → Type 0
 FramesBeside s start latest out out_after store store_after None =
     HasLearned s start latest (count_from start latest) out out_after store store_after
@@ -117,7 +117,7 @@ FramesBeside s start latest out out_after store store_after (Some e) = (frames :
     × (((e ≡ refusals.SinkFault None) × TookPrefix out.taken out_after.taken (joined frames))
     ⊎ (out_after.taken ≡ and_then out.taken (joined frames)))
 
--- the starting table was printed, where it is asked for, and is known
+-- Private: the starting table was printed, where it is asked for, and is known
 abbrev pub HasBegun : TableSchema → Bool → ℕ → SinkView → SinkView → StoreView → StoreView → Type 0
 HasBegun s full start out out_after store store_after = (text : List ℕ)
     × Learns AnyPast (λ f p. IsStarting s full start text p) store store_after

@@ -53,8 +53,9 @@ pub fn run_follow<W: Sink, F: FileStore>(
     follow_table(alloc, &schema, from, full, out, store)
 }
 
-/// The schema of a table that tells its changes and is built.
-fn followed_schema<F: FileStore>(alloc: Global, store: &mut F) -> Result<TableSchema, Refusal>
+/// The schema of a table that tells its changes and is built. Refuses with `NoTable`; `NoChangelog` where it has no
+/// producer; `Unsupported`; `StoreFault`; or out of memory, and with what reading the schema refuses.
+pub fn followed_schema<F: FileStore>(alloc: Global, store: &mut F) -> Result<TableSchema, Refusal>
     ensures trace { HasTrace (DidSchema result) (F.seen store.old) (F.seen store.new) }
     ensures beside { IfOk result (λ s. LearnsTable s (F.seen store.old) (F.seen store.new)) }
     ensures declared { IfOk result IsDeclared }
@@ -92,8 +93,9 @@ fn follow_table<W: Sink, F: FileStore>(
     follow_from(alloc, schema, start, full, out, store)
 }
 
-/// The snapshot of the first frame, where this one is the latest.
-fn start_at(from: Option<u64>, latest: u64) -> Result<u64, Refusal>
+/// The snapshot of the first frame, where this one is the latest: the one that is asked for, or the one after it.
+/// Refuses one that is above that with `NoSnapshot`.
+pub fn start_at(from: Option<u64>, latest: u64) -> Result<u64, Refusal>
     requires from { IfSome from (λ id. 1 ≤ id) }
     requires latest { latest ≤ greatest }
     ensures start { IfOk result (λ start. (start ≡ start_of from latest) × (start ≤ suc latest) × (1 ≤ start)) }

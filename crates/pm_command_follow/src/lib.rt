@@ -6,12 +6,14 @@
 //! a folder as it is. `replay_law` is for whoever reads its frames: their rows, replayed on the table that was followed
 //! before them, give the one that is followed at the last. `specs/Beside.antt` says what the pieces are where others
 //! act meanwhile, and `pieces_law` that they are a prefix of what is printed of the history, however far it has gone
-//! on; `FollowsBeside` says so of what the command printed.
+//! on; `FollowsBeside` says so of what the command printed. `specs/Pieces.antt` says how each piece is read and then
+//! printed, for whoever follows with a consumer, too.
 #![tactic(auto)]
 
 mod follow;
 mod laws;
 mod pieces;
 
-pub use follow::run_follow;
+pub use follow::{followed_schema, run_follow, start_at};
 pub use laws::{complete_law, follow_law, one_answer_law, pieces_law, replay_law};
+pub use pieces::{print_frame, print_table};

@@ -30,7 +30,7 @@ use pm_values::Refusal;
 use std::alloc::{AllocError, Global};
 
 /// Prints the starting table, the one that is passed on at one below the start.
-pub(crate) fn print_table<W: Sink, F: FileStore>(
+pub fn print_table<W: Sink, F: FileStore>(
     alloc: Global,
     schema: &TableSchema,
     start: u64,
@@ -139,7 +139,7 @@ pub(crate) fn print_frames<W: Sink, F: FileStore>(
 }
 
 /// Prints the frame of a snapshot.
-fn print_frame<W: Sink, F: FileStore>(
+pub fn print_frame<W: Sink, F: FileStore>(
     alloc: Global,
     schema: &TableSchema,
     id: u64,
