@@ -121,11 +121,11 @@ any_trace did before after (own, so, trace) = (own, tt, trace)
 
 -- ---- frame by frame
 
-joined_push : (texts : List (List ℕ)) (text : List ℕ) → joined (texts ++ text ∷ []) ≡ joined texts ++ text
+pub joined_push : (texts : List (List ℕ)) (text : List ℕ) → joined (texts ++ text ∷ []) ≡ joined texts ++ text
 joined_push [] text = append-nil text
 joined_push (one ∷ texts) text = ap (λ (rest : List ℕ). one ++ rest) (joined_push texts text) ∙ sym (append_assoc one (joined texts) text)
 
-length_push : (texts : List (List ℕ)) (text : List ℕ) → length (texts ++ text ∷ []) ≡ suc (length texts)
+pub length_push : (texts : List (List ℕ)) (text : List ℕ) → length (texts ++ text ∷ []) ≡ suc (length texts)
 length_push texts text = let both = length-append texts (text ∷ []) in omega (arith, both)
 
 pub none_learned : (s : TableSchema) (start latest : ℕ) (out : SinkView) (store : StoreView) → HasLearned s start latest (start - start) out out store store
@@ -214,7 +214,7 @@ all_learned s start latest id first last store after low above bound learned =
 -- ---- what that is of a following
 
 -- pieces that are known of a history are the first of what is printed of its table
-first_of : FirstLaw → (s : TableSchema) → TellsChanges s → IsBuilt s → (h : History) (full : Bool) (start : ℕ) (first : List ℕ) (frames : List (List ℕ))
+pub first_of : FirstLaw → (s : TableSchema) → TellsChanges s → IsBuilt s → (h : History) (full : Bool) (start : ℕ) (first : List ℕ) (frames : List (List ℕ))
     → IsTableOf s h → IsStartOf h full start first → AreFramesFrom h start frames
     → (es : List Entry) × (h ≡ table s es) × IsFirstOf s es full start (length frames) (first ++ joined frames)
 first_of law s tells built no_table full start first frames is base each = absurd is
@@ -234,7 +234,7 @@ opened_schema : (s : TableSchema) (from : Option ℕ) (full : Bool) (start : ℕ
 opened_schema s from full start text first after (own, (earlier, later, starts, reads, is), trace) = started_schema s from start earlier starts
 
 -- the starting table stays
-starting_on : (s : TableSchema) (full : Bool) (start : ℕ) (text : List ℕ) (h later : History) → GoesOn h later → IsTableOf s h × IsStartOf h full start text
+pub starting_on : (s : TableSchema) (full : Bool) (start : ℕ) (text : List ℕ) (h later : History) → GoesOn h later → IsTableOf s h × IsStartOf h full start text
     → IsTableOf s later × IsStartOf later full start text
 starting_on s full start text h later goes known = (table_on s h later goes known.0, start_on full start text h later goes known.1)
 

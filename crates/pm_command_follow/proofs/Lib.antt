@@ -4,11 +4,11 @@ mod FinishedLemmas
 mod FitLemmas
 pub mod HistoryLemmas
 pub mod JoinLemmas
-mod KnownLemmas
-mod LearnLemmas
+pub mod KnownLemmas
+pub mod LearnLemmas
 mod OneLemmas
 pub mod PieceLemmas
-mod ReadLemmas
+pub mod ReadLemmas
 mod ReplayLemmas
 mod StageLemmas
 pub mod TextLemmas

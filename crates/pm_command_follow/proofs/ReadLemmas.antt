@@ -50,12 +50,12 @@ use Rattle.pm_command_follow.proofs.LearnLemmas.{IsKeptOn, came_weaker}
 
 -- ---- what they change
 
-read_is : (path : List ℕ) → IsRead (calls.Read path)
+pub read_is : (path : List ℕ) → IsRead (calls.Read path)
 read_is path effects.None f = refl
 read_is path (effects.Part found) f = refl
 read_is path effects.Whole f = refl
 
-list_is : (folder : List ℕ) → IsRead (calls.List folder)
+pub list_is : (folder : List ℕ) → IsRead (calls.List folder)
 list_is folder effects.None f = refl
 list_is folder (effects.Part found) f = refl
 list_is folder effects.Whole f = refl
@@ -99,7 +99,7 @@ module _ (past : PastStays) (K : History → Type 0) (keeps : IsKeptOn K) where
 
 -- ---- one after another
 
-reads_append : (own more : List Event) → AreReads own → AreReads more → AreReads (own ++ more)
+pub reads_append : (own more : List Event) → AreReads own → AreReads more → AreReads (own ++ more)
 reads_append [] more are so = so
 reads_append (event ∷ own) more (read, are) so = (read, reads_append own more are so)
 
@@ -109,13 +109,13 @@ reads_push own earlier event is are read = subst AreReads (sym is) (reads_append
 file_push : (own earlier : List Event) (path : List ℕ) (found : Option (List ℕ)) → own ≡ earlier ++ read_file path found ∷ [] → AreReads earlier → AreReads own
 file_push own earlier path found is are = reads_push own earlier (read_file path found) is are (read_is path)
 
-no_reads : (own : List Event) → own ≡ [] → AreReads own
+pub no_reads : (own : List Event) → own ≡ [] → AreReads own
 no_reads own is = subst AreReads (sym is) tt
 
-some_same : (x y : Call) → Some x ≡ Some y → x ≡ y
+pub some_same : (x y : Call) → Some x ≡ Some y → x ≡ y
 some_same x y is = cc
 
-no_call : {A : Type 0} (x : Call) → None ≡ Some x → A
+pub no_call : {A : Type 0} (x : Call) → None ≡ Some x → A
 no_call x is = absurd (not x is)
   where
     not : (x : Call) → None ≡ Some x → ⊥
@@ -124,12 +124,12 @@ no_call x is = absurd (not x is)
 -- the calls of phases, where these read
 module _ {P : Type 0} (call_of : P → Option Call) (did : P → List Event → Type 0) (so : (m : P) (own : List Event) → did m own → AreReads own)
     (next : (m : P) (call : Call) → call_of m ≡ Some call → IsRead call) where
-  ended_reads : (Takes : P → Answer → Type 0) (own : List Event) → MayEnd call_of did Takes own → AreReads own
+  pub ended_reads : (Takes : P → Answer → Type 0) (own : List Event) → MayEnd call_of did Takes own → AreReads own
   ended_reads Takes own (before_call m has has_done) = so m own has_done
   ended_reads Takes own (after_answer m call answer earlier has_done is_next may takes is) =
       reads_push own earlier (answered call answer) is (so m earlier has_done) (next m call is_next)
 
-  failed_reads : (path : List ℕ) (own : List Event) → IsFailed call_of did path own → AreReads own
+  pub failed_reads : (path : List ℕ) (own : List Event) → IsFailed call_of did path own → AreReads own
   failed_reads path own fails =
       reads_push own fails.earlier (faulted fails.call) fails.is (so fails.phase fails.earlier fails.did_so) (next fails.phase fails.call fails.next)
 
