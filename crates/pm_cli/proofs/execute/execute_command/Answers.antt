@@ -46,8 +46,8 @@ returns-in-Snapshots-clause-history g c =
     (outside (g.S.Source.seen c.args.input.now) (g.W.Sink.seen c.run_snapshots.new.out) (g.F.FileStore.seen c.run_snapshots.new.store))
     (result_err c.run_snapshots.result) c.run_snapshots.ensures.listed)
 
-pub list_or_drop-requires-in-Consumers : goal.list_or_drop-requires-in-Consumers
-list_or_drop-requires-in-Consumers g c = rw c.in-Consumers.is at c.requires
+pub list_or_drop-requires : goal.list_or_drop-requires
+list_or_drop-requires g c = rw c.in-Consumers.is at c.requires
 
 pub returns-in-Consumers-clause-command : goal.returns-in-Consumers-clause-command
 returns-in-Consumers-clause-command g c =
