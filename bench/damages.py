@@ -372,6 +372,7 @@ class Trial:
         if "--consumer" in self.known:
             for words in (["--consumer", "c"], ["--consumer", "d", "--from", "2", "--full"], ["--consumer=e"]):
                 self.change_files(folder, ["follow", *words])
+        if "--drop" in self.known:
             self.change_files(folder, ["consumers", "--drop", "c"])
         self.change("create", data=DRAFT)
         if self.change_beside(folder, ["write"], b'["+I",77,"new"]').status == 0:
@@ -480,6 +481,7 @@ def main():
         try_no_folders(tally, found.program, work)
         known = [word for word in ("compact", "follow", "consumers", "expire") if knows(found.program, work, word)]
         known += ["--consumer"] if knows_consumers(found.program, work) else []
+        known += ["--drop"] if knows(found.program, work, "consumers", "--drop", "c") else []
         tables = make_tables(found.program, work, known)
         (work / "link").symlink_to("damaged")
         for number in range(found.count):

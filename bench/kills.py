@@ -123,7 +123,8 @@ class Trials:
         """Consumers of a table that tells its input, where the program knows them."""
         if not knows(self.program, self.work, "consumers"):
             return []
-        has_more = knows_consumers(self.program, self.work)
+        has_more, drop = knows_consumers(self.program, self.work), ["consumers", "--drop", "c"]
+        has_drops = knows(self.program, self.work, *drop)
         found, follow = ([1, 2, 3], 2), ["follow", "--consumer", "c"]
         none = self.table("no consumer", [batch(1, 2), batch(3)], TOLD)
         known, new = copy(none, self.work / "a consumer"), copy(none, self.work / "a new consumer")
@@ -131,13 +132,16 @@ class Trials:
             (folder / "consumer").mkdir()
             (folder / "consumer/consumer-c").write_bytes(text)
             quiet(folder)
-        changes = [
+        moves = [
             Case("a consumer that begins", none, [*follow, "--from", "1", "--full"], b"", found, found, (), True),
             Case("a new consumer that begins", new, [*follow, "--from", "1"], b"", found, found, (), True),
             Case("a consumer that goes on", known, follow, b"", found, found, (), True),
-            Case("a consumer that is dropped", known, ["consumers", "--drop", "c"], b"", found, found, (), True),
         ]
-        return [Case("consumers", known, ["consumers"], b"", found, found), *(changes if has_more else [])]
+        return [
+            Case("consumers", known, ["consumers"], b"", found, found),
+            *([Case("a consumer that is dropped", known, drop, b"", found, found, (), True)] if has_drops else []),
+            *(moves if has_more else []),
+        ]
 
     def expired(self):
         """An expiry of a snapshot whose data file was replaced, where the program knows expiries."""
