@@ -1,0 +1,4 @@
+mod DroppingLemmas
+mod FloorLemmas
+mod PathLemmas
+mod SeenLemmas
