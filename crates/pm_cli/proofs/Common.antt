@@ -1,6 +1,5 @@
 -- Of files that a store leaves, and of what is known of an execution.
 use Rattle.std.proofs.Common.{◌≡◌, ◌≢◌, ◌≤◌, ◌+◌, ℕ, suc, nat_lt, Bool, true, false, if◌then◌else◌, List, [], ◌∷◌, ◌++◌, length, Option, None, Some, IsSomeAnd, ◌==◌, ◌⊎◌, codes, decimal, inl, inr, refl, sym, subst, ap, ◌∙◌, length-append, take_all, arith}
-use Rattle.std.specs.FinMap as map
 use Rattle.std.specs.Option.{option_or}
 use Rattle.std.proofs.lemmas.Bool.Decides.{nat_tests}
 use Rattle.pm_values.specs.declared.refusal.Refusal.{Refusal}
@@ -15,13 +14,12 @@ use Rattle.pm_schema.specs.declared.schema.TableSchema.{TableSchema}
 use Rattle.pm_snapshot.specs.Names.{greatest}
 use Rattle.pm_model_folder.specs.Changes.{Actor, origin_name}
 use Rattle.pm_model_folder.specs.Folder.{HasTable, HaveSettled, KeepsConsumers}
-use Rattle.pm_model_folder.specs.Paths.{consumer_path}
 use Rattle.pm_create.specs.Making.{LeavesFiles}
 use Rattle.pm_draft.specs.Built.{unbuilt, unbuilt_bucket, unbuilt_partition}
 use Rattle.pm_words.specs.declared.command.Command.{Command}
 use Rattle.pm_command.specs.Outside.{actor}
 use Rattle.pm_command.specs.declared.start.Start.{Start}
-use Rattle.pm_cli.specs.Promise.{Does, Execution, HasMade, MayMake, SparesConsumers, StandsForOthers, commits, compacts, creates, drops, follows, found_by, has_already, lists, lists_consumers, rests, scans, takes_none}
+use Rattle.pm_cli.specs.Promise.{Does, Execution, HasMade, MayMake, StandsForOthers, commits, compacts, creates, drops, follows, found_by, has_already, lists, lists_consumers, rests, scans, takes_none}
 use Rattle.pm_cli.specs.Start.{HaveOtherNames, IsNew, LeavesOut, snapshot_made}
 
 -- the execution with this command in its place
@@ -162,15 +160,11 @@ made_settled e h later (inl same) f names have = subst (λ (later : History). Ha
 made_settled e h later (inr (text, does)) f names have = later_settled e.start e.input (found_by e) e.command h later text f names does have
 
 -- where all consumers are kept
-pub spared : (e : Execution) (h : History) (first : StoreView) (later : History) (f : Files) → MayMake e h later → LeavesFiles (λ g. KeepsConsumers h g f) first
-    → SparesConsumers e h first later f
-spared e h first later f make keeps = record {
-  files = λ name other.
-      leaves_weaker (λ g. KeepsConsumers h g f) (λ g. map.get f (consumer_path name) ≡ map.get g (consumer_path name)) first (λ g is. is.files name) keeps;
-  settled = λ names same was.
-      any_both (λ g. KeepsConsumers h g f) (λ g. HaveSettled g h names) (HaveSettled f later names) first
-      (λ g is have. made_settled e h later make f names (is.settled names have)) keeps was;
-}
+pub still_settled : (e : Execution) (h : History) (first : StoreView) (later : History) (f : Files) → MayMake e h later → LeavesFiles (λ was. KeepsConsumers h was f) first
+    → (names : List (List ℕ)) → LeavesFiles (λ was. HaveSettled was h names) first → HaveSettled f later names
+still_settled e h first later f make keeps names =
+    any_both (λ was. KeepsConsumers h was f) (λ was. HaveSettled was h names) (HaveSettled f later names) first
+    (λ was is have. made_settled e h later make f names (is.settled names have)) keeps
 
 -- files stand so for what it may make
 abbrev pub StandsForSome : (History → Files → Type 0) → Execution → History → Files → Type 0

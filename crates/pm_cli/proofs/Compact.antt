@@ -26,9 +26,9 @@ use Rattle.pm_command.specs.Outside.{actor, next_path}
 use Rattle.pm_command.specs.declared.start.Start.{Start}
 use Rattle.pm_command_compact.specs.Compact.{AnswersHistory, Becomes, CompactsTable, HasChoice, HasCompaction, HasCompactionAs, IsImage, MayStartAfter, Spoils, StandsAfterFault, snapshot_of, text_of}
 use Rattle.pm_cli.specs.InTurn.{IsExecuted}
-use Rattle.pm_cli.specs.Promise.{Does, Execution, Keeps, KeepsIt, HasMade, MayMake, StandsForOthers, compacts, found_by, rests}
+use Rattle.pm_cli.specs.Promise.{Becomes, Does, Execution, HasMade, Keeps, KeepsIt, MayMake, StandsForOthers, compacts, found_by, rests}
 use Rattle.pm_cli.specs.Start.{IsNew, snapshot_made}
-use Rattle.pm_cli.proofs.Common.{StandsForSome, StandsForSomeFreely, WasNew, any_files, extends_both, extends_each, extends_end, images_turned, leaves_both, leaves_each, leaves_some, leaves_weaker, makes_nothing, none_made, one_made, one_more, other_than, spared, with_command}
+use Rattle.pm_cli.proofs.Common.{StandsForSome, StandsForSomeFreely, WasNew, added, any_files, extends_both, extends_each, extends_end, images_turned, leaves_both, leaves_each, leaves_some, leaves_weaker, makes_nothing, none_made, one_made, one_more, other_than, still_settled, with_command}
 
 -- no group is chosen where there is no table
 no_choice : (start : Start) (full : Bool) (groups : List (Group × Bool)) (R : Type 0) (store : StoreView)
@@ -190,13 +190,17 @@ keeps_it full e h stands was =
     let starts : (other : Actor) → WasNew own h first other → Extends (AfterIt other) first.ops after.ops = λ other (names, new).
     was.free other (other_than (actor e.start) other names)
     (leaves_weaker (IsNew other h) (commit.MayStart other h) first (λ f is. (is.folder, is.names)) new) in
-    let Spares : Files → Type 0 = λ f. LeavesFiles (λ g. KeepsConsumers h g f) first in
-    let spares : Extends Spares first.ops after.ops = images_turned (KeepsConsumers h) first after.ops was.consumers in
+    let Spares : Files → Type 0 = λ f. LeavesFiles (λ was. KeepsConsumers h was f) first × LeavesFiles (λ was. AddsOwn (actor e.start) (path_after h) was f) first in
+    let spares : Extends Spares first.ops after.ops =
+    extends_both (λ f. LeavesFiles (λ was. KeepsConsumers h was f) first) (λ f. LeavesFiles (λ was. AddsOwn (actor e.start) (path_after h) was f) first)
+    first.ops after.ops (images_turned (KeepsConsumers h) first after.ops was.consumers)
+    (images_turned (AddsOwn (actor e.start) (path_after h)) first after.ops was.adds) in
     let freely : (later : History) (f : Files) → MayMake own h later → Folder f later → ((other : Actor) → WasNew own h first other → AfterIt other f) → Spares f
     → StandsForOthers own h first later f = λ later f make folder others spare. record {
       folder = folder;
-      consumers = spared own h first later f make spare;
-      own = tt;
+      changes = leaves_weaker (λ was. AddsOwn (actor e.start) (path_after h) was f) (λ was. (path : List ℕ) → Becomes own h was f path) first
+          (λ was adds path. added own h was f path refl (adds path)) spare.1;
+      settled = λ names rests. still_settled own h first later f make spare.0 names;
       free = λ other names new.
           let origin : IsNoOrigin h (own_origin other) = any_files (IsNew other h) (IsNoOrigin h (own_origin other)) first (λ f is. is.origin) new in
           new_end full e other f h later origin make folder (others other (names, new));

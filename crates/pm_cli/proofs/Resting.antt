@@ -1,5 +1,5 @@
 -- A command that leaves a history as it is.
-use Rattle.std.proofs.Common.{◌≡◌, ◌≢◌, ◌⊎◌, ℕ, List, Option, None, Some, inl, refl, subst}
+use Rattle.std.proofs.Common.{◌≡◌, ◌≢◌, ℕ, List, Option, None, Some, inl, refl, subst}
 use Rattle.pm_values.specs.declared.refusal.Refusal.{Refusal}
 use Rattle.pm_values.specs.declared.refusal.Refusal.TheVariants as refusals
 use Rattle.pm_io.specs.Sink.{SinkView}
@@ -10,17 +10,13 @@ use Rattle.pm_store.proofs.ImageLaws.{Extends-weaker}
 use Rattle.pm_model_history.specs.History.{History}
 use Rattle.pm_model_folder.specs.Changes.{Actor}
 use Rattle.pm_model_folder.specs.Folder.{Folder, KeepsConsumers}
-use Rattle.pm_model_folder.specs.Paths.{consumer_path}
 use Rattle.pm_model_folder.proofs.SettledLemmas.{same-keeps}
 use Rattle.pm_create.specs.Making.{LeavesFiles}
-use Rattle.pm_move_consumer.specs.DropperAllCalls.{ItGoes, ItRests}
 use Rattle.pm_commit.specs.AllCalls as commit
-use Rattle.pm_words.specs.declared.command.Command.{Command}
-use Rattle.pm_words.specs.declared.command.Command.TheVariants as commands
 use Rattle.pm_command.specs.Outside.{HaveSame, ImagesRest, Prints, Rests}
-use Rattle.pm_cli.specs.Promise.{Execution, HasDropped, HasMade, KeepsIt, MayDrop, StandsForOthers}
+use Rattle.pm_cli.specs.Promise.{Becomes, Execution, HasDropped, HasMade, KeepsIt, StandsForOthers}
 use Rattle.pm_cli.specs.Start.{IsNew}
-use Rattle.pm_cli.proofs.Common.{NotSink, StandsForSomeFreely, any_both, any_here, leaves_both, leaves_turned, leaves_weaker, spared}
+use Rattle.pm_cli.proofs.Common.{NotSink, StandsForSomeFreely, any_both, any_here, leaves_both, leaves_turned, leaves_weaker, still_settled}
 
 -- what the law of the next command says of files that are the same
 abbrev pub SameStarts : Type 0
@@ -29,18 +25,6 @@ SameStarts = (me : Actor) (h : History) (f g : Files) → commit.MayStart me h f
 new_same : SameStarts → (other : Actor) (h : History) (f g : Files) → IsNew other h f → HaveSame f g → Folder g h → IsNew other h g
 new_same law other h f g new same folder =
     record { folder = folder; origin = new.origin; names = (law other h f g (new.folder, new.names) same folder).1 }
-
--- no consumer's file goes
-none_goes : (command : Command) (first : StoreView) (g : Files) → LeavesFiles (λ f. HaveSame f g) first → MayDrop command first g
-none_goes (commands.Consumers (Some name)) first g same =
-    leaves_weaker (λ f. HaveSame f g) (λ f. ItRests name f g ⊎ ItGoes name f g) first (λ f is. inl (is (consumer_path name))) same
-none_goes (commands.Consumers None) first g same = tt
-none_goes commands.Create first g same = tt
-none_goes (commands.Scan at) first g same = tt
-none_goes commands.Snapshots first g same = tt
-none_goes (commands.Compact full) first g same = tt
-none_goes (commands.Follow from full) first g same = tt
-none_goes (commands.Write user number) first g same = tt
 
 module _ (law : SameStarts) (e : Execution) (h : History) (first : StoreView) where
   abbrev after : StoreView
@@ -51,9 +35,9 @@ module _ (law : SameStarts) (e : Execution) (h : History) (first : StoreView) wh
     folder = folder;
     free = λ other names new.
         any_both (λ f. HaveSame f g) (IsNew other h) (IsNew other h g) first (λ f s is. new_same law other h f g is s folder) same new;
-    consumers = spared e h first h g (inl refl)
-        (leaves_weaker (λ f. HaveSame f g) (λ f. KeepsConsumers h f g) first (λ f is. same-keeps f g is h) same);
-    own = none_goes e.command first g same;
+    changes = leaves_weaker (λ f. HaveSame f g) (λ f. (path : List ℕ) → Becomes e h f g path) first (λ f is path. inl (is path)) same;
+    settled = λ names rests. still_settled e h first h g (inl refl)
+        (leaves_weaker (λ f. HaveSame f g) (λ f. KeepsConsumers h f g) first (λ f is. same-keeps f g is h) same) names;
   }
 
   pub resting : HasMade e h e.refusal h → Rests h first after → ImagesRest h first after → ((f : Files) → HasDropped e.command e.refusal first f) → KeepsIt e h first

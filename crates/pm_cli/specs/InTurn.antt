@@ -1,18 +1,18 @@
 -- Commands that are executed one after another on one store, some of which a crash stops, and what they make of a
 -- history. Each may have a handle of its own, as each process has: to it the calls of those before are others', and
 -- faults count from 0. So what one hands on to the next are files.
-use Rattle.std.specs.Prelude.{◌≡◌, ◌≢◌, ℕ, ◌≤◌, List, [], ◌∷◌, length, map, Contains, Some, IsSomeAnd}
-use Rattle.std.specs.Prelude.{false}
+use Rattle.std.specs.Prelude.{◌≡◌, ℕ, ◌≤◌, List, [], ◌∷◌, length, map, Contains, Some, IsSomeAnd, false}
 use Rattle.std.specs.List.{AllByRecursion}
 use Rattle.pm_store.specs.declared.call.Op.{Op}
 use Rattle.pm_store.specs.Files.{files_after}
 use Rattle.pm_store.specs.Images.{CrashImage}
 use Rattle.pm_store.specs.Store.{StoreView, IsAlone}
 use Rattle.pm_model_history.specs.History.{History}
+use Rattle.pm_model_folder.specs.Paths.{consumer_path}
 use Rattle.pm_command.specs.Outside.{actor}
 use Rattle.pm_cli.specs.Commands.{Acts, ServesHistories}
 use Rattle.pm_cli.specs.Promise.{Execution, HasMade, MayMake}
-use Rattle.pm_cli.specs.Start.{HasInput, HaveOtherNames, own_consumer}
+use Rattle.pm_cli.specs.Start.{HasInput, HaveOtherNames, MayTake}
 
 -- it is one by `run`, whose clauses `acts` and `history` say this of the command that its words give
 pub record IsExecuted (e : Execution) : Type 0 where
@@ -72,10 +72,10 @@ HaveOwnNames (t ∷ turns) =
     AllByRecursion (λ (next : Turn). HaveOtherNames (actor t.execution.start) (actor next.execution.start)) turns
     × HaveOwnNames turns
 
--- none of them drops one of these consumers
+-- none of them takes the file of one of these consumers away
 abbrev pub DropNone : List Turn → List (List ℕ) → Type 0
 DropNone turns names = AllByRecursion (λ (t : Turn). (name : List ℕ) → Contains names name
-    → own_consumer t.execution.command ≢ Some name) turns
+    → MayTake t.execution.command (consumer_path name) → ⊥) turns
 
 -- what one made of a history: what its answer says, or where it was stopped what it may make
 abbrev pub MakesBy : Ending → Execution → History → History → Type 0

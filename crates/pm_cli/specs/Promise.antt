@@ -18,13 +18,12 @@ use Rattle.pm_model_history.specs.Merge.{HistoryRow}
 use Rattle.pm_model_history.specs.Merged.{scan_text}
 use Rattle.pm_model_folder.specs.Changes.{Actor}
 use Rattle.pm_model_folder.specs.Folder.{Folder, HaveSettled}
-use Rattle.pm_model_folder.specs.Paths.{consumer_path}
 use Rattle.pm_consumer_files.specs.Lines.{consumers_text}
 use Rattle.pm_consumer_files.specs.declared.lines.NamedConsumer.{NamedConsumer}
 use Rattle.pm_create.specs.Making.{LeavesFiles}
 use Rattle.pm_write.specs.Taken.{all_taken}
 use Rattle.pm_consumers.specs.AllCalls.{AreConsumersOf}
-use Rattle.pm_move_consumer.specs.DropperAllCalls.{ItGoes, ItRests}
+use Rattle.pm_move_consumer.specs.DropperAllCalls.{ItRests}
 use Rattle.pm_scan.specs.AllCalls.{id_of}
 use Rattle.pm_snapshots.specs.AllCalls.{AreLinesOf}
 use Rattle.pm_snapshots.specs.Lines.{snapshots_text}
@@ -40,8 +39,8 @@ use Rattle.pm_command_follow.specs.Follow.{MayStartAt}
 use Rattle.pm_command_follow.specs.Printed.{follow_text}
 use Rattle.pm_command_write.specs.Write.{entry_by, identifier_of, writer_of}
 use Rattle.pm_cli.specs.Snapshots.{AreLines, HasReached, IsReachedAt}
-use Rattle.pm_cli.specs.Start.{HasInput, HaveOtherNames, IsNew, LeavesOut, MayStart, changed_path}
-use Rattle.pm_cli.specs.Start.{committed_text, own_consumer, snapshot_made}
+use Rattle.pm_cli.specs.Start.{HasInput, HaveOtherNames, IsNew, LeavesOut, MayAdd, MayStart, MayTake}
+use Rattle.pm_cli.specs.Start.{changed_path, committed_text, snapshot_made}
 
 -- What a command does, by its start, the bytes of its input and the store that it finds: of a history it makes a later
 -- one, and prints the text.
@@ -110,41 +109,37 @@ HasMade e h (Some (refusals.StoreFault path)) later =
     × LeavesOut e.command h e.before.out e.after.out
 HasMade e h (Some other) later = (later ≡ h) × LeavesOut e.command h e.before.out e.after.out
 
--- a consumer's file is as it was at first
-abbrev pub IsAsAtFirst : StoreView → List ℕ → Files → Type 0
-IsAsAtFirst first name f = LeavesFiles (λ g. map.get f (consumer_path name) ≡ map.get g (consumer_path name)) first
+-- The file at a path is as it was at first; or it appeared, and the command may make it; or it has gone, and the command
+-- may take it away.
+abbrev pub Becomes : Execution → History → Files → Files → List ℕ → Type 0
+Becomes e h was f path = (map.get f path ≡ map.get was path)
+    ⊎ (((map.get was path ≡ None) × MayAdd e.command (actor e.start) h path)
+    ⊎ ((map.get f path ≡ None) × MayTake e.command path))
 
--- The file of each consumer but the command's own is as it was at first; and all of those are settled whose files are
--- as they were and who were settled.
-pub record SparesConsumers (e : Execution) (h : History) (first : StoreView) (later : History) (f : Files)
-    : Type 0 where
-  pub files : (name : List ℕ) → own_consumer e.command ≢ Some name → IsAsAtFirst first name f
-  pub settled : (names : List (List ℕ)) → ((name : List ℕ) → Contains names name → IsAsAtFirst first name f)
-      → LeavesFiles (λ g. HaveSettled g h names) first → HaveSettled f later names
+-- what became of all files since the first call
+abbrev pub Changes : Execution → History → StoreView → Files → Type 0
+Changes e h first f = LeavesFiles (λ was. (path : List ℕ) → Becomes e h was f path) first
 
--- Its own is as it was, or has gone.
-abbrev pub MayDrop : Command → StoreView → Files → Type 0
-MayDrop (commands.Consumers (Some name)) first f = LeavesFiles (λ g. ItRests name g f ⊎ ItGoes name g f) first
-MayDrop other first f = Unit {0}
-
--- And once a drop is over: it has gone, and after a refusal it is as it was, but that a fault of the store leaves it so
--- or so.
-abbrev pub HasDropped : Command → Option Refusal → StoreView → Files → Type 0
-HasDropped (commands.Consumers (Some name)) answer first f = LeavesFiles (λ g. ItEnds name answer g f) first
-HasDropped other answer first f = Unit {0}
-
--- Files stand for the history, each other actor that was new to the one at first is new to it, and consumers are
--- spared.
+-- Files stand for the history, no other file changed than the command may make or take away, and each other actor that
+-- was new to the history at first is new to it. Of the consumers that were settled those are whose files stay.
 pub record StandsForOthers (e : Execution) (h : History) (first : StoreView) (later : History) (f : Files)
     : Type 0 where
   pub folder : Folder f later
+  pub changes : Changes e h first f
   pub free : (other : Actor) → HaveOtherNames (actor e.start) other → LeavesFiles (IsNew other h) first
       → IsNew other later f
-  pub consumers : SparesConsumers e h first later f
-  pub own : MayDrop e.command first f
+  pub settled : (names : List (List ℕ))
+      → ((name : List ℕ) → Contains names name → LeavesFiles (λ was. ItRests name was f) first)
+      → LeavesFiles (λ was. HaveSettled was h names) first → HaveSettled f later names
+
+-- What a drop leaves of its consumer's file, by its answer: none, once the remove was answered, whether or not the sink
+-- took what was told; else it is as it was, but that a fault of the remove leaves it so or gone.
+abbrev pub HasDropped : Command → Option Refusal → StoreView → Files → Type 0
+HasDropped (commands.Consumers (Some name)) answer first f = LeavesFiles (λ was. ItEnds name answer was f) first
+HasDropped other answer first f = Unit {0}
 
 -- Of a history that stands at its first call: what it made stands at the end, and in each image of a crash what it may
--- make; and others are free to go on there.
+-- make; others are free to go on there, and who is settled stays so. What it dropped is gone at the end.
 pub record KeepsIt (e : Execution) (h : History) (first : StoreView) : Type 0 where
   pub later : History
   pub makes : HasMade e h e.refusal later

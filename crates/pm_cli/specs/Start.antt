@@ -1,14 +1,14 @@
 -- Where a command may start, what it reads, by which call it makes what it makes, and what it prints of that, or before
 -- a refusal.
-use Rattle.std.specs.Prelude.{◌≡◌, ◌≢◌, ℕ, suc, List, [], ◌++◌, codes, decimal, length, nat_lt, if◌then◌else◌}
+use Rattle.std.specs.Prelude.{◌≡◌, ◌≢◌, ◌⊎◌, ℕ, suc, List, [], ◌++◌, codes, decimal, length, nat_lt, if◌then◌else◌}
 use Rattle.std.specs.Prelude.{Option, Some, None}
 use Rattle.pm_base.specs.Newline.{line}
 use Rattle.pm_io.specs.Sink.{SinkView}
 use Rattle.pm_store.specs.Files.{Files}
 use Rattle.pm_model_history.specs.History.{Entry, History, table}
-use Rattle.pm_model_folder.specs.Changes.{Actor, IsNoOrigin, origin_name}
+use Rattle.pm_model_folder.specs.Changes.{Actor, IsNoOrigin, IsOwn, origin_name}
 use Rattle.pm_model_folder.specs.Folder.{Folder}
-use Rattle.pm_model_folder.specs.Paths.{schema_path}
+use Rattle.pm_model_folder.specs.Paths.{consumer_path, schema_path}
 use Rattle.pm_create.specs.Creator.{own_origin}
 use Rattle.pm_create.specs.Making as making
 use Rattle.pm_commit.specs.AllCalls as commit
@@ -37,10 +37,18 @@ HasInput (commands.Compact full) bytes left = Unit {0}
 HasInput (commands.Follow from full) bytes left = Unit {0}
 HasInput (commands.Write user identifier) bytes left = left ≡ Some bytes
 
--- the consumer whose file a command may change, where there is one
-abbrev pub own_consumer : Command → Option (List ℕ)
-own_consumer (commands.Consumers dropped) = dropped
-own_consumer other = None
+-- the file at this path is one that the command makes: its table's origin and schema; or its actor's own, and the next
+-- snapshot
+abbrev pub MayAdd : Command → Actor → History → List ℕ → Type 0
+MayAdd commands.Create me h path = (path ≡ own_origin me) ⊎ (path ≡ schema_path 0)
+MayAdd (commands.Compact full) me h path = IsOwn me path ⊎ (path ≡ next_path h)
+MayAdd (commands.Write user identifier) me h path = IsOwn me path ⊎ (path ≡ next_path h)
+MayAdd other me h path = ⊥
+
+-- and one that it takes away: that of the consumer which it drops
+abbrev pub MayTake : Command → List ℕ → Type 0
+MayTake (commands.Consumers (Some name)) path = path ≡ consumer_path name
+MayTake other path = ⊥
 
 -- the path of the call by which it makes what it makes of a history, where it makes another one
 abbrev pub changed_path : Command → History → List ℕ

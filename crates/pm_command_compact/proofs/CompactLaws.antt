@@ -24,6 +24,7 @@ use Rattle.pm_read_schema.specs.AllCalls.{DidRead, HasFiles, Stay, ReadsTables}
 use Rattle.pm_read_table.specs.declared.view.View.{View}
 use Rattle.pm_commit.specs.AllCalls.{MayStart, NamesNone}
 use Rattle.pm_commit.specs.Alone.{with_entry}
+use Rattle.pm_commit.specs.Meaning.{AddsOwn, path_after}
 use Rattle.pm_compactor.specs.AllCalls as compactor
 use Rattle.pm_compactor.specs.AllCalls.{Beginning, Chooses, GivesReason, IsNewestView, IsUnchanged, WasUsed, entry_of}
 use Rattle.pm_compactor.specs.Compactor.{asking_of, chosen_in}
@@ -67,6 +68,8 @@ module _ (start : Start) (full : Bool) where
         (inl (subst (MayStart other h) (files_same at.0 f first at.1 has) at.2));
     images = images_of (StandsForEither start full h first) f first.ops after.ops stay.images (inl folder);
     consumers = consumers_stay h f first after has stay.images;
+    adds = leaves_of (λ f. Extends (AddsOwn (actor start) (path_after h) f) first.ops after.ops) f first has
+        (images_of (AddsOwn (actor start) (path_after h) f) f first.ops after.ops stay.images (λ path. inl refl));
   }
 
   fault_left : (h : History) (path : List ℕ) (first store : StoreView) → LeavesFiles (λ f. Folder f h) store
@@ -151,6 +154,10 @@ module _ (start : Start) (full : Bool) (h : History) (f : Files) (first : StoreV
   pub keeps_consumers : (g : Files) → compactor.StandsForEither b g → KeepsConsumers h f g
   keeps_consumers g (inl stands) = stands.consumers
   keeps_consumers g (inr (v, newest, some, stands)) = stands.consumers
+
+  pub adds_own : (g : Files) → compactor.StandsForEither b g → AddsOwn (actor start) (path_after h) f g
+  adds_own g (inl stands) = stands.adds
+  adds_own g (inr (v, newest, some, stands)) = stands.adds
 
   pub start_with : (other : Actor) → other ≢ actor start → NamesNone other h f → (g : Files) → compactor.StandsForEither b g
       → MayStartAfter other start full h first g
@@ -245,6 +252,9 @@ compacted_keeps start full s made before after may compacts = λ alone h begins.
       consumers = leaves_of (λ f. Extends (KeepsConsumers h f) first.ops after.ops) files.0 first files.1
           (Extends-weaker (compactor.StandsForEither at) (KeepsConsumers h files.0) first.ops after.ops
           (keeps_consumers start full h files.0 first files.1) does.images);
+      adds = leaves_of (λ f. Extends (AddsOwn (actor start) (path_after h) f) first.ops after.ops) files.0 first files.1
+          (Extends-weaker (compactor.StandsForEither at) (AddsOwn (actor start) (path_after h) files.0) first.ops after.ops
+          (adds_own start full h files.0 first files.1) does.images);
     }
 
 -- ---- what a crash may leave
@@ -296,4 +306,5 @@ module _ (start : Start) (full : Bool) where
         images = Extends-weaker (StandsForEither start full h first) (IsImage start full h first) first.ops after.store.ops (image_of start full h first) was.images;
         free = was.free;
         consumers = was.consumers;
+        adds = was.adds;
       }

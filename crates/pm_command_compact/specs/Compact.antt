@@ -26,7 +26,7 @@ use Rattle.pm_plan.specs.declared.planned.Asking.{Asking}
 use Rattle.pm_create.specs.Making.{LeavesFiles}
 use Rattle.pm_read_schema.specs.Trace as reader
 use Rattle.pm_read_table.specs.declared.view.View.{View}
-use Rattle.pm_commit.specs.AllCalls.{MayStart}
+use Rattle.pm_commit.specs.AllCalls.{AddsAlone, MayStart}
 use Rattle.pm_commit.specs.Alone.{with_entry}
 use Rattle.pm_compactor.specs.AllCalls as compactor
 use Rattle.pm_compactor.specs.AllCalls.{Beginning, BearsCompaction, Chooses, GivesReason, IsNewestView, WasUsed}
@@ -176,6 +176,7 @@ pub record CompactsTable (start : Start) (full : Bool) (h : History) (first : St
   pub free : (other : Actor) → other ≢ actor start → LeavesFiles (MayStart other h) first
       → Extends (MayStartAfter other start full h first) first.ops after.store.ops
   pub consumers : ConsumersRest h first after.store
+  pub adds : AddsAlone (actor start) h first after.store
 
 -- what it promises of histories, from its first call of the store on: where no snapshot names a file of an actor of its
 -- name
@@ -199,6 +200,7 @@ pub record Keeps (start : Start) (full : Bool) (h : History) (first after : Stor
   pub free : (other : Actor) → other ≢ actor start → LeavesFiles (MayStart other h) first
       → Extends (MayStartAfter other start full h first) first.ops after.ops
   pub consumers : ConsumersRest h first after
+  pub adds : AddsAlone (actor start) h first after
 
 -- Private: and to histories
 abbrev pub KeepsHistories : Start → Bool → StoreView → StoreView → Result Compacted Refusal → Type 0

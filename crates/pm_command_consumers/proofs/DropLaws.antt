@@ -31,7 +31,7 @@ use Rattle.pm_command.specs.Outside.{Outside, Prints}
 use Rattle.pm_command.specs.Table.{MayRefuse}
 use Rattle.pm_command.proofs.TableLemmas.{trace_weaker, files_of, leaves_of, leaves_weaker, caused, judged_caused}
 use Rattle.pm_command_consumers.specs.Consumers.{AfterSchema, ShowsSchema}
-use Rattle.pm_command_consumers.specs.Drop.{AnswersHistory, DidRemove, Drops, DropsTables, IsRemoved, ItEnds, Keeps, KeepsHistories, MadeBeside, MakesOf, StandsWithout, WasThere, text_of}
+use Rattle.pm_command_consumers.specs.Drop.{AnswersHistory, DidRemove, Drops, DropsTables, EndsBy, IsRemoved, ItEnds, Keeps, KeepsHistories, MadeBeside, MakesOf, StandsWithout, WasThere, text_of}
 use Rattle.pm_command_consumers.proofs.JoinLemmas.{after_schema, read_then, rose_wider}
 
 -- ---- its calls
@@ -90,7 +90,7 @@ same_stands name h names f folder settled = record {
   settled = λ rests. settled;
 }
 
-same_leaves : (name : List ℕ) (e : Refusal) (f : Files) → ItLeaves name (Err e) f f
+same_leaves : (name : List ℕ) (e : Refusal) (f : Files) → EndsBy name (Err e) f f
 same_leaves name (refusals.StoreFault path) f = inl refl
 same_leaves name e f = refl
 
@@ -108,8 +108,8 @@ stay_keeps : (name : List ℕ) (h : History) (names : List (List ℕ)) (f : File
     → Stay f first after → MayRefuse h first after e → Keeps name h names first after (Err e)
 stay_keeps name h names f first after e has folder settled stay may = record {
   makes = may;
-  leaves = leaves_of (λ f. LeavesFiles (λ g. StandsWithout name h names f g × ItLeaves name (Err e) f g) after) f first has
-      (leaves_of (λ g. StandsWithout name h names f g × ItLeaves name (Err e) f g) f after stay.here (same_stands name h names f folder settled, same_leaves name e f));
+  leaves = leaves_of (λ f. LeavesFiles (λ g. StandsWithout name h names f g × EndsBy name (Err e) f g) after) f first has
+      (leaves_of (λ g. StandsWithout name h names f g × EndsBy name (Err e) f g) f after stay.here (same_stands name h names f folder settled, same_leaves name e f));
   images = leaves_of (λ f. Extends (ImageOf name h names f) first.ops after.ops) f first has (stay_images name h names f first after folder settled stay.images);
 }
 
@@ -159,14 +159,23 @@ made_of name s entries f first middle after (Ok was_there) has wider is =
     (some_table s entries, leaves_of (WasThere name was_there) f first has (there_of name was_there f middle after is))
 made_of name s entries f first middle after (Err e) has wider is = cause_of name (table s entries) f first middle after e wider is
 
+-- a fault left it gone in the remove alone
+ends_by : (name : List ℕ) (f : Files) (first after : StoreView) (made : Result Bool Refusal) → dropper.IsCaused name f first after made → (g : Files)
+    → ItLeaves name made f g → EndsBy name made f g
+ends_by name f first after (Ok was_there) cause g left = left
+ends_by name f first after (Err (refusals.StoreFault path)) cause g (inl rests) = inl rests
+ends_by name f first after (Err (refusals.StoreFault path)) cause g (inr goes) = inr (cause.0, goes)
+ends_by name f first after (Err e) cause g left = left
+
 drop_keeps : (name : List ℕ) (s : TableSchema) (entries : List Entry) (names : List (List ℕ)) (f : Files) (first middle after : StoreView) (made : Result Bool Refusal)
     → HasFiles f first → Folder f (table s entries) → HaveSettled f (table s entries) names → Stay f first middle → first.faults ≤ middle.faults
     → DropsName name s entries names f middle after made → Keeps name (table s entries) names first after made
 drop_keeps name s entries names f first middle after made has folder settled stay wider drops = record {
   makes = made_of name s entries f first middle after made has wider drops.cause;
-  leaves = leaves_of (λ f. LeavesFiles (λ g. StandsWithout name (table s entries) names f g × ItLeaves name made f g) after) f first has
+  leaves = leaves_of (λ f. LeavesFiles (λ g. StandsWithout name (table s entries) names f g × EndsBy name made f g) after) f first has
       (leaves_weaker (λ g. OthersRest (consumer_path name) f g × ItLeaves name made f g × dropper.StandsWithout name s entries names f g)
-      (λ g. StandsWithout name (table s entries) names f g × ItLeaves name made f g) (λ g (rest, left, stands). (without_of name s entries names f g rest stands, left)) after drops.leaves);
+      (λ g. StandsWithout name (table s entries) names f g × EndsBy name made f g)
+      (λ g (rest, left, stands). (without_of name s entries names f g rest stands, ends_by name f middle after made drops.cause g left)) after drops.leaves);
   images = leaves_of (λ f. Extends (ImageOf name (table s entries) names f) first.ops after.ops) f first has
       (Extends-trans (ImageOf name (table s entries) names f) first.ops middle.ops after.ops
       (stay_images name (table s entries) names f first middle folder settled stay.images)
@@ -225,11 +234,11 @@ made_answers name h first before after (Err e) answer makes (is, untaken) =
     subst (AnswersHistory name h first before after) (sym is) (refusal_answers name h first before after e makes)
 
 -- once it was told whether a file was there, none is
-told_ends : (name : List ℕ) (was_there : Bool) (f g : Files) → WasThere name was_there f → ItLeaves name (Ok was_there) f g → map.get g (consumer_path name) ≡ None
+told_ends : (name : List ℕ) (was_there : Bool) (f g : Files) → WasThere name was_there f → EndsBy name (Ok was_there) f g → map.get g (consumer_path name) ≡ None
 told_ends name true f g there left = left.1
 told_ends name false f g none left = left ∙ none
 
-refusal_ends : (name : List ℕ) (h : History) (first after : StoreView) (e : Refusal) (f g : Files) → MayRefuse h first after e → ItLeaves name (Err e) f g → ItEnds name (Some e) f g
+refusal_ends : (name : List ℕ) (h : History) (first after : StoreView) (e : Refusal) (f g : Files) → MayRefuse h first after e → EndsBy name (Err e) f g → ItEnds name (Some e) f g
 refusal_ends name h first after (refusals.SinkFault snapshot) f g may left = absurd may
 refusal_ends name h first after (refusals.StoreFault path) f g may left = left
 refusal_ends name h first after e f g may left = left
@@ -250,9 +259,9 @@ told_leaves : (name : List ℕ) (h : History) (names : List (List ℕ)) (first a
     → ((f g : Files) → map.get g (consumer_path name) ≡ None → ItEnds name answer f g) → (kept : Keeps name h names first after (Ok was_there))
     → LeavesFiles (EndsAt name h names after answer) first
 told_leaves name h names first after was_there answer so kept =
-    leaves_both (WasThere name was_there) (λ f. LeavesFiles (λ g. StandsWithout name h names f g × ItLeaves name (Ok was_there) f g) after)
+    leaves_both (WasThere name was_there) (λ f. LeavesFiles (λ g. StandsWithout name h names f g × EndsBy name (Ok was_there) f g) after)
     (EndsAt name h names after answer) first
-    (λ f there left. leaves_weaker (λ g. StandsWithout name h names f g × ItLeaves name (Ok was_there) f g) (λ g. StandsWithout name h names f g × ItEnds name answer f g)
+    (λ f there left. leaves_weaker (λ g. StandsWithout name h names f g × EndsBy name (Ok was_there) f g) (λ g. StandsWithout name h names f g × ItEnds name answer f g)
     (λ g (stands, leaves). (stands, so f g (told_ends name was_there f g there leaves))) after left)
     kept.makes.1 kept.leaves
 
@@ -265,8 +274,8 @@ made_leaves name h names first before after (Ok was_there) (Some e) kept (fault,
     (told_leaves name h names first after.store was_there (Some (refusals.SinkFault None)) (λ f g none. none) kept)
 made_leaves name h names first before after (Err e) answer kept (is, untaken) =
     subst (λ (answer : Option Refusal). LeavesFiles (EndsAt name h names after.store answer) first) (sym is)
-    (leaves_weaker (λ f. LeavesFiles (λ g. StandsWithout name h names f g × ItLeaves name (Err e) f g) after.store) (EndsAt name h names after.store (Some e))
-    (λ f left. leaves_weaker (λ g. StandsWithout name h names f g × ItLeaves name (Err e) f g) (λ g. StandsWithout name h names f g × ItEnds name (Some e) f g)
+    (leaves_weaker (λ f. LeavesFiles (λ g. StandsWithout name h names f g × EndsBy name (Err e) f g) after.store) (EndsAt name h names after.store (Some e))
+    (λ f left. leaves_weaker (λ g. StandsWithout name h names f g × EndsBy name (Err e) f g) (λ g. StandsWithout name h names f g × ItEnds name (Some e) f g)
     (λ g (stands, leaves). (stands, refusal_ends name h first after.store e f g kept.makes leaves)) after.store left) first kept.leaves)
 
 pub removed_serves : (name : List ℕ) (before after : Outside) (answer : Option Refusal) → IsRemoved name before.out after.out before.store after.store answer

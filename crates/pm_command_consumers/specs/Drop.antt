@@ -77,12 +77,13 @@ pub record StandsWithout (name : List ℕ) (h : History) (names : List (List ℕ
   pub others : (others : List (List ℕ)) → AreOthersOf name names others → HaveSettled after h others
   pub settled : ItRests name f after → HaveSettled after h names
 
--- what an answer leaves: no file, once that was told; else the file as it was, but that after a fault of the store it
--- is there or not
+-- What an answer leaves: no file, once the remove was answered, whether or not the sink took what was told; else the file
+-- as it was, but that a fault of the remove leaves it so or gone.
 abbrev pub ItEnds : List ℕ → Option Refusal → Files → Files → Type 0
 ItEnds name None f after = map.get after (consumer_path name) ≡ None
 ItEnds name (Some (refusals.SinkFault snapshot)) f after = map.get after (consumer_path name) ≡ None
-ItEnds name (Some (refusals.StoreFault path)) f after = ItRests name f after ⊎ ItGoes name f after
+ItEnds name (Some (refusals.StoreFault path)) f after =
+    ItRests name f after ⊎ ((path ≡ consumer_path name) × ItGoes name f after)
 ItEnds name (Some e) f after = ItRests name f after
 
 -- The answer to a history: whether a file was there was printed; or a prefix of that, where the sink failed; or what it
@@ -120,11 +121,17 @@ abbrev pub MakesOf : List ℕ → History → StoreView → StoreView → Result
 MakesOf name h first after (Ok was_there) = (h ≢ no_table) × LeavesFiles (WasThere name was_there) first
 MakesOf name h first after (Err e) = MayRefuse h first after e
 
+-- Private: what they leave of the file
+abbrev pub EndsBy : List ℕ → Result Bool Refusal → Files → Files → Type 0
+EndsBy name (Err (refusals.StoreFault path)) f after =
+    ItRests name f after ⊎ ((path ≡ consumer_path name) × ItGoes name f after)
+EndsBy name other f after = ItLeaves name other f after
+
 -- Private: what the calls do to a history
 pub record Keeps (name : List ℕ) (h : History) (names : List (List ℕ)) (first after : StoreView)
     (made : Result Bool Refusal) : Type 0 where
   pub makes : MakesOf name h first after made
-  pub leaves : LeavesFiles (λ f. LeavesFiles (λ g. StandsWithout name h names f g × ItLeaves name made f g) after) first
+  pub leaves : LeavesFiles (λ f. LeavesFiles (λ g. StandsWithout name h names f g × EndsBy name made f g) after) first
   pub images : LeavesFiles (λ f. Extends (λ g. StandsWithout name h names f g × (ItRests name f g ⊎ ItGoes name f g))
       first.ops after.ops) first
 

@@ -43,8 +43,9 @@ use Rattle.pm_draft.specs.Built.{IsBuilt, unbuilt}
 use Rattle.pm_write.specs.Batch.{Groups, IsBatchOf, ReadsBatch}
 use Rattle.pm_write.specs.Taken.{all_taken, no_room, taken_at, taken_by, taken_in, taken_of}
 use Rattle.pm_commit.specs.AllCalls as commit
-use Rattle.pm_commit.specs.AllCalls.{AppendsTables, DidAppend, HasBorne, MayBegin, MayStart, NamesNone}
+use Rattle.pm_commit.specs.AllCalls.{AddsAlone, AppendsTables, DidAppend, HasBorne, MayBegin, MayStart, NamesNone}
 use Rattle.pm_commit.specs.Alone.{Beginning, GivesReason, IsUnchanged, WasUsed, with_entry}
+use Rattle.pm_commit.specs.Meaning.{AddsOwn, path_after}
 use Rattle.pm_commit.specs.declared.all_calls.Appended.{Appended}
 use Rattle.pm_commit.specs.declared.all_calls.Appended.TheVariants as appends
 use Rattle.pm_command_write.specs.Input.{HasLines, MayRefuseInput, RefusesInput}
@@ -163,6 +164,13 @@ appended_trace start w lines s batch made before after t =
 
 -- ---- what its calls do to histories
 
+-- no file appears where files stay
+adds_none : (start : Start) (h : History) (f : Files) (first after : StoreView) → HasFiles f first → Extends (λ g. g ≡ f) first.ops after.ops
+    → AddsAlone (actor start) h first after
+adds_none start h f first after has images =
+    leaves_of (λ f. Extends (AddsOwn (actor start) (path_after h) f) first.ops after.ops) f first has
+    (images_of (AddsOwn (actor start) (path_after h) f) f first.ops after.ops images (λ path. inl refl))
+
 -- files that stay go on to stand for the history
 stay_keeps : (start : Start) (w : Writer) (lines : Lines) (h : History) (f : Files) (first after : StoreView) (made : Result Written Refusal)
     → HasFiles f first → Folder f h → Stay f first after → (Rests h first after → MakesOf start w lines h first after made)
@@ -175,6 +183,7 @@ stay_keeps start w lines h f first after made has folder stay makes = record {
       (inl (subst (MayStart other h) (files_same at.0 f first at.1 has) at.2));
   images = images_of (StandsForEither start w lines h) f first.ops after.ops stay.images (inl folder);
   consumers = consumers_stay h f first after has stay.images;
+  adds = adds_none start h f first after has stay.images;
 }
 
 fault_left : (start : Start) (w : Writer) (lines : Lines) (h : History) (path : List ℕ) (store : StoreView) → LeavesFiles (λ f. Folder f h) store
@@ -303,6 +312,10 @@ module _ (start : Start) (w : Writer) (lines : Lines) (s : TableSchema) (batch :
   pub keeps-consumers : (g : Files) → commit.StandsForEither b g → KeepsConsumers h f g
   keeps-consumers g (inl stands) = stands.consumers
   keeps-consumers g (inr stands) = stands.consumers
+
+  pub adds-own : (g : Files) → commit.StandsForEither b g → AddsOwn (actor start) (path_after h) f g
+  adds-own g (inl stands) = stands.adds
+  adds-own g (inr stands) = stands.adds
 
   pub start-rows : (other : Actor) → other ≢ actor start → NamesNone other h f → (g : Files) → commit.StandsForEither b g
       → MayStartAfter other start w lines h g
@@ -475,6 +488,7 @@ refused_serves start w before after out store e refuses =
           let free = files_of (MayStart other h) store starts in
           images_left (MayStartAfter other start w (row_lines bytes) h) free.0 store free.1 (inl free.2);
       consumers = consumers_stay h files.0 store store files.1 (images_left (λ g. g ≡ files.0) files.0 store files.1 refl);
+      adds = adds_none start h files.0 store store files.1 (images_left (λ g. g ≡ files.0) files.0 store files.1 refl);
     })
 
 refusal_answers : (start : Start) (w : Writer) (lines : Lines) (h : History) (first : StoreView) (before after : Outside) (e : Refusal)
@@ -505,6 +519,7 @@ lines_serve start w lines before after answer read (made, trace, kept, prints) =
       free = λ other apart starts. subst (λ (lines : Lines). Extends (MayStartAfter other start w lines h) first.ops after.store.ops) has.are
           (was.free other apart starts);
       consumers = was.consumers;
+      adds = was.adds;
     }
 
 -- ---- what is done by the answer of the batch

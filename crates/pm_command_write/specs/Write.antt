@@ -29,7 +29,7 @@ use Rattle.pm_draft.specs.Built.{IsBuilt, unbuilt}
 use Rattle.pm_write.specs.Batch.{Groups, IsBatchOf}
 use Rattle.pm_write.specs.Taken.{all_taken}
 use Rattle.pm_made.specs.declared.newest.Author.{Author}
-use Rattle.pm_commit.specs.AllCalls.{BearsCommit, DidAppend, Has, HasBorne, MayStart}
+use Rattle.pm_commit.specs.AllCalls.{AddsAlone, BearsCommit, DidAppend, Has, HasBorne, MayStart}
 use Rattle.pm_commit.specs.Alone.{Beginning, GivesReason, WasUsed, with_entry}
 use Rattle.pm_commit.specs.Own.{OwnView, new_author, new_own}
 use Rattle.pm_commit.specs.declared.all_calls.Appended.{Appended}
@@ -272,6 +272,7 @@ pub record WritesTable (start : Start) (w : Writer) (bytes : List ℕ) (h : Hist
   pub free : (other : Actor) → other ≢ actor start → LeavesFiles (MayStart other h) first
       → Extends (MayStartAfter other start w (row_lines bytes) h) first.ops after.store.ops
   pub consumers : ConsumersRest h first after.store
+  pub adds : AddsAlone (actor start) h first after.store
 
 -- what it promises of histories, from its first call of the store on: where no snapshot names a file of an actor of its
 -- name
@@ -295,6 +296,7 @@ pub record Keeps (start : Start) (w : Writer) (lines : Lines) (h : History) (fir
   pub free : (other : Actor) → other ≢ actor start → LeavesFiles (MayStart other h) first
       → Extends (MayStartAfter other start w lines h) first.ops after.ops
   pub consumers : ConsumersRest h first after
+  pub adds : AddsAlone (actor start) h first after
 
 -- Private: and to histories
 abbrev pub KeepsHistories : Start → Writer → Lines → StoreView → StoreView → Result Written Refusal → Type 0

@@ -1,5 +1,5 @@
 -- All calls of a committer, one after another.
-use Rattle.std.proofs.Common.{◌≡◌, ◌⊎◌, inl, inr, ℕ, ◌≤◌, List, [], ◌∷◌, ◌++◌, Option, None, Some, IsSomeAnd, IfErr, Result, Ok, Err, append-nil, refl, sym, ap, ◌∙◌, subst, arith}
+use Rattle.std.proofs.Common.{◌≡◌, ◌⊎◌, inl, inr, ℕ, suc, ◌≤◌, List, [], ◌∷◌, ◌++◌, Option, None, Some, IsSomeAnd, IfErr, Result, Ok, Err, append-nil, refl, sym, ap, ◌∙◌, subst, arith}
 use Rattle.std.specs.FinMap as map
 use Rattle.pm_values.specs.declared.refusal.Refusal.{Refusal}
 use Rattle.pm_values.specs.declared.refusal.Refusal.TheVariants as refusals
@@ -15,14 +15,16 @@ use Rattle.pm_machine.proofs.AloneLaws.{Follows, Follows-first, Follows-meanwhil
 use Rattle.pm_machine.proofs.Facts.{HasTrace-acts, Traces-faulted, Traces-join, Traces-none, image_changed}
 use Rattle.pm_model_history.specs.History.{Entry, GoesOn, History, IsTableOf, no_table, table}
 use Rattle.pm_schema.specs.declared.schema.TableSchema.{TableSchema}
+use Rattle.pm_snapshot.specs.Names.{snapshot_name}
 use Rattle.pm_snapshot.specs.declared.snapshot.Snapshot.{Snapshot}
 use Rattle.pm_model_folder.specs.Changes.{Actor}
 use Rattle.pm_model_folder.specs.Commits.{Names}
 use Rattle.pm_model_folder.specs.Folder.{Folder}
-use Rattle.pm_model_folder.specs.Ledger.{Advances, HasConsumersOf, HasNamedNone, IsKnown, LeavesConsumers, Past, Stands, count_of}
+use Rattle.pm_model_folder.specs.Ledger.{Advances, HasConsumersOf, HasNamedNone, IsKnown, Past, Stands, count_of}
 use Rattle.pm_model_folder.specs.Meaning.{SnapshotAt}
 use Rattle.pm_model_folder.proofs.HoldLemmas.{SameContents}
 use Rattle.pm_model_folder.proofs.LedgerFacts.{known-keep}
+use Rattle.pm_model_folder.proofs.PathLemmas.{consumer-snapshot}
 use Rattle.pm_model_folder.proofs.SettledLemmas.{consumers-stay, same-keeps}
 use Rattle.pm_read_schema.proofs.AllCallsLemmas as schema_calls
 use Rattle.pm_read_schema.proofs.StillLemmas.{stayed}
@@ -30,7 +32,7 @@ use Rattle.pm_made.specs.declared.newest.Author.{Author}
 use Rattle.pm_commit.specs.AllCalls.{AppendsAlone, AppendsTables, DidAppend, Ends, Has, IsCounted, IsPastOf, KnewFiles, KnowsFiles, LeavesFiles, LeavesFolder, MayBegin, NamesNone, SaysOf, StandsForEither, StandsFreely, StoodSo}
 use Rattle.pm_commit.specs.Alone.{AloneAt, AloneRefused, Beginning, CommitterAlone, IsTryAt, KnewAlone, KnowsAlone, begun_at, newest_id, with_entry}
 use Rattle.pm_commit.specs.Committer.{IsCommitter}
-use Rattle.pm_commit.specs.Meaning.{HasCommitted, KnowsOwn, MakesEntry, MakesIn, own_in}
+use Rattle.pm_commit.specs.Meaning.{AddsOwn, HasCommitted, KnowsOwn, MakesEntry, MakesIn, MakesOwn, own_in, path_after}
 use Rattle.pm_commit.specs.Own.{OwnView, actor_of, begun}
 use Rattle.pm_commit.specs.Search.{seen_of}
 use Rattle.pm_commit.specs.Trace.{CommitterActed, Did}
@@ -39,6 +41,7 @@ use Rattle.pm_commit.specs.declared.all_calls.Appended.TheVariants as appends
 use Rattle.pm_commit.specs.declared.committer.CommitStep.{CommitStep}
 use Rattle.pm_commit.specs.declared.phase.Phase.{Phase}
 use Rattle.pm_commit.specs.declared.phase.Phase.TheVariants as phases
+use Rattle.pm_commit.proofs.AddsLemmas.{adds-consumers, adds-more, adds-none}
 use Rattle.pm_commit.proofs.AloneCauseLemmas.{begun-actor}
 use Rattle.pm_commit.proofs.AloneLemmas.{either-way}
 use Rattle.pm_commit.proofs.CommittedLemmas.{bears-commit}
@@ -136,6 +139,7 @@ module _ (laws : CallLaws) (b : Beginning) where
       → StandsFreely b p.history f
   freely f p stands past either = record {
     folder = stands.folder;
+    adds = past.adds;
     consumers = known-keep b.history b.files f p stands (goes-on b.entry b.history p.history either) past.consumers;
     free = λ other apart none s id path table low high names by.
         let most = count-bound f p s stands table in
@@ -143,12 +147,20 @@ module _ (laws : CallLaws) (b : Beginning) where
   }
 
   past-on : (own : OwnView) (f after : Files) (p q : Past) → Stands f p → p.history ≡ b.history → IsOwnOf b own → IsPastOf b f p
-      → Advances (actor_of own) f p after q → LeavesConsumers f p after q → IsPastOf b after q
-  past-on own f after p q stands same is past advances leaves = record {
-    stood = stood-on (actor_of own) f after b p q same past.stood advances;
-    consumers = consumers-stay b.history b.files f after p q past.consumers leaves;
-    others = λ other apart none. laws.others other (actor_of own) f after p q stands advances (λ same. apart (same ∙ is)) (past.others other apart none);
-  }
+      → MakesOwn own b.entry f p after q → IsPastOf b after q
+  past-on own f after p q stands same is past makes =
+      let own_adds : AddsOwn (actor_of b.own) (path_after b.history) f after = subst (λ (h : History). AddsOwn (actor_of b.own) (path_after h) f after) same
+      (subst (λ (me : Actor). AddsOwn me (path_after p.history) f after) is makes.adds) in record {
+        stood = stood-on (actor_of own) f after b p q same past.stood makes.advances;
+        adds = adds-more (actor_of b.own) (path_after b.history) b.files f after past.adds own_adds;
+        consumers = consumers-stay b.history b.files f after p q past.consumers (record {
+              files = adds-consumers (actor_of b.own) (path_after b.history) f after
+                  (λ name. consumer-snapshot name (snapshot_name (suc (newest_id b)))) own_adds;
+              claims = makes.consumers;
+            });
+        others = λ other apart none.
+            laws.others other (actor_of own) f after p q stands makes.advances (λ same. apart (same ∙ is)) (past.others other apart none);
+      }
 
 module _ (laws : CallLaws) (b : Beginning) (known : Option (List Op)) where
   -- a change that a phase's commit makes, from files that stand for what is known
@@ -161,7 +173,7 @@ module _ (laws : CallLaws) (b : Beginning) (known : Option (List Op)) where
       by (Some own) is makes =
           let own_is = own-in b m own f p.history is at in
           let then = laws.past _ f after p q stands makes.advances in
-          let past_then = past-on laws b own f after p q stands own_is.0 own_is.1 past makes.advances makes.consumers in
+          let past_then = past-on laws b own f after p q stands own_is.0 own_is.1 past makes in
           let either = either-way b p.history q.history own_is.0 makes.appends in
           let image = stands-either b q.history after (freely laws b after q then past_then either) either in
           (then, past_then, image)
@@ -327,6 +339,7 @@ first-known found s b f same is begin table_is =
       subst (λ (f : Files). Stands f past) (sym same) stands,
       record {
         stood = λ id known within. stood id;
+        adds = adds-none (actor_of b.own) (path_after b.history) b.files f (λ path. ap (λ (f : Files). map.get f path) same);
         consumers = subst (λ (f : Files). HasConsumersOf b.history b.files f past) (sym same) consumers;
         others = λ other apart none. named other none;
       },
@@ -378,7 +391,7 @@ appended-history found s own m result before middle after is committer (earlier,
           leaves = says.0;
           images = Extends-trans (StandsForEither b) first.ops middle.ops after.ops
               (Extends-weaker (λ f. f ≡ b.files) (StandsForEither b) first.ops middle.ops
-              (λ f same. inl (subst (StandsFreely b b.history) (sym same) (record { folder = begin.start.0; consumers = same-keeps b.files b.files (λ path. refl) b.history; free = λ other apart none. none }))) stay.0.images)
+              (λ f same. inl (subst (StandsFreely b b.history) (sym same) (record { folder = begin.start.0; adds = λ path. inl refl; consumers = same-keeps b.files b.files (λ path. refl) b.history; free = λ other apart none. none }))) stay.0.images)
               left.1;
           says = says.1;
           counted = counted s own result (event ∷ events) later first middle after read rest ends;

@@ -12,8 +12,6 @@ use Rattle.pm_schema.specs.declared.schema.TableSchema.{TableSchema}
 use Rattle.pm_snapshot.specs.Names.{MayName}
 use Rattle.pm_model_folder.specs.Changes.{Actor, IsOwnFile, its_file}
 use Rattle.pm_model_folder.specs.Ledger.{Advances, HasNamedNone, Past, Stands}
-use Rattle.pm_model_folder.specs.Paths.{consumer_path}
-use Rattle.pm_model_folder.proofs.PathLemmas.{consumer-own}
 use Rattle.pm_put.proofs.Facts.{next_left, put-more}
 use Rattle.pm_put.specs.declared.putting.CommitFile.{CommitFile}
 use Rattle.pm_append.specs.Commit.{HasOneGroup}
@@ -25,11 +23,12 @@ use Rattle.pm_made.specs.declared.newest.Newest.{Newest}
 use Rattle.pm_made.proofs.FileCountLemmas.{made-few}
 use Rattle.pm_compaction.specs.Plan.{KnowsPlan, RewrittenGroup, ToldGroup, group_file, made_files, told_files}
 use Rattle.pm_commit.specs.Committer.{Begins, IsCommitter, calls_left, first_of_put, most_calls, publishing_of}
-use Rattle.pm_commit.specs.Meaning.{AreThere, IsFoundIn, KnowsBut, KnowsOwn, MakesEntry, MakesFile, MakesIn, MakesOwn, PlannedIn, WasGiven, own_in}
+use Rattle.pm_commit.specs.Meaning.{AreThere, IsFoundIn, KnowsBut, KnowsOwn, MakesEntry, MakesFile, MakesIn, MakesOwn, PlannedIn, WasGiven, own_in, path_after}
 use Rattle.pm_commit.specs.Own.{IsOwn, IsTried, OwnView, actor_of, own_for_plan, with_named}
 use Rattle.pm_commit.specs.declared.found.Found.{Found}
 use Rattle.pm_commit.specs.declared.phase.Phase.{Phase}
 use Rattle.pm_commit.specs.declared.phase.Phase.TheVariants as phases
+use Rattle.pm_commit.proofs.AddsLemmas.{adds-one}
 use Rattle.pm_commit.proofs.AdvanceLemmas.{one-table, own-advances}
 use Rattle.pm_commit.proofs.CommitterLemmas.{makes-committer}
 use Rattle.pm_commit.proofs.CreateLemmas.{all-at}
@@ -133,10 +132,8 @@ module _ (law : OwnGiven) (own_files : OwnFiles) (e : Entry) (given done left : 
         advances = own-advances me f after p s file.path content known.is_table known.unnamed (its_file is.by is.in_table) at is.by
             (no-origin p.history file.path at) absent puts;
         appends = inl refl;
-        consumers = record {
-            files = λ name. puts.others (consumer_path name) (consumer-own me file.path name (its_file is.by is.in_table));
-            claims = λ name. refl;
-          };
+        adds = adds-one me (path_after p.history) f after file.path content absent (inl (its_file is.by is.in_table)) puts;
+        consumers = λ name. refl;
       }
 
   makes-in : (o : Option OwnView) → (o ≡ None → ⊥) → IfSome o (IsHeld e p) → IfSome o (WasGivenBy given done f p) → MakesFile file f after

@@ -7,8 +7,6 @@ use Rattle.pm_model_history.specs.History.{Entry}
 use Rattle.pm_schema.specs.declared.schema.TableSchema.{TableSchema}
 use Rattle.pm_model_folder.specs.Changes.{IsNamedBy, IsOwn, IsOwnFile, its_file}
 use Rattle.pm_model_folder.specs.Ledger.{Past}
-use Rattle.pm_model_folder.specs.Paths.{consumer_path}
-use Rattle.pm_model_folder.proofs.PathLemmas.{consumer-own}
 use Rattle.pm_made.specs.Commit.{Attempt}
 use Rattle.pm_put.proofs.Facts.{at_next, put-more}
 use Rattle.pm_put.specs.Making.{MakingView}
@@ -18,8 +16,9 @@ use Rattle.pm_put.specs.Putter.{create_next as put_next}
 use Rattle.pm_put.specs.declared.phase.Phase.TheVariants as puts
 use Rattle.pm_put.specs.declared.putting.CommitFile.{CommitFile}
 use Rattle.pm_commit.specs.Committer.{put_of}
-use Rattle.pm_commit.specs.Meaning.{AreThere, KnowsOwn, KnowsTry, MakesOwn}
+use Rattle.pm_commit.specs.Meaning.{AreThere, KnowsOwn, KnowsTry, MakesOwn, path_after}
 use Rattle.pm_commit.specs.Own.{IsTried, OwnView, actor_of}
+use Rattle.pm_commit.proofs.AddsLemmas.{adds-one}
 use Rattle.pm_commit.proofs.AdvanceLemmas.{own-advances}
 use Rattle.pm_commit.proofs.PathLemmas.{InTable, IsInTable, made-in, no-origin}
 use Rattle.pm_commit.proofs.PublishLemmas.{own-same}
@@ -59,10 +58,8 @@ module _ (own_files : OwnFiles) (own : OwnView) (e : Entry) (s : TableSchema) (i
     advances = own-advances (actor_of own) f after p s making.next.path content known.is_table known.unnamed is-own is-in create-named
         (no-origin p.history making.next.path is-in) absent puts;
     appends = inl refl;
-    consumers = record {
-        files = λ name. puts.others (consumer_path name) (consumer-own (actor_of own) making.next.path name is-own);
-        claims = λ name. refl;
-      };
+    adds = adds-one (actor_of own) (path_after p.history) f after making.next.path content absent (inl is-own) puts;
+    consumers = λ name. refl;
   }
 
   pub create-makes : (after : Files) → put.Makes (puts.Create making) f after → MakesOwn own e f p after p

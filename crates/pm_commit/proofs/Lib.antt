@@ -1,4 +1,5 @@
 pub mod ActorLemmas
+pub mod AddsLemmas
 pub mod AdvanceLemmas
 pub mod AfterLemmas
 pub mod AllCallsLemmas

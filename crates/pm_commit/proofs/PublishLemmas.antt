@@ -11,18 +11,17 @@ use Rattle.pm_store.proofs.ChangeLaws.{Answers-Changed}
 use Rattle.pm_values.specs.declared.group.Group.{Group}
 use Rattle.pm_model_history.specs.History.{Entry, History, IsTableOf, append, compaction, entry_rows, table}
 use Rattle.pm_schema.specs.declared.schema.TableSchema.{TableSchema}
-use Rattle.pm_snapshot.specs.Names.{greatest, snapshot_name}
+use Rattle.pm_snapshot.specs.Names.{greatest}
 use Rattle.pm_model_folder.specs.Changes.{Actor, HavePlainNames, IsNamedBy, NamesOwn, committed as commits}
 use Rattle.pm_model_folder.specs.Commits.{IsCommit, Names}
 use Rattle.pm_model_folder.specs.Entries.{IsFenced}
 use Rattle.pm_model_folder.specs.Folder.{Folder, HasTable, IsEntryAfter}
 use Rattle.pm_model_folder.specs.Ledger.{Advances, HasNamedNone, IsKnown, KnowsTable, Past, Stands, count_of}
 use Rattle.pm_model_folder.specs.Meaning.{HasSnapshotAt}
-use Rattle.pm_model_folder.specs.Paths.{consumer_path, named_origin, origin_path, snapshot_file, snapshot_path}
+use Rattle.pm_model_folder.specs.Paths.{named_origin, origin_path, snapshot_file, snapshot_path}
 use Rattle.pm_model_folder.proofs.Facts.{some-none}
 use Rattle.pm_model_folder.proofs.HoldLemmas.{Holds, OneContents, SameContents}
 use Rattle.pm_model_folder.proofs.LedgerFacts.{at-table, count-is}
-use Rattle.pm_model_folder.proofs.PathLemmas.{consumer-snapshot}
 use Rattle.pm_read_table.specs.declared.view.View.{View}
 use Rattle.pm_write.specs.Batch.{Groups}
 use Rattle.pm_runs.specs.Succession.{KnownRun}
@@ -42,7 +41,7 @@ use Rattle.pm_compaction.specs.Plan.{KnowsPlan}
 use Rattle.pm_append.specs.Commit.{Grows, HasAppended, IsReady, Try, attempt_of, entry_of}
 use Rattle.pm_commit.specs.Alone.{with_entry}
 use Rattle.pm_commit.specs.Committer.{after_path, newest_in, publishing_of}
-use Rattle.pm_commit.specs.Meaning.{AreThere, BearsAdded, HasCommitted, HasEntry, HasGiven, KnowsOwn, KnowsTry, MakesOwn, PlannedIn}
+use Rattle.pm_commit.specs.Meaning.{AreThere, BearsAdded, HasCommitted, HasEntry, HasGiven, KnowsOwn, KnowsTry, MakesOwn, PlannedIn, path_after}
 use Rattle.pm_commit.specs.Own.{IsTried, OwnView, actor_of}
 use Rattle.pm_commit.specs.declared.found.Found.{Found}
 use Rattle.pm_put.proofs.Facts.{published_absent, published_there}
@@ -53,6 +52,7 @@ use Rattle.pm_put.specs.declared.phase.Phase.TheVariants as putters
 use Rattle.pm_put.specs.declared.putting.CommitFile.{CommitFile}
 use Rattle.pm_put.specs.declared.putting.Publishing.{Publishing}
 use Rattle.pm_commit.specs.declared.phase.Phase.TheVariants as phases
+use Rattle.pm_commit.proofs.AddsLemmas.{adds-none, adds-one}
 use Rattle.pm_commit.proofs.AdvanceLemmas.{GoesWith, NamedPaths, append-advances, later_past, one-table, same-advances}
 use Rattle.pm_commit.proofs.FenceLemmas.{newest-fence, not-fenced}
 use Rattle.pm_commit.proofs.FoundLemmas.{LiveEntries, found-there}
@@ -107,7 +107,8 @@ pub own-same : (own : OwnView) (e : Entry) (f after : Files) (p : Past) → ((pa
 own-same own e f after p same = record {
   advances = same-advances (actor_of own) f after p same;
   appends = inl refl;
-  consumers = record { files = λ name. same (consumer_path name); claims = λ name. refl };
+  adds = adds-none (actor_of own) (path_after p.history) f after same;
+  consumers = λ name. refl;
 }
 
 -- ---- the snapshot before the one that is published
@@ -405,10 +406,9 @@ module _ (one : OneContents) (same : SameContents) (paths : NamedPaths) (live_la
           record {
             advances = advances;
             appends = inr (s, entries, own-table.1, refl);
-            consumers = record {
-                files = λ name. puts.others (consumer_path name) (consumer-snapshot name (snapshot_name (suc (length entries))));
-                claims = λ name. refl;
-              };
+            adds = adds-one (actor_of own) (path_after p.history) f after (snapshot_path (suc (length entries))) t.made.text absent-next
+                (inr (ap (λ (n : ℕ). snapshot_path (suc n)) (sym many))) puts;
+            consumers = λ name. refl;
           },
           committed q advances refl (s, entries, [], refl, (let next = next-is in omega (arith, next))),
           (

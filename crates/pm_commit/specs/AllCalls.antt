@@ -26,7 +26,7 @@ use Rattle.pm_made.specs.Intent.{Means}
 use Rattle.pm_made.specs.declared.newest.Author.{Author}
 use Rattle.pm_commit.specs.Alone.{Beginning, GivesReason, IsUnchanged, KnewAlone, KnowsAlone, SeesNewest, WasUsed}
 use Rattle.pm_commit.specs.Alone.{begun_at, newest_id, with_entry}
-use Rattle.pm_commit.specs.Meaning.{BearsAdded}
+use Rattle.pm_commit.specs.Meaning.{AddsOwn, BearsAdded, path_after}
 use Rattle.pm_commit.specs.Own.{IsNoAppend, OwnView, actor_of}
 use Rattle.pm_commit.specs.Search.{seen_of}
 use Rattle.pm_commit.specs.Trace.{Did, Shows}
@@ -78,9 +78,11 @@ pub record MayBegin (s : TableSchema) (b : Beginning) : Type 0 where
 -- ---- what it is at the end
 
 -- The files stand for a history; whoever but the actor of the commit had made none of the files that snapshots name at
--- the beginning has made none of those that they name now; and each consumer's file stays, and who is settled.
+-- the beginning has made none of those that they name now. No file changed but that the actor's own appeared, and the
+-- next snapshot; and those consumers are settled that were.
 pub record StandsFreely (b : Beginning) (h : History) (f : Files) : Type 0 where
   pub folder : Folder f h
+  pub adds : AddsOwn (actor_of b.own) (path_after b.history) b.files f
   pub consumers : KeepsConsumers b.history b.files f
   pub free : (other : Actor) → other ≢ actor_of b.own → NamesNone other b.history b.files → NamesNone other h f
 
@@ -157,6 +159,10 @@ AppendsTables s own before after result =
     FromFirst (λ first after. (b : Beginning) → b.own ≡ own → HasFiles b.files first → MayBegin s b
     → AppendsTable b s first after result) before after
 
+-- in each image of a crash no file has changed but that the actor's own appeared, and the next snapshot
+abbrev pub AddsAlone : Actor → History → StoreView → StoreView → Type 0
+AddsAlone me h first after = LeavesFiles (λ f. Extends (AddsOwn me (path_after h) f) first.ops after.ops) first
+
 -- ---- between two calls
 
 -- Private: of the snapshots of the history that are known, each stood as the files have it at the beginning
@@ -164,9 +170,10 @@ abbrev pub StoodSo : Beginning → Past → Type 0
 StoodSo b p = (id : ℕ) → IsKnown p id → id ≤ newest_id b → p.stood id ≡ b.files
 
 -- Private: each such snapshot stood so, others than its actor who had named none of their files have named none, and
--- the consumers are those of the beginning
+-- files appeared since the beginning, and the consumers are those that were
 pub record IsPastOf (b : Beginning) (f : Files) (p : Past) : Type 0 where
   pub stood : StoodSo b p
+  pub adds : AddsOwn (actor_of b.own) (path_after b.history) b.files f
   pub consumers : HasConsumersOf b.history b.files f p
   pub others : (other : Actor) → other ≢ actor_of b.own → NamesNone other b.history b.files → HasNamedNone other p
 

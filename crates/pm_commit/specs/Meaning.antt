@@ -1,5 +1,5 @@
 -- What a committer knows of the table, and what its steps mean for the files.
-use Rattle.std.specs.Prelude.{◌≡◌, ◌≢◌, ◌⊎◌, ℕ, ◌≤◌, List, [], ◌∷◌, ◌++◌, ◌+◌, length, codes}
+use Rattle.std.specs.Prelude.{◌≡◌, ◌≢◌, ◌⊎◌, ℕ, suc, ◌≤◌, List, [], ◌∷◌, ◌++◌, ◌+◌, length, codes}
 use Rattle.std.specs.Prelude.{Option, None, Some, IfSome, IsSome}
 use Rattle.std.specs.FinMap as map
 use Rattle.std.specs.List.{AllByRecursion}
@@ -14,10 +14,11 @@ use Rattle.pm_model_history.specs.History.{Entry, History, IsTableOf, append, co
 use Rattle.pm_schema.specs.declared.schema.TableSchema.{TableSchema}
 use Rattle.pm_snapshot.specs.Names.{MayName}
 use Rattle.pm_snapshot.specs.declared.snapshot.Snapshot.{Snapshot}
-use Rattle.pm_model_folder.specs.Changes.{Actor}
+use Rattle.pm_model_folder.specs.Changes.{Actor, IsOwn}
 use Rattle.pm_model_folder.specs.Entries.{IsFenced}
-use Rattle.pm_model_folder.specs.Ledger.{Advances, HasNamedNone, IsKnown, LeavesConsumers, Past, Stands, count_of}
+use Rattle.pm_model_folder.specs.Ledger.{Advances, HasNamedNone, IsKnown, Past, Stands, count_of}
 use Rattle.pm_model_folder.specs.Meaning.{SnapshotAt}
+use Rattle.pm_model_folder.specs.Paths.{snapshot_path}
 use Rattle.pm_read_table.specs.Meaning as reader
 use Rattle.pm_read_table.specs.Meaning.{IsViewIn}
 use Rattle.pm_read_table.specs.declared.asked.Wanted.TheVariants as wants
@@ -63,12 +64,23 @@ abbrev pub Appends : Entry → History → History → Type 0
 Appends e h later = (later ≡ h)
     ⊎ ((s : TableSchema) × (es : List Entry) × (h ≡ table s es) × (later ≡ table s (es ++ e ∷ [])))
 
--- what a commit with this entry may change: one of its actor's kinds of change, and of these only that its entry is
--- added, and nothing of consumers
+-- no file changes but that some appear: the actor's own, and the one at this path
+abbrev pub AddsOwn : Actor → List ℕ → Files → Files → Type 0
+AddsOwn me last f after = (path : List ℕ) → (map.get after path ≡ map.get f path)
+    ⊎ ((map.get f path ≡ None) × (IsOwn me path ⊎ (path ≡ last)))
+
+-- the path of the snapshot after the newest
+abbrev pub path_after : History → List ℕ
+path_after h = snapshot_path (suc (count_of h))
+
+-- What a commit with this entry may change: one of its actor's kinds of change, and of these only that its entry is
+-- added. Files of its actor appear, and the next snapshot; none goes or becomes another, and of consumers is known what
+-- was.
 pub record MakesOwn (own : OwnView) (e : Entry) (f : Files) (p : Past) (after : Files) (later : Past) : Type 0 where
   pub advances : Advances (actor_of own) f p after later
   pub appends : Appends e p.history later.history
-  pub consumers : LeavesConsumers f p after later
+  pub adds : AddsOwn (actor_of own) (path_after p.history) f after
+  pub consumers : (name : List ℕ) → later.claims name ≡ p.claims name
 
 abbrev pub MakesIn : Option OwnView → Entry → Files → Past → Files → Past → Type 0
 MakesIn None e f p after later = ⊥

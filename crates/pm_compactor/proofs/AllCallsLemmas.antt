@@ -1,5 +1,5 @@
 -- All calls of a compactor, one after another.
-use Rattle.std.proofs.Common.{◌≡◌, inl, inr, ℕ, ℤ, ◌≤◌, Bool, List, [], ◌∷◌, ◌++◌, Option, None, Some, IsSomeAnd, IfErr, Result, Ok, Err, refl, sym, ap, ◌∙◌, append-nil, subst, arith}
+use Rattle.std.proofs.Common.{◌≡◌, inl, inr, ℕ, suc, ℤ, ◌≤◌, Bool, List, [], ◌∷◌, ◌++◌, Option, None, Some, IsSomeAnd, IfErr, Result, Ok, Err, refl, sym, ap, ◌∙◌, subst, arith}
 use Rattle.std.specs.FinMap as map
 use Rattle.pm_values.specs.Names.{Naming}
 use Rattle.pm_values.specs.declared.refusal.Refusal.{Refusal}
@@ -14,13 +14,15 @@ use Rattle.pm_machine.specs.Moves.{Keeps, Moves}
 use Rattle.pm_machine.specs.Trace.{Event, HasTrace, Traces}
 use Rattle.pm_machine.proofs.AloneLaws.{Follows, Follows-first, Follows-meanwhile, Follows-steps, Traces-first, Traces-later, Traces-same_first}
 use Rattle.pm_machine.proofs.Facts.{HasTrace-acts, Traces-faulted, Traces-join, Traces-none, image_changed}
-use Rattle.pm_model_history.specs.History.{Entry, GoesOn, History, IsTableOf, no_table, table}
+use Rattle.pm_model_history.specs.History.{Entry, GoesOn, History, IsTableOf, compaction}
 use Rattle.pm_schema.specs.declared.schema.TableSchema.{TableSchema}
+use Rattle.pm_snapshot.specs.Names.{snapshot_name}
 use Rattle.pm_model_folder.specs.Changes.{Actor}
 use Rattle.pm_model_folder.specs.Commits.{Names}
 use Rattle.pm_model_folder.specs.Folder.{Folder}
 use Rattle.pm_model_folder.specs.Ledger.{Advances, HasConsumersOf, HasNamedNone, IsKnown, Past, Stands, count_of}
 use Rattle.pm_model_folder.proofs.LedgerFacts.{known-keep}
+use Rattle.pm_model_folder.proofs.PathLemmas.{consumer-snapshot}
 use Rattle.pm_model_folder.proofs.SettledLemmas.{consumers-stay, same-keeps}
 use Rattle.pm_read_schema.proofs.AllCallsLemmas as schema_calls
 use Rattle.pm_read_schema.proofs.StillLemmas.{stayed}
@@ -30,14 +32,16 @@ use Rattle.pm_plan.specs.declared.planned.Asking.{Asking}
 use Rattle.pm_commit.specs.AllCalls.{LeavesFiles, NamesNone}
 use Rattle.pm_commit.specs.Alone.{with_entry}
 use Rattle.pm_commit.specs.Committer.{newest_of}
+use Rattle.pm_commit.specs.Meaning.{path_after}
 use Rattle.pm_commit.specs.declared.phase.Phase.TheVariants as commits
+use Rattle.pm_commit.proofs.AddsLemmas.{adds-consumers, adds-more, adds-none}
 use Rattle.pm_commit.proofs.AllCallsLemmas.{FoundPast, goes-on}
 use Rattle.pm_commit.proofs.FailLemmas.{FailsLast, after-failed}
 use Rattle.pm_commit.proofs.KnownLemmas.{count-bound}
 use Rattle.pm_commit.proofs.PublishLemmas as publish
 use Rattle.pm_commit.proofs.StillLemmas.{OthersNone}
 use Rattle.pm_compactor.specs.AllCalls.{Beginning, CompactsTables, DidCompact, Ends, Has, IsCounted, LeavesFolder, MayBegin, StandsForEither, StandsFreely, asked_by, entry_of}
-use Rattle.pm_compactor.specs.Alone.{AloneRefused, CompactorAlone, CompactsAlone, IsEither, IsPastOf, KnewAlone, KnewFiles, KnowsAlone, KnowsFiles, MakesAlone}
+use Rattle.pm_compactor.specs.Alone.{AloneRefused, CompactorAlone, CompactsAlone, HasSpared, IsEither, IsPastOf, KnewAlone, KnewFiles, KnowsAlone, KnowsFiles, MakesAlone}
 use Rattle.pm_compactor.specs.Compactor.{IsCompactor, actor_of, asking_of}
 use Rattle.pm_compactor.specs.Trace.{AskedOf, CompactorActed, Did, Shows}
 use Rattle.pm_compactor.specs.declared.all_calls.Compacted.{Compacted}
@@ -71,10 +75,6 @@ was_nothing s asking m first after is (events, did, trace) = (events, subst (λ 
 
 -- ---- the history, where nobody else acts
 
-goes-on-same : (h : History) → GoesOn h h
-goes-on-same no_table = tt
-goes-on-same (table s es) = (refl, [], sym (append-nil es))
-
 -- what the laws of changes and of actors' names say
 pub record CallLaws : Type 0 where
   pub past : (me : Actor) (f after : Files) (p q : Past) → Stands f p → Advances me f p after q → Stands after q
@@ -83,24 +83,25 @@ pub record CallLaws : Type 0 where
 
 module _ (laws : CallLaws) (b : Beginning) where
   -- files that stand for what is known stand freely
-  freely : (f : Files) (p : Past) → Stands f p → HasConsumersOf b.history b.files f p → IsPastOf b p → GoesOn b.history p.history → StandsFreely b p.history f
+  freely : (f : Files) (p : Past) → Stands f p → HasSpared b f p → IsPastOf b p → GoesOn b.history p.history → StandsFreely b p.history f
   freely f p stands has past on = record {
     folder = stands.folder;
-    consumers = known-keep b.history b.files f p stands on has;
+    adds = has.adds;
+    consumers = known-keep b.history b.files f p stands on has.consumers;
     free = λ other apart none s id path table low high names by.
         let most = count-bound f p s stands table in
         laws.here other f p s id path stands table (omega (arith, high, most)) (past.others other apart none) names by;
   }
 
   -- on the history with what the view chose
-  chosen : (f : Files) (p : Past) (e : Entry) → Stands f p → HasConsumersOf b.history b.files f p → IsPastOf b p → p.history ≡ with_entry e b.history
+  chosen : (f : Files) (p : Past) (e : Entry) → Stands f p → HasSpared b f p → IsPastOf b p → p.history ≡ with_entry e b.history
       → StandsFreely b (with_entry e b.history) f
   chosen f p e stands has past more =
       subst (λ (h : History). StandsFreely b h f) more (freely f p stands has past (goes-on e b.history p.history (inr more)))
 
-  stands-either : (f : Files) (p : Past) → Stands f p → HasConsumersOf b.history b.files f p → IsPastOf b p → IsEither b p.history → StandsForEither b f
+  stands-either : (f : Files) (p : Past) → Stands f p → HasSpared b f p → IsPastOf b p → IsEither b p.history → StandsForEither b f
   stands-either f p stands has past (inl same) =
-      inl (subst (λ (h : History). StandsFreely b h f) same (freely f p stands has past (subst (GoesOn b.history) (sym same) (goes-on-same b.history))))
+      inl (subst (λ (h : History). StandsFreely b h f) same (freely f p stands has past (goes-on (compaction 0 []) b.history p.history (inl same))))
   stands-either f p stands has past (inr (v, newest, some, more)) = inr (v, newest, some, chosen f p (entry_of b.asking v) stands has past more)
 
   past-then : (f after : Files) (p q : Past) → Stands f p → IsPastOf b p → MakesAlone b f p after q → IsPastOf b q
@@ -116,11 +117,18 @@ module _ (laws : CallLaws) (b : Beginning) where
   }
 
   -- a change from files that stand for what is known
-  changed : (f after : Files) (p q : Past) → Stands f p → HasConsumersOf b.history b.files f p → IsPastOf b p → MakesAlone b f p after q
-      → Stands after q × HasConsumersOf b.history b.files after q × StandsForEither b after
+  changed : (f after : Files) (p q : Past) → Stands f p → HasSpared b f p → IsPastOf b p → MakesAlone b f p after q
+      → Stands after q × HasSpared b after q × StandsForEither b after
   changed f after p q stands has past makes =
       let then = laws.past (actor_of b.asking.names) f after p q stands makes.advances in
-      let has_then = consumers-stay b.history b.files f after p q has makes.consumers in
+      let has_then : HasSpared b after q = record {
+        adds = adds-more (actor_of b.asking.names) (path_after b.history) b.files f after has.adds makes.adds;
+        consumers = consumers-stay b.history b.files f after p q has.consumers (record {
+              files = adds-consumers (actor_of b.asking.names) (path_after b.history) f after
+                  (λ name. consumer-snapshot name (snapshot_name (suc (count_of b.history)))) makes.adds;
+              claims = makes.consumers;
+            });
+      } in
       (then, has_then, stands-either after q then has_then (past-then f after p q stands past makes) makes.either)
 
 module _ (laws : CallLaws) (b : Beginning) (known : Option (List Op)) where
@@ -205,7 +213,7 @@ module _ (laws : CallLaws) (b : Beginning) (start after : StoreView) where
       let (past, (still, view)) = subst (λ (m : Phase). KnewAlone b m f p) is known in
       (view, subst (Folder f) still.same stands.folder, still.unchanged))
 
-  refused-leaves : (refusal : Refusal) (f : Files) (p : Past) → Stands f p → HasConsumersOf b.history b.files f p → IsPastOf b p → AloneRefused b refusal f p
+  refused-leaves : (refusal : Refusal) (f : Files) (p : Past) → Stands f p → HasSpared b f p → IsPastOf b p → AloneRefused b refusal f p
       → LeavesFolder b (Err refusal) f
   refused-leaves refusals.Memory f p stands has past same = subst (Folder f) same stands.folder
   refused-leaves (refusals.StoreFault path) f p stands has past (inl same) = inl (subst (Folder f) same stands.folder)
@@ -249,7 +257,10 @@ first-known found s b f same is begin table_is =
     (subst (λ (f : Files). Names f t id path) (stood id) names) by in (
       past,
       subst (λ (f : Files). Stands f past) (sym same) stands,
-      subst (λ (f : Files). HasConsumersOf b.history b.files f past) (sym same) consumers,
+      record {
+        adds = adds-none (actor_of b.asking.names) (path_after b.history) b.files f (λ path. ap (λ (f : Files). map.get f path) same);
+        consumers = subst (λ (f : Files). HasConsumersOf b.history b.files f past) (sym same) consumers;
+      },
       (
         record { stood = λ id known within. stood id; others = λ other apart none. named other none },
         (
@@ -297,7 +308,7 @@ compacted-history found s asking m result before middle after is compactor (earl
         let table_is = schema_calls.ready_at b.files b.history begin.start.0 s (event ∷ events) has stay.1 in
         let at_view : m ≡ phases.View b.asking (views.List (newest_of s)) =
         is ∙ ap (λ (asking : Asking). phases.View asking (views.List (newest_of s))) (sym is_asking) in
-        let free : StandsForEither b b.files = inl (record { folder = begin.start.0; consumers = same-keeps b.files b.files (λ path. refl) b.history; free = λ other apart none. none }) in
+        let free : StandsForEither b b.files = inl (record { folder = begin.start.0; adds = λ path. inl refl; consumers = same-keeps b.files b.files (λ path. refl) b.history; free = λ other apart none. none }) in
         let knew = files-known (KnewFiles b m) b.files middle.ops (λ f same. subst (λ (m : Phase). KnewFiles b m f) (sym at_view)
         (first-known found s b f same (subst IsCompactor at_view compactor) begin table_is)) stay.0.here in
         let either = files-known (StandsForEither b) b.files middle.ops (λ f same. subst (StandsForEither b) (sym same) free) stay.0.here in

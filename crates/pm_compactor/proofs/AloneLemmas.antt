@@ -16,14 +16,14 @@ use Rattle.pm_store.proofs.ChangeLaws.{Answers-Changed}
 use Rattle.pm_machine.specs.Moves.{IsKept, Leads, Sound}
 use Rattle.pm_machine.specs.Running.{Refuses, Stops}
 use Rattle.pm_machine.proofs.PhaseFacts.{Spares}
-use Rattle.pm_model_history.specs.History.{Entry, compaction}
+use Rattle.pm_model_history.specs.History.{Entry, History, compaction}
 use Rattle.pm_schema.specs.declared.schema.TableSchema.{TableSchema}
 use Rattle.pm_snapshot.specs.Names.{MayName}
 use Rattle.pm_scan_rows.specs.Group.{GroupRead}
 use Rattle.pm_model_folder.specs.Changes.{Actor}
 use Rattle.pm_model_folder.specs.Ledger.{Advances, Past, Stands, count_of}
 use Rattle.pm_model_folder.specs.Meaning.{HasSnapshotAt}
-use Rattle.pm_model_folder.specs.Paths.{consumer_path, snapshot_path}
+use Rattle.pm_model_folder.specs.Paths.{snapshot_path}
 use Rattle.pm_model_folder.proofs.Facts.{some-none}
 use Rattle.pm_put.proofs.Facts.{created_absent}
 use Rattle.pm_put.specs.declared.phase.Phase as put_phase
@@ -60,11 +60,12 @@ use Rattle.pm_commit.specs.Alone.{IsTryAt, ReadsNewest, left_of}
 use Rattle.pm_commit.specs.Committer as commit
 use Rattle.pm_commit.specs.Committer.{first_of_put, newest_of}
 use Rattle.pm_commit.specs.Meaning as commit_meaning
-use Rattle.pm_commit.specs.Meaning.{KnowsBut, MakesEntry, MakesFile, MakesOwn}
+use Rattle.pm_commit.specs.Meaning.{AddsOwn, KnowsBut, MakesEntry, MakesFile, MakesOwn, path_after}
 use Rattle.pm_commit.specs.Own as owns
 use Rattle.pm_commit.specs.Own.{OwnView, own_for_plan}
 use Rattle.pm_commit.specs.declared.phase.Phase as commit_phase
 use Rattle.pm_commit.specs.declared.phase.Phase.TheVariants as commits
+use Rattle.pm_commit.proofs.AddsLemmas.{adds-none}
 use Rattle.pm_commit.proofs.AdvanceLemmas.{same-advances}
 use Rattle.pm_commit.proofs.AloneCauseLemmas.{begun-actor}
 use Rattle.pm_commit.proofs.ApartLemmas.{untouched-puts}
@@ -216,7 +217,8 @@ module _ (laws : AloneLaws) (b : Beginning) where
     same = is;
     advances = same-advances (actor_of b.asking.names) f after p same;
     either = inl is;
-    consumers = record { files = λ name. same (consumer_path name); claims = λ name. refl };
+    adds = adds-none (actor_of b.asking.names) (path_after b.history) f after same;
+    consumers = λ name. refl;
   }
 
   pub spares-makes : (f : Files) (p : Past) (call : Call) → Spares f call → p.history ≡ b.history → (effect : Effect) → MakesAlone b f p (after_effect call effect f) p
@@ -442,6 +444,8 @@ module _ (laws : AloneLaws) (b : Beginning) where
         same = same;
         advances = subst (λ (me : Actor). Advances me f p after p) (try-actor b v c.own putter.tried putter.id c.of putter.is_try) own.advances;
         either = inl same;
+        adds = subst (λ (me : Actor). AddsOwn me (path_after b.history) f after) (try-actor b v c.own putter.tried putter.id c.of putter.is_try)
+            (subst (λ (h : History). AddsOwn (owns.actor_of putter.tried) (path_after h) f after) same own.adds);
         consumers = own.consumers;
       }
 

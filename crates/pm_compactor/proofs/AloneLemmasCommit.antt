@@ -37,7 +37,8 @@ use Rattle.pm_commit.specs.Alone.{IsTryAt, begun_at}
 use Rattle.pm_commit.specs.Committer as commit
 use Rattle.pm_commit.specs.Committer.{AfterPutter}
 use Rattle.pm_commit.specs.Marks.{FindsUsed}
-use Rattle.pm_commit.specs.Meaning.{MakesEntry}
+use Rattle.pm_commit.specs.Meaning.{AddsOwn, MakesEntry, path_after}
+use Rattle.pm_commit.specs.Own as owns
 use Rattle.pm_commit.specs.Own.{OwnView, with_lost}
 use Rattle.pm_commit.specs.declared.phase.Phase as commit_phase
 use Rattle.pm_commit.specs.declared.phase.Phase.TheVariants as commits
@@ -127,6 +128,8 @@ module _ (laws : AloneLaws) (b : Beginning) where
         | inl stays ↦ inl stays
         | inr more ↦ inr (v, newest, some, more)
       ];
+      adds = subst (λ (me : Actor). AddsOwn me (path_after b.history) f after) (try-actor b v own o id of is_try)
+          (subst (λ (h : History). AddsOwn (owns.actor_of o) (path_after h) f after) same makes.adds);
       consumers = makes.consumers;
     }
 

@@ -45,6 +45,7 @@ use Rattle.pm_commit.specs.Alone.{with_entry}
 use Rattle.pm_commit.specs.AllCalls.{LeavesFiles, MayStart, NamesNone}
 use Rattle.pm_commit.specs.Committer.{newest_in, newest_of}
 use Rattle.pm_commit.specs.Marks.{FindsUsed}
+use Rattle.pm_commit.specs.Meaning.{AddsOwn, path_after}
 use Rattle.pm_compactor.specs.Compactor.{actor_of, asked_of_view, chosen_in, wanted_groups, IsPlanIn}
 use Rattle.pm_compactor.specs.Trace.{AskedOf, Did, Shows}
 use Rattle.pm_compactor.specs.declared.all_calls.Compacted.{Compacted}
@@ -168,9 +169,11 @@ WasUsed b path =
     ⊎ (IsNamedBy (actor_of b.asking.names) path × IsSome (paths.get b.files path))
 
 -- The files stand for a history; whoever but the actor had made none of the files that snapshots name at the beginning
--- has made none of those that they name now; and each consumer's file stays, and who is settled.
+-- has made none of those that they name now. No file changed but that the actor's own appeared, and the next snapshot;
+-- and those consumers are settled that were.
 pub record StandsFreely (b : Beginning) (h : History) (f : Files) : Type 0 where
   pub folder : Folder f h
+  pub adds : AddsOwn (actor_of b.asking.names) (path_after b.history) b.files f
   pub consumers : KeepsConsumers b.history b.files f
   pub free : (other : Actor) → other ≢ actor_of b.asking.names → NamesNone other b.history b.files → NamesNone other h f
 

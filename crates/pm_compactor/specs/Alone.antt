@@ -10,8 +10,7 @@ use Rattle.pm_store.specs.Images.{Extends}
 use Rattle.pm_machine.specs.Moves.{Moves}
 use Rattle.pm_model_history.specs.History.{History}
 use Rattle.pm_model_folder.specs.Changes.{Actor}
-use Rattle.pm_model_folder.specs.Ledger.{Advances, HasConsumersOf, HasNamedNone, IsKnown, LeavesConsumers, Past}
-use Rattle.pm_model_folder.specs.Ledger.{Stands}
+use Rattle.pm_model_folder.specs.Ledger.{Advances, HasConsumersOf, HasNamedNone, IsKnown, Past, Stands}
 use Rattle.pm_model_folder.specs.Paths.{snapshot_path}
 use Rattle.pm_scan_rows.specs.Group.{GroupRead}
 use Rattle.pm_put.specs.declared.putting.CommitFile.{CommitFile}
@@ -28,7 +27,7 @@ use Rattle.pm_commit.specs.Alone as commit
 use Rattle.pm_commit.specs.Alone.{IsTryAt, ReadsNewest, left_of, with_entry}
 use Rattle.pm_commit.specs.AllCalls.{LeavesFiles, NamesNone}
 use Rattle.pm_commit.specs.Committer.{calls_left}
-use Rattle.pm_commit.specs.Meaning.{KnowsBut}
+use Rattle.pm_commit.specs.Meaning.{AddsOwn, KnowsBut, path_after}
 use Rattle.pm_commit.specs.Own as owns
 use Rattle.pm_commit.specs.Own.{OwnView}
 use Rattle.pm_commit.specs.declared.phase.Phase as commit_phase
@@ -58,13 +57,14 @@ pub record IsPastOf (b : Beginning) (p : Past) : Type 0 where
 abbrev pub IsEither : Beginning → History → Type 0
 IsEither b h = (h ≡ b.history) ⊎ Chooses b (λ v. h ≡ with_entry (entry_of b.asking v) b.history)
 
--- one of its actor's kinds of change of the history as it was, and of these only that the entry is added, and nothing of
--- consumers
+-- One of its actor's kinds of change of the history as it was, and of these only that the entry is added. Files of its
+-- actor appear, and the next snapshot; none goes or becomes another, and of consumers is known what was.
 pub record MakesAlone (b : Beginning) (f : Files) (p : Past) (after : Files) (later : Past) : Type 0 where
   pub same : p.history ≡ b.history
   pub advances : Advances (actor_of b.asking.names) f p after later
   pub either : IsEither b later.history
-  pub consumers : LeavesConsumers f p after later
+  pub adds : AddsOwn (actor_of b.asking.names) (path_after b.history) f after
+  pub consumers : (name : List ℕ) → later.claims name ≡ p.claims name
 
 -- ---- what it knows
 
@@ -182,14 +182,17 @@ CompactorAlone old new before after result = (b : Beginning)
 
 -- ---- between two calls
 
--- Private: files stand for what is known in a phase of a compactor, with the consumers of the beginning; and after a
--- step
+-- Private: files appeared since the beginning, and the consumers are those that were
+pub record HasSpared (b : Beginning) (f : Files) (p : Past) : Type 0 where
+  pub adds : AddsOwn (actor_of b.asking.names) (path_after b.history) b.files f
+  pub consumers : HasConsumersOf b.history b.files f p
+
+-- Private: files stand for what is known in a phase of a compactor; and after a step
 abbrev pub KnewFiles : Beginning → Phase → Files → Type 0
-KnewFiles b m f = (p : Past) × Stands f p × HasConsumersOf b.history b.files f p × KnewAlone b m f p
+KnewFiles b m f = (p : Past) × Stands f p × HasSpared b f p × KnewAlone b m f p
 
 abbrev pub KnowsFiles : {X : Type 0} → Beginning → Phase → Result X Refusal → Files → Type 0
-KnowsFiles b m result f =
-    (p : Past) × Stands f p × HasConsumersOf b.history b.files f p × KnowsAlone b m result f p
+KnowsFiles b m result f = (p : Past) × Stands f p × HasSpared b f p × KnowsAlone b m result f p
 
 -- Private: what all calls that are left leave of what is known in a phase
 abbrev pub CompactsAlone : Beginning → Phase → StoreView → StoreView → Result Compacted Refusal → Type 0
