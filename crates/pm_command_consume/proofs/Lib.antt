@@ -1,0 +1,11 @@
+mod AloneLemmas
+mod AnswerLemmas
+mod BesideLemmas
+mod BringLemmas
+mod CompleteLemmas
+mod ConsumeLemmas
+mod OpenLemmas
+mod PieceLemmas
+mod PlaceLemmas
+mod StageLemmas
+mod TwiceLemmas

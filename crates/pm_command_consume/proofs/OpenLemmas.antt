@@ -1,0 +1,429 @@
+-- How a following with a consumer opens, and goes on from there, whatever others do: what its calls bring to any past.
+use Rattle.std.proofs.Common.{◌≡◌, inl, inr, ℕ, suc, ◌+◌, ◌≤◌, Bool, true, false, List, [], ◌∷◌, ◌++◌, length, slice_get, codes, Option, None, Some, Result, Ok, Err, refl, sym, ap, subst, ◌∙◌, append-nil, append_assoc, arith}
+use Rattle.pm_base.specs.Known.{and_then}
+use Rattle.pm_values.specs.declared.refusal.Refusal.{Refusal}
+use Rattle.pm_values.specs.declared.refusal.Refusal.TheVariants as refusals
+use Rattle.pm_io.specs.Sink.{SinkView, TookPrefix}
+use Rattle.pm_store.specs.Files.{Files}
+use Rattle.pm_store.specs.Store.{StoreView}
+use Rattle.pm_store.specs.declared.call.Call.{Call}
+use Rattle.pm_store.specs.declared.call.Call.TheVariants as calls
+use Rattle.pm_machine.specs.Trace.{Event, HasTrace}
+use Rattle.pm_schema.specs.declared.schema.TableSchema.{TableSchema}
+use Rattle.pm_snapshot.specs.Names.{greatest}
+use Rattle.pm_model_history.specs.History.{Entry, History, IsTableOf, table}
+use Rattle.pm_model_folder.specs.Changes.{Actor}
+use Rattle.pm_model_folder.specs.Ledger.{Past, Stands, count_of}
+use Rattle.pm_model_folder.specs.Paths.{consumer_path}
+use Rattle.pm_model_folder.proofs.Facts.{goes_on}
+use Rattle.pm_draft.specs.Built.{IsBuilt}
+use Rattle.pm_beside.specs.Bringing.{BringsBeside, OthersApart}
+use Rattle.pm_beside.proofs.BringLemmas.{brings-meanwhile}
+use Rattle.pm_read_schema.specs.Beside.{AnyPast, Learns}
+use Rattle.pm_read_schema.proofs.AllCallsLemmas.{ready_calls, shows_calls}
+use Rattle.pm_read_schema.proofs.BesideFacts.{PastStays, learns-then, learns-weaker}
+use Rattle.pm_read_schema.proofs.StillLemmas.{AreStill}
+use Rattle.pm_read_latest.specs.AllCalls.{DidLatest}
+use Rattle.pm_read_consumer.specs.AllCalls.{DidFind}
+use Rattle.pm_read_consumer.specs.Reader as finder
+use Rattle.pm_read_consumer.specs.Reader.{found_as}
+use Rattle.pm_read_consumer.specs.Trace as finds
+use Rattle.pm_read_consumer.specs.declared.phase.FoundConsumer.{FoundConsumer}
+use Rattle.pm_read_consumer.specs.declared.phase.Phase.{Phase}
+use Rattle.pm_read_consumer.specs.declared.phase.Phase.TheVariants as phases
+use Rattle.pm_register.specs.AllCalls.{LeavesBeside, RegistersAmong}
+use Rattle.pm_register.specs.Meaning.{IsWithin, Registers}
+use Rattle.pm_register.specs.Registrar.{Registering, registering}
+use Rattle.pm_move_consumer.specs.MoverAllCalls.{DidMove}
+use Rattle.pm_read_frame.specs.AllCalls.{DidFrame}
+use Rattle.pm_read_frame.specs.Frames.{AreFramesFrom, joined}
+use Rattle.pm_command_follow.specs.Beside.{IsFirstOf, IsStartOf}
+use Rattle.pm_command_follow.specs.Follow.{DidSchema, HasSchema, ShowsSchema, TellsChanges, Then, of_producer, of_reader, of_unbuilt}
+use Rattle.pm_command_follow.specs.Pieces.{AreReads, IsRead, IsStarting, LearnsStart, LearnsTable, PieceBeside, PrintsStart}
+use Rattle.pm_command_follow.specs.Printed.{count_from}
+use Rattle.pm_command_follow.proofs.JoinLemmas.{in_a_row}
+use Rattle.pm_command_follow.proofs.KnownLemmas.{FirstLaw, any_trace, first_of, joined_push, length_push, starting_on}
+use Rattle.pm_command_follow.proofs.LearnLemmas.{count_on, learns_with, table_on}
+use Rattle.pm_command_follow.proofs.ReadLemmas.{ended_reads, failed_reads, list_is, listing_reads, no_call, no_reads, read_is, reads_append, reads_learn, some_same}
+use Rattle.pm_command_follow.proofs.TextLemmas.{and_then_nothing, and_then_twice}
+use Rattle.pm_command_consume.specs.Beside.{BringsFirst, ConsumesBeside, HasBegun, Steps, StepsStill, TriesTable, breaks_frame, breaks_table, prints, refuses, refuses_table, stops}
+use Rattle.pm_command_consume.specs.Consume.{FindsUnsettled, HandsOut, Joins, Lists, Opens, joined as joined_so, moving_from, place_at, settled}
+use Rattle.pm_command_consume.specs.Pieces.{BringsFrames, FramesBeside, HandsFrames, HandsPiece, HasOpened, IsListed, JoinsBeside, OpenedBeside}
+use Rattle.pm_command_consume.specs.Place.{StandsAs}
+use Rattle.pm_command_consume.specs.declared.consuming.Consuming.{Consuming}
+use Rattle.pm_command_consume.specs.declared.place.Place.{Place}
+use Rattle.pm_command_consume.specs.declared.place.Standing.TheVariants as standings
+use Rattle.pm_command_consume.proofs.BringLemmas.{bring_known, bring_none, bring_then, bring_weaker, bring_with, learned, reads_bring, registers_step, steps_still, still_then}
+use Rattle.pm_command_consume.proofs.PieceLemmas.{HasJoined, opens_with, opens_without, settled_at}
+use Rattle.pm_command_consume.proofs.StageLemmas.{plain_names}
+
+-- ---- the calls that read
+
+still_reads : (own : List Event) → AreStill own → AreReads own
+still_reads [] still = tt
+still_reads (event ∷ own) (one, more) = ((λ effect f. one f effect), still_reads own more)
+
+schema_reads : (s : TableSchema) (own : List Event) → HasSchema s own → AreReads own
+schema_reads s own (tells, built, did) = still_reads own (ready_calls s own did)
+
+shows_reads : (e : Refusal) (own : List Event) → ShowsSchema e own → AreReads own
+shows_reads e own (of_reader shows) = still_reads own (shows_calls e own shows)
+shows_reads e own (of_producer s none is did) = still_reads own (ready_calls s own did)
+shows_reads e own (of_unbuilt s tells why did) = still_reads own (ready_calls s own did)
+
+found_reads : (name : List ℕ) (r : FoundConsumer) (own : List Event) → finds.HasFound name r own → AreReads own
+found_reads name r own (says, is) = subst AreReads (sym is) (read_is (consumer_path name), tt)
+
+find_so_far : (name : List ℕ) (m : Phase) (own : List Event) → finds.DidSoFar name m own → AreReads own
+find_so_far name (phases.Read path) own (at, none) = no_reads own none
+find_so_far name (phases.Ready r) own did = found_reads name r own did
+find_so_far name phases.Over own did = absurd did
+
+find_next : (m : Phase) (call : Call) → finder.next_call m ≡ Some call → IsRead call
+find_next (phases.Read path) call is = subst IsRead (some_same (calls.Read path) call is) (read_is path)
+find_next (phases.Ready r) call is = no_call call is
+find_next phases.Over call is = no_call call is
+
+find_shows : (name : List ℕ) (e : Refusal) (own : List Event) → finds.Shows name e own → AreReads own
+find_shows name refusals.Memory own ends =
+    ended_reads finder.next_call (finds.DidSoFar name) (find_so_far name) find_next finds.MayTakeMemory own ends
+find_shows name (refusals.StoreFault path) own failed = failed_reads finder.next_call (finds.DidSoFar name) (find_so_far name) find_next path own failed
+find_shows name (refusals.Damaged path place) own (bytes, at, zero, bad, is) = subst AreReads (sym is) (read_is (consumer_path name), tt)
+find_shows name other own shows = absurd shows
+
+find_reads : (name : List ℕ) (made : Result FoundConsumer Refusal) (own : List Event) → DidFind name made own → AreReads own
+find_reads name (Ok r) own did = found_reads name r own did
+find_reads name (Err e) own shows = find_shows name e own shows
+
+latest_reads : (latest : ℕ) (own : List Event) → DidLatest (Ok latest) own → AreReads own
+latest_reads latest own (names, last, is) = subst AreReads (sym is) (list_is (codes "snapshot"), tt)
+
+then_reads : (First Next : List Event → Type 0) (own : List Event) → ((own : List Event) → First own → AreReads own)
+    → ((own : List Event) → Next own → AreReads own) → Then First Next own → AreReads own
+then_reads First Next own first next (earlier, later, did, does, is) = subst AreReads (sym is) (reads_append earlier later (first earlier did) (next later does))
+
+unsettled_reads : (s : TableSchema) (c : Consuming) (found : Option (List ℕ)) (own : List Event) → FindsUnsettled s c found own → AreReads own
+unsettled_reads s c found own (none, (said, finds_so)) =
+    then_reads (HasSchema s) (DidFind c.name (Ok (found_as found said))) own (schema_reads s) (find_reads c.name (Ok (found_as found said))) finds_so
+
+so_traced : (P : List Event → Type 0) (before after : StoreView) → ((own : List Event) → P own → AreReads own) → HasTrace P before after → HasTrace AreReads before after
+so_traced P before after reads (own, did, trace) = (own, reads own did, trace)
+
+any_twice : (first middle after : StoreView) → HasTrace (λ own. Unit {0}) first middle → HasTrace (λ own. Unit {0}) middle after → HasTrace (λ own. Unit {0}) first after
+any_twice first middle after one other =
+    any_trace (Then (λ own. Unit {0}) (λ own. Unit {0})) first after (in_a_row (λ own. Unit {0}) (λ own. Unit {0}) first middle after one other)
+
+-- ---- the schema that its calls read
+
+unsettled_schema : (s : TableSchema) (c : Consuming) (found : Option (List ℕ)) (own : List Event) → FindsUnsettled s c found own → TellsChanges s × IsBuilt s
+unsettled_schema s c found own (none, (said, (earlier, later, (tells, built, did), does, is))) = (tells, built)
+
+pub unsettled_so : (s : TableSchema) (c : Consuming) (found : Option (List ℕ)) (first after : StoreView) → HasTrace (FindsUnsettled s c found) first after
+    → TellsChanges s × IsBuilt s
+unsettled_so s c found first after (own, did, trace) = unsettled_schema s c found own did
+
+opens_schema : (s : TableSchema) (c : Consuming) (p : Place) (full : Bool) (text : List ℕ) (own : List Event) → Opens s c p full text own → TellsChanges s × IsBuilt s
+opens_schema s c p full text own (settled (earlier, later, (tells, built, did), does, is) without none) = (tells, built)
+opens_schema s c p full text own
+    (joined_so (first, rest, (found, (starts, registers, (latest, (finds_calls, lists, finds_so, listed, one), at, low, high), joins, two)), reads, three) same bytes) =
+    unsettled_schema s c found finds_calls finds_so
+
+pub opens_so : (s : TableSchema) (c : Consuming) (p : Place) (full : Bool) (text : List ℕ) (first after : StoreView) → HasTrace (Opens s c p full text) first after
+    → TellsChanges s × IsBuilt s
+opens_so s c p full text first after (own, opens, trace) = opens_schema s c p full text own opens
+
+-- ---- where nothing is printed
+
+pub schema_refused : PastStays → (me : Actor) (c : Consuming) (e : Refusal) (out : SinkView) (store after : StoreView) → HasTrace (DidSchema (Err e)) store after
+    → ConsumesBeside me c out out store after (Some e)
+schema_refused past me c e out store after did =
+    refuses e refl (reads_bring me c past store after (so_traced (DidSchema (Err e)) store after (shows_reads e) did))
+
+module _ (past : PastStays) (me : Actor) (s : TableSchema) (c : Consuming) where
+  reads_twice : (P Q : List Event → Type 0) (first middle after : StoreView) → ((own : List Event) → P own → AreReads own)
+      → ((own : List Event) → Q own → AreReads own) → HasTrace P first middle → HasTrace Q middle after
+      → BringsBeside me (StepsStill me c) AnyPast AnyPast first after
+  reads_twice P Q first middle after one other did does =
+      still_then me c first middle after (reads_bring me c past first middle (so_traced P first middle one did))
+      (reads_bring me c past middle after (so_traced Q middle after other does))
+
+  pub file_refused : (e : Refusal) (out : SinkView) (first middle after : StoreView) → HasTrace (HasSchema s) first middle
+      → HasTrace (DidFind c.name (Err e)) middle after → ConsumesBeside me c out out first after (Some e)
+  file_refused e out first middle after has did =
+      refuses e refl (reads_twice (HasSchema s) (DidFind c.name (Err e)) first middle after (schema_reads s) (find_reads c.name (Err e)) has did)
+
+  pub listing_refused : (found : Option (List ℕ)) (e : Refusal) (out : SinkView) (first middle after : StoreView) → HasTrace (FindsUnsettled s c found) first middle
+      → HasTrace (DidLatest (Err e)) middle after → ConsumesBeside me c out out first after (Some e)
+  listing_refused found e out first middle after finds_so did =
+      refuses e refl
+      (still_then me c first middle after
+      (reads_bring me c past first middle (so_traced (FindsUnsettled s c found) first middle (unsettled_reads s c found) finds_so))
+      (reads_bring me c past middle after (listing_reads e middle after did)))
+
+  pub start_refused : (found : Option (List ℕ)) (latest : ℕ) (e : Refusal) (out : SinkView) (first middle after : StoreView)
+      → HasTrace (FindsUnsettled s c found) first middle → HasTrace (DidLatest (Ok latest)) middle after → ConsumesBeside me c out out first after (Some e)
+  start_refused found latest e out first middle after finds_so did =
+      refuses e refl
+      (reads_twice (FindsUnsettled s c found) (DidLatest (Ok latest)) first middle after (unsettled_reads s c found) (latest_reads latest) finds_so did)
+
+  -- ---- a consumer that is settled
+
+  -- the table has the schema while it is read
+  pub table_kept : (P : List Event → Type 0) (first before after : StoreView) → ((own : List Event) → P own → AreReads own) → LearnsTable s first before
+      → HasTrace P before after → LearnsTable s first after
+  table_kept P first before after reads learns (own, did, trace) =
+      learns-then AnyPast (λ f p. IsTableOf s p.history) (λ f p. IsTableOf s p.history) first before after learns
+      (reads_learn past (λ h. IsTableOf s h) (table_on s) own before after (reads own did) trace)
+
+  pub found_kept : (made : Result FoundConsumer Refusal) (first before after : StoreView) → LearnsTable s first before → HasTrace (DidFind c.name made) before after
+      → LearnsTable s first after
+  found_kept made first before after = table_kept (DidFind c.name made) first before after (find_reads c.name made)
+
+  opened_bare : (start : ℕ) (first after : StoreView) → BringsBeside me (StepsStill me c) AnyPast (λ f q. IsTableOf s q.history) first after
+      → BringsBeside me (StepsStill me c) AnyPast (λ f q. IsStarting s false start [] q) first after
+  opened_bare start first after =
+      bring_known me (StepsStill me c) AnyPast AnyPast (λ f q. IsTableOf s q.history) (λ f q. IsStarting s false start [] q) first after (λ f q so. so)
+      (λ f q stands so. (so, refl))
+
+  pub settled_beside : (r : FoundConsumer) (p : Place) (out : SinkView) (first middle after : StoreView) → StandsAs r (standings.Settled p)
+      → HasTrace (HasSchema s) first middle → LearnsTable s first middle → HasTrace (DidFind c.name (Ok r)) middle after
+      → OpenedBeside me s c first out out after (Ok p)
+  settled_beside r p out first middle after stands has learns did = (
+    false,
+    ([], settled_at s c r p first middle after stands has did),
+    (
+      [],
+      (
+        sym (and_then_nothing out.taken),
+        opened_bare p.next first after
+            (learned me c (λ next text. ⊥) AnyPast (λ f q. IsTableOf s q.history) first after (found_kept (Ok r) first middle after learns did)),
+      ),
+    ),
+  )
+
+-- ---- a registering
+
+-- each step of the registering is one of its actor
+pub registering_brings : PastStays → (me : Actor) (r : Registering) (result : Result (Unit {0}) Refusal) (before after : StoreView)
+    → RegistersAmong me r before after result → JoinsBeside me r before after
+registering_brings past me r result before after among =
+    bring_then me (Registers me r) (λ f q. IsWithin r q) (λ f q. IsWithin r q) (λ f q. IsWithin r q) before among.last after
+    (bring_known me (Registers me r) (λ f q. IsWithin r q) (λ f q. IsWithin r q) (λ f q. IsWithin r q × LeavesBeside me r result f q) (λ f q. IsWithin r q) before among.last (λ f q so. so)
+    (λ f q stands so. so.0) among.brings)
+    (brings-meanwhile Stands (Registers me r) (OthersApart me) (λ f q. IsWithin r q) keep among.last after among.rest)
+  where
+    below : (n m : ℕ) → r.next ≤ suc n → n ≤ m → r.next ≤ suc m
+    below n m high grown = omega (arith, high, grown)
+
+    at_least : (n : ℕ) → n ≤ n
+    at_least n = omega arith
+
+    keep : (f later : Files) (p q : Past) → Stands f p → IsWithin r p → OthersApart me f p later q → Stands later q × IsWithin r q
+    keep f later p q stands within (other, apart, advances) =
+        let goes = goes_on other f later p.history q.history advances.change in (
+          past other f later p q stands advances,
+          record {
+            schema = within.schema;
+            is = table_on within.schema p.history q.history goes within.is;
+            plain = within.plain;
+            next = below (count_of p.history) (count_of q.history) within.next (count_on (count_of p.history) p.history q.history goes (at_least (count_of p.history)));
+          },
+        )
+
+pub nothing_brings : (me : Actor) (r : Registering) (store : StoreView) → JoinsBeside me r store store
+nothing_brings me r store = bring_none me (Registers me r) (λ f q. IsWithin r q) store
+
+module _ (me : Actor) (s : TableSchema) (c : Consuming) where
+  -- what a registering needs is known once the snapshots were listed
+  within_learned : (found : Option (List ℕ)) (latest start : ℕ) (first before now : StoreView) → IsBuilt s → start ≤ suc latest → LearnsTable s first before
+      → Learns AnyPast (λ f p. (latest ≤ greatest) × (latest ≤ count_of p.history)) before now
+      → Learns AnyPast (λ f p. IsTableOf s p.history × IsWithin (registering c.name found start) p) first now
+  within_learned found latest start first before now built high learns listed =
+      learns-then AnyPast (λ f p. IsTableOf s p.history) (λ f p. IsTableOf s p.history × IsWithin (registering c.name found start) p) first before now learns
+      (learns-weaker (λ f p. IsTableOf s p.history) (λ f p. IsTableOf s p.history × AnyPast f p)
+      (λ f p. IsTableOf s p.history × ((latest ≤ greatest) × (latest ≤ count_of p.history)))
+      (λ f p. IsTableOf s p.history × IsWithin (registering c.name found start) p) before now (λ f p so. (so, tt))
+      (λ f p stands so. (so.0, record { schema = s; is = so.0; plain = plain_names s built; next = below (count_of p.history) so.1.1 }))
+      (learns_with (λ h. IsTableOf s h) (table_on s) AnyPast (λ f p. (latest ≤ greatest) × (latest ≤ count_of p.history)) before now listed))
+    where
+      below : (n : ℕ) → latest ≤ n → start ≤ suc n
+      below n within = omega (arith, high, within)
+
+  -- whatever the registering is answered, no call is a move
+  pub registered : (found : Option (List ℕ)) (latest start : ℕ) (first before now after : StoreView) → HasTrace (FindsUnsettled s c found) first before
+      → LearnsTable s first before → Learns AnyPast (λ f p. (latest ≤ greatest) × (latest ≤ count_of p.history)) before now → start ≤ suc latest
+      → JoinsBeside me (registering c.name found start) now after → BringsBeside me (StepsStill me c) AnyPast (λ f q. IsTableOf s q.history) first after
+  registered found latest start first before now after finds_so learns listed high joins =
+      bring_then me (StepsStill me c) AnyPast (λ f q. IsTableOf s q.history × IsWithin (registering c.name found start) q) (λ f q. IsTableOf s q.history) first now after
+      (learned me c (λ next text. ⊥) AnyPast (λ f q. IsTableOf s q.history × IsWithin (registering c.name found start) q) first now
+      (within_learned found latest start first before now (unsettled_so s c found first before finds_so).1 high learns listed))
+      (bring_known me (StepsStill me c) (λ f q. IsTableOf s q.history × IsWithin (registering c.name found start) q)
+      (λ f q. IsTableOf s q.history × IsWithin (registering c.name found start) q) (λ f q. IsTableOf s q.history × IsWithin (registering c.name found start) q)
+      (λ f q. IsTableOf s q.history) now after (λ f q so. so) (λ f q stands so. so.0)
+      (bring_with me c (λ next text. ⊥) (λ h. IsTableOf s h) (table_on s) (λ f q. IsWithin (registering c.name found start) q)
+      (λ f q. IsWithin (registering c.name found start) q) now after
+      (bring_weaker me (Registers me (registering c.name found start)) (StepsStill me c) (λ f q. IsWithin (registering c.name found start) q)
+      (λ f q. IsWithin (registering c.name found start) q) (λ f q. IsWithin (registering c.name found start) q)
+      (λ f q. IsWithin (registering c.name found start) q) now after (registers_step me c found start) (λ f q so. so) (λ f q stands so. so) joins)))
+
+  any_so : (first after : StoreView) → BringsBeside me (StepsStill me c) AnyPast (λ f q. IsTableOf s q.history) first after
+      → BringsBeside me (StepsStill me c) AnyPast AnyPast first after
+  any_so first after = bring_known me (StepsStill me c) AnyPast AnyPast (λ f q. IsTableOf s q.history) AnyPast first after (λ f q so. so) (λ f q stands so. tt)
+
+  pub registering_refused : (e : Refusal) (out : SinkView) (first after : StoreView)
+      → BringsBeside me (StepsStill me c) AnyPast (λ f q. IsTableOf s q.history) first after → ConsumesBeside me c out out first after (Some e)
+  registering_refused e out first after brings = refuses e refl (any_so first after brings)
+
+  -- ---- the starting table
+
+  tries : (start : ℕ) (e : Refusal) (out out_after : SinkView) (before after : StoreView) → PrintsStart s start out out_after before after (Some e)
+      → HasTrace (TriesTable s start) before after
+  tries start e out out_after before after (inl (text, (own, did, trace), fails)) = (own, (Ok text, did), trace)
+  tries start e out out_after before after (inr ((own, did, trace), same)) = (own, (Err e, did), trace)
+
+  first_bare : FirstLaw → (start : ℕ) (text : List ℕ) (first after : StoreView) → TellsChanges s × IsBuilt s
+      → BringsBeside me (StepsStill me c) AnyPast (λ f q. IsStarting s true start text q) first after → BringsFirst me s c start true [] 0 text first after
+  first_bare law start text first after so brings =
+      bring_weaker me (StepsStill me c) (Steps me c start []) AnyPast AnyPast (λ f q. IsStarting s true start text q)
+      (λ f q. (es : List Entry) × (q.history ≡ table s es) × IsFirstOf s es true start 0 text) first after (steps_still me c start []) (λ f q known. known)
+      (λ f q stands known.
+      let found = first_of law s so.0 so.1 q.history true start text [] known.0 known.1 tt in
+      (found.0, found.1, subst (IsFirstOf s found.0 true start 0) (append-nil text) found.2)) brings
+
+  starts_with : (start : ℕ) (text : List ℕ) (first before after : StoreView) → BringsBeside me (StepsStill me c) AnyPast (λ f q. IsTableOf s q.history) first before
+      → LearnsStart s start text before after → BringsBeside me (StepsStill me c) AnyPast (λ f q. IsStarting s true start text q) first after
+  starts_with start text first before after brings learns =
+      bring_then me (StepsStill me c) AnyPast (λ f q. IsTableOf s q.history) (λ f q. IsStarting s true start text q) first before after brings
+      (learned me c (λ next shown. ⊥) (λ f q. IsTableOf s q.history) (λ f q. IsStarting s true start text q) before after learns)
+
+  pub table_refused : FirstLaw → (start : ℕ) (p : Place) (e : Refusal) (out out_after : SinkView) (first before after : StoreView) → c.full ≡ true
+      → TellsChanges s × IsBuilt s → HasJoined s c start p first before → BringsBeside me (StepsStill me c) AnyPast (λ f q. IsTableOf s q.history) first before
+      → PrintsStart s start out out_after before after (Some e) → PieceBeside (LearnsStart s start) (λ own. Unit {0}) out out_after before after (Some e)
+      → ConsumesBeside me c out out_after first after (Some e)
+  table_refused law start p e out out_after first before after asked so has brings piece (inl (text, learns, (is, failed, took))) =
+      subst (λ (e : Refusal). ConsumesBeside me c out out_after first after (Some e)) (sym is)
+      (breaks_table s start text asked
+      (in_a_row (Joins s c start) (λ own. Unit {0}) first before after has.joins
+      (any_trace (TriesTable s start) before after (tries start e out out_after before after piece)))
+      took (first_bare law start text first after so (starts_with start text first before after brings learns)))
+  table_refused law start p e out out_after first before after asked so has brings piece (inr (same, any)) =
+      refuses_table e s start before same asked (any_so first before brings) (tries start e out out_after before after piece)
+
+  pub table_opened : (start : ℕ) (p : Place) (out out_after : SinkView) (first before after : StoreView) → c.full ≡ true → HasJoined s c start p first before
+      → BringsBeside me (StepsStill me c) AnyPast (λ f q. IsTableOf s q.history) first before → PrintsStart s start out out_after before after None
+      → PieceBeside (LearnsStart s start) (λ own. Unit {0}) out out_after before after None → OpenedBeside me s c first out out_after after (Ok p)
+  table_opened start p out out_after first before after asked has brings (shown, did, was) (text, learns, taken) =
+      subst (λ (p : Place). OpenedBeside me s c first out out_after after (Ok p)) (sym has.place) (
+        true,
+        (shown, opens_with s c start p shown first before after asked has did),
+        (text, (taken, starts_with start text first before after brings learns)),
+      )
+
+  pub bare_opened : (start : ℕ) (p : Place) (out : SinkView) (first after : StoreView) → c.full ≡ false → HasJoined s c start p first after
+      → BringsBeside me (StepsStill me c) AnyPast (λ f q. IsTableOf s q.history) first after → OpenedBeside me s c first out out after (Ok p)
+  bare_opened start p out first after asked has brings =
+      subst (λ (p : Place). OpenedBeside me s c first out out after (Ok p)) (sym has.place) (
+        false,
+        ([], opens_without s c start p first after asked has),
+        (
+          [],
+          (
+            sym (and_then_nothing out.taken),
+            bring_known me (StepsStill me c) AnyPast AnyPast (λ f q. IsTableOf s q.history) (λ f q. IsStarting s false start [] q) first after (λ f q so. so)
+                (λ f q stands so. (so, refl)) brings,
+          ),
+        ),
+      )
+
+-- ---- the frames
+
+module _ (law : FirstLaw) (me : Actor) (s : TableSchema) (c : Consuming) (p : Place) (full : Bool) (table_text text : List ℕ) (out between out_after : SinkView)
+    (first middle : StoreView) (opens : HasTrace (Opens s c p full table_text) first middle) (opened : HasOpened me s c p full text out between first middle) where
+  so : TellsChanges s × IsBuilt s
+  so = opens_so s c p full table_text first middle opens
+
+  abbrev Kept : History → Type 0
+  Kept h = IsTableOf s h × IsStartOf h full p.next text
+
+  begun : (after : StoreView) → HasTrace (λ own. Unit {0}) middle after → HasTrace (HasBegun s c p full) first after
+  begun after any =
+      let t = in_a_row (Opens s c p full table_text) (λ own. Unit {0}) first middle after opens any in
+      (t.0, (table_text, t.1), t.2)
+
+  pub listing_stops : PastStays → (e : Refusal) (after : StoreView) → HasTrace (DidLatest (Err e)) middle after → ConsumesBeside me c out between first after (Some e)
+  listing_stops past e after did =
+      stops e s p full text [] (begun after (any_trace (DidLatest (Err e)) middle after did)) (opened.0 ∙ ap (and_then out.taken) (sym (append-nil text)))
+      (bring_weaker me (StepsStill me c) (Steps me c p.next []) AnyPast AnyPast (λ f q. Kept q.history)
+      (λ f q. (es : List Entry) × (q.history ≡ table s es) × IsFirstOf s es full p.next 0 (text ++ [])) first after (steps_still me c p.next []) (λ f q known. known)
+      (λ f q stands known. first_of law s so.0 so.1 q.history full p.next text [] known.0 known.1 tt)
+      (bring_then me (StepsStill me c) AnyPast (λ f q. Kept q.history) (λ f q. Kept q.history) first middle after opened.1
+      (bring_known me (StepsStill me c) (λ f q. Kept q.history) (λ f q. Kept q.history × AnyPast f q) (λ f q. Kept q.history × AnyPast f q) (λ f q. Kept q.history)
+      middle after (λ f q known. (known, tt)) (λ f q stands known. known.0)
+      (bring_with me c (λ next shown. ⊥) Kept (starting_on s full p.next text) AnyPast AnyPast middle after
+      (reads_bring me c past middle after (listing_reads e middle after did))))))
+
+  module _ (latest : ℕ) (now after : StoreView) (did : HasTrace (DidLatest (Ok latest)) middle now)
+      (listed : Learns AnyPast (λ f p. (latest ≤ greatest) × (latest ≤ count_of p.history)) middle now) where
+    -- the pieces are the first of what is printed
+    frames_first : (frames moved : List (List ℕ)) → BringsFrames me s c p.next latest moved frames now after
+        → BringsFirst me s c p.next full moved (length frames) (text ++ joined frames) first after
+    frames_first frames moved brings =
+        bring_known me (Steps me c p.next moved) AnyPast AnyPast
+        (λ f q. Kept q.history × (IsListed s latest q.history × AreFramesFrom q.history p.next frames))
+        (λ f q. (es : List Entry) × (q.history ≡ table s es) × IsFirstOf s es full p.next (length frames) (text ++ joined frames)) first after (λ f q known. known)
+        (λ f q stands known. first_of law s so.0 so.1 q.history full p.next text frames known.0.0 known.0.1 known.1.1)
+        (bring_then me (Steps me c p.next moved) AnyPast (λ f q. Kept q.history × IsListed s latest q.history)
+        (λ f q. Kept q.history × (IsListed s latest q.history × AreFramesFrom q.history p.next frames)) first now after
+        (bring_then me (Steps me c p.next moved) AnyPast (λ f q. Kept q.history) (λ f q. Kept q.history × IsListed s latest q.history) first middle now
+        (bring_weaker me (StepsStill me c) (Steps me c p.next moved) AnyPast AnyPast (λ f q. Kept q.history) (λ f q. Kept q.history) first middle
+        (steps_still me c p.next moved) (λ f q known. known) (λ f q stands known. known) opened.1)
+        (bring_known me (Steps me c p.next moved) (λ f q. Kept q.history) (λ f q. Kept q.history × AnyPast f q)
+        (λ f q. Kept q.history × ((latest ≤ greatest) × (latest ≤ count_of q.history))) (λ f q. Kept q.history × IsListed s latest q.history) middle now
+        (λ f q known. (known, tt)) (λ f q stands known. (known.0, record { is = known.0.0; plain = plain_names s so.1; within = known.1.1 }))
+        (bring_with me c (λ next shown. (n : ℕ) × (next ≡ p.next + n) × (slice_get moved n ≡ Some shown)) Kept (starting_on s full p.next text) AnyPast
+        (λ f q. (latest ≤ greatest) × (latest ≤ count_of q.history)) middle now
+        (learned me c (λ next shown. (n : ℕ) × (next ≡ p.next + n) × (slice_get moved n ≡ Some shown)) AnyPast
+        (λ f q. (latest ≤ greatest) × (latest ≤ count_of q.history)) middle now listed))))
+        (bring_with me c (λ next shown. (n : ℕ) × (next ≡ p.next + n) × (slice_get moved n ≡ Some shown)) Kept (starting_on s full p.next text)
+        (λ f q. IsListed s latest q.history) (λ f q. IsListed s latest q.history × AreFramesFrom q.history p.next frames) now after brings))
+
+    -- what the sink took
+    took_all : (frames : List (List ℕ)) → and_then between.taken (joined frames) ≡ and_then out.taken (text ++ joined frames)
+    took_all frames = ap (λ (known : Option (List ℕ)). and_then known (joined frames)) opened.0 ∙ and_then_twice out.taken text (joined frames)
+
+    any_piece : (e : Refusal) (at : Place) (one other : SinkView) (until : StoreView) → HandsPiece s c at one other until after (Err e)
+        → HasTrace (λ own. Unit {0}) until after
+    any_piece e at one other until (inl (shown, trace, fails)) = any_trace (DidFrame s at.next (Ok shown)) until after trace
+    any_piece e at one other until (inr (inl (trace, same))) = any_trace (DidFrame s at.next (Err e)) until after trace
+    any_piece e at one other until (inr (inr (shown, trace, took))) =
+        any_trace (Then (DidFrame s at.next (Ok shown)) (DidMove (moving_from c at) (Err e))) until after trace
+
+    any_frames : (e : Refusal) → HandsFrames s c p latest between out_after now after (Some e) → HasTrace (λ own. Unit {0}) now after
+    any_frames e (count, few, (last, until, (shown, trace, took), late, piece)) =
+        any_twice now until after (any_trace (HandsOut s c p count shown) now until trace) (any_piece e (place_at p count) last out_after until piece)
+
+    begun_all : (e : Refusal) → HandsFrames s c p latest between out_after now after (Some e) → HasTrace (HasBegun s c p full) first after
+    begun_all e hands = begun after (any_twice middle now after (any_trace (DidLatest (Ok latest)) middle now did) (any_frames e hands))
+
+    pub frames_beside : (answer : Option Refusal) → HandsFrames s c p latest between out_after now after answer
+        → FramesBeside me s c p latest between out_after now after answer → ConsumesBeside me c out out_after first after answer
+    frames_beside None (shown, trace, took) (frames, size, taken, brings) =
+        let lists = in_a_row (Opens s c p full table_text) (DidLatest (Ok latest)) first middle now opens did in
+        let t = in_a_row (Lists s c p full table_text latest) (HandsOut s c p (count_from p.next latest) shown) first now after lists trace in
+        prints s p full latest text frames (t.0, (table_text, shown, t.1), t.2) size (taken ∙ took_all frames) (frames_first frames frames brings)
+    frames_beside (Some e) hands (frames, inl (taken, brings)) =
+        stops e s p full text frames (begun_all e hands) (taken ∙ took_all frames) (frames_first frames frames brings)
+    frames_beside (Some e) hands (frames, inr (last, is, took, brings)) =
+        let all_first = frames_first (frames ++ last ∷ []) frames brings in
+        subst (λ (e : Refusal). ConsumesBeside me c out out_after first after (Some e)) (sym is)
+        (breaks_frame s p full text last frames (begun_all e hands)
+        (subst (λ (known : Option (List ℕ)). TookPrefix known out_after.taken last) (took_all frames) took)
+        (subst (λ (shown : List ℕ). BringsFirst me s c p.next full frames (suc (length frames)) shown first after)
+        (ap (λ (shown : List ℕ). text ++ shown) (joined_push frames last) ∙ sym (append_assoc text (joined frames) last))
+        (subst (λ (count : ℕ). BringsFirst me s c p.next full frames count (text ++ joined (frames ++ last ∷ [])) first after) (length_push frames last) all_first)))
+
+-- it opened, and this follows from that
+pub beside_then : {R : Type 0} (me : Actor) (s : TableSchema) (c : Consuming) (p : Place) (first after : StoreView) (out out_after : SinkView)
+    → OpenedBeside me s c first out out_after after (Ok p)
+    → ((full : Bool) (shown text : List ℕ) → HasTrace (Opens s c p full shown) first after → HasOpened me s c p full text out out_after first after → R) → R
+beside_then me s c p first after out out_after (full, (shown, trace), (text, opened)) leads = leads full shown text trace opened
