@@ -19,6 +19,7 @@ use Rattle.pm_model_folder.specs.Ledger.{count_of}
 use Rattle.pm_create.specs.Creator.{own_origin}
 use Rattle.pm_create.specs.Making.{LeavesFiles}
 use Rattle.pm_commit.specs.AllCalls as commit
+use Rattle.pm_commit.specs.Meaning.{AddsOwn, path_after}
 use Rattle.pm_compactor.specs.declared.all_calls.Compacted.{Compacted}
 use Rattle.pm_compactor.specs.declared.all_calls.Compacted.TheVariants as compacted
 use Rattle.pm_words.specs.declared.command.Command.TheVariants as commands
@@ -28,7 +29,7 @@ use Rattle.pm_command_compact.specs.Compact.{AnswersHistory, Becomes, CompactsTa
 use Rattle.pm_cli.specs.InTurn.{IsExecuted}
 use Rattle.pm_cli.specs.Promise.{Becomes, Does, Execution, HasMade, Keeps, KeepsIt, MayMake, StandsForOthers, compacts, found_by, rests}
 use Rattle.pm_cli.specs.Start.{IsNew, snapshot_made}
-use Rattle.pm_cli.proofs.Common.{StandsForSome, StandsForSomeFreely, WasNew, added, any_files, extends_both, extends_each, extends_end, images_turned, leaves_both, leaves_each, leaves_some, leaves_weaker, makes_nothing, none_made, one_made, one_more, other_than, still_settled, with_command}
+use Rattle.pm_cli.proofs.Common.{StandsForSome, StandsForSomeFreely, WasNew, any_files, extends_both, extends_each, extends_end, images_turned, leaves_both, leaves_each, leaves_some, leaves_weaker, makes_nothing, none_made, one_made, one_more, other_than, still_settled, with_command}
 
 -- no group is chosen where there is no table
 no_choice : (start : Start) (full : Bool) (groups : List (Group × Bool)) (R : Type 0) (store : StoreView)
@@ -199,7 +200,10 @@ keeps_it full e h stands was =
     → StandsForOthers own h first later f = λ later f make folder others spare. record {
       folder = folder;
       changes = leaves_weaker (λ was. AddsOwn (actor e.start) (path_after h) was f) (λ was. (path : List ℕ) → Becomes own h was f path) first
-          (λ was adds path. added own h was f path refl (adds path)) spare.1;
+          (λ was adds path. elim (adds path) as (λ _. Becomes own h was f path) [
+            | inl same ↦ inl same
+            | inr new ↦ inr (inl new)
+          ]) spare.1;
       settled = λ names rests. still_settled own h first later f make spare.0 names;
       free = λ other names new.
           let origin : IsNoOrigin h (own_origin other) = any_files (IsNew other h) (IsNoOrigin h (own_origin other)) first (λ f is. is.origin) new in

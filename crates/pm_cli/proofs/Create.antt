@@ -19,7 +19,7 @@ use Rattle.pm_schema.specs.Meaning.{DraftOf}
 use Rattle.pm_schema.specs.Reading.{draft_of}
 use Rattle.pm_schema.specs.declared.schema.TableSchema.{TableSchema}
 use Rattle.pm_model_folder.specs.Changes.{Actor, IsNoOrigin, origin_name}
-use Rattle.pm_model_folder.specs.Folder.{Folder, KeepsConsumers}
+use Rattle.pm_model_folder.specs.Folder.{Folder, HaveSettled, KeepsConsumers}
 use Rattle.pm_model_folder.proofs.HoldLemmas.{ContentsStay, OneContents}
 use Rattle.pm_create.specs.Creator.{NewTable, own_origin}
 use Rattle.pm_create.specs.Making as making
@@ -35,10 +35,10 @@ use Rattle.pm_command.specs.declared.start.Start.{Start}
 use Rattle.pm_command_create.specs.Create as create
 use Rattle.pm_command_create.specs.Create.{ActsCreate, CreatesTable, IsDraftOf, IsImage, LeavesTable, StandsForEither, created_text, its_table}
 use Rattle.pm_cli.specs.InTurn.{IsExecuted}
-use Rattle.pm_cli.specs.Promise.{Does, Execution, HasMade, Keeps, KeepsIt, MayMake, StandsForOthers, creates, found_by}
+use Rattle.pm_cli.specs.Promise.{Becomes, Changes, Does, Execution, HasMade, Keeps, KeepsIt, MayMake, StandsForOthers, creates, found_by}
 use Rattle.pm_cli.specs.Start.{HaveOtherNames, IsNew, changed_path, snapshot_made}
-use Rattle.pm_cli.proofs.Common.{NotSink, StandsForSomeFreely, WasNew, any_files, any_here, extends_both, extends_each, extends_end, images_turned, leaves_both, leaves_each, leaves_some, leaves_weaker, makes_nothing, sink_same, spared, with_command}
-use Rattle.pm_cli.proofs.Origin.{FolderKept, IsKept, StandsBeside, all_kept, all_left, beside_keeps, create_calls, left_beside}
+use Rattle.pm_cli.proofs.Common.{NotSink, StandsForSomeFreely, WasNew, any_files, any_here, extends_both, extends_each, extends_end, images_turned, leaves_both, leaves_each, leaves_some, leaves_weaker, makes_nothing, sink_same, still_settled, with_command}
+use Rattle.pm_cli.proofs.Origin.{FolderKept, IsKept, StandsBeside, all_kept, all_left, beside_changes, beside_keeps, create_calls, left_beside}
 use Rattle.pm_cli.proofs.Resting.{unprinted}
 
 -- ---- what is printed
@@ -197,17 +197,28 @@ module _ (kept : FolderKept) (stay : ContentsStay) (one : OneContents) (law : Dr
   abbrev it_is : Execution
   it_is = with_command commands.Create e
 
-  -- consumers are kept
+  -- consumers are kept, and no file but its own appeared
   abbrev Spares : History → Files → Type 0
-  Spares h f = LeavesFiles (λ g. KeepsConsumers h g f) first
+  Spares h f = LeavesFiles (λ was. KeepsConsumers h was f × ((path : List ℕ) → Becomes it_is h was f path)) first
+
+  spare_settled : (h : History) (f : Files) (later : History) → MayMake it_is h later → Spares h f → (names : List (List ℕ))
+      → LeavesFiles (λ was. HaveSettled was h names) first → HaveSettled f later names
+  spare_settled h f later make spares names =
+      still_settled it_is h first later f make
+      (leaves_weaker (λ was. KeepsConsumers h was f × ((path : List ℕ) → Becomes it_is h was f path)) (λ was. KeepsConsumers h was f) first (λ was is. is.0) spares) names
+
+  spare_changes : (h : History) (f : Files) → Spares h f → Changes it_is h first f
+  spare_changes h f =
+      leaves_weaker (λ was. KeepsConsumers h was f × ((path : List ℕ) → Becomes it_is h was f path)) (λ was. (path : List ℕ) → Becomes it_is h was f path) first
+      (λ was is. is.1)
 
   -- where there was no table
   of_none : (f : Files) (later : History) → MayMake it_is no_table later → Folder f later → Spares no_table f → StandsForOthers it_is no_table first later f
   of_none f later make folder spares = record {
     folder = folder;
     free = λ other names new. new_made law e other later f names make folder;
-    consumers = spared it_is no_table first later f make spares;
-    own = tt;
+    changes = spare_changes no_table f spares;
+    settled = λ names rests. spare_settled no_table f later make spares names;
   }
 
   -- where there was one
@@ -218,8 +229,8 @@ module _ (kept : FolderKept) (stay : ContentsStay) (one : OneContents) (law : Dr
       → Spares (table s es) f → StandsForOthers it_is (table s es) first later f
   of_table s es f later make folder all spares = record {
     folder = folder;
-    consumers = spared it_is (table s es) first later f make spares;
-    own = tt;
+    changes = spare_changes (table s es) f spares;
+    settled = λ names rests. spare_settled (table s es) f later make spares names;
     free = λ other names new.
         let so = all other (names, new) in
         let origin : IsNoOrigin (table s es) (own_origin other) =
@@ -241,11 +252,18 @@ module _ (kept : FolderKept) (stay : ContentsStay) (one : OneContents) (law : Dr
   spares_at : (h : History) → IsAlone first after → LeavesFiles (making.MayStart (actor e.start) h) first → Extends (Spares h) first.ops after.ops
   spares_at h alone may =
       let calls = create_calls e.start e.before e.after e.refusal acts in
-      images_turned (KeepsConsumers h) first after.ops
-      (any_here (making.MayStart (actor e.start) h) (LeavesFiles (λ f. Extends (KeepsConsumers h f) first.ops after.ops) first) first
-      (λ f start here. here (λ f. Extends (KeepsConsumers h f) first.ops after.ops)
-      (Extends-weaker (StandsBeside (actor e.start) f) (KeepsConsumers h f) first.ops after.ops
-      (λ g beside. beside_keeps (actor e.start) f g beside h start.1)
+      let Keeps_it : Files → Files → Type 0 = λ was f. KeepsConsumers h was f × ((path : List ℕ) → Becomes it_is h was f path) in
+      images_turned Keeps_it first after.ops
+      (any_here (making.MayStart (actor e.start) h) (LeavesFiles (λ f. Extends (Keeps_it f) first.ops after.ops) first) first
+      (λ f start here. here (λ f. Extends (Keeps_it f) first.ops after.ops)
+      (Extends-weaker (StandsBeside (actor e.start) f) (Keeps_it f) first.ops after.ops
+      (λ g beside. (
+        beside_keeps (actor e.start) f g beside h start.1,
+        λ path. elim (beside_changes (actor e.start) f g beside path) as (λ _. Becomes it_is h f g path) [
+          | inl same ↦ inl same
+          | inr new ↦ inr (inl new)
+        ],
+      ))
       (all_left (actor e.start) (StandsBeside (actor e.start) f) (left_beside (actor e.start) f) calls.0 first after calls.1 calls.2 alone
       (here (StandsBeside (actor e.start) f) (record { held = λ path there. refl; fresh = λ path none origin schema. none }))).1)) may)
 

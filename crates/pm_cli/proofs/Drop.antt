@@ -1,9 +1,8 @@
 -- The promise of `consumers --drop`.
-use Rattle.std.proofs.Common.{◌≡◌, ◌≢◌, ◌⊎◌, ◌<◌, ℕ, zero, suc, codes, List, [], ◌∷◌, Contains, Bool, true, false, Option, None, Some, IsSome, Result, Ok, Err, inl, inr, refl, sym, subst, ap, ◌∙◌, true≢false, arith}
+use Rattle.std.proofs.Common.{◌≡◌, ◌≢◌, ◌⊎◌, ◌<◌, ℕ, zero, suc, List, [], ◌∷◌, Contains, Bool, true, false, Option, None, Some, IsSome, Result, Ok, Err, inl, inr, refl, sym, subst, ap, ◌∙◌, true≢false, arith}
 use Rattle.std.specs.FinMap as map
 use Rattle.std.specs.Result.{result_err}
 use Rattle.std.specs.Str.{bytes_eq}
-use Rattle.std.proofs.lemmas.List.{append_cancel_left}
 use Rattle.std.proofs.lemmas.Slice.Eq.{bytes_eq-Decides}
 use Rattle.pm_values.specs.declared.refusal.Refusal.{Refusal}
 use Rattle.pm_values.specs.declared.refusal.Refusal.TheVariants as refusals
@@ -23,13 +22,12 @@ use Rattle.pm_model_folder.specs.Paths.{consumer_path}
 use Rattle.pm_model_folder.proofs.HoldLemmas.{ContentsStay, Holds, snapshot-held}
 use Rattle.pm_create.specs.Making.{LeavesFiles}
 use Rattle.pm_move_consumer.specs.DropperAllCalls.{ItGoes, ItRests}
-use Rattle.pm_commit.specs.AllCalls.{NamesNone}
 use Rattle.pm_words.specs.declared.command.Command.TheVariants as commands
 use Rattle.pm_command.specs.Outside.{Prints}
 use Rattle.pm_command_consumers.specs.Drop.{AnswersHistory, DidRemove, Drops, DropsTable, ItEnds, StandsWithout, WasThere, text_of, told_text}
 use Rattle.pm_cli.specs.InTurn.{IsExecuted}
-use Rattle.pm_cli.specs.Promise.{Does, Execution, HasMade, IsAsAtFirst, Keeps, KeepsIt, SparesConsumers, StandsForOthers, drops, found_by}
-use Rattle.pm_cli.specs.Start.{IsNew}
+use Rattle.pm_cli.specs.Promise.{Becomes, Does, Execution, HasMade, Keeps, KeepsIt, StandsForOthers, drops, found_by}
+use Rattle.pm_cli.specs.Start.{IsNew, MayTake}
 use Rattle.pm_cli.proofs.Common.{StandsForSomeFreely, any_both, any_files, extends_each, extends_end, images_turned, leaves_both, leaves_turned, leaves_weaker, makes_nothing, none_made, schema_not, sink_same, with_command}
 use Rattle.pm_cli.proofs.Resting.{unprinted}
 
@@ -67,10 +65,6 @@ module _ (name : List ℕ) (e : Execution) where
 
   -- ---- what stands
 
-  -- the paths of two consumers
-  path-apart : (other : List ℕ) → other ≢ name → consumer_path other ≢ consumer_path name
-  path-apart other apart same = apart (append_cancel_left (codes "consumer/consumer-") other name same)
-
   none-in : (other : List ℕ) → Contains [] other → ⊥
   none-in other (k, within, at) = omega (arith, within)
 
@@ -81,7 +75,8 @@ module _ (name : List ℕ) (e : Execution) where
   -- each that was settled is where its file is as it was
   still-settled : (h : History) (first : StoreView) (g : Files) (names : List (List ℕ)) → LeavesFiles (λ f. HaveSettled f h names) first
       → LeavesFiles (λ f. StandsWithout name h names f g × (ItRests name f g ⊎ ItGoes name f g)) first
-      → ((other : List ℕ) → Contains names other → IsAsAtFirst first other g) → HaveSettled g h names
+      → ((other : List ℕ) → Contains names other → MayTake (commands.Consumers (Some name)) (consumer_path other) → LeavesFiles (λ f. ItRests other f g) first)
+      → HaveSettled g h names
   still-settled no_table first g names was now same = any_files (λ f. HaveSettled f no_table names) (HaveSettled g no_table names) first (λ f none. none) was
   still-settled (table s es) first g names was now same = λ other there. at other there (bytes_eq other name) refl
     where
@@ -94,9 +89,9 @@ module _ (name : List ℕ) (e : Execution) where
       at : (other : List ℕ) → Contains names other → (t : Bool) → bytes_eq other name ≡ t → Settled other
       at other there true is =
           let own : other ≡ name = (bytes_eq-Decides other name).0 is in
-          any_both Stands (λ f. map.get g (consumer_path other) ≡ map.get f (consumer_path other)) (Settled other) first
-          (λ f stands rests. stands.0.settled (subst (λ (name : List ℕ). map.get g (consumer_path name) ≡ map.get f (consumer_path name)) own rests) other there)
-          now (same other there)
+          any_both Stands (λ f. ItRests other f g) (Settled other) first
+          (λ f stands rests. stands.0.settled (subst (λ (name : List ℕ). ItRests name f g) own rests) other there)
+          now (same other there (ap consumer_path own))
       at other there false is =
           any_files Stands (Settled other) first
           (λ f stands. stands.0.others (other ∷ [])
@@ -143,20 +138,24 @@ module _ (name : List ℕ) (e : Execution) where
       names = λ s id path is low high names by. new.names s id path is low high (names-were f g (holds f g stands) s id path names) by;
     }
 
-    spares : (g : Files) → StandNow [] g → ((names : List (List ℕ)) → WereSettled names → StandNow names g) → SparesConsumers it h first h g
-    spares g now each = record {
-      files = λ other apart.
-          leaves_weaker (λ f. Stands [] f g) (λ f. map.get g (consumer_path other) ≡ map.get f (consumer_path other)) first
-          (λ f stands. stands.0.rest (consumer_path other) (path-apart other (λ same. apart (ap Some (sym same))))) now;
-      settled = λ names same was. still-settled h first g names was (each names was) same;
-    }
+    changed : (f g : Files) → Stands [] f g → (path : List ℕ) → Becomes it h f g path
+    changed f g (stands, own) path = at (bytes_eq path (consumer_path name)) refl
+      where
+        at : (t : Bool) → bytes_eq path (consumer_path name) ≡ t → Becomes it h f g path
+        at false is = inl (stands.rest path (λ same. true≢false (sym ((bytes_eq-Decides path (consumer_path name)).1 same) ∙ is)))
+        at true is =
+            let same : path ≡ consumer_path name = (bytes_eq-Decides path (consumer_path name)).0 is in
+            elim own as (λ _. Becomes it h f g path) [
+              | inl rests ↦ inl (ap (map.get g) same ∙ rests ∙ ap (map.get f) (sym same))
+              | inr goes ↦ inr (inr (ap (map.get g) same ∙ goes.1, same))
+            ]
 
     freely : (g : Files) → StandNow [] g → ((names : List (List ℕ)) → WereSettled names → StandNow names g) → StandsForOthers it h first h g
     freely g now each = record {
       folder = any_files (λ f. Stands [] f g) (Folder g h) first (λ f stands. stands.0.folder) now;
+      changes = leaves_weaker (λ f. Stands [] f g) (λ f. (path : List ℕ) → Becomes it h f g path) first (λ f stands. changed f g stands) now;
       free = λ other names new. any_both (λ f. Stands [] f g) (IsNew other h) (IsNew other h g) first (λ f stands is. new-still other f g stands is) now new;
-      consumers = spares g now each;
-      own = leaves_weaker (λ f. Stands [] f g) (λ f. ItRests name f g ⊎ ItGoes name f g) first (λ f stands. stands.1) now;
+      settled = λ names same was. still-settled h first g names was (each names was) same;
     }
 
     abbrev after : StoreView

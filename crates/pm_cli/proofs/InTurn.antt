@@ -1,5 +1,5 @@
 -- Commands that are executed one after another.
-use Rattle.std.proofs.Common.{◌≡◌, ◌≢◌, ◌≤◌, ℕ, List, [], ◌∷◌, length, map as each_of, slice_get, append-nil, Contains, Option, None, Some, IsSomeAnd, Ok, refl, sym, subst, ap, ◌∙◌, arith}
+use Rattle.std.proofs.Common.{◌≡◌, ◌≤◌, ℕ, List, [], ◌∷◌, length, map as each_of, slice_get, append-nil, Contains, Option, None, Some, IsSomeAnd, Ok, refl, sym, subst, ap, ◌∙◌, arith}
 use Rattle.std.specs.FinMap as map
 use Rattle.std.specs.List.{AllByRecursion}
 use Rattle.pm_base.specs.Known.{and_then}
@@ -15,6 +15,7 @@ use Rattle.pm_model_history.specs.Merge.{HistoryRow}
 use Rattle.pm_model_history.specs.Merged.{scan_text}
 use Rattle.pm_model_folder.specs.Changes.{Actor}
 use Rattle.pm_model_folder.specs.Folder.{Folder, HaveSettled}
+use Rattle.pm_model_folder.specs.Paths.{consumer_path}
 use Rattle.pm_create.specs.Making.{LeavesFiles}
 use Rattle.pm_write.specs.Taken.{all_taken}
 use Rattle.pm_words.specs.declared.command.Command.{Command}
@@ -26,7 +27,7 @@ use Rattle.pm_command_create.specs.Create.{IsDraftOf}
 use Rattle.pm_command_write.specs.Write.{entry_by, writer_of}
 use Rattle.pm_cli.specs.InTurn.{AreInTurn, DropNone, Ending, HaveOwnNames, IsExecuted, HandsOn, MakeInTurn, MakesBy, Turn, ended, others_op, seen_by_another, stopped, to_its_end}
 use Rattle.pm_cli.specs.Promise.{Does, Execution, Keeps, KeepsIt, HasMade, MayMake, StandsForOthers, commits, creates, found_by, has_already, scans, takes_none}
-use Rattle.pm_cli.specs.Start.{HaveOtherNames, IsNew, MayStart, own_consumer}
+use Rattle.pm_cli.specs.Start.{HaveOtherNames, IsNew, MayStart, MayTake}
 use Rattle.pm_cli.proofs.Common.{StandsForSomeFreely, leaves_some, leaves_weaker}
 use Rattle.pm_cli.proofs.First.{acts_goes_on, first_same, from_before}
 
@@ -85,9 +86,9 @@ next_store stopped e h first next same kept has =
 
 -- who was settled is, but for whom it drops
 still_settled : (names : List (List ℕ)) (e : Execution) (h : History) (first : StoreView) (later : History) (f : Files) → StandsForOthers e h first later f
-    → ((name : List ℕ) → Contains names name → own_consumer e.command ≢ Some name) → LeavesFiles (λ g. HaveSettled g h names) first → HaveSettled f later names
-still_settled names e h first later f stands others was =
-    stands.consumers.settled names (λ name there. stands.consumers.files name (others name there)) was
+    → ((name : List ℕ) → Contains names name → MayTake e.command (consumer_path name) → ⊥) → LeavesFiles (λ g. HaveSettled g h names) first
+    → HaveSettled f later names
+still_settled names e h first later f stands others was = stands.settled names (λ name there takes. absurd (others name there takes)) was
 
 pub in_turn : KeepsEach → NewMayStart → (names : List (List ℕ)) (turns : List Turn) (store last : StoreView) (h : History) → AreInTurn store turns last → HaveOwnNames turns
     → DropNone turns names → LeavesFiles (StandsWith names turns h) store

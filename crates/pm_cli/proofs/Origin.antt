@@ -1,7 +1,9 @@
 -- A `create` that finds a table: its calls make a file of its own at most, and no snapshot names another's file then.
-use Rattle.std.proofs.Common.{◌≡◌, ◌≢◌, ◌≤◌, ◌⊎◌, inl, inr, ℕ, suc, List, [], ◌∷◌, length, take, get_or, if◌then◌else◌, Option, None, Some, IsSome, IsSomeAnd, Result, Ok, Err, refl, sym, subst, ap, ◌∙◌, arith}
+use Rattle.std.proofs.Common.{◌≡◌, ◌≢◌, ◌≤◌, ◌⊎◌, inl, inr, ℕ, suc, List, [], ◌∷◌, length, take, get_or, if◌then◌else◌, Bool, true, false, true≢false, Option, None, Some, IsSome, IsSomeAnd, Result, Ok, Err, refl, sym, subst, ap, ◌∙◌, arith}
 use Rattle.std.specs.FinMap as map
 use Rattle.std.specs.List.{AllByRecursion}
+use Rattle.std.specs.Str.{bytes_eq}
+use Rattle.std.proofs.lemmas.Slice.Eq.{bytes_eq-Decides}
 use Rattle.pm_values.specs.declared.refusal.Refusal.{Refusal}
 use Rattle.pm_values.specs.declared.refusal.Refusal.TheVariants as refusals
 use Rattle.pm_store.specs.declared.answer.Answer.{Answer}
@@ -227,6 +229,21 @@ module _ (me : Actor) (f : Files) where
         at None none =
             beside.fresh (snapshot_file name) none
             (λ same. origin_is h s name (own_origin me) is named (free (ap (map.get f) (sym same) ∙ none)) same) (snapshot-schema name 0) ∙ sym none
+
+    -- and each file is as it was, or one of these appeared
+    pub beside_changes : (path : List ℕ) → (map.get g path ≡ map.get f path)
+        ⊎ ((map.get f path ≡ None) × ((path ≡ own_origin me) ⊎ (path ≡ schema_path 0)))
+    beside_changes path = at (map.get f path) refl (bytes_eq path (own_origin me)) refl (bytes_eq path (schema_path 0)) refl
+      where
+        at : (o : Option (List ℕ)) → map.get f path ≡ o → (origin : Bool) → bytes_eq path (own_origin me) ≡ origin → (schema : Bool)
+            → bytes_eq path (schema_path 0) ≡ schema
+            → (map.get g path ≡ map.get f path) ⊎ ((map.get f path ≡ None) × ((path ≡ own_origin me) ⊎ (path ≡ schema_path 0)))
+        at (Some bytes) there origin is schema so = inl (beside.held path (subst (λ (o : Option (List ℕ)). IsSome o) (sym there) refl))
+        at None none true is schema so = inr (none, inl ((bytes_eq-Decides path (own_origin me)).0 is))
+        at None none false is true so = inr (none, inr ((bytes_eq-Decides path (schema_path 0)).0 so))
+        at None none false is false so =
+            inl (stays path (λ same. true≢false (sym ((bytes_eq-Decides path (own_origin me)).1 same) ∙ is))
+            (λ same. true≢false (sym ((bytes_eq-Decides path (schema_path 0)).1 same) ∙ so)))
 
     pub beside_keeps : (h : History) → IsFreeOrigin (own_origin me) f h → KeepsConsumers h f g
     beside_keeps h free =

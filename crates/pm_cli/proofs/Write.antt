@@ -24,6 +24,7 @@ use Rattle.pm_write.specs.Taken.{all_taken}
 use Rattle.pm_made.specs.declared.newest.Author.{Author}
 use Rattle.pm_commit.specs.AllCalls.{HasBorne}
 use Rattle.pm_commit.specs.AllCalls as commit
+use Rattle.pm_commit.specs.Meaning.{AddsOwn, path_after}
 use Rattle.pm_commit.specs.Search.{seen_of}
 use Rattle.pm_commit.specs.declared.search.Seen.TheVariants as seen
 use Rattle.pm_words.specs.declared.command.Command.TheVariants as commands
@@ -39,7 +40,7 @@ use Rattle.pm_cli.specs.InTurn.{IsExecuted}
 use Rattle.pm_cli.specs.Promise.{Becomes, Does, Execution, HasMade, Keeps, KeepsIt, MayMake, StandsForOthers, commits, found_by, has_already, takes_none}
 use Rattle.pm_cli.specs.Snapshots.{HasReached, IsReachedAt}
 use Rattle.pm_cli.specs.Start.{IsNew, snapshot_made}
-use Rattle.pm_cli.proofs.Common.{NotSink, StandsForSome, StandsForSomeFreely, WasNew, added, any_files, any_here, extends_both, extends_each, extends_end, images_turned, leaves_both, leaves_each, leaves_some, leaves_weaker, makes_nothing, none_made, one_made, one_more, other_than, still_settled, with_command}
+use Rattle.pm_cli.proofs.Common.{NotSink, StandsForSome, StandsForSomeFreely, WasNew, any_files, any_here, extends_both, extends_each, extends_end, images_turned, leaves_both, leaves_each, leaves_some, leaves_weaker, makes_nothing, none_made, one_made, one_more, other_than, still_settled, with_command}
 use Rattle.pm_cli.proofs.Snapshots.{bears_entry, from_there}
 
 -- ---- an earlier commit of the user
@@ -318,7 +319,10 @@ keeps_it user number e h stands was =
     → StandsForOthers own h first later f = λ later f make folder others spare. record {
       folder = folder;
       changes = leaves_weaker (λ was. AddsOwn (actor e.start) (path_after h) was f) (λ was. (path : List ℕ) → Becomes own h was f path) first
-          (λ was adds path. added own h was f path refl (adds path)) spare.1;
+          (λ was adds path. elim (adds path) as (λ _. Becomes own h was f path) [
+            | inl same ↦ inl same
+            | inr new ↦ inr (inl new)
+          ]) spare.1;
       settled = λ names rests. still_settled own h first later f make spare.0 names;
       free = λ other names new.
           let origin : IsNoOrigin h (own_origin other) = any_files (IsNew other h) (IsNoOrigin h (own_origin other)) first (λ f is. is.origin) new in

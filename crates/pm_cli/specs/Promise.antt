@@ -18,6 +18,7 @@ use Rattle.pm_model_history.specs.Merge.{HistoryRow}
 use Rattle.pm_model_history.specs.Merged.{scan_text}
 use Rattle.pm_model_folder.specs.Changes.{Actor}
 use Rattle.pm_model_folder.specs.Folder.{Folder, HaveSettled}
+use Rattle.pm_model_folder.specs.Paths.{consumer_path}
 use Rattle.pm_consumer_files.specs.Lines.{consumers_text}
 use Rattle.pm_consumer_files.specs.declared.lines.NamedConsumer.{NamedConsumer}
 use Rattle.pm_create.specs.Making.{LeavesFiles}
@@ -121,15 +122,16 @@ abbrev pub Changes : Execution → History → StoreView → Files → Type 0
 Changes e h first f = LeavesFiles (λ was. (path : List ℕ) → Becomes e h was f path) first
 
 -- Files stand for the history, no other file changed than the command may make or take away, and each other actor that
--- was new to the history at first is new to it. Of the consumers that were settled those are whose files stay.
+-- was new to the history at first is new to it. Each consumer that was settled is, but for one whose file the command
+-- took away.
 pub record StandsForOthers (e : Execution) (h : History) (first : StoreView) (later : History) (f : Files)
     : Type 0 where
   pub folder : Folder f later
   pub changes : Changes e h first f
   pub free : (other : Actor) → HaveOtherNames (actor e.start) other → LeavesFiles (IsNew other h) first
       → IsNew other later f
-  pub settled : (names : List (List ℕ))
-      → ((name : List ℕ) → Contains names name → LeavesFiles (λ was. ItRests name was f) first)
+  pub settled : (names : List (List ℕ)) → ((name : List ℕ) → Contains names name
+      → MayTake e.command (consumer_path name) → LeavesFiles (λ was. ItRests name was f) first)
       → LeavesFiles (λ was. HaveSettled was h names) first → HaveSettled f later names
 
 -- What a drop leaves of its consumer's file, by its answer: none, once the remove was answered, whether or not the sink

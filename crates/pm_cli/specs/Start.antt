@@ -12,6 +12,7 @@ use Rattle.pm_model_folder.specs.Paths.{consumer_path, schema_path}
 use Rattle.pm_create.specs.Creator.{own_origin}
 use Rattle.pm_create.specs.Making as making
 use Rattle.pm_commit.specs.AllCalls as commit
+use Rattle.pm_commit.specs.Meaning.{path_after}
 use Rattle.pm_command.specs.Outside.{next_path}
 use Rattle.pm_command_follow.specs.Follow.{PrintsSome}
 use Rattle.pm_words.specs.declared.command.Command.{Command}
@@ -37,15 +38,15 @@ HasInput (commands.Compact full) bytes left = Unit {0}
 HasInput (commands.Follow from full) bytes left = Unit {0}
 HasInput (commands.Write user identifier) bytes left = left ≡ Some bytes
 
--- the file at this path is one that the command makes: its table's origin and schema; or its actor's own, and the next
--- snapshot
+-- The file at this path is one that the command may make: its table's origin and schema; or its actor's own and the next
+-- snapshot.
 abbrev pub MayAdd : Command → Actor → History → List ℕ → Type 0
 MayAdd commands.Create me h path = (path ≡ own_origin me) ⊎ (path ≡ schema_path 0)
-MayAdd (commands.Compact full) me h path = IsOwn me path ⊎ (path ≡ next_path h)
-MayAdd (commands.Write user identifier) me h path = IsOwn me path ⊎ (path ≡ next_path h)
+MayAdd (commands.Compact full) me h path = IsOwn me path ⊎ (path ≡ path_after h)
+MayAdd (commands.Write user identifier) me h path = IsOwn me path ⊎ (path ≡ path_after h)
 MayAdd other me h path = ⊥
 
--- and one that it takes away: that of the consumer which it drops
+-- and one that it may take away: that of the consumer which it drops
 abbrev pub MayTake : Command → List ℕ → Type 0
 MayTake (commands.Consumers (Some name)) path = path ≡ consumer_path name
 MayTake other path = ⊥
