@@ -93,9 +93,12 @@ still_settled names e h first later f stands others was = stands.settled names (
 pub in_turn : KeepsEach → NewMayStart → (names : List (List ℕ)) (turns : List Turn) (store last : StoreView) (h : History) → AreInTurn store turns last → HaveOwnNames turns
     → DropNone turns names → LeavesFiles (StandsWith names turns h) store
     → (later : History) × MakeInTurn turns h later × LeavesFiles (λ f. Folder f later × HaveSettled f later names) last
-in_turn keeps starts names [] store last h is own others stands =
-    (h, refl, subst (λ (store : StoreView). LeavesFiles (λ f. Folder f h × HaveSettled f h names) store) (sym is)
-    (leaves_weaker (StandsWith names [] h) (λ f. Folder f h × HaveSettled f h names) store (λ f all. (all.0, all.1)) stands))
+in_turn keeps starts names [] store last h is own others stands = (
+  h,
+  refl,
+  subst (λ (store : StoreView). LeavesFiles (λ f. Folder f h × HaveSettled f h names) store) (sym is)
+      (leaves_weaker (StandsWith names [] h) (λ f. Folder f h × HaveSettled f h names) store (λ f all. (all.0, all.1)) stands),
+)
 in_turn keeps starts names (t ∷ turns) store last h (same, is, alone, input, (next, leaves, rest)) (own, later_own) (others, later_others) stands =
     let e = t.execution in
     let first = at_first_own e.before.store e.after.store in

@@ -117,41 +117,41 @@ module _ (kept : FolderKept) (stay : ContentsStay) (one : OneContents) (me other
 -- ---- what each of its calls keeps
 
 module _ (me : Actor) (IsKept : Files → Type 0) (left : (call : Call) → IsMaking me call → (f image : Files) → IsKept f → MayLeave call f image → IsKept image)
-    where
-  one_event : (known : Option (List Op)) (call : Call) (answer : Option Answer) (before middle : StoreView) → IsMaking me call
-      → Ended call answer before middle → IsAlone before middle → Follows IsKept known before IsKept → Follows IsKept known middle IsKept
-  one_event known call (Some answer) before middle is (steps, may) alone so =
-      Follows-steps IsKept IsKept IsKept known (whole call) (λ ops. Answers call answer (files_after ops)) before middle so steps alone
-      (λ ops here told. (
-        left call is (files_after ops) (after_op (whole call) (files_after ops)) here (MayLeave-after_effect call (whole call).effect (files_after ops)),
-        λ image may. left call is (files_after ops) image here may,
-      ))
-  one_event known call None before middle is ((effect, steps), rose) alone so =
-      Follows-steps IsKept IsKept IsKept known (own_op call effect) (λ ops. MayHave call effect (files_after ops)) before middle so steps alone
-      (λ ops here told. (
-        left call is (files_after ops) (after_op (own_op call effect) (files_after ops)) here (MayLeave-after_effect call effect (files_after ops)),
-        λ image may. left call is (files_after ops) image here may,
-      ))
+  where
+    one_event : (known : Option (List Op)) (call : Call) (answer : Option Answer) (before middle : StoreView) → IsMaking me call
+        → Ended call answer before middle → IsAlone before middle → Follows IsKept known before IsKept → Follows IsKept known middle IsKept
+    one_event known call (Some answer) before middle is (steps, may) alone so =
+        Follows-steps IsKept IsKept IsKept known (whole call) (λ ops. Answers call answer (files_after ops)) before middle so steps alone
+        (λ ops here told. (
+          left call is (files_after ops) (after_op (whole call) (files_after ops)) here (MayLeave-after_effect call (whole call).effect (files_after ops)),
+          λ image may. left call is (files_after ops) image here may,
+        ))
+    one_event known call None before middle is ((effect, steps), rose) alone so =
+        Follows-steps IsKept IsKept IsKept known (own_op call effect) (λ ops. MayHave call effect (files_after ops)) before middle so steps alone
+        (λ ops here told. (
+          left call is (files_after ops) (after_op (own_op call effect) (files_after ops)) here (MayLeave-after_effect call effect (files_after ops)),
+          λ image may. left call is (files_after ops) image here may,
+        ))
 
-  all_events : (known : Option (List Op)) (own : List Event) (before after : StoreView) → AreMaking me own → Traces own before after
-      → IsAlone before after → Follows IsKept known before IsKept → Follows IsKept known after IsKept
-  all_events known [] before after are (meanwhile, later) alone so = Follows-meanwhile IsKept IsKept known before after so meanwhile alone
-  all_events known (event ∷ own) before after are (middle, ended, early, rest) alone so =
-      let parts = alone_parts before middle after early (Traces-later own middle after rest) alone in
-      all_events known own middle after are.1 rest parts.1 (one_event known event.call event.answer before middle are.0 ended parts.0 so)
+    all_events : (known : Option (List Op)) (own : List Event) (before after : StoreView) → AreMaking me own → Traces own before after
+        → IsAlone before after → Follows IsKept known before IsKept → Follows IsKept known after IsKept
+    all_events known [] before after are (meanwhile, later) alone so = Follows-meanwhile IsKept IsKept known before after so meanwhile alone
+    all_events known (event ∷ own) before after are (middle, ended, early, rest) alone so =
+        let parts = alone_parts before middle after early (Traces-later own middle after rest) alone in
+        all_events known own middle after are.1 rest parts.1 (one_event known event.call event.answer before middle are.0 ended parts.0 so)
 
-  twice : (known : Option (List Op)) → IsSomeAnd known (λ ops. IsKept (files_after ops))
-      → IsSomeAnd known (λ ops. IsKept (files_after ops) × IsKept (files_after ops))
-  twice None has = has
-  twice (Some ops) has = (has, has)
+    twice : (known : Option (List Op)) → IsSomeAnd known (λ ops. IsKept (files_after ops))
+        → IsSomeAnd known (λ ops. IsKept (files_after ops) × IsKept (files_after ops))
+    twice None has = has
+    twice (Some ops) has = (has, has)
 
-  pub all_left : (own : List Event) (first after : StoreView) → AreMaking me own → Traces own first after → IsAlone first after
-      → LeavesFiles IsKept first → LeavesFiles IsKept after × Extends IsKept first.ops after.ops
-  all_left own first after are traces alone has =
-      let so = all_events first.ops own first after are traces alone (Follows-first IsKept IsKept first first.ops refl (twice first.ops has)) in (
-        subst (λ (known : Option (List Op)). IsSomeAnd known (λ ops. IsKept (files_after ops))) (sym so.is) so.here,
-        subst (λ (known : Option (List Op)). Extends IsKept first.ops known) (sym so.is) so.images,
-      )
+    pub all_left : (own : List Event) (first after : StoreView) → AreMaking me own → Traces own first after → IsAlone first after
+        → LeavesFiles IsKept first → LeavesFiles IsKept after × Extends IsKept first.ops after.ops
+    all_left own first after are traces alone has =
+        let so = all_events first.ops own first after are traces alone (Follows-first IsKept IsKept first first.ops refl (twice first.ops has)) in (
+          subst (λ (known : Option (List Op)). IsSomeAnd known (λ ops. IsKept (files_after ops))) (sym so.is) so.here,
+          subst (λ (known : Option (List Op)). Extends IsKept first.ops known) (sym so.is) so.images,
+        )
 
 pub all_kept : (kept : FolderKept) (stay : ContentsStay) (one : OneContents) (me other : Actor) (s : TableSchema) (es : List Entry) (own : List Event)
     (first after : StoreView) → AreMaking me own → Traces own first after → IsAlone first after → LeavesFiles (IsKept kept stay one me other s es) first

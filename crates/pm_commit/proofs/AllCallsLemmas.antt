@@ -154,10 +154,10 @@ module _ (laws : CallLaws) (b : Beginning) where
         stood = stood-on (actor_of own) f after b p q same past.stood makes.advances;
         adds = adds-more (actor_of b.own) (path_after b.history) b.files f after past.adds own_adds;
         consumers = consumers-stay b.history b.files f after p q past.consumers (record {
-              files = adds-consumers (actor_of b.own) (path_after b.history) f after
-                  (λ name. consumer-snapshot name (snapshot_name (suc (newest_id b)))) own_adds;
-              claims = makes.consumers;
-            });
+          files = adds-consumers (actor_of b.own) (path_after b.history) f after
+              (λ name. consumer-snapshot name (snapshot_name (suc (newest_id b)))) own_adds;
+          claims = makes.consumers;
+        });
         others = λ other apart none.
             laws.others other (actor_of own) f after p q stands makes.advances (λ same. apart (same ∙ is)) (past.others other apart none);
       }
