@@ -1,0 +1,4 @@
+pub mod Facts
+mod KnowsLemmas
+mod ListLemmas
+mod TimesLemmas
