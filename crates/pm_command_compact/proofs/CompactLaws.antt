@@ -8,6 +8,7 @@ use Rattle.pm_values.specs.declared.refusal.Refusal.{Refusal}
 use Rattle.pm_values.specs.declared.refusal.Refusal.TheVariants as refusals
 use Rattle.pm_io.specs.Sink.{SinkView}
 use Rattle.pm_store.specs.Files.{Files}
+use Rattle.pm_store.specs.Images.{Extends}
 use Rattle.pm_store.specs.Store.{StoreView, at_first_own}
 use Rattle.pm_store.proofs.ImageLaws.{Extends-weaker}
 use Rattle.pm_machine.specs.Trace.{HasTrace}

@@ -4,8 +4,8 @@ mod BesideLemmas
 mod BringLemmas
 mod CompleteLemmas
 mod ConsumeLemmas
-mod OpenLemmas
-mod PieceLemmas
+pub mod OpenLemmas
+pub mod PieceLemmas
 mod PlaceLemmas
 mod StageLemmas
 mod TwiceLemmas

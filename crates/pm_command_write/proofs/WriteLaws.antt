@@ -396,6 +396,12 @@ appended_keeps fits start w lines s batch made before after t may appends = λ a
           let none : NamesNone other h files.0 = subst (NamesNone other h) (files_same free.0 files.0 first free.1 files.1) free.2.1 in
           Extends-weaker (commit.StandsForEither at) (MayStartAfter other start w lines h) first.ops after.ops
           (start-rows start w lines s batch t h files.0 does.schema other apart none) does.images;
+      consumers = leaves_of (λ f. Extends (KeepsConsumers h f) first.ops after.ops) files.0 first files.1
+          (Extends-weaker (commit.StandsForEither at) (KeepsConsumers h files.0) first.ops after.ops
+          (keeps-consumers start w lines s batch t h files.0 does.schema) does.images);
+      adds = leaves_of (λ f. Extends (AddsOwn (actor start) (path_after h) f) first.ops after.ops) files.0 first files.1
+          (Extends-weaker (commit.StandsForEither at) (AddsOwn (actor start) (path_after h) files.0) first.ops after.ops
+          (adds-own start w lines s batch t h files.0 does.schema) does.images);
     }
 
 -- ---- what a crash may leave

@@ -124,10 +124,10 @@ module _ (laws : CallLaws) (b : Beginning) where
       let has_then : HasSpared b after q = record {
         adds = adds-more (actor_of b.asking.names) (path_after b.history) b.files f after has.adds makes.adds;
         consumers = consumers-stay b.history b.files f after p q has.consumers (record {
-              files = adds-consumers (actor_of b.asking.names) (path_after b.history) f after
-                  (λ name. consumer-snapshot name (snapshot_name (suc (count_of b.history)))) makes.adds;
-              claims = makes.consumers;
-            });
+          files = adds-consumers (actor_of b.asking.names) (path_after b.history) f after
+              (λ name. consumer-snapshot name (snapshot_name (suc (count_of b.history)))) makes.adds;
+          claims = makes.consumers;
+        });
       } in
       (then, has_then, stands-either after q then has_then (past-then f after p q stands past makes) makes.either)
 
