@@ -19,7 +19,7 @@ use Rattle.pm_draft.specs.Built.{unbuilt, unbuilt_bucket, unbuilt_partition}
 use Rattle.pm_words.specs.declared.command.Command.{Command}
 use Rattle.pm_command.specs.Outside.{actor}
 use Rattle.pm_command.specs.declared.start.Start.{Start}
-use Rattle.pm_cli.specs.Promise.{Does, Execution, HasMade, MayMake, StandsForOthers, commits, compacts, creates, drops, follows, found_by, has_already, lists, lists_consumers, rests, scans, takes_none}
+use Rattle.pm_cli.specs.Promise.{Does, Execution, HasMade, MayMake, StandsForOthers, commits, compacts, consumes, creates, drops, follows, found_by, has_already, lists, lists_consumers, rests, scans, takes_none}
 use Rattle.pm_cli.specs.Start.{HaveOtherNames, IsNew, LeavesOut, snapshot_made}
 
 -- the execution with this command in its place
@@ -149,6 +149,7 @@ later_settled start bytes found command h later text f names (lists s es lines a
 later_settled start bytes found command h later text f names (lists_consumers s es consumers are) have = have
 later_settled start bytes found command h later text f names (drops name s es was_there at) have = have
 later_settled start bytes found command h later text f names (follows from full s es may) have = have
+later_settled start bytes found command h later text f names (consumes name from known full s es at tells may) have = have
 later_settled start bytes found command h later text f names (rests full s es chosen) have = have
 later_settled start bytes found command h later text f names (compacts full s es groups some chosen) have = have
 later_settled start bytes found command h later text f names (takes_none user number s es took) have = have
@@ -255,7 +256,7 @@ NotSink (refusals.SinkFault snapshot) = ⊥
 NotSink other = Unit {0}
 
 -- where it was refused, but by the sink, and this was printed, it may have made nothing
-pub makes_nothing : (e : Execution) (h : History) (refusal : Refusal) → NotSink refusal → LeavesOut e.command h e.before.out e.after.out
+pub makes_nothing : (e : Execution) (h : History) (refusal : Refusal) → NotSink refusal → LeavesOut e.command (found_by e) h e.before.out e.after.out
     → HasMade e h (Some refusal) h
 makes_nothing e h (refusals.SinkFault snapshot) not out = absurd not
 makes_nothing e h (refusals.StoreFault path) not out = (inl refl, inl refl, out)

@@ -216,7 +216,8 @@ keeps_it full e h stands was =
           (leaves_each (λ f. Folder f end.0) (WasNew own h first) AfterIt after end.2
           (λ other was. extends_end (AfterIt other) first after known (starts other was)))
           (extends_end Spares first after known spares);
-      dropped = leaves_weaker (λ f. Folder f end.0) (λ f. Unit {0}) after (λ f folder. tt) end.2;
+      own = leaves_weaker (λ f. Folder f end.0) (λ f. Unit {0}) after (λ f folder. tt) end.2;
+      passes = Extends-weaker Spares (λ f. Unit {0}) first.ops after.ops (λ f is. tt) spares;
       images = Extends-weaker
           (λ f. (IsImage e.start full h first f × ((other : Actor) → WasNew own h first other → AfterIt other f)) × Spares f)
           (StandsForSomeFreely own h first) first.ops after.ops

@@ -147,7 +147,7 @@ module _ (name : List ℕ) (e : Execution) where
             let same : path ≡ consumer_path name = (bytes_eq-Decides path (consumer_path name)).0 is in
             elim own as (λ _. Becomes it h f g path) [
               | inl rests ↦ inl (ap (map.get g) same ∙ rests ∙ ap (map.get f) (sym same))
-              | inr goes ↦ inr (inr (ap (map.get g) same ∙ goes.1, same))
+              | inr goes ↦ inr (inr (inl (ap (map.get g) same ∙ goes.1, same)))
             ]
 
     freely : (g : Files) → StandNow [] g → ((names : List (List ℕ)) → WereSettled names → StandNow names g) → StandsForOthers it h first h g
@@ -175,12 +175,13 @@ module _ (name : List ℕ) (e : Execution) where
           ends = leaves_weaker (λ g. StandNow [] g × ((names : List (List ℕ)) → WereSettled names → StandNow names g)) (StandsForOthers it h first h) after
               (λ g is. freely g is.0 is.1)
               (extends_end (λ g. StandNow [] g × ((names : List (List ℕ)) → WereSettled names → StandNow names g)) first after known all);
-          dropped = leaves_weaker (λ g. LeavesFiles (λ f. StandsWithout name h [] f g × ItEnds name e.refusal f g) first)
+          own = leaves_weaker (λ g. LeavesFiles (λ f. StandsWithout name h [] f g × ItEnds name e.refusal f g) first)
               (λ g. LeavesFiles (λ f. ItEnds name e.refusal f g) first) after
               (λ g is. leaves_weaker (λ f. StandsWithout name h [] f g × ItEnds name e.refusal f g) (λ f. ItEnds name e.refusal f g) first (λ f both. both.1) is)
               (leaves_turned (λ f g. StandsWithout name h [] f g × ItEnds name e.refusal f g) first after was.leaves);
           images = Extends-weaker (λ g. StandNow [] g × ((names : List (List ℕ)) → WereSettled names → StandNow names g)) (StandsForSomeFreely it h first)
               first.ops after.ops (λ g is. (h, inl refl, freely g is.0 is.1)) all;
+          passes = Extends-weaker (StandNow []) (λ g. Unit {0}) first.ops after.ops (λ g is. tt) (images [] was);
         }
 
   -- none of no names is settled

@@ -18,7 +18,7 @@ use Rattle.pm_cli.proofs.Resting.{SameStarts, resting}
 
 module _ (from : Option ℕ) (full : Bool) (e : Execution) where
   abbrev it : Execution
-  it = with_command (commands.Follow from full) e
+  it = with_command (commands.Follow from None full) e
 
   served : (h : History) (first : StoreView) → Prints h from full first e.before.out e.after.out → HasMade it h None h
   served no_table first prints = absurd prints
@@ -44,12 +44,12 @@ module _ (from : Option ℕ) (full : Bool) (e : Execution) where
   makes h first (Some (refusals.SinkFault snapshot)) (none, failed, prints) = in_part h first snapshot none prints
   makes h first (Some refusal) why = makes_nothing it h refusal tt (printed h first refusal why)
 
-pub keeps : SameStarts → (from : Option ℕ) (full : Bool) (e : Execution) → IsExecuted (with_command (commands.Follow from full) e)
-    → Keeps (with_command (commands.Follow from full) e)
+pub keeps : SameStarts → (from : Option ℕ) (full : Bool) (e : Execution) → IsExecuted (with_command (commands.Follow from None full) e)
+    → Keeps (with_command (commands.Follow from None full) e)
 keeps law from full e is = λ alone h stands input.
     let first = at_first_own e.before.store e.after.store in
     let was = is.history alone h stands in
-    resting law (with_command (commands.Follow from full) e) h first (makes from full e h first e.refusal was.answers) was.rests was.images (λ f. tt)
+    resting law (with_command (commands.Follow from None full) e) h first (makes from full e h first e.refusal was.answers) was.rests was.images (λ f. (tt, tt))
 
 -- ---- what was printed, replayed
 
@@ -60,5 +60,5 @@ PrintedLaw = (f : Files) (s : TableSchema) (es : List Entry) (from : Option ℕ)
 
 pub replayed : PrintedLaw → (start : Start) (bytes : List ℕ) (found : StoreView) (from : Option ℕ) (full : Bool) (s : TableSchema) (es : List Entry) (later : History)
     (text : List ℕ) (f : Files) → 1 ≤ start_of from (length es) → Folder f (table s es)
-    → Does start bytes found (commands.Follow from full) (table s es) later text → LeadFrom s es from full text
+    → Does start bytes found (commands.Follow from None full) (table s es) later text → LeadFrom s es from full text
 replayed law start bytes found from full s es later text f low folder (follows at with_table t entries may) = law f s es from full folder may low

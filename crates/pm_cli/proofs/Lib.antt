@@ -1,6 +1,7 @@
 mod Common
 mod Consumers
 mod Compact
+mod Consume
 mod Create
 mod Drop
 mod First

@@ -4,26 +4,37 @@ use Rattle.pm_values.specs.declared.refusal.Refusal.{Refusal}
 use Rattle.pm_values.specs.declared.refusal.Refusal.TheVariants as refusals
 use Rattle.pm_io.specs.Sink.{SinkView}
 use Rattle.pm_io.specs.Source.{SourceView}
+use Rattle.pm_store.specs.Files.{Files}
 use Rattle.pm_store.specs.Store.{StoreView}
 use Rattle.pm_machine.specs.Trace.{HasTrace, before_call}
 use Rattle.pm_machine.proofs.Facts.{Traces-none}
+use Rattle.pm_model_folder.specs.Changes.{Actor}
+use Rattle.pm_model_folder.specs.Ledger.{Advances, Past, Stands}
 use Rattle.pm_read_schema.specs.AllCalls.{DidRead, ReadsTables}
 use Rattle.pm_read_schema.specs.declared.phase.Phase.TheVariants as readers
 use Rattle.pm_read_schema.proofs.AllCallsLemmas.{read_history}
+use Rattle.pm_words.specs.Words.{IsInRange}
 use Rattle.pm_words.specs.declared.command.Command.{Command}
 use Rattle.pm_words.specs.declared.command.Command.TheVariants as commands
 use Rattle.pm_command.specs.Outside.{outside}
 use Rattle.pm_command.specs.declared.start.Start.{Start}
 use Rattle.pm_cli.specs.Commands.{Acts, Answers, ServesHistories}
 use Rattle.pm_command_compact.specs.Compact as compact
+use Rattle.pm_command_consume.specs.Alone.{ConsumesAny}
+use Rattle.pm_command_consume.specs.Consume.{HasConsumed, IsConsuming, consuming}
+use Rattle.pm_command_consume.specs.declared.consuming.Consuming.{Consuming}
 use Rattle.pm_command_consumers.specs.Consumers as consumers
 use Rattle.pm_command_consumers.specs.Drop as drops
 use Rattle.pm_command_follow.specs.Follow as follow
+use Rattle.pm_command_follow.specs.Follow.{DidSchema}
 use Rattle.pm_command_scan.specs.Scan as scan
 use Rattle.pm_command_snapshots.specs.Snapshots as snapshots
 use Rattle.pm_command_write.specs.Write.{writer_of}
+use Rattle.pm_words.proofs.NameLemmas.{name_is_plain}
 use Rattle.pm_command_create.proofs.CreateLaws.{nothing_made}
 use Rattle.pm_command_compact.proofs.CompactLaws as compacts
+use Rattle.pm_command_consume.proofs.OpenLemmas.{schema_refused}
+use Rattle.pm_command_consume.proofs.PieceLemmas.{schema_shown}
 use Rattle.pm_command_consumers.proofs.ConsumerLaws as reads
 use Rattle.pm_command_consumers.proofs.DropLaws as removes
 use Rattle.pm_command_scan.proofs.ScanLaws as scans
@@ -69,6 +80,21 @@ followed_none from full out store =
     let none = read_none store in
     ((none.0, follow.refused_first refusals.Memory (follow.of_schema (follow.of_reader none.1)) refl, none.2), follow.refuses refusals.Memory refl)
 
+schema_none : (store : StoreView) → HasTrace (DidSchema (Err refusals.Memory)) store store
+schema_none store = let none = read_none store in (none.0, follow.of_reader none.1, none.2)
+
+consumed_none : (from : Option ℕ) (name : List ℕ) (full : Bool) (out : SinkView) (store : StoreView)
+    → HasConsumed (consuming name from full) out out store store (Some refusals.Memory)
+consumed_none from name full out store = schema_shown (consuming name from full) refusals.Memory out store store (schema_none store)
+
+-- what the law of changes says, and that of a following with a consumer
+abbrev pub PastStays : Type 0
+PastStays = (me : Actor) (f after : Files) (p q : Past) → Stands f p → Advances me f p after q → Stands after q
+
+abbrev pub ConsumeLaw : Type 0
+ConsumeLaw = (c : Consuming) (out out_after : SinkView) (store store_after : StoreView) (answer : Option Refusal) → IsConsuming c
+    → HasConsumed c out out_after store store_after answer → ConsumesAny c out out_after store store_after answer
+
 -- what the law of `follow` says
 abbrev pub FollowLaw : Type 0
 FollowLaw = (from : Option ℕ) (full : Bool) (out out_after : SinkView) (store store_after : StoreView) (answer : Option Refusal)
@@ -79,45 +105,52 @@ any_bytes None = tt
 any_bytes (Some bytes) = tt
 
 module _ (start : Start) (input : SourceView) (out : SinkView) (store : StoreView) where
-  pub nothing_answers : (command : Command) → Answers command start (outside input out store) (outside input out store) (Some refusals.Memory)
-  nothing_answers commands.Create = λ bytes is. inl (refusals.Memory, refl, tt, record { store = refl; out = refl })
-  nothing_answers (commands.Write user identifier) = λ bytes is. input_refused start (writer_of user identifier) bytes input input out store refusals.Memory tt
-  nothing_answers (commands.Scan at) =
+  pub nothing_answers : PastStays → (command : Command) → Answers command start (outside input out store) (outside input out store) (Some refusals.Memory)
+  nothing_answers past commands.Create = λ bytes is. inl (refusals.Memory, refl, tt, record { store = refl; out = refl })
+  nothing_answers past (commands.Write user identifier) = λ bytes is. input_refused start (writer_of user identifier) bytes input input out store refusals.Memory tt
+  nothing_answers past (commands.Scan at) =
       (refl, scans.scanned_answers at (outside input out store) (outside input out store) (Some refusals.Memory) (scanned_none at out store))
-  nothing_answers commands.Snapshots =
+  nothing_answers past commands.Snapshots =
       (refl, lists.listed_answers (outside input out store) (outside input out store) (Some refusals.Memory) (listed_none out store))
-  nothing_answers (commands.Consumers (Some name)) =
+  nothing_answers past (commands.Consumers (Some name)) =
       (refl, removes.removed_answers name (outside input out store) (outside input out store) (Some refusals.Memory) (removed_none name out store))
-  nothing_answers (commands.Consumers None) =
+  nothing_answers past (commands.Consumers None) =
       (refl, reads.listed_answers (outside input out store) (outside input out store) (Some refusals.Memory) (read_of_none out store))
-  nothing_answers (commands.Follow from full) = (refl, followed_none from full out store)
-  nothing_answers (commands.Compact full) =
+  nothing_answers past (commands.Follow from None full) = (refl, followed_none from full out store)
+  nothing_answers past (commands.Follow from (Some name) full) =
+      (refl, consumed_none from name full out store, λ me. schema_refused past me (consuming name from full) refusals.Memory out store store (schema_none store))
+  nothing_answers past (commands.Compact full) =
       (refl, compacts.compacted_answers start full (outside input out store) (outside input out store) (Some refusals.Memory) (compacted_none start full out store))
 
-  pub nothing_acts : (command : Command) → Acts command start (outside input out store) (outside input out store) (Some refusals.Memory)
-  nothing_acts commands.Create = inl (refusals.Memory, refl, tt, record { store = refl; out = refl })
-  nothing_acts (commands.Write user identifier) = input_acts start (writer_of user identifier) input input out store refusals.Memory tt
-  nothing_acts (commands.Scan at) =
+  pub nothing_acts : PastStays → (command : Command) → Acts command start (outside input out store) (outside input out store) (Some refusals.Memory)
+  nothing_acts past commands.Create = inl (refusals.Memory, refl, tt, record { store = refl; out = refl })
+  nothing_acts past (commands.Write user identifier) = input_acts start (writer_of user identifier) input input out store refusals.Memory tt
+  nothing_acts past (commands.Scan at) =
       scans.scanned_answers at (outside input out store) (outside input out store) (Some refusals.Memory) (scanned_none at out store)
-  nothing_acts commands.Snapshots = lists.listed_answers (outside input out store) (outside input out store) (Some refusals.Memory) (listed_none out store)
-  nothing_acts (commands.Consumers (Some name)) =
+  nothing_acts past commands.Snapshots = lists.listed_answers (outside input out store) (outside input out store) (Some refusals.Memory) (listed_none out store)
+  nothing_acts past (commands.Consumers (Some name)) =
       removes.removed_answers name (outside input out store) (outside input out store) (Some refusals.Memory) (removed_none name out store)
-  nothing_acts (commands.Consumers None) = reads.listed_answers (outside input out store) (outside input out store) (Some refusals.Memory) (read_of_none out store)
-  nothing_acts (commands.Follow from full) = followed_none from full out store
-  nothing_acts (commands.Compact full) =
+  nothing_acts past (commands.Consumers None) = reads.listed_answers (outside input out store) (outside input out store) (Some refusals.Memory) (read_of_none out store)
+  nothing_acts past (commands.Follow from None full) = followed_none from full out store
+  nothing_acts past (commands.Follow from (Some name) full) =
+      (consumed_none from name full out store, λ me. schema_refused past me (consuming name from full) refusals.Memory out store store (schema_none store))
+  nothing_acts past (commands.Compact full) =
       compacts.compacted_answers start full (outside input out store) (outside input out store) (Some refusals.Memory) (compacted_none start full out store)
 
-  pub nothing_serves : FollowLaw → (command : Command) → ServesHistories command start (outside input out store) (outside input out store) (Some refusals.Memory)
-  nothing_serves law commands.Create = nothing_made start input out store
-  nothing_serves law (commands.Write user identifier) =
+  pub nothing_serves : FollowLaw → ConsumeLaw → (command : Command) → IsInRange command → ServesHistories command start (outside input out store) (outside input out store) (Some refusals.Memory)
+  nothing_serves law consume commands.Create range = nothing_made start input out store
+  nothing_serves law consume (commands.Write user identifier) range =
       refused_serves start (writer_of user identifier) input input out store refusals.Memory (any_bytes input.left)
-  nothing_serves law (commands.Scan at) =
+  nothing_serves law consume (commands.Scan at) range =
       scans.scanned_serves at (outside input out store) (outside input out store) (Some refusals.Memory) (scanned_none at out store)
-  nothing_serves law commands.Snapshots = lists.listed_serves (outside input out store) (outside input out store) (Some refusals.Memory) (listed_none out store)
-  nothing_serves law (commands.Consumers (Some name)) =
+  nothing_serves law consume commands.Snapshots range = lists.listed_serves (outside input out store) (outside input out store) (Some refusals.Memory) (listed_none out store)
+  nothing_serves law consume (commands.Consumers (Some name)) range =
       removes.removed_serves name (outside input out store) (outside input out store) (Some refusals.Memory) (removed_none name out store)
-  nothing_serves law (commands.Consumers None) = reads.listed_serves (outside input out store) (outside input out store) (Some refusals.Memory) (read_of_none out store)
-  nothing_serves law (commands.Follow from full) =
+  nothing_serves law consume (commands.Consumers None) range = reads.listed_serves (outside input out store) (outside input out store) (Some refusals.Memory) (read_of_none out store)
+  nothing_serves law consume (commands.Follow from None full) range =
       law from full out out store store (Some refusals.Memory) (followed_none from full out store)
-  nothing_serves law (commands.Compact full) =
+  nothing_serves law consume (commands.Follow from (Some name) full) (first, named) =
+      consume (consuming name from full) out out store store (Some refusals.Memory) (record { plain = name_is_plain name named; from = first })
+      (consumed_none from name full out store)
+  nothing_serves law consume (commands.Compact full) range =
       compacts.compacted_serves start full (outside input out store) (outside input out store) (Some refusals.Memory) (compacted_none start full out store)

@@ -14,7 +14,7 @@ use Rattle.pm_model_folder.proofs.SettledLemmas.{same-keeps}
 use Rattle.pm_create.specs.Making.{LeavesFiles}
 use Rattle.pm_commit.specs.AllCalls as commit
 use Rattle.pm_command.specs.Outside.{HaveSame, ImagesRest, Prints, Rests}
-use Rattle.pm_cli.specs.Promise.{Becomes, Execution, HasDropped, HasMade, KeepsIt, StandsForOthers}
+use Rattle.pm_cli.specs.Promise.{Becomes, Execution, HasMade, KeepsIt, LeavesOwn, PassesPrinted, StandsForOthers}
 use Rattle.pm_cli.specs.Start.{IsNew}
 use Rattle.pm_cli.proofs.Common.{NotSink, StandsForSomeFreely, any_both, any_here, leaves_both, leaves_turned, leaves_weaker, still_settled}
 
@@ -22,7 +22,7 @@ use Rattle.pm_cli.proofs.Common.{NotSink, StandsForSomeFreely, any_both, any_her
 abbrev pub SameStarts : Type 0
 SameStarts = (me : Actor) (h : History) (f g : Files) → commit.MayStart me h f → HaveSame f g → Folder g h → commit.MayStart me h g
 
-new_same : SameStarts → (other : Actor) (h : History) (f g : Files) → IsNew other h f → HaveSame f g → Folder g h → IsNew other h g
+pub new_same : SameStarts → (other : Actor) (h : History) (f g : Files) → IsNew other h f → HaveSame f g → Folder g h → IsNew other h g
 new_same law other h f g new same folder =
     record { folder = folder; origin = new.origin; names = (law other h f g (new.folder, new.names) same folder).1 }
 
@@ -40,13 +40,17 @@ module _ (law : SameStarts) (e : Execution) (h : History) (first : StoreView) wh
         (leaves_weaker (λ f. HaveSame f g) (λ f. KeepsConsumers h f g) first (λ f is. same-keeps f g is h) same) names;
   }
 
-  pub resting : HasMade e h e.refusal h → Rests h first after → ImagesRest h first after → ((f : Files) → HasDropped e.command e.refusal first f) → KeepsIt e h first
-  resting makes rests images dropped = record {
+  pub resting : HasMade e h e.refusal h → Rests h first after → ImagesRest h first after → ((f : Files) → LeavesOwn e.command h e.refusal first f × PassesPrinted e e.command h first f)
+      → KeepsIt e h first
+  resting makes rests images own = record {
     later = h;
     makes = makes;
     ends = leaves_both (λ g. Folder g h) (λ g. LeavesFiles (λ f. HaveSame f g) first) (StandsForOthers e h first h) after freely rests.folder
         (leaves_turned HaveSame first after rests.same);
-    dropped = leaves_weaker (λ g. Folder g h) (HasDropped e.command e.refusal first) after (λ f folder. dropped f) rests.folder;
+    own = leaves_weaker (λ g. Folder g h) (LeavesOwn e.command h e.refusal first) after (λ f folder. (own f).0) rests.folder;
+    passes = any_here (λ f. Extends (λ g. Folder g h × HaveSame f g) first.ops after.ops) (Extends (PassesPrinted e e.command h first) first.ops after.ops) first
+        (λ f images here. Extends-weaker (λ g. Folder g h × HaveSame f g) (PassesPrinted e e.command h first) first.ops after.ops (λ g is. (own g).1) images)
+        images;
     images = any_here (λ f. Extends (λ g. Folder g h × HaveSame f g) first.ops after.ops) (Extends (StandsForSomeFreely e h first) first.ops after.ops) first
         (λ f images here. Extends-weaker (λ g. Folder g h × HaveSame f g) (StandsForSomeFreely e h first) first.ops after.ops
         (λ g is. (h, inl refl, freely g is.0 (here (λ f. HaveSame f g) is.1))) images)

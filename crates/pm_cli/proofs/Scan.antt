@@ -59,4 +59,4 @@ pub keeps : SameStarts → (at : Option ℕ) (e : Execution) → IsExecuted (wit
 keeps law at e is = λ alone h stands input.
     let first = at_first_own e.before.store e.after.store in
     let was = is.history alone h stands in
-    resting law (with_command (commands.Scan at) e) h first (makes at e h first e.refusal is.acts was.answers) was.rests was.images (λ f. tt)
+    resting law (with_command (commands.Scan at) e) h first (makes at e h first e.refusal is.acts was.answers) was.rests was.images (λ f. (tt, tt))

@@ -148,4 +148,4 @@ makes e h (Some refusal) (made, trace, beside, prints) stands may =
 pub keeps : SameStarts → (e : Execution) → IsExecuted (with_command commands.Snapshots e) → Keeps (with_command commands.Snapshots e)
 keeps law e is = λ alone h stands input.
     let was = is.history alone h stands in
-    resting law (with_command commands.Snapshots e) h (found_by e) (makes e h e.refusal is.acts stands was.answers) was.rests was.images (λ f. tt)
+    resting law (with_command commands.Snapshots e) h (found_by e) (makes e h e.refusal is.acts stands was.answers) was.rests was.images (λ f. (tt, tt))

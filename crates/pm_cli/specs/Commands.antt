@@ -1,12 +1,16 @@
 -- What each command answers, and what it does to what the store stands for.
-use Rattle.std.specs.Prelude.{◌≡◌, ℕ, List, Option, None, Some}
+use Rattle.std.specs.Prelude.{◌≡◌, ℕ, List, Bool, Option, None, Some}
 use Rattle.pm_values.specs.declared.refusal.Refusal.{Refusal}
 use Rattle.pm_io.specs.Sink.{SinkView}
 use Rattle.pm_store.specs.Store.{StoreView}
+use Rattle.pm_model_folder.specs.Changes.{Actor}
 use Rattle.pm_command_create.specs.Create.{AnswersCreate, ActsCreate, CreatesTables}
 use Rattle.pm_command.specs.Outside.{Outside}
 use Rattle.pm_command.specs.declared.start.Start.{Start}
 use Rattle.pm_command_compact.specs.Compact.{Compacts, CompactsTables}
+use Rattle.pm_command_consume.specs.Alone as consumes
+use Rattle.pm_command_consume.specs.Beside.{ConsumesBeside}
+use Rattle.pm_command_consume.specs.Consume.{consuming}
 use Rattle.pm_command_consumers.specs.Consumers as consumers
 use Rattle.pm_command_consumers.specs.Drop as drops
 use Rattle.pm_command_follow.specs.Follow.{Follows, FollowsTables}
@@ -31,6 +35,23 @@ IsListedOrRemoved None out out_after store store_after answer = consumers.IsList
 IsListedOrRemoved (Some name) out out_after store store_after answer =
     drops.IsRemoved name out out_after store store_after answer
 
+-- What `follow` answers, without a consumer and with one: its calls then, and what they do whatever others do; and what
+-- it promises of histories.
+abbrev pub FollowsOrConsumes : Option ℕ → Option (List ℕ) → Bool → Outside → Outside → Option Refusal → Type 0
+FollowsOrConsumes from None full before after answer = Follows from full before after answer
+FollowsOrConsumes from (Some name) full before after answer = consumes.Consumes (consuming name from full) before after answer
+    × ((me : Actor) → ConsumesBeside me (consuming name from full) before.out after.out before.store after.store answer)
+
+abbrev pub FollowsOrConsumesTables : Option ℕ → Option (List ℕ) → Bool → Outside → Outside → Option Refusal → Type 0
+FollowsOrConsumesTables from None full before after answer = FollowsTables from full before after answer
+FollowsOrConsumesTables from (Some name) full before after answer =
+    consumes.ConsumesTables (consuming name from full) before after answer
+
+-- Private: what both ensure
+abbrev pub IsFollowedOrConsumed : Option ℕ → Option (List ℕ) → Bool → Outside → Outside → Option Refusal → Type 0
+IsFollowedOrConsumed from consumer full before after answer = FollowsOrConsumes from consumer full before after answer
+    × FollowsOrConsumesTables from consumer full before after answer
+
 -- what a command answers to an input that is known
 abbrev pub Answers : Command → Start → Outside → Outside → Option Refusal → Type 0
 Answers commands.Create start before after answer =
@@ -43,8 +64,8 @@ Answers (commands.Consumers dropped) start before after answer =
     (after.input ≡ before.input) × ListsOrDrops dropped before after answer
 Answers (commands.Compact full) start before after answer =
     (after.input ≡ before.input) × Compacts start full before after answer
-Answers (commands.Follow from full) start before after answer =
-    (after.input ≡ before.input) × Follows from full before after answer
+Answers (commands.Follow from consumer full) start before after answer =
+    (after.input ≡ before.input) × FollowsOrConsumes from consumer full before after answer
 Answers (commands.Write user identifier) start before after answer =
     (bytes : List ℕ) → before.input.left ≡ Some bytes
     → AnswersWrite start (writer_of user identifier) bytes before after answer
@@ -56,7 +77,8 @@ Acts (commands.Scan snapshot) start before after answer = Scans snapshot before 
 Acts commands.Snapshots start before after answer = ListsSnapshots before after answer
 Acts (commands.Consumers dropped) start before after answer = ListsOrDrops dropped before after answer
 Acts (commands.Compact full) start before after answer = Compacts start full before after answer
-Acts (commands.Follow from full) start before after answer = Follows from full before after answer
+Acts (commands.Follow from consumer full) start before after answer =
+    FollowsOrConsumes from consumer full before after answer
 Acts (commands.Write user identifier) start before after answer =
     ActsWrite start (writer_of user identifier) before after answer
 
@@ -68,6 +90,7 @@ ServesHistories commands.Snapshots start before after answer = ListsTables befor
 ServesHistories (commands.Consumers dropped) start before after answer =
     ListsOrDropsTables dropped before after answer
 ServesHistories (commands.Compact full) start before after answer = CompactsTables start full before after answer
-ServesHistories (commands.Follow from full) start before after answer = FollowsTables from full before after answer
+ServesHistories (commands.Follow from consumer full) start before after answer =
+    FollowsOrConsumesTables from consumer full before after answer
 ServesHistories (commands.Write user identifier) start before after answer =
     WritesTables start (writer_of user identifier) before after answer

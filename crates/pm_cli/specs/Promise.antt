@@ -1,5 +1,5 @@
 -- The promise: what each command does, in the words of histories, and what is so of all of them.
-use Rattle.std.specs.Prelude.{◌≡◌, ◌≢◌, ◌⊎◌, ℕ, suc, ◌≤◌, List, [], ◌∷◌, ◌++◌, codes, length}
+use Rattle.std.specs.Prelude.{◌≡◌, ◌≢◌, ◌⊎◌, ℕ, suc, ◌+◌, ◌≤◌, List, [], ◌∷◌, ◌++◌, codes, length}
 use Rattle.std.specs.Prelude.{Bool, Contains, Option, None, Some, Ok, slice_get}
 use Rattle.std.specs.FinMap as map
 use Rattle.pm_base.specs.Known.{and_then}
@@ -16,7 +16,9 @@ use Rattle.pm_schema.specs.declared.schema.TableSchema.{TableSchema}
 use Rattle.pm_model_history.specs.History.{Entry, compaction, History, no_table, table, rows_up_to}
 use Rattle.pm_model_history.specs.Merge.{HistoryRow}
 use Rattle.pm_model_history.specs.Merged.{scan_text}
+use Rattle.pm_model_consumers.specs.Claims.{known_at}
 use Rattle.pm_model_folder.specs.Changes.{Actor}
+use Rattle.pm_model_folder.specs.Consumers.{said_at}
 use Rattle.pm_model_folder.specs.Folder.{Folder, HaveSettled}
 use Rattle.pm_model_folder.specs.Paths.{consumer_path}
 use Rattle.pm_consumer_files.specs.Lines.{consumers_text}
@@ -34,14 +36,15 @@ use Rattle.pm_words.specs.declared.command.Command.TheVariants as commands
 use Rattle.pm_command.specs.Outside.{actor, Outside}
 use Rattle.pm_command.specs.declared.start.Start.{Start}
 use Rattle.pm_command_compact.specs.Compact.{HasChoice}
+use Rattle.pm_command_consume.specs.Alone.{settled_at, start_after}
 use Rattle.pm_command_consumers.specs.Drop.{ItEnds, WasThere, told_text}
 use Rattle.pm_command_create.specs.Create.{IsDraftOf}
-use Rattle.pm_command_follow.specs.Follow.{MayStartAt}
+use Rattle.pm_command_follow.specs.Follow.{MayStartAt, TellsChanges}
 use Rattle.pm_command_follow.specs.Printed.{follow_text}
 use Rattle.pm_command_write.specs.Write.{entry_by, identifier_of, writer_of}
 use Rattle.pm_cli.specs.Snapshots.{AreLines, HasReached, IsReachedAt}
-use Rattle.pm_cli.specs.Start.{HasInput, HaveOtherNames, IsNew, LeavesOut, MayAdd, MayStart, MayTake}
-use Rattle.pm_cli.specs.Start.{changed_path, committed_text, snapshot_made}
+use Rattle.pm_cli.specs.Start.{HasInput, HaveOtherNames, IsNew, LeavesOut, MayAdd, MayStart, MayTake, MayWrite}
+use Rattle.pm_cli.specs.Start.{changed_path, committed_text, consumed_text, frames_after, pieces_of, snapshot_made}
 
 -- What a command does, by its start, the bytes of its input and the store that it finds: of a history it makes a later
 -- one, and prints the text.
@@ -61,7 +64,11 @@ pub data Does (start : Start) (bytes : List ℕ) (found : StoreView) : Command �
       → LeavesFiles (WasThere name was_there) found
       → Does start bytes found (commands.Consumers (Some name)) (table s es) (table s es) (told_text was_there)
   follows : (from : Option ℕ) (full : Bool) (s : TableSchema) (es : List Entry) → MayStartAt s es from
-      → Does start bytes found (commands.Follow from full) (table s es) (table s es) (follow_text s es from full)
+      → Does start bytes found (commands.Follow from None full) (table s es) (table s es) (follow_text s es from full)
+  consumes : (name : List ℕ) (from known : Option ℕ) (full : Bool) (s : TableSchema) (es : List Entry)
+      → LeavesFiles (λ f. settled_at f name ≡ known) found → TellsChanges s → (known ≡ None → MayStartAt s es from)
+      → Does start bytes found (commands.Follow from (Some name) full) (table s es) (table s es)
+      (consumed_text s es known from full)
   rests : (full : Bool) (s : TableSchema) (es : List Entry) → LeavesFiles (HasChoice start full (table s es) []) found
       → Does start bytes found (commands.Compact full) (table s es) (table s es) (line (codes "nothing to compact"))
   compacts : (full : Bool) (s : TableSchema) (es : List Entry) (groups : List (Group × Bool)) → groups ≢ []
@@ -107,23 +114,23 @@ HasMade e h (Some (refusals.SinkFault snapshot)) later = (text : List ℕ)
     × (snapshot ≡ snapshot_made h later)
 HasMade e h (Some (refusals.StoreFault path)) later =
     MayMake e h later × ((later ≡ h) ⊎ (path ≡ changed_path e.command h))
-    × LeavesOut e.command h e.before.out e.after.out
-HasMade e h (Some other) later = (later ≡ h) × LeavesOut e.command h e.before.out e.after.out
+    × LeavesOut e.command (found_by e) h e.before.out e.after.out
+HasMade e h (Some other) later = (later ≡ h) × LeavesOut e.command (found_by e) h e.before.out e.after.out
 
 -- The file at a path is as it was at first; or it appeared, and the command may make it; or it has gone, and the command
--- may take it away.
+-- may take it away; or the command may write it.
 abbrev pub Becomes : Execution → History → Files → Files → List ℕ → Type 0
 Becomes e h was f path = (map.get f path ≡ map.get was path)
     ⊎ (((map.get was path ≡ None) × MayAdd e.command (actor e.start) h path)
-    ⊎ ((map.get f path ≡ None) × MayTake e.command path))
+    ⊎ (((map.get f path ≡ None) × MayTake e.command path) ⊎ MayWrite e.command path))
 
 -- what became of all files since the first call
 abbrev pub Changes : Execution → History → StoreView → Files → Type 0
 Changes e h first f = LeavesFiles (λ was. (path : List ℕ) → Becomes e h was f path) first
 
--- Files stand for the history, no other file changed than the command may make or take away, and each other actor that
--- was new to the history at first is new to it. Each consumer that was settled is, but for one whose file the command
--- took away.
+-- Files stand for the history, no other file changed than the command may make, take away or write, and each other
+-- actor that was new to the history at first is new to it. Each consumer that was settled is, but for one whose file the
+-- command took away.
 pub record StandsForOthers (e : Execution) (h : History) (first : StoreView) (later : History) (f : Files)
     : Type 0 where
   pub folder : Folder f later
@@ -134,21 +141,44 @@ pub record StandsForOthers (e : Execution) (h : History) (first : StoreView) (la
       → MayTake e.command (consumer_path name) → LeavesFiles (λ was. ItRests name was f) first)
       → LeavesFiles (λ was. HaveSettled was h names) first → HaveSettled f later names
 
--- What a drop leaves of its consumer's file, by its answer: none, once the remove was answered, whether or not the sink
--- took what was told; else it is as it was, but that a fault of the remove leaves it so or gone.
-abbrev pub HasDropped : Command → Option Refusal → StoreView → Files → Type 0
-HasDropped (commands.Consumers (Some name)) answer first f = LeavesFiles (λ was. ItEnds name answer was f) first
-HasDropped other answer first f = Unit {0}
+-- A following that printed all left its consumer settled, behind the last frame.
+abbrev pub EndsBehind : List ℕ → Option ℕ → History → StoreView → Files → Type 0
+EndsBehind name from no_table first f = Unit {0}
+EndsBehind name from (table s es) first f = HaveSettled f (table s es) (name ∷ [])
+    × LeavesFiles (λ was. said_at f name ≡ Some (known_at (start_after (settled_at was name) from (length es)
+    + frames_after es (settled_at was name) from))) first
+
+-- What is left of its own consumer's file, by its answer. After a drop there is none, once the remove was answered,
+-- whether or not the sink took what was told; else it is as it was, but that a fault of the remove leaves it so or gone.
+abbrev pub LeavesOwn : Command → History → Option Refusal → StoreView → Files → Type 0
+LeavesOwn (commands.Consumers (Some name)) h answer first f = LeavesFiles (λ was. ItEnds name answer was f) first
+LeavesOwn (commands.Follow from (Some name) full) h None first f = EndsBehind name from h first f
+LeavesOwn other h answer first f = Unit {0}
+
+-- Where the consumer of a following is settled one or more snapshots past the start, all frames up to there were printed
+-- whole.
+abbrev pub ArePrinted : Execution → List ℕ → Option ℕ → Bool → History → StoreView → Files → Type 0
+ArePrinted e name from full no_table first f = Unit {0}
+ArePrinted e name from full (table s es) first f = LeavesFiles (λ was. (count : ℕ)
+    → said_at f name ≡ Some (known_at (start_after (settled_at was name) from (length es) + suc count))
+    → (rest : List ℕ) × (e.after.out.taken ≡ and_then e.before.out.taken
+    (pieces_of s es (settled_at was name) from full (suc count) ++ rest))) first
+
+abbrev pub PassesPrinted : Execution → Command → History → StoreView → Files → Type 0
+PassesPrinted e (commands.Follow from (Some name) full) h first f = ArePrinted e name from full h first f
+PassesPrinted e other h first f = Unit {0}
 
 -- Of a history that stands at its first call: what it made stands at the end, and in each image of a crash what it may
--- make; others are free to go on there, and who is settled stays so. What it dropped is gone at the end.
+-- make; others are free to go on there, and who is settled stays so. At the end its own consumer's file is what the
+-- answer says, and no image has that past a frame which wasn't printed whole.
 pub record KeepsIt (e : Execution) (h : History) (first : StoreView) : Type 0 where
   pub later : History
   pub makes : HasMade e h e.refusal later
   pub ends : LeavesFiles (StandsForOthers e h first later) e.after.store
-  pub dropped : LeavesFiles (HasDropped e.command e.refusal first) e.after.store
+  pub own : LeavesFiles (LeavesOwn e.command h e.refusal first) e.after.store
   pub images : Extends (λ f. (later : History) × MayMake e h later × StandsForOthers e h first later f)
       first.ops e.after.store.ops
+  pub passes : Extends (PassesPrinted e e.command h first) first.ops e.after.store.ops
 
 -- the promise: so it is where nobody else acts from the first call on
 abbrev pub Keeps : Execution → Type 0

@@ -1,16 +1,18 @@
 //! A command, from its words to its answer.
 
-ghost use Rattle.std.specs.Prelude.{◌≡◌, IfOk, IfSome};
+ghost use Rattle.std.specs.Prelude.{◌≡◌, ◌≤◌, IfOk, IfSome};
 ghost use Rattle.std.specs.Result.{result_err};
 ghost use Rattle.pm_io.specs.Sink.{SinkLater};
+ghost use Rattle.pm_io.specs.Source.{SourceView};
 ghost use Rattle.pm_store.specs.Store.{IsLater};
 ghost use Rattle.pm_command.specs.Outside.{outside, AllLater, IsUntouched};
 ghost use Rattle.pm_words.specs.Words.{Give, GiveNoCommand, IsInRange, IsName, IsNoCommand};
 ghost use Rattle.pm_words.specs.declared.command.Command.{Command};
-ghost use Rattle.pm_cli.specs.Commands.{Acts, Answers, IsListedOrRemoved, ServesHistories};
+ghost use Rattle.pm_cli.specs.Commands.{Acts, Answers, IsFollowedOrConsumed, IsListedOrRemoved, ServesHistories};
 
 use pm_command::Start;
 use pm_command_compact::run_compact;
+use pm_command_consume::{Consuming, consume_law, run_consume};
 use pm_command_consumers::{run_consumers, run_drop};
 use pm_command_create::run_create;
 use pm_command_follow::{follow_law, run_follow};
@@ -18,6 +20,7 @@ use pm_command_scan::run_scan;
 use pm_command_snapshots::run_snapshots;
 use pm_command_write::{Writer, run_write};
 use pm_io::{Sink, Source};
+use pm_model_folder::past_law;
 use pm_store::FileStore;
 use pm_values::{Refusal, Txt};
 use pm_words::{Command, command_in, no_command, one_command_law};
@@ -53,6 +56,8 @@ pub(crate) fn execute<S: Source, W: Sink, F: FileStore>(
 {
     one_command_law();
     follow_law();
+    consume_law();
+    past_law();
     match command_in(alloc, words)? {
         Some(command) => execute_command(alloc, command, input, out, store, start),
         None => Err(no_command(alloc, words)?),
@@ -87,7 +92,11 @@ fn execute_command<S: Source, W: Sink, F: FileStore>(
         Command::Snapshots => run_snapshots(alloc, out, store),
         Command::Consumers { dropped } => list_or_drop(alloc, dropped, out, store),
         Command::Compact { full } => run_compact(alloc, full, out, store, start),
-        Command::Follow { from, full } => run_follow(alloc, from, full, out, store),
+        Command::Follow {
+            from,
+            consumer,
+            full,
+        } => follow_or_consume(alloc, from, consumer, full, out, store),
         Command::Write { user, identifier } => {
             run_write(alloc, Writer { user, identifier }, input, out, store, start)
         }
@@ -110,5 +119,28 @@ fn list_or_drop<W: Sink, F: FileStore>(
     match dropped {
         None => run_consumers(alloc, out, store),
         Some(name) => run_drop(alloc, &name, out, store),
+    }
+}
+
+/// Follows a table, without a consumer or with one.
+fn follow_or_consume<W: Sink, F: FileStore>(
+    alloc: Global,
+    from: Option<u64>,
+    consumer: Option<Txt>,
+    full: bool,
+    out: &mut W,
+    store: &mut F,
+) -> Result<(), Refusal>
+    requires from { IfSome from (λ id. 1 ≤ id) }
+    requires consumer { IfSome consumer IsName }
+    ensures done { (before after : SourceView)
+        → IsFollowedOrConsumed from consumer full (outside before (W.seen out.old) (F.seen store.old))
+        (outside after (W.seen out.new) (F.seen store.new)) (result_err result) }
+    ensures out_later { SinkLater (W.seen out.old) (W.seen out.new) }
+    ensures store_later { IsLater (F.seen store.old) (F.seen store.new) }
+{
+    match consumer {
+        None => run_follow(alloc, from, full, out, store),
+        Some(name) => run_consume(alloc, &Consuming { name, from, full }, out, store),
     }
 }

@@ -142,10 +142,20 @@ pub fn keeps_compact_law()
 /// The promise of `follow`.
 pub fn keeps_follow_law()
     ensures { (from : Option ℕ) (full : Bool) (e : Execution)
-        → IsExecuted (record e { command = commands.Follow from full })
-        → Keeps (record e { command = commands.Follow from full }) }
+        → IsExecuted (record e { command = commands.Follow from None full })
+        → Keeps (record e { command = commands.Follow from None full }) }
 {
     next_command_law();
+}
+
+/// The promise of `follow --consumer`.
+pub fn keeps_consume_law()
+    ensures { (from : Option ℕ) (name : List ℕ) (full : Bool) (e : Execution)
+        → IsExecuted (record e { command = commands.Follow from (Some name) full })
+        → Keeps (record e { command = commands.Follow from (Some name) full }) }
+{
+    next_command_law();
+    same_law();
 }
 
 /// The promise of `write`.
@@ -166,6 +176,7 @@ pub fn keeps_law()
     keeps_drop_law();
     keeps_compact_law();
     keeps_follow_law();
+    keeps_consume_law();
     keeps_write_law();
 }
 
@@ -254,7 +265,7 @@ pub fn frames_law()
     ensures replayed { (start : Start) (bytes : List ℕ) (found : StoreView) (from : Option ℕ) (full : Bool)
         (s : TableSchema) (es : List Entry) (later : History) (text : List ℕ) (f : Files)
         → 1 ≤ start_of from (length es) → Folder f (table s es)
-        → Does start bytes found (commands.Follow from full) (table s es) later text → LeadFrom s es from full text }
+        → Does start bytes found (commands.Follow from None full) (table s es) later text → LeadFrom s es from full text }
     ensures finished { (f : Files) (s : TableSchema) (es : List Entry) (id : ℕ) → Folder f (table s es)
         → id ≤ length es → HasPassedAll s es id → IsFinished s es id }
     ensures input { (s : TableSchema) (es : List Entry) (id : ℕ) → s.options.producer ≡ Input → HasPassedAll s es id }

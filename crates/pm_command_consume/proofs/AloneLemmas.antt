@@ -202,6 +202,7 @@ module _ (laws : Laws) (c : Consuming) (b : Beginning) (k : Known c b) (most : �
       pub at_new : (g : Files) → IsLeft r s es b.names b.files g → map.get g path ≡ Some (new_text start) → StandsAt c b fresh g
       at_new g left there = record {
         folder = left.folder;
+        built = followed.1;
         only = left.only;
         at = (
           here.none,
@@ -216,6 +217,7 @@ module _ (laws : Laws) (c : Consuming) (b : Beginning) (k : Known c b) (most : �
           let number : start ≡ start_at c b + 0 = let is = here.is in omega (arith, is) in
           record {
             folder = left.folder;
+            built = followed.1;
             only = left.only;
             at = said_is g c.name (known_text start) start false there (reads_again laws.reads start false here.low (within_names start here.high))
                 ∙ ap (λ (n : ℕ). Some (known_at n)) number;
@@ -223,7 +225,7 @@ module _ (laws : Laws) (c : Consuming) (b : Beginning) (k : Known c b) (most : �
           }
 
       pub at_found : (g : Files) → IsLeft r s es b.names b.files g → map.get g path ≡ found → StandsAt c b untouched g
-      at_found g left there = record { folder = left.folder; only = left.only; at = there ∙ here.found_is; settled = left.settled }
+      at_found g left there = record { folder = left.folder; built = tt; only = left.only; at = there ∙ here.found_is; settled = left.settled }
 
       image_put : (g : Files) → IsLeft r s es b.names b.files g → IsFoundOrPut r (map.get g path) → I g
       image_put g left (inl (inl same)) = image_at c b most untouched g tt (at_found g left same)
@@ -303,6 +305,7 @@ module _ (laws : Laws) (c : Consuming) (b : Beginning) (k : Known c b) (most : �
         (record {
           stands = record {
             folder = k.folder;
+            built = followed.1;
             only = λ path not. refl;
             at = said ∙ ap (λ (n : ℕ). Some (known_at n)) number;
             settled = subst (λ (known : Option ℕ). HaveSettled b.files (history_of b) (names_with (passed 0) known c.name b.names)) (sym known_is) k.settled;
@@ -452,6 +455,7 @@ module _ (laws : Laws) (c : Consuming) (b : Beginning) (k : Known c b) (most : �
           → StandsWith s es (names_at c b (passed count)) f → StandsAt c b (passed count) f
       rested count g f was others same so = record {
         folder = so.folder;
+        built = was.built;
         only = λ other not. others other not ∙ was.only other not;
         at = ap said_in same ∙ was.at;
         settled = so.settled;
@@ -470,6 +474,7 @@ module _ (laws : Laws) (c : Consuming) (b : Beginning) (k : Known c b) (most : �
           let number : p.next + suc count ≡ start_at c b + suc count = omega (arith, is) in
           record {
             folder = so.folder;
+            built = was.built;
             only = λ other not. others other not ∙ was.only other not;
             at = said_is f c.name (known_text (p.next + count + 1)) (p.next + suc count) false there (next_reads count high) ∙ ap (λ (n : ℕ). Some (known_at n)) number;
             settled = subst (HaveSettled f (history_of b)) (names_same c b count (suc count)) so.settled;

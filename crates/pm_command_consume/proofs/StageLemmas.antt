@@ -142,7 +142,7 @@ module _ (c : Consuming) (b : Beginning) where
   path_apart (suc id) is = consumer-snapshot c.name _ (sym is)
 
   pub begins : HasTable b.files s es → HaveSettled b.files (table s es) b.names → StandsAt c b untouched b.files
-  begins folder settled_so = record { folder = folder; only = λ path not. refl; at = refl; settled = settled_so }
+  begins folder settled_so = record { folder = folder; built = tt; only = λ path not. refl; at = refl; settled = settled_so }
 
   -- a snapshot's file is as it was
   pub still_there : (stage : Stage) (f : Files) (id : ℕ) → StandsAt c b stage f → map.get f (path_of s id) ≡ map.get b.files (path_of s id)

@@ -110,10 +110,17 @@ names_with (passed count) (Some next) name names = names
 abbrev pub names_at : Consuming → Beginning → Stage → List (List ℕ)
 names_at c b stage = names_with stage b.known c.name b.names
 
+-- only of a table that is built is the file another
+abbrev pub IsBuiltAt : Beginning → Stage → Type 0
+IsBuiltAt b untouched = Unit {0}
+IsBuiltAt b fresh = IsBuilt b.schema
+IsBuiltAt b (passed count) = IsBuilt b.schema
+
 -- The files stand for the history, no path but the consumer's has another content, its file is that of the stage, and
 -- so are the names that are settled.
 pub record StandsAt (c : Consuming) (b : Beginning) (stage : Stage) (f : Files) : Type 0 where
   pub folder : Folder f (history_of b)
+  pub built : IsBuiltAt b stage
   pub only : (path : List ℕ) → path ≢ consumer_path c.name → map.get f path ≡ map.get b.files path
   pub at : IsAt c b stage f
   pub settled : HaveSettled f (history_of b) (names_at c b stage)

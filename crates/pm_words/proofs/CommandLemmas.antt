@@ -45,8 +45,10 @@ one_of : (word : List ℕ) (options : List CommandOption) (a b : Command) → Ar
 one_of word options commands.Create commands.Create one other = refl
 one_of word options (commands.Compact a) (commands.Compact b) one other = ap commands.Compact (one_flag options (codes "full") a b one.values other.values)
 one_of word options (commands.Consumers a) (commands.Consumers b) one other = ap commands.Consumers (one_name options (codes "drop") a b one.values other.values)
-one_of word options (commands.Follow m a) (commands.Follow n b) one other =
-    ap₂ commands.Follow (one_number options (codes "from") m n one.values.0 other.values.0) (one_flag options (codes "full") a b one.values.1 other.values.1)
+one_of word options (commands.Follow m c a) (commands.Follow n d b) one other =
+    ap₂ (λ (from : Option ℕ) (full : Bool). commands.Follow from c full) (one_number options (codes "from") m n one.values.0 other.values.0)
+    (one_flag options (codes "full") a b one.values.2 other.values.2)
+    ∙ ap (λ (consumer : Option (List ℕ)). commands.Follow n consumer b) (one_name options (codes "consumer") c d one.values.1 other.values.1)
 one_of word options (commands.Scan a) (commands.Scan b) one other = ap commands.Scan (one_number options (codes "snapshot") a b one.values other.values)
 one_of word options commands.Snapshots commands.Snapshots one other = refl
 one_of word options (commands.Write a m) (commands.Write b n) one other =
@@ -132,9 +134,15 @@ module _ (words : List (List ℕ)) where
   no_compact none (commands.Compact full) after = none after.options after.are after.of.names (flag_is_given after.options (codes "full") full after.of.values, tt)
   no_compact none other after = apart (codes "compact") (word_of other) refl after.of.first
 
-  pub no_follow : HasNoOptions (value (codes "from") ∷ flag (codes "full") ∷ []) words → (command : Command) → GiveAfter (codes "follow") words command → ⊥
-  no_follow none (commands.Follow from full) after = none after.options after.are after.of.names
-      (number_is after.options (codes "from") from after.of.values.0, (flag_is_given after.options (codes "full") full after.of.values.1, tt))
+  pub no_follow : HasNoOptions (value (codes "from") ∷ value (codes "consumer") ∷ flag (codes "full") ∷ []) words → (command : Command)
+      → GiveAfter (codes "follow") words command → ⊥
+  no_follow none (commands.Follow from consumer full) after = none after.options after.are after.of.names (
+    number_is after.options (codes "from") from after.of.values.0,
+    (
+      name_is after.options (codes "consumer") consumer after.of.values.1,
+      (flag_is_given after.options (codes "full") full after.of.values.2, tt),
+    ),
+  )
   no_follow none other after = apart (codes "follow") (word_of other) refl after.of.first
 
   pub no_scan : HasNoOptions (value (codes "snapshot") ∷ []) words → (command : Command) → GiveAfter (codes "scan") words command → ⊥
@@ -150,22 +158,27 @@ module _ (words : List (List ℕ)) where
   same_options : (options : List CommandOption) → AreOptions options words → (word : List ℕ) (command : Command) (after : GiveAfter word words command) → after.options ≡ options
   same_options options are word command after = one_list after.options options words after.are are
 
+  pub no_consumer : (options : List CommandOption) → AreOptions options words → Finds (GiveName options (codes "consumer")) None → (command : Command) → GiveAfter (codes "follow") words command → ⊥
+  no_consumer options are none (commands.Follow from consumer full) after =
+      none consumer (subst (λ os. GiveName os (codes "consumer") consumer) (same_options options are (codes "follow") (commands.Follow from consumer full) after) after.of.values.1)
+  no_consumer options are none other after = apart (codes "follow") (word_of other) refl after.of.first
+
   pub no_dropped : (options : List CommandOption) → AreOptions options words → Finds (GiveName options (codes "drop")) None → (command : Command) → GiveAfter (codes "consumers") words command → ⊥
   no_dropped options are none (commands.Consumers dropped) after =
       none dropped (subst (λ os. GiveName os (codes "drop") dropped) (same_options options are (codes "consumers") (commands.Consumers dropped) after) after.of.values)
   no_dropped options are none other after = apart (codes "consumers") (word_of other) refl after.of.first
 
   pub no_from : (options : List CommandOption) → AreOptions options words → Finds (GiveNumber options (codes "from")) None → (command : Command) → GiveAfter (codes "follow") words command → ⊥
-  no_from options are none (commands.Follow from full) after =
-      none from (subst (λ os. GiveNumber os (codes "from") from) (same_options options are (codes "follow") (commands.Follow from full) after) after.of.values.0)
+  no_from options are none (commands.Follow from consumer full) after =
+      none from (subst (λ os. GiveNumber os (codes "from") from) (same_options options are (codes "follow") (commands.Follow from consumer full) after) after.of.values.0)
   no_from options are none other after = apart (codes "follow") (word_of other) refl after.of.first
 
   pub from_zero : (options : List CommandOption) → AreOptions options words → (n : ℕ) → n ≡ 0 → GiveNumber options (codes "from") (Some n) → (command : Command)
       → GiveAfter (codes "follow") words command → ⊥
-  from_zero options are n zero gives (commands.Follow from full) after =
-      let here = subst (λ os. GiveNumber os (codes "from") from) (same_options options are (codes "follow") (commands.Follow from full) after) after.of.values.0 in
+  from_zero options are n zero gives (commands.Follow from consumer full) after =
+      let here = subst (λ os. GiveNumber os (codes "from") from) (same_options options are (codes "follow") (commands.Follow from consumer full) after) after.of.values.0 in
       let same : from ≡ Some n = one_number options (codes "from") from (Some n) here gives in
-      let low : 1 ≤ n = subst (λ (from : Option ℕ). IfSome from (λ id. 1 ≤ id)) same after.of.values.2 in
+      let low : 1 ≤ n = subst (λ (from : Option ℕ). IfSome from (λ id. 1 ≤ id)) same after.of.values.3 in
       omega (arith, low, zero)
   from_zero options are n zero gives other after = apart (codes "follow") (word_of other) refl after.of.first
 
@@ -256,7 +269,7 @@ names_have : (command : Command) → list_all has_bytes (names_of command) ≡ t
 names_have commands.Create = refl
 names_have (commands.Compact full) = refl
 names_have (commands.Consumers dropped) = refl
-names_have (commands.Follow from full) = refl
+names_have (commands.Follow from consumer full) = refl
 names_have (commands.Scan snapshot) = refl
 names_have commands.Snapshots = refl
 names_have (commands.Write user identifier) = refl

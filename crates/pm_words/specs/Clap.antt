@@ -46,7 +46,7 @@ abbrev pub consumers_options : List Declared
 consumers_options = value (codes "drop") ∷ []
 
 abbrev pub follow_options : List Declared
-follow_options = value (codes "from") ∷ flag (codes "full") ∷ []
+follow_options = value (codes "from") ∷ value (codes "consumer") ∷ flag (codes "full") ∷ []
 
 abbrev pub scan_options : List Declared
 scan_options = value (codes "snapshot") ∷ []

@@ -100,7 +100,7 @@ abbrev pub word_of : Command → List ℕ
 word_of commands.Create = codes "create"
 word_of (commands.Compact full) = codes "compact"
 word_of (commands.Consumers dropped) = codes "consumers"
-word_of (commands.Follow from full) = codes "follow"
+word_of (commands.Follow from consumer full) = codes "follow"
 word_of (commands.Scan snapshot) = codes "scan"
 word_of commands.Snapshots = codes "snapshots"
 word_of (commands.Write user identifier) = codes "write"
@@ -110,7 +110,7 @@ abbrev pub names_of : Command → List (List ℕ)
 names_of commands.Create = []
 names_of (commands.Compact full) = codes "full" ∷ []
 names_of (commands.Consumers dropped) = codes "drop" ∷ []
-names_of (commands.Follow from full) = codes "from" ∷ codes "full" ∷ []
+names_of (commands.Follow from consumer full) = codes "from" ∷ codes "consumer" ∷ codes "full" ∷ []
 names_of (commands.Scan snapshot) = codes "snapshot" ∷ []
 names_of commands.Snapshots = []
 names_of (commands.Write user identifier) = codes "user" ∷ codes "ident" ∷ []
@@ -118,7 +118,7 @@ names_of (commands.Write user identifier) = codes "user" ∷ codes "ident" ∷ [
 -- its names and numbers are those that it takes: a consumer's name, and a first snapshot from 1 on
 abbrev pub IsInRange : Command → Type 0
 IsInRange (commands.Consumers dropped) = IfSome dropped IsName
-IsInRange (commands.Follow from full) = IfSome from (λ id. 1 ≤ id)
+IsInRange (commands.Follow from consumer full) = IfSome from (λ id. 1 ≤ id) × IfSome consumer IsName
 IsInRange other = Unit {0}
 
 -- what each of them gives
@@ -126,8 +126,9 @@ abbrev pub GiveEach : List CommandOption → Command → Type 0
 GiveEach options commands.Create = Unit {0}
 GiveEach options (commands.Compact full) = GiveFlag options (codes "full") full
 GiveEach options (commands.Consumers dropped) = GiveName options (codes "drop") dropped
-GiveEach options (commands.Follow from full) = GiveNumber options (codes "from") from
-    × GiveFlag options (codes "full") full × IsInRange (commands.Follow from full)
+GiveEach options (commands.Follow from consumer full) = GiveNumber options (codes "from") from
+    × GiveName options (codes "consumer") consumer × GiveFlag options (codes "full") full
+    × IfSome from (λ id. 1 ≤ id)
 GiveEach options (commands.Scan snapshot) = GiveNumber options (codes "snapshot") snapshot
 GiveEach options commands.Snapshots = Unit {0}
 GiveEach options (commands.Write user identifier) = GiveName options (codes "user") user

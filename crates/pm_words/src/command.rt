@@ -42,9 +42,11 @@ pub enum Command {
         full: bool,
     },
     /// To print how its snapshots change it, from this one on, which is at least 1, or from the one after the newest;
-    /// and where it is asked for in full, before that the table that is passed on at the one below.
+    /// and where it is asked for in full, before that the table that is passed on at the one below. Where a consumer is
+    /// named, its file says where to go on once it is settled, and is moved past each frame that was printed.
     Follow {
         from: Option<u64>,
+        consumer: Option<Txt>,
         full: bool,
     },
 }
@@ -136,7 +138,14 @@ fn follow_of<'a>(alloc: Global, words: &'a [&'a str]) -> Result<Option<Command>,
         return Ok(None);
     }
     let full = flag_given(&matches, "full");
-    Ok(Some(Command::Follow { from, full }))
+    let Some(consumer) = name_given(alloc, &matches, "consumer")? else {
+        return Ok(None);
+    };
+    Ok(Some(Command::Follow {
+        from,
+        consumer,
+        full,
+    }))
 }
 
 /// The command `scan` with these words after it.

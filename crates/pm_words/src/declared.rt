@@ -58,6 +58,13 @@ pub(crate) fn follow_words<'a>(alloc: Global) -> Result<Command<'a>, AllocError>
         "NUMBER",
         "From this snapshot on; else from the one that comes next, which isn't there yet",
     )?;
+    let command = with_value(
+        alloc,
+        command,
+        "consumer",
+        "NAME",
+        "From where this consumer is, which is moved past each frame; a new one begins as above",
+    )?;
     with_flag(
         alloc,
         command,

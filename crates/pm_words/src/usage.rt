@@ -57,7 +57,7 @@ fn push_readers(alloc: Global, text: &mut String) -> Result<(), AllocError> {
         "Example: ./paimon my_table scan --snapshot 3",
     )?;
     text.push_str("\n## follow\n\n")?;
-    let usage = "./paimon FOLDER follow [--from NUMBER] [--full]";
+    let usage = "./paimon FOLDER follow [--from NUMBER] [--consumer NAME] [--full]";
     push_help(
         text,
         follow_words(alloc)?,

@@ -8,7 +8,7 @@ use Rattle.pm_cli.proofs.execute.execute.Goals as goal
 
 -- a command that is given has its numbers
 in_range : (words : List (List ℕ)) (command : Command) → Give words command → IsInRange command
-in_range words (commands.Follow from full) give = give.values.2
+in_range words (commands.Follow from consumer full) give = (give.values.3, give.values.1.1)
 in_range words commands.Create give = tt
 in_range words (commands.Scan at) give = tt
 in_range words (commands.Consumers dropped) give = give.values.1
@@ -27,7 +27,7 @@ returns-in_err-command-clause-command g c =
     let p = err_from_is_err_and c.from_residual.result c.from_residual.ensures.1 in
     rw (p.1, p.2)
     (nothing_answers c.args.start.now (g.S.Source.seen c.args.input.now) (g.W.Sink.seen c.args.out.now)
-    (g.F.FileStore.seen c.args.store.now) command)
+    (g.F.FileStore.seen c.args.store.now) c.past_law.ensures command)
 
 pub returns-in_err-command-clause-acts : goal.returns-in_err-command-clause-acts
 returns-in_err-command-clause-acts g c =
@@ -35,7 +35,7 @@ returns-in_err-command-clause-acts g c =
     let p = err_from_is_err_and c.from_residual.result c.from_residual.ensures.1 in
     rw (p.1, p.2)
     (nothing_acts c.args.start.now (g.S.Source.seen c.args.input.now) (g.W.Sink.seen c.args.out.now)
-    (g.F.FileStore.seen c.args.store.now) command)
+    (g.F.FileStore.seen c.args.store.now) c.past_law.ensures command)
 
 pub returns-in_err-command-clause-history : goal.returns-in_err-command-clause-history
 returns-in_err-command-clause-history g c =
@@ -43,7 +43,7 @@ returns-in_err-command-clause-history g c =
     let p = err_from_is_err_and c.from_residual.result c.from_residual.ensures.1 in
     rw (p.1, p.2)
     (nothing_serves c.args.start.now (g.S.Source.seen c.args.input.now) (g.W.Sink.seen c.args.out.now)
-    (g.F.FileStore.seen c.args.store.now) c.follow_law.ensures command)
+    (g.F.FileStore.seen c.args.store.now) c.follow_law.ensures c.consume_law.ensures command (in_range c.args.words.now command give))
 
 pub returns-in_err-no_command-in-None-clause-command : goal.returns-in_err-no_command-in-None-clause-command
 returns-in_err-no_command-in-None-clause-command g c =
@@ -51,7 +51,7 @@ returns-in_err-no_command-in-None-clause-command g c =
     let p = err_from_is_err_and c.from_residual-in_err-no_command-in-None.result c.from_residual-in_err-no_command-in-None.ensures.1 in
     rw (p.1, p.2)
     (nothing_answers c.args.start.now (g.S.Source.seen c.args.input.now) (g.W.Sink.seen c.args.out.now)
-    (g.F.FileStore.seen c.args.store.now) command)
+    (g.F.FileStore.seen c.args.store.now) c.past_law.ensures command)
 
 pub returns-in_err-no_command-in-None-clause-acts : goal.returns-in_err-no_command-in-None-clause-acts
 returns-in_err-no_command-in-None-clause-acts g c =
@@ -59,7 +59,7 @@ returns-in_err-no_command-in-None-clause-acts g c =
     let p = err_from_is_err_and c.from_residual-in_err-no_command-in-None.result c.from_residual-in_err-no_command-in-None.ensures.1 in
     rw (p.1, p.2)
     (nothing_acts c.args.start.now (g.S.Source.seen c.args.input.now) (g.W.Sink.seen c.args.out.now)
-    (g.F.FileStore.seen c.args.store.now) command)
+    (g.F.FileStore.seen c.args.store.now) c.past_law.ensures command)
 
 pub returns-in_err-no_command-in-None-clause-history : goal.returns-in_err-no_command-in-None-clause-history
 returns-in_err-no_command-in-None-clause-history g c =
@@ -67,7 +67,7 @@ returns-in_err-no_command-in-None-clause-history g c =
     let p = err_from_is_err_and c.from_residual-in_err-no_command-in-None.result c.from_residual-in_err-no_command-in-None.ensures.1 in
     rw (p.1, p.2)
     (nothing_serves c.args.start.now (g.S.Source.seen c.args.input.now) (g.W.Sink.seen c.args.out.now)
-    (g.F.FileStore.seen c.args.store.now) c.follow_law.ensures command)
+    (g.F.FileStore.seen c.args.store.now) c.follow_law.ensures c.consume_law.ensures command (in_range c.args.words.now command give))
 
 pub returns-in-Some-clause-command : goal.returns-in-Some-clause-command
 returns-in-Some-clause-command g c =

@@ -99,13 +99,19 @@ returns-in-Compact-clause-history g c =
     (result_err c.run_compact.result) c.run_compact.ensures.compacted)
 
 pub returns-in-Follow-clause-command : goal.returns-in-Follow-clause-command
-returns-in-Follow-clause-command g c = rw c.in-Follow.is (refl, c.run_follow.ensures.followed)
+returns-in-Follow-clause-command g c =
+    let input = g.S.Source.seen c.args.input.now in
+    rw c.in-Follow.is (refl, (c.follow_or_consume.ensures.done input input).0)
 
 pub returns-in-Follow-clause-acts : goal.returns-in-Follow-clause-acts
-returns-in-Follow-clause-acts g c = rw c.in-Follow.is c.run_follow.ensures.followed
+returns-in-Follow-clause-acts g c =
+    let input = g.S.Source.seen c.args.input.now in
+    rw c.in-Follow.is (c.follow_or_consume.ensures.done input input).0
 
 pub returns-in-Follow-clause-history : goal.returns-in-Follow-clause-history
-returns-in-Follow-clause-history g c = rw c.in-Follow.is c.run_follow.ensures.history
+returns-in-Follow-clause-history g c =
+    let input = g.S.Source.seen c.args.input.now in
+    rw c.in-Follow.is (c.follow_or_consume.ensures.done input input).1
 
 pub returns-in-Write-clause-command : goal.returns-in-Write-clause-command
 returns-in-Write-clause-command g c = rw c.in-Write.is c.run_write.ensures.command

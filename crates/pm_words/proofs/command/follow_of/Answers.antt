@@ -1,7 +1,7 @@
 use Rattle.std.proofs.Common.{ℕ, ◌≤◌, List, [], ◌∷◌, map, codes, IfSome, Bor, refl, arith, rules}
 use Rattle.clap.specs.Words.{app_of}
 use Rattle.pm_words.specs.Clap.{HasFound, value}
-use Rattle.pm_words.proofs.CommandLemmas.{from_zero, no_follow, no_from}
+use Rattle.pm_words.proofs.CommandLemmas.{from_zero, no_consumer, no_follow, no_from}
 use Rattle.pm_words.specs.Clap.{follow_options}
 use Rattle.pm_words.proofs.DeclareLemmas.{follow_has}
 use Rattle.pm_words.proofs.command.follow_of.Goals as goal
@@ -26,6 +26,12 @@ returns-in-Some-eq0 c =
     from_zero (words_of c.args.words) found.options found.are c.in-Some-eq0.field-0 (let zero = c.in-Some-eq0.field-0-is in omega (arith, zero))
     (rw c.in-Some-eq0.is at (rw c.in-Some-number_given.is at (c.number_given.ensures follow_options (words_of c.args.words) found refl refl)))
 
+pub returns-in_default-2 : goal.returns-in_default-2
+returns-in_default-2 c =
+    let found : HasFound follow_options (words_of c.args.words) c.in-Some.matches =
+    rw c.in-Some.is at (c.in_ok-matches.ensures follow_options (follow_has (app_of c.in_ok-follow_words.field-0) c.in_ok-follow_words.ensures)) in
+    no_consumer (words_of c.args.words) found.options found.are (rw c.in_default-2.is at (c.in_ok-consumer.ensures follow_options (words_of c.args.words) found refl refl))
+
 pub returns : goal.returns
 returns c =
     let found : HasFound follow_options (words_of c.args.words) c.in-Some.matches =
@@ -39,6 +45,7 @@ returns c =
         names = found.of;
         values = (
           rw c.in-Some-number_given.is at (c.number_given.ensures follow_options (words_of c.args.words) found refl refl),
+          rw c.in-Some-2.is at (c.in_ok-consumer.ensures follow_options (words_of c.args.words) found refl refl),
           c.flag_given-full.ensures follow_options (words_of c.args.words) found refl,
           range,
         );
