@@ -6,9 +6,9 @@ pub mod HistoryLemmas
 pub mod JoinLemmas
 pub mod KnownLemmas
 pub mod LearnLemmas
-mod OneLemmas
+pub mod OneLemmas
 pub mod PieceLemmas
 pub mod ReadLemmas
 mod ReplayLemmas
-mod StageLemmas
+pub mod StageLemmas
 pub mod TextLemmas

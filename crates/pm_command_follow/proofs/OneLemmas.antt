@@ -43,7 +43,7 @@ use Rattle.pm_command_follow.proofs.StageLemmas.{Goes, IsOne, IsStage, one_behin
 
 -- ---- the schema
 
-abbrev HasRead : TableSchema → List Event → Type 0
+abbrev pub HasRead : TableSchema → List Event → Type 0
 HasRead s own = TellsChanges s × IsBuilt s × Leads schema.Goes own schema.listing (schema.ready s)
 
 -- it is refused here, or its table doesn't tell its changes or isn't built
@@ -52,7 +52,7 @@ IsRefusedAt e (schema.over other) = e ≡ other
 IsRefusedAt e (schema.ready s) = ((s.options.producer ≡ producers.None) × (e ≡ refusals.NoChangelog)) ⊎ (TellsChanges s × (unbuilt s ≡ Some e))
 IsRefusedAt e m = ⊥
 
-abbrev SchemaRefused : Refusal → List Event → Type 0
+abbrev pub SchemaRefused : Refusal → List Event → Type 0
 SchemaRefused e own = (m : schema.Place) × Leads schema.Goes own schema.listing m × IsRefusedAt e m
 
 refused_ends : (e : Refusal) (m : schema.Place) → IsRefusedAt e m → schema.IsEnd m
@@ -90,7 +90,7 @@ one_schema : (e d : Refusal) (own : List Event) → SchemaRefused e own → Sche
 one_schema e d own (m, lead, refused) (n, led, denied) =
     one_refused e d n (subst (IsRefusedAt e) (one_lead schema.Goes schema.are_one own schema.listing m n lead led) refused) denied
 
-schema_stage : IsStage HasRead SchemaRefused
+pub schema_stage : IsStage HasRead SchemaRefused
 schema_stage = record {
   same = same_schema;
   apart = schema_apart;
@@ -101,10 +101,10 @@ schema_stage = record {
 
 -- ---- a listing
 
-abbrev Listed : ℕ → List Event → Type 0
+abbrev pub Listed : ℕ → List Event → Type 0
 Listed latest own = DidLatest (Ok latest) own
 
-abbrev NoRefusal : Refusal → List Event → Type 0
+abbrev pub NoRefusal : Refusal → List Event → Type 0
 NoRefusal e own = ⊥
 
 one_listing : (a b : ℕ) (first other more rest : List Event) → Listed a first → Listed b other → first ++ more ≡ other ++ rest → (a ≡ b) × (more ≡ rest)
@@ -116,7 +116,7 @@ one_listing a b first other more rest (names, is, at) (others, was, there) toget
       tail_same (listed_snapshots names) (listed_snapshots others) more rest both,
     )
 
-listing_stage : IsStage Listed NoRefusal
+pub listing_stage : IsStage Listed NoRefusal
 listing_stage = record {
   same = one_listing;
   apart = λ latest first more e did refused. refused;
@@ -128,10 +128,10 @@ listing_stage = record {
 -- ---- the view of the starting table, and its files
 
 module _ (a : Asked) where
-  abbrev Viewed : view.Place → List Event → Type 0
+  abbrev pub Viewed : view.Place → List Event → Type 0
   Viewed m own = Leads (view.Goes a) own (view.start a) m × ((v : View) × view.IsViewAt a v m)
 
-  abbrev ViewRefused : Refusal → List Event → Type 0
+  abbrev pub ViewRefused : Refusal → List Event → Type 0
   ViewRefused e own = (m : view.Place) × Leads (view.Goes a) own (view.start a) m × view.IsRefusedAt a e m
 
   module _ (laws : view.OneLaws) where
@@ -151,7 +151,7 @@ module _ (a : Asked) where
     one_view_refused e d own (m, lead, refused) (n, led, denied) =
         view.one_refused a laws e d n (subst (view.IsRefusedAt a e) (one_lead (view.Goes a) (view.are_one a laws) own (view.start a) m n lead led) refused) denied
 
-    view_stage : IsStage Viewed ViewRefused
+    pub view_stage : IsStage Viewed ViewRefused
     view_stage = record {
       same = same_view;
       apart = view_apart;
@@ -161,10 +161,10 @@ module _ (a : Asked) where
     }
 
 module _ (c : Chosen) where
-  abbrev Taken : Collected → List Event → Type 0
+  abbrev pub Taken : Collected → List Event → Type 0
   Taken col own = group.LeadsTo c own (group.files col [])
 
-  abbrev FilesRefused : Refusal → List Event → Type 0
+  abbrev pub FilesRefused : Refusal → List Event → Type 0
   FilesRefused e own = group.LeadsTo c own (group.over e)
 
   abbrev AreFilesEnd : group.Place → Type 0
@@ -204,7 +204,7 @@ module _ (c : Chosen) where
         (sym (append-nil (first ++ more))) lead tt led tt in
         files_over col e end.1
 
-    files_stage : IsStage Taken FilesRefused
+    pub files_stage : IsStage Taken FilesRefused
     files_stage = record {
       same = same_taken;
       apart = taken_apart;
@@ -216,10 +216,10 @@ module _ (c : Chosen) where
 -- ---- a frame
 
 module _ (a : LogAskedView) where
-  abbrev Framed : List ℕ → List Event → Type 0
+  abbrev pub Framed : List ℕ → List Event → Type 0
   Framed text own = Leads (frame.Goes a) own frame.opening (frame.files [] text)
 
-  abbrev FrameRefused : Refusal → List Event → Type 0
+  abbrev pub FrameRefused : Refusal → List Event → Type 0
   FrameRefused e own = Leads (frame.Goes a) own frame.opening (frame.over e)
 
   abbrev IsFrameEnd : frame.Place → Type 0
@@ -255,7 +255,7 @@ module _ (a : LogAskedView) where
         (sym (append-nil (first ++ more))) lead tt led tt in
         frame_over text e end.1
 
-    frame_stage : IsStage Framed FrameRefused
+    pub frame_stage : IsStage Framed FrameRefused
     frame_stage = record {
       same = same_framed;
       apart = framed_apart;
@@ -267,7 +267,7 @@ module _ (a : LogAskedView) where
 
 -- ---- all of them, one after another
 
-abbrev asked : TableSchema → ℕ → Asked
+abbrev pub asked : TableSchema → ℕ → Asked
 asked s start = (passed_at s (start - 1)).table
 
 -- so many frames are left, from this snapshot on
@@ -300,12 +300,12 @@ Begins from full s latest own x =
 abbrev All : Option ℕ → Bool → List Event → Option Refusal → Type 0
 All from full own x = Goes HasRead SchemaRefused (λ s. Goes Listed NoRefusal (Begins from full s)) own x
 
-above_not : (from : Option ℕ) (id latest : ℕ) → from ≡ Some id → suc latest < id → start_of from latest ≤ suc latest → ⊥
+pub above_not : (from : Option ℕ) (id latest : ℕ) → from ≡ Some id → suc latest < id → start_of from latest ≤ suc latest → ⊥
 above_not from id latest is above low =
     let high : id ≤ suc latest = subst (λ (from : Option ℕ). start_of from latest ≤ suc latest) is low in
     omega (arith, high, above)
 
-same_id : (id other : ℕ) → ◌≡◌ {A = Option ℕ} (Some id) (Some other) → id ≡ other
+pub same_id : (id other : ℕ) → ◌≡◌ {A = Option ℕ} (Some id) (Some other) → id ≡ other
 same_id id other is = cc
 
 pub record OneLaws : Type 0 where
@@ -363,7 +363,7 @@ module _ (laws : OneLaws) where
 
 -- ---- how far the calls come
 
-has_read : (s : TableSchema) (own : List Event) → HasSchema s own → HasRead s own
+pub has_read : (s : TableSchema) (own : List Event) → HasSchema s own → HasRead s own
 has_read s own (tells, built, did) = (tells, built, schema.ready_lead s own did)
 
 -- frames that were read, and those that are left
@@ -435,15 +435,15 @@ data IsShown (from : Option ℕ) (full : Bool) (answer : Option Refusal) (own : 
   of_failure : (e : Refusal) → answer ≡ Some e → Fails e own → IsShown from full answer own
   of_calls : All from full own answer → IsShown from full answer own
 
-fails_behind : (e : Refusal) (before own whole : List Event) → whole ≡ before ++ own → Fails e own → Fails e whole
+pub fails_behind : (e : Refusal) (before own whole : List Event) → whole ≡ before ++ own → Fails e own → Fails e whole
 fails_behind e before own whole is (earlier, call, names, at) =
     (before ++ earlier, call, names, is ∙ ap (λ (own : List Event). before ++ own) at ∙ sym (append_assoc before earlier (faulted call ∷ [])))
 
 -- it is that memory ran out, or the last call failed, or else this
-abbrev IsElse : Type 0 → Refusal → List Event → Type 0
+abbrev pub IsElse : Type 0 → Refusal → List Event → Type 0
 IsElse P e own = (e ≡ refusals.Memory) ⊎ (Fails e own ⊎ P)
 
-schema_refused : (e : Refusal) (own : List Event) → ShowsSchema e own → IsElse (SchemaRefused e own) e own
+pub schema_refused : (e : Refusal) (own : List Event) → ShowsSchema e own → IsElse (SchemaRefused e own) e own
 schema_refused e own (of_reader shows) = by (schema.is_shown e own shows)
   where
     by : schema.IsShown e own → IsElse (SchemaRefused e own) e own
@@ -454,7 +454,7 @@ schema_refused e own (of_producer s none is did) = inr (inr (schema.ready s, sch
 schema_refused e own (of_unbuilt s tells (inl memory) did) = inl memory
 schema_refused e own (of_unbuilt s tells (inr why) did) = inr (inr (schema.ready s, schema.ready_lead s own did, inr (tells, why)))
 
-listing_refused : (e : Refusal) (own : List Event) → DidLatest (Err e) own → IsElse ⊥ e own
+pub listing_refused : (e : Refusal) (own : List Event) → DidLatest (Err e) own → IsElse ⊥ e own
 listing_refused e own shows = by (latests.shown e own shows)
   where
     by : (e ≡ refusals.Memory) ⊎ Fails e own → IsElse ⊥ e own
@@ -490,7 +490,7 @@ module _ (laws : view.OneLaws) (s : TableSchema) (start : ℕ) where
   table_refused e own (inl (inr shows)) = by_files e own shows
   table_refused e own (inr (memory, rows, did)) = inl memory
 
-frame_refused : (s : TableSchema) (id : ℕ) (e : Refusal) (own : List Event) → DidFrame s id (Err e) own → IsElse (FrameRefused (log_asked_of s id) e own) e own
+pub frame_refused : (s : TableSchema) (id : ℕ) (e : Refusal) (own : List Event) → DidFrame s id (Err e) own → IsElse (FrameRefused (log_asked_of s id) e own) e own
 frame_refused s id e own did = by (frame.is_shown (log_asked_of s id) (Err e) own did)
   where
     same_err : (e d : Refusal) → ◌≡◌ {A = Result (List ℕ) Refusal} (Err e) (Err d) → e ≡ d
