@@ -4,6 +4,7 @@ mod BesideLemmas
 mod BringLemmas
 mod CompleteLemmas
 mod ConsumeLemmas
+mod OneLemmas
 pub mod OpenLemmas
 pub mod PieceLemmas
 mod PlaceLemmas

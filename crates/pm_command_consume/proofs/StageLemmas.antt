@@ -1,5 +1,5 @@
 -- The files while a consumer is followed where nobody else acts: which stage they are at, and how calls lead from one to the next.
-use Rattle.std.proofs.Common.{◌≡◌, ◌≢◌, ◌⊎◌, inl, inr, ℕ, zero, suc, ◌-◌, ◌^◌, ◌<◌, ◌≤◌, Bool, true, false, List, [], ◌∷◌, length, Contains, Option, None, Some, IsSome, Result, Ok, Err, refl, sym, ap, subst, ◌∙◌, arith}
+use Rattle.std.proofs.Common.{◌≡◌, ◌≢◌, ◌⊎◌, inl, inr, ℕ, zero, suc, ◌^◌, ◌<◌, ◌≤◌, Bool, true, false, List, [], ◌∷◌, length, Contains, Option, None, Some, IsSome, Result, Ok, Err, refl, sym, ap, subst, ◌∙◌, arith}
 use Rattle.std.proofs.lemmas.Bool.{cases_lt}
 use Rattle.std.specs.FinMap as map
 use Rattle.pm_store.specs.Files.{Files}
@@ -31,7 +31,7 @@ use Rattle.pm_register.specs.Registrar.{IsUnregistered, consumer_at}
 use Rattle.pm_command_follow.specs.Follow.{Then}
 use Rattle.pm_command_follow.proofs.JoinLemmas.{IsRun, Traces-split}
 use Rattle.std.specs.List.{AllByRecursion}
-use Rattle.pm_command_consume.specs.Alone.{Beginning, IsImage, IsThere, IsWithin, Stage, StandsAt, fresh, names_at, names_with, passed, settled_in, untouched}
+use Rattle.pm_command_consume.specs.Alone.{Beginning, IsImage, IsThere, IsWithin, Stage, StandsAt, names_at, names_with, passed, settled_in, untouched}
 use Rattle.pm_command_consume.specs.declared.consuming.Consuming.{Consuming}
 
 -- ---- calls one after another, where files change

@@ -18,4 +18,4 @@ mod place;
 
 pub use consume::run_consume;
 pub use consuming::Consuming;
-pub use laws::{complete_law, consume_law, twice_law};
+pub use laws::{complete_law, consume_law, one_answer_law, twice_law};
