@@ -1,0 +1,3 @@
+pub mod Announcer
+pub mod Meaning
+pub mod Trace
