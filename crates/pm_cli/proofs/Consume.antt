@@ -124,10 +124,13 @@ module _ (from : Option ℕ) (name : List ℕ) (full : Bool) (e : Execution) whe
           (whole, does has.joined, took_longer out.taken out_after.taken (printed_at c b 0) whole rest.0 rest.1 took, none_made h)
       broken count (in_frame n has took leaves) =
           let rest = in_whole (suc n) has.within in
-          let more : printed_at c b (suc n) ≡ printed_at c b n ++ _ = text_push s es _ (start_at c b) n in
-          (whole, does has.joined,
-          took_longer out.taken out_after.taken _ whole rest.0 (rest.1 ∙ ap (λ (text : List ℕ). text ++ rest.0) more)
-          (took_behind out.taken out_after.taken (printed_at c b n) _ took), none_made h)
+          let more : printed_at c b (suc n) ≡ printed_at c b n ++ _ = text_push s es _ (start_at c b) n in (
+            whole,
+            does has.joined,
+            took_longer out.taken out_after.taken _ whole rest.0 (rest.1 ∙ ap (λ (text : List ℕ). text ++ rest.0) more)
+                (took_behind out.taken out_after.taken (printed_at c b n) _ took),
+            none_made h,
+          )
 
       refused_not : (refusal : Refusal) → Refuses c b first after refusal → NotSink refusal
       refused_not (refusals.SinkFault snapshot) may = absurd may

@@ -18,8 +18,8 @@ mod running;
 
 pub use laws::{
     base_law, chain_law, first_steps_law, frames_law, free_law, in_turn_law, keeps_compact_law,
-    keeps_consume_law, keeps_consumers_law, keeps_create_law, keeps_drop_law, keeps_follow_law, keeps_law,
-    keeps_scan_law, keeps_snapshots_law, keeps_write_law, next_command_law, next_law,
+    keeps_consume_law, keeps_consumers_law, keeps_create_law, keeps_drop_law, keeps_follow_law,
+    keeps_law, keeps_scan_law, keeps_snapshots_law, keeps_write_law, next_command_law, next_law,
     same_scan_law,
 };
 pub use pm_command::Start;
