@@ -31,7 +31,7 @@ use Rattle.pm_command_consume.specs.Consume.{consuming}
 use Rattle.pm_command_consume.specs.declared.consuming.Consuming.{Consuming}
 use Rattle.pm_command_follow.proofs.TextLemmas.{and_then_twice, follow_split, text_push, took_behind, took_longer}
 use Rattle.pm_cli.specs.InTurn.{IsExecuted}
-use Rattle.pm_cli.specs.Promise.{ArePrinted, Becomes, Does, Execution, HasMade, Keeps, KeepsIt, LeavesOwn, PassesPrinted, StandsForOthers, consumes, found_by}
+use Rattle.pm_cli.specs.Promise.{ArePrinted, MayBecome, Does, Execution, HasMade, Keeps, KeepsIt, LeavesOwn, PassesPrinted, StandsForOthers, consumes, found_by}
 use Rattle.pm_cli.specs.Start.{IsNew, PrintsPieces, consumed_text, frames_after, pieces_of}
 use Rattle.pm_cli.proofs.Common.{NotSink, StandsForSomeFreely, any_both, any_here, extends_each, extends_end, leaves_both, leaves_weaker, makes_nothing, none_made, with_command}
 use Rattle.pm_cli.proofs.Resting.{SameStarts, new_same, resting}
@@ -171,10 +171,10 @@ module _ (from : Option ℕ) (name : List ℕ) (full : Bool) (e : Execution) whe
       stand names answer (refuses refusal may same images) = weaker names _ images
       stand names answer (stops refusal count some may images) = weaker names _ images
 
-      other-paths : (names : List (List ℕ)) (stage : Stage) (g : Files) → StandsAt c (b_of names) stage g → (path : List ℕ) → Becomes it h f g path
+      other-paths : (names : List (List ℕ)) (stage : Stage) (g : Files) → StandsAt c (b_of names) stage g → (path : List ℕ) → MayBecome it h f g path
       other-paths names stage g stands path = at (bytes_eq path (consumer_path name)) refl
         where
-          at : (t : Bool) → bytes_eq path (consumer_path name) ≡ t → Becomes it h f g path
+          at : (t : Bool) → bytes_eq path (consumer_path name) ≡ t → MayBecome it h f g path
           at true is = inr (inr (inr ((bytes_eq-Decides path (consumer_path name)).0 is)))
           at false is = inl (stands.only path (λ same. true≢false (sym ((bytes_eq-Decides path (consumer_path name)).1 same) ∙ is)))
 
@@ -225,7 +225,7 @@ module _ (from : Option ℕ) (name : List ℕ) (full : Bool) (e : Execution) whe
       freely : SameStarts → SameContents → (g : Files) → Stands [] g → ((names : List (List ℕ)) → WereSettled names → Stands names g) → StandsForOthers it h first h g
       freely starts law g now each = record {
         folder = now.1.folder;
-        changes = here (λ was. (path : List ℕ) → Becomes it h was g path) (other-paths [] now.0 g now.1);
+        changes = here (λ was. (path : List ℕ) → MayBecome it h was g path) (other-paths [] now.0 g now.1);
         free = λ other apart new. new-at starts law other now.0 g now.1 (back (IsNew other h) new);
         settled = λ names takes was.
             let stands = each names was in

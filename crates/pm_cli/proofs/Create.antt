@@ -35,7 +35,7 @@ use Rattle.pm_command.specs.declared.start.Start.{Start}
 use Rattle.pm_command_create.specs.Create as create
 use Rattle.pm_command_create.specs.Create.{ActsCreate, CreatesTable, IsDraftOf, IsImage, LeavesTable, StandsForEither, created_text, its_table}
 use Rattle.pm_cli.specs.InTurn.{IsExecuted}
-use Rattle.pm_cli.specs.Promise.{Becomes, Changes, Does, Execution, HasMade, Keeps, KeepsIt, MayMake, StandsForOthers, creates, found_by}
+use Rattle.pm_cli.specs.Promise.{MayBecome, Changes, Does, Execution, HasMade, Keeps, KeepsIt, MayMake, StandsForOthers, creates, found_by}
 use Rattle.pm_cli.specs.Start.{HaveOtherNames, IsNew, changed_path, snapshot_made}
 use Rattle.pm_cli.proofs.Common.{NotSink, StandsForSomeFreely, WasNew, any_files, any_here, extends_both, extends_each, extends_end, images_turned, leaves_both, leaves_each, leaves_some, leaves_weaker, makes_nothing, sink_same, still_settled, with_command}
 use Rattle.pm_cli.proofs.Origin.{FolderKept, IsKept, StandsBeside, all_kept, all_left, beside_changes, beside_keeps, create_calls, left_beside}
@@ -199,17 +199,17 @@ module _ (kept : FolderKept) (stay : ContentsStay) (one : OneContents) (law : Dr
 
   -- consumers are kept, and no file but its own appeared
   abbrev Spares : History → Files → Type 0
-  Spares h f = LeavesFiles (λ was. KeepsConsumers h was f × ((path : List ℕ) → Becomes it_is h was f path)) first
+  Spares h f = LeavesFiles (λ was. KeepsConsumers h was f × ((path : List ℕ) → MayBecome it_is h was f path)) first
 
   spare_settled : (h : History) (f : Files) (later : History) → MayMake it_is h later → Spares h f → (names : List (List ℕ))
       → LeavesFiles (λ was. HaveSettled was h names) first → HaveSettled f later names
   spare_settled h f later make spares names =
       still_settled it_is h first later f make
-      (leaves_weaker (λ was. KeepsConsumers h was f × ((path : List ℕ) → Becomes it_is h was f path)) (λ was. KeepsConsumers h was f) first (λ was is. is.0) spares) names
+      (leaves_weaker (λ was. KeepsConsumers h was f × ((path : List ℕ) → MayBecome it_is h was f path)) (λ was. KeepsConsumers h was f) first (λ was is. is.0) spares) names
 
   spare_changes : (h : History) (f : Files) → Spares h f → Changes it_is h first f
   spare_changes h f =
-      leaves_weaker (λ was. KeepsConsumers h was f × ((path : List ℕ) → Becomes it_is h was f path)) (λ was. (path : List ℕ) → Becomes it_is h was f path) first
+      leaves_weaker (λ was. KeepsConsumers h was f × ((path : List ℕ) → MayBecome it_is h was f path)) (λ was. (path : List ℕ) → MayBecome it_is h was f path) first
       (λ was is. is.1)
 
   -- where there was no table
@@ -252,14 +252,14 @@ module _ (kept : FolderKept) (stay : ContentsStay) (one : OneContents) (law : Dr
   spares_at : (h : History) → IsAlone first after → LeavesFiles (making.MayStart (actor e.start) h) first → Extends (Spares h) first.ops after.ops
   spares_at h alone may =
       let calls = create_calls e.start e.before e.after e.refusal acts in
-      let Keeps_it : Files → Files → Type 0 = λ was f. KeepsConsumers h was f × ((path : List ℕ) → Becomes it_is h was f path) in
+      let Keeps_it : Files → Files → Type 0 = λ was f. KeepsConsumers h was f × ((path : List ℕ) → MayBecome it_is h was f path) in
       images_turned Keeps_it first after.ops
       (any_here (making.MayStart (actor e.start) h) (LeavesFiles (λ f. Extends (Keeps_it f) first.ops after.ops) first) first
       (λ f start here. here (λ f. Extends (Keeps_it f) first.ops after.ops)
       (Extends-weaker (StandsBeside (actor e.start) f) (Keeps_it f) first.ops after.ops
       (λ g beside. (
         beside_keeps (actor e.start) f g beside h start.1,
-        λ path. elim (beside_changes (actor e.start) f g beside path) as (λ _. Becomes it_is h f g path) [
+        λ path. elim (beside_changes (actor e.start) f g beside path) as (λ _. MayBecome it_is h f g path) [
           | inl same ↦ inl same
           | inr new ↦ inr (inl new)
         ],

@@ -26,7 +26,7 @@ use Rattle.pm_words.specs.declared.command.Command.TheVariants as commands
 use Rattle.pm_command.specs.Outside.{Prints}
 use Rattle.pm_command_consumers.specs.Drop.{AnswersHistory, DidRemove, Drops, DropsTable, ItEnds, StandsWithout, WasThere, text_of, told_text}
 use Rattle.pm_cli.specs.InTurn.{IsExecuted}
-use Rattle.pm_cli.specs.Promise.{Becomes, Does, Execution, HasMade, Keeps, KeepsIt, StandsForOthers, drops, found_by}
+use Rattle.pm_cli.specs.Promise.{MayBecome, Does, Execution, HasMade, Keeps, KeepsIt, StandsForOthers, drops, found_by}
 use Rattle.pm_cli.specs.Start.{IsNew, MayTake}
 use Rattle.pm_cli.proofs.Common.{StandsForSomeFreely, any_both, any_files, extends_each, extends_end, images_turned, leaves_both, leaves_turned, leaves_weaker, makes_nothing, none_made, schema_not, sink_same, with_command}
 use Rattle.pm_cli.proofs.Resting.{unprinted}
@@ -138,14 +138,14 @@ module _ (name : List ℕ) (e : Execution) where
       names = λ s id path is low high names by. new.names s id path is low high (names-were f g (holds f g stands) s id path names) by;
     }
 
-    changed : (f g : Files) → Stands [] f g → (path : List ℕ) → Becomes it h f g path
+    changed : (f g : Files) → Stands [] f g → (path : List ℕ) → MayBecome it h f g path
     changed f g (stands, own) path = at (bytes_eq path (consumer_path name)) refl
       where
-        at : (t : Bool) → bytes_eq path (consumer_path name) ≡ t → Becomes it h f g path
+        at : (t : Bool) → bytes_eq path (consumer_path name) ≡ t → MayBecome it h f g path
         at false is = inl (stands.rest path (λ same. true≢false (sym ((bytes_eq-Decides path (consumer_path name)).1 same) ∙ is)))
         at true is =
             let same : path ≡ consumer_path name = (bytes_eq-Decides path (consumer_path name)).0 is in
-            elim own as (λ _. Becomes it h f g path) [
+            elim own as (λ _. MayBecome it h f g path) [
               | inl rests ↦ inl (ap (map.get g) same ∙ rests ∙ ap (map.get f) (sym same))
               | inr goes ↦ inr (inr (inl (ap (map.get g) same ∙ goes.1, same)))
             ]
@@ -153,7 +153,7 @@ module _ (name : List ℕ) (e : Execution) where
     freely : (g : Files) → StandNow [] g → ((names : List (List ℕ)) → WereSettled names → StandNow names g) → StandsForOthers it h first h g
     freely g now each = record {
       folder = any_files (λ f. Stands [] f g) (Folder g h) first (λ f stands. stands.0.folder) now;
-      changes = leaves_weaker (λ f. Stands [] f g) (λ f. (path : List ℕ) → Becomes it h f g path) first (λ f stands. changed f g stands) now;
+      changes = leaves_weaker (λ f. Stands [] f g) (λ f. (path : List ℕ) → MayBecome it h f g path) first (λ f stands. changed f g stands) now;
       free = λ other names new. any_both (λ f. Stands [] f g) (IsNew other h) (IsNew other h g) first (λ f stands is. new-still other f g stands is) now new;
       settled = λ names same was. still-settled h first g names was (each names was) same;
     }

@@ -118,7 +118,7 @@ module _ (start : Start) (input : SourceView) (out : SinkView) (store : StoreVie
       (refl, reads.listed_answers (outside input out store) (outside input out store) (Some refusals.Memory) (read_of_none out store))
   nothing_answers past (commands.Follow from None full) = (refl, followed_none from full out store)
   nothing_answers past (commands.Follow from (Some name) full) =
-      (refl, consumed_none from name full out store, λ me. schema_refused past me (consuming name from full) refusals.Memory out store store (schema_none store))
+      (refl, (consumed_none from name full out store, λ me. schema_refused past me (consuming name from full) refusals.Memory out store store (schema_none store)))
   nothing_answers past (commands.Compact full) =
       (refl, compacts.compacted_answers start full (outside input out store) (outside input out store) (Some refusals.Memory) (compacted_none start full out store))
 

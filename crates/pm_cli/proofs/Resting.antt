@@ -14,7 +14,7 @@ use Rattle.pm_model_folder.proofs.SettledLemmas.{same-keeps}
 use Rattle.pm_create.specs.Making.{LeavesFiles}
 use Rattle.pm_commit.specs.AllCalls as commit
 use Rattle.pm_command.specs.Outside.{HaveSame, ImagesRest, Prints, Rests}
-use Rattle.pm_cli.specs.Promise.{Becomes, Execution, HasMade, KeepsIt, LeavesOwn, PassesPrinted, StandsForOthers}
+use Rattle.pm_cli.specs.Promise.{MayBecome, Execution, HasMade, KeepsIt, LeavesOwn, PassesPrinted, StandsForOthers}
 use Rattle.pm_cli.specs.Start.{IsNew}
 use Rattle.pm_cli.proofs.Common.{NotSink, StandsForSomeFreely, any_both, any_here, leaves_both, leaves_turned, leaves_weaker, still_settled}
 
@@ -35,7 +35,7 @@ module _ (law : SameStarts) (e : Execution) (h : History) (first : StoreView) wh
     folder = folder;
     free = λ other names new.
         any_both (λ f. HaveSame f g) (IsNew other h) (IsNew other h g) first (λ f s is. new_same law other h f g is s folder) same new;
-    changes = leaves_weaker (λ f. HaveSame f g) (λ f. (path : List ℕ) → Becomes e h f g path) first (λ f is path. inl (is path)) same;
+    changes = leaves_weaker (λ f. HaveSame f g) (λ f. (path : List ℕ) → MayBecome e h f g path) first (λ f is path. inl (is path)) same;
     settled = λ names rests. still_settled e h first h g (inl refl)
         (leaves_weaker (λ f. HaveSame f g) (λ f. KeepsConsumers h f g) first (λ f is. same-keeps f g is h) same) names;
   }

@@ -37,7 +37,7 @@ use Rattle.pm_command_write.specs.declared.write.Written.{Written}
 use Rattle.pm_command_write.specs.declared.write.Written.TheVariants as written
 use Rattle.pm_io.specs.Source.{SourceView}
 use Rattle.pm_cli.specs.InTurn.{IsExecuted}
-use Rattle.pm_cli.specs.Promise.{Becomes, Does, Execution, HasMade, Keeps, KeepsIt, MayMake, StandsForOthers, commits, found_by, has_already, takes_none}
+use Rattle.pm_cli.specs.Promise.{Does, Execution, HasMade, Keeps, KeepsIt, MayBecome, MayMake, StandsForOthers, commits, found_by, has_already, takes_none}
 use Rattle.pm_cli.specs.Snapshots.{HasReached, IsReachedAt}
 use Rattle.pm_cli.specs.Start.{IsNew, snapshot_made}
 use Rattle.pm_cli.proofs.Common.{NotSink, StandsForSome, StandsForSomeFreely, WasNew, any_files, any_here, extends_both, extends_each, extends_end, images_turned, leaves_both, leaves_each, leaves_some, leaves_weaker, makes_nothing, none_made, one_made, one_more, other_than, still_settled, with_command}
@@ -318,8 +318,8 @@ keeps_it user number e h stands was =
     let freely : (later : History) (f : Files) → MayMake own h later → Folder f later → ((other : Actor) → WasNew own h first other → AfterIt other f) → Spares f
     → StandsForOthers own h first later f = λ later f make folder others spare. record {
       folder = folder;
-      changes = leaves_weaker (λ was. AddsOwn (actor e.start) (path_after h) was f) (λ was. (path : List ℕ) → Becomes own h was f path) first
-          (λ was adds path. elim (adds path) as (λ _. Becomes own h was f path) [
+      changes = leaves_weaker (λ was. AddsOwn (actor e.start) (path_after h) was f) (λ was. (path : List ℕ) → MayBecome own h was f path) first
+          (λ was adds path. elim (adds path) as (λ _. MayBecome own h was f path) [
             | inl same ↦ inl same
             | inr new ↦ inr (inl new)
           ]) spare.1;

@@ -119,14 +119,14 @@ HasMade e h (Some other) later = (later ≡ h) × LeavesOut e.command (found_by 
 
 -- The file at a path is as it was at first; or it appeared, and the command may make it; or it has gone, and the command
 -- may take it away; or the command may write it.
-abbrev pub Becomes : Execution → History → Files → Files → List ℕ → Type 0
-Becomes e h was f path = (map.get f path ≡ map.get was path)
+abbrev pub MayBecome : Execution → History → Files → Files → List ℕ → Type 0
+MayBecome e h was f path = (map.get f path ≡ map.get was path)
     ⊎ (((map.get was path ≡ None) × MayAdd e.command (actor e.start) h path)
     ⊎ (((map.get f path ≡ None) × MayTake e.command path) ⊎ MayWrite e.command path))
 
 -- what became of all files since the first call
 abbrev pub Changes : Execution → History → StoreView → Files → Type 0
-Changes e h first f = LeavesFiles (λ was. (path : List ℕ) → Becomes e h was f path) first
+Changes e h first f = LeavesFiles (λ was. (path : List ℕ) → MayBecome e h was f path) first
 
 -- Files stand for the history, no other file changed than the command may make, take away or write, and each other
 -- actor that was new to the history at first is new to it. Each consumer that was settled is, but for one whose file the
