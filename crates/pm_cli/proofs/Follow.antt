@@ -1,5 +1,6 @@
 -- The promise of `follow`.
-use Rattle.std.proofs.Common.{◌≡◌, ℕ, ◌≤◌, ◌⊎◌, Bool, List, length, Option, None, Some, inl, inr, ◌∙◌}
+use Rattle.std.proofs.Common.{◌≡◌, ℕ, suc, ◌≤◌, ◌⊎◌, Bool, false, List, length, Option, None, Some, inl, inr, ◌∙◌}
+use Rattle.std.specs.Option.{option_or}
 use Rattle.pm_values.specs.declared.refusal.Refusal.{Refusal}
 use Rattle.pm_values.specs.declared.refusal.Refusal.TheVariants as refusals
 use Rattle.pm_schema.specs.declared.schema.TableSchema.{TableSchema}
@@ -7,12 +8,15 @@ use Rattle.pm_store.specs.Files.{Files}
 use Rattle.pm_store.specs.Store.{StoreView, at_first_own}
 use Rattle.pm_model_history.specs.History.{Entry, History, no_table, table}
 use Rattle.pm_model_folder.specs.Folder.{Folder, HasTable}
+use Rattle.pm_create.specs.Making.{LeavesFiles}
 use Rattle.pm_words.specs.declared.command.Command.TheVariants as commands
+use Rattle.pm_command_consume.specs.Alone.{full_after, settled_at, start_after}
 use Rattle.pm_command_follow.specs.Follow.{AnswersHistory, MayRefuse, MayStartAt, Prints, PrintsPrefix, PrintsSome, StopsAfter}
 use Rattle.pm_command_follow.specs.Printed.{LeadFrom, follow_text, start_of}
 use Rattle.pm_command.specs.declared.start.Start.{Start}
 use Rattle.pm_cli.specs.InTurn.{IsExecuted}
-use Rattle.pm_cli.specs.Promise.{Does, Execution, Keeps, HasMade, follows}
+use Rattle.pm_cli.specs.Promise.{Does, Execution, Keeps, HasMade, consumes, follows}
+use Rattle.pm_cli.specs.Start.{consumed_text}
 use Rattle.pm_cli.proofs.Common.{makes_nothing, none_made, with_command}
 use Rattle.pm_cli.proofs.Resting.{SameStarts, resting}
 
@@ -62,3 +66,16 @@ pub replayed : PrintedLaw → (start : Start) (bytes : List ℕ) (found : StoreV
     (text : List ℕ) (f : Files) → 1 ≤ start_of from (length es) → Folder f (table s es)
     → Does start bytes found (commands.Follow from None full) (table s es) later text → LeadFrom s es from full text
 replayed law start bytes found from full s es later text f low folder (follows at with_table t entries may) = law f s es from full folder may low
+
+-- and with a consumer
+pub consumed : PrintedLaw → (start : Start) (bytes : List ℕ) (found : StoreView) (name : List ℕ) (from : Option ℕ) (full : Bool) (s : TableSchema) (es : List Entry)
+    (later : History) (text : List ℕ) (f : Files) → Folder f (table s es) → Does start bytes found (commands.Follow from (Some name) full) (table s es) later text
+    → (known : Option ℕ) × LeavesFiles (λ was. settled_at was name ≡ known) found
+    × (1 ≤ start_after known from (length es) → start_after known from (length es) ≤ suc (length es) → LeadFrom s es (option_or known from) (full_after known full) text)
+consumed law start bytes found name from full s es later text f folder (consumes who at known with_table t entries is tells may) =
+    (known, is, by known)
+  where
+    by : (known : Option ℕ) → 1 ≤ start_after known at (length entries) → start_after known at (length entries) ≤ suc (length entries)
+        → LeadFrom t entries (option_or known at) (full_after known with_table) (consumed_text t entries known at with_table)
+    by None low high = law f t entries at with_table folder (tells, high) low
+    by (Some next) low high = law f t entries (Some next) false folder (tells, high) low

@@ -31,7 +31,8 @@ ListsOrDropsTables (Some name) before after answer = drops.DropsTables name befo
 
 -- Private: its calls, what they do to histories, and what was printed
 abbrev pub IsListedOrRemoved : Option (List ℕ) → SinkView → SinkView → StoreView → StoreView → Option Refusal → Type 0
-IsListedOrRemoved None out out_after store store_after answer = consumers.IsListed out out_after store store_after answer
+IsListedOrRemoved None out out_after store store_after answer =
+    consumers.IsListed out out_after store store_after answer
 IsListedOrRemoved (Some name) out out_after store store_after answer =
     drops.IsRemoved name out out_after store store_after answer
 
@@ -39,7 +40,8 @@ IsListedOrRemoved (Some name) out out_after store store_after answer =
 -- it promises of histories.
 abbrev pub FollowsOrConsumes : Option ℕ → Option (List ℕ) → Bool → Outside → Outside → Option Refusal → Type 0
 FollowsOrConsumes from None full before after answer = Follows from full before after answer
-FollowsOrConsumes from (Some name) full before after answer = consumes.Consumes (consuming name from full) before after answer
+FollowsOrConsumes from (Some name) full before after answer =
+    consumes.Consumes (consuming name from full) before after answer
     × ((me : Actor) → ConsumesBeside me (consuming name from full) before.out after.out before.store after.store answer)
 
 abbrev pub FollowsOrConsumesTables : Option ℕ → Option (List ℕ) → Bool → Outside → Outside → Option Refusal → Type 0

@@ -117,8 +117,8 @@ HasMade e h (Some (refusals.StoreFault path)) later =
     × LeavesOut e.command (found_by e) h e.before.out e.after.out
 HasMade e h (Some other) later = (later ≡ h) × LeavesOut e.command (found_by e) h e.before.out e.after.out
 
--- The file at a path is as it was at first; or it appeared, and the command may make it; or it has gone, and the command
--- may take it away; or the command may write it.
+-- The file at a path is as it was at first; or it appeared, and the command may make it; or it has gone, and the
+-- command may take it away; or the command may write it.
 abbrev pub MayBecome : Execution → History → Files → Files → List ℕ → Type 0
 MayBecome e h was f path = (map.get f path ≡ map.get was path)
     ⊎ (((map.get was path ≡ None) × MayAdd e.command (actor e.start) h path)
@@ -129,8 +129,8 @@ abbrev pub Changes : Execution → History → StoreView → Files → Type 0
 Changes e h first f = LeavesFiles (λ was. (path : List ℕ) → MayBecome e h was f path) first
 
 -- Files stand for the history, no other file changed than the command may make, take away or write, and each other
--- actor that was new to the history at first is new to it. Each consumer that was settled is, but for one whose file the
--- command took away.
+-- actor that was new to the history at first is new to it. Each consumer that was settled is, but for one whose file
+-- the command took away.
 pub record StandsForOthers (e : Execution) (h : History) (first : StoreView) (later : History) (f : Files)
     : Type 0 where
   pub folder : Folder f later
@@ -149,14 +149,15 @@ EndsBehind name from (table s es) first f = HaveSettled f (table s es) (name ∷
     + frames_after es (settled_at was name) from))) first
 
 -- What is left of its own consumer's file, by its answer. After a drop there is none, once the remove was answered,
--- whether or not the sink took what was told; else it is as it was, but that a fault of the remove leaves it so or gone.
+-- whether or not the sink took what was told; else it is as it was, but that a fault of the remove leaves it so or
+-- gone. After a following that printed all it is settled, behind the last frame.
 abbrev pub LeavesOwn : Command → History → Option Refusal → StoreView → Files → Type 0
 LeavesOwn (commands.Consumers (Some name)) h answer first f = LeavesFiles (λ was. ItEnds name answer was f) first
 LeavesOwn (commands.Follow from (Some name) full) h None first f = EndsBehind name from h first f
 LeavesOwn other h answer first f = Unit {0}
 
--- Where the consumer of a following is settled one or more snapshots past the start, all frames up to there were printed
--- whole.
+-- Where the consumer of a following is settled one or more snapshots past the start, all frames up to there were
+-- printed whole.
 abbrev pub ArePrinted : Execution → List ℕ → Option ℕ → Bool → History → StoreView → Files → Type 0
 ArePrinted e name from full no_table first f = Unit {0}
 ArePrinted e name from full (table s es) first f = LeavesFiles (λ was. (count : ℕ)

@@ -44,8 +44,8 @@ HasInput (commands.Compact full) bytes left = Unit {0}
 HasInput (commands.Follow from consumer full) bytes left = Unit {0}
 HasInput (commands.Write user identifier) bytes left = left ≡ Some bytes
 
--- The file at this path is one that the command may make: its table's origin and schema; or its actor's own and the next
--- snapshot.
+-- The file at this path is one that the command may make: its table's origin and schema; or its actor's own and the
+-- next snapshot.
 abbrev pub MayAdd : Command → Actor → History → List ℕ → Type 0
 MayAdd commands.Create me h path = (path ≡ own_origin me) ⊎ (path ≡ schema_path 0)
 MayAdd (commands.Compact full) me h path = IsOwn me path ⊎ (path ≡ path_after h)
@@ -79,8 +79,8 @@ snapshot_made h later = None
 abbrev pub committed_text : List Entry → List ℕ
 committed_text es = line (codes "snapshot " ++ decimal (suc (length es)))
 
--- What a following with a consumer prints up to so many frames, where its file is that of a settled one which reads this
--- snapshot next, or isn't: from there without the starting table, or as it is asked for.
+-- What a following with a consumer prints up to so many frames, where its file is that of a settled one which reads
+-- this snapshot next, or isn't: from there without the starting table, or as it is asked for.
 abbrev pub pieces_of : TableSchema → List Entry → Option ℕ → Option ℕ → Bool → ℕ → List ℕ
 pieces_of s es known from full count =
     text_so_far s es (full_after known full) (start_after known from (length es)) count

@@ -1,8 +1,9 @@
 //! The promise follows from what commands are proved to do; and histories have a beginning, from which commands go on.
 
-ghost use Rattle.std.specs.Prelude.{◌≡◌, ◌⊎◌, ◌≤◌, ℕ, List, [], ◌∷◌, ◌++◌, length, Bool, Option, None, Some, Ok};
+ghost use Rattle.std.specs.Prelude.{◌≡◌, ◌⊎◌, ◌≤◌, ℕ, suc, List, [], ◌∷◌, ◌++◌, length, Bool, Option, None, Some, Ok};
 ghost use Rattle.std.specs.FinMap as map;
 ghost use Rattle.std.specs.List.{AllByRecursion};
+ghost use Rattle.std.specs.Option.{option_or};
 ghost use Rattle.pm_base.specs.Known.{and_then};
 ghost use Rattle.pm_store.specs.Files.{Files, files_after};
 ghost use Rattle.pm_store.specs.Images.{CrashImage, Extends};
@@ -26,6 +27,7 @@ ghost use Rattle.pm_words.specs.declared.command.Command.TheVariants as commands
 ghost use Rattle.pm_command.specs.Outside.{HaveSame, actor};
 ghost use Rattle.pm_command.specs.declared.start.Start.{Start};
 ghost use Rattle.pm_command_compact.specs.Compact as compact;
+ghost use Rattle.pm_command_consume.specs.Alone.{full_after, settled_at, start_after};
 ghost use Rattle.pm_command_consumers.specs.Drop.{StandsWithout};
 ghost use Rattle.pm_command_create.specs.Create.{IsDraftOf, StandsForEither};
 ghost use Rattle.pm_command_follow.specs.Finished.{HasPassedAll};
@@ -47,9 +49,11 @@ use pm_schema::draft_law;
 /// none; one that has what a crash within `write` or `compact` left, for the history, or for it with the rows of the
 /// input, or with the compaction of its newest snapshot's choice, as once the next snapshot is there; and one that has
 /// what a crash within `scan`, `snapshots`, `consumers` or `follow` left, for the history, and no path has another
-/// content, but that a drop may have taken its consumer's file away. Another actor that might have started before `write` or `compact` may start there, and wherever no path has
-/// another content. So what `run` promises of a history holds again of the next `write`, `compact`, `scan`,
-/// `snapshots`, `consumers` or `follow`, and after a crash within one of these.
+/// content, but that of its consumer where one is dropped or followed with. Another actor that might have started
+/// before `write` or `compact` may start there, and wherever no path has another content. So what `run` promises of a
+/// history holds again of the next `write`, `compact`, `scan`, `snapshots`, `consumers` or `follow`, and after a crash
+/// within one of these; behind a drop or a following with a consumer that of `write` and `compact` for actors that are
+/// new to the table (`free_law`).
 pub fn next_command_law()
     ensures create { (start : Start) (bytes : List ℕ) (h : History) (old new : List Op) (i : ℕ)
         (image : Files) → Extends (StandsForEither start bytes h) (Some old) (Some new) → length old ≤ i
@@ -260,12 +264,20 @@ pub fn same_scan_law()
 /// followed at the newest; and those of the first frames, at each before that. Where a snapshot is finished, the table
 /// that is followed at it is the merged one, which a scan of that snapshot prints; and so are the starting table's rows
 /// printed. It is where all rows up to it are passed on; with the producer of inputs they always are, and each
-/// snapshot is finished.
+/// snapshot is finished. With a consumer it is so of what is printed from the snapshot on that a settled one reads
+/// next, or from the start that is asked for.
 pub fn frames_law()
     ensures replayed { (start : Start) (bytes : List ℕ) (found : StoreView) (from : Option ℕ) (full : Bool)
         (s : TableSchema) (es : List Entry) (later : History) (text : List ℕ) (f : Files)
         → 1 ≤ start_of from (length es) → Folder f (table s es)
-        → Does start bytes found (commands.Follow from None full) (table s es) later text → LeadFrom s es from full text }
+        → Does start bytes found (commands.Follow from None full) (table s es) later text
+        → LeadFrom s es from full text }
+    ensures consumed { (start : Start) (bytes : List ℕ) (found : StoreView) (name : List ℕ) (from : Option ℕ)
+        (full : Bool) (s : TableSchema) (es : List Entry) (later : History) (text : List ℕ) (f : Files)
+        → Folder f (table s es) → Does start bytes found (commands.Follow from (Some name) full) (table s es) later text
+        → (known : Option ℕ) × LeavesFiles (λ was. settled_at was name ≡ known) found
+        × (1 ≤ start_after known from (length es) → start_after known from (length es) ≤ suc (length es)
+        → LeadFrom s es (option_or known from) (full_after known full) text) }
     ensures finished { (f : Files) (s : TableSchema) (es : List Entry) (id : ℕ) → Folder f (table s es)
         → id ≤ length es → HasPassedAll s es id → IsFinished s es id }
     ensures input { (s : TableSchema) (es : List Entry) (id : ℕ) → s.options.producer ≡ Input → HasPassedAll s es id }

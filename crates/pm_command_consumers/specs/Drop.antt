@@ -77,8 +77,8 @@ pub record StandsWithout (name : List ℕ) (h : History) (names : List (List ℕ
   pub others : (others : List (List ℕ)) → AreOthersOf name names others → HaveSettled after h others
   pub settled : ItRests name f after → HaveSettled after h names
 
--- What an answer leaves: no file, once the remove was answered, whether or not the sink took what was told; else the file
--- as it was, but that a fault of the remove leaves it so or gone.
+-- What an answer leaves: no file, once the remove was answered, whether or not the sink took what was told; else the
+-- file as it was, but that a fault of the remove leaves it so or gone.
 abbrev pub ItEnds : List ℕ → Option Refusal → Files → Files → Type 0
 ItEnds name None f after = map.get after (consumer_path name) ≡ None
 ItEnds name (Some (refusals.SinkFault snapshot)) f after = map.get after (consumer_path name) ≡ None

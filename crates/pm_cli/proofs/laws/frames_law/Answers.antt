@@ -1,8 +1,11 @@
-use Rattle.pm_cli.proofs.Follow.{replayed}
+use Rattle.pm_cli.proofs.Follow.{consumed, replayed}
 use Rattle.pm_cli.proofs.laws.frames_law.Goals as goal
 
 pub returns-clause-replayed : goal.returns-clause-replayed
 returns-clause-replayed c = replayed c.replay_law.ensures.printed
+
+pub returns-clause-consumed : goal.returns-clause-consumed
+returns-clause-consumed c = consumed c.replay_law.ensures.printed
 
 pub returns-clause-finished : goal.returns-clause-finished
 returns-clause-finished c = c.replay_law.ensures.finished
