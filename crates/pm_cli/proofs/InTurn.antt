@@ -1,5 +1,5 @@
 -- Commands that are executed one after another.
-use Rattle.std.proofs.Common.{◌≡◌, ◌≤◌, ℕ, List, [], ◌∷◌, length, map as each_of, slice_get, append-nil, Contains, Option, None, Some, IsSomeAnd, Ok, refl, sym, subst, ap, ◌∙◌, arith}
+use Rattle.std.proofs.Common.{◌≡◌, ◌⊎◌, inl, inr, ◌≤◌, ℕ, suc, List, [], ◌∷◌, length, map as each_of, slice_get, append-nil, Contains, Option, None, Some, IsSomeAnd, Ok, refl, sym, subst, ap, ◌∙◌}
 use Rattle.std.specs.FinMap as map
 use Rattle.std.specs.List.{AllByRecursion}
 use Rattle.pm_base.specs.Known.{and_then}
@@ -13,9 +13,12 @@ use Rattle.pm_schema.specs.declared.schema.TableSchema.{TableSchema}
 use Rattle.pm_model_history.specs.History.{Entry, History, no_table, rows_up_to, table}
 use Rattle.pm_model_history.specs.Merge.{HistoryRow}
 use Rattle.pm_model_history.specs.Merged.{scan_text}
-use Rattle.pm_model_folder.specs.Changes.{Actor}
+use Rattle.pm_snapshot.specs.Names.{snapshot_name}
+use Rattle.pm_model_folder.specs.Changes.{Actor, origin_name}
 use Rattle.pm_model_folder.specs.Folder.{Folder, HaveSettled}
+use Rattle.pm_model_folder.specs.Ledger.{count_of}
 use Rattle.pm_model_folder.specs.Paths.{consumer_path}
+use Rattle.pm_model_folder.proofs.PathLemmas.{consumer-own, consumer-schema, consumer-snapshot}
 use Rattle.pm_create.specs.Making.{LeavesFiles}
 use Rattle.pm_write.specs.Taken.{all_taken}
 use Rattle.pm_words.specs.declared.command.Command.{Command}
@@ -25,10 +28,10 @@ use Rattle.pm_command.specs.declared.start.Start.{Start}
 use Rattle.pm_command.proofs.Uncalled.{next_stands}
 use Rattle.pm_command_create.specs.Create.{IsDraftOf}
 use Rattle.pm_command_write.specs.Write.{entry_by, writer_of}
-use Rattle.pm_cli.specs.InTurn.{AreInTurn, DropNone, Ending, HaveOwnNames, IsExecuted, HandsOn, MakeInTurn, MakesBy, Turn, ended, others_op, seen_by_another, stopped, to_its_end}
-use Rattle.pm_cli.specs.Promise.{Does, Execution, Keeps, KeepsIt, HasMade, MayMake, StandsForOthers, commits, creates, found_by, has_already, scans, takes_none}
-use Rattle.pm_cli.specs.Start.{HaveOtherNames, IsNew, MayStart, MayTake}
-use Rattle.pm_cli.proofs.Common.{StandsForSomeFreely, leaves_some, leaves_weaker}
+use Rattle.pm_cli.specs.InTurn.{AreInTurn, Ending, HaveOwnNames, IsExecuted, HandsOn, MakeInTurn, MakesBy, Turn, ended, others_op, seen_by_another, stopped, to_its_end}
+use Rattle.pm_cli.specs.Promise.{Does, Execution, HasMade, Keeps, KeepsIt, MayBecome, MayMake, StandsForOthers, commits, creates, found_by, has_already, scans, takes_none}
+use Rattle.pm_cli.specs.Start.{HaveOtherNames, IsNew, MayAdd, MayStart, MayTake, MayWrite}
+use Rattle.pm_cli.proofs.Common.{StandsForSomeFreely, any_both, leaves_some, leaves_weaker}
 use Rattle.pm_cli.proofs.First.{acts_goes_on, first_same, from_before}
 
 -- what the law of every command says, and that of actors that are new
@@ -43,9 +46,6 @@ AreNew turns h f = AllByRecursion (λ (t : Turn). IsNew (actor t.execution.start
 
 abbrev HaveOthers : Execution → List Turn → Type 0
 HaveOthers e turns = AllByRecursion (λ (next : Turn). HaveOtherNames (actor e.start) (actor next.execution.start)) turns
-
-abbrev StandsWith : List (List ℕ) → List Turn → History → Files → Type 0
-StandsWith names turns h f = Folder f h × HaveSettled f h names × AreNew turns h f
 
 -- the actors of those that follow are new to what a command made
 still_new : (e : Execution) (h : History) (first : StoreView) (later : History) (f : Files) → StandsForOthers e h first later f → (turns : List Turn)
@@ -84,54 +84,98 @@ next_store stopped e h first next same kept has =
     (image_stands (StandsForSomeFreely e h first) e.before.store.ops e.after.store.ops next.ops
     (subst (λ (known : Option (List Op)). Extends (StandsForSomeFreely e h first) known e.after.store.ops) same kept.images) has)
 
--- who was settled is, but for whom it drops
-still_settled : (names : List (List ℕ)) (e : Execution) (h : History) (first : StoreView) (later : History) (f : Files) → StandsForOthers e h first later f
-    → ((name : List ℕ) → Contains names name → MayTake e.command (consumer_path name) → ⊥) → LeavesFiles (λ g. HaveSettled g h names) first
-    → HaveSettled f later names
-still_settled names e h first later f stands others was = stands.settled names (λ name there takes. absurd (others name there takes)) was
+-- What is so of files and the history that they stand for, and each command that is allowed keeps.
+module _ (Good : History → Files → Type 0) (Allows : Execution → Type 0)
+    (step : (e : Execution) (h : History) (first : StoreView) (later : History) (f : Files) → StandsForOthers e h first later f → Allows e
+    → LeavesFiles (Good h) first → Good later f) where
+  abbrev StandsWith : List Turn → History → Files → Type 0
+  StandsWith turns h f = Folder f h × Good h f × AreNew turns h f
 
-pub in_turn : KeepsEach → NewMayStart → (names : List (List ℕ)) (turns : List Turn) (store last : StoreView) (h : History) → AreInTurn store turns last → HaveOwnNames turns
-    → DropNone turns names → LeavesFiles (StandsWith names turns h) store
-    → (later : History) × MakeInTurn turns h later × LeavesFiles (λ f. Folder f later × HaveSettled f later names) last
-in_turn keeps starts names [] store last h is own others stands = (
-  h,
-  refl,
-  subst (λ (store : StoreView). LeavesFiles (λ f. Folder f h × HaveSettled f h names) store) (sym is)
-      (leaves_weaker (StandsWith names [] h) (λ f. Folder f h × HaveSettled f h names) store (λ f all. (all.0, all.1)) stands),
-)
-in_turn keeps starts names (t ∷ turns) store last h (same, is, alone, input, (next, leaves, rest)) (own, later_own) (others, later_others) stands =
-    let e = t.execution in
-    let first = at_first_own e.before.store e.after.store in
-    let Has : Files → Type 0 = StandsWith names (t ∷ turns) h in
-    let goes = acts_goes_on e.command e.start e.before e.after e.refusal is.acts in
-    let only : IsAlone e.before.store e.after.store = subst (λ (store : StoreView). IsAlone store e.after.store) (sym same) alone in
-    let here : LeavesFiles Has e.before.store = subst (λ (store : StoreView). LeavesFiles Has store) (sym same) stands in
-    let found = from_before Has e.before.store e.after.store goes only here in
-    let may = leaves_weaker Has (MayStart e.command (actor e.start) h) first (λ f all. starts e.command (actor e.start) h f all.2.0) found.0 in
-    let kept : KeepsIt e h first = keeps e is found.1 h may input in
-    let new : LeavesFiles (AreNew turns h) first = leaves_weaker Has (AreNew turns h) first (λ f all. all.2.1) found.0 in
-    let settled : LeavesFiles (λ f. HaveSettled f h names) first = leaves_weaker Has (λ f. HaveSettled f h names) first (λ f all. all.1) found.0 in
-    let left = next_store t.ending e h first next (first_same Has e.before.store e.after.store goes only here) kept leaves in
-    let made = in_turn keeps starts names turns next last left.0 rest later_own later_others
-    (leaves_weaker (StandsForOthers e h first left.0) (StandsWith names turns left.0) next
-    (λ f free. (free.folder, still_settled names e h first left.0 f free others settled, still_new e h first left.0 f free turns own new)) left.2) in
-    (made.0, (left.0, left.1, made.1), made.2)
+  pub in_turn : KeepsEach → NewMayStart → (turns : List Turn) (store last : StoreView) (h : History) → AreInTurn store turns last → HaveOwnNames turns
+      → AllByRecursion (λ (t : Turn). Allows t.execution) turns → LeavesFiles (StandsWith turns h) store
+      → (later : History) × MakeInTurn turns h later × LeavesFiles (λ f. Folder f later × Good later f) last
+  in_turn keeps starts [] store last h is own allowed stands = (
+    h,
+    refl,
+    subst (λ (store : StoreView). LeavesFiles (λ f. Folder f h × Good h f) store) (sym is)
+        (leaves_weaker (StandsWith [] h) (λ f. Folder f h × Good h f) store (λ f all. (all.0, all.1)) stands),
+  )
+  in_turn keeps starts (t ∷ turns) store last h (same, is, alone, input, (next, leaves, rest)) (own, later_own) (allows, later_allows) stands =
+      let e = t.execution in
+      let first = at_first_own e.before.store e.after.store in
+      let Has : Files → Type 0 = StandsWith (t ∷ turns) h in
+      let goes = acts_goes_on e.command e.start e.before e.after e.refusal is.acts in
+      let only : IsAlone e.before.store e.after.store = subst (λ (store : StoreView). IsAlone store e.after.store) (sym same) alone in
+      let here : LeavesFiles Has e.before.store = subst (λ (store : StoreView). LeavesFiles Has store) (sym same) stands in
+      let found = from_before Has e.before.store e.after.store goes only here in
+      let may = leaves_weaker Has (MayStart e.command (actor e.start) h) first (λ f all. starts e.command (actor e.start) h f all.2.0) found.0 in
+      let kept : KeepsIt e h first = keeps e is found.1 h may input in
+      let new : LeavesFiles (AreNew turns h) first = leaves_weaker Has (AreNew turns h) first (λ f all. all.2.1) found.0 in
+      let good : LeavesFiles (Good h) first = leaves_weaker Has (Good h) first (λ f all. all.1) found.0 in
+      let left = next_store t.ending e h first next (first_same Has e.before.store e.after.store goes only here) kept leaves in
+      let made = in_turn keeps starts turns next last left.0 rest later_own later_allows
+      (leaves_weaker (StandsForOthers e h first left.0) (StandsWith turns left.0) next
+      (λ f free. (free.folder, step e h first left.0 f free allows good, still_new e h first left.0 f free turns own new)) left.2) in
+      (made.0, (left.0, left.1, made.1), made.2)
 
--- of no consumers
-settled_none : (h : History) (f : Files) → HaveSettled f h []
-settled_none no_table f = λ name (k, within, at). omega (arith, within)
-settled_none (table s es) f = λ name (k, within, at). absurd (omega (arith, within))
-
-drop_none : (turns : List Turn) → DropNone turns []
-drop_none [] = tt
-drop_none (t ∷ turns) = (λ name (k, within, at). absurd (omega (arith, within)), drop_none turns)
+-- nothing more
+all_allowed : (turns : List Turn) → AllByRecursion (λ (t : Turn). Unit {0}) turns
+all_allowed [] = tt
+all_allowed (t ∷ turns) = (tt, all_allowed turns)
 
 pub in_turn_from : KeepsEach → NewMayStart → (turns : List Turn) (store last : StoreView) (h : History) → AreInTurn store turns last → HaveOwnNames turns
     → LeavesFiles (λ f. Folder f h × AreNew turns h f) store → (later : History) × MakeInTurn turns h later × LeavesFiles (λ f. Folder f later) last
 in_turn_from keeps starts turns store last h is own stands =
-    let made = in_turn keeps starts [] turns store last h is own (drop_none turns)
-    (leaves_weaker (λ f. Folder f h × AreNew turns h f) (StandsWith [] turns h) store (λ f both. (both.0, settled_none h f, both.1)) stands) in
-    (made.0, made.1, leaves_weaker (λ f. Folder f made.0 × HaveSettled f made.0 []) (λ f. Folder f made.0) last (λ f both. both.0) made.2)
+    let made = in_turn (λ h f. Unit {0}) (λ e. Unit {0}) (λ e h first later f stands allows good. tt) keeps starts turns store last h is own (all_allowed turns)
+    (leaves_weaker (λ f. Folder f h × AreNew turns h f) (λ f. Folder f h × Unit {0} × AreNew turns h f) store (λ f both. (both.0, tt, both.1)) stands) in
+    (made.0, made.1, leaves_weaker (λ f. Folder f made.0 × Unit {0}) (λ f. Folder f made.0) last (λ f both. both.0) made.2)
+
+-- who was settled is, but for whom they drop
+pub still_settled : (names : List (List ℕ)) (e : Execution) (h : History) (first : StoreView) (later : History) (f : Files) → StandsForOthers e h first later f
+    → ((name : List ℕ) → Contains names name → MayTake e.command (consumer_path name) → ⊥) → LeavesFiles (λ g. HaveSettled g h names) first
+    → HaveSettled f later names
+still_settled names e h first later f stands others was = stands.settled names (λ name there takes. absurd (others name there takes)) was
+
+-- a file that is there stays, but for one that they take away or write
+pub still_there : (path bytes : List ℕ) (e : Execution) (h : History) (first : StoreView) (later : History) (f : Files) → StandsForOthers e h first later f
+    → (MayTake e.command path → ⊥) × (MayWrite e.command path → ⊥) → LeavesFiles (λ g. map.get g path ≡ Some bytes) first → map.get f path ≡ Some bytes
+still_there path bytes e h first later f stands (takes, writes) was =
+    any_both (λ g. (path : List ℕ) → MayBecome e h g f path) (λ g. map.get g path ≡ Some bytes) (map.get f path ≡ Some bytes) first
+    (λ g becomes there. at g there (becomes path)) stands.changes was
+  where
+    not-both : (o : Option (List ℕ)) → o ≡ Some bytes → o ≡ None → ⊥
+    not-both o there none = cc
+
+    at : (g : Files) → map.get g path ≡ Some bytes → MayBecome e h g f path → map.get f path ≡ Some bytes
+    at g there (inl same) = same ∙ there
+    at g there (inr (inl (none, own))) = absurd (not-both (map.get g path) there none)
+    at g there (inr (inr (inl (none, takes_it)))) = absurd (takes takes_it)
+    at g there (inr (inr (inr writes_it))) = absurd (writes writes_it)
+
+-- no command makes a consumer's file but a following with it
+no-consumer : (command : Command) (me : Actor) (h : History) (name : List ℕ) → MayAdd command me h (consumer_path name) → ⊥
+no-consumer commands.Create me h name (inl is) = consumer-snapshot name (origin_name me) is
+no-consumer commands.Create me h name (inr is) = consumer-schema name 0 is
+no-consumer (commands.Compact full) me h name (inl own) = consumer-own me (consumer_path name) name own refl
+no-consumer (commands.Compact full) me h name (inr is) = consumer-snapshot name (snapshot_name (suc (count_of h))) is
+no-consumer (commands.Write user number) me h name (inl own) = consumer-own me (consumer_path name) name own refl
+no-consumer (commands.Write user number) me h name (inr is) = consumer-snapshot name (snapshot_name (suc (count_of h))) is
+no-consumer (commands.Scan at) me h name may = may
+no-consumer commands.Snapshots me h name may = may
+no-consumer (commands.Consumers dropped) me h name may = may
+no-consumer (commands.Follow from consumer full) me h name may = may
+
+pub still_gone : (name : List ℕ) (e : Execution) (h : History) (first : StoreView) (later : History) (f : Files) → StandsForOthers e h first later f
+    → (MayWrite e.command (consumer_path name) → ⊥) → LeavesFiles (λ g. map.get g (consumer_path name) ≡ None) first → map.get f (consumer_path name) ≡ None
+still_gone name e h first later f stands writes was =
+    any_both (λ g. (path : List ℕ) → MayBecome e h g f path) (λ g. map.get g (consumer_path name) ≡ None) (map.get f (consumer_path name) ≡ None) first
+    (λ g becomes none. at g none (becomes (consumer_path name))) stands.changes was
+  where
+    at : (g : Files) → map.get g (consumer_path name) ≡ None → MayBecome e h g f (consumer_path name) → map.get f (consumer_path name) ≡ None
+    at g none (inl same) = same ∙ none
+    at g none (inr (inl (absent, own))) = absurd (no-consumer e.command (actor e.start) h name own)
+    at g none (inr (inr (inl (gone, takes_it)))) = gone
+    at g none (inr (inr (inr writes_it))) = absurd (writes writes_it)
 
 -- ---- another handle
 

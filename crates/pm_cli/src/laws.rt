@@ -18,6 +18,7 @@ ghost use Rattle.pm_model_history.specs.Merged.{scan_text};
 ghost use Rattle.pm_model_following.specs.Following.{IsFinished, table_text};
 ghost use Rattle.pm_model_folder.specs.Changes.{Actor};
 ghost use Rattle.pm_model_folder.specs.Folder.{Folder, HaveSettled};
+ghost use Rattle.pm_model_folder.specs.Paths.{consumer_path};
 ghost use Rattle.pm_create.specs.Making.{LeavesFiles};
 ghost use Rattle.pm_write.specs.Taken.{all_taken};
 ghost use Rattle.pm_move_consumer.specs.DropperAllCalls.{ItGoes, ItRests};
@@ -34,8 +35,8 @@ ghost use Rattle.pm_command_follow.specs.Finished.{HasPassedAll};
 ghost use Rattle.pm_command_follow.specs.Printed.{LeadFrom, start_of, table_head};
 ghost use Rattle.pm_command_write.specs.Write.{IsImage, Lines, MayStartAfter};
 ghost use Rattle.pm_command_write.specs.declared.writer.Writer.{Writer};
-ghost use Rattle.pm_cli.specs.InTurn.{AreInTurn, DropNone, HandsOn, HaveOwnNames, IsExecuted, MakeInTurn, Turn, ended};
-ghost use Rattle.pm_cli.specs.InTurn.{seen_by_another, to_its_end};
+ghost use Rattle.pm_cli.specs.InTurn.{AreInTurn, DropNone, HandsOn, HaveOwnNames, IsExecuted, MakeInTurn, TouchNone};
+ghost use Rattle.pm_cli.specs.InTurn.{Turn, WriteNone, ended, seen_by_another, to_its_end};
 ghost use Rattle.pm_cli.specs.Promise.{Does, Execution, Keeps, KeepsIt, MayMake};
 ghost use Rattle.pm_cli.specs.Start.{HaveOtherNames, IsNew, MayStart};
 
@@ -241,6 +242,20 @@ pub fn in_turn_law()
         × AllByRecursion (λ (t : Turn). IsNew (actor t.execution.start) h f) turns) store
         → (later : History) × MakeInTurn turns h later
         × LeavesFiles (λ f. Folder f later × HaveSettled f later names) last }
+    // a file that is there stays as it is, but that of a consumer which they drop or follow with; and a consumer that
+    // has none gets none, but by a following with it
+    ensures there { (path bytes : List ℕ) (turns : List Turn) (store last : StoreView) (h : History)
+        → AreInTurn store turns last → HaveOwnNames turns → TouchNone turns path
+        → LeavesFiles (λ f. Folder f h × (map.get f path ≡ Some bytes)
+        × AllByRecursion (λ (t : Turn). IsNew (actor t.execution.start) h f) turns) store
+        → (later : History) × MakeInTurn turns h later
+        × LeavesFiles (λ f. Folder f later × (map.get f path ≡ Some bytes)) last }
+    ensures gone { (name : List ℕ) (turns : List Turn) (store last : StoreView) (h : History)
+        → AreInTurn store turns last → HaveOwnNames turns → WriteNone turns (consumer_path name)
+        → LeavesFiles (λ f. Folder f h × (map.get f (consumer_path name) ≡ None)
+        × AllByRecursion (λ (t : Turn). IsNew (actor t.execution.start) h f) turns) store
+        → (later : History) × MakeInTurn turns h later
+        × LeavesFiles (λ f. Folder f later × (map.get f (consumer_path name) ≡ None)) last }
     ensures empty { (turns : List Turn) (store last : StoreView) → store.ops ≡ Some [] → AreInTurn store turns last
         → HaveOwnNames turns
         → (later : History) × MakeInTurn turns no_table later × LeavesFiles (λ f. Folder f later) last }
