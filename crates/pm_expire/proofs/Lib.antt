@@ -1,0 +1,3 @@
+pub mod Facts
+mod KnowsLemmas
+mod PhaseLemmas

@@ -1,0 +1,2 @@
+pub mod Expirer
+pub mod Meaning

@@ -1,0 +1,58 @@
+//! Laws of expirers. Each holds with no call but of the laws of crates below.
+
+ghost use Rattle.std.specs.Prelude.{◌≡◌, Some};
+ghost use Rattle.pm_machine.specs.Moves.{Sound};
+ghost use Rattle.pm_machine.specs.Running.{Refuses, Stops};
+ghost use Rattle.pm_model_folder.specs.Changes.{Actor};
+ghost use Rattle.pm_model_folder.specs.Ledger.{Advances, Past, Stands};
+ghost use Rattle.pm_store.specs.declared.call.Call.{Call};
+ghost use Rattle.pm_store.specs.Files.{Files};
+ghost use Rattle.pm_store.specs.Images.{MayLeave};
+ghost use Rattle.pm_expire.specs.Expirer.{next_call, Goes, Shown};
+ghost use Rattle.pm_expire.specs.Meaning.{Knows, KnowsBeside, Makes, MakesBeside, StandsBeside};
+ghost use Rattle.pm_expire.specs.declared.phase.Phase.{Phase};
+ghost use Rattle.pm_expire.specs.declared.phase.Phase.TheVariants as phases;
+
+use pm_consumers::listed_law;
+use pm_manifest::{ManifestMeta, joined_law};
+use pm_model_expiry::{announces_law, reads_law, removes_law};
+use pm_model_folder::past_law;
+use pm_read_whole::paths_law;
+use pm_record::one_reading_law;
+
+/// Whoever expires a table: each effect of its next call is one of its changes, and what it knows holds after each
+/// answer, refusal and fault.
+pub fn sound_law()
+    ensures { Sound next_call Goes (Refuses Shown phases.Over) (Stops phases.Over) StandsBeside MakesBeside
+        KnowsBeside }
+{
+    announces_law();
+    joined_law();
+    listed_law();
+    one_reading_law::<ManifestMeta>();
+    past_law();
+    paths_law();
+    pm_announce::known_law();
+    pm_read_expiry::known_law();
+    reads_law();
+    removes_law();
+}
+
+/// What an expirer knows stays true through each kind of change of every actor.
+pub fn known_law()
+    ensures { (m : Phase) (other : Actor) (f after : Files) (p q : Past) → Stands f p → Advances other f p after q
+        → Knows m f p → Knows m after q }
+{
+    pm_announce::known_law();
+    pm_model_expiry::known_law();
+    pm_read_expiry::known_law();
+    pm_read_whole::known_law();
+}
+
+/// Whatever a crash leaves of its next call is one of its changes.
+pub fn images_law()
+    ensures { (me : Actor) (m : Phase) (call : Call) (f image : Files) (p : Past) → next_call m ≡ Some call
+        → Stands f p → Knows m f p → MayLeave call f image → (later : Past) × Makes me m f p image later }
+{
+    sound_law();
+}

@@ -1,0 +1,24 @@
+//! The machine of `expire`: it removes a table's oldest snapshots, and what they alone need.
+//!
+//! An `Expirer` reads what it needs to know (`pm_read_expiry`): snapshots with their times, floors and consumers. Where
+//! no snapshot is to go it is done. Else it announces its end by a floor and reads the consumers again (`pm_announce`),
+//! which may lower the end. It reads the whole view of each snapshot from the first on, up to the end, and then removes
+//! (`pm_remove`): the origin and the snapshots below the end, rising; the files that these named and the one at the end
+//! doesn't; and the floors below its own that it had listed. So whatever it leaves when it is stopped, each snapshot
+//! that is there has all that it needs; of what gone snapshots needed some files may be left, which no later expiry
+//! knows of.
+//!
+//! `specs/Expirer.antt` has its phases, its calls and what each answer leads to; `specs/Meaning.antt` what it knows of
+//! the table in each phase, whatever others do, and what it may change. `sound_law` says that its steps keep to that.
+#![tactic(auto)]
+
+mod after;
+mod expirer;
+mod laws;
+mod machine;
+mod phase;
+mod views;
+
+pub use expirer::{Expirer, expirer_of};
+pub use laws::{images_law, known_law, sound_law};
+pub use phase::{Phase, Views};
