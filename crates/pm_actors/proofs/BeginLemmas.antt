@@ -28,7 +28,16 @@ use Rattle.pm_commit.specs.Meaning.{KnowsOwn}
 use Rattle.pm_commit.specs.Own as owner
 use Rattle.pm_commit.specs.declared.phase.Phase as committing
 use Rattle.pm_commit.proofs.OwnLemmas.{append-planned}
-use Rattle.pm_actors.specs.World.{AllKnow, Begins, BeginsCommit, BeginsFollow, Followed, IsWorld, KeepsActor, Knows, KnowsFollowed, MayBegin, MayFollow, MayJoin, Worker, commits, creates, finds, follows, lists, scans, waits}
+use Rattle.pm_register.specs.Meaning as registrar
+use Rattle.pm_register.specs.Registrar.{Registering}
+use Rattle.pm_register.specs.declared.phase.Phase as registering
+use Rattle.pm_move_consumer.specs.DropperMeaning as dropper
+use Rattle.pm_move_consumer.specs.DropperMeaning.{Drop}
+use Rattle.pm_move_consumer.specs.MoverMeaning as mover
+use Rattle.pm_move_consumer.specs.MoverMeaning.{Move}
+use Rattle.pm_move_consumer.specs.declared.drop_phase.DropPhase as dropping
+use Rattle.pm_move_consumer.specs.declared.move_phase.MovePhase as moving
+use Rattle.pm_actors.specs.World.{AllKnow, Begins, BeginsCommit, BeginsDrop, BeginsFollow, BeginsMove, BeginsRegister, Followed, IsWorld, KeepsActor, Knows, KnowsFollowed, MayBegin, MayFollow, MayJoin, Worker, commits, creates, drops, finds, follows, lists, moves, registers, scans, waits}
 use Rattle.pm_actors.proofs.WorldLemmas.{replaced}
 
 -- what the law of a folder that is found says
@@ -76,6 +85,21 @@ module _ (f : Files) (p : Past) where
             (begins.table, begins.least, omega (arith, most, bound), omega (arith, most, within)),
       )
 
+  register_begins : (me : Actor) (r : Registering) (m : registering.Phase) → BeginsRegister p.history r m → registrar.Knows me r m f p
+  register_begins me r m begins = subst (λ (m : registering.Phase). registrar.Knows me r m f p) (sym begins.is) (
+    begins.registering,
+    (refl, refl),
+    record { schema = begins.schema; is = begins.table; plain = begins.plain; next = begins.next },
+    tt,
+  )
+
+  move_begins : (m : Move) (phase : moving.MovePhase) → BeginsMove p.history m phase → mover.Knows m phase f p
+  move_begins m phase begins =
+      subst (λ (phase : moving.MovePhase). mover.Knows m phase f p) (sym begins.is) (begins.moving, (refl, refl, refl), begins.printed)
+
+  drop_begins : (d : Drop) (phase : dropping.DropPhase) → BeginsDrop p.history d phase → dropper.Knows d phase f p
+  drop_begins d phase begins = subst (λ (phase : dropping.DropPhase). dropper.Knows d phase f p) (sym begins.is) (begins.plain, refl, begins.table)
+
   pub joined : (w : Worker) → MayJoin p w → Knows w f p
   joined (waits me) named = named
   joined (creates t m) (is, left, other) = creator_begins t m is left other
@@ -85,6 +109,9 @@ module _ (f : Files) (p : Past) where
   joined (finds me s m) (is, table) = (table, subst (λ (m : finding.Phase). latest_reader.Knows m f p) (sym is) tt)
   joined (follows me x m) begins = follow_begins x m begins
   joined (commits e m) begins = commit_begins e m begins
+  joined (registers me r m) begins = register_begins me r m begins
+  joined (moves m phase) begins = move_begins m phase begins
+  joined (drops d phase) begins = drop_begins d phase begins
 
 -- who may begin where of its actor more is asked may begin where less is
 begins_by : (P Q : Actor → Type 0) (h : History) → ((me : Actor) → P me → Q me) → (w : Worker) → Begins P h w → Begins Q h w
@@ -94,6 +121,9 @@ begins_by P Q h more (lists me m) may = may
 begins_by P Q h more (scans me m) may = may
 begins_by P Q h more (finds me s m) may = may
 begins_by P Q h more (follows me x m) may = may
+begins_by P Q h more (registers me r m) may = may
+begins_by P Q h more (moves m phase) may = may
+begins_by P Q h more (drops d phase) may = may
 begins_by P Q h more (commits e m) may = record {
   begun = may.begun;
   schema = may.schema;

@@ -1,5 +1,5 @@
 -- Whichever machine steps, the others know what they knew.
-use Rattle.std.proofs.Common.{◌≡◌, ◌≢◌, ℕ, ◌≤◌, List, [], ◌∷◌, ◌++◌, length, length-append, Option, None, Some, IfSome, option_map, refl, sym, ap, subst, ◌∙◌, arith}
+use Rattle.std.proofs.Common.{◌≡◌, ◌≢◌, inl, inr, ℕ, ◌≤◌, List, [], ◌∷◌, ◌++◌, length, length-append, Option, None, Some, IfSome, option_map, refl, sym, ap, subst, ◌∙◌, arith}
 use Rattle.std.specs.List.{AllByRecursion}
 use Rattle.pm_store.specs.declared.call.Op.{Op}
 use Rattle.pm_store.specs.Files.{Files, after_effect, after_op, files_after}
@@ -9,6 +9,7 @@ use Rattle.pm_store.proofs.FileLaws.{files_after-push}
 use Rattle.pm_machine.specs.Moves.{IsKept, Keeps, Lasts}
 use Rattle.pm_model_history.specs.History.{Entry, GoesOn, History, IsTableOf, no_table, table}
 use Rattle.pm_model_folder.specs.Changes.{Actor, Change, IsActor, IsOwn, its_origin, origin_name}
+use Rattle.pm_model_folder.specs.Consumers.{follower_of}
 use Rattle.pm_model_folder.specs.Ledger.{Advances, HasNamedNone, Past, Stands, count_of}
 use Rattle.pm_model_folder.specs.Paths.{snapshot_file}
 use Rattle.pm_create.specs.Creator.{NewTable}
@@ -28,7 +29,17 @@ use Rattle.pm_commit.specs.Meaning as commit
 use Rattle.pm_commit.specs.Own as owner
 use Rattle.pm_commit.specs.Own.{OwnView}
 use Rattle.pm_commit.specs.declared.phase.Phase as committing
-use Rattle.pm_actors.specs.World.{AllKnow, AreAllApart, AreApart, Differ, Followed, IsWorld, KeepsActor, Knows, KnowsFollowed, Leaves, Worker, actor_of, commits, creates, finds, follows, lists, scans, waits}
+use Rattle.pm_model_consumers.specs.Claims.{Follower}
+use Rattle.pm_register.specs.Meaning as registrar
+use Rattle.pm_register.specs.Registrar.{Registering}
+use Rattle.pm_register.specs.declared.phase.Phase as registering
+use Rattle.pm_move_consumer.specs.DropperMeaning as dropper
+use Rattle.pm_move_consumer.specs.DropperMeaning.{Drop}
+use Rattle.pm_move_consumer.specs.MoverMeaning as mover
+use Rattle.pm_move_consumer.specs.MoverMeaning.{Move}
+use Rattle.pm_move_consumer.specs.declared.drop_phase.DropPhase as dropping
+use Rattle.pm_move_consumer.specs.declared.move_phase.MovePhase as moving
+use Rattle.pm_actors.specs.World.{AllKnow, AreAllApart, AreApart, Differ, Followed, IsWorld, KeepsActor, Knows, KnowsFollowed, Leaves, Worker, actor_of, commits, creates, drops, finds, follows, lists, moves, registers, scans, waits}
 
 -- what the laws of the crates below say
 pub record KnownLaws : Type 0 where
@@ -50,6 +61,12 @@ pub record KnownLaws : Type 0 where
   pub frames : (h later : History) (id : ℕ) (texts : List (List ℕ)) → GoesOn h later → AreFramesFrom h id texts → AreFramesFrom later id texts
   pub commits : (e : Entry) (m : committing.Phase) (other : Actor) (f after : Files) (p q : Past) → Stands f p → Advances other f p after q
       → commit.IsOtherThan other m → commit.Knows e m f p → commit.Knows e m after q
+  pub registers : (me other : Actor) (r : Registering) (m : registering.Phase) (f after : Files) (p q : Past) → Stands f p
+      → Advances other f p after q → follower_of other ≢ follower_of me → registrar.Knows me r m f p → registrar.Knows me r m after q
+  pub moves : (m : Move) (phase : moving.MovePhase) (other : Actor) (f after : Files) (p q : Past) → Stands f p → Advances other f p after q
+      → mover.Knows m phase f p → mover.Knows m phase after q
+  pub drops : (d : Drop) (phase : dropping.DropPhase) (other : Actor) (f after : Files) (p q : Past) → Stands f p → Advances other f p after q
+      → dropper.Knows d phase f p → dropper.Knows d phase after q
 
 -- ---- who steps
 
@@ -70,6 +87,11 @@ steps laws (scans me m) f after p q kept = (me, refl, laws.same me f after p q k
 steps laws (finds me s m) f after p q kept = (me, refl, laws.same me f after p q kept)
 steps laws (follows me x m) f after p q kept = (me, refl, laws.same me f after p q kept)
 steps laws (commits e m) f after p q makes = commit_steps e (commit.own_in m) f after p q makes
+steps laws (registers me r m) f after p q (change, puts) = (me, refl, change.advances)
+steps laws (moves m phase) f after p q (inl kept) = (m.me, refl, laws.same m.me f after p q kept)
+steps laws (moves m phase) f after p q (inr past) = (m.me, refl, past.advances)
+steps laws (drops d phase) f after p q (inl kept) = (d.me, refl, laws.same d.me f after p q kept)
+steps laws (drops d phase) f after p q (inr gone) = (d.me, refl, gone.advances)
 
 -- ---- who knows
 
@@ -77,6 +99,13 @@ steps laws (commits e m) f after p q makes = commit_steps e (commit.own_in m) f 
 origins_apart : KnownLaws → (me other : Actor) → Differ me other → origin_name me ≢ origin_name other
 origins_apart laws me other differ same =
     differ.apart (laws.own me other (snapshot_file (origin_name me)) differ.mine differ.its (its_origin refl) (its_origin (ap snapshot_file same)))
+
+-- and register consumers under other names
+followers_apart : (me other : Actor) → Differ me other → follower_of me ≢ follower_of other
+followers_apart me other differ same = differ.apart (ap (λ (x : Follower). actor_named x) same)
+  where
+    actor_named : Follower → Actor
+    actor_named x = record { session = x.session; number = x.number }
 
 other_commit : (me : Actor) (o : Option OwnView) → IfSome (option_map owner.actor_of o) (λ other. Differ me other) → IfSome o (λ o. owner.actor_of o ≢ me)
 other_commit me None differ = tt
@@ -124,6 +153,10 @@ knows_still laws (follows other x m) me f after p q differ stands advances (foll
 )
 knows_still laws (commits e m) me f after p q differ stands advances known =
     laws.commits e m me f after p q stands advances (other_commit me (commit.own_in m) differ) known
+knows_still laws (registers other r m) me f after p q differ stands advances known =
+    laws.registers other me r m f after p q stands advances (followers_apart me other differ) known
+knows_still laws (moves m phase) me f after p q differ stands advances known = laws.moves m phase me f after p q stands advances known
+knows_still laws (drops d phase) me f after p q differ stands advances known = laws.drops d phase me f after p q stands advances known
 
 apart_from : (a b : Worker) (me : Actor) → actor_of a ≡ Some me → AreApart a b → IfSome (actor_of b) (λ other. Differ me other)
 apart_from a b me is apart =

@@ -1,5 +1,5 @@
 -- Machines of commands beside each other on one folder, each run by an actor: what each may change, and what it knows.
-use Rattle.std.specs.Prelude.{◌≡◌, ◌≢◌, ◌⊎◌, ℕ, ◌≤◌, List, [], ◌∷◌, ◌++◌, Option, Some, IfSome, option_map}
+use Rattle.std.specs.Prelude.{◌≡◌, ◌≢◌, ◌⊎◌, ℕ, suc, ◌≤◌, List, [], ◌∷◌, ◌++◌, Option, Some, IfSome, option_map}
 use Rattle.std.specs.List.{AllByRecursion}
 use Rattle.pm_store.specs.Files.{Files, files_after}
 use Rattle.pm_store.specs.declared.call.Op.{Op}
@@ -7,8 +7,9 @@ use Rattle.pm_machine.specs.Moves.{IsKept}
 use Rattle.pm_model_history.specs.History.{Entry, History, IsTableOf}
 use Rattle.pm_schema.specs.declared.schema.TableSchema.{TableSchema}
 use Rattle.pm_snapshot.specs.Names.{MayName, greatest}
-use Rattle.pm_model_folder.specs.Changes.{Actor, IsActor, IsNoOrigin}
+use Rattle.pm_model_folder.specs.Changes.{Actor, HavePlainNames, IsActor, IsNoOrigin, IsPlain}
 use Rattle.pm_model_folder.specs.Ledger.{HasNamedNone, Past, Stands, count_of}
+use Rattle.pm_model_folder.specs.Paths.{consumer_path}
 use Rattle.pm_create.specs.Creator.{IsCreator, NewTable, calls_left, own_origin}
 use Rattle.pm_create.specs.Meaning as create
 use Rattle.pm_create.specs.declared.phase.Phase as creating
@@ -39,6 +40,18 @@ use Rattle.pm_commit.specs.Own as owner
 use Rattle.pm_commit.specs.Own.{OwnView}
 use Rattle.pm_commit.specs.declared.phase.Phase as committing
 use Rattle.pm_commit.specs.declared.phase.Phase.TheVariants as committers
+use Rattle.pm_register.specs.Meaning as registrar
+use Rattle.pm_register.specs.Registrar.{IsRegistering, Registering, registration_of}
+use Rattle.pm_register.specs.declared.phase.Phase as registering
+use Rattle.pm_register.specs.declared.phase.Phase.TheVariants as registrars
+use Rattle.pm_move_consumer.specs.DropperMeaning as dropper
+use Rattle.pm_move_consumer.specs.DropperMeaning.{Drop, MayDrop}
+use Rattle.pm_move_consumer.specs.Mover.{IsMoving, new_mover}
+use Rattle.pm_move_consumer.specs.MoverMeaning as mover
+use Rattle.pm_move_consumer.specs.MoverMeaning.{HasPlainTable, IsPrinted, MayMovePast, Move}
+use Rattle.pm_move_consumer.specs.declared.drop_phase.DropPhase as dropping
+use Rattle.pm_move_consumer.specs.declared.drop_phase.DropPhase.TheVariants as droppers
+use Rattle.pm_move_consumer.specs.declared.move_phase.MovePhase as moving
 
 -- what a following has: its table, the snapshot of its first frame, the newest one that was listed, and the frames that
 -- were read so far
@@ -61,7 +74,7 @@ reader_at s id = followers.Log (logs.Snapshot (log_asked_of s id))
 
 -- an actor whose command has no machine yet; or a machine of a command, by its phase: with the table that it makes, the
 -- entry that it adds, or who runs it. The readers of the latest snapshot's id and of a frame have the table, too, and
--- the following that they are for.
+-- the following that they are for; a registrar has the consumer, a mover the text that was printed, too.
 pub data Worker : Type 0 where
   waits : Actor → Worker
   creates : NewTable → creating.Phase → Worker
@@ -70,6 +83,9 @@ pub data Worker : Type 0 where
   finds : Actor → TableSchema → finding.Phase → Worker
   follows : Actor → Followed → following.Phase → Worker
   commits : Entry → committing.Phase → Worker
+  registers : Actor → Registering → registering.Phase → Worker
+  moves : Move → moving.MovePhase → Worker
+  drops : Drop → dropping.DropPhase → Worker
 
 -- who runs it; of a commit that is over nobody
 abbrev pub actor_of : Worker → Option Actor
@@ -80,6 +96,9 @@ actor_of (scans me m) = Some me
 actor_of (finds me s m) = Some me
 actor_of (follows me x m) = Some me
 actor_of (commits e m) = option_map owner.actor_of (commit.own_in m)
+actor_of (registers me r m) = Some me
+actor_of (moves m phase) = Some m.me
+actor_of (drops d phase) = Some d.me
 
 -- the kinds of change that it may make
 abbrev pub Leaves : Worker → Files → Past → Files → Past → Type 0
@@ -90,6 +109,9 @@ Leaves (scans me m) f p after later = IsKept f p after later
 Leaves (finds me s m) f p after later = IsKept f p after later
 Leaves (follows me x m) f p after later = IsKept f p after later
 Leaves (commits e m) f p after later = commit.MakesEntry e m f p after later
+Leaves (registers me r m) f p after later = registrar.RegistersAt me r m f p after later
+Leaves (moves m phase) f p after later = MayMovePast m f p after later
+Leaves (drops d phase) f p after later = MayDrop d f p after later
 
 -- What is known of a following: its table is the history's, all snapshots up to the newest that was listed were
 -- committed, and what was read so far are frames from its start on.
@@ -110,6 +132,9 @@ Knows (scans me m) f p = scan.Knows m f p
 Knows (finds me s m) f p = IsTableOf s p.history × latest_reader.Knows m f p
 Knows (follows me x m) f p = KnowsFollowed x p × frame_reader.Knows m f p
 Knows (commits e m) f p = commit.Knows e m f p
+Knows (registers me r m) f p = registrar.Knows me r m f p
+Knows (moves m phase) f p = mover.Knows m phase f p
+Knows (drops d phase) f p = dropper.Knows d phase f p
 
 abbrev pub AllKnow : List Worker → Files → Past → Type 0
 AllKnow workers f p = AllByRecursion (λ w. Knows w f p) workers
@@ -168,6 +193,28 @@ pub record BeginsFollow (h : History) (x : Followed) (m : following.Phase) : Typ
   pub bound : x.latest ≤ greatest
   pub within : x.latest ≤ count_of h
 
+-- what a registrar begins with: a table whose names lead to no file of a consumer, and the snapshot to be read next is
+-- at most one above the newest
+pub record BeginsRegister (h : History) (r : Registering) (m : registering.Phase) : Type 0 where
+  pub is : m ≡ registrars.New r.found (registration_of r)
+  pub registering : IsRegistering r
+  pub schema : TableSchema
+  pub table : IsTableOf schema h
+  pub plain : HavePlainNames schema
+  pub next : r.next ≤ suc (count_of h)
+
+-- what a mover begins with: what was printed is the frame of the snapshot that the consumer reads next
+pub record BeginsMove (h : History) (m : Move) (phase : moving.MovePhase) : Type 0 where
+  pub is : phase ≡ new_mover m.moving
+  pub moving : IsMoving m.moving
+  pub printed : IsPrinted m h
+
+-- what a dropper begins with: there is a table
+pub record BeginsDrop (h : History) (d : Drop) (phase : dropping.DropPhase) : Type 0 where
+  pub is : phase ≡ droppers.Remove (consumer_path d.name)
+  pub plain : IsPlain d.name
+  pub table : HasPlainTable h
+
 -- A machine has made no call on a table with the history: who waits is one that named nothing, a creator's origin isn't
 -- that table's, a lister has yet to read the schema or has read it, and any other has read it.
 abbrev pub Begins : (Actor → Type 0) → History → Worker → Type 0
@@ -180,6 +227,9 @@ Begins Named h (scans me m) =
 Begins Named h (finds me s m) = (m ≡ finders.List) × IsTableOf s h
 Begins Named h (follows me x m) = BeginsFollow h x m
 Begins Named h (commits e m) = BeginsCommit Named h e m
+Begins Named h (registers me r m) = BeginsRegister h r m
+Begins Named h (moves m phase) = BeginsMove h m phase
+Begins Named h (drops d phase) = BeginsDrop h d phase
 
 -- in a folder that is found: no snapshot that is there names a file of a committer
 abbrev pub MayBegin : Files → History → Worker → Type 0

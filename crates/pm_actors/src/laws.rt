@@ -57,6 +57,8 @@ pub fn others_law()
     goes_on_law();
     frames_law();
     pm_commit::known_law();
+    pm_register::known_law();
+    pm_move_consumer::known_law();
 }
 
 /// A step of one of them leads from a world of them to one with the machine as it is then in its place, which the same

@@ -16,5 +16,8 @@ returns c =
       goes_on = c.goes_on_law.ensures;
       frames = c.frames_law.ensures.later;
       commits = c.known_law-6.ensures;
+      registers = c.known_law-7.ensures;
+      moves = c.known_law-8.ensures.moves;
+      drops = c.known_law-8.ensures.drops;
     } in
     others_know laws
