@@ -144,7 +144,7 @@ module _ (laws : Laws) (me : Actor) (f : Files) (p : Past) (stands : Stands f p)
       → announcing_meaning.Knows to after later → Knows new after later
   announced_known to new after later still (announces_on more is) known = subst (λ (m : Phase). Knows m after later) (sym is) known
   announced_known to new after later still (none_goes_then a at end is) known = subst (λ (m : Phase). Knows m after later) (sym is) tt
-  announced_known to new after later still (views_first a d at less none is) known =
+  announced_known to new after later still (views_first a d at some less none is) known =
       let end : announcing_meaning.KnowsEnd a.found a.end after later = subst (λ (m : announce_phase.Phase). announcing_meaning.Knows m after later) at known in
       subst (λ (m : Phase). Knows m after later) (sym is)
       (view_known a d a.found.first after later still less (omega arith) (omega (arith, less)) end (none_views a d later none))

@@ -1,3 +1,4 @@
 pub mod Facts
 mod KnowsLemmas
 mod PhaseLemmas
+mod TraceLemmas

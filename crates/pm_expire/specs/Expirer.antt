@@ -118,8 +118,8 @@ pub data AfterAnnounce (m : announce_phase.Phase) (later : Phase) : Type 0 where
   announces_on : (announcing.IsReady m → ⊥) → later ≡ phases.Announce m → AfterAnnounce m later
   none_goes_then : (a : Announced) → m ≡ announcers.Announced a → a.end ≡ a.found.first
       → later ≡ phases.Done a.end a.found.last → AfterAnnounce m later
-  views_first : (a : Announced) (d : DroppingView) → m ≡ announcers.Announced a → a.found.first < a.end → AreNone d
-      → later ≡ view_next a d a.found.first → AfterAnnounce m later
+  views_first : (a : Announced) (d : DroppingView) → m ≡ announcers.Announced a → 1 ≤ a.found.first
+      → a.found.first < a.end → AreNone d → later ≡ view_next a d a.found.first → AfterAnnounce m later
 
 -- what is to be removed once all views were added: the origin and the snapshots below the end, the files that these
 -- named and the one at the end doesn't, and the floors below its own that were listed

@@ -1,2 +1,3 @@
 pub mod Expirer
 pub mod Meaning
+pub mod Trace

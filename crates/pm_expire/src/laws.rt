@@ -3,13 +3,16 @@
 ghost use Rattle.std.specs.Prelude.{◌≡◌, Some};
 ghost use Rattle.pm_machine.specs.Moves.{Sound};
 ghost use Rattle.pm_machine.specs.Running.{Refuses, Stops};
+ghost use Rattle.pm_machine.specs.Trace.{Recounts};
 ghost use Rattle.pm_model_folder.specs.Changes.{Actor};
 ghost use Rattle.pm_model_folder.specs.Ledger.{Advances, Past, Stands};
 ghost use Rattle.pm_store.specs.declared.call.Call.{Call};
 ghost use Rattle.pm_store.specs.Files.{Files};
 ghost use Rattle.pm_store.specs.Images.{MayLeave};
+ghost use Rattle.pm_read_expiry.specs.declared.asking.Asking.{Asking};
 ghost use Rattle.pm_expire.specs.Expirer.{next_call, Goes, Shown};
 ghost use Rattle.pm_expire.specs.Meaning.{Knows, KnowsBeside, Makes, MakesBeside, StandsBeside};
+ghost use Rattle.pm_expire.specs.Trace.{Did, Shows};
 ghost use Rattle.pm_expire.specs.declared.phase.Phase.{Phase};
 ghost use Rattle.pm_expire.specs.declared.phase.Phase.TheVariants as phases;
 
@@ -36,6 +39,13 @@ pub fn sound_law()
     pm_read_expiry::known_law();
     reads_law();
     removes_law();
+}
+
+/// Each call of an expirer follows from those before it, and a refusal is shown by the calls up to it.
+pub fn recounts_law()
+    ensures { (a : Asking) → Recounts next_call Goes (Refuses Shown phases.Over) (Stops phases.Over) (Did a) (Shows a) }
+{
+    joined_law();
 }
 
 /// What an expirer knows stays true through each kind of change of every actor.

@@ -9,7 +9,8 @@
 //! knows of.
 //!
 //! `specs/Expirer.antt` has its phases, its calls and what each answer leads to; `specs/Meaning.antt` what it knows of
-//! the table in each phase, whatever others do, and what it may change. `sound_law` says that its steps keep to that.
+//! the table in each phase, whatever others do, and what it may change; `specs/Trace.antt` which calls it made, and
+//! which show a refusal. `sound_law` and `recounts_law` say that its steps keep to that.
 #![tactic(auto)]
 
 mod after;
@@ -20,5 +21,5 @@ mod phase;
 mod views;
 
 pub use expirer::{Expirer, expirer_of};
-pub use laws::{images_law, known_law, sound_law};
+pub use laws::{images_law, known_law, recounts_law, sound_law};
 pub use phase::{Phase, Views};
