@@ -118,7 +118,7 @@ module _ (laws : Laws) (me : Actor) (f : Files) (p : Past) (stands : Stands f p)
       → reading_meaning.Knows to after later → Knows new after later
   read_known to new after later (reads_on more is) plain known = subst (λ (m : Phase). Knows m after later) (sym is) (plain, known)
   read_known to new after later (none_goes x at end is) plain known = subst (λ (m : Phase). Knows m after later) (sym is) tt
-  read_known to new after later (some_goes x at goes is) plain known = subst (λ (m : Phase). Knows m after later) (sym is) (record {
+  read_known to new after later (some_goes x at goes within is) plain known = subst (λ (m : Phase). Knows m after later) (sym is) (record {
     to_announce = goes;
     plain = subst IsPlainRead at plain;
     found = subst (λ (m : read_phase.Phase). reading_meaning.Knows m after later) at known;

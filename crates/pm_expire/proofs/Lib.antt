@@ -1,3 +1,4 @@
+mod CallLemmas
 pub mod Facts
 mod KnowsLemmas
 mod PhaseLemmas

@@ -158,7 +158,7 @@ read_did a to new own (none_goes x at end is) did =
     let found : reading_trace.HasFound a x own = subst (λ (m : read_phase.Phase). reading_trace.Did a m own) at did in
     let expired : HasExpired a x.end x.last own = kept_all x end refl refl found in
     subst (λ (m : Phase). Did a m own) (sym is) expired
-read_did a to new own (some_goes x at goes is) did =
+read_did a to new own (some_goes x at goes within is) did =
     let found : reading_trace.HasFound a x own = subst (λ (m : read_phase.Phase). reading_trace.Did a m own) at did in
     let begun : HasFound a x (announcing_trace.Did x (announcers.Announce x)) own =
     record { reads = own; rest = []; found = found; then_rest = (refl, refl); is = sym (append-nil own) } in

@@ -1,5 +1,5 @@
 -- An expirer: its phases, its calls, and what each answer leads to.
-use Rattle.std.specs.Prelude.{◌≡◌, ◌≢◌, ◌⊎◌, ℕ, ◌+◌, ◌<◌, ◌≤◌, List, [], Contains, Option, None}
+use Rattle.std.specs.Prelude.{◌≡◌, ◌≢◌, ◌⊎◌, ℕ, ◌+◌, ◌-◌, ◌*◌, ◌<◌, ◌≤◌, List, [], Contains, length, Option, None}
 use Rattle.pm_values.specs.declared.refusal.Refusal.{Refusal}
 use Rattle.pm_values.specs.declared.refusal.Refusal.TheVariants as refusals
 use Rattle.pm_store.specs.declared.answer.Answer.{Answer}
@@ -11,7 +11,10 @@ use Rattle.pm_remove.specs.declared.phase.Phase.TheVariants as removers
 use Rattle.pm_model_expiry.specs.Removals.{Expiry, removals}
 use Rattle.pm_expire_paths.specs.Dropping.{Adds, AreDropped, DroppingView}
 use Rattle.pm_expire_paths.specs.Floors.{AreFloorsBelow}
+use Rattle.pm_consumers.specs.Lister as consumers
+use Rattle.pm_consumers.specs.declared.phase.Phase.TheVariants as consumer_listers
 use Rattle.pm_read_table.specs.Asked.{asked_of, sought_of}
+use Rattle.pm_read_table.specs.Reader.{most}
 use Rattle.pm_read_table.specs.declared.asked.Wanted.TheVariants as wants
 use Rattle.pm_read_table.specs.declared.phase.Phase as view_phase
 use Rattle.pm_read_table.specs.declared.phase.Phase.TheVariants as view_readers
@@ -27,6 +30,8 @@ use Rattle.pm_announce.specs.Announcer.{IsAnnounced, IsToAnnounce}
 use Rattle.pm_announce.specs.declared.phase.Announced.{Announced}
 use Rattle.pm_announce.specs.declared.phase.Phase as announce_phase
 use Rattle.pm_announce.specs.declared.phase.Phase.TheVariants as announcers
+use Rattle.pm_expire.specs.declared.expirer.ExpireStep.{ExpireStep}
+use Rattle.pm_expire.specs.declared.expirer.ExpireStep.TheVariants as steps
 use Rattle.pm_expire.specs.declared.phase.Phase.{Phase}
 use Rattle.pm_expire.specs.declared.phase.Phase.TheVariants as phases
 use Rattle.pm_expire.specs.declared.phase.Views.{Views}
@@ -41,6 +46,35 @@ next_call (phases.View v m) = whole.next_call m
 next_call (phases.Remove first last m) = removing.next_call m
 next_call (phases.Done first last) = None
 next_call phases.Over = None
+
+-- how many calls the announcer and the reader of a whole view make at most, and how many paths are removed
+abbrev pub announce_calls : ℕ
+announce_calls = consumers.calls_left consumer_listers.List + 1
+
+abbrev pub view_calls : ℕ
+view_calls = (most + 4) + (most + 3)
+
+abbrev pub most_paths : ℕ
+most_paths = 18446744073709551616
+
+-- how many are left at most once the view of a snapshot was read: those of the views up to the end, and the removes
+abbrev pub calls_to : ℕ → ℕ → ℕ
+calls_to id end = (end - id) * view_calls + (most_paths + 1)
+
+-- and once the announcer is ready
+abbrev pub views_left : announce_phase.Phase → ℕ
+views_left (announcers.Announce x) = view_calls + calls_to x.first x.end
+views_left (announcers.Consumers x c) = view_calls + calls_to x.first x.end
+views_left other = 0
+
+-- how many calls are left at most, where no refusal comes
+abbrev pub calls_left : Phase → ℕ
+calls_left (phases.Read m) = reading.calls_left m + (announce_calls + (view_calls + calls_to 0 most_paths))
+calls_left (phases.Announce m) = announcing.calls_left m + views_left m
+calls_left (phases.View v m) = whole.calls_left m + calls_to v.id v.announced.end
+calls_left (phases.Remove first last m) = removing.calls_left m
+calls_left (phases.Done first last) = 0
+calls_left phases.Over = 0
 
 -- the reader of the whole view of a snapshot, before its first call
 abbrev pub view_at : TableSchema → ℕ → whole_phase.Phase
@@ -97,7 +131,7 @@ pub data AfterRead (m : read_phase.Phase) (later : Phase) : Type 0 where
   reads_on : (reading.IsReady m → ⊥) → later ≡ phases.Read m → AfterRead m later
   none_goes : (x : Found) → m ≡ readers.Ready x → x.end ≡ x.first → later ≡ phases.Done x.end x.last
       → AfterRead m later
-  some_goes : (x : Found) → m ≡ readers.Ready x → IsToAnnounce x
+  some_goes : (x : Found) → m ≡ readers.Ready x → IsToAnnounce x → x.end ≤ most_paths
       → later ≡ phases.Announce (announcers.Announce x) → AfterRead m later
 
 -- these views were added so far, and that of this snapshot is to be read
@@ -128,6 +162,7 @@ pub record AreRemovals (a : Announced) (d : DroppingView) (paths : List (List �
   pub floors : List ℕ
   pub are_dropped : AreDropped d dropped
   pub are_floors : AreFloorsBelow a.found.floors.items a.found.end floors
+  pub within : length paths ≤ most_paths
   pub is : paths ≡ removals (expiry_of a) dropped floors
 
 -- once a view was added: that of the next snapshot is to be read, or all that is to be removed is known
@@ -173,3 +208,13 @@ Shown (phases.Read m) answer refusal = reading.Shown m answer refusal
 Shown (phases.Announce m) answer refusal = FailsToView m answer refusal ⊎ announcing.Shown m answer refusal
 Shown (phases.View v m) answer refusal = FailsToAdd m answer refusal ⊎ whole.Shown m answer refusal
 Shown phase other refusal = ⊥
+
+-- what a step that goes on has reached
+abbrev pub Reaches : ExpireStep → Phase → Type 0
+Reaches steps.More new = 0 < calls_left new
+Reaches (steps.Done first last) new = new ≡ phases.Done first last
+
+-- Private: the answer of a step that went on, by the phase that it reached
+abbrev pub reached_at : Phase → ExpireStep
+reached_at (phases.Done first last) = steps.Done first last
+reached_at other = steps.More

@@ -2,7 +2,8 @@
 use Rattle.std.specs.Prelude.{◌≡◌, ◌≢◌, ◌↔◌, ℕ, ◌+◌, ◌<◌, ◌≤◌, List, ◌∷◌, Contains}
 use Rattle.std.specs.FinMap as map
 use Rattle.pm_store.specs.Files.{Files}
-use Rattle.pm_machine.specs.Moves.{IsKept}
+use Rattle.pm_store.specs.Store.{StoreView}
+use Rattle.pm_machine.specs.Moves.{IsKept, Moves}
 use Rattle.pm_model_folder.specs.Changes.{Actor, HavePlainNames}
 use Rattle.pm_model_folder.specs.Commits.{Names}
 use Rattle.pm_model_folder.specs.Ledger.{Advances, IsKnown, Past, Stands}
@@ -76,6 +77,10 @@ Knows (phases.Announce m) f p = announcing.Knows m f p
 Knows (phases.View v m) f p = KnowsView v m f p
 Knows (phases.Remove first last m) f p = KnowsRemover m f p
 Knows other f p = Unit {0}
+
+-- Whoever expires: a step makes one of these changes, or none, and what the expirer knows holds after it.
+abbrev pub ExpirerMoved : Phase → Phase → StoreView → StoreView → Type 0
+ExpirerMoved old new before after = (me : Actor) → Moves Stands (Makes me old) (Knows old) (Knows new) before after
 
 -- ---- the actor beside the past
 

@@ -1,8 +1,9 @@
 -- An expirer's own calls, and what they show.
-use Rattle.std.specs.Prelude.{◌≡◌, ◌⊎◌, ℕ, ◌+◌, List, [], ◌∷◌, ◌++◌, length}
+use Rattle.std.specs.Prelude.{◌≡◌, ◌⊎◌, ℕ, ◌+◌, List, [], ◌∷◌, ◌++◌, length, Result, IfErr}
 use Rattle.pm_values.specs.declared.refusal.Refusal.{Refusal}
 use Rattle.pm_values.specs.declared.refusal.Refusal.TheVariants as refusals
-use Rattle.pm_machine.specs.Trace.{Event}
+use Rattle.pm_store.specs.Store.{StoreView}
+use Rattle.pm_machine.specs.Trace.{Acts, Event}
 use Rattle.pm_remove.specs.Trace as removing
 use Rattle.pm_expire_paths.specs.Dropping.{Adds, DroppingView}
 use Rattle.pm_read_log.specs.Log.{LogAskedView, log_asked_of}
@@ -15,6 +16,7 @@ use Rattle.pm_read_expiry.specs.declared.asking.Found.{Found}
 use Rattle.pm_announce.specs.Trace as announcing
 use Rattle.pm_announce.specs.declared.phase.Announced.{Announced}
 use Rattle.pm_expire.specs.Expirer.{AreNone, AreRemovals}
+use Rattle.pm_expire.specs.declared.expirer.ExpireStep.{ExpireStep}
 use Rattle.pm_expire.specs.declared.phase.Phase.{Phase}
 use Rattle.pm_expire.specs.declared.phase.Phase.TheVariants as phases
 use Rattle.pm_expire.specs.declared.phase.Views.{Views}
@@ -120,3 +122,9 @@ Did a (phases.Remove first last m) own =
     × HasFound a n.found (HasAnnounced n (HasAll n (λ paths. removing.Did paths m))) own
 Did a (phases.Done first last) own = HasExpired a first last own
 Did a phases.Over own = (refusal : Refusal) × Shows a refusal own
+
+-- Whatever was asked, its next call is the next event of its calls so far, or none was made; and a refusal is shown by
+-- the calls up to it.
+abbrev pub ExpirerActed : Phase → Phase → StoreView → StoreView → Result ExpireStep Refusal → Type 0
+ExpirerActed old new before after result = (a : Asking)
+    → Acts (Did a old) (λ own. Did a new own × IfErr result (λ refusal. Shows a refusal own)) before after

@@ -10,7 +10,7 @@
 //!
 //! `specs/Expirer.antt` has its phases, its calls and what each answer leads to; `specs/Meaning.antt` what it knows of
 //! the table in each phase, whatever others do, and what it may change; `specs/Trace.antt` which calls it made, and
-//! which show a refusal. `sound_law` and `recounts_law` say that its steps keep to that.
+//! which show a refusal. `step_expirer` makes a call, and keeps to that.
 #![tactic(auto)]
 
 mod after;
@@ -20,6 +20,6 @@ mod machine;
 mod phase;
 mod views;
 
-pub use expirer::{Expirer, expirer_of};
+pub use expirer::{ExpireStep, Expirer, expirer_of, step_expirer};
 pub use laws::{images_law, known_law, recounts_law, sound_law};
 pub use phase::{Phase, Views};

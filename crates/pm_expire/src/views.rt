@@ -206,5 +206,7 @@ fn all_removals(
     };
     let floors = floors_below(alloc, found.floors.as_slice(), found.end)?;
     let dropped = dropping.into_dropped(alloc)?;
-    removals(alloc, &found.schema, expiring, dropped, floors.as_slice())
+    let paths = removals(alloc, &found.schema, expiring, dropped, floors.as_slice())?;
+    let _ = paths.len();
+    Ok(paths)
 }

@@ -9,7 +9,7 @@ returns-then-found-clause-goes c =
     let order = c.into_found-found.ensures.in_order in
     let goes : x.first < x.end = omega arith in
     some_goes x c.into_found-found.ensures.found
-    (record { declared = order.declared; some = order.some goes; first = goes; last = order.last })
+    (record { declared = order.declared; some = order.some goes; first = goes; last = order.last }) (omega arith)
     (ap (λ m. phases.Announce m) c.announcer_of.ensures)
 
 pub returns-else-found-clause-goes : goal.returns-else-found-clause-goes
