@@ -11,7 +11,6 @@ use Rattle.std.proofs.lemmas.Map.Keys.{IsStrictlyIncreasing-dedup}
 use Rattle.pm_snapshot.specs.Names.{floor_in, floor_name, greatest}
 use Rattle.pm_snapshot.proofs.Facts.{number_is}
 use Rattle.pm_paths.proofs.ListLemmas.{cases, here, more, nowhere}
-use Rattle.pm_consumer_files.specs.Floors.{IsListedFloor}
 use Rattle.pm_expire_paths.specs.Floors.{AreFloorsBelow, if_below, listed_below}
 
 -- a name has a floor's number exactly where it is that of the floor

@@ -1,5 +1,5 @@
 -- What views named.
-use Rattle.std.proofs.Common.{◌↔◌, ◌⊎◌, inl, inr, ℕ, List, [], ◌∷◌, ◌++◌, Contains, ap, subst, sym, arith}
+use Rattle.std.proofs.Common.{◌↔◌, ◌⊎◌, inl, inr, ℕ, List, [], ◌∷◌, ◌++◌, Contains, subst, sym, arith}
 use Rattle.std.proofs.lemmas.List.Elements.{Contains-append_left, Contains-push, Contains-push_cases}
 use Rattle.pm_expire_paths.specs.Dropping.{Adds, AreDropped, DroppingView, HasSeen, IsNamedIn, IsSeen}
 
