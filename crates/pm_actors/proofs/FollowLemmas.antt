@@ -1,16 +1,20 @@
 -- The machines of a following, one after another.
-use Rattle.std.proofs.Common.{ℕ, ◌+◌, ◌<◌, ◌≤◌, List, [], ◌∷◌, ◌++◌, length, Vec, arith}
+use Rattle.std.proofs.Common.{◌≡◌, ℕ, ◌+◌, ◌<◌, ◌≤◌, List, [], ◌∷◌, ◌++◌, length, Vec, refl, sym, ap, subst, ◌∙◌, arith}
+use Rattle.std.specs.List.{AllByRecursion}
 use Rattle.std.specs.Global.{Global}
 use Rattle.pm_schema.specs.declared.schema.TableSchema.{TableSchema}
 use Rattle.pm_store.specs.Files.{Files}
-use Rattle.pm_model_history.specs.History.{History}
-use Rattle.pm_model_folder.specs.Changes.{Actor}
+use Rattle.pm_model_history.specs.History.{History, IsTableOf}
+use Rattle.pm_model_folder.specs.Changes.{Actor, IsPlain}
+use Rattle.pm_model_folder.specs.Consumers.{frame_in}
 use Rattle.pm_model_folder.specs.Ledger.{Past, Stands}
 use Rattle.pm_read_latest.specs.declared.phase.Phase.TheVariants as finders
 use Rattle.pm_read_frame.specs.Frames.{AreFramesFrom, IsFrameOf}
-use Rattle.pm_read_frame.specs.Meaning.{IsFrame}
+use Rattle.pm_read_frame.specs.Meaning.{HasOneLog, IsFrame}
 use Rattle.pm_read_frame.specs.declared.phase.Phase.TheVariants as followers
-use Rattle.pm_actors.specs.World.{Followed, Knows, KnowsFollowed, finds, follow_from, follows, reader_at, with_frame}
+use Rattle.pm_move_consumer.specs.Mover.{IsMoving, new_mover}
+use Rattle.pm_move_consumer.specs.MoverMeaning.{Move}
+use Rattle.pm_actors.specs.World.{Followed, Knows, KnowsFollowed, finds, follow_from, follows, moves, reader_at, with_frame}
 
 pub first_knows : (me : Actor) (s : TableSchema) (start latest : ℕ) (f : Files) (p : Past) → Stands f p → Knows (finds me s (finders.Ready latest)) f p
     → 1 ≤ start → start ≤ latest → Knows (follows me (follow_from s start latest) (reader_at s start)) f p
@@ -45,3 +49,17 @@ module _ (laws : FrameLaws) (me : Actor) (x : Followed) (text : Vec ℕ Global) 
   pub last_knows : Knows (follows me x (followers.Ready (x.start + length x.frames) text)) f p
       → Knows (follows me (with_frame x text.items) followers.Over) f p
   last_knows known = (one_more known, tt)
+
+-- what was read is the frame, so a consumer that reads this snapshot next may be moved past it
+pub moves_knows : (m : Move) (x : Followed) (text : Vec ℕ Global) (f : Files) (p : Past) → Knows (follows m.me x (followers.Ready m.moving.next text)) f p
+    → HasOneLog x.schema → IsMoving m.moving → m.text ≡ text.items → Knows (moves m (new_mover m.moving)) f p
+moves_knows m x text f p (known, is) log moving same =
+    let schema = subst (IsTableOf x.schema) is.is_table known.table in (
+      moving,
+      (refl, refl, refl),
+      record {
+        table = (x.schema, known.table, subst (AllByRecursion IsPlain) (sym log.partition) tt);
+        within = is.known.to;
+        frame = same ∙ is.is_text (subst HasOneLog (sym schema) log) ∙ sym (ap (λ h. frame_in h m.moving.next) is.is_table);
+      },
+    )

@@ -5,12 +5,15 @@ ghost use Rattle.std.specs.Global.{Global};
 ghost use Rattle.std.specs.List.{AllByRecursion};
 ghost use Rattle.pm_actors.specs.World.{AllKnow, AreApart, IsWorld, KeepsActor, Knows, Leaves, MayBegin, MayFollow};
 ghost use Rattle.pm_actors.specs.World.{Followed, MayJoin, Worker, finds, follow_from, follows, reader_at, waits};
-ghost use Rattle.pm_actors.specs.World.{with_frame};
+ghost use Rattle.pm_actors.specs.World.{moves, with_frame};
 ghost use Rattle.pm_machine.specs.Moves.{Keeps, Lasts};
 ghost use Rattle.pm_model_folder.specs.Changes.{Actor};
 ghost use Rattle.pm_model_folder.specs.Folder.{Folder};
 ghost use Rattle.pm_model_folder.specs.Ledger.{Past, Stands};
 ghost use Rattle.pm_model_history.specs.History.{History};
+ghost use Rattle.pm_move_consumer.specs.Mover.{IsMoving, new_mover};
+ghost use Rattle.pm_move_consumer.specs.MoverMeaning.{Move};
+ghost use Rattle.pm_read_frame.specs.Meaning.{HasOneLog};
 ghost use Rattle.pm_read_frame.specs.declared.phase.Phase.TheVariants as followers;
 ghost use Rattle.pm_read_latest.specs.declared.phase.Phase.TheVariants as finders;
 ghost use Rattle.pm_schema.specs.declared.schema.TableSchema.{TableSchema};
@@ -79,7 +82,7 @@ pub fn world_law()
 /// A following makes no call where its next machine comes in the place of the one before: once the snapshots were
 /// listed the reader of its first frame, and once a frame was read that of the next one, up to the newest that was
 /// listed. Each knows what it has to, and that all that was read so far are frames from the start on, whatever others
-/// did meanwhile.
+/// did meanwhile. Once a frame was read the mover of a consumer that reads its snapshot next knows what it has to.
 pub fn follow_law()
     ensures first { (me : Actor) (s : TableSchema) (start latest : ℕ) (f : Files) (p : Past) → Stands f p
         → Knows (finds me s (finders.Ready latest)) f p → 1 ≤ start → start ≤ latest
@@ -91,6 +94,9 @@ pub fn follow_law()
     ensures last { (me : Actor) (x : Followed) (text : Vec ℕ Global) (f : Files) (p : Past) → Stands f p
         → Knows (follows me x (followers.Ready (x.start + length x.frames) text)) f p
         → Knows (follows me (with_frame x text.items) followers.Over) f p }
+    ensures moves { (m : Move) (x : Followed) (text : Vec ℕ Global) (f : Files) (p : Past)
+        → Knows (follows m.me x (followers.Ready m.moving.next text)) f p → HasOneLog x.schema → IsMoving m.moving
+        → m.text ≡ text.items → Knows (moves m (new_mover m.moving)) f p }
 {
     frames_law();
 }
