@@ -48,6 +48,7 @@ use Rattle.pm_expire.specs.declared.phase.Views.{Views}
 found_with : (a : Asking) (x : Found) (P Q : List Event → Type 0) (own : List Event) (event : Event) → HasFound a x P own
     → ((rest : List Event) → P rest → Q (rest ++ event ∷ [])) → HasFound a x Q (own ++ event ∷ [])
 found_with a x P Q own event has grows = record {
+  to_announce = has.to_announce;
   reads = has.reads;
   rest = has.rest ++ event ∷ [];
   found = has.found;
@@ -57,11 +58,19 @@ found_with a x P Q own event has grows = record {
 
 found_so : (a : Asking) (x : Found) (P Q : List Event → Type 0) (own : List Event) → HasFound a x P own → ((rest : List Event) → P rest → Q rest)
     → HasFound a x Q own
-found_so a x P Q own has so = record { reads = has.reads; rest = has.rest; found = has.found; then_rest = so has.rest has.then_rest; is = has.is }
+found_so a x P Q own has so = record {
+  to_announce = has.to_announce;
+  reads = has.reads;
+  rest = has.rest;
+  found = has.found;
+  then_rest = so has.rest has.then_rest;
+  is = has.is;
+}
 
 announced_with : (n : Announced) (P Q : List Event → Type 0) (own : List Event) (event : Event) → HasAnnounced n P own
     → ((rest : List Event) → P rest → Q (rest ++ event ∷ [])) → HasAnnounced n Q (own ++ event ∷ [])
 announced_with n P Q own event has grows = record {
+  some = has.some;
   announces = has.announces;
   rest = has.rest ++ event ∷ [];
   read = has.read;
@@ -72,7 +81,7 @@ announced_with n P Q own event has grows = record {
 announced_so : (n : Announced) (P Q : List Event → Type 0) (own : List Event) → HasAnnounced n P own → ((rest : List Event) → P rest → Q rest)
     → HasAnnounced n Q own
 announced_so n P Q own has so =
-    record { announces = has.announces; rest = has.rest; read = has.read; then_rest = so has.rest has.then_rest; is = has.is }
+    record { some = has.some; announces = has.announces; rest = has.rest; read = has.read; then_rest = so has.rest has.then_rest; is = has.is }
 
 views_with : (n : Announced) (id : ℕ) (d : DroppingView) (P Q : List Event → Type 0) (own : List Event) (event : Event) → HasViews n id d P own
     → ((rest : List Event) → P rest → Q (rest ++ event ∷ [])) → HasViews n id d Q (own ++ event ∷ [])
@@ -161,7 +170,7 @@ read_did a to new own (none_goes x at end is) did =
 read_did a to new own (some_goes x at goes within is) did =
     let found : reading_trace.HasFound a x own = subst (λ (m : read_phase.Phase). reading_trace.Did a m own) at did in
     let begun : HasFound a x (announcing_trace.Did x (announcers.Announce x)) own =
-    record { reads = own; rest = []; found = found; then_rest = (refl, refl); is = sym (append-nil own) } in
+    record { to_announce = goes; reads = own; rest = []; found = found; then_rest = (refl, refl); is = sym (append-nil own) } in
     subst (λ (m : Phase). Did a m own) (sym is) (x, begun)
 
 -- what was announced was found
@@ -170,7 +179,7 @@ announced_of : (a : Asking) (x : Found) (n : Announced) (own : List Event) → H
 announced_of a x n own has =
     let same : n.found ≡ x = has.then_rest.0 in
     subst (λ (y : Found). HasFound a y (announcing_trace.HasRead y n.end) own) (sym same)
-    (record { reads = has.reads; rest = has.rest; found = has.found; then_rest = has.then_rest.1; is = has.is })
+    (record { to_announce = has.to_announce; reads = has.reads; rest = has.rest; found = has.found; then_rest = has.then_rest.1; is = has.is })
 
 announce_did : (a : Asking) (x : Found) (to : announce_phase.Phase) (new : Phase) (own : List Event) → AfterAnnounce to new
     → HasFound a x (announcing_trace.Did x to) own → Did a new own
@@ -184,6 +193,7 @@ announce_did a x to new own (views_first n d at some less none is) has =
     let views : HasFound a n.found (HasAnnounced n (HasViews n n.found.first d (whole_trace.Did (asked_at n n.found.first) (view_at n.found.schema n.found.first)))) own =
     found_so a n.found (announcing_trace.HasRead n.found n.end) _ own read
     (λ rest read. record {
+      some = less;
       announces = rest;
       rest = [];
       read = read;

@@ -1,5 +1,5 @@
 -- An expirer's own calls, and what they show.
-use Rattle.std.specs.Prelude.{◌≡◌, ◌⊎◌, ℕ, ◌+◌, List, [], ◌∷◌, ◌++◌, length, Result, IfErr}
+use Rattle.std.specs.Prelude.{◌≡◌, ◌⊎◌, ℕ, ◌+◌, ◌<◌, List, [], ◌∷◌, ◌++◌, length, Result, IfErr}
 use Rattle.pm_values.specs.declared.refusal.Refusal.{Refusal}
 use Rattle.pm_values.specs.declared.refusal.Refusal.TheVariants as refusals
 use Rattle.pm_store.specs.Store.{StoreView}
@@ -13,6 +13,7 @@ use Rattle.pm_read_whole.specs.declared.phase.Phase as whole_phase
 use Rattle.pm_read_expiry.specs.Trace as reading
 use Rattle.pm_read_expiry.specs.declared.asking.Asking.{Asking}
 use Rattle.pm_read_expiry.specs.declared.asking.Found.{Found}
+use Rattle.pm_announce.specs.Announcer.{IsToAnnounce}
 use Rattle.pm_announce.specs.Trace as announcing
 use Rattle.pm_announce.specs.declared.phase.Announced.{Announced}
 use Rattle.pm_expire.specs.Expirer.{AreNone, AreRemovals}
@@ -23,16 +24,19 @@ use Rattle.pm_expire.specs.declared.phase.Views.{Views}
 
 -- ---- how far the calls have come, where this was asked
 
--- what an expiry needs was read, by the first calls, and of those after them this holds
+-- What an expiry needs was read, by the first calls, and by that a snapshot is to go. Of the calls after them this
+-- holds.
 pub record HasFound (a : Asking) (x : Found) (P : List Event → Type 0) (own : List Event) : Type 0 where
+  pub to_announce : IsToAnnounce x
   pub reads : List Event
   pub rest : List Event
   pub found : reading.HasFound a x reads
   pub then_rest : P rest
   pub is : own ≡ reads ++ rest
 
--- its end was announced, and the consumers read again
+-- its end was announced, the consumers read again, and a snapshot is to go still
 pub record HasAnnounced (n : Announced) (P : List Event → Type 0) (own : List Event) : Type 0 where
+  pub some : n.found.first < n.end
   pub announces : List Event
   pub rest : List Event
   pub read : announcing.HasRead n.found n.end announces
