@@ -1,4 +1,5 @@
 mod CallLemmas
+mod ChainLemmas
 pub mod Facts
 mod KnowsLemmas
 mod PhaseLemmas

@@ -1,3 +1,4 @@
+pub mod AllCalls
 pub mod Expirer
 pub mod Meaning
 pub mod Trace

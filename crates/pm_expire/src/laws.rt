@@ -1,11 +1,17 @@
 //! Laws of expirers. Each holds with no call but of the laws of crates below.
 
-ghost use Rattle.std.specs.Prelude.{◌≡◌, Some};
+ghost use Rattle.std.specs.Prelude.{◌≡◌, ℕ, ℤ, List, Some};
 ghost use Rattle.pm_machine.specs.Moves.{Sound};
 ghost use Rattle.pm_machine.specs.Running.{Refuses, Stops};
 ghost use Rattle.pm_machine.specs.Trace.{Recounts};
 ghost use Rattle.pm_model_folder.specs.Changes.{Actor};
+ghost use Rattle.pm_model_history.specs.History.{Entry, table};
+ghost use Rattle.pm_model_folder.specs.Folder.{Folder};
 ghost use Rattle.pm_model_folder.specs.Ledger.{Advances, Past, Stands};
+ghost use Rattle.pm_schema.specs.declared.schema.TableSchema.{TableSchema};
+ghost use Rattle.pm_snapshots.specs.AllCalls.{AreLinesOf};
+ghost use Rattle.pm_snapshots.specs.declared.line.SnapshotLine.{SnapshotLine};
+ghost use Rattle.pm_read_expiry.specs.Times.{times_of, IsChain};
 ghost use Rattle.pm_store.specs.declared.call.Call.{Call};
 ghost use Rattle.pm_store.specs.Files.{Files};
 ghost use Rattle.pm_store.specs.Images.{MayLeave};
@@ -66,3 +72,9 @@ pub fn images_law()
 {
     sound_law();
 }
+
+/// Of a folder that stands no snapshot lacks between two others: all that are there count for the end of an expiry.
+pub fn chain_law()
+    ensures { (f : Files) (s : TableSchema) (entries : List Entry) (lines : List SnapshotLine) (chain : List (ℕ × ℤ))
+        → Folder f (table s entries) → AreLinesOf f lines → IsChain (times_of lines) chain → chain ≡ times_of lines }
+{}

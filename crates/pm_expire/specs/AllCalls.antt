@@ -1,0 +1,98 @@
+-- What an expiry of a folder's files is where nobody else acts: its end, what goes with it, and what each image is.
+use Rattle.std.specs.Prelude.{◌≡◌, ◌↔◌, ℕ, ◌<◌, ◌≤◌, List, [], ◌∷◌, Contains, Option, None, Some, IsSome}
+use Rattle.std.specs.Cmp.Lexicographic.{slice_cmp}
+use Rattle.std.specs.FinMap as map
+use Rattle.std.specs.List.Sorted.{IsStrictlyIncreasing, IsStrictlySortedBy}
+use Rattle.std.specs.Ordering.{nat_cmp}
+use Rattle.pm_store.specs.Files.{Files, Puts, carried}
+use Rattle.pm_store.specs.declared.call.Call.TheVariants as calls
+use Rattle.pm_remove.specs.Meaning.{HasLost}
+use Rattle.pm_schema.specs.declared.schema.TableSchema.{TableSchema}
+use Rattle.pm_consumer_files.specs.declared.lines.NamedConsumer.{NamedConsumer}
+use Rattle.pm_model_folder.specs.Changes.{IsSnapshotPath}
+use Rattle.pm_model_folder.specs.Commits.{Names}
+use Rattle.pm_model_folder.specs.Meaning.{HasSnapshotAt}
+use Rattle.pm_model_folder.specs.Paths.{floor_path}
+use Rattle.pm_model_expiry.specs.Removals.{Expiry, removals}
+use Rattle.pm_expire_end.specs.Expiry.{expire_end_of}
+use Rattle.pm_snapshots.specs.AllCalls.{AreLinesOf}
+use Rattle.pm_snapshots.specs.declared.line.SnapshotLine.{SnapshotLine}
+use Rattle.pm_consumers.specs.AllCalls.{AreConsumersOf}
+use Rattle.pm_read_expiry.specs.Times.{times_of, IsLeastNext}
+use Rattle.pm_read_expiry.specs.declared.asking.Asking.{Asking}
+
+-- ---- its end
+
+-- the end of an expiry of these files: that of all their snapshots and consumers
+pub record IsEndIn (a : Asking) (f : Files) (end : ℕ) : Type 0 where
+  pub lines : List SnapshotLine
+  pub are_lines : AreLinesOf f lines
+  pub consumers : List NamedConsumer
+  pub are_consumers : AreConsumersOf f consumers
+  pub next : Option ℕ
+  pub is_next : IsLeastNext consumers next
+  pub is : end ≡ expire_end_of (times_of lines) a.keep a.now next
+
+-- the least snapshot after the origin
+pub record IsFirst (f : Files) (s : TableSchema) (first : ℕ) : Type 0 where
+  pub after_origin : 1 ≤ first
+  pub there : HasSnapshotAt f s first
+  pub none : (id : ℕ) → 1 ≤ id → id < first → HasSnapshotAt f s id → ⊥
+
+-- some of the files' snapshots go: those from the first up to below the end
+pub record HasToGo (a : Asking) (f : Files) (first end : ℕ) : Type 0 where
+  pub is_end : IsEndIn a f end
+  pub is_first : IsFirst f a.schema first
+  pub some : first < end
+
+-- ---- what goes
+
+-- What goes with the snapshots below the end, the origin counted as 0: these themselves, what they name and the one at
+-- the end doesn't, and the floors below that of the end.
+pub data IsGivenBack (s : TableSchema) (f : Files) (end : ℕ) (path : List ℕ) : Type 0 where
+  its_snapshot : (id : ℕ) → id < end → IsSnapshotPath s id path → IsGivenBack s f end path
+  its_file : (id : ℕ) → 1 ≤ id → id < end → Names f s id path → (Names f s end path → ⊥) → IsGivenBack s f end path
+  its_floor : (n : ℕ) → n < end → path ≡ floor_path n → IsGivenBack s f end path
+
+-- the files with the floor of the end
+abbrev pub announced : Files → ℕ → Files
+announced f end = carried (calls.Create (floor_path end) []) f
+
+-- Lost exactly: nothing of what goes is there, and each other path is as it was, but for the floor, which is there.
+pub record HasGivenBack (s : TableSchema) (f : Files) (end : ℕ) (after : Files) : Type 0 where
+  pub gone : (path : List ℕ) → IsGivenBack s f end path → map.get after path ≡ None
+  pub others : (path : List ℕ) → (IsGivenBack s f end path → ⊥) → map.get after path ≡ map.get (announced f end) path
+
+-- the removes of an expiry of these files, in their order: there is one such list
+pub record AreRemovalsOf (s : TableSchema) (f : Files) (first end : ℕ) (paths : List (List ℕ)) : Type 0 where
+  pub dropped : List (List ℕ)
+  pub rising : IsStrictlySortedBy (slice_cmp nat_cmp) dropped
+  pub named : (path : List ℕ) → Contains dropped path
+      ↔ ((id : ℕ) × (first ≤ id) × (id < end) × Names f s id path × (Names f s end path → ⊥))
+  pub floors : List ℕ
+  pub rise : IsStrictlyIncreasing floors
+  pub listed : (n : ℕ) → Contains floors n ↔ ((n < end) × IsSome (map.get f (floor_path n)))
+  pub is : paths ≡ removals (record { schema = s; first = first; end = end; own = end }) dropped floors
+
+-- ---- what it leaves
+
+-- no path has another content
+abbrev pub HaveSame : Files → Files → Type 0
+HaveSame f g = (path : List ℕ) → map.get g path ≡ map.get f path
+
+-- each image of a crash: as before; with the floor, in part or whole; or without the first so many of the removes
+pub data IsImageOf (a : Asking) (f g : Files) : Type 0 where
+  as_before : HaveSame f g → IsImageOf a f g
+  announcing : (first end : ℕ) (found : List ℕ) → HasToGo a f first end → map.get f (floor_path end) ≡ None
+      → Puts f (floor_path end) (Some found) g → IsImageOf a f g
+  removing : (first end : ℕ) (paths : List (List ℕ)) → HasToGo a f first end → AreRemovalsOf a.schema f first end paths
+      → HasLost (announced f end) paths g → IsImageOf a f g
+
+-- What became of the files, whose newest snapshot has this id, by the two numbers that are printed. None is there but
+-- the origin, and no path changes; or all stay, and no path changes; or some go, and the others stay.
+pub data Becomes (a : Asking) (newest : ℕ) (f g : Files) (first last : ℕ) : Type 0 where
+  none_there : newest ≡ 0 → first ≡ 0 → last ≡ 0 → HaveSame f g → Becomes a newest f g first last
+  all_stay : IsEndIn a f first → IsFirst f a.schema first → last ≡ newest → HaveSame f g
+      → Becomes a newest f g first last
+  some_go : (least : ℕ) → HasToGo a f least first → last ≡ newest → HasGivenBack a.schema f first g
+      → Becomes a newest f g first last
