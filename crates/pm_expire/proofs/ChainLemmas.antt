@@ -19,14 +19,14 @@ use Rattle.pm_read_expiry.specs.Times.{times_of, IsChain}
 abbrev ids_in : List (ℕ × ℤ) → List ℕ
 ids_in times = map (λ (t : ℕ × ℤ). t.0) times
 
-abbrev ids_of : List SnapshotLine → List ℕ
+abbrev pub ids_of : List SnapshotLine → List ℕ
 ids_of lines = map (λ (l : SnapshotLine). l.id) lines
 
 same_ids : (lines : List SnapshotLine) → ids_of lines ≡ ids_in (times_of lines)
 same_ids [] = refl
 same_ids (l ∷ lines) = ap (λ (ids : List ℕ). l.id ∷ ids) (same_ids lines)
 
-above_head : (x : ℕ) (xs : List ℕ) → IsStrictlyIncreasing (x ∷ xs) → (y : ℕ) → Contains xs y → x < y
+pub above_head : (x : ℕ) (xs : List ℕ) → IsStrictlyIncreasing (x ∷ xs) → (y : ℕ) → Contains xs y → x < y
 above_head x xs rises y c =
     let below = c.1 in
     subst (λ (z : ℕ). x < z) c.2 (AllPairs-from_increasing (x ∷ xs) rises 0 (suc c.0) y (omega arith) (omega (arith, below)))
@@ -35,7 +35,7 @@ above_head x xs rises y c =
 abbrev IsDense : List ℕ → Type 0
 IsDense ids = (low high : ℕ) → Contains ids low → Contains ids high → low < high → Contains ids (low + 1)
 
-rising_tail : (x : ℕ) (xs : List ℕ) → IsStrictlyIncreasing (x ∷ xs) → IsStrictlyIncreasing xs
+pub rising_tail : (x : ℕ) (xs : List ℕ) → IsStrictlyIncreasing (x ∷ xs) → IsStrictlyIncreasing xs
 rising_tail x xs rises = λ k within.
     let more : suc k + 1 ≡ suc (k + 1) = omega arith in
     subst (λ (n : ℕ). slice_index xs k < slice_index (x ∷ xs) n) more (rises (suc k) (omega (arith, within)))

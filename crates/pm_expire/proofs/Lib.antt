@@ -2,5 +2,6 @@ mod CallLemmas
 mod ChainLemmas
 pub mod Facts
 mod KnowsLemmas
+mod OneEndLemmas
 mod PhaseLemmas
 mod TraceLemmas

@@ -16,6 +16,7 @@ ghost use Rattle.pm_store.specs.declared.call.Call.{Call};
 ghost use Rattle.pm_store.specs.Files.{Files};
 ghost use Rattle.pm_store.specs.Images.{MayLeave};
 ghost use Rattle.pm_read_expiry.specs.declared.asking.Asking.{Asking};
+ghost use Rattle.pm_expire.specs.AllCalls.{IsEndIn};
 ghost use Rattle.pm_expire.specs.Expirer.{next_call, Goes, Shown};
 ghost use Rattle.pm_expire.specs.Meaning.{Knows, KnowsBeside, Makes, MakesBeside, StandsBeside};
 ghost use Rattle.pm_expire.specs.Trace.{Did, Shows};
@@ -77,4 +78,9 @@ pub fn images_law()
 pub fn chain_law()
     ensures { (f : Files) (s : TableSchema) (entries : List Entry) (lines : List SnapshotLine) (chain : List (ℕ × ℤ))
         → Folder f (table s entries) → AreLinesOf f lines → IsChain (times_of lines) chain → chain ≡ times_of lines }
+{}
+
+/// The end of an expiry follows from what is asked and from the files: there is one at most.
+pub fn one_end_law()
+    ensures { (a : Asking) (f : Files) (end other : ℕ) → IsEndIn a f end → IsEndIn a f other → end ≡ other }
 {}
