@@ -49,7 +49,7 @@ all_still files reads own is = subst AreStill (sym is) (list_still consumer_fold
 read_calls : (r : ReadingView) (own : List Event) → HasRead r own → AreStill own
 read_calls r own (files, reads, are, names, all, lines, is) = all_still files reads own is
 
-listed_calls : (consumers : List NamedConsumer) (own : List Event) → HasListed consumers own → AreStill own
+pub listed_calls : (consumers : List NamedConsumer) (own : List Event) → HasListed consumers own → AreStill own
 listed_calls consumers own (files, reads, are, all, lines, is) = all_still files reads own is
 
 meets_calls : (r : ReadingView) (name : List ℕ) (found : Option (List ℕ)) (own : List Event) → Meets r name found own → AreStill own
@@ -117,7 +117,7 @@ all_named f (r ∷ reads) (says, all) (is, told) there =
     (all_named f reads all told (λ name c. there name (more r.name (names_of reads) name c)))
 
 module _ (f : Files) (h : History) (folder : Folder f h) where
-  listed_at : (consumers : List NamedConsumer) (own : List Event) → HasListed consumers own → AreTold f own → AreConsumersOf f consumers
+  pub listed_at : (consumers : List NamedConsumer) (own : List Event) → HasListed consumers own → AreTold f own → AreConsumersOf f consumers
   listed_at consumers own (files, reads, are, all, lines, is) told =
       let parts = subst (AreTold f) is told in
       let at = reads_at f reads parts.1 in

@@ -1,4 +1,4 @@
-mod AllCallsLemmas
+pub mod AllCallsLemmas
 mod BesideLemmas
 pub mod Facts
 mod NameLemmas

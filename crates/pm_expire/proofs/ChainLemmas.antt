@@ -16,13 +16,13 @@ use Rattle.pm_snapshots.specs.AllCalls.{AreIdsOf, AreLinesOf}
 use Rattle.pm_snapshots.specs.declared.line.SnapshotLine.{SnapshotLine}
 use Rattle.pm_read_expiry.specs.Times.{times_of, IsChain}
 
-abbrev ids_in : List (ℕ × ℤ) → List ℕ
+abbrev pub ids_in : List (ℕ × ℤ) → List ℕ
 ids_in times = map (λ (t : ℕ × ℤ). t.0) times
 
 abbrev pub ids_of : List SnapshotLine → List ℕ
 ids_of lines = map (λ (l : SnapshotLine). l.id) lines
 
-same_ids : (lines : List SnapshotLine) → ids_of lines ≡ ids_in (times_of lines)
+pub same_ids : (lines : List SnapshotLine) → ids_of lines ≡ ids_in (times_of lines)
 same_ids [] = refl
 same_ids (l ∷ lines) = ap (λ (ids : List ℕ). l.id ∷ ids) (same_ids lines)
 

@@ -1,6 +1,7 @@
 mod CallLemmas
 mod ChainLemmas
 pub mod Facts
+mod FoundLemmas
 mod KnowsLemmas
 mod OneEndLemmas
 mod PhaseLemmas

@@ -4,22 +4,28 @@ use Rattle.std.specs.Cmp.Lexicographic.{slice_cmp}
 use Rattle.std.specs.FinMap as map
 use Rattle.std.specs.List.Sorted.{IsStrictlyIncreasing, IsStrictlySortedBy}
 use Rattle.std.specs.Ordering.{nat_cmp}
-use Rattle.pm_store.specs.Files.{Files, Puts, carried}
+use Rattle.pm_store.specs.Files.{Files, IsListing, Puts, carried}
+use Rattle.pm_store.specs.Store.{StoreView}
 use Rattle.pm_store.specs.declared.call.Call.TheVariants as calls
 use Rattle.pm_remove.specs.Meaning.{HasLost}
 use Rattle.pm_schema.specs.declared.schema.TableSchema.{TableSchema}
 use Rattle.pm_consumer_files.specs.declared.lines.NamedConsumer.{NamedConsumer}
 use Rattle.pm_model_folder.specs.Changes.{IsSnapshotPath}
 use Rattle.pm_model_folder.specs.Commits.{Names}
+use Rattle.pm_model_folder.specs.Ledger.{count_of}
 use Rattle.pm_model_folder.specs.Meaning.{HasSnapshotAt}
-use Rattle.pm_model_folder.specs.Paths.{floor_path}
+use Rattle.pm_model_folder.specs.Paths.{floor_folder, floor_path}
+use Rattle.pm_model_history.specs.History.{History, IsTableOf}
 use Rattle.pm_model_expiry.specs.Removals.{Expiry, removals}
 use Rattle.pm_expire_end.specs.Expiry.{expire_end_of}
+use Rattle.pm_read_schema.specs.AllCalls.{Stay}
 use Rattle.pm_snapshots.specs.AllCalls.{AreLinesOf}
 use Rattle.pm_snapshots.specs.declared.line.SnapshotLine.{SnapshotLine}
 use Rattle.pm_consumers.specs.AllCalls.{AreConsumersOf}
+use Rattle.pm_read_expiry.specs.Found.{IsNoneFound}
 use Rattle.pm_read_expiry.specs.Times.{times_of, IsLeastNext}
 use Rattle.pm_read_expiry.specs.declared.asking.Asking.{Asking}
+use Rattle.pm_read_expiry.specs.declared.asking.Found.{Found}
 
 -- ---- its end
 
@@ -96,3 +102,17 @@ pub data Becomes (a : Asking) (newest : ℕ) (f g : Files) (first last : ℕ) : 
       → Becomes a newest f g first last
   some_go : (least : ℕ) → HasToGo a f least first → last ≡ newest → HasGivenBack a.schema f first g
       → Becomes a newest f g first last
+
+-- What was found is so of these files, which stand for this history: none is there but the origin; or the end is that of the files, the first their least after the origin and the last
+-- their newest.
+pub data FindsIn (a : Asking) (f : Files) (h : History) (x : Found) : Type 0 where
+  none_found : count_of h ≡ 0 → IsNoneFound a x → FindsIn a f h x
+  all_found : IsEndIn a f x.end → IsFirst f a.schema x.first → x.last ≡ count_of h → x.schema ≡ a.schema
+      → IsListing floor_folder x.floors.items f → FindsIn a f h x
+
+-- And so it is where nobody else acted since the first call, at which these files were there: they stay, and the table
+-- has the schema that was asked for.
+pub record FindsAlone (a : Asking) (f : Files) (h : History) (x : Found) (first after : StoreView) : Type 0 where
+  pub files : Stay f first after
+  pub table : IsTableOf a.schema h
+  pub finds : FindsIn a f h x

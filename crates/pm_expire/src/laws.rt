@@ -3,20 +3,24 @@
 ghost use Rattle.std.specs.Prelude.{◌≡◌, ℕ, ℤ, List, Some};
 ghost use Rattle.pm_machine.specs.Moves.{Sound};
 ghost use Rattle.pm_machine.specs.Running.{Refuses, Stops};
-ghost use Rattle.pm_machine.specs.Trace.{Recounts};
+ghost use Rattle.pm_machine.specs.Trace.{Event, Recounts, Traces};
 ghost use Rattle.pm_model_folder.specs.Changes.{Actor};
-ghost use Rattle.pm_model_history.specs.History.{Entry, table};
+ghost use Rattle.pm_model_history.specs.History.{Entry, History, table};
 ghost use Rattle.pm_model_folder.specs.Folder.{Folder};
 ghost use Rattle.pm_model_folder.specs.Ledger.{Advances, Past, Stands};
 ghost use Rattle.pm_schema.specs.declared.schema.TableSchema.{TableSchema};
 ghost use Rattle.pm_snapshots.specs.AllCalls.{AreLinesOf};
 ghost use Rattle.pm_snapshots.specs.declared.line.SnapshotLine.{SnapshotLine};
+ghost use Rattle.pm_read_expiry.specs.declared.asking.Found.{Found};
+ghost use Rattle.pm_read_expiry.specs.Trace.{HasFound};
 ghost use Rattle.pm_read_expiry.specs.Times.{times_of, IsChain};
 ghost use Rattle.pm_store.specs.declared.call.Call.{Call};
 ghost use Rattle.pm_store.specs.Files.{Files};
 ghost use Rattle.pm_store.specs.Images.{MayLeave};
+ghost use Rattle.pm_store.specs.Store.{StoreView, IsAlone};
+ghost use Rattle.pm_read_schema.specs.AllCalls.{HasFiles};
 ghost use Rattle.pm_read_expiry.specs.declared.asking.Asking.{Asking};
-ghost use Rattle.pm_expire.specs.AllCalls.{IsEndIn};
+ghost use Rattle.pm_expire.specs.AllCalls.{FindsAlone, IsEndIn};
 ghost use Rattle.pm_expire.specs.Expirer.{next_call, Goes, Shown};
 ghost use Rattle.pm_expire.specs.Meaning.{Knows, KnowsBeside, Makes, MakesBeside, StandsBeside};
 ghost use Rattle.pm_expire.specs.Trace.{Did, Shows};
@@ -83,4 +87,12 @@ pub fn chain_law()
 /// The end of an expiry follows from what is asked and from the files: there is one at most.
 pub fn one_end_law()
     ensures { (a : Asking) (f : Files) (end other : ℕ) → IsEndIn a f end → IsEndIn a f other → end ≡ other }
+{}
+
+/// What a reader of what an expiry needs found, where nobody else acts, is what the files have: their end, the least of
+/// their snapshots and the newest.
+pub fn found_law()
+    ensures { (a : Asking) (x : Found) (own : List Event) (first after : StoreView) (f : Files) (h : History)
+        → HasFound a x own → Traces own first after → IsAlone first after → HasFiles f first → Folder f h
+        → FindsAlone a f h x first after }
 {}

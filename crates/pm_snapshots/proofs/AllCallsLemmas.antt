@@ -41,7 +41,7 @@ use Rattle.pm_snapshots.proofs.ReadingLemmas.{next_listed}
 
 -- ---- its calls change nothing
 
-still_append : (own more : List Event) → AreStill own → AreStill more → AreStill (own ++ more)
+pub still_append : (own more : List Event) → AreStill own → AreStill more → AreStill (own ++ more)
 still_append [] more first then = then
 still_append (event ∷ own) more (one, first) then = (one, still_append own more first then)
 
@@ -56,11 +56,11 @@ lists_calls : (s : TableSchema) (names : Names) (own : List Event) → Lists s n
 lists_calls s names own (earlier, has, is) =
     subst AreStill (sym is) (calls_more earlier (listed_snapshots names) (reader.ready_calls s earlier has) (list_still snapshot_folder))
 
-read_calls : (r : ReadingView) (own : List Event) → HasRead r own → AreStill own
+pub read_calls : (r : ReadingView) (own : List Event) → HasRead r own → AreStill own
 read_calls r own (names, earlier, reads, are, reading, lists, all, is) =
     subst AreStill (sym is) (still_append earlier reads (lists_calls r.schema names earlier lists) (reads_still r.lines reads all))
 
-listed_calls : (s : TableSchema) (lines : List SnapshotLine) (own : List Event) → HasListed s lines own → AreStill own
+pub listed_calls : (s : TableSchema) (lines : List SnapshotLine) (own : List Event) → HasListed s lines own → AreStill own
 listed_calls s lines own (names, earlier, reads, are, lists, all, is) =
     subst AreStill (sym is) (still_append earlier reads (lists_calls s names earlier lists) (reads_still lines reads all))
 
@@ -88,7 +88,7 @@ shows_calls refusal own (inr shows) = own_calls refusal own shows
 
 -- ---- what they say of the files that each answer is of
 
-told_append : (f : Files) (own more : List Event) → AreTold f (own ++ more) → AreTold f own × AreTold f more
+pub told_append : (f : Files) (own more : List Event) → AreTold f (own ++ more) → AreTold f own × AreTold f more
 told_append f [] more told = (tt, told)
 told_append f (event ∷ own) more (one, told) =
     let rest = told_append f own more told in
@@ -126,7 +126,7 @@ module _ (f : Files) (h : History) (folder : Folder f h) where
     exact = λ id. ids_there f h names ids id folder are listing;
   }
 
-  listed_at : (s : TableSchema) (lines : List SnapshotLine) (own : List Event) → HasListed s lines own → AreTold f own
+  pub listed_at : (s : TableSchema) (lines : List SnapshotLine) (own : List Event) → HasListed s lines own → AreTold f own
       → IsTableOf s h × AreLinesOf f lines
   listed_at s lines own (names, earlier, reads, are, (before, has, listed), all, is) told =
       let parts = told_append f earlier reads (subst (AreTold f) is told) in
