@@ -120,13 +120,13 @@ join : (P : Event → Type 0) (own more : List Event) → EachIs P own → EachI
 join P [] more all then = then
 join P (event ∷ own) more (one, all) then = (one, join P own more all then)
 
-split : (P : Event → Type 0) (own more : List Event) → EachIs P (own ++ more) → EachIs P own × EachIs P more
+pub split : (P : Event → Type 0) (own more : List Event) → EachIs P (own ++ more) → EachIs P own × EachIs P more
 split P [] more all = (tt, all)
 split P (event ∷ own) more (one, all) =
     let rest = split P own more all in
     ((one, rest.0), rest.1)
 
-found_still : (a : Asking) (x : Found) (own : List Event) → HasFound a x own → AreStill own
+pub found_still : (a : Asking) (x : Found) (own : List Event) → HasFound a x own → AreStill own
 found_still a x own (none_listed none ids) = snapshots_calls.read_calls (reading_of a.schema [] []) own ids
 found_still a x own (all_read floors next r lines done is) =
     let t = lines.read in

@@ -2,6 +2,7 @@ mod CallLemmas
 mod ChainLemmas
 pub mod Facts
 mod FoundLemmas
+mod KeptLemmas
 mod KnowsLemmas
 mod OneEndLemmas
 mod PhaseLemmas

@@ -122,7 +122,7 @@ one_consumer f name other c d same (bytes, at, reads) (bytes2, at2, reads2) =
 abbrev HasNext : List NamedConsumer → ℕ → Type 0
 HasNext cs next = (c : NamedConsumer) × Contains cs c × (c.consumer.next ≡ next)
 
-has_next : (f : Files) (cs ds : List NamedConsumer) → AreConsumersOf f cs → AreConsumersOf f ds → (c : NamedConsumer) → Contains cs c
+pub has_next : (f : Files) (cs ds : List NamedConsumer) → AreConsumersOf f cs → AreConsumersOf f ds → (c : NamedConsumer) → Contains cs c
     → HasNext ds c.consumer.next
 has_next f cs ds are were c has =
     let name_of : NamedConsumer → List ℕ = λ c. c.name in

@@ -116,3 +116,9 @@ pub record FindsAlone (a : Asking) (f : Files) (h : History) (x : Found) (first 
   pub files : Stay f first after
   pub table : IsTableOf a.schema h
   pub finds : FindsIn a f h x
+
+-- where no snapshot is to go: the files stay, in each image too, and the two numbers that are printed say so
+pub record KeepsAll (a : Asking) (f : Files) (h : History) (first last : ℕ) (before after : StoreView) : Type 0 where
+  pub files : Stay f before after
+  pub table : IsTableOf a.schema h
+  pub becomes : Becomes a (count_of h) f f first last

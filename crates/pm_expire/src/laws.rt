@@ -1,6 +1,6 @@
 //! Laws of expirers. Each holds with no call but of the laws of crates below.
 
-ghost use Rattle.std.specs.Prelude.{◌≡◌, ℕ, ℤ, List, Some};
+ghost use Rattle.std.specs.Prelude.{◌≡◌, ℕ, ◌≤◌, ℤ, List, Option, Some};
 ghost use Rattle.pm_machine.specs.Moves.{Sound};
 ghost use Rattle.pm_machine.specs.Running.{Refuses, Stops};
 ghost use Rattle.pm_machine.specs.Trace.{Event, Recounts, Traces};
@@ -9,18 +9,21 @@ ghost use Rattle.pm_model_history.specs.History.{Entry, History, table};
 ghost use Rattle.pm_model_folder.specs.Folder.{Folder};
 ghost use Rattle.pm_model_folder.specs.Ledger.{Advances, Past, Stands};
 ghost use Rattle.pm_schema.specs.declared.schema.TableSchema.{TableSchema};
+ghost use Rattle.pm_consumer_files.specs.declared.lines.NamedConsumer.{NamedConsumer};
+ghost use Rattle.pm_consumers.specs.AllCalls.{AreConsumersOf};
+ghost use Rattle.pm_announce.specs.Announcer.{end_after};
 ghost use Rattle.pm_snapshots.specs.AllCalls.{AreLinesOf};
 ghost use Rattle.pm_snapshots.specs.declared.line.SnapshotLine.{SnapshotLine};
 ghost use Rattle.pm_read_expiry.specs.declared.asking.Found.{Found};
 ghost use Rattle.pm_read_expiry.specs.Trace.{HasFound};
-ghost use Rattle.pm_read_expiry.specs.Times.{times_of, IsChain};
+ghost use Rattle.pm_read_expiry.specs.Times.{times_of, IsChain, IsLeastNext};
 ghost use Rattle.pm_store.specs.declared.call.Call.{Call};
 ghost use Rattle.pm_store.specs.Files.{Files};
 ghost use Rattle.pm_store.specs.Images.{MayLeave};
 ghost use Rattle.pm_store.specs.Store.{StoreView, IsAlone};
 ghost use Rattle.pm_read_schema.specs.AllCalls.{HasFiles};
 ghost use Rattle.pm_read_expiry.specs.declared.asking.Asking.{Asking};
-ghost use Rattle.pm_expire.specs.AllCalls.{FindsAlone, IsEndIn};
+ghost use Rattle.pm_expire.specs.AllCalls.{FindsAlone, IsEndIn, KeepsAll};
 ghost use Rattle.pm_expire.specs.Expirer.{next_call, Goes, Shown};
 ghost use Rattle.pm_expire.specs.Meaning.{Knows, KnowsBeside, Makes, MakesBeside, StandsBeside};
 ghost use Rattle.pm_expire.specs.Trace.{Did, Shows};
@@ -96,3 +99,20 @@ pub fn found_law()
         → HasFound a x own → Traces own first after → IsAlone first after → HasFiles f first → Folder f h
         → FindsAlone a f h x first after }
 {}
+
+/// Where the end that was found is the first snapshot, an expiry that is alone changes no path, in no image either.
+pub fn kept_law()
+    ensures { (a : Asking) (x : Found) (first last : ℕ) (own : List Event) (before after : StoreView) (f : Files)
+        (h : History) → x.end ≡ x.first → first ≡ x.end → last ≡ x.last → HasFound a x own → Traces own before after
+        → IsAlone before after → HasFiles f before → Folder f h → KeepsAll a f h first last before after }
+{}
+
+/// Where at least one snapshot is kept, consumers that are as they were lower no end that was found.
+pub fn again_law()
+    ensures { (a : Asking) (x : Found) (own : List Event) (before after : StoreView) (f : Files) (h : History)
+        (consumers : List NamedConsumer) (next : Option ℕ) → 1 ≤ a.keep.min → HasFound a x own
+        → Traces own before after → IsAlone before after → HasFiles f before → Folder f h
+        → AreConsumersOf f consumers → IsLeastNext consumers next → end_after x next ≡ x.end }
+{
+    pm_expire_end::end_law();
+}
