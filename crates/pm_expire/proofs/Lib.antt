@@ -1,3 +1,4 @@
+mod AnnouncedLemmas
 mod CallLemmas
 mod ChainLemmas
 pub mod Facts

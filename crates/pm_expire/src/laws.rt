@@ -1,6 +1,8 @@
 //! Laws of expirers. Each holds with no call but of the laws of crates below.
 
-ghost use Rattle.std.specs.Prelude.{◌≡◌, ℕ, ◌≤◌, ℤ, List, Option, Some};
+ghost use Rattle.std.specs.Prelude.{◌≡◌, ◌≢◌, ℕ, ◌≤◌, ℤ, List, Option, Some, IsSome};
+ghost use Rattle.std.specs.FinMap as finite;
+ghost use Rattle.pm_model_folder.specs.Paths.{floor_path};
 ghost use Rattle.pm_machine.specs.Moves.{Sound};
 ghost use Rattle.pm_machine.specs.Running.{Refuses, Stops};
 ghost use Rattle.pm_machine.specs.Trace.{Event, Recounts, Traces};
@@ -23,7 +25,7 @@ ghost use Rattle.pm_store.specs.Images.{MayLeave};
 ghost use Rattle.pm_store.specs.Store.{StoreView, IsAlone};
 ghost use Rattle.pm_read_schema.specs.AllCalls.{HasFiles};
 ghost use Rattle.pm_read_expiry.specs.declared.asking.Asking.{Asking};
-ghost use Rattle.pm_expire.specs.AllCalls.{FindsAlone, IsEndIn, KeepsAll};
+ghost use Rattle.pm_expire.specs.AllCalls.{announced, FindsAlone, IsEndIn, KeepsAll};
 ghost use Rattle.pm_expire.specs.Expirer.{next_call, Goes, Shown};
 ghost use Rattle.pm_expire.specs.Meaning.{Knows, KnowsBeside, Makes, MakesBeside, StandsBeside};
 ghost use Rattle.pm_expire.specs.Trace.{Did, Shows};
@@ -116,3 +118,14 @@ pub fn again_law()
 {
     pm_expire_end::end_law();
 }
+
+/// Where the floor of an end is created, whether or not it was there, it is there and no other path changes; and an end
+/// of the files with it is one of those without it.
+pub fn announced_law()
+    ensures others { (f : Files) (end : ℕ) (path : List ℕ) → path ≢ floor_path end
+        → finite.get (announced f end) path ≡ finite.get f path }
+    ensures there { (f : Files) (end : ℕ) → IsSome (finite.get (announced f end) (floor_path end)) }
+    ensures consumers { (f : Files) (end : ℕ) (consumers : List NamedConsumer) → AreConsumersOf (announced f end) consumers
+        → AreConsumersOf f consumers }
+    ensures end { (a : Asking) (f : Files) (floor end : ℕ) → IsEndIn a (announced f floor) end → IsEndIn a f end }
+{}

@@ -21,5 +21,6 @@ mod phase;
 mod views;
 
 pub use expirer::{ExpireStep, Expirer, expirer_of, step_expirer};
-pub use laws::{again_law, chain_law, found_law, images_law, kept_law, known_law, one_end_law, recounts_law, sound_law};
+pub use laws::{again_law, announced_law, chain_law, found_law, images_law, kept_law, known_law};
+pub use laws::{one_end_law, recounts_law, sound_law};
 pub use phase::{Phase, Views};
