@@ -1,5 +1,5 @@
 -- What an expiry of a folder's files is where nobody else acts: its end, what goes with it, and what each image is.
-use Rattle.std.specs.Prelude.{◌≡◌, ◌↔◌, ℕ, ◌<◌, ◌≤◌, List, [], ◌∷◌, Contains, Option, None, Some, IsSome}
+use Rattle.std.specs.Prelude.{◌≡◌, ◌↔◌, ℕ, ◌<◌, ◌≤◌, List, [], Contains, Option, None, Some, IsSome}
 use Rattle.std.specs.Cmp.Lexicographic.{slice_cmp}
 use Rattle.std.specs.FinMap as map
 use Rattle.std.specs.List.Sorted.{IsStrictlyIncreasing, IsStrictlySortedBy}
@@ -16,7 +16,7 @@ use Rattle.pm_model_folder.specs.Ledger.{count_of}
 use Rattle.pm_model_folder.specs.Meaning.{HasSnapshotAt}
 use Rattle.pm_model_folder.specs.Paths.{floor_folder, floor_path}
 use Rattle.pm_model_history.specs.History.{History, IsTableOf}
-use Rattle.pm_model_expiry.specs.Removals.{Expiry, removals}
+use Rattle.pm_model_expiry.specs.Removals.{removals}
 use Rattle.pm_expire_end.specs.Expiry.{expire_end_of}
 use Rattle.pm_read_schema.specs.AllCalls.{Stay}
 use Rattle.pm_snapshots.specs.AllCalls.{AreLinesOf}
