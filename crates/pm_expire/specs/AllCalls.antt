@@ -103,8 +103,8 @@ pub data Becomes (a : Asking) (newest : ℕ) (f g : Files) (first last : ℕ) : 
   some_go : (least : ℕ) → HasToGo a f least first → last ≡ newest → HasGivenBack a.schema f first g
       → Becomes a newest f g first last
 
--- What was found is so of these files, which stand for this history: none is there but the origin; or the end is that of the files, the first their least after the origin and the last
--- their newest.
+-- What was found is so of these files, which stand for this history: no snapshot is there but the origin; or the end is
+-- that of the files, the first their least snapshot after the origin, and the last their newest.
 pub data FindsIn (a : Asking) (f : Files) (h : History) (x : Found) : Type 0 where
   none_found : count_of h ≡ 0 → IsNoneFound a x → FindsIn a f h x
   all_found : IsEndIn a f x.end → IsFirst f a.schema x.first → x.last ≡ count_of h → x.schema ≡ a.schema

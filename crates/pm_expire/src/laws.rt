@@ -125,7 +125,7 @@ pub fn announced_law()
     ensures others { (f : Files) (end : ℕ) (path : List ℕ) → path ≢ floor_path end
         → finite.get (announced f end) path ≡ finite.get f path }
     ensures there { (f : Files) (end : ℕ) → IsSome (finite.get (announced f end) (floor_path end)) }
-    ensures consumers { (f : Files) (end : ℕ) (consumers : List NamedConsumer) → AreConsumersOf (announced f end) consumers
-        → AreConsumersOf f consumers }
+    ensures consumers { (f : Files) (end : ℕ) (consumers : List NamedConsumer)
+        → AreConsumersOf (announced f end) consumers → AreConsumersOf f consumers }
     ensures end { (a : Asking) (f : Files) (floor end : ℕ) → IsEndIn a (announced f floor) end → IsEndIn a f end }
 {}

@@ -10,7 +10,8 @@
 //!
 //! `specs/Expirer.antt` has its phases, its calls and what each answer leads to; `specs/Meaning.antt` what it knows of
 //! the table in each phase, whatever others do, and what it may change; `specs/Trace.antt` which calls it made, and
-//! which show a refusal. `step_expirer` makes a call, and keeps to that.
+//! which show a refusal. `step_expirer` makes a call, and keeps to that. `specs/AllCalls.antt` says what an expiry is
+//! where nobody else acts: its end follows from the files alone, and where no snapshot is to go no path changes.
 #![tactic(auto)]
 
 mod after;
