@@ -1,1 +1,2 @@
 mod FloorLemmas
+pub mod FloorPaths

@@ -61,7 +61,7 @@ so_far_calls phases.List own called did = subst AreStill (sym did) tt
 so_far_calls (phases.Read r) own called did = read_calls r own did
 so_far_calls phases.Over own called did = absurd did
 
-shows_calls : (refusal : Refusal) (own : List Event) → Shows refusal own → AreStill own
+pub shows_calls : (refusal : Refusal) (own : List Event) → Shows refusal own → AreStill own
 shows_calls refusals.Memory own ends = ended_still next_call DidSoFar MayTakeMemory spares so_far_calls own ends
 shows_calls (refusals.StoreFault path) own failed = failed_still next_call DidSoFar MayTakeMemory spares so_far_calls path own failed
 shows_calls (refusals.Damaged path place) own (r, name, bytes, at, zero, bad, meets) = meets_calls r name (Some bytes) own meets
@@ -136,7 +136,7 @@ module _ (f : Files) (h : History) (folder : Folder f h) where
       → Some bytes ≡ finite.get f (consumer_path name)
   damaged_at r name bytes own (earlier, has, next, is) told = (told_last f earlier (read_consumer name (Some bytes)) (subst (AreTold f) is told)).1
 
-  caused : (first after : StoreView) (refusal : Refusal) (own : List Event) → Shows refusal own → AreTold f own → Traces own first after
+  pub caused : (first after : StoreView) (refusal : Refusal) (own : List Event) → Shows refusal own → AreTold f own → Traces own first after
       → IsCaused first after refusal
   caused first after refusals.Memory own shows told trace = tt
   caused first after (refusals.StoreFault path) own shows told trace = failed_rose next_call DidSoFar path own first after shows trace

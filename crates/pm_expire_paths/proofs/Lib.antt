@@ -1,4 +1,4 @@
-mod DroppingLemmas
+pub mod DroppingLemmas
 mod FloorLemmas
 mod PathLemmas
 mod SeenLemmas

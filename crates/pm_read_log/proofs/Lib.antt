@@ -1,4 +1,5 @@
 mod LogAfterLemmas
 mod LogCauseLemmas
 pub mod LogFacts
+pub mod LogStillLemmas
 mod WholeLemmas

@@ -108,18 +108,18 @@ module _ (f : Files) (h : History) (folder : Folder f h) where
   ready_at s own (inr (names, some, (earlier, has, none, is))) told =
       has_at s earlier has (told_last f earlier (listed_snapshots names) (subst (AreTold f) is told)).0
 
-  misreads_at : (refusal : Refusal) (own : List Event) → Misreads refusal own → AreTold f own → MayRefuse h refusal
+  pub misreads_at : (refusal : Refusal) (own : List Event) → Misreads refusal own → AreTold f own → MayRefuse h refusal
   misreads_at refusal own (id, bytes, is, did) told =
       let at = reads_at id (Some bytes) own did told in
       cause_at (phases.Schema id) (answers.Found (Some bytes)) refusal f h folder at.0 (inr is) at.1
 
-  lacks_at : (own : List Event) → LacksOrigin own → AreTold f own → ⊥
+  pub lacks_at : (own : List Event) → LacksOrigin own → AreTold f own → ⊥
   lacks_at own (s, names, none, (earlier, has, no_origin, is)) told =
       let parts = told_last f earlier (listed_snapshots names) (subst (AreTold f) is told) in
       cause_at (phases.Snapshots s) (answers.Listed names) (refusals.Unsupported (codes "origin") []) f h folder
       (has_at s earlier has parts.0, no_origin) (inr refl, none) parts.1
 
-  absent_at : (id : ℕ) (own : List Event) → Reads id None own → AreTold f own → ⊥
+  pub absent_at : (id : ℕ) (own : List Event) → Reads id None own → AreTold f own → ⊥
   absent_at id own did told =
       let at = reads_at id None own did told in
       cause_at (phases.Schema id) (answers.Found None) (refusals.Damaged (schema_path id) 0) f h folder at.0 (inr refl) at.1

@@ -9,4 +9,5 @@ pub mod TwoLemmas
 pub mod NamedLemmas
 pub mod OneLemmas
 mod OverlapLemmas
+pub mod StillLemmas
 pub mod WithinLemmas

@@ -39,7 +39,8 @@ use Rattle.pm_register.specs.AllCalls.{DidRegister, IsCaused, IsFloorIn, IsFound
 use Rattle.pm_register.specs.Meaning.{IsWithin, Registers}
 use Rattle.pm_register.specs.Registrar.{IsRegistering, IsUnregistered, Registering, consumer_at, floors_call, known_text, new_call, new_text, registration_of, settle_call}
 use Rattle.pm_register.specs.Trace.{HasFloors, Shows, listed_floors, met_first, met_later, put_known, put_new}
-use Rattle.pm_register.proofs.ChangeLemmas.{AreTexts, Laws, floor-listed, lists-floors, new-said, none-above, puts-new, settles-name, swap-effects, texts-of}
+use Rattle.pm_consumer_files.proofs.FloorPaths.{floor-listed}
+use Rattle.pm_register.proofs.ChangeLemmas.{AreTexts, Laws, lists-floors, new-said, none-above, puts-new, settles-name, swap-effects, texts-of}
 
 -- what the laws of settled consumers say
 pub record SettledLaws : Type 0 where

@@ -1,31 +1,26 @@
 -- What each call of a registrar does to the files and to a past.
-use Rattle.std.proofs.Common.{◌≡◌, ◌≢◌, inl, inr, ℕ, suc, ◌<◌, ◌≤◌, ◌^◌, ◌+◌, List, [], codes, Bool, true, false, true≢false, cond, if◌then◌else◌, Option, None, Some, IsSome, Contains, Result, Ok, refl, sym, ap, ◌∙◌, subst, eqb-true, ◌==◌, ◌∷◌, take, not, arith, bytes_eq}
-use Rattle.std.specs.Char.{digit_value}
+use Rattle.std.proofs.Common.{◌≡◌, ◌≢◌, inl, inr, ℕ, suc, ◌<◌, ◌≤◌, ◌^◌, List, [], codes, Bool, true, false, true≢false, cond, if◌then◌else◌, Option, None, Some, IsSome, Result, Ok, refl, sym, ap, ◌∙◌, subst, arith, bytes_eq}
 use Rattle.std.specs.FinMap as map
-use Rattle.std.specs.Fmt.{decimal}
-use Rattle.std.specs.List.{AllByRecursion, before_first, position_or_len}
-use Rattle.std.specs.Str.Parse.{AllDigits}
-use Rattle.std.proofs.lemmas.Fmt.{decimal_is_IsNumeral}
 use Rattle.std.proofs.lemmas.List.{append_cancel_left}
 use Rattle.std.proofs.lemmas.Slice.Eq.{bytes_eq-Decides}
-use Rattle.std.proofs.lemmas.Str.Parse.{digit_from_value}
 use Rattle.pm_store.specs.declared.call.Call.TheVariants as calls
 use Rattle.pm_store.specs.declared.call.Effect.{Effect}
 use Rattle.pm_store.specs.declared.call.Effect.TheVariants as effects
-use Rattle.pm_store.specs.Files.{Files, IsListing, Puts, after_effect, is_same, name_in, slash, some_name}
+use Rattle.pm_store.specs.Files.{Files, IsListing, Puts, after_effect, is_same}
 use Rattle.pm_store.proofs.FileLaws.{is_same-equal, is_same-itself}
 use Rattle.pm_model_consumers.specs.Changes.{HasLost, IsUnsettled}
 use Rattle.pm_model_consumers.specs.Claims.{Claim, Said, free, known_at, new_at, settled, waits, with_claim}
 use Rattle.pm_model_history.specs.History.{Entry, History, IsTableOf, table}
 use Rattle.pm_schema.specs.declared.schema.TableSchema.{TableSchema}
 use Rattle.pm_snapshot.specs.Consumer.{consumer_in, consumer_text}
-use Rattle.pm_snapshot.specs.Names.{floor_name, greatest}
+use Rattle.pm_snapshot.specs.Names.{greatest}
 use Rattle.pm_snapshot.specs.declared.consumer.Consumer.{Consumer}
 use Rattle.pm_snapshot.specs.declared.fault.SnapFault.{SnapFault}
 use Rattle.pm_model_folder.specs.Changes.{Actor, HavePlainNames, IsConsumerFile, IsPlain, nothing}
 use Rattle.pm_model_folder.specs.Consumers.{follower_of, said_at, said_in, said_of}
 use Rattle.pm_model_folder.specs.Ledger.{Advances, MovesConsumers, OthersStay, Past, Stands, count_of, lists, registers, settles, usurps}
 use Rattle.pm_model_folder.specs.Paths.{consumer_path, floor_folder, floor_path}
+use Rattle.pm_consumer_files.proofs.FloorPaths.{floor-listed}
 use Rattle.pm_model_folder.proofs.Facts.{some-none, still_there}
 use Rattle.pm_model_folder.proofs.LedgerFacts.{at-table, beside, beside-moving, count-is, none-spared}
 use Rattle.pm_consumer_files.specs.Floors.{Exceeds}
@@ -202,41 +197,6 @@ module _ (laws : Laws) (me : Actor) (r : Registering) (f after : Files) (p : Pas
       )
 
 -- ---- the floors are listed
-
--- what stands before a slash in a number
-abbrev before_slash : List ℕ → List ℕ
-before_slash bytes = before_first (λ b. b == slash) bytes
-
-before-cons : (b : ℕ) (bytes : List ℕ) → (b == slash) ≡ false → before_slash (b ∷ bytes) ≡ b ∷ before_slash bytes
-before-cons b bytes other =
-    let n : ℕ = position_or_len (λ b. b == slash) bytes in
-    let more : 1 + n ≡ suc n = omega arith in
-    ap (λ t. take (cond (not t) (1 + n) 0) (b ∷ bytes)) other ∙ ap (λ k. take k (b ∷ bytes)) more
-
-before-all : (bytes : List ℕ) → AllByRecursion (λ b. (b == slash) ≡ false) bytes → before_slash bytes ≡ bytes
-before-all [] all = refl
-before-all (b ∷ bytes) all = before-cons b bytes all.0 ∙ ap (λ rest. b ∷ rest) (before-all bytes all.1)
-
-digit-other : (b : ℕ) → digit_value b < 10 → (b == slash) ≡ false
-digit-other b is = by_test (b == slash) refl
-  where
-    by_test : (t : Bool) → (b == slash) ≡ t → (b == slash) ≡ false
-    by_test true same = absurd (let digit = digit_from_value b is in let is_slash = eqb-true b slash same in omega (arith, digit, is_slash))
-    by_test false other = other
-
-digits-other : (bytes : List ℕ) → AllDigits 10 bytes → AllByRecursion (λ b. (b == slash) ≡ false) bytes
-digits-other [] all = tt
-digits-other (b ∷ bytes) all = (digit-other b all.0, digits-other bytes all.1)
-
--- the floor of a number leads to its name
-floor-leads : (n : ℕ) → n ≤ greatest → name_in floor_folder (floor_path n) ≡ Some (floor_name n)
-floor-leads n within = ap some_name (before-all (floor_name n)
-    (refl, (refl, (refl, (refl, (refl, (refl, digits-other (decimal n) (decimal_is_IsNumeral n (omega (arith, within))).0.1)))))))
-
--- a floor that is there was listed
-pub floor-listed : (f : Files) (names : List (List ℕ)) (n : ℕ) → IsListing floor_folder names f → n ≤ greatest → IsSome (map.get f (floor_path n))
-    → Contains names (floor_name n)
-floor-listed f names n listing within there = (listing.exact (floor_name n)).1 (floor_path n, there, floor-leads n within)
 
 -- no floor exceeds the number
 abbrev pub NoneAbove : Files → ℕ → Type 0

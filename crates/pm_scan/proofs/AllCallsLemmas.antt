@@ -37,6 +37,7 @@ use Rattle.pm_read_table.specs.Trace.{HasView, of_origin, of_snapshot}
 use Rattle.pm_read_table.specs.declared.phase.Phase.TheVariants as readers
 use Rattle.pm_read_table.specs.declared.view.View.{View}
 use Rattle.pm_read_table.proofs.Facts as reader_facts
+use Rattle.pm_read_table.proofs.StillLemmas.{still_join, view_did_still, view_shows_still, view_still}
 use Rattle.pm_scan.specs.AllCalls.{DidScan, Ends, Has, IsCaused, IsThere, PassesOf, PrintsRows, PrintsScan, ScansOf, ScansTables, id_of, path_of}
 use Rattle.pm_scan.specs.Asked.{AskedRows, asked_at, asked_for, passed_at, wanted_of}
 use Rattle.pm_scan.specs.Rows.{groups_of, rows_at}
@@ -57,7 +58,7 @@ use Rattle.pm_scan.specs.declared.phase.Phase.{Phase}
 use Rattle.pm_scan.specs.declared.phase.Phase.TheVariants as phases
 use Rattle.pm_group_files.proofs.ViewLemmas.{each-own}
 use Rattle.pm_scan.proofs.ScanLemmas.{Laws}
-use Rattle.pm_scan.proofs.ViewCallsLemmas.{FailsLast, ViewLaws, absent_gone, asked_up_to, committed, entries_of, live_of_part, part_at, path_is, reads_at, still_join, told_join, view_damaged_at, view_did_still, view_gone_at, view_misreads_at, view_shows_still, view_still}
+use Rattle.pm_scan.proofs.ViewCallsLemmas.{FailsLast, ViewLaws, absent_gone, asked_up_to, committed, entries_of, live_of_part, part_at, path_is, reads_at, told_join, view_damaged_at, view_gone_at, view_misreads_at}
 use Rattle.pm_scan.proofs.ViewLemmas.{groups-none, no-groups, rows-have, scanned-origin, scanned-view}
 
 -- ---- they change nothing, and the first lists the schemas

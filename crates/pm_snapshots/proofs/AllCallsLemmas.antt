@@ -82,7 +82,7 @@ own_calls (refusals.Expired id) own (r, meets) = meets_calls r id None own meets
 own_calls (refusals.Damaged path place) own (r, id, bytes, at, zero, bad, meets) = meets_calls r id (Some bytes) own meets
 own_calls other own shows = absurd shows
 
-shows_calls : (refusal : Refusal) (own : List Event) → Shows refusal own → AreStill own
+pub shows_calls : (refusal : Refusal) (own : List Event) → Shows refusal own → AreStill own
 shows_calls refusal own (inl shows) = reader.shows_calls refusal own shows
 shows_calls refusal own (inr shows) = own_calls refusal own shows
 
@@ -137,14 +137,14 @@ module _ (f : Files) (h : History) (folder : Folder f h) where
       } in
       (reader.ready_at f h folder s before has first.0, lines_are)
 
-  absent_at : (r : ReadingView) (id : ℕ) (own : List Event) → Meets r id None own → AreTold f own → ⊥
+  pub absent_at : (r : ReadingView) (id : ℕ) (own : List Event) → Meets r id None own → AreTold f own → ⊥
   absent_at r id own meets told =
       let at = meets_at f r id None own meets told in
       let there = listed-snapshot f h id folder at.0.1 at.0.2 in
       let clash = subst (λ (found : Option (List ℕ)). IsSome found) (sym at.1) there in
       cc
 
-  damaged_at : (r : ReadingView) (id : ℕ) (bytes : List ℕ) (own : List Event) → snapshot_in id bytes ≡ Err faults.Bad → Meets r id (Some bytes) own
+  pub damaged_at : (r : ReadingView) (id : ℕ) (bytes : List ℕ) (own : List Event) → snapshot_in id bytes ≡ Err faults.Bad → Meets r id (Some bytes) own
       → AreTold f own → ⊥
   damaged_at r id bytes own bad meets told =
       let at = meets_at f r id (Some bytes) own meets told in
